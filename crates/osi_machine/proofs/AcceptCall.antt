@@ -1,26 +1,25 @@
 -- The call of Accept keeps what is true of both sides.
 use Rattle.std.proofs.Common.{◌≡◌, refl, sym, ◌∙◌, ap, subst, ℕ, Bool, true, false, not, ◌&&◌, if◌then◌else◌, List, [], ◌∷◌, ◌++◌, Ok, arith}
-use Rattle.std.proofs.lemmas.Bool.{and_parts}
+use Rattle.std.proofs.lemmas.Bool.{and_parts, and_from}
 use Rattle.std.specs.List.{list_any}
-use Rattle.osi_message.specs.Sendable.{is_sized}
 use Rattle.osi_session.specs.Respond.{agreed_base}
-use Rattle.osi_machine.specs.Floor.{TokenSetting, TsduMaximumSize, State, FunctionalUnits, Sides, Meaning, AC, Tokens, Token, data_token, has, available, functional_units, both_units, units_within, has_data, is_profile, settle, setting_of, of_asker, of_answerer, stated, answers_wishes, base_for, serial_for, opened_with, is_answering, is_connecting, is_restarting, is_restart_due, may_hold, Accept, HasSerial, Granted, are_sizes, answered_sizes, allowed, becomes, drops, next}
+use Rattle.osi_machine.specs.Floor.{TokenSetting, TsduMaximumSize, State, FunctionalUnits, Sides, Meaning, AC, Tokens, Token, data_token, has, available, functional_units, both_units, units_within, has_data, is_profile, settle, setting_of, of_asker, of_answerer, stated, answers_wishes, base_for, serial_for, opened_with, is_answering, is_connecting, is_restarting, is_restart_due, may_hold, Accept, are_sizes, answered_sizes, becomes, drops, next}
 use Rattle.osi_machine.specs.Histories.{Item, AreNumberedFrom}
 use Rattle.osi_machine.specs.Owners.{turned_owners, settled_by}
 use Rattle.osi_machine.specs.Channels.{Fits, flush, heard, hears, heard_view, data_of, needs_token}
 use Rattle.osi_machine.specs.Core.{Party, Core, answered}
 use Rattle.osi_machine.specs.Parties.{is_opening, IsFresh, AreConsistent}
-use Rattle.osi_machine.proofs.PhaseLaws.{implied, excluded, implied_two}
+use Rattle.osi_machine.proofs.PhaseLaws.{implied, excluded, implied_two, if_first}
 use Rattle.osi_machine.proofs.Units.{next_acted}
 use Rattle.osi_machine.proofs.ChannelLaws.{fit_append, flush_append, heard_append, view_append, data_append}
 use Rattle.osi_machine.proofs.Tokens.{none_held}
-use Rattle.osi_machine.proofs.CoreLaws.{SessionLaws, answered_kept}
 use Rattle.osi_machine.proofs.Records.{flushed, hearing, matched, Meeting, Half, Views, Counting, Counts, IsOfProfile, Pair, Stands}
 use Rattle.osi_machine.proofs.Idle.{append_nil, list_any_append}
 use Rattle.osi_machine.proofs.Deaf.{AllEmpty, all_empty, empty_fits, empty_end, empty_heard, empty_view}
 use Rattle.osi_machine.proofs.Opening.{none_answering, waiting}
 use Rattle.osi_machine.proofs.Profiles.{profile_of, profile_data, within_duplex, within_half, within_both, same_first}
 use Rattle.osi_machine.proofs.Settled.{settled_answers, answerer_there, asker_holds, own_held, own_wanted, own_absent, their_held, their_wanted, their_absent}
+use Rattle.osi_machine.proofs.CoreLaws.{IsGranted, granted}
 
 -- ---- what is accepted
 
@@ -64,14 +63,11 @@ own_end w u q = empty_end w.own.session w.peer.sent (none_under_way w u q)
 own_heard : (w : Core) (u : ℕ) → Accepts w u → hearing w.own w.peer ≡ w.own.session
 own_heard w u q = empty_heard w.own.session w.peer.sent (none_under_way w u q)
 
-both : (a b : Bool) → a ≡ true → b ≡ true → (a && b) ≡ true
-both a b p q = rw (p, q) refl
-
 other_waits : (w : Core) (u : ℕ) → Accepts w u → is_connecting (flushed w.peer w.own).phase ≡ true
 other_waits w u q =
     let d = ap (λ (r : State). is_answering r.phase) (own_end w u q) ∙ q.answering in
     implied_two (λ p q. matched p q && is_answering p) (λ p q. is_connecting q) refl (flushed w.own w.peer).phase (flushed w.peer w.own).phase
-    (both (matched (flushed w.own w.peer).phase (flushed w.peer w.own).phase) (is_answering (flushed w.own w.peer).phase) q.all.own.meeting.meets d)
+    (and_from (matched (flushed w.own w.peer).phase (flushed w.peer w.own).phase) (is_answering (flushed w.own w.peer).phase) q.all.own.meeting.meets d)
 
 other_connects : (w : Core) (u : ℕ) → Accepts w u → is_connecting w.peer.session.phase ≡ true
 other_connects w u q = (waiting w.peer.session w.own.sent (other_waits w u q) q.all.peer.fits).1
@@ -87,9 +83,6 @@ other_units w u q = sym q.all.own.meeting.units ∙ ap (λ (r : State). r.units)
 
 other_wishes : (w : Core) (u : ℕ) → Accepts w u → (flushed w.peer w.own).wishes ≡ w.own.session.wishes
 other_wishes w u q = (q.all.peer.meeting.connect (other_waits w u q)).0 ∙ ap (λ (r : State). r.wishes) (own_end w u q)
-
-own_fresh : (w : Core) (u : ℕ) → Accepts w u → IsFresh w.own
-own_fresh w u q = q.all.consistent.own.fresh (implied is_answering is_opening refl w.own.session.phase q.answering)
 
 other_fresh : (w : Core) (u : ℕ) → Accepts w u → IsFresh w.peer
 other_fresh w u q = q.all.consistent.peer.fresh (implied is_connecting is_opening refl w.peer.session.phase (other_connects w u q))
@@ -113,7 +106,7 @@ accept_fits w u n a z o q k = record {
   good = λ d. record {
     expected = other_waits w u q;
     met = (
-      both (has_data (both_units (flushed w.peer w.own).units (functional_units u))) (are_sizes (answered_sizes w.own.session.sizes z))
+      and_from (has_data (both_units (flushed w.peer w.own).units (functional_units u))) (are_sizes (answered_sizes w.own.session.sizes z))
           (ap has_data (agreed_units w u q) ∙ profile_data (functional_units u) q.profile) k,
       (
         ap (λ (v : FunctionalUnits). answers_wishes v (flushed w.peer w.own).wishes (setting_of (settle (functional_units u) w.own.session.wishes a))) (agreed_units w u q)
@@ -220,14 +213,10 @@ own_views w u n a z o q =
           (k.0, append_nil w.history ∙ k.1);
     }
 
-same_either : (b : Bool) (v : List Item) → (if b then v else v) ≡ v
-same_either true v = refl
-same_either false v = refl
-
 peer_views : (w : Core) (u n : ℕ) (a : Sides) (z : TsduMaximumSize) (o : List ℕ) → Accepts w u → Views (w.history ++ []) w.peer (accepter w.own u n a z o)
 peer_views w u n a z o q = record {
   ends = λ l. view_append w.peer.session w.own.sent m w.peer.view q.all.peer.fits (other_owes_none w u q)
-      ∙ same_either (drops (flushed w.peer w.own) m) (heard_view w.peer.session w.own.sent w.peer.view)
+      ∙ if_first (drops (flushed w.peer w.own) m) (heard_view w.peer.session w.own.sent w.peer.view) (heard_view w.peer.session w.own.sent w.peer.view) refl
       ∙ q.all.peer_views.ends listens ∙ sym (append_nil w.history);
   cut = λ c. absurd (let e = ap (λ (s : State). is_restarting s.phase) (sym (heard_after w u n a z o q)) ∙ c in cc);
   due = λ d. absurd (let e = excluded is_connecting is_restart_due refl w.peer.session.phase (other_connects w u q) in cc);
@@ -279,7 +268,7 @@ pair_kept : (w : Core) (u n : ℕ) (a : Sides) (z : TsduMaximumSize) (o : List �
 pair_kept w u n a z o q =
     let r = accepting w.own.session u n a z in
     let end = empty_end r w.peer.sent (none_under_way w u q) in
-    let nothing : w.history ++ [] ≡ [] = append_nil w.history ∙ sym (own_seen w u q) ∙ (own_fresh w u q).view in
+    let nothing : w.history ++ [] ≡ [] = append_nil w.history ∙ sym (own_seen w u q) ∙ (q.all.consistent.own.fresh (implied is_answering is_opening refl w.own.session.phase q.answering)).view in
     record {
       numbered = subst (AreNumberedFrom (flush r w.peer.sent).base) (sym nothing) tt;
       one_way = λ d.
@@ -295,24 +284,10 @@ pair_kept w u n a z o q =
 all_kept : (w : Core) (u n : ℕ) (a : Sides) (z : TsduMaximumSize) (o : List ℕ) → Accepts w u → are_sizes (answered_sizes w.own.session.sizes z) ≡ true
     → AreConsistent (answered w (Accept u n a z o) (Ok (record { next = accepting w.own.session u n a z; sent = acceptance w.own.session u n a z o })))
     → Stands (answered w (Accept u n a z o) (Ok (record { next = accepting w.own.session u n a z; sent = acceptance w.own.session u n a z o })))
-all_kept w u n a z o q k c = record {
-  consistent = c;
-  own = own_half w u n a z o q;
-  peer = peer_half w u n a z o q k;
-  own_views = own_views w u n a z o q;
-  peer_views = peer_views w u n a z o q;
-  own_counts = own_counts w u n a z o q;
-  peer_counts = peer_counts w u n a z o q;
-  pair = pair_kept w u n a z o q;
-}
+all_kept w u n a z o q k c = assumption (own_half w u n a z o q, peer_half w u n a z o q k, own_views w u n a z o q, peer_views w u n a z o q, own_counts w u n a z o q, peer_counts w u n a z o q, pair_kept w u n a z o q)
 
-pub accept_stands : SessionLaws → (w : Core) (u n : ℕ) (a : Sides) (z : TsduMaximumSize) (o : List ℕ) (g : Granted) → HasSerial (Accept u n a z o)
-    → allowed w.own.session (Accept u n a z o) ≡ Ok g → Stands w → Stands (answered w (Accept u n a z o) (Ok g))
-accept_stands laws w u n a z o g small e s =
-    let p = laws.passed w.own.session (Accept u n a z o) g e in
-    let c = answered_kept laws w (Accept u n a z o) (Ok g) small e s.consistent in
+pub accept_stands : (w : Core) (u n : ℕ) (a : Sides) (z : TsduMaximumSize) (o : List ℕ) → IsGranted w (Accept u n a z o) → Stands w
+    → Stands (answered w (Accept u n a z o) (Ok (granted w.own.session (Accept u n a z o))))
+accept_stands w u n a z o p s =
     let tests = and_parts (units_within (functional_units u) w.own.session.units) (is_profile u) p.needed.0 in
-    let q : Accepts w u = record { answering = p.phase; within = tests.0; profile = profile_of u tests.1; all = s } in
-    let sizes = subst (λ (r : Granted). is_sized r.sent ≡ true) p.gives (laws.sendable w.own.session (Accept u n a z o) g s.consistent.own.sound small e).sized in
-    subst (λ (r : Granted). Stands (answered w (Accept u n a z o) (Ok r))) (sym p.gives)
-    (all_kept w u n a z o q sizes (subst (λ (r : Granted). AreConsistent (answered w (Accept u n a z o) (Ok r))) p.gives c))
+    all_kept w u n a z o (record { answering = p.phase; within = tests.0; profile = profile_of u tests.1; all = s }) p.sized p.kept

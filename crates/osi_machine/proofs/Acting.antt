@@ -1,9 +1,10 @@
 -- The outcomes of a unit: it is discarded, or it is a fault, or it is acted on.
-use Rattle.std.proofs.Common.{◌≡◌, refl, sym, ◌∙◌, ap, subst, ℕ, Bool, true, false, not, ◌&&◌, ◌||◌, if◌then◌else◌, List, [], ◌∷◌, Option, Some, None, is_none}
-use Rattle.std.proofs.lemmas.Bool.{and_parts}
-use Rattle.osi_machine.specs.Floor.{State, Phase, WaitTransport, WaitCn, Connecting, Answering, Ready, MajorAsked, MajorDue, Releasing, ReleaseDue, Restarting, RestartDue, Aborting, Ended, Meaning, AB, AA, UnitFault, Outcome, Condition, is_over, is_aborting, is_ended, is_expected, si, conditions, first_fault, becomes, nothing, good, judged, in_aborting, in_ended, take_expected, respond_unit, without_tokens, drops, AllMet, Good, next}
+use Rattle.std.proofs.Common.{◌≡◌, refl, sym, ◌∙◌, ap, subst, ℕ, Bool, true, false, not, ◌&&◌, ◌||◌, if◌then◌else◌, List, [], ◌∷◌, Option, Some, None, is_none, arith}
+use Rattle.std.proofs.lemmas.Bool.{and_parts, not-true, or_parts, not-false}
+use Rattle.osi_machine.specs.Floor.{State, Phase, WaitTransport, Aborting, Ended, Meaning, AB, UnitFault, Outcome, Condition, is_over, is_aborting, is_ended, is_expected, si, conditions, first_fault, becomes, nothing, good, judged, in_aborting, in_ended, take_expected, respond_unit, without_tokens, drops, AllMet, Good, next}
 use Rattle.osi_machine.specs.Taking.{is_acted_on}
 use Rattle.osi_machine.specs.Channels.{Fits}
+use Rattle.osi_machine.proofs.PhaseLaws.{if_no, if_yes, by_test}
 
 none_if : (b : Bool) (a : Option UnitFault) (f : UnitFault) → (if b then a else Some f) ≡ None → (b ≡ true) × (a ≡ None)
 none_if true a f h = (refl, h)
@@ -22,10 +23,6 @@ none_is : {A : Type 0} (o : Option A) → is_none o ≡ true → o ≡ None
 none_is None h = refl
 none_is (Some x) h = absurd (cc)
 
-not_true : (b : Bool) → not b ≡ true → b ≡ false
-not_true true h = absurd (cc)
-not_true false h = refl
-
 -- what it is to be acted on
 pub record Acted (s : State) (u : Meaning) : Type 0 where
   pub lives : is_over s.phase ≡ false
@@ -37,11 +34,7 @@ acted s u h =
     let a = and_parts (not (is_over s.phase)) (not (drops s u) && (is_expected s.phase u && is_none (first_fault (si u) (conditions s u)))) h in
     let b = and_parts (not (drops s u)) (is_expected s.phase u && is_none (first_fault (si u) (conditions s u))) a.1 in
     let d = and_parts (is_expected s.phase u) (is_none (first_fault (si u) (conditions s u))) b.1 in
-    record {
-      lives = not_true (is_over s.phase) a.0;
-      heeds = not_true (drops s u) b.0;
-      good = record { expected = d.0; met = all_met (si u) (conditions s u) (none_is (first_fault (si u) (conditions s u)) d.1) };
-    }
+    search (not-true, all_met, none_is)
 
 pub is_acted : (s : State) (u : Meaning) → Acted s u → is_acted_on s u ≡ true
 is_acted s u h =
@@ -58,14 +51,6 @@ over_parts : (p : Phase) → is_over p ≡ (is_aborting p || is_ended p)
 over_parts WaitTransport = refl
 over_parts _ = refl
 
-or_parts : (a b : Bool) → (a || b) ≡ false → (a ≡ false) × (b ≡ false)
-or_parts true b h = absurd (cc)
-or_parts false b h = (refl, h)
-
--- a side that is not over is neither aborted nor ended
-pub not_over : (p : Phase) → is_over p ≡ false → (is_aborting p ≡ false) × (is_ended p ≡ false)
-not_over p h = or_parts (is_aborting p) (is_ended p) (sym (over_parts p) ∙ h)
-
 pub over_of : (a e : Bool) (p : Phase) → is_aborting p ≡ a → is_ended p ≡ e → is_over p ≡ (a || e)
 over_of a e p h k = over_parts p ∙ rw (h, k) refl
 
@@ -79,17 +64,11 @@ judged_cases P s u None h k = k refl
 judged_cases P s u (Some f) h k = h
 
 aborting_cases : (P : State → Type 0) (s : State) (u : Meaning) → P s → P (without_tokens Ended s) → P (in_aborting s u).next
-aborting_cases P s (AB bits octets) h k = k
-aborting_cases P s AA h k = k
-aborting_cases P s _ h k = h
+aborting_cases P s u h k = grind arith
 
 ended_cases : (P : State → Type 0) (s : State) (u : Meaning) → P s → P (in_ended s u).next
 ended_cases P s (AB bits octets) h = h
 ended_cases P s _ h = h
-
-not_false : (b : Bool) → not b ≡ false → b ≡ true
-not_false true h = refl
-not_false false h = absurd (cc)
 
 -- what a unit leaves: what was, or the end, or the abort, or what the table says of a unit that is acted on
 pub record Leaves (P : Bool → State → Type 0) (s : State) (u : Meaning) : Type 0 where
@@ -98,17 +77,13 @@ pub record Leaves (P : Bool → State → Type 0) (s : State) (u : Meaning) : Ty
   pub bad : P false (without_tokens Aborting s)
   pub good : Acted s u → P true (becomes s u)
 
-other : (b : Bool) (x y : Outcome) → b ≡ false → (if b then x else y) ≡ y
-other true x y h = absurd (cc)
-other false x y h = refl
-
 -- a unit that is acted on is answered as the table says
 pub acts_good : (s : State) (u : Meaning) → Acted s u → respond_unit s u ≡ good s u
 unfolding respond_unit take_expected
 acts_good s u h =
-    let n = not_over s.phase h.lives in
-    other (is_aborting s.phase) _ _ n.0 ∙ other (is_ended s.phase) _ _ n.1 ∙ other (drops s u) _ _ h.heeds
-    ∙ other (not (is_expected s.phase u)) _ _ (ap not h.good.expected)
+    let n = or_parts (is_aborting s.phase) (is_ended s.phase) (sym (over_parts s.phase) ∙ h.lives) in
+    if_no (is_aborting s.phase) _ _ n.0 ∙ if_no (is_ended s.phase) _ _ n.1 ∙ if_no (drops s u) _ _ h.heeds
+    ∙ if_no (not (is_expected s.phase u)) _ _ (ap not h.good.expected)
     ∙ ap (judged s u) (no_fault_of (si u) (conditions s u) h.good.met)
 
 pub not_acted : (P : State → Type 0) (s : State) (u : Meaning) → is_acted_on s u ≡ false → P s → P (without_tokens Ended s) → P (without_tokens Aborting s)
@@ -123,15 +98,13 @@ not_acted P s u n same ended bare =
     absurd (let w = is_acted s u (record {
       lives = over_of false false s.phase a e;
       heeds = d;
-      good = record { expected = not_false (is_expected s.phase u) x; met = all_met (si u) (conditions s u) f };
+      good = record { expected = not-false (is_expected s.phase u) x; met = all_met (si u) (conditions s u) f };
     }) in cc))))))
 
 pub unit_cases : (P : Bool → State → Type 0) (s : State) (u : Meaning) → Leaves P s u → P (is_acted_on s u) (respond_unit s u).next
-unit_cases P s u h = by (is_acted_on s u) refl
-  where
-    by : (b : Bool) → is_acted_on s u ≡ b → P b (respond_unit s u).next
-    by false e = not_acted (P false) s u e h.same h.ended h.bad
-    by true e = let a = acted s u e in subst (λ (o : Outcome). P true o.next) (sym (acts_good s u a)) (h.good a)
+unit_cases P s u h = by_test (is_acted_on s u)
+    (λ e. rw e (let a = acted s u e in subst (λ (o : Outcome). P true o.next) (sym (acts_good s u a)) (h.good a)))
+    (λ e. rw e (not_acted (P false) s u e h.same h.ended h.bad))
 
 -- ---- of a side that is not over, and a unit that fits
 
@@ -147,27 +120,19 @@ fit_acts s u o f = by (drops s u) refl
     by false d = is_acted s u (record { lives = o; heeds = d; good = f.good d })
     by true d = dropped (is_over s.phase) (drops s u) (is_expected s.phase u && is_none (first_fault (si u) (conditions s u))) d
 
-first_other : (b : Bool) (x y : Outcome) → b ≡ true → (if b then x else y) ≡ x
-first_other true x y h = refl
-first_other false x y h = absurd (cc)
-
 drops_nothing : (s : State) (u : Meaning) → is_over s.phase ≡ false → drops s u ≡ true → respond_unit s u ≡ nothing s
 unfolding respond_unit
 drops_nothing s u o d =
-    let n = not_over s.phase o in
-    other (is_aborting s.phase) _ _ n.0 ∙ other (is_ended s.phase) _ _ n.1 ∙ first_other (drops s u) _ _ d
+    let n = or_parts (is_aborting s.phase) (is_ended s.phase) (sym (over_parts s.phase) ∙ o) in
+    if_no (is_aborting s.phase) _ _ n.0 ∙ if_no (is_ended s.phase) _ _ n.1 ∙ if_yes (drops s u) _ _ d
 
 -- no fault: a unit that fits is discarded, or answered as the table says
 pub no_fault : (s : State) (u : Meaning) → is_over s.phase ≡ false → Fits s u → respond_unit s u ≡ (if drops s u then nothing s else good s u)
-no_fault s u o f = by (drops s u) refl
-  where
-    by : (b : Bool) → drops s u ≡ b → respond_unit s u ≡ (if b then nothing s else good s u)
-    by true d = drops_nothing s u o d
-    by false d = acts_good s u (record { lives = o; heeds = d; good = f.good d })
+no_fault s u o f = by_test (drops s u)
+    (λ d. rw d (drops_nothing s u o d))
+    (λ d. rw d (acts_good s u (record { lives = o; heeds = d; good = f.good d })))
 
 pub fit_next : (s : State) (u : Meaning) → is_over s.phase ≡ false → Fits s u → (respond_unit s u).next ≡ next s u
-fit_next s u o f = by (drops s u) refl
-  where
-    by : (b : Bool) → drops s u ≡ b → (respond_unit s u).next ≡ (if b then s else becomes s u)
-    by true d = ap (λ (x : Outcome). x.next) (drops_nothing s u o d)
-    by false d = ap (λ (x : Outcome). x.next) (acts_good s u (record { lives = o; heeds = d; good = f.good d }))
+fit_next s u o f = by_test (drops s u)
+    (λ d. rw d (ap (λ (x : Outcome). x.next) (drops_nothing s u o d)))
+    (λ d. rw d (ap (λ (x : Outcome). x.next) (acts_good s u (record { lives = o; heeds = d; good = f.good d }))))

@@ -1,16 +1,17 @@
 -- A side of a connection where nothing is lost is never over, so that a unit that it takes is discarded, or
 -- answered as the table says: no unit is a fault.
 use Rattle.std.proofs.Common.{◌≡◌, refl, subst, Bool, true, false, not, if◌then◌else◌, List, ◌∷◌, ◌++◌}
-use Rattle.osi_machine.specs.Floor.{State, Phase, Meaning, CN, AC, RF, DT, GT, PT, MIP, MIA, MAP, MAA, RS, RA, FN, DN, NF, AB, AA, nothing, good, is_over, is_wait_cn, is_connecting, is_restarting, takes_data, takes_please, takes_minor_ack, takes_restart, may_ask, is_ready, is_major_asked, is_releasing, is_expected, respond_unit, drops, next}
+use Rattle.osi_machine.specs.Floor.{State, Phase, Meaning, CN, AC, DT, GT, PT, MIP, MIA, MAP, MAA, RS, RA, FN, NF, nothing, good, is_over, is_wait_cn, is_connecting, is_restarting, takes_data, takes_please, takes_minor_ack, takes_restart, may_ask, is_ready, is_major_asked, is_releasing, is_expected, respond_unit, drops, next}
 use Rattle.osi_machine.specs.Owners.{Owners}
 use Rattle.osi_machine.specs.Taking.{is_acted_on, seen, got_in}
 use Rattle.osi_machine.specs.Channels.{is_plain, Fits, AllFit, flush, view_next}
 use Rattle.osi_machine.specs.Core.{Party, party_taking}
-use Rattle.osi_machine.proofs.PhaseLaws.{excluded, implied_two}
+use Rattle.osi_machine.proofs.PhaseLaws.{excluded, implied_two, by_test}
 use Rattle.osi_machine.proofs.Units.{fit_cases}
 use Rattle.osi_machine.proofs.ChannelLaws.{kept_all}
 use Rattle.osi_machine.proofs.Acting.{fit_acts, no_fault, fit_next}
 use Rattle.osi_machine.proofs.Records.{flushed, matched, Half}
+use Rattle.osi_machine.proofs.Deaf.{not_both}
 
 -- nothing is expected by a side that is over
 none_expected : (p : Phase) (u : Meaning) → is_over p ≡ true → is_plain u ≡ true → is_expected p u ≡ false
@@ -34,16 +35,10 @@ over_kept = kept_all (λ s. is_over s.phase ≡ true)
     (λ s u h f. fit_cases (λ r. is_over r.phase ≡ true) s u f h (λ d g. absurd (let n = none_expected s.phase u h f.plain in let e = g.expected in cc)))
 
 pub alive : (o : Owners) (x y : Party) → Half o x y → is_over x.session.phase ≡ false
-alive o x y h = by (is_over x.session.phase) refl
-  where
-    turn : (b : Bool) → not b ≡ true → b ≡ true → ⊥
-    turn true p q = cc
-    turn false p q = cc
-
-    by : (b : Bool) → is_over x.session.phase ≡ b → b ≡ false
-    by false e = refl
-    by true e = absurd (turn _ (implied_two matched (λ p q. not (is_over p)) refl (flushed x y).phase (flushed y x).phase h.meeting.meets)
-        (over_kept x.session y.sent e h.fits))
+alive o x y h = by_test (is_over x.session.phase)
+    (λ e. absurd (not_both _ (implied_two matched (λ p q. not (is_over p)) refl (flushed x y).phase (flushed y x).phase h.meeting.meets)
+    (over_kept x.session y.sent e h.fits)))
+    (λ e. e)
 
 -- ---- the first unit under way
 
@@ -67,12 +62,10 @@ pub takes_as : (x : Party) (u : Meaning) → is_over x.session.phase ≡ false �
 takes_as x u o f =
     let e = fit_next x.session u o f in
     let a = fit_acts x.session u o f in
-    λ i. record {
+    λ i. record x {
       session = e i;
       view = view_same (drops x.session u) (is_acted_on x.session u) a i;
-      said = x.said;
       got = got_same (drops x.session u) (is_acted_on x.session u) a i;
-      sent = x.sent;
     }
   where
     view_same : (d a : Bool) → a ≡ not d → (if a then seen x.session u x.view else x.view) ≡ (if d then x.view else seen x.session u x.view)

@@ -1,27 +1,19 @@
 -- A step of one connection changes no other.
-use Rattle.std.proofs.Common.{◌≡◌, refl, sym, ◌∙◌, ap, ℕ, zero, suc, Bool, true, false, if◌then◌else◌, List, [], ◌∷◌, map, Option, Some, None, is_some}
+use Rattle.std.proofs.Common.{◌≡◌, refl, sym, ◌∙◌, ap, ℕ, Bool, true, false, if◌then◌else◌, List, [], ◌∷◌, map, Option, Some, None, is_some, arith}
 use Rattle.osi_session.specs.declared.faults.CallError.TheVariants as error
 use Rattle.osi_machine.specs.Floor.{Call, allowed}
-use Rattle.osi_machine.specs.Core.{Offer, Side, Left, Right}
+use Rattle.osi_machine.specs.Core.{Side, Left, Right}
 use Rattle.osi_machine.specs.Worlds.{Class, class_0, class_2, Message, World, session_of, after_answer, Taking, message_taken, closed}
-use Rattle.osi_machine.specs.Machine.{Ending, closed_here, Refusal, delivers, Machine, connection_at, seen_from, end_of, stays, noted, is_given, error_of, call_answered, shown_at, refusal, asked_in, call_in, side_of, marked_ended, closes_by, after_taking, without_first, learns, taken_in, delivered_to, step}
+use Rattle.osi_machine.specs.Machine.{Ending, closed_here, Machine, connection_at, seen_from, end_of, stays, noted, is_given, shown_at, call_in, side_of, marked_ended, closes_by, after_taking, without_first, learns, taken_in, delivered_to}
 use Rattle.osi_machine.specs.Runs.{AreApart}
 use Rattle.osi_machine.proofs.Places.{with_other, there_still}
-
-asked_other : (m : Machine) (o : Offer) (a : Option Refusal) (k : ℕ) (w : World) → connection_at k m.worlds ≡ Some w → connection_at k (asked_in m o a).worlds ≡ Some w
-asked_other m o (Some e) k w f = f
-asked_other m o None zero w f = absurd (cc)
-asked_other m o None (suc k) w f = there_still k m.worlds _ w f
+use Rattle.osi_machine.proofs.PhaseLaws.{by_test}
 
 call_other : (m : Machine) (side : Side) (r : ℕ) (c : Call) (k : ℕ) → (k ≡ r → ⊥) → (a : Option World) → connection_at k (call_in m side r c (side_of side a)).worlds ≡ connection_at k m.worlds
 call_other m side r c k n None = refl
-call_other m side r c k n (Some w) = by (is_given (seen_from side w).own.transport)
-  where
-    by : (b : Bool) → connection_at k (if b
-        then noted (call_answered side r c (error_of (allowed (session_of (seen_from side w)) c)) ∷ []) (stays m side r (after_answer m.broken c (seen_from side w) (allowed (session_of (seen_from side w)) c)))
-        else noted (call_answered side r c (Some error.NoSuchConnection) ∷ []) m).worlds ≡ connection_at k m.worlds
-    by true = with_other k r m.worlds (seen_from side (after_answer m.broken c (seen_from side w) (allowed (session_of (seen_from side w)) c))) n
-    by false = refl
+call_other m side r c k n (Some w) = by_test (is_given (seen_from side w).own.transport)
+    (λ e. rw e (with_other k r m.worlds (seen_from side (after_answer m.broken c (seen_from side w) (allowed (session_of (seen_from side w)) c))) n))
+    (λ e. rw e)
 
 ended_now : (side : Side) (m : Machine) → end_of side (marked_ended side closed_here m) ≡ Some closed_here
 ended_now Left m = refl
@@ -60,18 +52,11 @@ delivery_other : (m : Machine) (side : Side) (r : ℕ) (keep : ℕ → ℕ) (k :
 delivery_other m side r keep k n i None e = refl
 delivery_other m side r keep k n i (Some w) e = taken_other m side r keep (seen_from side w) k n i (seen_from side w).peer.channel e
 
-delivers_apart : (m : Machine) (side : Side) (r : ℕ) (keep : ℕ → ℕ) (k : ℕ) → (k ≡ r → ⊥) → end_of side (step m (delivers side r keep)) ≡ end_of side m
-    → connection_at k (step m (delivers side r keep)).worlds ≡ connection_at k m.worlds
-delivers_apart m side r keep k n e = by (is_some (end_of side m)) refl e
-  where
-    by : (b : Bool) → is_some (end_of side m) ≡ b → end_of side (if b then m else delivered_to m side r keep (side_of side (connection_at r m.worlds))) ≡ end_of side m
-        → connection_at k (if b then m else delivered_to m side r keep (side_of side (connection_at r m.worlds))).worlds ≡ connection_at k m.worlds
-    by true i f = refl
-    by false i f = delivery_other m side r keep k n i (connection_at r m.worlds) f
-
 pub are_apart : (m : Machine) → AreApart m
 are_apart m = record {
-  asked = λ o q w e. asked_other m o (refusal m o) q w e;
+  asked = λ o q w e. grind (arith, there_still);
   called = λ side r q c n. call_other m side r c q n (connection_at r m.worlds);
-  delivered = λ side r q keep n e. delivers_apart m side r keep q n e;
+  delivered = λ side r q keep n e. by_test (is_some (end_of side m))
+      (λ i. rw i)
+      (λ i. rw i (let f = rw i at e in delivery_other m side r keep q n i (connection_at r m.worlds) f));
 }

@@ -1,19 +1,16 @@
 -- What no unit changes once a connection is open, and what a side that is being asked for nothing goes
 -- through.
-use Rattle.std.proofs.Common.{◌≡◌, refl, sym, ◌∙◌, subst, ℕ, Bool, true, false, not, ◌&&◌, ◌||◌, if◌then◌else◌, List, [], ◌∷◌, ◌⊎◌, inl, inr}
+use Rattle.std.proofs.Common.{◌≡◌, refl, sym, ◌∙◌, subst, ℕ, Bool, true, false, ◌&&◌, ◌||◌, if◌then◌else◌, List, [], ◌∷◌, ◌⊎◌, inl, inr, arith}
 use Rattle.std.proofs.lemmas.Bool.{or_left}
 use Rattle.std.specs.List.{list_any}
 use Rattle.osi_machine.specs.Floor.{State, Phase, FunctionalUnits, Tokens, Meaning, CN, AC, RF, DT, GT, PT, MIP, MIA, MAP, MAA, RS, RA, FN, DN, NF, AB, AA, Token, data_token, has, may_hold, is_wait_cn, is_connecting, is_restarting, is_restart_due, may_ask, is_ready, is_release_due, has_no_effect, passes_restarting, becomes, stands, drops, Good, next}
 use Rattle.osi_machine.specs.Channels.{is_plain, Fits, AllFit, flush, stops, heard, needs_token}
 use Rattle.osi_machine.specs.Parties.{is_opening}
-use Rattle.osi_machine.proofs.PhaseLaws.{implied, excluded}
-use Rattle.osi_machine.proofs.Units.{fit_cases, none_due, restart_due, due_next}
+use Rattle.osi_machine.proofs.PhaseLaws.{implied, excluded, by_test}
+use Rattle.osi_machine.proofs.Units.{fit_cases, none_due, restart_due, due_next, chosen}
 use Rattle.osi_machine.proofs.ChannelLaws.{kept_all, kept_heard, due_end}
 use Rattle.osi_machine.proofs.Tokens.{Holds, held_needs, next_holds, united_has}
-
-chosen : (P : State → Type 0) (b : Bool) (x y : State) → P x → P y → P (if b then x else y)
-chosen P true x y h k = h
-chosen P false x y h k = k
+use Rattle.osi_machine.proofs.Deaf.{dropped_empty}
 
 -- ---- units and base
 
@@ -79,14 +76,10 @@ pub until_due : (P : State → Type 0) → ((s : State) (u : Meaning) → Fits s
     (s : State) (us : List Meaning) → P s → AllFit s us → P (flush s us) ⊎ (is_restart_due (flush s us).phase ≡ true)
 until_due P step s [] h f = inl h
 until_due P step s (u ∷ us) h f =
-    by (stops s u) refl (λ e. until_due P step (next s u) us (step s u f.0 e h) f.1)
-  where
-    by : (b : Bool) → stops s u ≡ b → (stops s u ≡ false → P (flush (next s u) us) ⊎ (is_restart_due (flush (next s u) us).phase ≡ true))
-        → P (flush (next s u) us) ⊎ (is_restart_due (flush (next s u) us).phase ≡ true)
-    by false e more = more e
-    by true e more =
-        let d = restart_due s u e in
-        inr (subst (λ (r : State). is_restart_due r.phase ≡ true) (sym (due_end (next s u) us d f.1)) d)
+    by_test (stops s u)
+    (λ e. let d = restart_due s u e in
+    inr (subst (λ (r : State). is_restart_due r.phase ≡ true) (sym (due_end (next s u) us d f.1)) d))
+    (λ e. let more : (stops s u ≡ false → P (flush (next s u) us) ⊎ (is_restart_due (flush (next s u) us).phase ≡ true)) = (λ e. until_due P step (next s u) us (step s u f.0 e h) f.1) in more e)
 
 pub ends_lively : (s : State) (us : List Meaning) → Lively s → AllFit s us → Lively (flush s us) ⊎ (is_restart_due (flush s us).phase ≡ true)
 ends_lively = until_due Lively (λ s u f st h. fit_cases Lively s u f h (λ d g. becomes_lively s u f.plain g st h))
@@ -135,23 +128,12 @@ ends_talking = until_due Talks (λ s u f st h. fit_cases Talks s u f h (λ d g. 
 
 -- at a side that owes the answer to a restart, nothing but an empty token item fits
 empty_needs : (t : Token) (u : Meaning) → has_no_effect u ≡ true → needs_token t u ≡ false
-empty_needs t (DT o) h = absurd (cc)
-empty_needs t (MIP c n o) h = absurd (cc)
-empty_needs t (MAP n o) h = absurd (cc)
-empty_needs t (FN o) h = absurd (cc)
-empty_needs t _ h = refl
-
-dropped_empty : (e r p : Bool) → (e || (r && not p)) ≡ true → r ≡ false → e ≡ true
-dropped_empty true r p h k = refl
-dropped_empty false true p h k = absurd (cc)
-dropped_empty false false p h k = absurd (cc)
+empty_needs t u h = grind arith
 
 due_needs : (t : Token) (s : State) (u : Meaning) → is_restart_due s.phase ≡ true → Fits s u → needs_token t u ≡ false
-due_needs t s u h f = by (drops s u) refl
-  where
-    by : (b : Bool) → drops s u ≡ b → needs_token t u ≡ false
-    by true d = empty_needs t u (dropped_empty (has_no_effect u) (is_restarting s.phase) (passes_restarting u) d (excluded is_restart_due is_restarting refl s.phase h))
-    by false d = absurd (let n = none_due s.phase u h f.plain in let e = (f.good d).expected in cc)
+due_needs t s u h f = by_test (drops s u)
+    (λ d. empty_needs t u (dropped_empty (has_no_effect u) (is_restarting s.phase) (passes_restarting u) d (excluded is_restart_due is_restarting refl s.phase h)))
+    (λ d. absurd (let n = none_due s.phase u h f.plain in let e = (f.good d).expected in cc))
 
 none_due_needs : (t : Token) (s : State) (us : List Meaning) → is_restart_due s.phase ≡ true → AllFit s us → list_any (needs_token t) us ≡ false
 none_due_needs t s [] h f = refl
@@ -162,19 +144,14 @@ none_due_needs t s (u ∷ us) h f =
 
 -- a holder listens
 holder_needs : (t : Token) (s : State) (u : Meaning) → Holds t s → Fits s u → needs_token t u ≡ false
-holder_needs t s u h f = by (drops s u) refl
-  where
-    by : (b : Bool) → drops s u ≡ b → needs_token t u ≡ false
-    by true d = empty_needs t u (dropped_empty (has_no_effect u) (is_restarting s.phase) (passes_restarting u) d (excluded may_hold is_restarting refl s.phase h.phase))
-    by false d = held_needs s t u h.held (f.good d)
+holder_needs t s u h f = by_test (drops s u)
+    (λ d. empty_needs t u (dropped_empty (has_no_effect u) (is_restarting s.phase) (passes_restarting u) d (excluded may_hold is_restarting refl s.phase h.phase)))
+    (λ d. held_needs s t u h.held (f.good d))
 
 pub none_needs : (t : Token) (s : State) (us : List Meaning) → Holds t s → AllFit s us → list_any (needs_token t) us ≡ false
 none_needs t s [] h f = refl
-none_needs t s (u ∷ us) h f = by (stops s u) refl (λ e. none_needs t (next s u) us (next_holds t s u f.0 e h) f.1)
-  where
-    by : (b : Bool) → stops s u ≡ b → (stops s u ≡ false → list_any (needs_token t) us ≡ false) → (needs_token t u || list_any (needs_token t) us) ≡ false
-    by false e more = let one = holder_needs t s u h f.0 in let all = more e in rw (one, all) refl
-    by true e more =
-        let one = holder_needs t s u h f.0 in
-        let all = none_due_needs t (next s u) us (restart_due s u e) f.1 in
-        rw (one, all) refl
+none_needs t s (u ∷ us) h f = by_test (stops s u)
+    (λ e. let one = holder_needs t s u h f.0 in
+    let all = none_due_needs t (next s u) us (restart_due s u e) f.1 in
+    rw (one, all) refl)
+    (λ e. let more : (stops s u ≡ false → list_any (needs_token t) us ≡ false) = (λ e. none_needs t (next s u) us (next_holds t s u f.0 e h) f.1) in let one = holder_needs t s u h f.0 in let all = more e in rw (one, all) refl)

@@ -1,13 +1,13 @@
 -- Data that is anywhere under way to a side is no fault there, once what is ahead of it is taken: of whatever its user
 -- calls in between, the connection of which nothing is lost makes the same.
-use Rattle.std.proofs.Common.{◌≡◌, refl, sym, ◌∙◌, ap, subst, ℕ, Bool, true, false, if◌then◌else◌, List, [], ◌∷◌, ◌++◌, map, Some, None, Ok, Err, ◌⊎◌, inl, inr, append_assoc}
+use Rattle.std.proofs.Common.{◌≡◌, refl, sym, ◌∙◌, ap, subst, ℕ, Bool, true, false, if◌then◌else◌, List, [], ◌∷◌, ◌++◌, map, Some, None, Ok, Err, ◌⊎◌, inl, inr, append_assoc, arith}
 use Rattle.std.proofs.lemmas.Bool.{cases_Bool}
 use Rattle.std.specs.List.{AllByRecursion, list_any}
 use Rattle.osi_session.specs.declared.faults.CallError.TheVariants as error
-use Rattle.osi_session.specs.Moves.{Input, called, taken, unread, opened, refused as refused_input, broken, Standing, rests, begun, denied as denied_by, react, answered as answered_move}
+use Rattle.osi_session.specs.Moves.{Input, called, taken, opened, refused as refused_input, broken, Standing, rests, begun, denied as denied_by, react, answered as answered_move}
 use Rattle.osi_session.specs.Respond.{verdict, is_faulty, respond_all, acting, and_then}
 use Rattle.osi_message.specs.Sendable.{said_of}
-use Rattle.osi_machine.specs.Floor.{State, Meaning, DT, Call, Refuse, ReleaseAccept, Abort, HasSerial, CallError, Granted, Answer, Outcome, allowed, after, is_over, is_wait_transport, respond_unit}
+use Rattle.osi_machine.specs.Floor.{State, Meaning, DT, Call, HasSerial, CallError, Granted, Answer, Outcome, allowed, is_over, is_wait_transport, respond_unit}
 use Rattle.osi_machine.specs.Calm.{left_by, after_calls, after_message, IsCalm, StaysCalm, IsNoFaultBehind}
 use Rattle.osi_machine.specs.Channels.{AllFit}
 use Rattle.osi_machine.specs.Core.{Core, stays_in_core, answered, taking}
@@ -23,13 +23,15 @@ use Rattle.osi_machine.proofs.MachineLaws.{stage_at}
 use Rattle.osi_machine.proofs.NextLaws.{unit_that_fits, unit_when_over}
 use Rattle.osi_machine.proofs.PhaseLaws.{excluded}
 use Rattle.osi_machine.proofs.ProjectLast.{over_next}
-use Rattle.osi_machine.proofs.ProjectStart.{Way, nothing_sent, asked, agreed, denied, asks, replies}
+use Rattle.osi_machine.proofs.ProjectStart.{Way, replies}
 use Rattle.osi_machine.proofs.ProjectWorld.{refused}
-use Rattle.osi_machine.proofs.Projects.{IsTail, Carried, session_is}
+use Rattle.osi_machine.proofs.Projects.{IsTail, Carried, session_is, not_both}
 use Rattle.osi_machine.proofs.Records.{Stands}
 use Rattle.osi_machine.proofs.TableLines.{SaysItsUnit}
 use Rattle.osi_machine.proofs.TablePromises.{sides_of_runs}
 use Rattle.osi_machine.proofs.Whole.{Stage, turned_stage}
+use Rattle.osi_machine.proofs.ProjectCall.{stop_over}
+use Rattle.osi_machine.proofs.DeadLines.{no_unit_asked}
 
 -- ---- a side that is over stays so
 
@@ -44,12 +46,9 @@ unmoved : (s : State) (c : Call) (x : CallError) → allowed s c ≡ Err x → l
 unfolding react
 unmoved s c x e = ap (λ (a : Answer). (answered_move (standing s) a).next.state) e
 
-over_call : (s : State) (c : Call) → is_over s.phase ≡ true → is_over (left_by s (called c)).phase ≡ true
-over_call s c o = ap (λ (x : State). is_over x.phase) (unmoved s c error.Ended (refused s c o)) ∙ o
-
 pub over_calls : (s : State) (calls : List Call) → is_over s.phase ≡ true → is_over (after_calls s calls).phase ≡ true
 over_calls s [] o = o
-over_calls s (c ∷ calls) o = over_calls (left_by s (called c)) calls (over_call s c o)
+over_calls s (c ∷ calls) o = over_calls (left_by s (called c)) calls (ap (λ (x : State). is_over x.phase) (unmoved s c error.Ended (refused s c o)) ∙ o)
 
 either : (b : Bool) (x y : Outcome) → is_over x.next.phase ≡ true → is_over y.next.phase ≡ true → is_over (if b then x else y).next.phase ≡ true
 either true x y p q = p
@@ -98,11 +97,9 @@ denied_left false reason x = refl
 pub left_is : (x : Standing) (input : Input) → left_by x.state input ≡ (react x input).next.state
 unfolding react
 left_is x (called c) = answer_left x (allowed x.state c)
-left_is x (taken said) = refl
-left_is x (unread fault) = refl
 left_is x opened = begun_left (is_wait_transport x.state.phase) x
 left_is x (refused_input reason) = denied_left (is_wait_transport x.state.phase) reason x
-left_is x broken = refl
+left_is x _ = refl
 
 -- ---- a call of its user
 
@@ -124,12 +121,6 @@ record HasCore (s : State) (sent : List Meaning) : Type 0 where
 abbrev Lives : State → List Meaning → Type 0
 Lives s sent = (is_over s.phase ≡ true) ⊎ HasCore s sent
 
-stop_over : (s : State) (c : Call) → stays_in_core c ≡ false → is_over (after s c).phase ≡ true
-stop_over s (Refuse x) k = refl
-stop_over s (ReleaseAccept x) k = refl
-stop_over s (Abort x) k = refl
-stop_over s _ k = absurd (cc)
-
 granted : SessionLaws → (c : Core) (call : Call) (sent : List Meaning) → HasSerial call → Stands c → c.peer.sent ≡ sent → (g : Granted) → allowed c.own.session call ≡ Ok g → (k : Bool) → stays_in_core call ≡ k → Lives g.next sent
 granted laws c call sent small stands way g e true q = inr (record {
   core = answered c call (Ok g);
@@ -148,7 +139,7 @@ answers laws c call sent small stands way (Err x) e =
     inr (record { core = c; stands = stands; is = unmoved c.own.session call x e; way = way })
 
 one_call : SessionLaws → (s : State) (call : Call) (sent : List Meaning) → HasSerial call → Lives s sent → Lives (left_by s (called call)) sent
-one_call laws s call sent small (inl o) = inl (over_call s call o)
+one_call laws s call sent small (inl o) = inl (ap (λ (x : State). is_over x.phase) (unmoved s call error.Ended (refused s call o)) ∙ o)
 one_call laws s call sent small (inr h) =
     subst (λ (x : State). Lives (left_by x (called call)) sent) (sym h.is) (answers laws h.core call sent small h.stands h.way (allowed h.core.own.session call) refl)
 
@@ -197,9 +188,6 @@ no_data_last b s lost (u ∷ []) (m ∷ []) octets rest t e = cc
 no_data_last b s lost (u ∷ []) (m ∷ (n ∷ ms)) octets rest t e = cc
 no_data_last b s lost (u ∷ (v ∷ us)) ms octets rest t e = t
 
-first_is : (u : Meaning) (octets : List ℕ) (there : List Meaning) → DT octets ≡ u → u ∷ there ≡ DT octets ∷ there
-first_is u octets there e = ap (λ (v : Meaning). v ∷ there) (sym e)
-
 one_more : (u : Meaning) (m : Message) (ms : List Message) (octets : List ℕ) (there : List Meaning) → m ≡ unit u → Ahead ms octets there → Ahead (m ∷ ms) octets (u ∷ there)
 one_more u m ms octets there e h = record {
   units = u ∷ h.units;
@@ -213,7 +201,7 @@ ahead_of : (b : Bool) (s : State) (lost there tail : List Meaning) (ms : List Me
 ahead_of b s lost [] tail ms octets rest t e = absurd (no_data_last b s lost tail ms octets rest t e)
 ahead_of b s lost (u ∷ there) tail [] octets rest t e =
     let same : DT octets ≡ u = cc in
-    record { units = []; rest = there; ahead = refl; splits = first_is u octets there same }
+    record { units = []; rest = there; ahead = refl; splits = (ap (λ (v : Meaning). v ∷ there) (sym same)) }
 ahead_of b s lost (u ∷ there) tail (m ∷ ms) octets rest t e =
     let one : m ≡ unit u = cc in
     let more : ms ++ unit (DT octets) ∷ rest ≡ map unit (there ++ tail) = cc in
@@ -245,25 +233,13 @@ has_unit (over ∷ ms) u rest = has_unit ms u rest
 has_unit _ u rest = refl
 
 no_unit_replied : (way : Way) → list_any is_unit (replies way) ≡ false
-no_unit_replied nothing_sent = refl
-no_unit_replied asked = refl
-no_unit_replied agreed = refl
-no_unit_replied (denied r) = refl
-
-no_unit_asked : (way : Way) → list_any is_unit (asks way) ≡ false
-no_unit_asked nothing_sent = refl
-no_unit_asked asked = refl
-no_unit_asked agreed = refl
-no_unit_asked (denied r) = refl
-
-never_both : {A : Type 0} (b : Bool) → b ≡ true → b ≡ false → A
-never_both b p q = absurd (cc)
+no_unit_replied way = grind arith
 
 no_fault_behind : SessionLaws → SaysItsUnit → (b : Bool) (w : World) (t u : Told) → Stage b w t u → IsNoFaultBehind (session_of w) w.peer.channel
 no_fault_behind laws says b w t u (inl h) ms octets rest e =
-    never_both _ (ap (list_any is_unit) e ∙ has_unit ms (DT octets) rest) (ap (list_any is_unit) h.peer_channel ∙ no_unit_replied h.way)
+    not_both _ (ap (list_any is_unit) e ∙ has_unit ms (DT octets) rest) (ap (list_any is_unit) h.peer_channel ∙ no_unit_replied h.way)
 no_fault_behind laws says b w t u (inr (inl h)) ms octets rest e =
-    never_both _ (ap (list_any is_unit) e ∙ has_unit ms (DT octets) rest) (ap (list_any is_unit) h.own_channel ∙ no_unit_asked h.way)
+    not_both _ (ap (list_any is_unit) e ∙ has_unit ms (DT octets) rest) (ap (list_any is_unit) h.own_channel ∙ no_unit_asked h.way)
 no_fault_behind laws says b w t u (inr (inr h)) ms octets rest e = elim (cases_Bool (is_over (session_of w).phase)) [
   | inl o ↦ over_calm (session_of w) ms o
   | inr o ↦ let same = session_is w h.core h.stands h.projects.history h.projects.own.counted (h.projects.own.alike o) in

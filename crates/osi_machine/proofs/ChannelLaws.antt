@@ -3,7 +3,8 @@ use Rattle.std.proofs.Common.{◌≡◌, refl, sym, ◌∙◌, ap, subst, ℕ, B
 use Rattle.osi_machine.specs.Floor.{State, Meaning, is_restart_due, next}
 use Rattle.osi_machine.specs.Channels.{Fits, AllFit, flush, stops, heard, hears, view_next, heard_view, data_in, data_of}
 use Rattle.osi_machine.specs.Histories.{Item}
-use Rattle.osi_machine.proofs.Units.{next_hears, due_next, due_stops, due_view, restart_due}
+use Rattle.osi_machine.proofs.Units.{next_hears, due_next, due_stops, due_view, restart_due, chosen}
+use Rattle.osi_machine.proofs.PhaseLaws.{by_test}
 
 pub fit_append : (s : State) (us : List Meaning) (m : Meaning) → AllFit s us → Fits (flush s us) m → AllFit s (us ++ m ∷ [])
 fit_append s [] m h f = (f, tt)
@@ -20,14 +21,10 @@ pub kept_all : (P : State → Type 0) → ((s : State) (u : Meaning) → P s →
 kept_all P step s [] h f = h
 kept_all P step s (u ∷ us) h f = kept_all P step (next s u) us (step s u h f.0) f.1
 
-heard_if : (P : State → Type 0) (b : Bool) (x y : State) → P x → P y → P (if b then x else y)
-heard_if P true x y h k = h
-heard_if P false x y h k = k
-
 pub kept_heard : (P : State → Type 0) → ((s : State) (u : Meaning) → P s → Fits s u → P (next s u)) →
     (s : State) (us : List Meaning) → P s → AllFit s us → P (heard s us)
 kept_heard P step s [] h f = h
-kept_heard P step s (u ∷ us) h f = heard_if P (stops s u) _ _ h (kept_heard P step (next s u) us (step s u h f.0) f.1)
+kept_heard P step s (u ∷ us) h f = chosen P (stops s u) _ _ h (kept_heard P step (next s u) us (step s u h f.0) f.1)
 
 pub hears_kept : (s : State) (us : List Meaning) → hears s.phase ≡ true → AllFit s us → hears (flush s us).phase ≡ true
 hears_kept = kept_all (λ s. hears s.phase ≡ true) (λ s u h f. next_hears s u h)
@@ -50,15 +47,13 @@ due_heard s (u ∷ us) h f =
 -- ---- where no restart stands, what is heard is all
 
 no_stop : (s : State) (u : Meaning) (us : List Meaning) → AllFit s (u ∷ us) → is_restart_due (flush s (u ∷ us)).phase ≡ false → stops s u ≡ false
-no_stop s u us f n = by (stops s u) refl
-  where
-    by : (b : Bool) → stops s u ≡ b → b ≡ false
-    by false e = refl
-    by true e = absurd (
-        let d = restart_due s u e in
-        let g = due_end (next s u) us d f.1 in
-        let w : is_restart_due (flush (next s u) us).phase ≡ true = subst (λ (r : State). is_restart_due r.phase ≡ true) (sym g) d in
-        cc)
+no_stop s u us f n = by_test (stops s u)
+    (λ e. absurd (
+    let d = restart_due s u e in
+    let g = due_end (next s u) us d f.1 in
+    let w : is_restart_due (flush (next s u) us).phase ≡ true = subst (λ (r : State). is_restart_due r.phase ≡ true) (sym g) d in
+    cc))
+    (λ e. e)
 
 pub heard_flush : (s : State) (us : List Meaning) → AllFit s us → is_restart_due (flush s us).phase ≡ false → heard s us ≡ flush s us
 heard_flush s [] f n = refl
@@ -115,12 +110,10 @@ alike R step s r (u ∷ us) h f =
     record {
       fits = (one.fits, more.fits);
       flush = more.flush;
-      heard = rw one.stops (by (stops s u) more.heard);
+      heard = rw one.stops (by_test (stops s u)
+          (λ e. rw e h)
+          (λ e. rw e (let k : R (heard (next s u) us) (heard (next r u) us) = more.heard in k)));
     }
-  where
-    by : (b : Bool) → R (heard (next s u) us) (heard (next r u) us) → R (if b then s else heard (next s u) us) (if b then r else heard (next r u) us)
-    by true k = h
-    by false k = k
 
 -- and what is seen is the same, where each unit shows the same
 pub alike_view : (R : State → State → Type 0) → ((s r : State) (u : Meaning) → R s r → Fits s u → Steps R s r u) →

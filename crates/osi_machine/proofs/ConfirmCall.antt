@@ -1,30 +1,28 @@
 -- The calls of MinorConfirm and of MajorConfirm keep what is true of both sides.
 use Rattle.std.proofs.Common.{◌≡◌, refl, sym, ◌∙◌, ap, subst, ℕ, ◌+◌, ◌-◌, ◌==◌, ◌≤◌, ◌<◌, Bool, true, false, not, ◌&&◌, ◌||◌, nat_le, nat_lt, if◌then◌else◌, List, [], ◌⊎◌, inl, inr, Ok, arith}
-use Rattle.std.proofs.lemmas.Bool.{and_parts, ltb-true, leb-true, lt-ltb, le-leb, eq-eqb, cases_lt}
+use Rattle.std.proofs.lemmas.Bool.{and_parts, ltb-true, leb-true, lt-ltb, le-leb, eq-eqb, cases_lt, and_from}
 use Rattle.std.specs.List.{list_any}
-use Rattle.osi_machine.specs.Floor.{State, Phase, Numbers, FunctionalUnits, Ready, MajorDue, Meaning, CN, AC, RF, DT, GT, PT, MIP, MIA, MAP, MAA, RS, RA, FN, DN, NF, AB, AA, data_token, is_wait_cn, is_connecting, is_ready, is_major_asked, is_major_due, is_releasing, is_release_due, is_restarting, is_restart_due, in_major, may_hold, may_confirm_minor, takes_minor_ack, lower, point_taken, minor_confirmed, major_confirmed, becomes, drops, next, Good, MinorConfirm, MajorConfirm, HasSerial, Granted, allowed}
+use Rattle.osi_machine.specs.Floor.{State, Phase, Numbers, FunctionalUnits, Ready, MajorDue, Meaning, AC, RF, DT, GT, PT, MIP, MIA, MAP, MAA, RS, RA, FN, DN, NF, AB, AA, data_token, is_wait_cn, is_connecting, is_ready, is_major_asked, is_major_due, is_releasing, is_release_due, is_restarting, is_restart_due, in_major, may_hold, may_confirm_minor, takes_minor_ack, lower, point_taken, minor_confirmed, major_confirmed, becomes, drops, next, Good, MinorConfirm, MajorConfirm}
 use Rattle.osi_machine.specs.Histories.{Item, points, AreNumberedFrom}
 use Rattle.osi_machine.specs.Taking.{seen}
 use Rattle.osi_machine.specs.Channels.{is_plain, AllFit, heard_view, stops, needs_token}
 use Rattle.osi_machine.specs.Core.{Core, answered}
-use Rattle.osi_machine.specs.Parties.{is_opening, AreConsistent}
-use Rattle.osi_machine.proofs.PhaseLaws.{implied, excluded, implied_two}
+use Rattle.osi_machine.specs.Parties.{is_opening}
+use Rattle.osi_machine.proofs.PhaseLaws.{implied, excluded, implied_two, by_either, by_test}
 use Rattle.osi_machine.proofs.Units.{next_cases, next_hears}
 use Rattle.osi_machine.proofs.ChannelLaws.{kept_heard, heard_flush}
 use Rattle.osi_machine.proofs.Begun.{flush_open, heard_open}
 use Rattle.osi_machine.proofs.Idle.{end_units, append_nil, list_any_append}
 use Rattle.osi_machine.proofs.DataCall.{none_owed}
-use Rattle.osi_machine.proofs.CoreLaws.{SessionLaws, answered_kept}
 use Rattle.osi_machine.proofs.Records.{flushed, hearing, matched, Stands}
-use Rattle.osi_machine.proofs.NumberLaws.{lower_first, lower_second, lower_from, Turned, heard_turned}
+use Rattle.osi_machine.proofs.NumberLaws.{lower_first, lower_second, lower_from, heard_turned}
 use Rattle.osi_machine.proofs.ViewLaws.{until_heard, view_cases, heard_counted, view_grows, major_came}
 use Rattle.osi_machine.proofs.Shift.{Shift, listening_stands, none_never}
 use Rattle.osi_machine.proofs.ShiftCall.{Sending, sending_stands}
 use Rattle.osi_machine.proofs.ReleaseCall.{in_phase, good_in}
 use Rattle.osi_machine.proofs.PointCall.{other_number, other_saw, other_above, hears_there}
-
-both : (a b : Bool) → a ≡ true → b ≡ true → (a && b) ≡ true
-both a b p q = rw (p, q) refl
+use Rattle.osi_machine.proofs.CoreLaws.{IsGranted, granted}
+use Rattle.osi_machine.proofs.Deaf.{not_both}
 
 -- ---- a side that took points last
 
@@ -35,36 +33,25 @@ record Answers (s : State) : Type 0 where
   phase : is_confirming s.phase ≡ true
   answers : s.numbers.answers ≡ true
 
-turned : (s : State) → Answers s → Turned s
-turned s a = record { phase = excluded is_confirming is_opening refl s.phase a.phase; answers = a.answers }
-
 open_now : (w : Core) → Answers w.own.session → is_opening w.own.session.phase ≡ false
 open_now w a = excluded is_confirming is_opening refl w.own.session.phase a.phase
 
 listens : (w : Core) → Answers w.own.session → is_restarting w.own.session.phase ≡ false
 listens w a = excluded is_confirming is_restarting refl w.own.session.phase a.phase
 
-owed : (w : Core) → Answers w.own.session → Stands w → is_restart_due (flushed w.peer w.own).phase ≡ false
-owed w a h = none_owed w.owner w.own w.peer h.own (listens w a)
-
 ends_same : (w : Core) → Answers w.own.session → Stands w → hearing w.peer w.own ≡ flushed w.peer w.own
-ends_same w a h = heard_flush w.peer.session w.own.sent h.peer.fits (owed w a h)
-
-end_base : (w : Core) → Answers w.own.session → Stands w → (flushed w.own w.peer).base ≡ w.own.session.base
-end_base w a h = (flush_open w.own.session w.peer.sent (open_now w a) h.own.fits).base
+ends_same w a h = heard_flush w.peer.session w.own.sent h.peer.fits (none_owed w.owner w.own w.peer h.own (listens w a))
 
 there_base : (w : Core) → Answers w.own.session → Stands w → (flushed w.peer w.own).base ≡ w.own.session.base
-there_base w a h = sym h.own.meeting.base ∙ end_base w a h
+there_base w a h = sym h.own.meeting.base ∙ (flush_open w.own.session w.peer.sent (open_now w a) h.own.fits).base
 
 heard_base : (w : Core) → Answers w.own.session → Stands w → (hearing w.own w.peer).base ≡ w.own.session.base
 heard_base w a h = (heard_open w.own.session w.peer.sent (open_now w a) h.own.fits).base
 
 same_base : (w : Core) → Answers w.own.session → Stands w → w.peer.session.base ≡ w.own.session.base ⊎ (is_opening w.peer.session.phase ≡ true)
-same_base w a h = by (is_opening w.peer.session.phase) refl
-  where
-    by : (b : Bool) → is_opening w.peer.session.phase ≡ b → w.peer.session.base ≡ w.own.session.base ⊎ (is_opening w.peer.session.phase ≡ true)
-    by true e = inr e
-    by false e = inl (sym (flush_open w.peer.session w.own.sent e h.peer.fits).base ∙ there_base w a h)
+same_base w a h = by_test (is_opening w.peer.session.phase)
+    (λ e. inr e)
+    (λ e. inl (sym (flush_open w.peer.session w.own.sent e h.peer.fits).base ∙ there_base w a h))
 
 heeds : (w : Core) → Answers w.own.session → Stands w → not (is_restarting (hearing w.own w.peer).phase) ≡ true
 heeds w a h = kept_heard (λ (q : State). not (is_restarting q.phase) ≡ true) (λ q u p g. next_hears q u p) w.own.session w.peer.sent (ap not (listens w a)) h.own.fits
@@ -95,7 +82,7 @@ all_above w n a h l from to =
 none_back : (w : Core) → Answers w.own.session → Stands w → w.peer.session.numbers.answers ≡ true → ⊥
 none_back w a h t =
     let no = h.peer_counts.flag t in
-    let yes = (heard_turned w.own.session w.peer.sent (turned w.own.session a) h.own.fits).answers in
+    let yes = (heard_turned w.own.session w.peer.sent (record { phase = excluded is_confirming is_opening refl w.own.session.phase a.phase; answers = a.answers }) h.own.fits).answers in
     cc
 
 keeps_flag : (w : Core) (m : Meaning) → ((s : State) → (becomes s m).numbers.answers ≡ s.numbers.answers) → Answers w.own.session → Stands w
@@ -117,11 +104,7 @@ confirmed_at n s = record s { numbers = minor_confirmed n s.numbers }
 
 confirm_good : (n : ℕ) (s : State) (u : Meaning) → s.numbers.answers ≡ true → is_plain u ≡ true → Good s u → Good (confirmed_at n s) u
 unfolding minor_confirmed
-confirm_good n s (MIA m o) a p g = absurd (let b = and_parts (not s.numbers.answers) _ g.met.1.0 in turn s.numbers.answers b.0 a)
-  where
-    turn : (b : Bool) → not b ≡ true → b ≡ true → ⊥
-    turn true h k = cc
-    turn false h k = cc
+confirm_good n s (MIA m o) a p g = absurd (let b = and_parts (not s.numbers.answers) _ g.met.1.0 in not_both s.numbers.answers b.0 a)
 confirm_good n s (RF r o) a p g = absurd (cc)
 confirm_good n s (DN o) a p g = absurd (cc)
 confirm_good n s (AB b o) a p g = absurd (cc)
@@ -143,11 +126,7 @@ confirm_step n s (DT o) a p g st = (refl, a)
 confirm_step n s (GT k) a p g st = (refl, record { phase = a.phase; answers = a.answers })
 confirm_step n s (PT k o) a p g st = (refl, a)
 confirm_step n s (MIP c i o) a p g st = (ap (λ (v : Numbers). record s { numbers = v }) (taken_confirmed n s.numbers a.answers), record { phase = a.phase; answers = point_answers s.numbers })
-confirm_step n s (MIA i o) a p g st = absurd (let b = and_parts (not s.numbers.answers) _ g.met.1.0 in turn s.numbers.answers b.0 a.answers)
-  where
-    turn : (b : Bool) → not b ≡ true → b ≡ true → ⊥
-    turn true h k = cc
-    turn false h k = cc
+confirm_step n s (MIA i o) a p g st = absurd (let b = and_parts (not s.numbers.answers) _ g.met.1.0 in not_both s.numbers.answers b.0 a.answers)
 confirm_step n s (MAP i o) a p g st = (ap (λ (v : Numbers). record s { phase = MajorDue; numbers = v }) (taken_confirmed n s.numbers a.answers), record { phase = refl; answers = point_answers s.numbers })
 confirm_step n s (MAA i o) a p g st = absurd (let x = excluded is_confirming is_major_asked refl s.phase a.phase in let y = g.expected in cc)
 confirm_step n s (RS j i w o) a p g st = absurd (let t = listening_stands s i (excluded is_confirming is_restarting refl s.phase a.phase) in cc)
@@ -181,94 +160,72 @@ own_answers w n k = record { phase = implied may_confirm_minor is_confirming ref
 
 -- nothing at or above it was confirmed
 confirmed_below : (w : Core) (n : ℕ) → Confirms w n → Stands w → (flushed w.peer w.own).numbers.confirmed ≤ n
-confirmed_below w n k h = by (cases_lt n (flushed w.peer w.own).numbers.confirmed)
-  where
-    reach : lower w.own.session.numbers.next (flushed w.peer w.own).numbers.confirmed ≤ w.own.session.numbers.confirmed
-    reach = was_reach w (own_answers w n k) h
-
-    by : (n < (flushed w.peer w.own).numbers.confirmed) ⊎ ((flushed w.peer w.own).numbers.confirmed ≤ n) → (flushed w.peer w.own).numbers.confirmed ≤ n
-    by (inr l) = l
-    by (inl l) = absurd (
-        let a = k.from in
-        let b = k.to in
-        let c = lower_from w.own.session.numbers.next (flushed w.peer w.own).numbers.confirmed (n + 1) (omega arith) (omega arith) in
-        let d = reach in
-        omega arith)
+confirmed_below w n k h =
+    let reach : lower w.own.session.numbers.next (flushed w.peer w.own).numbers.confirmed ≤ w.own.session.numbers.confirmed = was_reach w (own_answers w n k) h in
+    by_either (cases_lt n (flushed w.peer w.own).numbers.confirmed)
+    (λ l. absurd (
+    let a = k.from in
+    let b = k.to in
+    let c = lower_from w.own.session.numbers.next (flushed w.peer w.own).numbers.confirmed (n + 1) (omega arith) (omega arith) in
+    let d = reach in
+    omega arith))
+    (λ l. l)
 
 -- a major point that is still under way is no minor one
 confirm_above : (w : Core) (n : ℕ) → Confirms w n → Stands w → is_restarting (flushed w.peer w.own).phase ≡ false
     → (if is_major_asked (flushed w.peer w.own).phase then nat_lt (n + 1) (flushed w.peer w.own).numbers.next else nat_lt n (flushed w.peer w.own).numbers.next) ≡ true
-confirm_above w n k h l = by (is_major_asked fy.phase) refl
+confirm_above w n k h l = by_test (is_major_asked (flushed w.peer w.own).phase)
+    (λ e. rw e (lt-ltb (n + 1) (flushed w.peer w.own).numbers.next (let x = one_more e in let y = below in let z = next_there in omega arith)))
+    (λ e. rw e (lt-ltb n (flushed w.peer w.own).numbers.next (let x = seen_all w a h in let y = below in let z = next_there in omega arith)))
   where
-    fx : State
-    fx = flushed w.own w.peer
-
-    fy : State
-    fy = flushed w.peer w.own
-
     a : Answers w.own.session
     a = own_answers w n k
 
-    next_there : fy.numbers.next ≡ w.own.session.base + points w.history
+    next_there : (flushed w.peer w.own).numbers.next ≡ w.own.session.base + points w.history
     next_there = other_number w h (there_base w a h) (ends_same w a h) l
 
     below : n < w.own.session.base + points w.own.view
     below = subst (λ (m : ℕ). n < m) (own_count w h) k.to
 
-    not_owed : is_restart_due fx.phase ≡ false
-    not_owed = turn (is_restart_due fx.phase) refl
-      where
-        turn : (b : Bool) → is_restart_due fx.phase ≡ b → b ≡ false
-        turn false e = refl
-        turn true e = absurd (
-            let r = implied_two (λ p q. matched p q && is_restart_due p) (λ p q. is_restarting q) refl fx.phase fy.phase
-            (both (matched fx.phase fy.phase) (is_restart_due fx.phase) h.own.meeting.meets e) in
-            cc)
+    not_owed : is_restart_due (flushed w.own w.peer).phase ≡ false
+    not_owed = by_test (is_restart_due (flushed w.own w.peer).phase)
+        (λ e. absurd (
+        let r = implied_two (λ p q. matched p q && is_restart_due p) (λ p q. is_restarting q) refl (flushed w.own w.peer).phase (flushed w.peer w.own).phase
+        (and_from (matched (flushed w.own w.peer).phase (flushed w.peer w.own).phase) (is_restart_due (flushed w.own w.peer).phase) h.own.meeting.meets e) in
+        cc))
+        (λ e. e)
 
-    one_more : is_major_asked fy.phase ≡ true → points w.own.view + 1 ≤ points w.history
+    one_more : is_major_asked (flushed w.peer w.own).phase ≡ true → points w.own.view + 1 ≤ points w.history
     one_more e =
-        let d = implied_two (λ p q. matched p q && is_major_asked q) (λ p q. is_major_due p) refl fx.phase fy.phase
-        (both (matched fx.phase fy.phase) (is_major_asked fy.phase) h.own.meeting.meets e) in
+        let d = implied_two (λ p q. matched p q && is_major_asked q) (λ p q. is_major_due p) refl (flushed w.own w.peer).phase (flushed w.peer w.own).phase
+        (and_from (matched (flushed w.own w.peer).phase (flushed w.peer w.own).phase) (is_major_asked (flushed w.peer w.own).phase) h.own.meeting.meets e) in
         let hd = ap (λ (q : State). is_major_due q.phase) (heard_flush w.own.session w.peer.sent h.own.fits not_owed) ∙ d in
         subst (λ (v : List Item). points w.own.view + 1 ≤ points v) (h.own_views.ends (heeds w a h))
         (major_came w.own.session w.peer.sent w.own.view (excluded may_confirm_minor is_major_due refl w.own.session.phase k.phase) h.own.fits hd)
-
-    by : (b : Bool) → is_major_asked fy.phase ≡ b → (if b then nat_lt (n + 1) fy.numbers.next else nat_lt n fy.numbers.next) ≡ true
-    by true e = lt-ltb (n + 1) fy.numbers.next (let x = one_more e in let y = below in let z = next_there in omega arith)
-    by false e = lt-ltb n fy.numbers.next (let x = seen_all w a h in let y = below in let z = next_there in omega arith)
-
-confirm_fits : (w : Core) (n : ℕ) (octets : List ℕ) → Confirms w n → Stands w → is_restarting (flushed w.peer w.own).phase ≡ false → Answers (flushed w.own w.peer)
-    → Good (flushed w.peer w.own) (MIA n octets)
-confirm_fits w n octets k h l i =
-    let fx = flushed w.own w.peer in
-    let fy = flushed w.peer w.own in
-    let a = own_answers w n k in
-    record {
-      expected = implied_two (λ p q. matched p q && is_confirming p) (λ p q. takes_minor_ack q) refl (flushed w.own w.peer).phase (flushed w.peer w.own).phase
-          (both (matched (flushed w.own w.peer).phase (flushed w.peer w.own).phase) (is_confirming (flushed w.own w.peer).phase) h.own.meeting.meets i.phase);
-      met = (
-        ap (λ (u : FunctionalUnits). u.minor) (sym h.own.meeting.units ∙ end_units w.owner w.own w.peer h.own (open_now w a)) ∙ k.selected,
-        (
-          both (not (flushed w.peer w.own).numbers.answers) _ (ap not (there_sends w a h))
-              (both (nat_le (flushed w.peer w.own).numbers.confirmed n) _ (le-leb (flushed w.peer w.own).numbers.confirmed n (confirmed_below w n k h)) (confirm_above w n k h l)),
-          tt,
-        ),
-      );
-    }
 
 confirm_sending : (w : Core) (n : ℕ) (octets : List ℕ) → Confirms w n → Stands w → Sending w (confirm_shift n) (MIA n octets) []
 unfolding minor_confirmed
 confirm_sending w n octets k h = record {
   now = own_answers w n k;
   none = none_never w.peer.sent;
-  plain = refl;
-  effect = refl;
-  waits = refl;
-  quiet = λ s. refl;
-  keeps = λ s. record { units = refl; wishes = refl; held = refl; proposed = refl; base = refl; is_caller = refl };
+  unit = assumption;
   shows = λ s v. sym (append_nil v);
-  empty = refl;
-  good = λ l i. confirm_fits w n octets k h l i;
+  good = λ l i.
+      let fx = flushed w.own w.peer in
+      let fy = flushed w.peer w.own in
+      let a = own_answers w n k in
+      record {
+        expected = implied_two (λ p q. matched p q && is_confirming p) (λ p q. takes_minor_ack q) refl (flushed w.own w.peer).phase (flushed w.peer w.own).phase
+            (and_from (matched (flushed w.own w.peer).phase (flushed w.peer w.own).phase) (is_confirming (flushed w.own w.peer).phase) h.own.meeting.meets i.phase);
+        met = (
+          ap (λ (u : FunctionalUnits). u.minor) (sym h.own.meeting.units ∙ end_units w.owner w.own w.peer h.own (open_now w a)) ∙ k.selected,
+          (
+            and_from (not (flushed w.peer w.own).numbers.answers) _ (ap not (there_sends w a h))
+                (and_from (nat_le (flushed w.peer w.own).numbers.confirmed n) _ (le-leb (flushed w.peer w.own).numbers.confirmed n (confirmed_below w n k h)) (confirm_above w n k h l)),
+            tt,
+          ),
+        );
+      };
   meets = λ l i. h.own.meeting.meets;
   release = λ s i r. r;
   releasing = λ s i r. absurd (let x = excluded is_confirming is_releasing refl s.phase i.phase in cc);
@@ -287,23 +244,13 @@ confirm_sending w n octets k h = record {
   one_way = λ d. ap (λ (b : Bool). b && list_any (needs_token data_token) w.peer.sent) (list_any_append (needs_token data_token) w.own.sent (MIA n octets) refl) ∙ h.pair.one_way d;
 }
 
-pub minor_confirm_stands : SessionLaws → (w : Core) (n : ℕ) (octets : List ℕ) (g : Granted) → HasSerial (MinorConfirm n octets)
-    → allowed w.own.session (MinorConfirm n octets) ≡ Ok g → Stands w → Stands (answered w (MinorConfirm n octets) (Ok g))
-minor_confirm_stands laws w n octets g small e h =
-    let q = laws.passed w.own.session (MinorConfirm n octets) g e in
-    let c = answered_kept laws w (MinorConfirm n octets) (Ok g) small e h.consistent in
+pub minor_confirm_stands : (w : Core) (n : ℕ) (octets : List ℕ) → IsGranted w (MinorConfirm n octets) → Stands w
+    → Stands (answered w (MinorConfirm n octets) (Ok (granted w.own.session (MinorConfirm n octets))))
+minor_confirm_stands w n octets q h =
     let a = and_parts w.own.session.numbers.answers (nat_le w.own.session.numbers.confirmed n && nat_lt n w.own.session.numbers.next) q.needed.1.0 in
     let b = and_parts (nat_le w.own.session.numbers.confirmed n) (nat_lt n w.own.session.numbers.next) a.1 in
-    let k : Confirms w n = record {
-      phase = q.phase;
-      selected = q.needed.0;
-      answers = a.0;
-      from = leb-true w.own.session.numbers.confirmed n b.0;
-      to = ltb-true n w.own.session.numbers.next b.1;
-    } in
-    subst (λ (r : Granted). Stands (answered w (MinorConfirm n octets) (Ok r))) (sym q.gives)
-    (sending_stands w (confirm_shift n) (MIA n octets) [] (confirm_sending w n octets k h) h
-    (subst (λ (r : Granted). AreConsistent (answered w (MinorConfirm n octets) (Ok r))) q.gives c))
+    let k : Confirms w n = (assumption (leb-true w.own.session.numbers.confirmed n b.0, ltb-true n w.own.session.numbers.next b.1)) in
+    sending_stands w (confirm_shift n) (MIA n octets) [] (confirm_sending w n octets k h) h q.kept
 
 -- ---- the confirmation of a major point
 
@@ -316,17 +263,11 @@ all_confirmed s = record s { phase = Ready; numbers = major_confirmed s.numbers 
 
 due_good : (s : State) (u : Meaning) → is_plain u ≡ true → Good (in_phase MajorDue s) u → Good (all_confirmed s) u
 unfolding major_confirmed
-due_good s (GT k) p g = record { expected = refl; met = g.met }
-due_good s (PT k o) p g = record { expected = refl; met = g.met }
-due_good s (RS j n w o) p g = record { expected = refl; met = g.met }
-due_good s _ p g = absurd (let a = g.expected in cc)
+due_good s u p g = grind arith
 
 due_step : (s : State) (u : Meaning) → Owes s → is_plain u ≡ true → Good (in_phase MajorDue s) u → stops s u ≡ false
     → (becomes (all_confirmed s) u ≡ all_confirmed (becomes s u)) × Owes (becomes s u)
-due_step s (GT k) i p g st = (refl, record { phase = i.phase; answers = i.answers })
-due_step s (PT k o) i p g st = (refl, i)
-due_step s (RS j n w o) i p g st = absurd (let t = listening_stands s n (ap is_restarting i.phase) in cc)
-due_step s _ i p g st = absurd (let a = g.expected in cc)
+due_step s u i p g st = grind (arith, listening_stands)
 
 abbrev due_shift : Shift
 due_shift = record {
@@ -342,10 +283,7 @@ due_shift = record {
 
 -- nothing is seen by a side that owes the answer
 due_seen : (s : State) (u : Meaning) (v : List Item) → Owes s → is_plain u ≡ true → Good (in_phase MajorDue s) u → stops s u ≡ false → seen s u v ≡ v
-due_seen s (GT k) v i p g st = refl
-due_seen s (PT k o) v i p g st = refl
-due_seen s (RS j n w o) v i p g st = absurd (let t = listening_stands s n (ap is_restarting i.phase) in cc)
-due_seen s _ v i p g st = absurd (let a = g.expected in cc)
+due_seen s u v i p g st = grind (arith, listening_stands)
 
 owes_nothing : (s : State) (us : List Meaning) (v : List Item) → Owes s → AllFit s us → heard_view s us v ≡ v
 owes_nothing s us v i f =
@@ -372,41 +310,16 @@ due_number w k h l =
     let z = h.consistent.own.sound.major (ap in_major k.phase) in
     eq-eqb ((w.own.session.numbers.next - 1) + 1) (flushed w.peer w.own).numbers.next (omega arith)
 
-due_below : (w : Core) (n : ℕ) (u : ℕ) (octets : List ℕ) → Owes w.own.session → Stands w → (flushed w.peer w.own).base ≤ n
-    → n < (next (flushed w.peer w.own) (MAA u octets)).numbers.confirmed → n < w.own.session.numbers.next
-unfolding major_confirmed
-due_below w n u octets k h from to = by (drops fy (MAA u octets)) refl to
-  where
-    fy : State
-    fy = flushed w.peer w.own
-
-    by : (b : Bool) → drops fy (MAA u octets) ≡ b → n < (if b then fy else becomes fy (MAA u octets)).numbers.confirmed → n < w.own.session.numbers.next
-    by true d e = was_below w n (due_answers w k) h from e
-    by false d e =
-        let a = due_answers w k in
-        let x = due_all w k h in
-        let y = other_number w h (there_base w a h) (ends_same w a h) (hears (is_restarting fy.phase) d) in
-        omega arith
-      where
-        hears : (b : Bool) → (b && true) ≡ false → b ≡ false
-        hears true p = absurd (cc)
-        hears false p = refl
-
 due_sending : (w : Core) (octets : List ℕ) → Owes w.own.session → Stands w → Sending w due_shift (MAA (w.own.session.numbers.next - 1) octets) []
 unfolding major_confirmed
 due_sending w octets k h = record {
   now = k;
   none = none_never w.peer.sent;
-  plain = refl;
-  effect = refl;
-  waits = refl;
-  quiet = λ s. refl;
-  keeps = λ s. record { units = refl; wishes = refl; held = refl; proposed = refl; base = refl; is_caller = refl };
+  unit = assumption;
   shows = λ s v. sym (append_nil v);
-  empty = refl;
   good = λ l i. record {
     expected = implied_two (λ p q. matched p q && is_major_due p) (λ p q. is_major_asked q) refl (flushed w.own w.peer).phase (flushed w.peer w.own).phase
-        (both (matched (flushed w.own w.peer).phase (flushed w.peer w.own).phase) (is_major_due (flushed w.own w.peer).phase) h.own.meeting.meets (ap is_major_due i.phase));
+        (and_from (matched (flushed w.own w.peer).phase (flushed w.peer w.own).phase) (is_major_due (flushed w.own w.peer).phase) h.own.meeting.meets (ap is_major_due i.phase));
     met = (due_number w k h l, tt);
   };
   meets = λ l i. refl;
@@ -419,7 +332,14 @@ due_sending w octets k h = record {
       (subst (λ (m : ℕ). n < m) (heard_number w (due_answers w k) h) to);
   reach = λ t. absurd (none_back w (due_answers w k) h t);
   other_flag = h.peer_counts.flag;
-  other_below = λ n from to. due_below w n (w.own.session.numbers.next - 1) octets k h from to;
+  other_below = λ n from to. by_test (drops (flushed w.peer w.own) (MAA (w.own.session.numbers.next - 1) octets))
+      (λ d. let e = rw d at to in was_below w n (due_answers w k) h from e)
+      (λ d. let e = rw d at to in let a = due_answers w k in
+      let x = due_all w k h in
+      let y = other_number w h (there_base w a h) (ends_same w a h) (by_test (is_restarting (flushed w.peer w.own).phase)
+      (λ q. let p = rw q at d in absurd (cc))
+      (λ q. q)) in
+      omega arith);
   other_reach = λ f. lower_first w.own.session.numbers.next (next (flushed w.peer w.own) (MAA (w.own.session.numbers.next - 1) octets)).numbers.confirmed;
   numbered = λ p. subst (AreNumberedFrom (flushed w.own w.peer).base) (sym (append_nil w.history)) p;
   one_way = λ d. ap (λ (b : Bool). b && list_any (needs_token data_token) w.peer.sent)
@@ -430,12 +350,8 @@ major_due_is : (p : Phase) → is_major_due p ≡ true → p ≡ MajorDue
 major_due_is MajorDue h = refl
 major_due_is _ h = absurd (cc)
 
-pub major_confirm_stands : SessionLaws → (w : Core) (octets : List ℕ) (g : Granted) → allowed w.own.session (MajorConfirm octets) ≡ Ok g → Stands w
-    → Stands (answered w (MajorConfirm octets) (Ok g))
-major_confirm_stands laws w octets g e h =
-    let q = laws.passed w.own.session (MajorConfirm octets) g e in
-    let c = answered_kept laws w (MajorConfirm octets) (Ok g) tt e h.consistent in
+pub major_confirm_stands : (w : Core) (octets : List ℕ) → IsGranted w (MajorConfirm octets) → Stands w
+    → Stands (answered w (MajorConfirm octets) (Ok (granted w.own.session (MajorConfirm octets))))
+major_confirm_stands w octets q h =
     let k : Owes w.own.session = record { phase = major_due_is w.own.session.phase q.phase; answers = h.consistent.own.major q.phase } in
-    subst (λ (r : Granted). Stands (answered w (MajorConfirm octets) (Ok r))) (sym q.gives)
-    (sending_stands w due_shift (MAA (w.own.session.numbers.next - 1) octets) [] (due_sending w octets k h) h
-    (subst (λ (r : Granted). AreConsistent (answered w (MajorConfirm octets) (Ok r))) q.gives c))
+    sending_stands w due_shift (MAA (w.own.session.numbers.next - 1) octets) [] (due_sending w octets k h) h q.kept

@@ -1,7 +1,7 @@
 -- Each call and each unit keeps what is true of a side by itself.
 use Rattle.std.proofs.Common.{◌≡◌, refl, sym, ◌∙◌, ap, ℕ, ◌+◌, ◌==◌, ◌≤◌, ◌<◌, Bool, true, false, not, ◌&&◌, ◌||◌, nat_le, nat_lt, if◌then◌else◌, List, [], ◌∷◌, ◌++◌, arith}
 use Rattle.std.proofs.lemmas.Bool.{leb-true, ltb-true, eqb-true, and_parts}
-use Rattle.osi_machine.specs.Floor.{State, Phase, FunctionalUnits, Call, Accept, Refuse, Data, Give, Please, Minor, MinorConfirm, Major, MajorConfirm, Restart, RestartConfirm, Release, ReleaseAccept, ReleaseRefuse, Abort, Meaning, CN, AC, RF, DT, GT, PT, MIP, MIA, MAP, MAA, RS, RA, FN, DN, NF, AB, AA, is_ready, is_answering, is_connecting, is_wait_cn, is_major_due, is_releasing, is_restarting, in_major, may_give, may_ask, may_confirm_minor, takes_data, takes_please, takes_minor_ack, may_call, needs, after, has_right, each, is_restartable, is_acceptable, becomes, stands, from_base, point_sent, point_taken, minor_confirmed, major_confirmed, restarted_at, IsSound, Good}
+use Rattle.osi_machine.specs.Floor.{State, Phase, FunctionalUnits, Call, Accept, Data, Give, Please, Minor, MinorConfirm, Major, Restart, Release, Meaning, CN, AC, DT, GT, PT, MIP, MIA, MAP, RS, AA, is_ready, is_answering, is_connecting, is_wait_cn, is_major_due, is_releasing, is_restarting, in_major, may_give, may_ask, may_confirm_minor, takes_data, takes_please, takes_minor_ack, may_call, needs, after, is_acceptable, becomes, stands, from_base, point_sent, point_taken, minor_confirmed, major_confirmed, restarted_at, IsSound, Good}
 use Rattle.osi_machine.specs.Histories.{Item, Octets, Point, minor_kind, major_point, points, cutat}
 use Rattle.osi_machine.specs.Taking.{seen, got_in}
 use Rattle.osi_machine.specs.Core.{Party, speaks, view_called, party_taking}
@@ -10,6 +10,7 @@ use Rattle.osi_machine.proofs.PhaseLaws.{implied, excluded}
 use Rattle.osi_session.specs.Allowed.{AllHold}
 use Rattle.osi_machine.proofs.Acting.{unit_cases}
 use Rattle.osi_machine.proofs.HistoryLaws.{points_append, points_cut}
+use Rattle.osi_machine.proofs.Units.{chosen}
 
 -- the lines, but for the order of the numbers
 pub record Lines (s : State) (v : List Item) (said got : List (List ℕ)) : Type 0 where
@@ -54,11 +55,11 @@ one_more : (n base : ℕ) (b : Bool) (octets : List ℕ) (v : List Item) → n �
 one_more n base true octets v h = nothing_said n base v h
 one_more n base false octets v h = let e = points_append v (Octets octets ∷ []) in omega arith
 
-one_taken : (n base : ℕ) (b : Bool) (octets : List ℕ) (v : List Item) → n ≡ base + points v → n ≡ base + points (if b then v else v ++ Octets octets ∷ [])
+pub one_taken : (n base : ℕ) (b : Bool) (octets : List ℕ) (v : List Item) → n ≡ base + points v → n ≡ base + points (if b then v else v ++ Octets octets ∷ [])
 one_taken n base true octets v h = h
 one_taken n base false octets v h = let e = points_append v (Octets octets ∷ []) in omega arith
 
-opened_count : (base : ℕ) (v : List Item) → v ≡ [] → base ≡ base + points v
+pub opened_count : (base : ℕ) (v : List Item) → v ≡ [] → base ≡ base + points v
 opened_count base v e = rw e (omega arith)
 
 -- ---- the lines where little changes
@@ -68,11 +69,7 @@ quiet : Phase → Bool
 quiet p = not (is_major_due p || (is_restarting p || (is_releasing p || is_opening p)))
 
 or_four : (a b c d : Bool) → not (a || (b || (c || d))) ≡ true → (a ≡ false) × (b ≡ false) × (c ≡ false) × (d ≡ false)
-or_four false false false false h = (refl, refl, refl, refl)
-or_four true b c d h = absurd (cc)
-or_four false true c d h = absurd (cc)
-or_four false false true d h = absurd (cc)
-or_four false false false true h = absurd (cc)
+or_four a b c d h = grind arith
 
 calm : (s : State) (v : List Item) (said got : List (List ℕ)) → quiet s.phase ≡ true → s.numbers.next ≡ s.base + points v → Lines s v said got
 unfolding quiet
@@ -92,26 +89,11 @@ same_lines s r v w said said' got got' p u i a o c h = record {
   fresh = λ k. absurd (let w = ap is_opening (sym p) ∙ k in cc);
 }
 
-below_if : (b : Bool) (n next : ℕ) → (if b then nat_lt n next else nat_le n next) ≡ true → n ≤ next
+pub below_if : (b : Bool) (n next : ℕ) → (if b then nat_lt n next else nat_le n next) ≡ true → n ≤ next
 below_if true n next h = let k = ltb-true n next h in omega arith
 below_if false n next h = leb-true n next h
 
 -- ---- the calls
-
-restart_count : (s : State) (n : ℕ) (v : List Item) → IsSound s → is_restartable s n ≡ true → s.numbers.next ≡ s.base + points v
-    → n ≡ s.base + points (cutat s.base v n)
-restart_count s n v sound r h =
-    let a = and_parts _ _ r in
-    let b = and_parts _ _ a.1 in
-    let low = leb-true s.numbers.lowest n a.0 in
-    let top = below_if (in_major s.phase) n s.numbers.next b.1 in
-    let from = sound.ordered.lowest_from in
-    points_cut s.base n v (omega arith) (omega arith)
-
-duplex_caller : (a d c : Bool) → (a && (not d || c)) ≡ true → d ≡ true → c ≡ true
-duplex_caller true true c h k = h
-duplex_caller true false c h k = absurd (cc)
-duplex_caller false d c h k = absurd (cc)
 
 pub call_lines : (s : State) (c : Call) (v : List Item) (said got : List (List ℕ)) → may_call s.phase c ≡ true → AllHold (needs s c) → IsSound s
     → Lines s v said got → Lines (after s c) (view_called s c v) (said ++ speaks s c) got
@@ -132,7 +114,13 @@ call_lines s (MinorConfirm n octets) v said got p t sound h =
 call_lines s (Major octets) v said got p t sound h =
     calm _ _ _ _ refl (one_point _ _ 0 v (Point s.numbers.next major_point octets) refl h.count)
 call_lines s (Restart n wishes octets) v said got p t sound h = record {
-  count = restart_count s n v sound t.1.0 h.count;
+  count =
+      let a = and_parts _ _ t.1.0 in
+      let b = and_parts _ _ a.1 in
+      let low = leb-true s.numbers.lowest n a.0 in
+      let top = below_if (in_major s.phase) n s.numbers.next b.1 in
+      let from = sound.ordered.lowest_from in
+      points_cut s.base n v (omega arith) (omega arith);
   major = λ k. absurd (cc);
   asked = λ k. t.0;
   asker = λ k. absurd (cc);
@@ -142,14 +130,14 @@ call_lines s (Release octets) v said got p t sound h = record {
   count = nothing_said _ _ v h.count;
   major = λ k. absurd (cc);
   asked = λ k. absurd (cc);
-  asker = λ k d. duplex_caller (each (has_right s)) s.units.duplex s.is_caller t.0 d;
+  asker = λ k d. grind arith;
   fresh = λ k. absurd (cc);
 }
 call_lines s _ v said got p t sound h = calm _ _ _ _ refl (nothing_said _ _ v h.count)
 
 -- ---- the units
 
-stood_below : (s : State) (n : ℕ) → (is_restarting s.phase || nat_le n s.numbers.next) ≡ true → stands s n ≡ true → n ≤ s.numbers.next
+pub stood_below : (s : State) (n : ℕ) → (is_restarting s.phase || nat_le n s.numbers.next) ≡ true → stands s n ≡ true → n ≤ s.numbers.next
 unfolding stands
 stood_below s n e st = by (is_restarting s.phase) (nat_lt n s.numbers.next) (nat_le n s.numbers.next) e st (ltb-true n s.numbers.next) (leb-true n s.numbers.next)
   where
@@ -159,20 +147,16 @@ stood_below s n e st = by (is_restarting s.phase) (nat_lt n s.numbers.next) (nat
     by true true m e st f g = let k = f refl in omega arith
     by true false m e st f g = let k = eqb-true n s.numbers.next (and_parts (n == s.numbers.next) (not s.is_caller) st).0 in omega arith
 
-chosen : (P : State → List Item → Type 0) (b : Bool) (x y : State) (v w : List Item) → (b ≡ true → P x v) → (b ≡ false → P y w) → P (if b then x else y) (if b then v else w)
-chosen P true x y v w h k = h refl
-chosen P false x y v w h k = k refl
-
-chosen_state : (P : State → Type 0) (b : Bool) (x y : State) → P x → P y → P (if b then x else y)
-chosen_state P true x y h k = h
-chosen_state P false x y h k = k
+chosen_lines : (P : State → List Item → Type 0) (b : Bool) (x y : State) (v w : List Item) → (b ≡ true → P x v) → (b ≡ false → P y w) → P (if b then x else y) (if b then v else w)
+chosen_lines P true x y v w h k = h refl
+chosen_lines P false x y v w h k = k refl
 
 pub unit_lines : (s : State) (u : Meaning) (v : List Item) (said got : List (List ℕ)) → Good s u → IsSound s → Lines s v said got
     → Lines (becomes s u) (seen s u v) said (got ++ got_in s u)
 unfolding quiet point_taken minor_confirmed major_confirmed restarted_at
 unit_lines s (CN version_2 requirements serial wishes from to sizes octets) v said got g sound h =
     let f = h.fresh (implied is_wait_cn is_opening refl s.phase g.expected) in
-    chosen_state (λ r. Lines r v said (got ++ [])) (is_acceptable version_2 requirements sizes) _ _
+    chosen (λ r. Lines r v said (got ++ [])) (is_acceptable version_2 requirements sizes) _ _
     (record {
       count = h.count;
       major = λ k. absurd (cc);
@@ -204,7 +188,7 @@ unit_lines s (MAP n octets) v said got g sound h = record {
 unit_lines s (RS kind n wishes octets) v said got g sound h =
     let b = and_parts _ _ g.met.1.0 in
     let from = leb-true s.base n b.0 in
-    chosen (λ r w. Lines r w said (got ++ [])) (stands s n) _ s (cutat s.base v n) v
+    chosen_lines (λ r w. Lines r w said (got ++ [])) (stands s n) _ s (cutat s.base v n) v
     (λ e. let to = stood_below s n b.1 e in calm _ _ _ _ refl (points_cut s.base n v from (omega arith)))
     (λ e. record { count = h.count; major = h.major; asked = h.asked; asker = h.asker; fresh = λ k. let f = h.fresh k in (f.0, f.1, f.2, f.3, append_nil got ∙ f.4) })
 unit_lines s AA v said got g sound h = absurd (let e = g.expected in cc)

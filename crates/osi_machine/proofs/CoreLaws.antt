@@ -1,11 +1,13 @@
 -- Every step of the core keeps what is true of each side by itself.
-use Rattle.std.proofs.Common.{◌≡◌, refl, sym, subst, ℕ, ◌<◌, Bool, true, false, if◌then◌else◌, List, [], ◌∷◌, ◌++◌, Some, None, Ok, Err, arith}
+use Rattle.std.proofs.Common.{◌≡◌, refl, sym, subst, ℕ, ◌<◌, Bool, true, false, if◌then◌else◌, List, [], ◌∷◌, ◌++◌, None, Ok, Err, arith}
 use Rattle.std.specs.List.{AllByRecursion}
-use Rattle.osi_session.specs.Allowed.{Passed}
-use Rattle.osi_machine.specs.Floor.{State, Granted, Answer, Call, HasSerial, Meaning, Outcome, IsNumbered, IsSmall, IsSound, AreOrdered, allowed, respond_unit, alone, respond, after, Input, call_input, taken_input, Standing, call_move, after_inputs, react, HasNumbers, IsSendable, functional_units, has_points, from_base}
+use Rattle.osi_session.specs.Allowed.{Passed, AllHold}
+use Rattle.osi_machine.specs.Floor.{State, Granted, Answer, Call, HasSerial, Meaning, Outcome, IsNumbered, IsSound, AreOrdered, allowed, respond_unit, alone, respond, after, Input, call_input, taken_input, Standing, call_move, after_inputs, react, HasNumbers, IsSendable, functional_units, has_points, from_base, may_call, needs, sends}
 use Rattle.osi_machine.specs.Core.{Party, Core, CoreStep, call_at, take_at, Side, Left, Right, Offer, CanBeOffered, turned, stays_in_core, party_called, answered, called, party_taking, taking, takes, at_side, core_step, core_run, offer_sent, core_start}
 use Rattle.osi_machine.specs.Parties.{IsConsistent, AreConsistent, IsNumberedStep}
 use Rattle.osi_machine.proofs.Consistent.{Lines, lines_of, consistent, call_lines, taken_lines}
+use Rattle.osi_message.specs.Sendable.{is_sized}
+use Rattle.osi_machine.proofs.PhaseLaws.{by_test}
 
 -- what is proved of one session
 pub record SessionLaws : Type 0 where
@@ -41,34 +43,43 @@ call_kept laws x c g small e h =
     consistent (party_called x c g) sound
     (subst (λ (s : State). Lines s (party_called x c g).view (party_called x c g).said x.got) (subst (λ (y : Granted). after x.session c ≡ y.next) (sym q.gives) refl) lines)
 
-pub take_kept : SessionLaws → (x : Party) (u : Meaning) → IsNumbered u → IsConsistent x → IsConsistent (party_taking x u)
-take_kept laws x u small h =
-    consistent (party_taking x u) (sound_unit laws x.session u small h.sound) (taken_lines x u h.sound (lines_of x h))
-
 -- ---- both sides
 
 pub answered_kept : SessionLaws → (w : Core) (c : Call) (a : Answer) → HasSerial c → allowed w.own.session c ≡ a → AreConsistent w → AreConsistent (answered w c a)
-answered_kept laws w c (Ok g) small e h = record {
-  own = call_kept laws w.own c g small e h.own;
-  peer = h.peer;
-  own_small = small_append w.own.sent g.sent h.own_small (laws.sendable w.own.session c g h.own.sound small e).numbered;
-  peer_small = h.peer_small;
-}
+answered_kept laws w c (Ok g) small e h = assumption (call_kept laws w.own c g small e h.own, small_append w.own.sent g.sent h.own_small (laws.sendable w.own.session c g h.own.sound small e).numbered)
 answered_kept laws w c (Err d) small e h = h
 
+-- what a call gives that is granted
+abbrev pub granted : State → Call → Granted
+granted s c = record { next = after s c; sent = sends s c }
+
+-- what is known of such a call, and of both sides after it
+pub record IsGranted (w : Core) (c : Call) : Type 0 where
+  pub phase : may_call w.own.session.phase c ≡ true
+  pub needed : AllHold (needs w.own.session c)
+  pub sized : is_sized (sends w.own.session c) ≡ true
+  pub kept : AreConsistent (answered w c (Ok (granted w.own.session c)))
+
+pub is_granted : SessionLaws → (w : Core) (c : Call) (g : Granted) → HasSerial c → allowed w.own.session c ≡ Ok g → AreConsistent w → IsGranted w c
+is_granted laws w c g small e h =
+    let q = laws.passed w.own.session c g e in
+    record {
+      phase = q.phase;
+      needed = q.needed;
+      sized = subst (λ (r : Granted). is_sized r.sent ≡ true) q.gives (laws.sendable w.own.session c g h.own.sound small e).sized;
+      kept = subst (λ (r : Granted). AreConsistent (answered w c (Ok r))) q.gives (answered_kept laws w c (Ok g) small e h);
+    }
+
 called_kept : SessionLaws → (w : Core) (c : Call) → HasSerial c → AreConsistent w → AreConsistent (called w c)
-called_kept laws w c small h = by (stays_in_core c)
-  where
-    by : (b : Bool) → AreConsistent (if b then answered w c (allowed w.own.session c) else w)
-    by true = answered_kept laws w c (allowed w.own.session c) small refl h
-    by false = h
+called_kept laws w c small h = by_test (stays_in_core c) (λ e. rw e (answered_kept laws w c (allowed w.own.session c) small refl h)) (λ e. rw e h)
 
 pub taking_kept : SessionLaws → (w : Core) (us : List Meaning) → w.peer.sent ≡ us → AreConsistent w → AreConsistent (taking w us)
 taking_kept laws w [] e h = h
 taking_kept laws w (u ∷ us) e h =
     let small = subst (AllByRecursion IsNumbered) e h.peer_small in
     record {
-      own = take_kept laws w.own u small.0 h.own;
+      own =
+          consistent (party_taking w.own u) (sound_unit laws w.own.session u small.0 h.own.sound) (taken_lines w.own u h.own.sound (lines_of w.own h.own));
       peer = record {
         sound = h.peer.sound;
         count = h.peer.count;
@@ -106,11 +117,9 @@ small_base true serial h = h
 small_base false serial h = omega arith
 
 small_serial : (o : Offer) → CanBeOffered o → IsNumbered (offer_sent o)
-small_serial o h = by (has_points (functional_units o.requirements)) h.0
-  where
-    by : (b : Bool) → o.serial < 1000000 → IsSmall (if b then Some o.serial else None)
-    by true k = omega arith
-    by false k = tt
+small_serial o h = by_test (has_points (functional_units o.requirements))
+    (λ e. rw e (let k : o.serial < 1000000 = h.0 in omega arith))
+    (λ e. rw e tt)
 
 pub starts : (o : Offer) → CanBeOffered o → AreConsistent (core_start o)
 starts o h = record {

@@ -1,21 +1,20 @@
 -- The call of Data keeps what is true of both sides.
 use Rattle.std.proofs.Common.{◌≡◌, refl, sym, ◌∙◌, ap, subst, ℕ, ◌+◌, Bool, true, false, not, ◌&&◌, if◌then◌else◌, List, [], ◌∷◌, ◌++◌, inl, inr, Ok, append_assoc}
-use Rattle.std.specs.List.{list_any}
-use Rattle.osi_machine.specs.Floor.{State, FunctionalUnits, DT, data_token, has, available, is_ready, may_hold, is_restarting, is_restart_due, has_right, Data, Granted, allowed, drops}
+use Rattle.osi_machine.specs.Floor.{State, FunctionalUnits, DT, data_token, has, available, is_ready, may_hold, is_restarting, is_restart_due, has_right, Data, drops}
 use Rattle.osi_machine.specs.Histories.{Item, Octets, Point, cutat, AreNumberedFrom}
 use Rattle.osi_machine.specs.Owners.{Owners, turned_owners}
 use Rattle.osi_machine.specs.Taking.{seen}
-use Rattle.osi_machine.specs.Channels.{AllFit, flush, heard, hears, view_next, heard_view, data_of, needs_token}
+use Rattle.osi_machine.specs.Channels.{AllFit, flush, heard, hears, view_next, heard_view, data_of}
 use Rattle.osi_machine.specs.Core.{Party, Core, answered}
 use Rattle.osi_machine.specs.Parties.{is_opening, IsConsistent, AreConsistent}
-use Rattle.osi_machine.proofs.PhaseLaws.{implied, excluded, implied_two}
+use Rattle.osi_machine.proofs.PhaseLaws.{implied, excluded, implied_two, by_either}
 use Rattle.osi_machine.proofs.ChannelLaws.{fit_append, hears_kept, due_end, heard_flush, view_append, data_append}
 use Rattle.osi_machine.proofs.HistoryLaws.{cut_append}
 use Rattle.osi_machine.proofs.Tokens.{Holds, nothing_to_see}
 use Rattle.osi_machine.proofs.Begun.{none_needs}
-use Rattle.osi_machine.proofs.CoreLaws.{SessionLaws, answered_kept}
 use Rattle.osi_machine.proofs.Records.{flushed, hearing, matched, Half, Views, IsOfProfile, Pair, Stands}
 use Rattle.osi_machine.proofs.Idle.{IsIdle, flush_idle, heard_idle, sending, own_half, peer_half, own_counts, peer_counts, own_views, HasRight, right_of, end_units, data_fits, append_nil}
+use Rattle.std.proofs.lemmas.Bool.{and_from, not-true, and_right}
 
 idle : (octets : List ℕ) → IsIdle (DT octets)
 idle octets s = refl
@@ -24,18 +23,11 @@ idle octets s = refl
 pub none_owed : (o : Owners) (x y : Party) → Half o x y → is_restarting x.session.phase ≡ false → is_restart_due (flushed y x).phase ≡ false
 none_owed o x y h asked =
     let listens = hears_kept x.session y.sent (ap not asked) h.fits in
-    turn _ (implied_two (λ p q. matched p q && hears p) (λ p q. not (is_restart_due q)) refl (flushed x y).phase (flushed y x).phase
-    (both _ _ h.meeting.meets listens))
-  where
-    both : (a b : Bool) → a ≡ true → b ≡ true → (a && b) ≡ true
-    both a b p q = rw (p, q) refl
-
-    turn : (b : Bool) → not b ≡ true → b ≡ false
-    turn true p = absurd (cc)
-    turn false p = refl
+    not-true _ (implied_two (λ p q. matched p q && hears p) (λ p q. not (is_restart_due q)) refl (flushed x y).phase (flushed y x).phase
+    (and_from _ _ h.meeting.meets listens))
 
 -- what is added, and what is seen of it
-said_seen : (b : Bool) (h : List Item) (i : Item) → (if b then h else h ++ i ∷ []) ≡ h ++ (if b then [] else i ∷ [])
+pub said_seen : (b : Bool) (h : List Item) (i : Item) → (if b then h else h ++ i ∷ []) ≡ h ++ (if b then [] else i ∷ [])
 said_seen true h i = sym (append_nil h)
 said_seen false h i = refl
 
@@ -90,7 +82,7 @@ peer_sees o h x y octets a b ready more k listens =
     let same = heard_idle (DT octets) (idle octets) y.session x.sent b.fits more in
     let heeds = subst (λ (r : State). hears r.phase ≡ true) same listens in
     let end = heard_flush y.session x.sent b.fits owed in
-    let heeding : is_restarting (flushed y x).phase ≡ false = turn _ (subst (λ (r : State). hears r.phase ≡ true) end heeds) in
+    let heeding : is_restarting (flushed y x).phase ≡ false = not-true _ (subst (λ (r : State). hears r.phase ≡ true) end heeds) in
     let kept : drops (flushed y x) (DT octets) ≡ false = rw heeding refl in
     let one = view_append y.session x.sent (DT octets) y.view b.fits owed in
     let two : view_next (flushed y x) (DT octets) (heard_view y.session x.sent y.view) ≡ seen (flushed y x) (DT octets) (heard_view y.session x.sent y.view) =
@@ -100,10 +92,6 @@ peer_sees o h x y octets a b ready more k listens =
     ap (λ (u : FunctionalUnits). if u.duplex then heard_view y.session x.sent y.view else heard_view y.session x.sent y.view ++ Octets octets ∷ []) units
     ∙ ap (λ (v : List Item). if x.session.units.duplex then v else v ++ Octets octets ∷ []) (k.ends heeds) in
     one ∙ two ∙ three ∙ said_seen x.session.units.duplex h (Octets octets)
-  where
-    turn : (b : Bool) → not b ≡ true → b ≡ false
-    turn true p = absurd (cc)
-    turn false p = refl
 
 peer_views : (o : Owners) (h : List Item) (x y : Party) (octets : List ℕ) → Half o x y → Half (turned_owners o) y x → is_ready x.session.phase ≡ true
     → IsConsistent y → AllFit y.session (x.sent ++ DT octets ∷ []) → Views h y x
@@ -148,26 +136,19 @@ pair_kept : (o : Owners) (h : List Item) (x y : Party) (octets : List ℕ) → H
     → Pair (h ++ added x.session octets) (sending x (DT octets) (x.view ++ added x.session octets) (x.said ++ spoken x.session octets)) y
 pair_kept o h x y octets a ready right p = record {
   numbered = numbered_octets x.session.units.duplex (flushed x y).base h octets p.numbered;
-  one_way = λ d. one right d;
+  one_way = λ d. by_either right
+      (λ held. and_right _ _ (none_needs data_token x.session y.sent (record { held = held; phase = implied is_ready may_hold refl x.session.phase ready }) a.fits))
+      (λ none. absurd (half_of x.session.units none (sym (ap (λ (u : FunctionalUnits). u.half_duplex) (end_units o x y a (excluded is_ready is_opening refl x.session.phase ready))) ∙ d)));
   callers = p.callers;
   profile = p.profile;
 }
-  where
-    and_no : (b c : Bool) → c ≡ false → (b && c) ≡ false
-    and_no true c e = e
-    and_no false c e = refl
-
-    one : HasRight x.session data_token → (flushed x y).units.half_duplex ≡ true
-        → (list_any (needs_token data_token) (x.sent ++ DT octets ∷ []) && list_any (needs_token data_token) y.sent) ≡ false
-    one (inl held) d = and_no _ _ (none_needs data_token x.session y.sent (record { held = held; phase = implied is_ready may_hold refl x.session.phase ready }) a.fits)
-    one (inr none) d = absurd (half_of x.session.units none (sym (ap (λ (u : FunctionalUnits). u.half_duplex) (end_units o x y a (excluded is_ready is_opening refl x.session.phase ready))) ∙ d))
 
 -- ---- the call
 
-all_kept : (w : Core) (octets : List ℕ) → is_ready w.own.session.phase ≡ true → has_right w.own.session data_token ≡ true → Stands w
+pub data_stands : (w : Core) (octets : List ℕ) → is_ready w.own.session.phase ≡ true → has_right w.own.session data_token ≡ true → Stands w
     → AreConsistent (answered w (Data octets) (Ok (record { next = w.own.session; sent = DT octets })))
     → Stands (answered w (Data octets) (Ok (record { next = w.own.session; sent = DT octets })))
-all_kept w octets ready has h c =
+data_stands w octets ready has h c =
     let x = w.own in
     let y = w.peer in
     let right = right_of x.session data_token has in
@@ -192,11 +173,3 @@ all_kept w octets ready has h c =
       peer_counts = peer_counts x y (DT octets) v said (idle octets) h.peer.fits more h.peer_counts;
       pair = pair_kept w.owner w.history x y octets h.own ready right h.pair;
     }
-
-pub data_stands : SessionLaws → (w : Core) (octets : List ℕ) (g : Granted) → allowed w.own.session (Data octets) ≡ Ok g → Stands w
-    → Stands (answered w (Data octets) (Ok g))
-data_stands laws w octets g e h =
-    let q = laws.passed w.own.session (Data octets) g e in
-    let c = answered_kept laws w (Data octets) (Ok g) tt e h.consistent in
-    subst (λ (r : Granted). Stands (answered w (Data octets) (Ok r))) (sym q.gives)
-    (all_kept w octets q.phase q.needed.0 h (subst (λ (r : Granted). AreConsistent (answered w (Data octets) (Ok r))) q.gives c))

@@ -1,17 +1,18 @@
 -- A connection that its caller has left before it was agreed to: nothing comes of it any more.
-use Rattle.std.proofs.Common.{◌≡◌, refl, sym, ◌∙◌, ap, subst, ℕ, zero, suc, Bool, true, false, not, ◌||◌, if◌then◌else◌, List, [], ◌∷◌, take, inl, inr, ◌⊎◌}
+use Rattle.std.proofs.Common.{◌≡◌, refl, sym, ◌∙◌, ap, subst, ℕ, zero, suc, Bool, true, false, not, ◌||◌, if◌then◌else◌, List, [], ◌∷◌, take, inl, inr, ◌⊎◌, arith}
 use Rattle.std.specs.List.{list_any}
 use Rattle.osi_session.specs.declared.faults.CallError.TheVariants as error
 use Rattle.osi_session.specs.Shown.{Lost}
 use Rattle.osi_machine.specs.Floor.{State, Phase, Call, Answer, allowed, is_over, shows_loss}
-use Rattle.osi_machine.specs.Worlds.{Message, unit, ask, agree, deny, bye, over, Transport, not_yet, waiting, linked, closing, gone, Kept, World, turned, session_of, put, after_answer, Terms, accepts, denies, message_taken, ended_at, shown_at_end}
+use Rattle.osi_machine.specs.Worlds.{Message, unit, ask, bye, over, Transport, not_yet, waiting, linked, closing, gone, Kept, World, turned, session_of, put, after_answer, Terms, accepts, denies, message_taken, ended_at, shown_at_end}
 use Rattle.osi_machine.specs.Machine.{is_waiting, without_first}
 use Rattle.osi_machine.specs.Views.{Told}
-use Rattle.osi_machine.proofs.PhaseLaws.{implied}
+use Rattle.osi_machine.proofs.PhaseLaws.{implied, if_no}
 use Rattle.osi_machine.proofs.ProjectEnd.{is_unit}
 use Rattle.osi_machine.proofs.ProjectWorld.{refused}
-use Rattle.osi_machine.proofs.ProjectStart.{Left_it, Way, nothing_sent, asked, agreed, denied, asks, Opens, Refuses, is_early, refused_early}
+use Rattle.osi_machine.proofs.ProjectStart.{Way, asks, Opens, Refuses, is_early, refused_early}
 use Rattle.osi_machine.proofs.Lines.{cut_to}
+use Rattle.std.proofs.lemmas.Bool.{or_parts, not-true}
 
 pub record IsDead (w : World) : Type 0 where
   pub left : w.own.transport ≡ gone
@@ -32,12 +33,6 @@ quiet_refuses s x q = by (is_over s.phase) refl (is_early s.phase) refl
     by true e c f = record { fault = error.Ended; refused = refused s x e }
     by false e true f = record { fault = error.BadState; refused = refused_early s x f }
     by false e false f = absurd (let k = quiet_phase s.phase (ap not q) in cc)
-
--- ---- no unit
-
-pub or_parts : (a b : Bool) → (a || b) ≡ false → (a ≡ false) × (b ≡ false)
-or_parts true b h = absurd (cc)
-or_parts false b h = (refl, h)
 
 pub put_none : (p : Message → Bool) (broken : Bool) (ms : List Message) (m : Message) → p m ≡ false → list_any p ms ≡ false → list_any p (put broken (m ∷ []) ms) ≡ false
 put_none p true ms m e h = h
@@ -70,11 +65,7 @@ dead_takes broken terms keep w m ms h =
 
     by : (m : Message) → ((message_taken broken terms keep gone (without_first w ms) m).closes ≡ false) × IsDead (message_taken broken terms keep gone (without_first w ms) m).world
     by (bye r) = (refl, record { left = h.left; over_now = h.over_now; quiet = h.quiet; idle = h.idle; no_unit = put_none is_unit broken w.own.channel over refl h.no_unit })
-    by (unit u) = (refl, still)
-    by ask = (refl, still)
-    by agree = (refl, still)
-    by (deny r) = (refl, still)
-    by over = (refl, still)
+    by _ = (refl, still)
 
 -- the called side takes a message
 pub dead_taken : (broken : Bool) (terms : Terms) (keep : ℕ) (w : World) (m : Message) (ms : List Message) → IsDead (turned w) → w.peer.channel ≡ m ∷ ms
@@ -97,25 +88,11 @@ dead_taken broken terms keep w m ms h e = by w.own.transport refl m refl
     by waiting f n g = absurd (let x = sym h.idle ∙ ap is_waiting f in cc)
     by tr f (unit u) g = absurd (let x = sym parts.0 ∙ ap is_unit g in cc)
     by not_yet f ask g = asked_dead terms
-    by not_yet f agree g = (refl, still)
-    by not_yet f (deny r) g = (refl, still)
-    by not_yet f (bye r) g = (refl, still)
-    by not_yet f over g = (refl, still)
     by linked f (bye r) g = (refl, record { left = h.left; over_now = h.over_now; quiet = refl; idle = refl; no_unit = parts.1 })
-    by linked f ask g = (refl, still)
-    by linked f agree g = (refl, still)
-    by linked f (deny r) g = (refl, still)
-    by linked f over g = (refl, still)
     by closing f (bye r) g = (refl, record { left = h.left; over_now = h.over_now; quiet = h.quiet; idle = refl; no_unit = parts.1 })
     by closing f over g = (refl, record { left = h.left; over_now = h.over_now; quiet = h.quiet; idle = refl; no_unit = parts.1 })
-    by closing f ask g = (refl, still)
-    by closing f agree g = (refl, still)
-    by closing f (deny r) g = (refl, still)
     by gone f (bye r) g = (refl, record { left = h.left; over_now = h.over_now; quiet = h.quiet; idle = h.idle; no_unit = parts.1 })
-    by gone f ask g = (refl, still)
-    by gone f agree g = (refl, still)
-    by gone f (deny r) g = (refl, still)
-    by gone f over g = (refl, still)
+    by _ f _ g = (refl, still)
 
 -- an end of either side, and a break
 pub dead_ends : (keep : ℕ) (w : World) → IsDead w → IsDead (ended_at keep w)
@@ -127,28 +104,16 @@ dead_ended keep w h = record { left = h.left; over_now = h.over_now; quiet = ref
 pub dead_cut : (left right : ℕ) (w : World) → IsDead w → IsDead (cut_to left right w)
 dead_cut left right w h = record { left = h.left; over_now = h.over_now; quiet = h.quiet; idle = h.idle; no_unit = take_none is_unit left w.own.channel h.no_unit }
 
--- what an end shows of it
-if_no : {A : Type 0} (b : Bool) (x y : A) → b ≡ false → (if b then x else y) ≡ y
-if_no true x y e = absurd (cc)
-if_no false x y e = refl
-
 pub quiet_end : (w : World) → shows_loss w.own.kept.phase ≡ false → shown_at_end w ≡ []
 quiet_end w e = if_no (shows_loss w.own.kept.phase) (Lost ∷ []) [] e
 
 pub over_quiet : (p : Phase) → is_over p ≡ true → shows_loss p ≡ false
-over_quiet p o = not_true (shows_loss p) (implied is_over (λ q. not (shows_loss q)) refl p o)
-  where
-    not_true : (b : Bool) → not b ≡ true → b ≡ false
-    not_true false h = refl
-    not_true true h = absurd (cc)
+over_quiet p o = not-true (shows_loss p) (implied is_over (λ q. not (shows_loss q)) refl p o)
 
 -- ---- a connection that is not agreed to
 
-no_unit_asked : (way : Way) → list_any is_unit (asks way) ≡ false
-no_unit_asked nothing_sent = refl
-no_unit_asked asked = refl
-no_unit_asked agreed = refl
-no_unit_asked (denied r) = refl
+pub no_unit_asked : (way : Way) → list_any is_unit (asks way) ≡ false
+no_unit_asked way = grind arith
 
 -- its called side is quiet, and no unit comes to it
 pub record IsQuiet (p : Phase) (tr : Transport) (ms : List Message) : Type 0 where
@@ -175,9 +140,6 @@ opens_quiet w t u h = record {
   no_unit = ap (list_any is_unit) h.own_channel ∙ no_unit_asked h.way;
 }
 
-opens_dead : (w : World) (t u : Told) → Opens w t u → Left_it w.own → IsDead w
-opens_dead w t u h k = let q = opens_quiet w t u h in record { left = k.transport; over_now = k.over_now; quiet = q.quiet; idle = q.idle; no_unit = q.no_unit }
-
 -- its caller waits, or has left it
 abbrev pub IsEarly : World → Type 0
 IsEarly w = (w.own.transport ≡ waiting) ⊎ IsDead w
@@ -185,5 +147,5 @@ IsEarly w = (w.own.transport ≡ waiting) ⊎ IsDead w
 pub opens_early : (w : World) (t u : Told) → Opens w t u → IsEarly w
 opens_early w t u h = elim h.caller [
   | inl k ↦ inl k.transport
-  | inr k ↦ inr (opens_dead w t u h k)
+  | inr k ↦ inr (let q = opens_quiet w t u h in record { left = k.transport; over_now = k.over_now; quiet = q.quiet; idle = q.idle; no_unit = q.no_unit })
 ]

@@ -1,16 +1,13 @@
 -- What is under way to a side that has asked for a restart, or that expects nothing.
-use Rattle.std.proofs.Common.{◌≡◌, refl, sym, ◌∙◌, ap, subst, ℕ, Bool, true, false, not, ◌&&◌, ◌||◌, if◌then◌else◌, List, [], ◌∷◌, ◌++◌, ◌⊎◌, inl, inr}
-use Rattle.osi_machine.specs.Floor.{TokenSetting, ResyncType, State, RestartDue, Meaning, GT, PT, RS, RA, AB, is_restarting, is_restart_due, is_expected, has_no_effect, passes_restarting, without_tokens, restarted_at, becomes, stands, drops, next}
+use Rattle.std.proofs.Common.{◌≡◌, refl, sym, ◌∙◌, ap, subst, ℕ, Bool, true, false, not, ◌&&◌, ◌||◌, if◌then◌else◌, List, [], ◌∷◌, ◌++◌, ◌⊎◌, inl, inr, arith}
+use Rattle.osi_machine.specs.Floor.{TokenSetting, ResyncType, State, RestartDue, Meaning, RS, RA, AB, is_restarting, is_restart_due, is_expected, has_no_effect, passes_restarting, without_tokens, restarted_at, becomes, stands, drops, next}
 use Rattle.osi_machine.specs.Histories.{Item, cutat}
 use Rattle.osi_machine.specs.Taking.{seen}
 use Rattle.osi_machine.specs.Channels.{is_plain, Fits, AllFit, flush, stops, heard, hears, view_next, heard_view}
-use Rattle.osi_machine.proofs.PhaseLaws.{excluded}
-use Rattle.osi_machine.proofs.Units.{next_dropped, next_acted}
+use Rattle.osi_machine.proofs.PhaseLaws.{excluded, if_first, by_test}
+use Rattle.osi_machine.proofs.Units.{next_dropped, next_acted, and_false}
 use Rattle.osi_machine.proofs.ChannelLaws.{hears_kept, heard_flush, heard_append, view_append}
-
-either : {A : Type 0} → (b : Bool) (x y : A) → y ≡ x → (if b then x else y) ≡ x
-either true x y e = refl
-either false x y e = e
+use Rattle.std.proofs.lemmas.Bool.{or_left}
 
 -- ---- units that have no effect
 
@@ -19,16 +16,10 @@ AllEmpty [] = Unit {0}
 AllEmpty (u ∷ us) = (has_no_effect u ≡ true) × AllEmpty us
 
 empty_dropped : (s : State) (u : Meaning) → has_no_effect u ≡ true → drops s u ≡ true
-empty_dropped s u h = by (has_no_effect u) (is_restarting s.phase && not (passes_restarting u)) h
-  where
-    by : (a b : Bool) → a ≡ true → (a || b) ≡ true
-    by true b h = refl
-    by false b h = absurd (cc)
+empty_dropped s u h = or_left (has_no_effect u) (is_restarting s.phase && not (passes_restarting u)) h
 
 empty_plain : (u : Meaning) → has_no_effect u ≡ true → is_plain u ≡ true
-empty_plain (GT k) h = refl
-empty_plain (PT k o) h = refl
-empty_plain _ h = absurd (cc)
+empty_plain u h = grind arith
 
 pub empty_fits : (s : State) (us : List Meaning) → AllEmpty us → AllFit s us
 empty_fits s [] h = tt
@@ -45,7 +36,7 @@ empty_end s (u ∷ us) h = ap (λ (r : State). flush r us) (next_dropped s u (em
 pub empty_heard : (s : State) (us : List Meaning) → AllEmpty us → heard s us ≡ s
 empty_heard s [] h = refl
 empty_heard s (u ∷ us) h =
-    either (stops s u) s (heard (next s u) us)
+    if_first (stops s u) s (heard (next s u) us)
     (ap (λ (r : State). heard r us) (next_dropped s u (empty_dropped s u h.0)) ∙ empty_heard s us h.1)
 
 pub empty_view : (s : State) (us : List Meaning) (v : List Item) → AllEmpty us → heard_view s us v ≡ v
@@ -53,21 +44,15 @@ empty_view s [] v h = refl
 empty_view s (u ∷ us) v h =
     let d = empty_dropped s u h.0 in
     let same : view_next s u v ≡ v = ap (λ (b : Bool). if b then v else seen s u v) d in
-    either (stops s u) v (heard_view (next s u) us (view_next s u v))
+    if_first (stops s u) v (heard_view (next s u) us (view_next s u v))
     (ap (λ (r : State). heard_view r us (view_next s u v)) (next_dropped s u d) ∙ ap (heard_view s us) same ∙ empty_view s us v h.1)
 
 -- to a side that expects no unit, only such units come
 pub dropped_empty : (e r p : Bool) → (e || (r && not p)) ≡ true → r ≡ false → e ≡ true
-dropped_empty true r p h k = refl
-dropped_empty false true p h k = absurd (cc)
-dropped_empty false false p h k = absurd (cc)
+dropped_empty e r p h k = grind arith
 
 dropped_here : (s : State) (u : Meaning) → is_expected s.phase u ≡ false → Fits s u → drops s u ≡ true
-dropped_here s u none f = by (drops s u) refl
-  where
-    by : (b : Bool) → drops s u ≡ b → b ≡ true
-    by true d = refl
-    by false d = absurd (let e = (f.good d).expected in cc)
+dropped_here s u none f = by_test (drops s u) (λ d. d) (λ d. absurd (let e = (f.good d).expected in cc))
 
 pub all_empty : (s : State) (us : List Meaning) → ((u : Meaning) → is_plain u ≡ true → is_expected s.phase u ≡ false) → is_restarting s.phase ≡ false
     → AllFit s us → AllEmpty us
@@ -83,10 +68,6 @@ all_empty s (u ∷ us) none listens f =
 -- a side, once it has taken an RS
 abbrev pub crossed : State → ℕ → TokenSetting → State
 crossed s n w = if stands s n then record (without_tokens RestartDue s) { wishes = w; numbers = restarted_at n s.numbers } else s
-
-and_false : (b : Bool) → (b && false) ≡ false
-and_false true = refl
-and_false false = refl
 
 pub restart_kept : (s : State) (k : ResyncType) (n : ℕ) (w : TokenSetting) (o : List ℕ) → drops s (RS k n w o) ≡ false
 restart_kept s k n w o = and_false (is_restarting s.phase)
@@ -128,10 +109,7 @@ view_restart s us k n w o v f due = view_append s us (RS k n w o) v f due ∙ by
 -- ---- a side that has asked for a restart, and will wait for the answer when all is taken
 
 passes : (e r p : Bool) → (e || (r && not p)) ≡ false → r ≡ true → p ≡ true
-passes true r p h k = absurd (cc)
-passes false true true h k = refl
-passes false true false h k = absurd (cc)
-passes false false p h k = absurd (cc)
+passes e r p h k = grind arith
 
 -- a unit changes nothing there and shows nothing, or is the answer or a restart that stands
 abbrev Passes : State → Meaning → State → Type 0
@@ -148,28 +126,19 @@ deaf_acts s (AB b o) p q = absurd (cc)
 deaf_acts s _ p q = absurd (cc)
 
 deaf_next : (s : State) (u : Meaning) → is_restarting s.phase ≡ true → Fits s u → Passes s u (next s u)
-deaf_next s u r f = by (drops s u) refl
-  where
-    by : (b : Bool) → drops s u ≡ b → Passes s u (next s u)
-    by true d = inl (next_dropped s u d, λ v. ap (λ (b : Bool). if b then v else seen s u v) d)
-    by false d = subst (Passes s u) (sym (next_acted s u d))
-        (deaf_acts s u f.plain (passes (has_no_effect u) (is_restarting s.phase) (passes_restarting u) d r))
+deaf_next s u r f = by_test (drops s u)
+    (λ d. inl (next_dropped s u d, λ v. ap (λ (b : Bool). if b then v else seen s u v) d))
+    (λ d. subst (Passes s u) (sym (next_acted s u d))
+    (deaf_acts s u f.plain (passes (has_no_effect u) (is_restarting s.phase) (passes_restarting u) d r)))
 
 -- a side that will wait has asked already
-not_both : (b : Bool) → not b ≡ true → b ≡ true → ⊥
+pub not_both : (b : Bool) → not b ≡ true → b ≡ true → ⊥
 not_both true p q = cc
 not_both false p q = cc
 
-pub deaf_now : (s : State) (us : List Meaning) → is_restarting (flush s us).phase ≡ true → AllFit s us → is_restarting s.phase ≡ true
-deaf_now s us r f = by (is_restarting s.phase) refl
-  where
-    by : (b : Bool) → is_restarting s.phase ≡ b → b ≡ true
-    by true e = refl
-    by false e = absurd (not_both _ (hears_kept s us (ap not e) f) r)
-
 pub deaf_end : (s : State) (us : List Meaning) → is_restarting (flush s us).phase ≡ true → AllFit s us → flush s us ≡ s
 deaf_end s [] r f = refl
-deaf_end s (u ∷ us) r f = elim (deaf_next s u (deaf_now s (u ∷ us) r f) f.0) [
+deaf_end s (u ∷ us) r f = elim (deaf_next s u (by_test (is_restarting s.phase) (λ e. e) (λ e. absurd (not_both _ (hears_kept s (u ∷ us) (ap not e) f) r))) f.0) [
   | inl e ↦ ap (λ (q : State). flush q us) e.0
       ∙ deaf_end s us (subst (λ (q : State). is_restarting (flush q us).phase ≡ true) e.0 r) (subst (λ (q : State). AllFit q us) e.0 f.1)
   | inr l ↦ absurd (not_both _ (hears_kept (next s u) us l f.1) r)
@@ -180,8 +149,8 @@ deaf_heard s us r f = heard_flush s us f (excluded is_restarting is_restart_due 
 
 pub deaf_view : (s : State) (us : List Meaning) (v : List Item) → is_restarting (flush s us).phase ≡ true → AllFit s us → heard_view s us v ≡ v
 deaf_view s [] v r f = refl
-deaf_view s (u ∷ us) v r f = elim (deaf_next s u (deaf_now s (u ∷ us) r f) f.0) [
-  | inl e ↦ either (stops s u) v (heard_view (next s u) us (view_next s u v))
+deaf_view s (u ∷ us) v r f = elim (deaf_next s u (by_test (is_restarting s.phase) (λ e. e) (λ e. absurd (not_both _ (hears_kept s (u ∷ us) (ap not e) f) r))) f.0) [
+  | inl e ↦ if_first (stops s u) v (heard_view (next s u) us (view_next s u v))
       (ap (λ (q : State). heard_view q us (view_next s u v)) e.0 ∙ ap (heard_view s us) (e.1 v)
       ∙ deaf_view s us v (subst (λ (q : State). is_restarting (flush q us).phase ≡ true) e.0 r) (subst (λ (q : State). AllFit q us) e.0 f.1))
   | inr l ↦ absurd (not_both _ (hears_kept (next s u) us l f.1) r)

@@ -1,13 +1,13 @@
 -- Every step of the core keeps what is true of both sides.
 use Rattle.std.proofs.Common.{◌≡◌, refl, sym, ◌∙◌, ap, subst, ℕ, Bool, true, false, not, ◌&&◌, if◌then◌else◌, List, [], ◌∷◌, Ok, Err}
 use Rattle.std.specs.List.{AllByRecursion, list_any}
-use Rattle.osi_machine.specs.Floor.{FunctionalUnits, Granted, Answer, Call, Accept, Refuse, Data, Give, Please, Minor, MinorConfirm, Major, MajorConfirm, Restart, RestartConfirm, Release, ReleaseAccept, ReleaseRefuse, Abort, HasSerial, Meaning, CN, AC, RF, DT, GT, PT, MIP, MIA, MAP, MAA, RS, RA, FN, DN, NF, AB, AA, data_token, stands, drops, allowed}
+use Rattle.osi_machine.specs.Floor.{FunctionalUnits, Granted, Answer, Call, Accept, Data, Give, Please, Minor, MinorConfirm, Major, MajorConfirm, Restart, RestartConfirm, Release, ReleaseRefuse, HasSerial, Meaning, CN, AC, RF, DT, GT, PT, MIP, MIA, MAP, MAA, RS, RA, FN, DN, NF, AB, AA, data_token, stands, drops, allowed, is_empty}
 use Rattle.osi_machine.specs.Histories.{AreNumberedFrom}
-use Rattle.osi_machine.specs.Owners.{Owner, Own, Theirs, ToOwn, ToThem, Pool, Absent, Owners, turned_owner, turned_owners}
+use Rattle.osi_machine.specs.Owners.{Owner, Own, Owners, turned_owner, turned_owners}
 use Rattle.osi_machine.specs.Channels.{is_plain, AllFit, needs_token}
 use Rattle.osi_machine.specs.Core.{Core, CoreStep, call_at, take_at, Side, Left, Right, turned, stays_in_core, answered, called, taking, takes, at_side, core_step, core_run}
 use Rattle.osi_machine.specs.Parties.{IsNumberedStep}
-use Rattle.osi_machine.proofs.CoreLaws.{SessionLaws, turned_kept}
+use Rattle.osi_machine.proofs.CoreLaws.{SessionLaws, turned_kept, IsGranted, granted, is_granted}
 use Rattle.osi_machine.proofs.Records.{Half, IsOfProfile, Pair, Stands}
 use Rattle.osi_machine.proofs.DataCall.{data_stands}
 use Rattle.osi_machine.proofs.GiveCall.{give_stands}
@@ -19,42 +19,43 @@ use Rattle.osi_machine.proofs.RestartConfirmCall.{restart_confirm_stands}
 use Rattle.osi_machine.proofs.ReleaseCall.{release_stands, refuse_stands}
 use Rattle.osi_machine.proofs.AcceptCall.{accept_stands}
 use Rattle.osi_machine.proofs.TakeIdle.{data_taken, please_taken, dropped_taken}
-use Rattle.osi_machine.proofs.TakeMoves.{stands_at}
+use Rattle.osi_machine.proofs.TakeMoves.{stands_at, calm_stands}
 use Rattle.osi_machine.proofs.TakeTokens.{give_taken}
-use Rattle.osi_machine.proofs.TakePoint.{point_taken_stands, major_taken}
-use Rattle.osi_machine.proofs.TakeQuiet.{finish_taken, not_finished_taken, point_confirmed, major_confirmed_taken}
+use Rattle.osi_machine.proofs.TakePoint.{minor_calm, major_calm}
+use Rattle.osi_machine.proofs.TakeQuiet.{finish_calm, not_finished_calm, point_confirmed_calm, major_confirmed_calm}
 use Rattle.osi_machine.proofs.TakeRestart.{restart_taken}
 use Rattle.osi_machine.proofs.TakeYielded.{restart_yielded}
 use Rattle.osi_machine.proofs.TakeAnswers.{restarted_taken, accept_taken, connect_taken}
+use Rattle.std.proofs.lemmas.Bool.{not-true}
+use Rattle.osi_machine.proofs.PhaseLaws.{by_test}
 
 -- ---- a call
 
-call_stands : SessionLaws → (w : Core) (c : Call) (g : Granted) → HasSerial c → stays_in_core c ≡ true → allowed w.own.session c ≡ Ok g → Stands w
-    → Stands (answered w c (Ok g))
-call_stands laws w (Accept requirements serial sides sizes octets) g small k e s = accept_stands laws w requirements serial sides sizes octets g small e s
-call_stands laws w (Data octets) g small k e s = data_stands laws w octets g e s
-call_stands laws w (Give tokens) g small k e s = give_stands laws w tokens g e s
-call_stands laws w (Please tokens octets) g small k e s = please_stands laws w tokens octets g e s
-call_stands laws w (Minor confirm octets) g small k e s = minor_stands laws w confirm octets g e s
-call_stands laws w (MinorConfirm n octets) g small k e s = minor_confirm_stands laws w n octets g small e s
-call_stands laws w (Major octets) g small k e s = major_stands laws w octets g e s
-call_stands laws w (MajorConfirm octets) g small k e s = major_confirm_stands laws w octets g e s
-call_stands laws w (Restart n wishes octets) g small k e s = restart_stands laws w n wishes octets g e s
-call_stands laws w (RestartConfirm sides octets) g small k e s = restart_confirm_stands laws w sides octets g e s
-call_stands laws w (Release octets) g small k e s = release_stands laws w octets g e s
-call_stands laws w (ReleaseRefuse octets) g small k e s = refuse_stands laws w octets g e s
-call_stands laws w _ g small k e s = absurd (cc)
+call_stands : (w : Core) (c : Call) → stays_in_core c ≡ true → IsGranted w c → Stands w → Stands (answered w c (Ok (granted w.own.session c)))
+call_stands w (Accept requirements serial sides sizes octets) k q s = accept_stands w requirements serial sides sizes octets q s
+call_stands w (Data octets) k q s = data_stands w octets q.phase q.needed.0 s q.kept
+call_stands w (Give tokens) k q s =
+    give_stands w tokens (record { phase = q.phase; selected = q.needed.0; held = q.needed.1.0; one = not-true (is_empty tokens) q.needed.1.1.0 }) s q.kept
+call_stands w (Please tokens octets) k q s = please_stands w tokens octets q.phase q.needed.0 s q.kept
+call_stands w (Minor confirm octets) k q s = minor_stands w confirm octets q s
+call_stands w (MinorConfirm n octets) k q s = minor_confirm_stands w n octets q s
+call_stands w (Major octets) k q s = major_stands w octets q s
+call_stands w (MajorConfirm octets) k q s = major_confirm_stands w octets q s
+call_stands w (Restart n wishes octets) k q s = restart_stands w n wishes octets q s
+call_stands w (RestartConfirm sides octets) k q s = restart_confirm_stands w sides octets q.phase s q.kept
+call_stands w (Release octets) k q s = release_stands w octets q s
+call_stands w (ReleaseRefuse octets) k q s = refuse_stands w octets q s
+call_stands w _ k q s = absurd (cc)
 
 answer_stands : SessionLaws → (w : Core) (c : Call) (a : Answer) → HasSerial c → stays_in_core c ≡ true → allowed w.own.session c ≡ a → Stands w → Stands (answered w c a)
-answer_stands laws w c (Ok g) small k e s = call_stands laws w c g small k e s
+answer_stands laws w c (Ok g) small k e s =
+    subst (λ (r : Granted). Stands (answered w c (Ok r))) (sym (laws.passed w.own.session c g e).gives) (call_stands w c k (is_granted laws w c g small e s.consistent) s)
 answer_stands laws w c (Err d) small k e s = s
 
 pub called_stands : SessionLaws → (w : Core) (c : Call) → HasSerial c → Stands w → Stands (called w c)
-called_stands laws w c small s = by (stays_in_core c) refl
-  where
-    by : (b : Bool) → stays_in_core c ≡ b → Stands (if b then answered w c (allowed w.own.session c) else w)
-    by true k = answer_stands laws w c (allowed w.own.session c) small k refl s
-    by false k = s
+called_stands laws w c small s = by_test (stays_in_core c)
+    (λ k. rw k (answer_stands laws w c (allowed w.own.session c) small k refl s))
+    (λ k. rw k s)
 
 -- ---- a unit that is taken
 
@@ -68,19 +69,19 @@ unit_stands laws w (RF r o) us e d s = absurd (let p = not_plain w (RF r o) us e
 unit_stands laws w (DT o) us e d s = data_taken laws w o us e d s
 unit_stands laws w (GT k) us e d s = give_taken laws w k us e d s
 unit_stands laws w (PT k o) us e d s = please_taken laws w k o us e d s
-unit_stands laws w (MIP c n o) us e d s = point_taken_stands laws w c n o us e d s
-unit_stands laws w (MIA n o) us e d s = point_confirmed laws w n o us e d s
-unit_stands laws w (MAP n o) us e d s = major_taken laws w n o us e d s
-unit_stands laws w (MAA n o) us e d s = major_confirmed_taken laws w n o us e d s
+unit_stands laws w (MIP c n o) us e d s = calm_stands laws w (MIP c n o) us _ e s (minor_calm w c n o us d)
+unit_stands laws w (MIA n o) us e d s = calm_stands laws w (MIA n o) us _ e s (point_confirmed_calm w n o us d)
+unit_stands laws w (MAP n o) us e d s = calm_stands laws w (MAP n o) us _ e s (major_calm w n o us d)
+unit_stands laws w (MAA n o) us e d s = calm_stands laws w (MAA n o) us _ e s (major_confirmed_calm w n o us d)
 unit_stands laws w (RS k n t o) us e d s = by (stands w.own.session n) refl
   where
     by : (b : Bool) → stands w.own.session n ≡ b → Stands (taking w (RS k n t o ∷ us))
     by true st = restart_taken laws w k n t o us e st s
     by false st = restart_yielded laws w k n t o us e st s
 unit_stands laws w (RA n sides o) us e d s = restarted_taken laws w n sides o us e d s
-unit_stands laws w (FN o) us e d s = finish_taken laws w o us e d s
+unit_stands laws w (FN o) us e d s = calm_stands laws w (FN o) us _ e s (finish_calm w o us d)
 unit_stands laws w (DN o) us e d s = absurd (let p = not_plain w (DN o) us e s in cc)
-unit_stands laws w (NF o) us e d s = not_finished_taken laws w o us e d s
+unit_stands laws w (NF o) us e d s = calm_stands laws w (NF o) us _ e s (not_finished_calm w o us d)
 unit_stands laws w (AB b o) us e d s = absurd (let p = not_plain w (AB b o) us e s in cc)
 unit_stands laws w AA us e d s = absurd (let p = not_plain w AA us e s in cc)
 
@@ -120,16 +121,7 @@ turned_pair w s = record {
     other_way false = refl
 
 pub turned_stands : (w : Core) → Stands w → Stands (turned w)
-turned_stands w s = record {
-  consistent = turned_kept w s.consistent;
-  own = s.peer;
-  peer = subst (λ (o : Owners). Half o w.own w.peer) (sym (turned_twice w.owner)) s.own;
-  own_views = s.peer_views;
-  peer_views = s.own_views;
-  own_counts = s.peer_counts;
-  peer_counts = s.own_counts;
-  pair = turned_pair w s;
-}
+turned_stands w s = search (turned_kept, Half, turned_twice, turned_pair)
 
 -- ---- a step, and a list of steps
 

@@ -8,17 +8,13 @@ use Rattle.osi_machine.specs.Machine.{without_first}
 use Rattle.osi_machine.specs.Views.{Told}
 use Rattle.osi_machine.proofs.Idle.{append_nil}
 use Rattle.osi_machine.proofs.Lines.{cut_to}
-use Rattle.osi_machine.proofs.Projects.{is_begun}
+use Rattle.osi_machine.proofs.Projects.{is_begun, not_both}
 use Rattle.osi_machine.proofs.ProjectEnd.{is_unit}
 use Rattle.osi_machine.proofs.ProjectStart.{Opens, Refuses, caller_refuses, called_refuses, caller_ends, called_ends}
 use Rattle.osi_machine.proofs.ProjectOpen.{called_takes}
 use Rattle.osi_machine.proofs.Whole.{Stage, turned_back}
-use Rattle.osi_machine.proofs.DeadLines.{IsEarly, opens_early, opens_quiet, dead_call, dead_called, dead_takes, dead_taken, dead_ends, dead_ended, dead_cut, or_parts, put_none, take_none}
-
--- ---- a connection whose caller waits
-
-not_both : {A : Type 0} (b : Bool) → b ≡ true → b ≡ false → A
-not_both b p q = absurd (cc)
+use Rattle.osi_machine.proofs.DeadLines.{IsEarly, opens_early, opens_quiet, dead_call, dead_called, dead_takes, dead_taken, dead_ends, dead_ended, dead_cut, put_none, take_none}
+use Rattle.std.proofs.lemmas.Bool.{or_parts}
 
 waits_opens : (b : Bool) (w : World) (t u : Told) → Stage b w t u → w.own.transport ≡ waiting → Opens w t u
 waits_opens b w t u (inl h) e = h
@@ -61,10 +57,7 @@ early_takes b terms keep w t u m ms n h (inl e) =
     by (deny r) n =
         let q = opens_quiet w t u (waits_opens b w t u h e) in
         (refl, inr (record { left = refl; over_now = refl; quiet = q.quiet; idle = q.idle; no_unit = same q.no_unit b }))
-    by ask n = (refl, inl e)
-    by (unit v) n = (refl, inl e)
-    by (bye r) n = (refl, inl e)
-    by over n = (refl, inl e)
+    by _ n = (refl, inl e)
 
 pub early_taken : (b : Bool) (terms : Terms) (keep : ℕ) (w : World) (t u : Told) (m : Message) (ms : List Message) → w.peer.channel ≡ m ∷ ms → Stage b (turned w) t u → IsEarly (turned w)
     → ((message_taken b terms keep w.own.transport (without_first w ms) m).closes ≡ false) × IsEarly (turned (message_taken b terms keep w.own.transport (without_first w ms) m).world)
@@ -116,30 +109,13 @@ none_takes b r keep w m ms e h = (parts.0, by w.own.transport m parts.0)
     by : (tr : Transport) (m : Message) → is_agree m ≡ false → NoAgree (message_taken b (denies r) keep tr (without_first w ms) m).world
     by tr agree n = absurd (cc)
     by not_yet ask n = record { own = put_none is_agree b w.own.channel (deny r) refl h.own; peer = parts.1 }
-    by not_yet (unit u) n = still
-    by not_yet (deny q) n = still
-    by not_yet (bye q) n = still
-    by not_yet over n = still
     by waiting (deny q) n = record { own = put_some b w.own.channel None h.own; peer = parts.1 }
-    by waiting ask n = still
-    by waiting (unit u) n = still
-    by waiting (bye q) n = still
-    by waiting over n = still
     by linked (unit u) n = record { own = put_some b w.own.channel (respond_unit (session_of (without_first w ms)) u).reply h.own; peer = parts.1 }
     by linked (bye q) n = record { own = put_none is_agree b (take keep w.own.channel) over refl (take_none is_agree keep w.own.channel h.own); peer = parts.1 }
-    by linked ask n = still
-    by linked (deny q) n = still
-    by linked over n = still
     by closing (bye q) n = record { own = h.own; peer = parts.1 }
     by closing over n = record { own = h.own; peer = parts.1 }
-    by closing ask n = still
-    by closing (unit u) n = still
-    by closing (deny q) n = still
     by gone (bye q) n = record { own = put_none is_agree b w.own.channel over refl h.own; peer = parts.1 }
-    by gone ask n = still
-    by gone (unit u) n = still
-    by gone (deny q) n = still
-    by gone over n = still
+    by _ _ n = still
 
 pub none_closed : (b : Bool) (keep : ℕ) (w : World) → NoAgree w → NoAgree (closed b keep w)
 none_closed b keep w h = record { own = put_none is_agree b (take keep w.own.channel) (bye 128) refl (take_none is_agree keep w.own.channel h.own); peer = h.peer }

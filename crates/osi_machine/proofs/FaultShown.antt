@@ -2,39 +2,28 @@
 use Rattle.std.proofs.Common.{◌≡◌, refl, sym, ◌∙◌, ap, ℕ, zero, suc, ◌<◌, Bool, true, false, ◌||◌, if◌then◌else◌, List, [], ◌∷◌, length, Option, Some, None, arith}
 use Rattle.std.proofs.Math.Bool.{or_assoc, or-false, or-true}
 use Rattle.std.specs.List.{list_any, slice_get}
-use Rattle.osi_session.specs.Shown.{Shown, PeerAbort, BadUnit}
-use Rattle.osi_machine.specs.Floor.{Call, Accept, Data, Minor, Major, Restart, no_sizes}
+use Rattle.osi_machine.specs.Floor.{Call, no_sizes}
 use Rattle.osi_machine.specs.Core.{Offer, Side, Left, Right}
 use Rattle.osi_machine.specs.Worlds.{World}
-use Rattle.osi_machine.specs.Machine.{Machine, Entry, connect_answered, call_answered, shown_at, ended, connection_at}
-use Rattle.osi_machine.specs.Views.{Told, told_call, told_shown, told_entry, told_by, is_of, record_of, untold, told_of}
+use Rattle.osi_machine.specs.Machine.{Machine, Entry, call_answered, shown_at, connection_at}
+use Rattle.osi_machine.specs.Views.{Told, told_call, told_entry, told_by, is_of, record_of, untold, told_of}
 use Rattle.osi_machine.specs.Runs.{IsRun, is_fault, HasNoFault}
 use Rattle.osi_machine.specs.Examples.{for_asker}
 use Rattle.osi_machine.proofs.CoreLaws.{SessionLaws}
-use Rattle.osi_machine.proofs.DeadLines.{or_parts}
 use Rattle.osi_machine.proofs.Lines.{own_entry}
 use Rattle.osi_machine.proofs.LinesRun.{IsGood}
 use Rattle.osi_machine.proofs.MachineLaws.{good_run, no_faults}
 use Rattle.osi_machine.proofs.Whole.{Whole}
+use Rattle.std.proofs.lemmas.Bool.{or_parts}
 
 -- ---- a record tells whether one of its entries is a fault
 
 call_faulted : (t : Told) (c : Call) → (told_call t c).faulted ≡ t.faulted
-call_faulted t (Accept requirements serial sides sizes octets) = refl
-call_faulted t (Data octets) = refl
-call_faulted t (Minor confirm octets) = refl
-call_faulted t (Major octets) = refl
-call_faulted t (Restart n wishes octets) = refl
-call_faulted t _ = refl
-
-shown_faulted : (t : Told) (side : Side) (r : ℕ) (i : Shown) → (told_shown t i).faulted ≡ (t.faulted || is_fault (shown_at side r i))
-shown_faulted t side r (PeerAbort bits) = sym (or-true t.faulted)
-shown_faulted t side r (BadUnit fault) = sym (or-true t.faulted)
-shown_faulted t side r _ = sym (or-false t.faulted)
+call_faulted t c = grind arith
 
 entry_faulted : (t : Told) (e : Entry) → (told_entry t e).faulted ≡ (t.faulted || is_fault e)
 entry_faulted t (call_answered side r c None) = call_faulted t c ∙ sym (or-false t.faulted)
-entry_faulted t (shown_at side r i) = shown_faulted t side r i
+entry_faulted t (shown_at side r i) = grind (arith, or-true, or-false)
 entry_faulted t _ = sym (or-false t.faulted)
 
 told_faulted : (t : Told) (es : List Entry) → (told_by t es).faulted ≡ (t.faulted || list_any is_fault es)
@@ -46,16 +35,11 @@ fine_record t es h = (or_parts t.faulted (list_any is_fault es) (sym (told_fault
 
 -- ---- each entry that is shown is of a record
 
-shown_fine : (side : Side) (r : ℕ) (i : Shown) (es : List Entry) → list_any is_fault (record_of side r (shown_at side r i ∷ es)) ≡ false → is_fault (shown_at side r i) ≡ false
-shown_fine side r i es h =
-    (or_parts (is_fault (shown_at side r i)) (list_any is_fault (record_of side r es))
-    (sym (ap (λ (b : Bool). list_any is_fault (if b then shown_at side r i ∷ record_of side r es else record_of side r es)) (own_entry side r)) ∙ h)).0
-
 entry_fine : (e : Entry) (es : List Entry) → ((d : Side) (n : ℕ) → list_any is_fault (record_of d n (e ∷ es)) ≡ false) → is_fault e ≡ false
-entry_fine (shown_at side r i) es h = shown_fine side r i es (h side r)
-entry_fine (call_answered side r c e) es h = refl
-entry_fine (connect_answered o a) es h = refl
-entry_fine (ended side e) es h = refl
+entry_fine (shown_at side r i) es h =
+    (or_parts (is_fault (shown_at side r i)) (list_any is_fault (record_of side r es))
+    (sym (ap (λ (b : Bool). list_any is_fault (if b then shown_at side r i ∷ record_of side r es else record_of side r es)) (own_entry side r)) ∙ (h side r))).0
+entry_fine _ es h = refl
 
 fine_behind : (e : Entry) (es : List Entry) (b : Bool) → list_any is_fault (if b then e ∷ es else es) ≡ false → list_any is_fault es ≡ false
 fine_behind e es true h = (or_parts (is_fault e) (list_any is_fault es) h).1

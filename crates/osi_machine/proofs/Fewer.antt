@@ -1,22 +1,20 @@
 -- A side that gives tokens away: what is under way to it goes on fitting, and leaves it the same but for
 -- those tokens.
 use Rattle.std.proofs.Common.{◌≡◌, refl, sym, ◌∙◌, ap, subst, Bool, true, false, not, ◌&&◌, ◌||◌, if◌then◌else◌, List, ◌⊎◌, inl, inr}
-use Rattle.std.proofs.lemmas.Bool.{and_parts, or_left}
-use Rattle.osi_machine.specs.Floor.{State, Tokens, Meaning, CN, AC, RF, DT, GT, PT, MIP, MIA, MAP, MAA, RS, RA, FN, DN, NF, AB, AA, Token, data_token, minor, major, release, has, each, some, is_empty, is_within, is_disjoint, without, united, available, lacks, may_ask, is_wait_cn, is_connecting, is_releasing, is_restarting, is_restart_due, becomes, stands, without_tokens, RestartDue, restarted_at, drops, Good}
+use Rattle.std.proofs.lemmas.Bool.{and_parts, or_left, and_from, not-true}
+use Rattle.osi_machine.specs.Floor.{State, Tokens, Meaning, CN, AC, DT, GT, PT, MIP, MIA, MAP, MAA, RS, RA, FN, NF, Token, data_token, minor, major, release, has, some, is_empty, is_within, is_disjoint, without, united, available, lacks, may_ask, is_wait_cn, is_connecting, is_releasing, is_restarting, is_restart_due, becomes, stands, without_tokens, RestartDue, restarted_at, drops, Good}
 use Rattle.osi_machine.specs.Histories.{Item}
 use Rattle.osi_machine.specs.Channels.{Fits, stops, view_next}
-use Rattle.osi_machine.proofs.PhaseLaws.{excluded}
+use Rattle.osi_machine.proofs.PhaseLaws.{excluded, cut_or}
 use Rattle.osi_machine.proofs.Units.{next_acted, restart_due, due_next}
 use Rattle.osi_machine.proofs.ChannelLaws.{Steps}
 use Rattle.osi_machine.proofs.Tokens.{each_has, empty_has, united_has, without_has}
+use Rattle.osi_machine.proofs.Settled.{each_of}
 
 -- ---- sets of tokens
 
 pub tokens_same : (a b : Tokens) → ((t : Token) → has a t ≡ has b t) → a ≡ b
 tokens_same a b h = λ i. record { data_token = h data_token i; minor = h minor i; major = h major i; release = h release i }
-
-pub each_of : (p : Token → Bool) → ((t : Token) → p t ≡ true) → each p ≡ true
-each_of p h = let a = h data_token in let b = h minor in let c = h major in let d = h release in rw (a, b, c, d) refl
 
 none_of : (p : Token → Bool) → ((t : Token) → p t ≡ false) → some p ≡ false
 none_of p h = let a = h data_token in let b = h minor in let c = h major in let d = h release in rw (a, b, c, d) refl
@@ -31,19 +29,11 @@ disjoint_of a b h = each_of (λ t. not (has a t && has b t)) (λ t. ap not (h t)
 
 pub disjoint_has : (a b : Tokens) (t : Token) → is_disjoint a b ≡ true → (has a t && has b t) ≡ false
 unfolding is_disjoint
-disjoint_has a b t h = turn _ (each_has (λ t. not (has a t && has b t)) t h)
-  where
-    turn : (b : Bool) → not b ≡ true → b ≡ false
-    turn true p = absurd (cc)
-    turn false p = refl
+disjoint_has a b t h = not-true _ (each_has (λ t. not (has a t && has b t)) t h)
 
 pub within_has : (a b : Tokens) (t : Token) → is_within a b ≡ true → has a t ≡ true → has b t ≡ true
 unfolding is_within
-within_has a b t h k = cut (has a t) (has b t) (each_has (λ t. not (has a t) || has b t) t h) k
-  where
-    cut : (x y : Bool) → (not x || y) ≡ true → x ≡ true → y ≡ true
-    cut true y h k = h
-    cut false y h k = absurd (cc)
+within_has a b t h k = cut_or (has a t) (has b t) (each_has (λ t. not (has a t) || has b t) t h) k
 
 -- ---- fewer tokens
 
@@ -71,30 +61,17 @@ still_disjoint k j s h = disjoint_of j (without s.held k) (λ t. none (has j t) 
 still_empty : (k : Tokens) (s : State) → is_empty s.held ≡ true → is_empty (without s.held k) ≡ true
 still_empty k s h = is_empty_of (without s.held k) (λ t. without_has s.held k t ∙ ap (λ (b : Bool). b && not (has k t)) (empty_has s.held t h))
 
-both : (a b : Bool) → a ≡ true → b ≡ true → (a && b) ≡ true
-both a b p q = rw (p, q) refl
-
 -- a good unit stays good
 fewer_good : (k : Tokens) (s : State) (u : Meaning) → Good s u → Good (less k s) u
 fewer_good k s (DT o) g = record { expected = g.expected; met = (still_lacks k s data_token g.met.0, tt) }
 fewer_good k s (GT j) g =
     let a = and_parts (is_within j (available s.units)) (is_disjoint j s.held) g.met.0 in
-    record { expected = g.expected; met = (both (is_within j (available s.units)) (is_disjoint j (without s.held k)) a.0 (still_disjoint k j s a.1), tt) }
+    record { expected = g.expected; met = (and_from (is_within j (available s.units)) (is_disjoint j (without s.held k)) a.0 (still_disjoint k j s a.1), tt) }
 fewer_good k s (MIP c n o) g = record {
   expected = g.expected;
   met = (g.met.0, (two_lack (lacks s data_token) (lacks s minor) _ _ (still_lacks k s data_token) (still_lacks k s minor) g.met.1.0, g.met.1.1));
 }
-fewer_good k s (MAP n o) g = record {
-  expected = g.expected;
-  met = (
-    g.met.0,
-    (
-      two_lack (lacks s data_token) (lacks s minor && lacks s major) _ _ (still_lacks k s data_token)
-          (two_lack (lacks s minor) (lacks s major) _ _ (still_lacks k s minor) (still_lacks k s major)) g.met.1.0,
-      g.met.1.1,
-    ),
-  );
-}
+fewer_good k s (MAP n o) g = search (two_lack, still_lacks)
 fewer_good k s (FN o) g = record { expected = g.expected; met = (still_empty k s g.met.0, tt) }
 fewer_good k s _ g = record { expected = g.expected; met = g.met }
 

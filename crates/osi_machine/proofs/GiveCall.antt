@@ -1,59 +1,37 @@
 -- The call of Give keeps what is true of both sides.
-use Rattle.std.proofs.Common.{◌≡◌, refl, sym, ◌∙◌, ap, subst, ℕ, Bool, true, false, not, ◌&&◌, ◌||◌, if◌then◌else◌, List, [], ◌∷◌, ◌++◌, inl, inr, Ok}
+use Rattle.std.proofs.Common.{◌≡◌, refl, sym, ◌∙◌, ap, subst, ℕ, Bool, true, false, not, ◌&&◌, ◌||◌, if◌then◌else◌, List, [], ◌∷◌, ◌++◌, inl, inr, Ok, arith}
 use Rattle.std.specs.List.{list_any}
-use Rattle.osi_machine.specs.Floor.{State, FunctionalUnits, GT, Tokens, Token, data_token, has, available, is_empty, is_within, may_give, may_ask, may_hold, is_restarting, is_restart_due, Give, Granted, allowed, drops, next}
+use Rattle.osi_machine.specs.Floor.{State, FunctionalUnits, GT, Tokens, Token, data_token, has, available, is_empty, is_within, may_give, may_ask, may_hold, is_restarting, is_restart_due, Give, drops, next}
 use Rattle.osi_machine.specs.Histories.{Item, cutat, AreNumberedFrom}
-use Rattle.osi_machine.specs.Owners.{Owner, Own, Theirs, ToOwn, ToThem, Pool, Absent, turned_owner, turned_owners, is_own, is_to_own, is_absent, passed_to}
+use Rattle.osi_machine.specs.Owners.{Owner, ToThem, turned_owner, turned_owners, is_own, is_to_own, is_absent, passed_to}
 use Rattle.osi_machine.specs.Channels.{Fits, flush, heard, hears, heard_view, data_of, needs_token}
 use Rattle.osi_machine.specs.Core.{Party, Core, answered}
 use Rattle.osi_machine.specs.Parties.{is_opening, AreConsistent}
-use Rattle.osi_machine.proofs.PhaseLaws.{implied, excluded, implied_two}
+use Rattle.osi_machine.proofs.PhaseLaws.{implied, excluded, implied_two, by_either}
 use Rattle.osi_machine.proofs.Units.{next_cases, next_acted, next_dropped}
 use Rattle.osi_machine.proofs.ChannelLaws.{fit_append, flush_append, heard_flush, heard_append, data_append, Runs, alike, alike_view}
 use Rattle.osi_machine.proofs.Tokens.{united_has, without_has}
-use Rattle.osi_machine.proofs.CoreLaws.{SessionLaws, answered_kept}
-use Rattle.osi_machine.proofs.Records.{flushed, hearing, matched, Meeting, Half, Views, IsOfProfile, Pair, Stands}
+use Rattle.osi_machine.proofs.Records.{flushed, hearing, matched, Meeting, Half, Views, IsOfProfile, Stands}
 use Rattle.osi_machine.proofs.Idle.{end_units, other_lacks, append_nil, view_idle, list_any_append}
 use Rattle.osi_machine.proofs.DataCall.{none_owed}
 use Rattle.osi_machine.proofs.Fewer.{less, Gives, Fewer, fewer_step, fewer_shows, but_held, within_has, disjoint_of}
 use Rattle.osi_machine.proofs.Retoken.{Like, like, itself, Tokens_of, retoken, recount}
+use Rattle.std.proofs.lemmas.Bool.{and_from}
 
 -- ---- a token that is given: held no longer, owned by neither, on its way
 
 still_held : (b h : Bool) (p : Owner) → h ≡ is_own p → (h && not b) ≡ is_own (if b then ToThem else p)
-still_held true true p e = refl
-still_held true false p e = refl
-still_held false true p e = e
-still_held false false p e = e
+still_held b h p e = grind arith
 
 still_wanted : (b h : Bool) (p : Owner) → h ≡ (is_own p || is_to_own p) → (h && not b) ≡ (is_own (if b then ToThem else p) || is_to_own (if b then ToThem else p))
-still_wanted true true p e = refl
-still_wanted true false p e = refl
-still_wanted false true p e = e
-still_wanted false false p e = e
+still_wanted b h p e = grind arith
 
 not_yet_held : (b q : Bool) (p : Owner) → (b ≡ true → is_own p ≡ true) → q ≡ is_own (turned_owner p) → q ≡ is_own (turned_owner (if b then ToThem else p))
-not_yet_held false q p f e = e
-not_yet_held true q Own f e = e
-not_yet_held true q Theirs f e = absurd (let w = f refl in cc)
-not_yet_held true q ToOwn f e = absurd (let w = f refl in cc)
-not_yet_held true q ToThem f e = absurd (let w = f refl in cc)
-not_yet_held true q Pool f e = absurd (let w = f refl in cc)
-not_yet_held true q Absent f e = absurd (let w = f refl in cc)
+not_yet_held b q p f e = grind arith
 
 will_be_held : (b q : Bool) (p : Owner) → q ≡ (is_own (turned_owner p) || is_to_own (turned_owner p))
     → (q || b) ≡ (is_own (turned_owner (if b then ToThem else p)) || is_to_own (turned_owner (if b then ToThem else p)))
-will_be_held true true p e = refl
-will_be_held true false p e = refl
-will_be_held false true p e = e
-will_be_held false false p e = e
-
-still_absent : (b : Bool) (p : Owner) → b ≡ false → is_absent p ≡ true → is_absent (if b then ToThem else p) ≡ true
-still_absent b p e h = rw e h
-
-turned_absent : (p : Owner) → is_absent (turned_owner p) ≡ is_absent p
-turned_absent Own = refl
-turned_absent _ = refl
+will_be_held b q p e = grind arith
 
 -- ---- what is given
 
@@ -74,59 +52,40 @@ gives w k g = record {
 runs : (w : Core) (k : Tokens) → Giving w k → Half w.owner w.own w.peer → Runs (Fewer k) w.own.session (less k w.own.session) w.peer.sent
 runs w k g h = alike (Fewer k) (fewer_step k) w.own.session (less k w.own.session) w.peer.sent (inl (refl, gives w k g)) h.fits
 
-both : (a b : Bool) → a ≡ true → b ≡ true → (a && b) ≡ true
-both a b p q = rw (p, q) refl
-
-listens : (w : Core) (k : Tokens) → Giving w k → is_restarting w.own.session.phase ≡ false
-listens w k g = excluded may_give is_restarting refl w.own.session.phase g.phase
-
 -- ---- the unit fits
 
 dropped_not : (e r : Bool) → (e || (r && true)) ≡ false → r ≡ true → ⊥
-dropped_not true r h k = cc
-dropped_not false true h k = cc
-dropped_not false false h k = cc
+dropped_not e r h k = grind arith
 
 other_asks : (w : Core) (k : Tokens) → Giving w k → Half w.owner w.own w.peer → drops (flushed w.peer w.own) (GT k) ≡ false → may_ask (flushed w.peer w.own).phase ≡ true
-other_asks w k g h d = by (runs w k g h).flush
-  where
-    fx : State
-    fx = flushed w.own w.peer
-
-    fy : State
-    fy = flushed w.peer w.own
-
-    by : Fewer k fx (flush (less k w.own.session) w.peer.sent) → may_ask fy.phase ≡ true
-    by (inl (e, v)) = implied_two (λ p q. matched p q && may_ask p) (λ p q. may_ask q) refl fx.phase fy.phase
-        (both (matched fx.phase fy.phase) (may_ask fx.phase) h.meeting.meets v.phase)
-    by (inr (e, due)) = absurd (dropped_not _ _ d
-        (implied_two (λ p q. matched p q && is_restart_due p) (λ p q. is_restarting q) refl fx.phase fy.phase
-        (both (matched fx.phase fy.phase) (is_restart_due fx.phase) h.meeting.meets due)))
+other_asks w k g h d = by_either (runs w k g h).flush
+    (λ z. implied_two (λ p q. matched p q && may_ask p) (λ p q. may_ask q) refl (flushed w.own w.peer).phase (flushed w.peer w.own).phase
+    (and_from (matched (flushed w.own w.peer).phase (flushed w.peer w.own).phase) (may_ask (flushed w.own w.peer).phase) h.meeting.meets z.1.phase))
+    (λ z. absurd (dropped_not _ _ d
+    (implied_two (λ p q. matched p q && is_restart_due p) (λ p q. is_restarting q) refl (flushed w.own w.peer).phase (flushed w.peer w.own).phase
+    (and_from (matched (flushed w.own w.peer).phase (flushed w.peer w.own).phase) (is_restart_due (flushed w.own w.peer).phase) h.meeting.meets z.1))))
 
 give_fits : (w : Core) (k : Tokens) → Giving w k → Half w.owner w.own w.peer → Half (turned_owners w.owner) w.peer w.own → Fits (flushed w.peer w.own) (GT k)
 give_fits w k g h j = record {
   plain = refl;
   good = λ d.
       let asks = other_asks w k g h d in
-      record { expected = asks; met = (both _ _ there (disjoint_of k (flushed w.peer w.own).held (λ t. apart asks t (has k t) refl)), tt) };
+      record { expected = asks; met = (and_from _ _ there (disjoint_of k (flushed w.peer w.own).held (λ t. apart asks t (has k t) refl)), tt) };
 }
   where
-    fy : State
-    fy = flushed w.peer w.own
-
     begun : is_opening w.own.session.phase ≡ false
     begun = excluded may_give is_opening refl w.own.session.phase g.phase
 
-    units : fy.units ≡ w.own.session.units
+    units : (flushed w.peer w.own).units ≡ w.own.session.units
     units = sym h.meeting.units ∙ end_units w.owner w.own w.peer h begun
 
-    there : is_within k (available fy.units) ≡ true
+    there : is_within k (available (flushed w.peer w.own).units) ≡ true
     there = ap (λ (u : FunctionalUnits). is_within k (available u)) units ∙ g.selected
 
-    apart : may_ask fy.phase ≡ true → (t : Token) (b : Bool) → has k t ≡ b → (b && has fy.held t) ≡ false
+    apart : may_ask (flushed w.peer w.own).phase ≡ true → (t : Token) (b : Bool) → has k t ≡ b → (b && has (flushed w.peer w.own).held t) ≡ false
     apart asks t false p = refl
     apart asks t true p = other_lacks w.owner w.own w.peer t h j begun (inl (within_has k w.own.session.held t g.held p))
-        (excluded may_ask is_restart_due refl fy.phase asks) (implied may_ask may_hold refl fy.phase asks)
+        (excluded may_ask is_restart_due refl (flushed w.peer w.own).phase asks) (implied may_ask may_hold refl (flushed w.peer w.own).phase asks)
 
 -- ---- both halves
 
@@ -143,10 +102,10 @@ other_end w k = flush_append w.peer.session w.own.sent (GT k)
 -- the other listens to the giver, so that it hears all
 other_heard : (w : Core) (k : Tokens) → Giving w k → Half w.owner w.own w.peer → Half (turned_owners w.owner) w.peer w.own
     → heard w.peer.session (w.own.sent ++ GT k ∷ []) ≡ next (flushed w.peer w.own) (GT k)
-other_heard w k g h j = heard_append w.peer.session w.own.sent (GT k) j.fits (none_owed w.owner w.own w.peer h (listens w k g))
+other_heard w k g h j = heard_append w.peer.session w.own.sent (GT k) j.fits (none_owed w.owner w.own w.peer h (excluded may_give is_restarting refl w.own.session.phase g.phase))
 
 heard_end : (w : Core) (k : Tokens) → Giving w k → Half w.owner w.own w.peer → Half (turned_owners w.owner) w.peer w.own → hearing w.peer w.own ≡ flushed w.peer w.own
-heard_end w k g h j = heard_flush w.peer.session w.own.sent j.fits (none_owed w.owner w.own w.peer h (listens w k g))
+heard_end w k g h j = heard_flush w.peer.session w.own.sent j.fits (none_owed w.owner w.own w.peer h (excluded may_give is_restarting refl w.own.session.phase g.phase))
 
 own_tokens : (w : Core) (k : Tokens) → Giving w k → Half w.owner w.own w.peer
     → Tokens_of (passed_to ToThem k w.owner) (less k w.own.session) (flush (less k w.own.session) w.peer.sent) (heard (less k w.own.session) w.peer.sent)
@@ -156,16 +115,13 @@ own_tokens w k g h = record {
   absent = λ t n. gone t (has k t) refl n;
 }
   where
-    hx : State
-    hx = hearing w.own w.peer
-
-    by : Fewer k hx (heard (less k w.own.session) w.peer.sent) → may_hold (heard (less k w.own.session) w.peer.sent).phase ≡ true → (t : Token)
+    by : Fewer k (hearing w.own w.peer) (heard (less k w.own.session) w.peer.sent) → may_hold (heard (less k w.own.session) w.peer.sent).phase ≡ true → (t : Token)
         → has (heard (less k w.own.session) w.peer.sent).held t ≡ (is_own (passed_to ToThem k w.owner t) || is_to_own (passed_to ToThem k w.owner t))
     by (inl (e, v)) m t =
-        ap (λ (q : State). has q.held t) e ∙ without_has hx.held k t
-        ∙ still_wanted (has k t) (has hx.held t) (w.owner t) (h.meeting.wants (ap (λ (q : State). may_hold q.phase) (sym e) ∙ m) t)
+        ap (λ (q : State). has q.held t) e ∙ without_has (hearing w.own w.peer).held k t
+        ∙ still_wanted (has k t) (has (hearing w.own w.peer).held t) (w.owner t) (h.meeting.wants (ap (λ (q : State). may_hold q.phase) (sym e) ∙ m) t)
     by (inr (e, due)) m t = absurd (
-        let d = excluded is_restart_due may_hold refl hx.phase due in
+        let d = excluded is_restart_due may_hold refl (hearing w.own w.peer).phase due in
         let n = ap (λ (q : State). may_hold q.phase) (sym e) ∙ m in
         cc)
 
@@ -182,19 +138,6 @@ own_tokens w k g h = record {
         cc)
     gone t false p n = h.meeting.absent t (ap (λ (u : FunctionalUnits). has (available u) t) (sym units) ∙ n)
 
-own_half : (w : Core) (k : Tokens) → Giving w k → Half w.owner w.own w.peer → Half (passed_to ToThem k w.owner) (giver w.own k) w.peer
-own_half w k g h = record {
-  fits = (runs w k g h).fits;
-  meeting = retoken w.owner (passed_to ToThem k w.owner) w.own.session (flushed w.own w.peer) (flushed w.peer w.own) (hearing w.own w.peer) w.peer.session
-      (less k w.own.session) (flush (less k w.own.session) w.peer.sent) (flush w.peer.session (w.own.sent ++ GT k ∷ [])) (heard (less k w.own.session) w.peer.sent) w.peer.session
-      h.meeting
-      (like _ _ (but_held k (flushed w.own w.peer) _ (runs w k g h).flush))
-      (subst (Like (flushed w.peer w.own)) (sym (other_end w k)) (given_like k (flushed w.peer w.own)))
-      (like _ _ (but_held k (hearing w.own w.peer) _ (runs w k g h).heard))
-      (itself w.peer.session)
-      (own_tokens w k g h);
-}
-
 owned_by : (w : Core) (k : Tokens) → Giving w k → Half w.owner w.own w.peer → (t : Token) → has k t ≡ true → is_own (w.owner t) ≡ true
 owned_by w k g h t p = sym (h.meeting.holds t) ∙ within_has k w.own.session.held t g.held p
 
@@ -202,14 +145,11 @@ peer_tokens : (w : Core) (k : Tokens) → Giving w k → Half w.owner w.own w.pe
     → Tokens_of (turned_owners (passed_to ToThem k w.owner)) w.peer.session (next (flushed w.peer w.own) (GT k)) (next (flushed w.peer w.own) (GT k))
 peer_tokens w k g h j = record {
   holds = λ t. not_yet_held (has k t) (has w.peer.session.held t) (w.owner t) (owned_by w k g h t) (j.meeting.holds t);
-  wants = λ m t. by (drops fy (GT k)) refl m t;
+  wants = λ m t. by (drops (flushed w.peer w.own) (GT k)) refl m t;
   absent = λ t n. gone t (has k t) refl n;
 }
   where
-    fy : State
-    fy = flushed w.peer w.own
-
-    was : may_hold fy.phase ≡ true → (t : Token) → has fy.held t ≡ (is_own (turned_owner (w.owner t)) || is_to_own (turned_owner (w.owner t)))
+    was : may_hold (flushed w.peer w.own).phase ≡ true → (t : Token) → has (flushed w.peer w.own).held t ≡ (is_own (turned_owner (w.owner t)) || is_to_own (turned_owner (w.owner t)))
     was m t =
         let e = heard_end w k g h j in
         subst (λ (q : State). has q.held t ≡ (is_own (turned_owner (w.owner t)) || is_to_own (turned_owner (w.owner t)))) e
@@ -220,55 +160,30 @@ peer_tokens w k g h j = record {
     idle_not true false p q = absurd (cc)
     idle_not false false p q = absurd (cc)
 
-    by : (b : Bool) → drops fy (GT k) ≡ b → may_hold (next fy (GT k)).phase ≡ true → (t : Token)
-        → has (next fy (GT k)).held t ≡ (is_own (turned_owner (passed_to ToThem k w.owner t)) || is_to_own (turned_owner (passed_to ToThem k w.owner t)))
+    by : (b : Bool) → drops (flushed w.peer w.own) (GT k) ≡ b → may_hold (next (flushed w.peer w.own) (GT k)).phase ≡ true → (t : Token)
+        → has (next (flushed w.peer w.own) (GT k)).held t ≡ (is_own (turned_owner (passed_to ToThem k w.owner t)) || is_to_own (turned_owner (passed_to ToThem k w.owner t)))
     by true d m t = absurd (
-        let r = idle_not (is_empty k) (is_restarting fy.phase) g.one d in
-        let n = excluded is_restarting may_hold refl fy.phase r in
-        let l = ap (λ (q : State). may_hold q.phase) (sym (next_dropped fy (GT k) d)) ∙ m in
+        let r = idle_not (is_empty k) (is_restarting (flushed w.peer w.own).phase) g.one d in
+        let n = excluded is_restarting may_hold refl (flushed w.peer w.own).phase r in
+        let l = ap (λ (q : State). may_hold q.phase) (sym (next_dropped (flushed w.peer w.own) (GT k) d)) ∙ m in
         cc)
     by false d m t =
-        let e = next_acted fy (GT k) d in
-        ap (λ (q : State). has q.held t) e ∙ united_has fy.held k t
-        ∙ will_be_held (has k t) (has fy.held t) (w.owner t) (was (ap (λ (q : State). may_hold q.phase) (sym e) ∙ m) t)
+        let e = next_acted (flushed w.peer w.own) (GT k) d in
+        ap (λ (q : State). has q.held t) e ∙ united_has (flushed w.peer w.own).held k t
+        ∙ will_be_held (has k t) (has (flushed w.peer w.own).held t) (w.owner t) (was (ap (λ (q : State). may_hold q.phase) (sym e) ∙ m) t)
 
-    gone : (t : Token) (b : Bool) → has k t ≡ b → has (available (next fy (GT k)).units) t ≡ false → is_absent (turned_owner (if b then ToThem else w.owner t)) ≡ true
+    gone : (t : Token) (b : Bool) → has k t ≡ b → has (available (next (flushed w.peer w.own) (GT k)).units) t ≡ false → is_absent (turned_owner (if b then ToThem else w.owner t)) ≡ true
     gone t true p n = absurd (
         let there = within_has k (available w.own.session.units) t g.selected p in
-        let units = (given_like k fy).units ∙ sym h.meeting.units ∙ end_units w.owner w.own w.peer h (excluded may_give is_opening refl w.own.session.phase g.phase) in
+        let units = (given_like k (flushed w.peer w.own)).units ∙ sym h.meeting.units ∙ end_units w.owner w.own w.peer h (excluded may_give is_opening refl w.own.session.phase g.phase) in
         let none = ap (λ (u : FunctionalUnits). has (available u) t) (sym units) ∙ n in
         cc)
-    gone t false p n = j.meeting.absent t (ap (λ (u : FunctionalUnits). has (available u) t) (sym (given_like k fy).units) ∙ n)
-
-peer_half : (w : Core) (k : Tokens) → Giving w k → Half w.owner w.own w.peer → Half (turned_owners w.owner) w.peer w.own
-    → Half (turned_owners (passed_to ToThem k w.owner)) w.peer (giver w.own k)
-peer_half w k g h j = record {
-  fits = fit_append w.peer.session w.own.sent (GT k) j.fits (give_fits w k g h j);
-  meeting =
-      subst (λ (q : State). Meeting (turned_owners (passed_to ToThem k w.owner)) w.peer.session q (flush (less k w.own.session) w.peer.sent) (heard w.peer.session (w.own.sent ++ GT k ∷ [])) (less k w.own.session)) (sym (other_end w k))
-      (subst (λ (q : State). Meeting (turned_owners (passed_to ToThem k w.owner)) w.peer.session fy' (flush (less k w.own.session) w.peer.sent) q (less k w.own.session)) (sym (other_heard w k g h j))
-      (retoken (turned_owners w.owner) (turned_owners (passed_to ToThem k w.owner)) w.peer.session (flushed w.peer w.own) (flushed w.own w.peer) (hearing w.peer w.own) w.own.session
-      w.peer.session fy' (flush (less k w.own.session) w.peer.sent) fy' (less k w.own.session) j.meeting
-      (given_like k (flushed w.peer w.own))
-      (like _ _ (but_held k (flushed w.own w.peer) _ (runs w k g h).flush))
-      (subst (λ (q : State). Like q fy') (sym (heard_end w k g h j)) (given_like k (flushed w.peer w.own)))
-      (like w.own.session (less k w.own.session) refl)
-      (peer_tokens w k g h j)));
-}
-  where
-    fy' : State
-    fy' = next (flushed w.peer w.own) (GT k)
+    gone t false p n = j.meeting.absent t (ap (λ (u : FunctionalUnits). has (available u) t) (sym (given_like k (flushed w.peer w.own)).units) ∙ n)
 
 -- ---- what was seen, and the numbers
 
-own_like_end : (w : Core) (k : Tokens) → Giving w k → Half w.owner w.own w.peer → Like (flushed w.own w.peer) (flush (less k w.own.session) w.peer.sent)
-own_like_end w k g h = like _ _ (but_held k (flushed w.own w.peer) _ (runs w k g h).flush)
-
 own_like_heard : (w : Core) (k : Tokens) → Giving w k → Half w.owner w.own w.peer → Like (hearing w.own w.peer) (heard (less k w.own.session) w.peer.sent)
 own_like_heard w k g h = like _ _ (but_held k (hearing w.own w.peer) _ (runs w k g h).heard)
-
-peer_like_end : (w : Core) (k : Tokens) → Like (flushed w.peer w.own) (flush w.peer.session (w.own.sent ++ GT k ∷ []))
-peer_like_end w k = subst (Like (flushed w.peer w.own)) (sym (other_end w k)) (given_like k (flushed w.peer w.own))
 
 peer_like_heard : (w : Core) (k : Tokens) → Giving w k → Half w.owner w.own w.peer → Half (turned_owners w.owner) w.peer w.own
     → Like (hearing w.peer w.own) (heard w.peer.session (w.own.sent ++ GT k ∷ []))
@@ -279,6 +194,9 @@ peer_like_heard w k g h j =
 same_seen : (w : Core) (k : Tokens) → Giving w k → Half w.owner w.own w.peer → (v : List Item)
     → heard_view (less k w.own.session) w.peer.sent v ≡ heard_view w.own.session w.peer.sent v
 same_seen w k g h v = alike_view (Fewer k) (fewer_step k) (fewer_shows k) w.own.session (less k w.own.session) w.peer.sent v (inl (refl, gives w k g)) h.fits
+
+own_like_end : (w : Core) (k : Tokens) → Giving w k → Half w.owner w.own w.peer → Like (flushed w.own w.peer) (flush (less k w.own.session) w.peer.sent)
+own_like_end w k g h = like _ _ (but_held k (flushed w.own w.peer) _ (runs w k g h).flush)
 
 own_views : (w : Core) (k : Tokens) → Giving w k → Half w.owner w.own w.peer → Views w.history w.own w.peer → Views (w.history ++ []) (giver w.own k) w.peer
 own_views w k g h v = record {
@@ -303,7 +221,7 @@ peer_views w k g h j v = record {
   cut = λ r. v.cut (ap is_restarting (sym (peer_like_heard w k g h j).phase) ∙ r)
       ∙ ap (λ (a : List Item). cutat w.peer.session.base a w.peer.session.numbers.next) (sym (append_nil w.history));
   due = λ d. ap (λ (a : List Item). a ++ []) (v.due d);
-  stream = λ d. streams (v.stream (ap (λ (u : FunctionalUnits). u.duplex) (sym (peer_like_end w k).units) ∙ d));
+  stream = λ d. streams (v.stream (ap (λ (u : FunctionalUnits). u.duplex) (sym (subst (Like (flushed w.peer w.own)) (sym (other_end w k)) (given_like k (flushed w.peer w.own))).units) ∙ d));
 }
   where
     streams : (w.peer.got ++ data_of w.own.sent ≡ w.own.said) × (w.history ≡ []) → (w.peer.got ++ data_of (w.own.sent ++ GT k ∷ []) ≡ w.own.said ++ []) × (w.history ++ [] ≡ [])
@@ -312,27 +230,37 @@ peer_views w k g h j v = record {
       append_nil w.history ∙ old.1,
     )
 
-pair_kept : (w : Core) (k : Tokens) → Giving w k → Half w.owner w.own w.peer → Pair w.history w.own w.peer → Pair (w.history ++ []) (giver w.own k) w.peer
-pair_kept w k g h p =
-    let e = own_like_end w k g h in
-    record {
-      numbered = subst (λ (b : ℕ). AreNumberedFrom b (w.history ++ [])) (sym e.base)
-          (subst (AreNumberedFrom (flushed w.own w.peer).base) (sym (append_nil w.history)) p.numbered);
-      one_way = λ d. ap (λ (b : Bool). b && list_any (needs_token data_token) w.peer.sent) (list_any_append (needs_token data_token) w.own.sent (GT k) refl)
-          ∙ p.one_way (ap (λ (u : FunctionalUnits). u.half_duplex) (sym e.units) ∙ d);
-      callers = p.callers;
-      profile = subst IsOfProfile (sym e.units) p.profile;
-    }
-
 -- ---- the call
 
-all_kept : (w : Core) (k : Tokens) → Giving w k → Stands w
+pub give_stands : (w : Core) (k : Tokens) → Giving w k → Stands w
     → AreConsistent (answered w (Give k) (Ok (record { next = less k w.own.session; sent = GT k })))
     → Stands (answered w (Give k) (Ok (record { next = less k w.own.session; sent = GT k })))
-all_kept w k g s c = record {
+give_stands w k g s c = record {
   consistent = c;
-  own = own_half w k g s.own;
-  peer = peer_half w k g s.own s.peer;
+  own = record {
+    fits = (runs w k g s.own).fits;
+    meeting = retoken w.owner (passed_to ToThem k w.owner) w.own.session (flushed w.own w.peer) (flushed w.peer w.own) (hearing w.own w.peer) w.peer.session
+        (less k w.own.session) (flush (less k w.own.session) w.peer.sent) (flush w.peer.session (w.own.sent ++ GT k ∷ [])) (heard (less k w.own.session) w.peer.sent) w.peer.session
+        s.own.meeting
+        (own_like_end w k g s.own)
+        (subst (Like (flushed w.peer w.own)) (sym (other_end w k)) (given_like k (flushed w.peer w.own)))
+        (own_like_heard w k g s.own)
+        (itself w.peer.session)
+        (own_tokens w k g s.own);
+  };
+  peer = record {
+    fits = fit_append w.peer.session w.own.sent (GT k) s.peer.fits (give_fits w k g s.own s.peer);
+    meeting =
+        subst (λ (q : State). Meeting (turned_owners (passed_to ToThem k w.owner)) w.peer.session q (flush (less k w.own.session) w.peer.sent) (heard w.peer.session (w.own.sent ++ GT k ∷ [])) (less k w.own.session)) (sym (other_end w k))
+        (subst (λ (q : State). Meeting (turned_owners (passed_to ToThem k w.owner)) w.peer.session (next (flushed w.peer w.own) (GT k)) (flush (less k w.own.session) w.peer.sent) q (less k w.own.session)) (sym (other_heard w k g s.own s.peer))
+        (retoken (turned_owners w.owner) (turned_owners (passed_to ToThem k w.owner)) w.peer.session (flushed w.peer w.own) (flushed w.own w.peer) (hearing w.peer w.own) w.own.session
+        w.peer.session (next (flushed w.peer w.own) (GT k)) (flush (less k w.own.session) w.peer.sent) (next (flushed w.peer w.own) (GT k)) (less k w.own.session) s.peer.meeting
+        (given_like k (flushed w.peer w.own))
+        (own_like_end w k g s.own)
+        (subst (λ (q : State). Like q (next (flushed w.peer w.own) (GT k))) (sym (heard_end w k g s.own s.peer)) (given_like k (flushed w.peer w.own)))
+        (like w.own.session (less k w.own.session) refl)
+        (peer_tokens w k g s.own s.peer)));
+  };
   own_views = own_views w k g s.own s.own_views;
   peer_views = peer_views w k g s.own s.peer s.peer_views;
   own_counts = recount w.own.session (hearing w.own w.peer) (hearing w.peer w.own) w.peer.session
@@ -341,17 +269,14 @@ all_kept w k g s c = record {
   peer_counts = recount w.peer.session (hearing w.peer w.own) (hearing w.own w.peer) w.own.session
       w.peer.session (heard w.peer.session (w.own.sent ++ GT k ∷ [])) (heard (less k w.own.session) w.peer.sent) (less k w.own.session)
       s.peer_counts (itself w.peer.session) (peer_like_heard w k g s.own s.peer) (own_like_heard w k g s.own) (like w.own.session (less k w.own.session) refl);
-  pair = pair_kept w k g s.own s.pair;
+  pair =
+      let e = own_like_end w k g s.own in
+      record {
+        numbered = subst (λ (b : ℕ). AreNumberedFrom b (w.history ++ [])) (sym e.base)
+            (subst (AreNumberedFrom (flushed w.own w.peer).base) (sym (append_nil w.history)) s.pair.numbered);
+        one_way = λ d. ap (λ (b : Bool). b && list_any (needs_token data_token) w.peer.sent) (list_any_append (needs_token data_token) w.own.sent (GT k) refl)
+            ∙ s.pair.one_way (ap (λ (u : FunctionalUnits). u.half_duplex) (sym e.units) ∙ d);
+        callers = s.pair.callers;
+        profile = subst IsOfProfile (sym e.units) s.pair.profile;
+      };
 }
-
-not_true : (b : Bool) → not b ≡ true → b ≡ false
-not_true true h = absurd (cc)
-not_true false h = refl
-
-pub give_stands : SessionLaws → (w : Core) (k : Tokens) (g : Granted) → allowed w.own.session (Give k) ≡ Ok g → Stands w → Stands (answered w (Give k) (Ok g))
-give_stands laws w k g e h =
-    let q = laws.passed w.own.session (Give k) g e in
-    let c = answered_kept laws w (Give k) (Ok g) tt e h.consistent in
-    let giving : Giving w k = record { phase = q.phase; selected = q.needed.0; held = q.needed.1.0; one = not_true (is_empty k) q.needed.1.1.0 } in
-    subst (λ (r : Granted). Stands (answered w (Give k) (Ok r))) (sym q.gives)
-    (all_kept w k giving h (subst (λ (r : Granted). AreConsistent (answered w (Give k) (Ok r))) q.gives c))

@@ -1,5 +1,5 @@
 -- What a side will have seen when it has heard all before a restart that stands, and what is confirmed then.
-use Rattle.std.proofs.Common.{◌≡◌, refl, sym, ◌∙◌, ap, subst, ℕ, ◌+◌, ◌≤◌, ◌<◌, Bool, true, false, not, nat_le, nat_lt, if◌then◌else◌, List, [], ◌∷◌, ◌++◌, append_assoc, arith}
+use Rattle.std.proofs.Common.{◌≡◌, refl, sym, ◌∙◌, ap, subst, ℕ, ◌+◌, ◌≤◌, ◌<◌, Bool, true, false, not, nat_le, if◌then◌else◌, List, [], ◌∷◌, ◌++◌, append_assoc, arith}
 use Rattle.std.proofs.lemmas.Bool.{leb-true, ltb-true, and_parts}
 use Rattle.osi_machine.specs.Floor.{State, Meaning, CN, AC, RF, DT, GT, PT, MIP, MIA, MAP, MAA, RS, RA, FN, DN, NF, AB, AA, is_major_asked, is_wait_cn, is_connecting, is_acknowledgeable, point_taken, minor_confirmed, major_confirmed, becomes, drops, Good, next}
 use Rattle.osi_machine.specs.Histories.{Item, Octets, Point, minor_kind, major_point, points, Begins}
@@ -8,7 +8,7 @@ use Rattle.osi_machine.specs.Channels.{is_plain, Fits, AllFit, stops, heard, hea
 use Rattle.osi_machine.specs.Core.{Party}
 use Rattle.osi_machine.specs.Parties.{is_opening, IsConsistent}
 use Rattle.osi_machine.proofs.Records.{hearing, Views}
-use Rattle.osi_machine.proofs.PhaseLaws.{implied}
+use Rattle.osi_machine.proofs.PhaseLaws.{implied, by_test}
 use Rattle.osi_machine.proofs.Units.{fit_cases}
 use Rattle.osi_machine.proofs.HistoryLaws.{points_append}
 use Rattle.osi_machine.proofs.Idle.{append_nil}
@@ -20,31 +20,22 @@ same_begins : (v w : List Item) → w ≡ v → Begins v w
 same_begins v w e = ([], append_nil v ∙ sym e)
 
 seen_begins : (s : State) (u : Meaning) (v : List Item) → stops s u ≡ false → Begins v (seen s u v)
-seen_begins s (DT o) v st = by s.units.duplex
-  where
-    by : (b : Bool) → Begins v (if b then v else v ++ Octets o ∷ [])
-    by true = same_begins v v refl
-    by false = (Octets o ∷ [], refl)
+seen_begins s (DT o) v st = by_test s.units.duplex (λ e. rw e (same_begins v v refl)) (λ e. rw e (Octets o ∷ [], refl))
 seen_begins s (MIP c n o) v st = (Point n (minor_kind c) o ∷ [], refl)
 seen_begins s (MAP n o) v st = (Point n major_point o ∷ [], refl)
 seen_begins s (RS k n w o) v st = same_begins v _ (rw st refl)
 seen_begins s _ v st = same_begins v v refl
 
-begins_twice : (v w z : List Item) → Begins v w → Begins w z → Begins v z
+pub begins_twice : (v w z : List Item) → Begins v w → Begins w z → Begins v z
 begins_twice v w z a b = (a.0 ++ b.0, sym (append_assoc v a.0 b.0) ∙ ap (λ (r : List Item). r ++ b.0) a.1 ∙ b.1)
 
 pub heard_more : (s : State) (us : List Meaning) (v : List Item) → Begins v (heard_view s us v)
 heard_more s [] v = same_begins v v refl
-heard_more s (u ∷ us) v = by (stops s u) refl (heard_more (next s u) us (view_next s u v))
-  where
-    shown : (d : Bool) → stops s u ≡ false → Begins v (if d then v else seen s u v)
-    shown true st = same_begins v v refl
-    shown false st = seen_begins s u v st
-
-    by : (b : Bool) → stops s u ≡ b → Begins (view_next s u v) (heard_view (next s u) us (view_next s u v))
-        → Begins v (if b then v else heard_view (next s u) us (view_next s u v))
-    by true e more = same_begins v v refl
-    by false e more = begins_twice v (view_next s u v) (heard_view (next s u) us (view_next s u v)) (shown (drops s u) e) more
+heard_more s (u ∷ us) v = by_test (stops s u)
+    (λ e. rw e (same_begins v v refl))
+    (λ e. rw e (let more : Begins (view_next s u v) (heard_view (next s u) us (view_next s u v)) = (heard_more (next s u) us (view_next s u v)) in begins_twice v (view_next s u v) (heard_view (next s u) us (view_next s u v)) (by_test (drops s u)
+    (λ q. rw q (same_begins v v refl))
+    (λ q. rw q (let st : stops s u ≡ false = e in seen_begins s u v st))) more))
 
 pub begins_points : (v w : List Item) → Begins v w → points v ≤ points w
 begins_points v w b = let e = points_append v b.0 in let f = ap points b.1 in omega arith
@@ -60,12 +51,12 @@ pub record Grown (a : ℕ) (s : State) : Type 0 where
 acked_from : (s : State) (n : ℕ) → is_acknowledgeable s n ≡ true → (s.numbers.confirmed ≤ n) × (n < s.numbers.next)
 acked_from s n h =
     let a = and_parts (not s.numbers.answers) _ h in
-    let b = and_parts (nat_le s.numbers.confirmed n) _ a.1 in
-    (leb-true s.numbers.confirmed n b.0, by (is_major_asked s.phase) b.1)
-  where
-    by : (m : Bool) → (if m then nat_lt (n + 1) s.numbers.next else nat_lt n s.numbers.next) ≡ true → n < s.numbers.next
-    by true e = let k = ltb-true (n + 1) s.numbers.next e in omega arith
-    by false e = ltb-true n s.numbers.next e
+    let b = and_parts (nat_le s.numbers.confirmed n) _ a.1 in (
+      leb-true s.numbers.confirmed n b.0,
+      by_test (is_major_asked s.phase)
+          (λ q. let e = rw q at b.1 in let k = ltb-true (n + 1) s.numbers.next e in omega arith)
+          (λ q. let e = rw q at b.1 in ltb-true n s.numbers.next e),
+    )
 
 taken_from : (a c n : ℕ) (b : Bool) → a ≤ c → c ≤ n → a ≤ (if b then c else n)
 taken_from a c n true h k = h
@@ -103,11 +94,9 @@ next_grown a s u f st h = fit_cases (Grown a) s u f h (λ d g. becomes_grown a s
 
 pub heard_grown : (a : ℕ) (s : State) (us : List Meaning) → Grown a s → AllFit s us → Grown a (heard s us)
 heard_grown a s [] h f = h
-heard_grown a s (u ∷ us) h f = by (stops s u) refl (λ e. heard_grown a (next s u) us (next_grown a s u f.0 e h) f.1)
-  where
-    by : (b : Bool) → stops s u ≡ b → (stops s u ≡ false → Grown a (heard (next s u) us)) → Grown a (if b then s else heard (next s u) us)
-    by true e more = h
-    by false e more = more e
+heard_grown a s (u ∷ us) h f = by_test (stops s u)
+    (λ e. rw e h)
+    (λ e. rw e (let more : (stops s u ≡ false → Grown a (heard (next s u) us)) = (λ e. heard_grown a (next s u) us (next_grown a s u f.0 e h) f.1) in more e))
 
 -- ---- a listener
 

@@ -3,31 +3,26 @@ use Rattle.std.proofs.Common.{◌≡◌, refl, sym, ◌∙◌, ap, subst, ℕ, B
 use Rattle.std.specs.List.{list_any}
 use Rattle.osi_machine.specs.Floor.{State, FunctionalUnits, Meaning, DT, PT, Tokens, Token, data_token, has, available, has_right, is_within, is_ready, may_ask, may_hold, takes_data, takes_please, is_restarting, is_restart_due, becomes, drops, next}
 use Rattle.osi_machine.specs.Histories.{Item}
-use Rattle.osi_machine.specs.Owners.{Owners, Owner, Own, Theirs, ToOwn, ToThem, Pool, Absent, turned_owner, turned_owners, is_own, is_to_own, is_absent}
+use Rattle.osi_machine.specs.Owners.{Owners, Owner, Own, Absent, turned_owner, turned_owners, is_own, is_to_own, is_absent}
 use Rattle.osi_machine.specs.Taking.{seen}
 use Rattle.osi_machine.specs.Channels.{Fits, AllFit, flush, stops, heard, hears, view_next, heard_view}
 use Rattle.osi_machine.specs.Core.{Party}
 use Rattle.osi_machine.specs.Parties.{is_opening}
-use Rattle.osi_machine.proofs.PhaseLaws.{implied, excluded, implied_two}
+use Rattle.osi_machine.proofs.PhaseLaws.{implied, excluded, implied_two, if_first, by_either}
 use Rattle.osi_machine.proofs.Units.{next_cases, next_hears}
 use Rattle.osi_machine.proofs.ChannelLaws.{fit_append, flush_append, kept_heard, heard_flush, heard_append, heard_append_due, view_append, view_append_due}
-use Rattle.osi_machine.proofs.Begun.{flush_open, is_lively, Lively, ends_lively, is_talking, Talks, ends_talking}
+use Rattle.osi_machine.proofs.Begun.{flush_open, is_lively, ends_lively, is_talking, Talks, ends_talking}
 use Rattle.osi_machine.proofs.Records.{flushed, hearing, matched, Meeting, Half, Views, Counting, Counts, IsOfProfile}
+use Rattle.std.proofs.lemmas.Bool.{and_from, not_from_false}
+use Rattle.osi_machine.proofs.Deaf.{not_both}
 
 -- ---- a unit that changes no state
 
 abbrev pub IsIdle : Meaning → Type 0
 IsIdle m = (s : State) → becomes s m ≡ s
 
-pub next_idle : (m : Meaning) → IsIdle m → (s : State) → next s m ≡ s
-next_idle m idle s = next_cases (λ r. r ≡ s) s m (λ d. refl) (λ d. idle s)
-
 pub flush_idle : (m : Meaning) → IsIdle m → (s : State) (us : List Meaning) → flush s (us ++ m ∷ []) ≡ flush s us
-flush_idle m idle s us = flush_append s us m ∙ next_idle m idle (flush s us)
-
-if_same : (b : Bool) (x y : State) → y ≡ x → (if b then x else y) ≡ x
-if_same true x y h = refl
-if_same false x y h = h
+flush_idle m idle s us = flush_append s us m ∙ next_cases (λ r. r ≡ (flush s us)) (flush s us) m (λ d. refl) (λ d. idle (flush s us))
 
 pub heard_idle : (m : Meaning) → IsIdle m → (s : State) (us : List Meaning) → AllFit s us → AllFit s (us ++ m ∷ []) → heard s (us ++ m ∷ []) ≡ heard s us
 heard_idle m idle s us f more = by (is_restart_due (flush s us).phase) refl
@@ -35,7 +30,7 @@ heard_idle m idle s us f more = by (is_restart_due (flush s us).phase) refl
     by : (b : Bool) → is_restart_due (flush s us).phase ≡ b → heard s (us ++ m ∷ []) ≡ heard s us
     by true e = heard_append_due s us m more e
     by false e =
-        heard_append s us m f e ∙ if_same (stops (flush s us) m) (flush s us) (next (flush s us) m) (next_idle m idle (flush s us))
+        heard_append s us m f e ∙ if_first (stops (flush s us) m) (flush s us) (next (flush s us) m) (next_cases (λ r. r ≡ (flush s us)) (flush s us) m (λ d. refl) (λ d. idle (flush s us)))
         ∙ sym (heard_flush s us f e)
 
 -- ---- the two halves after such a call
@@ -52,11 +47,7 @@ own_half o x y m v said idle h = record {
 pub peer_half : (o : Owners) (x y : Party) (m : Meaning) (v : List Item) (said : List (List ℕ)) → IsIdle m → Fits (flushed y x) m → Half o y x → Half o y (sending x m v said)
 peer_half o x y m v said idle f h =
     let more = fit_append y.session x.sent m h.fits f in
-    record {
-      fits = more;
-      meeting = subst (λ (r : State). Meeting o y.session r (flushed x y) (heard y.session (x.sent ++ m ∷ [])) x.session) (sym (flush_idle m idle y.session x.sent))
-          (subst (λ (r : State). Meeting o y.session (flushed y x) (flushed x y) r x.session) (sym (heard_idle m idle y.session x.sent h.fits more)) h.meeting);
-    }
+    search (Meeting, flushed, flush_idle, heard_idle)
 
 pub own_counts : (x y : Party) (m : Meaning) (v : List Item) (said : List (List ℕ)) → IsIdle m → AllFit y.session x.sent → AllFit y.session (x.sent ++ m ∷ []) → Counts x y → Counts (sending x m v said) y
 own_counts x y m v said idle f more h =
@@ -98,17 +89,9 @@ other_lacks o x y t h k p right due hold =
     let may = subst (λ (r : State). may_hold r.phase ≡ true) (sym same) hold in
     let want = k.meeting.wants may t in
     let all = subst (λ (r : State). has r.held t ≡ (is_own (turned_owner (o t)) || is_to_own (turned_owner (o t)))) same want in
-    all ∙ theirs right
-  where
-    theirs : HasRight x.session t → (is_own (turned_owner (o t)) || is_to_own (turned_owner (o t))) ≡ false
-    theirs (inl e) = own_not_theirs (o t) (sym (h.meeting.holds t) ∙ e)
-    theirs (inr e) = absent_not_theirs (o t) (h.meeting.absent t (ap (λ (u : FunctionalUnits). has (available u) t) (end_units o x y h p) ∙ e))
-
-and_intro : (a b : Bool) → a ≡ true → b ≡ true → (a && b) ≡ true
-and_intro a b h k = rw (h, k) refl
-
-not_of : (b : Bool) → b ≡ false → not b ≡ true
-not_of b h = ap not h
+    all ∙ by_either right
+    (λ e. own_not_theirs (o t) (sym (h.meeting.holds t) ∙ e))
+    (λ e. absent_not_theirs (o t) (h.meeting.absent t (ap (λ (u : FunctionalUnits). has (available u) t) (end_units o x y h p) ∙ e)))
 
 -- ---- Data
 
@@ -130,10 +113,10 @@ pub other_takes_data : (o : Owners) (x y : Party) → Half o x y → IsOfProfile
 other_takes_data o x y h p ready right listens =
     elim (ends_talking x.session y.sent (talks o x y h p ready right) h.fits) [
       | inl t ↦ implied_two (λ p q. matched p q && is_talking p) (λ p q. takes_data q) refl (flushed x y).phase (flushed y x).phase
-          (and_intro (matched (flushed x y).phase (flushed y x).phase) (is_talking (flushed x y).phase) h.meeting.meets t.phase)
+          (and_from (matched (flushed x y).phase (flushed y x).phase) (is_talking (flushed x y).phase) h.meeting.meets t.phase)
       | inr due ↦ absurd (
           let r = implied_two (λ p q. matched p q && is_restart_due p) (λ p q. is_restarting q) refl (flushed x y).phase (flushed y x).phase
-          (and_intro (matched (flushed x y).phase (flushed y x).phase) (is_restart_due (flushed x y).phase) h.meeting.meets due) in
+          (and_from (matched (flushed x y).phase (flushed y x).phase) (is_restart_due (flushed x y).phase) h.meeting.meets due) in
           cc)
     ]
 
@@ -153,7 +136,7 @@ data_fits o x y octets h k p ready right = record {
       record {
         expected = takes;
         met = (
-          not_of (has (flushed y x).held data_token)
+          not_from_false (has (flushed y x).held data_token)
               (other_lacks o x y data_token h k (excluded is_ready is_opening refl x.session.phase ready) right due hold),
           tt,
         );
@@ -166,7 +149,15 @@ pub please_fits : (o : Owners) (x y : Party) (tokens : Tokens) (octets : List �
     → is_within tokens (available x.session.units) ≡ true → Fits (flushed y x) (PT tokens octets)
 please_fits o x y tokens octets h asks within = record {
   plain = refl;
-  good = λ d. record { expected = by (ends_lively x.session y.sent (implied may_ask is_lively refl x.session.phase asks) h.fits) d; met = (all, tt) };
+  good = λ d. record {
+    expected = by_either (ends_lively x.session y.sent (implied may_ask is_lively refl x.session.phase asks) h.fits)
+        (λ t. implied_two (λ p q. matched p q && is_lively p) (λ p q. takes_please q) refl (flushed x y).phase (flushed y x).phase
+        (and_from (matched (flushed x y).phase (flushed y x).phase) (is_lively (flushed x y).phase) h.meeting.meets t))
+        (λ due. absurd (dropped _ _ d
+        (implied_two (λ p q. matched p q && is_restart_due p) (λ p q. is_restarting q) refl (flushed x y).phase (flushed y x).phase
+        (and_from (matched (flushed x y).phase (flushed y x).phase) (is_restart_due (flushed x y).phase) h.meeting.meets due))));
+    met = (all, tt);
+  };
 }
   where
     same : (flushed y x).units ≡ x.session.units
@@ -177,15 +168,7 @@ please_fits o x y tokens octets h asks within = record {
 
     dropped : (e r : Bool) → (e || (r && true)) ≡ false → r ≡ true → ⊥
     dropped true r h k = cc
-    dropped false true h k = cc
-    dropped false false h k = cc
-
-    by : Lively (flushed x y) ⊎ (is_restart_due (flushed x y).phase ≡ true) → drops (flushed y x) (PT tokens octets) ≡ false → takes_please (flushed y x).phase ≡ true
-    by (inl t) d = implied_two (λ p q. matched p q && is_lively p) (λ p q. takes_please q) refl (flushed x y).phase (flushed y x).phase
-        (and_intro (matched (flushed x y).phase (flushed y x).phase) (is_lively (flushed x y).phase) h.meeting.meets t)
-    by (inr due) d = absurd (dropped _ _ d
-        (implied_two (λ p q. matched p q && is_restart_due p) (λ p q. is_restarting q) refl (flushed x y).phase (flushed y x).phase
-        (and_intro (matched (flushed x y).phase (flushed y x).phase) (is_restart_due (flushed x y).phase) h.meeting.meets due)))
+    dropped _ _ h k = cc
 
 -- ---- what is seen after such a call
 
@@ -200,14 +183,10 @@ pub own_views : (h h' : List Item) (x y : Party) (m : Meaning) (v : List Item) (
     → ((flushed x y).units.duplex ≡ true → h' ≡ []) → Views h x y → Views h' (sending x m v said) y
 own_views h h' x y m v said idle f asked due seen none k = record {
   ends = seen;
-  cut = λ r. absurd (let w = kept_heard (λ (s : State). hears s.phase ≡ true) (λ s u p q. next_hears s u p) x.session y.sent (ap not asked) f in both _ w r);
+  cut = λ r. absurd (let w = kept_heard (λ (s : State). hears s.phase ≡ true) (λ s u p q. next_hears s u p) x.session y.sent (ap not asked) f in not_both _ w r);
   due = λ r. absurd (cc);
   stream = λ d. ((k.stream d).0, none d);
 }
-  where
-    both : (b : Bool) → not b ≡ true → b ≡ true → ⊥
-    both true p q = cc
-    both false p q = cc
 
 -- ---- a unit that shows nothing
 
@@ -215,15 +194,11 @@ pub view_idle : (m : Meaning) → ((s : State) (v : List Item) → seen s m v �
     → heard_view s (us ++ m ∷ []) v ≡ heard_view s us v
 view_idle m none s us v f more = by (is_restart_due (flush s us).phase) refl
   where
-    if_view : (b : Bool) (a c : List Item) → c ≡ a → (if b then a else c) ≡ a
-    if_view true a c e = refl
-    if_view false a c e = e
-
     by : (b : Bool) → is_restart_due (flush s us).phase ≡ b → heard_view s (us ++ m ∷ []) v ≡ heard_view s us v
     by true e = view_append_due s us m v more e
     by false e =
-        view_append s us m v f e ∙ if_view (stops (flush s us) m) (heard_view s us v) (view_next (flush s us) m (heard_view s us v))
-        (if_view (drops (flush s us) m) (heard_view s us v) (seen (flush s us) m (heard_view s us v)) (none (flush s us) (heard_view s us v)))
+        view_append s us m v f e ∙ if_first (stops (flush s us) m) (heard_view s us v) (view_next (flush s us) m (heard_view s us v))
+        (if_first (drops (flush s us) m) (heard_view s us v) (seen (flush s us) m (heard_view s us v)) (none (flush s us) (heard_view s us v)))
 
 pub list_any_append : (p : Meaning → Bool) (us : List Meaning) (m : Meaning) → p m ≡ false → list_any p (us ++ m ∷ []) ≡ list_any p us
 list_any_append p [] m h = rw h refl

@@ -1,6 +1,6 @@
 -- Data or a point that is taken is the item of the history at the mark of the side that takes it.
-use Rattle.std.proofs.Common.{◌≡◌, refl, sym, ◌∙◌, ap, subst, ℕ, Bool, true, false, not, ◌&&◌, List, [], ◌∷◌, ◌++◌, take, length, inl, inr}
-use Rattle.osi_machine.specs.Floor.{State, Meaning, RF, DN, AB, is_over}
+use Rattle.std.proofs.Common.{◌≡◌, refl, sym, ◌∙◌, ap, subst, ℕ, Bool, true, false, not, ◌&&◌, List, [], ◌∷◌, ◌++◌, take, length, inl, inr, arith}
+use Rattle.osi_machine.specs.Floor.{State, Meaning, is_over}
 use Rattle.osi_machine.specs.Histories.{Item, Begins}
 use Rattle.osi_machine.specs.Taking.{is_acted_on}
 use Rattle.osi_machine.specs.Worlds.{Message, unit, World, turned, session_of}
@@ -25,10 +25,7 @@ acted_lives s u a = by (is_over s.phase) _ a
     by false c e = refl
 
 last_brings : (s r : State) (u : Meaning) → IsLast r u → brings s u ≡ []
-last_brings s r (AB b o) l = refl
-last_brings s r (DN o) l = refl
-last_brings s r (RF x o) l = refl
-last_brings s r _ l = absurd l
+last_brings s r u l = grind arith
 
 next_there : SessionLaws → (b : Bool) (w : World) (t u : Told) (m : Meaning) (ms : List Message) (h : Repeats b w t u) → w.peer.channel ≡ unit m ∷ ms → stopped w.own ≡ false
     → is_acted_on h.core.own.session m ≡ true → Begins (h.core.own.view ++ brings h.core.own.session m) h.core.history

@@ -57,15 +57,8 @@ told_more d k o j es = ap (told_by (untold d o)) (record_append d k j es) ∙ to
 pub told_same : (d : Side) (k : ℕ) (o : Offer) (j es : List Entry) → record_of d k es ≡ [] → told_of d k o (j ++ es) ≡ told_of d k o j
 told_same d k o j es e = told_more d k o j es ∙ ap (told_by (told_of d k o j)) e
 
-pub and_no : (b c : Bool) → c ≡ false → (b && c) ≡ false
-and_no true c e = e
-and_no false c e = refl
-
 pub other_number : (r k : ℕ) → (r ≡ k → ⊥) → (r == k) ≡ false
 other_number r k n = ne_eqb r k n
-
-same_number : (r : ℕ) → (r == r) ≡ true
-same_number r = eq-eqb r r refl
 
 pub call_by : (side : Side) (r : ℕ) (c : Call) (e : Option CallError) → IsBy side r (call_answered side r c e ∷ [])
 call_by side r c e d k n = ap (λ (b : Bool). if b then call_answered side r c e ∷ [] else []) n
@@ -84,7 +77,7 @@ other_side Left = refl
 other_side Right = refl
 
 pub own_entry : (side : Side) (r : ℕ) → (is_side side side && (r == r)) ≡ true
-own_entry side r = rw (self_side side, same_number r) refl
+own_entry side r = rw (self_side side, eq-eqb r r refl) refl
 
 -- what the own record then tells
 pub call_own : (side : Side) (r : ℕ) (t : Told) (c : Call) (e : Option CallError) → told_by t (record_of side r (call_answered side r c e ∷ [])) ≡ told_of_call t c e

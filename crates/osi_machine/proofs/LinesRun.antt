@@ -5,14 +5,18 @@ use Rattle.osi_session.specs.declared.faults.CallError.TheVariants as error
 use Rattle.osi_session.specs.Shown.{Shown}
 use Rattle.osi_machine.specs.Floor.{CallError, Call, HasSerial, allowed, is_profile}
 use Rattle.osi_machine.specs.Core.{Offer, CanBeOffered, Side, Left, Right}
-use Rattle.osi_machine.specs.Worlds.{Class, class_0, class_2, Message, Transport, World, session_of, asked_with, after_answer, Terms, closed, ended_at, shown_at_end}
+use Rattle.osi_machine.specs.Worlds.{Class, class_0, class_2, Message, Transport, World, session_of, asked_with, after_answer, Terms, closed, shown_at_end}
 use Rattle.osi_machine.specs.Machine.{Ending, closed_here, Refusal, Step, connects, calls, delivers, breaks, ends, Entry, connect_answered, call_answered, shown_at, ended, Machine, start, connection_at, replaced, seen_from, end_of, stays, noted, is_given, is_waiting, is_known, is_class_0, live_count, refusal_by, transport_of, refusal, asked_in, error_of, call_in, side_of, ends_there, ended_worlds, shown_in_order, marked_ended, after_end, closes_by, after_taking, learns, taken_in, delivered_to, cut_channels, is_told, step, run, HasNumber}
 use Rattle.osi_machine.specs.Views.{Told, told_by, is_side, record_of, untold, told_of}
 use Rattle.osi_machine.proofs.Idle.{append_nil}
 use Rattle.osi_machine.proofs.ViewFold.{told_all}
 use Rattle.osi_machine.proofs.ViewRun.{record_append, other}
 use Rattle.osi_machine.proofs.ProjectSteps.{loss_told}
-use Rattle.osi_machine.proofs.Lines.{told_of_call, taking_of, IsKept, IsBy, told_more, told_same, and_no, other_number, call_by, shown_by, other_side, call_own, shown_own, Lines, seen_told, change_line}
+use Rattle.osi_machine.proofs.Lines.{told_of_call, taking_of, IsKept, IsBy, told_more, told_same, other_number, call_by, shown_by, other_side, call_own, shown_own, Lines, seen_told, change_line}
+use Rattle.std.proofs.lemmas.Bool.{and_right, not-false}
+use Rattle.osi_machine.proofs.OffersTold.{offers_append, none_asked, shown_offers, order_offers}
+use Rattle.osi_machine.specs.AsTables.{offers_in}
+use Rattle.osi_machine.proofs.PhaseLaws.{by_test}
 
 -- ---- entries that tell nothing
 
@@ -20,11 +24,7 @@ abbrev IsMute : List Entry → Type 0
 IsMute es = (d : Side) (n : ℕ) (t : Told) → told_by t (record_of d n es) ≡ t
 
 refused_mute : (side : Side) (r : ℕ) (c : Call) (e : CallError) → IsMute (call_answered side r c (Some e) ∷ [])
-refused_mute side r c e d n t = by (is_side d side && (r == n))
-  where
-    by : (b : Bool) → told_by t (if b then call_answered side r c (Some e) ∷ [] else []) ≡ t
-    by true = refl
-    by false = refl
+refused_mute side r c e d n t = by_test (is_side d side && (r == n)) (λ q. rw q) (λ q. rw q)
 
 mute_lines : (P : Bool → World → Offer → Told → Told → Type 0) (b : Bool) (j es : List Entry) (k : ℕ) (ws : List World) (os : List Offer)
     → IsMute es → Lines P b j k ws os → Lines P b (j ++ es) k ws os
@@ -45,15 +45,18 @@ pub record IsGood (terms : Terms) (P : Bool → World → Offer → Told → Tol
   pub fresh : (d : Side) (n : ℕ) (o : Offer) → length m.worlds < n → told_of d n o m.journal ≡ untold d o
   pub none : (d : Side) (o : Offer) → told_of d 0 o m.journal ≡ untold d o
   pub agreed : m.terms ≡ terms
+  -- the journal tells what was asked for
+  pub asked : offers_in m.journal ≡ offers
 
 -- a note that tells nothing
-mute_good : (terms : Terms) (P : Bool → World → Offer → Told → Told → Type 0) (m : Machine) (es : List Entry) → IsMute es → IsGood terms P m → IsGood terms P (noted es m)
-mute_good terms P m es f g = record {
+mute_good : (terms : Terms) (P : Bool → World → Offer → Told → Told → Type 0) (m : Machine) (es : List Entry) → IsMute es → offers_in es ≡ [] → IsGood terms P m → IsGood terms P (noted es m)
+mute_good terms P m es f q g = record {
   offers = g.offers;
   lines = mute_lines P m.broken m.journal es 1 m.worlds g.offers f g.lines;
   fresh = λ d n o l. told_more d n o m.journal es ∙ f d n _ ∙ g.fresh d n o l;
   none = λ d o. told_more d 0 o m.journal es ∙ f d 0 _ ∙ g.none d o;
   agreed = g.agreed;
+  asked = none_asked m.journal es q ∙ g.asked;
 }
 
 replaced_length : (r : ℕ) (w : World) (ws : List World) → length (replaced r w ws) ≡ length ws
@@ -80,22 +83,23 @@ from_side terms P k b Right w o T h = k.turns b w o (T Right) (T Left) h
 
 -- one connection moves, by one side, and what is noted of it is of that side alone
 move_good : (terms : Terms) (P : Bool → World → Offer → Told → Told → Type 0) → IsKept terms P → (m : Machine) (side : Side) (r : ℕ) (w v : World) (es : List Entry) (f : Told → Told)
-    → connection_at r m.worlds ≡ Some w → IsBy side r es → ((t : Told) → told_by t (record_of side r es) ≡ f t)
+    → connection_at r m.worlds ≡ Some w → IsBy side r es → ((t : Told) → told_by t (record_of side r es) ≡ f t) → offers_in es ≡ []
     → ((o : Offer) (s t : Told) → P m.broken (seen_from side w) o s t → P m.broken v o (f s) t)
     → IsGood terms P m → IsGood terms P (noted es (stays m side r v))
-move_good terms P k m side zero w v es f e by tells moves g = absurd (cc)
-move_good terms P k m side (suc r) w v es f e by tells moves g = record {
+move_good terms P k m side zero w v es f e by tells none moves g = absurd (cc)
+move_good terms P k m side (suc r) w v es f e by tells none moves g = record {
   offers = g.offers;
   lines = change_line P m.broken m.journal es 1 r m.worlds g.offers w (seen_from side v)
-      (λ d n q. by d n (and_no (is_side d side) (suc r == n) (other_number (suc r) n (λ y. q (omega arith))))) e
+      (λ d n q. by d n (and_right (is_side d side) (suc r == n) (other_number (suc r) n (λ y. q (omega arith))))) e
       (λ o h. subst (λ (n : ℕ). P m.broken (seen_from side v) o (told_of Left n o (m.journal ++ es)) (told_of Right n o (m.journal ++ es))) (omega arith)
       (line o (subst (λ (n : ℕ). P m.broken w o (told_of Left n o m.journal) (told_of Right n o m.journal)) (omega arith) h))) g.lines;
   fresh = λ d n o l.
       let q = replaced_length r (seen_from side v) m.worlds in
       let z = get_below m.worlds r w e in
-      told_same d n o m.journal es (by d n (and_no (is_side d side) (suc r == n) (other_number (suc r) n (λ y. omega arith)))) ∙ g.fresh d n o (omega arith);
-  none = λ d o. told_same d 0 o m.journal es (by d 0 (and_no (is_side d side) (suc r == 0) (other_number (suc r) 0 (λ y. omega arith)))) ∙ g.none d o;
+      told_same d n o m.journal es (by d n (and_right (is_side d side) (suc r == n) (other_number (suc r) n (λ y. omega arith)))) ∙ g.fresh d n o (omega arith);
+  none = λ d o. told_same d 0 o m.journal es (by d 0 (and_right (is_side d side) (suc r == 0) (other_number (suc r) 0 (λ y. omega arith)))) ∙ g.none d o;
   agreed = g.agreed;
+  asked = none_asked m.journal es none ∙ g.asked;
 }
   where
     line : (o : Offer) → P m.broken w o (told_of Left (suc r) o m.journal) (told_of Right (suc r) o m.journal)
@@ -120,10 +124,6 @@ pub if_none : (b : Bool) (e : Refusal) (x : Option Refusal) → (if b then Some 
 if_none true e x h = absurd (cc)
 if_none false e x h = (refl, h)
 
-not_false : (b : Bool) → not b ≡ false → b ≡ true
-not_false true h = refl
-not_false false h = absurd (cc)
-
 asked_profile : (ended_now : Bool) (known : Option Class) (asked : List Transport) (o : Offer) → refusal_by ended_now known asked o ≡ None → is_profile o.requirements ≡ true
 asked_profile ended_now known asked o h =
     let a = if_none ended_now _ _ h in
@@ -131,46 +131,37 @@ asked_profile ended_now known asked o h =
     let c = if_none (is_class_0 known) _ _ b.1 in
     let d = if_none (nat_le 64 (live_count asked)) _ _ c.1 in
     let e = if_none (nat_le 65535 (length asked)) _ _ d.1 in
-    not_false (is_profile o.requirements) (if_none (not (is_profile o.requirements)) _ _ e.1).0
+    not-false (is_profile o.requirements) (if_none (not (is_profile o.requirements)) _ _ e.1).0
 
 asked_good : (terms : Terms) (P : Bool → World → Offer → Told → Told → Type 0) → IsKept terms P → (m : Machine) (o : Offer) → CanBeOffered o → IsGood terms P m
-    → (a : Option Refusal) → refusal m o ≡ a → IsGood terms P (asked_in m o a)
-asked_good terms P k m o small g (Some e) h = g
+    → (a : Option Refusal) → refusal m o ≡ a → IsGood terms P (noted (connect_answered o a ∷ []) (asked_in m o a))
+asked_good terms P k m o small g (Some e) h = mute_good terms P m (connect_answered o (Some e) ∷ []) (λ d n t. refl) refl g
 asked_good terms P k m o small g None h = record {
   offers = g.offers ++ o ∷ [];
-  lines = append_line P m.broken m.journal 1 m.worlds g.offers _ o
-      (seen_told P m.broken _ o _ _ _ _ (sym (g.fresh Left (1 + length m.worlds) o (omega arith))) (sym (g.fresh Right (1 + length m.worlds) o (omega arith))) (by m.broken)) g.lines;
-  fresh = λ d n p l. g.fresh d n p (let e = length-append m.worlds (new m.broken ∷ []) in omega arith);
-  none = g.none;
+  lines = mute_lines P m.broken m.journal (connect_answered o None ∷ []) 1 (m.worlds ++ new m.broken ∷ []) (g.offers ++ o ∷ []) (λ d n t. refl) (append_line P m.broken m.journal 1 m.worlds g.offers _ o
+      (seen_told P m.broken _ o _ _ _ _ (sym (g.fresh Left (1 + length m.worlds) o (omega arith))) (sym (g.fresh Right (1 + length m.worlds) o (omega arith))) (by_test m.broken
+      (λ q. rw q (k.lost o small (asked_profile (is_some m.left_end) m.known (map transport_of m.worlds) o h)))
+      (λ q. rw q (k.starts o small (asked_profile (is_some m.left_end) m.known (map transport_of m.worlds) o h))))) g.lines);
+  fresh = λ d n p l. told_more d n p m.journal (connect_answered o None ∷ []) ∙ g.fresh d n p (let e = length-append m.worlds (new m.broken ∷ []) in omega arith);
+  none = λ d p. told_more d 0 p m.journal (connect_answered o None ∷ []) ∙ g.none d p;
   agreed = g.agreed;
+  asked = offers_append m.journal (connect_answered o None ∷ []) ∙ ap (λ (os : List Offer). os ++ o ∷ []) g.asked;
 }
   where
     new : Bool → World
     new b = if b then record (asked_with o) { own = record (asked_with o).own { channel = [] } } else asked_with o
 
-    by : (b : Bool) → P b (if b then record (asked_with o) { own = record (asked_with o).own { channel = [] } } else asked_with o) o (untold Left o) (untold Right o)
-    by true = k.lost o small (asked_profile (is_some m.left_end) m.known (map transport_of m.worlds) o h)
-    by false = k.starts o small (asked_profile (is_some m.left_end) m.known (map transport_of m.worlds) o h)
-
 -- ---- a call
 
 call_good : (terms : Terms) (P : Bool → World → Offer → Told → Told → Type 0) → IsKept terms P → (m : Machine) (side : Side) (r : ℕ) (c : Call) → HasSerial c → IsGood terms P m
     → (a : Option World) → connection_at r m.worlds ≡ a → IsGood terms P (call_in m side r c (side_of side a))
-call_good terms P k m side r c small g None e = mute_good terms P m (call_answered side r c (Some error.NoSuchConnection) ∷ []) (refused_mute side r c error.NoSuchConnection) g
-call_good terms P k m side r c small g (Some w) e = by (is_given (seen_from side w).own.transport) refl
-  where
-    v : World
-    v = seen_from side w
-
-    by : (b : Bool) → is_given (seen_from side w).own.transport ≡ b → IsGood terms P (if b
-        then noted (call_answered side r c (error_of (allowed (session_of (seen_from side w)) c)) ∷ [])
-        (stays m side r (after_answer m.broken c (seen_from side w) (allowed (session_of (seen_from side w)) c)))
-        else noted (call_answered side r c (Some error.NoSuchConnection) ∷ []) m)
-    by true given = move_good terms P k m side r w (after_answer m.broken c (seen_from side w) (allowed (session_of (seen_from side w)) c))
-        (call_answered side r c (error_of (allowed (session_of (seen_from side w)) c)) ∷ []) (λ t. told_of_call t c (error_of (allowed (session_of (seen_from side w)) c))) e
-        (call_by side r c (error_of (allowed (session_of (seen_from side w)) c))) (λ t. call_own side r t c (error_of (allowed (session_of (seen_from side w)) c)))
-        (λ o s t h. k.calls m.broken (seen_from side w) o s t c small given h) g
-    by false given = mute_good terms P m (call_answered side r c (Some error.NoSuchConnection) ∷ []) (refused_mute side r c error.NoSuchConnection) g
+call_good terms P k m side r c small g None e = mute_good terms P m (call_answered side r c (Some error.NoSuchConnection) ∷ []) (refused_mute side r c error.NoSuchConnection) refl g
+call_good terms P k m side r c small g (Some w) e = by_test (is_given (seen_from side w).own.transport)
+    (λ given. rw given (move_good terms P k m side r w (after_answer m.broken c (seen_from side w) (allowed (session_of (seen_from side w)) c))
+    (call_answered side r c (error_of (allowed (session_of (seen_from side w)) c)) ∷ []) (λ t. told_of_call t c (error_of (allowed (session_of (seen_from side w)) c))) e
+    (call_by side r c (error_of (allowed (session_of (seen_from side w)) c))) (λ t. call_own side r t c (error_of (allowed (session_of (seen_from side w)) c))) refl
+    (λ o s t h. k.calls m.broken (seen_from side w) o s t c small given h) g))
+    (λ given. rw given (mute_good terms P m (call_answered side r c (Some error.NoSuchConnection) ∷ []) (refused_mute side r c error.NoSuchConnection) refl g))
 
 -- ---- the end of a side
 
@@ -183,7 +174,7 @@ late side d n k [] l = refl
 late side d n k (w ∷ ws) l =
     record_append d n (map (shown_at side k) (shown_at_end (seen_from side w))) (shown_in_order side (k + 1) ws)
     ∙ ap (λ (es : List Entry). es ++ record_of d n (shown_in_order side (k + 1) ws))
-    (shown_by side k (shown_at_end (seen_from side w)) d n (and_no (is_side d side) (k == n) (other_number k n (λ e. omega arith))))
+    (shown_by side k (shown_at_end (seen_from side w)) d n (and_right (is_side d side) (k == n) (other_number k n (λ e. omega arith))))
     ∙ late side d n (k + 1) ws (omega arith)
 
 early : (side d : Side) (n k : ℕ) (ws : List World) → k + length ws ≤ n → record_of d n (shown_in_order side k ws) ≡ []
@@ -191,16 +182,14 @@ early side d n k [] l = refl
 early side d n k (w ∷ ws) l =
     record_append d n (map (shown_at side k) (shown_at_end (seen_from side w))) (shown_in_order side (k + 1) ws)
     ∙ ap (λ (es : List Entry). es ++ record_of d n (shown_in_order side (k + 1) ws))
-    (shown_by side k (shown_at_end (seen_from side w)) d n (and_no (is_side d side) (k == n) (other_number k n (λ e. omega arith))))
+    (shown_by side k (shown_at_end (seen_from side w)) d n (and_right (is_side d side) (k == n) (other_number k n (λ e. omega arith))))
     ∙ early side d n (k + 1) ws (omega arith)
 
 ends_kept : (terms : Terms) (P : Bool → World → Offer → Told → Told → Type 0) → IsKept terms P → (b : Bool) (w : World) (o : Offer) (s t : Told) (keep : ℕ) → P b w o s t
     → P b (ends_there keep w) o (told_all s (shown_at_end w)) t
-ends_kept terms P q b w o s t keep h = by (is_given w.own.transport)
-  where
-    by : (g : Bool) → P b (if g then ended_at keep w else w) o (told_all s (shown_at_end w)) t
-    by true = q.ends b w o s t keep h
-    by false = subst (λ (d : Told). P b w o d t) (sym (loss_told s (session_of w))) h
+ends_kept terms P q b w o s t keep h = by_test (is_given w.own.transport)
+    (λ e. rw e (q.ends b w o s t keep h))
+    (λ e. rw e (subst (λ (d : Told). P b w o d t) (sym (loss_told s (session_of w))) h))
 
 end_lines : (terms : Terms) (P : Bool → World → Offer → Told → Told → Type 0) → IsKept terms P → (b : Bool) (side : Side) (keep : ℕ → ℕ) (j es : List Entry) (k : ℕ) (ws : List World) (os : List Offer)
     → ((d : Side) (n : ℕ) → k ≤ n → record_of d n es ≡ []) → Lines P b j k ws os
@@ -217,7 +206,7 @@ end_lines terms P q b side keep j es k (w ∷ ws) (o ∷ os) f h = (
       (end_lines terms P q b side keep j (es ++ map (shown_at side k) shown) (k + 1) ws os (λ d n l.
       record_append d n es (map (shown_at side k) shown)
       ∙ ap (λ (x : List Entry). x ++ record_of d n (map (shown_at side k) shown)) (f d n (omega arith))
-      ∙ shown_by side k shown d n (and_no (is_side d side) (k == n) (other_number k n (λ e. omega arith)))) h.1),
+      ∙ shown_by side k shown d n (and_right (is_side d side) (k == n) (other_number k n (λ e. omega arith)))) h.1),
 )
   where
     shown : List Shown
@@ -241,8 +230,8 @@ ended_length side keep k [] = refl
 ended_length side keep k (w ∷ ws) = ap suc (ended_length side keep (k + 1) ws)
 
 marked_good : (terms : Terms) (P : Bool → World → Offer → Told → Told → Type 0) (side : Side) (e : Ending) (m : Machine) → IsGood terms P m → IsGood terms P (marked_ended side e m)
-marked_good terms P Left e m g = record { offers = g.offers; lines = g.lines; fresh = g.fresh; none = g.none; agreed = g.agreed }
-marked_good terms P Right e m g = record { offers = g.offers; lines = g.lines; fresh = g.fresh; none = g.none; agreed = g.agreed }
+marked_good terms P Left e m g = record { offers = g.offers; lines = g.lines; fresh = g.fresh; none = g.none; agreed = g.agreed; asked = g.asked }
+marked_good terms P Right e m g = record { offers = g.offers; lines = g.lines; fresh = g.fresh; none = g.none; agreed = g.agreed; asked = g.asked }
 
 end_good : (terms : Terms) (P : Bool → World → Offer → Told → Told → Type 0) → IsKept terms P → (m : Machine) (side : Side) (e : Ending) (keep : ℕ → ℕ) → IsGood terms P m
     → IsGood terms P (after_end side e keep m)
@@ -254,6 +243,8 @@ end_good terms P q m side e keep g = marked_good terms P side e _ (record {
   fresh = λ d n o l. let z = ended_length side keep 1 m.worlds in told_same d n o m.journal _ (none_told d n (early side d n 1 m.worlds (omega arith))) ∙ g.fresh d n o (omega arith);
   none = λ d o. told_same d 0 o m.journal _ (none_told d 0 (late side d 0 1 m.worlds (omega arith))) ∙ g.none d o;
   agreed = g.agreed;
+  asked = none_asked m.journal (shown_in_order side 1 m.worlds ++ ended side e ∷ [])
+      (offers_append (shown_in_order side 1 m.worlds) (ended side e ∷ []) ∙ append_nil (offers_in (shown_in_order side 1 m.worlds)) ∙ order_offers side 1 m.worlds) ∙ g.asked;
 })
   where
     none_told : (d : Side) (n : ℕ) → record_of d n (shown_in_order side 1 m.worlds) ≡ [] → record_of d n (shown_in_order side 1 m.worlds ++ ended side e ∷ []) ≡ []
@@ -261,40 +252,37 @@ end_good terms P q m side e keep g = marked_good terms P side e _ (record {
 
 -- ---- a delivery
 
-known_good : (terms : Terms) (P : Bool → World → Offer → Told → Told → Type 0) (m : Machine) (known : Option Class) → IsGood terms P m → IsGood terms P (record m { known = known })
-known_good terms P m known g = record { offers = g.offers; lines = g.lines; fresh = g.fresh; none = g.none; agreed = g.agreed }
-
 -- a side takes a message, with these terms
 taking_good : (terms : Terms) (P : Bool → World → Offer → Told → Told → Type 0) → IsKept terms P → (m : Machine) (side : Side) (r : ℕ) (keep : ℕ → ℕ) (w : World) (x : Message) (xs : List Message)
     → connection_at r m.worlds ≡ Some w → (seen_from side w).peer.channel ≡ x ∷ xs → IsGood terms P m
     → IsGood terms P (after_taking m side r keep (taking_of m.broken terms (keep r) (seen_from side w) x xs))
-taking_good terms P q m side r keep w x xs e c g = by (taking_of m.broken terms (keep r) (seen_from side w) x xs).closes refl
+taking_good terms P q m side r keep w x xs e c g = by_test (taking_of m.broken terms (keep r) (seen_from side w) x xs).closes
+    (λ d. rw d (last m.known d))
+    (λ d. rw d (move_good terms P q m side r w (taking_of m.broken terms (keep r) (seen_from side w) x xs).world
+    (map (shown_at side r) (taking_of m.broken terms (keep r) (seen_from side w) x xs).shown) (λ t. told_all t (taking_of m.broken terms (keep r) (seen_from side w) x xs).shown) e
+    (shown_by side r (taking_of m.broken terms (keep r) (seen_from side w) x xs).shown) (λ t. shown_own side r t (taking_of m.broken terms (keep r) (seen_from side w) x xs).shown)
+    (shown_offers side r (taking_of m.broken terms (keep r) (seen_from side w) x xs).shown)
+    (λ o s t h. q.takes m.broken (seen_from side w) o s t (keep r) x xs c h d) g))
   where
     last : (known : Option Class) → (taking_of m.broken terms (keep r) (seen_from side w) x xs).closes ≡ true
         → IsGood terms P (closes_by known (noted (map (shown_at side r) (taking_of m.broken terms (keep r) (seen_from side w) x xs).shown) m) side r keep (taking_of m.broken terms (keep r) (seen_from side w) x xs))
     last (Some class_2) d = move_good terms P q m side r w (closed m.broken (keep r) (taking_of m.broken terms (keep r) (seen_from side w) x xs).world)
         (map (shown_at side r) (taking_of m.broken terms (keep r) (seen_from side w) x xs).shown) (λ t. told_all t (taking_of m.broken terms (keep r) (seen_from side w) x xs).shown) e
         (shown_by side r (taking_of m.broken terms (keep r) (seen_from side w) x xs).shown) (λ t. shown_own side r t (taking_of m.broken terms (keep r) (seen_from side w) x xs).shown)
+        (shown_offers side r (taking_of m.broken terms (keep r) (seen_from side w) x xs).shown)
         (λ o s t h. q.closes m.broken (seen_from side w) o s t (keep r) x xs c h d) g
     last (Some class_0) d = end_good terms P q _ side closed_here keep
         (move_good terms P q m side r w (taking_of m.broken terms (keep r) (seen_from side w) x xs).world
         (map (shown_at side r) (taking_of m.broken terms (keep r) (seen_from side w) x xs).shown) (λ t. told_all t (taking_of m.broken terms (keep r) (seen_from side w) x xs).shown) e
         (shown_by side r (taking_of m.broken terms (keep r) (seen_from side w) x xs).shown) (λ t. shown_own side r t (taking_of m.broken terms (keep r) (seen_from side w) x xs).shown)
+        (shown_offers side r (taking_of m.broken terms (keep r) (seen_from side w) x xs).shown)
         (λ o s t h. q.takes_last m.broken (seen_from side w) o s t (keep r) x xs c h d) g)
     last None d = end_good terms P q _ side closed_here keep
         (move_good terms P q m side r w (taking_of m.broken terms (keep r) (seen_from side w) x xs).world
         (map (shown_at side r) (taking_of m.broken terms (keep r) (seen_from side w) x xs).shown) (λ t. told_all t (taking_of m.broken terms (keep r) (seen_from side w) x xs).shown) e
         (shown_by side r (taking_of m.broken terms (keep r) (seen_from side w) x xs).shown) (λ t. shown_own side r t (taking_of m.broken terms (keep r) (seen_from side w) x xs).shown)
+        (shown_offers side r (taking_of m.broken terms (keep r) (seen_from side w) x xs).shown)
         (λ o s t h. q.takes_last m.broken (seen_from side w) o s t (keep r) x xs c h d) g)
-
-    by : (b : Bool) → (taking_of m.broken terms (keep r) (seen_from side w) x xs).closes ≡ b → IsGood terms P (if b
-        then closes_by m.known (noted (map (shown_at side r) (taking_of m.broken terms (keep r) (seen_from side w) x xs).shown) m) side r keep (taking_of m.broken terms (keep r) (seen_from side w) x xs)
-        else noted (map (shown_at side r) (taking_of m.broken terms (keep r) (seen_from side w) x xs).shown) (stays m side r (taking_of m.broken terms (keep r) (seen_from side w) x xs).world))
-    by true d = last m.known d
-    by false d = move_good terms P q m side r w (taking_of m.broken terms (keep r) (seen_from side w) x xs).world
-        (map (shown_at side r) (taking_of m.broken terms (keep r) (seen_from side w) x xs).shown) (λ t. told_all t (taking_of m.broken terms (keep r) (seen_from side w) x xs).shown) e
-        (shown_by side r (taking_of m.broken terms (keep r) (seen_from side w) x xs).shown) (λ t. shown_own side r t (taking_of m.broken terms (keep r) (seen_from side w) x xs).shown)
-        (λ o s t h. q.takes m.broken (seen_from side w) o s t (keep r) x xs c h d) g
 
 taken_good : (terms : Terms) (P : Bool → World → Offer → Told → Told → Type 0) → IsKept terms P → (m : Machine) (side : Side) (r : ℕ) (keep : ℕ → ℕ) (w : World)
     → connection_at r m.worlds ≡ Some w → IsGood terms P m → (ms : List Message) → (seen_from side w).peer.channel ≡ ms → IsGood terms P (taken_in m side r keep (seen_from side w) ms)
@@ -303,7 +291,7 @@ taken_good terms P q m side r keep w e g (x ∷ xs) c =
     subst (λ (z : Terms). IsGood terms P (after_taking (record m { known = learns m.terms (seen_from side w).own.transport x m.known }) side r keep
     (taking_of m.broken z (keep r) (seen_from side w) x xs))) (sym g.agreed)
     (taking_good terms P q (record m { known = learns m.terms (seen_from side w).own.transport x m.known }) side r keep w x xs e c
-    (known_good terms P m (learns m.terms (seen_from side w).own.transport x m.known) g))
+    (record { offers = g.offers; lines = g.lines; fresh = g.fresh; none = g.none; agreed = g.agreed; asked = g.asked }))
 
 delivery_good : (terms : Terms) (P : Bool → World → Offer → Told → Told → Type 0) → IsKept terms P → (m : Machine) (side : Side) (r : ℕ) (keep : ℕ → ℕ) → IsGood terms P m
     → (a : Option World) → connection_at r m.worlds ≡ a → IsGood terms P (delivered_to m side r keep (side_of side a))
@@ -335,25 +323,21 @@ break_good terms P q m left right g = by m.broken refl
       fresh = λ d n o l. g.fresh d n o (let z = cut_length left right 1 m.worlds in omega arith);
       none = g.none;
       agreed = g.agreed;
+      asked = g.asked;
     }
 
 -- ---- a step, and a list of steps
 
 pub step_good : (terms : Terms) (P : Bool → World → Offer → Told → Told → Type 0) → IsKept terms P → (m : Machine) (s : Step) → HasNumber s → IsGood terms P m → IsGood terms P (step m s)
-step_good terms P q m (connects o) small g =
-    mute_good terms P (asked_in m o (refusal m o)) (connect_answered o (refusal m o) ∷ []) (λ d n t. refl) (asked_good terms P q m o small g (refusal m o) refl)
+step_good terms P q m (connects o) small g = asked_good terms P q m o small g (refusal m o) refl
 step_good terms P q m (calls side r c) small g = call_good terms P q m side r c small g (connection_at r m.worlds) refl
-step_good terms P q m (delivers side r keep) small g = by (is_some (end_of side m))
-  where
-    by : (b : Bool) → IsGood terms P (if b then m else delivered_to m side r keep (side_of side (connection_at r m.worlds)))
-    by true = g
-    by false = delivery_good terms P q m side r keep g (connection_at r m.worlds) refl
+step_good terms P q m (delivers side r keep) small g = by_test (is_some (end_of side m))
+    (λ z. rw z g)
+    (λ z. rw z (delivery_good terms P q m side r keep g (connection_at r m.worlds) refl))
 step_good terms P q m (breaks left right) small g = break_good terms P q m left right g
-step_good terms P q m (ends side e keep) small g = by (is_some (end_of side m) || not (is_told e m.broken))
-  where
-    by : (b : Bool) → IsGood terms P (if b then m else after_end side e keep m)
-    by true = g
-    by false = end_good terms P q m side e keep g
+step_good terms P q m (ends side e keep) small g = by_test (is_some (end_of side m) || not (is_told e m.broken))
+    (λ l. rw l g)
+    (λ l. rw l (end_good terms P q m side e keep g))
 
 pub run_good : (terms : Terms) (P : Bool → World → Offer → Told → Told → Type 0) → IsKept terms P → (m : Machine) (steps : List Step) → AllByRecursion HasNumber steps → IsGood terms P m
     → IsGood terms P (run m steps)
@@ -361,4 +345,4 @@ run_good terms P q m [] small g = g
 run_good terms P q m (s ∷ steps) small g = run_good terms P q (step m s) steps small.1 (step_good terms P q m s small.0 g)
 
 pub all_good : (terms : Terms) (P : Bool → World → Offer → Told → Told → Type 0) → IsKept terms P → (steps : List Step) → AllByRecursion HasNumber steps → IsGood terms P (run (start terms) steps)
-all_good terms P q steps small = run_good terms P q (start terms) steps small (record { offers = []; lines = tt; fresh = λ d n o l. refl; none = λ d o. refl; agreed = refl })
+all_good terms P q steps small = run_good terms P q (start terms) steps small (record { offers = []; lines = tt; fresh = λ d n o l. refl; none = λ d o. refl; agreed = refl; asked = refl })

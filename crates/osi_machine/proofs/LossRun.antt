@@ -1,12 +1,12 @@
 -- After every list of steps, a side is shown a loss only where it was told of a break or found no memory.
-use Rattle.std.proofs.Common.{◌≡◌, refl, sym, ◌∙◌, ap, subst, ℕ, zero, suc, ◌+◌, Bool, true, false, not, ◌&&◌, ◌||◌, if◌then◌else◌, List, [], ◌∷◌, ◌++◌, map, Option, Some, None, is_some, inl, inr, ◌⊎◌}
+use Rattle.std.proofs.Common.{◌≡◌, refl, sym, ◌∙◌, ap, subst, ℕ, zero, suc, ◌+◌, Bool, true, false, not, ◌&&◌, ◌||◌, if◌then◌else◌, List, [], ◌∷◌, ◌++◌, map, Option, Some, None, is_some, inl, inr, ◌⊎◌, arith}
 use Rattle.std.specs.List.{AllByRecursion, list_any, slice_get}
 use Rattle.osi_session.specs.declared.faults.CallError.TheVariants as error
 use Rattle.osi_session.specs.Shown.{Shown, Lost}
 use Rattle.osi_machine.specs.Floor.{Call, allowed, shows_loss}
 use Rattle.osi_machine.specs.Core.{Offer, Side, Left, Right}
 use Rattle.osi_machine.specs.Worlds.{Class, class_0, class_2, Message, agree, Transport, waiting, World, turned, session_of, asked_with, after_answer, Taking, Terms, accepts, denies, message_taken, closed, ended_at, shown_at_end}
-use Rattle.osi_machine.specs.Machine.{Ending, told_of_break, closed_here, no_memory, Refusal, Step, connects, calls, delivers, breaks, ends, Entry, connect_answered, call_answered, shown_at, ended, Machine, start, connection_at, replaced, with_connection, seen_from, end_of, stays, noted, is_given, is_waiting, is_known, is_class_0, transport_of, refusal, asked_in, error_of, call_in, side_of, ends_there, ended_worlds, shown_in_order, marked_ended, after_end, closes_by, after_taking, without_first, learns, taken_in, delivered_to, cut_channels, is_told, step, run, HasNumber}
+use Rattle.osi_machine.specs.Machine.{Ending, closed_here, Refusal, Step, connects, calls, delivers, breaks, ends, Entry, connect_answered, call_answered, shown_at, ended, Machine, start, connection_at, replaced, with_connection, seen_from, end_of, stays, noted, is_given, is_waiting, is_known, is_class_0, transport_of, refusal, asked_in, error_of, call_in, side_of, ends_there, ended_worlds, shown_in_order, marked_ended, after_end, closes_by, after_taking, without_first, learns, taken_in, delivered_to, cut_channels, is_told, step, run, HasNumber}
 use Rattle.osi_machine.specs.Views.{Told, is_side}
 use Rattle.osi_machine.specs.Runs.{is_loss, loses, LosesByItsEnd, IsRun}
 use Rattle.osi_machine.proofs.CoreLaws.{SessionLaws}
@@ -16,69 +16,42 @@ use Rattle.osi_machine.proofs.LinesRun.{IsGood, if_none, step_good}
 use Rattle.osi_machine.proofs.Whole.{Stage, Whole, whole_kept, turned_back}
 use Rattle.osi_machine.proofs.ProjectOpen.{caller_takes, called_takes}
 use Rattle.osi_machine.proofs.ProjectSteps.{message_repeats}
-use Rattle.osi_machine.proofs.DeadLines.{IsDead, IsEarly, dead_call, dead_called, dead_takes, dead_taken, dead_ends, dead_ended, dead_cut, quiet_end, over_quiet, or_parts}
+use Rattle.osi_machine.proofs.DeadLines.{IsDead, IsEarly, dead_call, dead_called, dead_takes, dead_taken, dead_ends, dead_ended, dead_cut, quiet_end, over_quiet}
 use Rattle.osi_machine.proofs.EarlyLines.{NoAgree, is_agree, early_call, early_called, early_takes, early_taken, early_ends, early_ended, early_cut, none_back, none_call, none_takes, none_closed, none_ends, none_cut}
 use Rattle.osi_machine.proofs.LossShown.{is_lost, message_keeps}
 use Rattle.osi_machine.proofs.TableRuns.{StageOf, stage_of, stage_from}
-
--- ---- what is true of all connections, or of all but one
-
-abbrev pub AllOf : (World → Type 0) → List World → Type 0
-AllOf P [] = Unit {0}
-AllOf P (w ∷ ws) = P w × AllOf P ws
+use Rattle.std.proofs.lemmas.Bool.{or_parts}
+use Rattle.osi_machine.proofs.Places.{all_more, all_replaced, all_with, some_same, all_got, all_at}
+use Rattle.osi_machine.proofs.PhaseLaws.{by_either, by_test}
 
 -- all but one are dead
 abbrev pub OneAlive : List World → Type 0
 OneAlive [] = Unit {0}
-OneAlive (w ∷ ws) = (IsDead w × OneAlive ws) ⊎ AllOf IsDead ws
+OneAlive (w ∷ ws) = (IsDead w × OneAlive ws) ⊎ AllByRecursion IsDead ws
 
-all_one : (ws : List World) → AllOf IsDead ws → OneAlive ws
-all_one [] h = tt
-all_one (w ∷ ws) h = inr h.1
-
-one_more : (ws : List World) (w : World) → AllOf IsDead ws → OneAlive (ws ++ w ∷ [])
+one_more : (ws : List World) (w : World) → AllByRecursion IsDead ws → OneAlive (ws ++ w ∷ [])
 one_more [] w h = inr tt
 one_more (v ∷ ws) w h = inl (h.0, one_more ws w h.1)
 
-all_more : (P : World → Type 0) (ws : List World) (w : World) → P w → AllOf P ws → AllOf P (ws ++ w ∷ [])
-all_more P [] w p h = (p, tt)
-all_more P (v ∷ ws) w p h = (h.0, all_more P ws w p h.1)
-
-some_world : (x w : World) → Some x ≡ Some w → x ≡ w
-some_world x w e = ap or_else e
-  where
-    or_else : Option World → World
-    or_else None = x
-    or_else (Some y) = y
-
-all_replaced : (P : World → Type 0) (r : ℕ) (ws : List World) (w v : World) → slice_get ws r ≡ Some w → (P w → P v) → AllOf P ws → AllOf P (replaced r v ws)
-all_replaced P r [] w v e f h = tt
-all_replaced P zero (x ∷ ws) w v e f h = (f (subst P (some_world x w e) h.0), h.1)
-all_replaced P (suc r) (x ∷ ws) w v e f h = (h.0, all_replaced P r ws w v e f h.1)
-
 one_replaced : (r : ℕ) (ws : List World) (w v : World) → slice_get ws r ≡ Some w → (IsDead w → IsDead v) → OneAlive ws → OneAlive (replaced r v ws)
 one_replaced r [] w v e f h = tt
-one_replaced zero (x ∷ ws) w v e f (inl h) = inl (f (subst IsDead (some_world x w e) h.0), h.1)
+one_replaced zero (x ∷ ws) w v e f (inl h) = inl (f (subst IsDead (some_same x w e) h.0), h.1)
 one_replaced zero (x ∷ ws) w v e f (inr h) = inr h
 one_replaced (suc r) (x ∷ ws) w v e f (inl h) = inl (h.0, one_replaced r ws w v e f h.1)
-one_replaced (suc r) (x ∷ ws) w v e f (inr h) = inr (all_replaced IsDead r ws w v e f h)
-
-all_with : (P : World → Type 0) (r : ℕ) (ws : List World) (w v : World) → connection_at r ws ≡ Some w → (P w → P v) → AllOf P ws → AllOf P (with_connection r v ws)
-all_with P zero ws w v e f h = h
-all_with P (suc r) ws w v e f h = all_replaced P r ws w v e f h
+one_replaced (suc r) (x ∷ ws) w v e f (inr h) = inr (all_replaced IsDead r v ws (f (all_got IsDead r ws w e h)) h)
 
 one_with : (r : ℕ) (ws : List World) (w v : World) → connection_at r ws ≡ Some w → (IsDead w → IsDead v) → OneAlive ws → OneAlive (with_connection r v ws)
 one_with zero ws w v e f h = h
 one_with (suc r) ws w v e f h = one_replaced r ws w v e f h
 
 -- each moves alone
-all_ended : (P : World → Type 0) (side : Side) (keep : ℕ → ℕ) (k : ℕ) (ws : List World) → ((n : ℕ) (w : World) → P w → P (seen_from side (ends_there n (seen_from side w)))) → AllOf P ws
-    → AllOf P (ended_worlds side keep k ws)
+all_ended : (P : World → Type 0) (side : Side) (keep : ℕ → ℕ) (k : ℕ) (ws : List World) → ((n : ℕ) (w : World) → P w → P (seen_from side (ends_there n (seen_from side w)))) → AllByRecursion P ws
+    → AllByRecursion P (ended_worlds side keep k ws)
 all_ended P side keep k [] f h = tt
 all_ended P side keep k (w ∷ ws) f h = (f (keep k) w h.0, all_ended P side keep (k + 1) ws f h.1)
 
-all_from : (P Q : World → Type 0) (side : Side) (keep : ℕ → ℕ) (k : ℕ) (ws : List World) → ((n : ℕ) (w : World) → P w → Q (seen_from side (ends_there n (seen_from side w)))) → AllOf P ws
-    → AllOf Q (ended_worlds side keep k ws)
+all_from : (P Q : World → Type 0) (side : Side) (keep : ℕ → ℕ) (k : ℕ) (ws : List World) → ((n : ℕ) (w : World) → P w → Q (seen_from side (ends_there n (seen_from side w)))) → AllByRecursion P ws
+    → AllByRecursion Q (ended_worlds side keep k ws)
 all_from P Q side keep k [] f h = tt
 all_from P Q side keep k (w ∷ ws) f h = (f (keep k) w h.0, all_from P Q side keep (k + 1) ws f h.1)
 
@@ -88,7 +61,7 @@ one_ended side keep k [] f h = tt
 one_ended side keep k (w ∷ ws) f (inl h) = inl (f (keep k) w h.0, one_ended side keep (k + 1) ws f h.1)
 one_ended side keep k (w ∷ ws) f (inr h) = inr (all_ended IsDead side keep (k + 1) ws f h)
 
-all_cut : (P : World → Type 0) (left right : ℕ → ℕ) (k : ℕ) (ws : List World) → ((i j : ℕ) (w : World) → P w → P (cut_to i j w)) → AllOf P ws → AllOf P (cut_channels left right k ws)
+all_cut : (P : World → Type 0) (left right : ℕ → ℕ) (k : ℕ) (ws : List World) → ((i j : ℕ) (w : World) → P w → P (cut_to i j w)) → AllByRecursion P ws → AllByRecursion P (cut_channels left right k ws)
 all_cut P left right k [] f h = tt
 all_cut P left right k (w ∷ ws) f h = (f (left k) (right k) w h.0, all_cut P left right (k + 1) ws f h.1)
 
@@ -117,8 +90,8 @@ by_terms terms known = false
 pub record IsCalm (m : Machine) : Type 0 where
   pub classes : by_terms m.terms m.known ≡ true
   pub alone : is_class_2 m.terms ≡ false → OneAlive m.worlds
-  pub early : is_known m.known ≡ false → AllOf IsEarly m.worlds
-  pub denied : is_denial m.terms ≡ true → AllOf NoAgree m.worlds
+  pub early : is_known m.known ≡ false → AllByRecursion IsEarly m.worlds
+  pub denied : is_denial m.terms ≡ true → AllByRecursion NoAgree m.worlds
   pub losses : (side : Side) → loses (end_of side m) ≡ false → list_any (is_loss side) m.journal ≡ false
 
 -- ---- sides
@@ -155,15 +128,8 @@ known_before : (terms : Terms) (tr : Transport) (x : Message) (known : Option Cl
 known_before (accepts class) waiting agree known h = absurd (cc)
 known_before terms tr x known h = h
 
-classes_kept : (terms : Terms) (tr : Transport) (x : Message) (known : Option Class) → by_terms terms known ≡ true → by_terms terms (learns terms tr x known) ≡ true
-classes_kept (accepts class_0) waiting agree known h = refl
-classes_kept (accepts class_2) waiting agree known h = refl
-classes_kept terms tr x known h = h
-
 none_agreed : (terms : Terms) (x : Message) (known : Option Class) → (is_denial terms ≡ true → is_agree x ≡ false) → is_known (learns terms waiting x known) ≡ false → is_agree x ≡ false
-none_agreed (accepts class) agree known f h = absurd (cc)
-none_agreed (denies r) agree known f h = f refl
-none_agreed terms x known f h = refl
+none_agreed terms x known f h = grind arith
 
 early_side_takes : (b : Bool) (terms : Terms) (keep : ℕ) (side : Side) (w : World) (x : Message) (xs : List Message) (known : Option Class) → (seen_from side w).peer.channel ≡ x ∷ xs
     → (is_denial terms ≡ true → is_agree x ≡ false) → is_known (learns terms (seen_from side w).own.transport x known) ≡ false → StageOf b w → IsEarly w
@@ -183,11 +149,9 @@ twice_seen P Left w h = h
 twice_seen P Right w h = back P w h
 
 ends_or_not : (P : World → Type 0) (side : Side) (n : ℕ) (w : World) → P (seen_from side (ended_at n (seen_from side w))) → P w → P (seen_from side (ends_there n (seen_from side w)))
-ends_or_not P side n w h k = by (is_given (seen_from side w).own.transport)
-  where
-    by : (g : Bool) → P (seen_from side (if g then ended_at n (seen_from side w) else seen_from side w))
-    by true = h
-    by false = twice_seen P side w k
+ends_or_not P side n w h k = by_test (is_given (seen_from side w).own.transport)
+    (λ e. rw e h)
+    (λ e. rw e (twice_seen P side w k))
 
 dead_ends_at : (side : Side) (n : ℕ) (w : World) → IsDead w → IsDead (seen_from side (ended_at n (seen_from side w)))
 dead_ends_at Left n w h = dead_ends n w h
@@ -200,19 +164,16 @@ early_ends_at : (b : Bool) (side : Side) (n : ℕ) (w : World) → StageOf b w �
 early_ends_at b Left n w h = early_ends b n w h.0.own h.0.peer h.0.stage h.1
 early_ends_at b Right n w h = early_ended b n (turned w) h.0.own h.0.peer (back (λ v. Stage b v h.0.own h.0.peer) w h.0.stage) (back IsEarly w h.1)
 
-early_side_ends : (b : Bool) (side : Side) (n : ℕ) (w : World) → StageOf b w × IsEarly w → IsEarly (seen_from side (ends_there n (seen_from side w)))
-early_side_ends b side n w h = ends_or_not IsEarly side n w (early_ends_at b side n w h) h.1
-
 none_side_ends : (side : Side) (n : ℕ) (w : World) → NoAgree w → NoAgree (seen_from side (ends_there n (seen_from side w)))
 none_side_ends side n w h = ends_or_not NoAgree side n w (none_side side (ended_at n (seen_from side w)) (none_ends n (seen_from side w) (none_side side w h))) h
 
-stages : (b : Bool) (j : List Entry) (k : ℕ) (ws : List World) (os : List Offer) → Lines Whole b j k ws os → AllOf (StageOf b) ws
+stages : (b : Bool) (j : List Entry) (k : ℕ) (ws : List World) (os : List Offer) → Lines Whole b j k ws os → AllByRecursion (StageOf b) ws
 stages b j k [] [] h = tt
 stages b j k (w ∷ ws) (o ∷ os) h = (record { own = _; peer = _; stage = h.0.stage }, stages b j (k + 1) ws os h.1)
 stages b j k [] (o ∷ os) h = absurd h
 stages b j k (w ∷ ws) [] h = absurd h
 
-both_of : (P Q : World → Type 0) (ws : List World) → AllOf P ws → AllOf Q ws → AllOf (λ w. P w × Q w) ws
+both_of : (P Q : World → Type 0) (ws : List World) → AllByRecursion P ws → AllByRecursion Q ws → AllByRecursion (λ w. P w × Q w) ws
 both_of P Q [] h k = tt
 both_of P Q (w ∷ ws) h k = ((h.0, k.0), both_of P Q ws h.1 k.1)
 
@@ -250,27 +211,22 @@ order_other d side k (w ∷ ws) h =
 quiet_first : (d side : Side) (k : ℕ) (w : World) → shows_loss (seen_from side w).own.kept.phase ≡ false → list_any (is_loss d) (map (shown_at side k) (shown_at_end (seen_from side w))) ≡ false
 quiet_first d side k w e = ap (λ (shown : List Shown). list_any (is_loss d) (map (shown_at side k) shown)) (quiet_end (seen_from side w) e)
 
-order_dead : (d side : Side) (k : ℕ) (ws : List World) → AllOf IsDead ws → list_any (is_loss d) (shown_in_order side k ws) ≡ false
+order_dead : (d side : Side) (k : ℕ) (ws : List World) → AllByRecursion IsDead ws → list_any (is_loss d) (shown_in_order side k ws) ≡ false
 order_dead d side k [] h = refl
 order_dead d side k (w ∷ ws) h =
     none_more (is_loss d) (map (shown_at side k) (shown_at_end (seen_from side w))) (shown_in_order side (k + 1) ws) (quiet_first d side k w (dead_quiet side w h.0)) (order_dead d side (k + 1) ws h.1)
-
-dead_at : (r : ℕ) (ws : List World) (w : World) → slice_get ws r ≡ Some w → AllOf IsDead ws → IsDead w
-dead_at r [] w e h = absurd (cc)
-dead_at zero (x ∷ ws) w e h = subst IsDead (some_world x w e) h.0
-dead_at (suc r) (x ∷ ws) w e h = dead_at r ws w e h.1
 
 -- where one connection that was not dead is over now
 order_one : (d side : Side) (k r : ℕ) (ws : List World) (w v : World) → slice_get ws r ≡ Some w → (IsDead w → ⊥) → shows_loss (seen_from side v).own.kept.phase ≡ false → OneAlive ws
     → list_any (is_loss d) (shown_in_order side k (replaced r v ws)) ≡ false
 order_one d side k r [] w v e n q h = absurd (cc)
-order_one d side k zero (x ∷ ws) w v e n q (inl h) = absurd (n (subst IsDead (some_world x w e) h.0))
+order_one d side k zero (x ∷ ws) w v e n q (inl h) = absurd (n (subst IsDead (some_same x w e) h.0))
 order_one d side k zero (x ∷ ws) w v e n q (inr h) =
     none_more (is_loss d) (map (shown_at side k) (shown_at_end (seen_from side v))) (shown_in_order side (k + 1) ws) (quiet_first d side k v q) (order_dead d side (k + 1) ws h)
 order_one d side k (suc r) (x ∷ ws) w v e n q (inl h) =
     none_more (is_loss d) (map (shown_at side k) (shown_at_end (seen_from side x))) (shown_in_order side (k + 1) (replaced r v ws)) (quiet_first d side k x (dead_quiet side x h.0))
     (order_one d side (k + 1) r ws w v e n q h.1)
-order_one d side k (suc r) (x ∷ ws) w v e n q (inr h) = absurd (n (dead_at r ws w e h))
+order_one d side k (suc r) (x ∷ ws) w v e n q (inr h) = absurd (n (all_got IsDead r ws w e h))
 
 order_with : (d side : Side) (r : ℕ) (ws : List World) (w v : World) → connection_at r ws ≡ Some w → (IsDead w → ⊥) → shows_loss (seen_from side v).own.kept.phase ≡ false → OneAlive ws
     → list_any (is_loss d) (shown_in_order side 1 (with_connection r v ws)) ≡ false
@@ -296,8 +252,8 @@ move_calm : (m : Machine) (known : Option Class) (side : Side) (r : ℕ) (w v : 
 move_calm m known side r w v es e h c = record {
   classes = h.classes;
   alone = λ t. one_with r m.worlds w (seen_from side v) e h.dead (c.alone t);
-  early = λ n. all_with IsEarly r m.worlds w (seen_from side v) e (h.early n) (c.early (h.before n));
-  denied = λ t. all_with NoAgree r m.worlds w (seen_from side v) e (h.denied t) (c.denied t);
+  early = λ n. all_with IsEarly r (seen_from side v) m.worlds (h.early n (all_at IsEarly r m.worlds w e (c.early (h.before n)))) (c.early (h.before n));
+  denied = λ t. all_with NoAgree r (seen_from side v) m.worlds (h.denied t (all_at NoAgree r m.worlds w e (c.denied t))) (c.denied t);
   losses = λ d n. none_more (is_loss d) m.journal es (c.losses d (ap loses (sym (end_same d side m known r v es)) ∙ n)) (h.kept d);
 }
 
@@ -313,31 +269,18 @@ note_calm m es k c = record { classes = c.classes; alone = c.alone; early = c.ea
 
 call_calm : (terms : Terms) (m : Machine) (side : Side) (r : ℕ) (x : Call) → IsGood terms Whole m → (a : Option World) → connection_at r m.worlds ≡ a → IsCalm m → IsCalm (call_in m side r x (side_of side a))
 call_calm terms m side r x g None e c = note_calm m (call_answered side r x (Some error.NoSuchConnection) ∷ []) (λ d. refl) c
-call_calm terms m side r x g (Some w) e c = by (is_given (seen_from side w).own.transport)
-  where
-    s : StageOf m.broken w
-    s = stage_of terms m g r w e
-
-    by : (b : Bool) → IsCalm (if b
-        then noted (call_answered side r x (error_of (allowed (session_of (seen_from side w)) x)) ∷ [])
-        (stays m side r (after_answer m.broken x (seen_from side w) (allowed (session_of (seen_from side w)) x)))
-        else noted (call_answered side r x (Some error.NoSuchConnection) ∷ []) m)
-    by true = move_calm m m.known side r w (after_answer m.broken x (seen_from side w) (allowed (session_of (seen_from side w)) x))
-        (call_answered side r x (error_of (allowed (session_of (seen_from side w)) x)) ∷ []) e (record {
-          classes = c.classes;
-          before = λ n. n;
-          dead = dead_side_call m.broken side w x;
-          early = λ n. early_side_call m.broken side w x s;
-          denied = λ t h. none_side side _ (none_call m.broken (seen_from side w) x (allowed (session_of (seen_from side w)) x) (none_side side w h));
-          kept = λ d. refl;
-        }) c
-    by false = note_calm m (call_answered side r x (Some error.NoSuchConnection) ∷ []) (λ d. refl) c
+call_calm terms m side r x g (Some w) e c =
+    let s : StageOf m.broken w = stage_of terms m g r w e in
+    by_test (is_given (seen_from side w).own.transport)
+    (λ q. rw q (move_calm m m.known side r w (after_answer m.broken x (seen_from side w) (allowed (session_of (seen_from side w)) x))
+    (call_answered side r x (error_of (allowed (session_of (seen_from side w)) x)) ∷ []) e (search (dead_side_call, early_side_call, none_side, none_call)) c))
+    (λ q. rw q (note_calm m (call_answered side r x (Some error.NoSuchConnection) ∷ []) (λ d. refl) c))
 
 -- ---- the end of a side
 
 -- the entries of an end, where no connection shows a loss
 marked_calm : (side : Side) (e : Ending) (m : Machine) → ((d : Side) → loses (end_of d (marked_ended side e m)) ≡ false → list_any (is_loss d) m.journal ≡ false)
-    → by_terms m.terms m.known ≡ true → (is_class_2 m.terms ≡ false → OneAlive m.worlds) → (is_known m.known ≡ false → AllOf IsEarly m.worlds) → (is_denial m.terms ≡ true → AllOf NoAgree m.worlds)
+    → by_terms m.terms m.known ≡ true → (is_class_2 m.terms ≡ false → OneAlive m.worlds) → (is_known m.known ≡ false → AllByRecursion IsEarly m.worlds) → (is_denial m.terms ≡ true → AllByRecursion NoAgree m.worlds)
     → IsCalm (marked_ended side e m)
 marked_calm Left e m k c a y n = record { classes = c; alone = a; early = y; denied = n; losses = k }
 marked_calm Right e m k c a y n = record { classes = c; alone = a; early = y; denied = n; losses = k }
@@ -349,10 +292,7 @@ end_journal d side e m h k =
 
 -- a side ends that is told of a break or finds no memory
 own_loses : (d side : Side) (e : Ending) (m : Machine) → loses (Some e) ≡ true → loses (end_of d (marked_ended side e m)) ≡ false → (is_side d side ≡ false) × (loses (end_of d m) ≡ false)
-own_loses Left Left e m t n = absurd (cc)
-own_loses Right Right e m t n = absurd (cc)
-own_loses Left Right e m t n = (refl, n)
-own_loses Right Left e m t n = (refl, n)
+own_loses d side e m t n = grind arith
 
 lost_calm : (terms : Terms) (m : Machine) (side : Side) (e : Ending) (keep : ℕ → ℕ) → loses (Some e) ≡ true → IsGood terms Whole m → IsCalm m → IsCalm (after_end side e keep m)
 lost_calm terms m side e keep t g c = marked_calm side e _
@@ -360,7 +300,7 @@ lost_calm terms m side e keep t g c = marked_calm side e _
     end_journal d side e m (c.losses d (other_end d n p.1)) (order_other d side 1 m.worlds p.0))
     c.classes
     (λ a. one_ended side keep 1 m.worlds (λ n w h. dead_side_ends side n w h) (c.alone a))
-    (λ n. all_from (λ w. StageOf m.broken w × IsEarly w) IsEarly side keep 1 m.worlds (λ i w h. early_side_ends m.broken side i w h)
+    (λ n. all_from (λ w. StageOf m.broken w × IsEarly w) IsEarly side keep 1 m.worlds (λ i w h. ends_or_not IsEarly side i w (early_ends_at m.broken side i w h) h.1)
     (both_of (StageOf m.broken) IsEarly m.worlds (stages m.broken m.journal 1 m.worlds g.offers g.lines) (c.early n)))
     (λ n. all_ended NoAgree side keep 1 m.worlds (λ i w h. none_side_ends side i w h) (c.denied n))
   where
@@ -385,9 +325,7 @@ closed_loses Left Right m i n = n
 closed_loses Right Left m i n = n
 
 not_2 : (terms : Terms) → by_terms terms (Some class_0) ≡ true → is_class_2 terms ≡ false
-not_2 (accepts class_0) h = refl
-not_2 (accepts class_2) h = absurd (cc)
-not_2 (denies r) h = refl
+not_2 terms h = grind arith
 
 not_denied : (terms : Terms) (class : Class) → by_terms terms (Some class) ≡ true → is_denial terms ≡ true → ⊥
 not_denied (accepts class) c h d = absurd (cc)
@@ -426,7 +364,7 @@ delivery_moves : (m : Machine) (side : Side) (r keep : ℕ) (w : World) (x : Mes
 delivery_moves m side r keep w x xs e s c none =
     let from = stage_from m.broken side w s in
     record {
-      classes = classes_kept m.terms (seen_from side w).own.transport x m.known c.classes;
+      classes = grind arith;
       before = known_before m.terms (seen_from side w).own.transport x m.known;
       dead = λ d. (dead_side_takes m.broken m.terms keep side w x xs e d).1;
       early = λ k h. (early_side_takes m.broken m.terms keep side w x xs m.known e (λ t. (none_side_takes m.broken m.terms keep side w x xs e t (none t)).0) k s h).1;
@@ -440,15 +378,6 @@ close_over : SessionLaws → (b : Bool) (terms : Terms) (keep : ℕ) (w : World)
 close_over laws b terms keep w t u x xs e (inl h) c = absurd (let k = sym c ∙ (caller_takes b terms keep w t u x xs h e).stays_open in cc)
 close_over laws b terms keep w t u x xs e (inr (inl h)) c = absurd (let k = sym c ∙ (called_takes b terms keep w u t x xs h e).stays_open in cc)
 close_over laws b terms keep w t u x xs e (inr (inr h)) c = ((message_repeats laws b terms keep w t u x xs h e).over_now c).0
-
-all_got : (P : World → Type 0) (r : ℕ) (ws : List World) (w : World) → slice_get ws r ≡ Some w → AllOf P ws → P w
-all_got P r [] w e h = absurd (cc)
-all_got P zero (v ∷ ws) w e h = subst P (some_world v w e) h.0
-all_got P (suc r) (v ∷ ws) w e h = all_got P r ws w e h.1
-
-all_at : (P : World → Type 0) (r : ℕ) (ws : List World) (w : World) → connection_at r ws ≡ Some w → AllOf P ws → P w
-all_at P zero ws w e h = absurd (cc)
-all_at P (suc r) ws w e h = all_got P r ws w e h
 
 taking_calm : SessionLaws → (m : Machine) (side : Side) (r : ℕ) (keep : ℕ → ℕ) (w : World) (x : Message) (xs : List Message) → connection_at r m.worlds ≡ Some w → is_some (end_of side m) ≡ false
     → (seen_from side w).peer.channel ≡ x ∷ xs → StageOf m.broken w → IsCalm m
@@ -523,13 +452,14 @@ delivery_calm laws terms m side r keep i g c (Some w) e = taken_calm laws m side
 
 -- ---- a connection is asked for
 
-dead_all : (ws : List World) → AllOf IsEarly ws → list_any is_waiting (map transport_of ws) ≡ false → AllOf IsDead ws
+dead_all : (ws : List World) → AllByRecursion IsEarly ws → list_any is_waiting (map transport_of ws) ≡ false → AllByRecursion IsDead ws
 dead_all [] h e = tt
-dead_all (w ∷ ws) h e = let p = or_parts (is_waiting w.own.transport) (list_any is_waiting (map transport_of ws)) e in (by h.0 p.0, dead_all ws h.1 p.1)
-  where
-    by : IsEarly w → is_waiting w.own.transport ≡ false → IsDead w
-    by (inl t) n = absurd (let z = sym (ap is_waiting t) ∙ n in cc)
-    by (inr d) n = d
+dead_all (w ∷ ws) h e = let p = or_parts (is_waiting w.own.transport) (list_any is_waiting (map transport_of ws)) e in (
+  by_either h.0
+      (λ t. let n : is_waiting w.own.transport ≡ false = p.0 in absurd (let z = sym (ap is_waiting t) ∙ n in cc))
+      (λ d. d),
+  dead_all ws h.1 p.1,
+)
 
 abbrev new_line : Bool → Offer → World
 new_line b o = if b then record (asked_with o) { own = record (asked_with o).own { channel = [] } } else asked_with o
@@ -584,9 +514,7 @@ if_calm true m n h k = h refl
 if_calm false m n h k = k refl
 
 told_loses : (e : Ending) (broken : Bool) → not (is_told e broken) ≡ false → loses (Some e) ≡ true
-told_loses told_of_break broken h = refl
-told_loses no_memory broken h = refl
-told_loses closed_here broken h = absurd (cc)
+told_loses e broken h = grind arith
 
 broken_calm : (m : Machine) (left right : ℕ → ℕ) → IsCalm m → IsCalm (record m { broken = true; worlds = cut_channels left right 1 m.worlds })
 broken_calm m left right c = record {
@@ -625,7 +553,7 @@ pub losses_have_an_end : SessionLaws → (m : Machine) → IsRun m → LosesByIt
 losses_have_an_end laws m h side e = subst (λ (x : Machine). list_any (is_loss side) x.journal ≡ true → loses (end_of side x) ≡ true) h.reached (by (loses (end_of side (run (start h.agreed) h.steps))) refl) e
   where
     calm : IsCalm (run (start h.agreed) h.steps)
-    calm = run_calm laws h.agreed (start h.agreed) h.steps h.numbered (record { offers = []; lines = tt; fresh = λ d n o l. refl; none = λ d o. refl; agreed = refl }) (start_calm h.agreed)
+    calm = run_calm laws h.agreed (start h.agreed) h.steps h.numbered (record { offers = []; lines = tt; fresh = λ d n o l. refl; none = λ d o. refl; agreed = refl; asked = refl }) (start_calm h.agreed)
 
     by : (b : Bool) → loses (end_of side (run (start h.agreed) h.steps)) ≡ b → list_any (is_loss side) (run (start h.agreed) h.steps).journal ≡ true → b ≡ true
     by true q k = refl

@@ -1,7 +1,7 @@
 -- No message that is taken shows a loss, and no agreement is under way where a called end denies.
 use Rattle.std.proofs.Common.{◌≡◌, refl, sym, ◌∙◌, ap, ℕ, Bool, true, false, not, if◌then◌else◌, List, [], ◌∷◌, Option, Some, None, inl, inr}
 use Rattle.std.specs.List.{list_any}
-use Rattle.osi_session.specs.Shown.{Shown, Lost, Aborted, PeerAbort, BadUnit, Connect, Restart}
+use Rattle.osi_session.specs.Shown.{Shown, Lost, Aborted, PeerAbort}
 use Rattle.osi_session.specs.Respond.{bad, judged}
 use Rattle.osi_session.specs.declared.faults.UnitFault.{UnitFault}
 use Rattle.osi_session.specs.declared.faults.UnitFault.TheVariants.{Unexpected}
@@ -15,6 +15,7 @@ use Rattle.osi_machine.proofs.ProjectEnd.{comes_unit}
 use Rattle.osi_machine.proofs.ProjectStart.{Way, nothing_sent, asked, agreed, denied, asks, replies}
 use Rattle.osi_machine.proofs.Whole.{Stage}
 use Rattle.osi_machine.proofs.DeadLines.{quiet_end, over_quiet}
+use Rattle.osi_machine.proofs.PhaseLaws.{by_test}
 
 abbrev pub is_lost : Shown → Bool
 is_lost Lost = true
@@ -23,16 +24,8 @@ is_lost i = false
 -- ---- a unit
 
 good_keeps : (s : State) (u : Meaning) → list_any is_lost (shown_for s u) ≡ false
-good_keeps s (CN v r n w from to z o) = by (is_acceptable v r z)
-  where
-    by : (b : Bool) → list_any is_lost (if b then Connect r n w z o ∷ [] else []) ≡ false
-    by true = refl
-    by false = refl
-good_keeps s (RS k n w o) = by (stands s n)
-  where
-    by : (b : Bool) → list_any is_lost (if b then Restart n w o ∷ [] else []) ≡ false
-    by true = refl
-    by false = refl
+good_keeps s (CN v r n w from to z o) = by_test (is_acceptable v r z) (λ e. rw e) (λ e. rw e)
+good_keeps s (RS k n w o) = by_test (stands s n) (λ q. rw q) (λ q. rw q)
 good_keeps s (AB bits o) = by (is_wait_cn s.phase) (names bits 2)
   where
     by : (a b : Bool) → list_any is_lost (if a then [] else (if b then Aborted o else PeerAbort bits) ∷ []) ≡ false
@@ -40,13 +33,6 @@ good_keeps s (AB bits o) = by (is_wait_cn s.phase) (names bits 2)
     by false true = refl
     by false false = refl
 good_keeps s _ = refl
-
-bad_keeps : (s : State) (fault : UnitFault) → list_any is_lost (bad s fault).shown ≡ false
-bad_keeps s fault = by (is_wait_cn s.phase)
-  where
-    by : (b : Bool) → list_any is_lost (if b then [] else BadUnit fault ∷ []) ≡ false
-    by true = refl
-    by false = refl
 
 pub unit_keeps : (s : State) (u : Meaning) → list_any is_lost (respond_unit s u).shown ≡ false
 unfolding respond_unit take_expected
@@ -58,7 +44,7 @@ unit_keeps s u =
     (ended u)
     (first (drops s u) (nothing s) (if not (is_expected s.phase u) then bad s (Unexpected (si u)) else take_expected s u)
     refl
-    (first (not (is_expected s.phase u)) (bad s (Unexpected (si u))) (take_expected s u) (bad_keeps s (Unexpected (si u))) (by (first_fault (si u) (conditions s u))))))
+    (first (not (is_expected s.phase u)) (bad s (Unexpected (si u))) (take_expected s u) (by_test (is_wait_cn s.phase) (λ e. rw e) (λ e. rw e)) (by (first_fault (si u) (conditions s u))))))
   where
     aborting : (m : Meaning) → list_any is_lost (in_aborting s m).shown ≡ false
     aborting (AB b o) = refl
@@ -75,7 +61,7 @@ unit_keeps s u =
 
     by : (f : Option UnitFault) → list_any is_lost (judged s u f).shown ≡ false
     by None = good_keeps s u
-    by (Some fault) = bad_keeps s fault
+    by (Some fault) = by_test (is_wait_cn s.phase) (λ e. rw e) (λ e. rw e)
 
 -- ---- a message
 
@@ -95,11 +81,9 @@ close_quiet b w t u r ms (inr (inl h)) e = absurd (none h.way (sym e ∙ h.own_c
     none asked f = absurd (cc)
     none agreed f = absurd (cc)
     none (denied x) f = absurd (cc)
-close_quiet b w t u r ms (inr (inr h)) e = by (stopped w.own) refl
-  where
-    by : (o : Bool) → stopped w.own ≡ o → shows_loss w.own.kept.phase ≡ false
-    by true o = over_quiet w.own.kept.phase o
-    by false l = absurd (let x = comes_unit b w h.core (bye r) ms h.projects l e in cc)
+close_quiet b w t u r ms (inr (inr h)) e = by_test (stopped w.own)
+    (λ o. over_quiet w.own.kept.phase o)
+    (λ l. absurd (let x = comes_unit b w h.core (bye r) ms h.projects l e in cc))
 
 pub message_keeps : (b : Bool) (terms : Terms) (keep : ℕ) (w : World) (t u : Told) (x : Message) (xs : List Message) → Stage b w t u → w.peer.channel ≡ x ∷ xs
     → list_any is_lost (message_taken b terms keep w.own.transport (without_first w xs) x).shown ≡ false

@@ -25,6 +25,7 @@ use Rattle.osi_machine.proofs.Lines.{Lines}
 use Rattle.osi_machine.proofs.LinesRun.{IsGood, all_good}
 use Rattle.osi_machine.proofs.ProjectWorld.{turned_repeats}
 use Rattle.osi_machine.proofs.Whole.{Stage, Whole, whole_kept}
+use Rattle.osi_machine.proofs.PhaseLaws.{by_test}
 
 -- ---- one connection of a run
 
@@ -75,17 +76,15 @@ show_no_fault b w s t (inr (inr h)) = (h.own.fine, h.peer.fine)
 
 -- a record without duplex tells what its side has seen
 told_view : (t : Told) (c : Core) → Stands c → Tells t c.own.session c.own.view c.own.said c.own.got → t.duplex ≡ false → t.view ≡ c.own.view
-told_view t c s h d = by (is_opening c.own.session.phase) refl
+told_view t c s h d = by_test (is_opening c.own.session.phase)
+    (λ e. h.fresh e ∙ sym (s.consistent.own.fresh e).view)
+    (λ e. h.view (sym (h.duplex (begun (is_opening c.own.session.phase) (is_over c.own.session.phase) e lives)) ∙ d))
   where
     lives : is_over c.own.session.phase ≡ false
     lives = alive c.owner c.own c.peer s.own
 
     begun : (a e : Bool) → a ≡ false → e ≡ false → not (a || e) ≡ true
     begun a e p q = rw (p, q) refl
-
-    by : (b : Bool) → is_opening c.own.session.phase ≡ b → t.view ≡ c.own.view
-    by true e = h.fresh e ∙ sym (s.consistent.own.fresh e).view
-    by false e = h.view (sym (h.duplex (begun (is_opening c.own.session.phase) (is_over c.own.session.phase) e lives)) ∙ d)
 
 turned_view : (t : Told) (c : Core) → Stands (turned_core c) → Tells t c.peer.session c.peer.view c.peer.said c.peer.got → t.duplex ≡ false → t.view ≡ c.peer.view
 turned_view t c s h d = told_view t (turned_core c) s h d
@@ -124,7 +123,10 @@ either_duplex false false d p q h = absurd (cc)
 -- what one side is shown
 shown_there : (s t : Told) (c : Core) → Stands c → Tells s c.own.session c.own.view c.own.said c.own.got → Tells t c.peer.session c.peer.view c.peer.said c.peer.got
     → (s.duplex || t.duplex) ≡ true → Begins s.indicated t.requested
-shown_there s t c k h j d = by (is_opening c.own.session.phase) refl
+shown_there s t c k h j d = by_test (is_opening c.own.session.phase)
+    (λ e. begins_nil s.indicated t.requested (h.silent e).1)
+    (λ e. subst (λ (x : List (List ℕ)). Begins x t.requested) (sym (h.got (own_duplex e)))
+    (subst (Begins c.own.got) (sym (asked e (is_opening c.peer.session.phase) refl)) (got_what_was_said c k (own_duplex e))))
   where
     peer_told : is_opening c.own.session.phase ≡ false → (b : Bool) → is_opening c.peer.session.phase ≡ b → (t.duplex ≡ false) ⊎ (t.duplex ≡ c.own.session.units.duplex)
     peer_told e true f = inl (j.unselected f)
@@ -136,12 +138,6 @@ shown_there s t c k h j d = by (is_opening c.own.session.phase) refl
     asked : is_opening c.own.session.phase ≡ false → (b : Bool) → is_opening c.peer.session.phase ≡ b → t.requested ≡ c.peer.said
     asked e true f = (j.silent f).0 ∙ sym (k.consistent.peer.fresh f).said
     asked e false f = j.said (same_duplex c k e f ∙ own_duplex e)
-
-    by : (b : Bool) → is_opening c.own.session.phase ≡ b → Begins s.indicated t.requested
-    by true e = begins_nil s.indicated t.requested (h.silent e).1
-    by false e =
-        subst (λ (x : List (List ℕ)). Begins x t.requested) (sym (h.got (own_duplex e)))
-        (subst (Begins c.own.got) (sym (asked e (is_opening c.peer.session.phase) refl)) (got_what_was_said c k (own_duplex e)))
 
 pub shown_as_asked : (b : Bool) (w : World) (s t : Told) → Stage b w s t → ShownAsAsked w s t
 shown_as_asked b w s t (inl h) d = (
@@ -188,13 +184,10 @@ told_point t c s h before n kind octets b = by (is_opening c.own.session.phase) 
 -- and the record of the other then tells what the other has seen
 other_view : (t : Told) (c : Core) → Stands c → Tells t c.peer.session c.peer.view c.peer.said c.peer.got → is_opening c.own.session.phase ≡ false → c.own.session.units.duplex ≡ false
     → t.view ≡ c.peer.view
-other_view t c s h e d = by (is_opening c.peer.session.phase) refl
-  where
-    by : (b : Bool) → is_opening c.peer.session.phase ≡ b → t.view ≡ c.peer.view
-    by true f = h.fresh f ∙ sym (s.consistent.peer.fresh f).view
-    by false f =
-        let units = sym (flush_open c.peer.session c.own.sent f s.peer.fits).units ∙ sym s.own.meeting.units ∙ (flush_open c.own.session c.peer.sent e s.own.fits).units in
-        h.view (ap (λ (u : FunctionalUnits). u.duplex) units ∙ d)
+other_view t c s h e d = by_test (is_opening c.peer.session.phase)
+    (λ f. h.fresh f ∙ sym (s.consistent.peer.fresh f).view)
+    (λ f. let units = sym (flush_open c.peer.session c.own.sent f s.peer.fits).units ∙ sym s.own.meeting.units ∙ (flush_open c.own.session c.peer.sent e s.own.fits).units in
+    h.view (ap (λ (u : FunctionalUnits). u.duplex) units ∙ d))
 
 pub confirmed_there : (b : Bool) (w : World) (s t : Told) → Stage b w s t → ConfirmedThere w s t
 confirmed_there b w s t (inl h) before n kind octets p q r =

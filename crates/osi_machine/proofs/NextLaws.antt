@@ -1,5 +1,5 @@
 -- Data that is first under way to a side is no fault there; and a side that is left is over.
-use Rattle.std.proofs.Common.{◌≡◌, refl, sym, ◌∙◌, ap, subst, ℕ, Bool, true, false, List, [], ◌∷◌, ◌++◌, map, Some, inl, inr}
+use Rattle.std.proofs.Common.{◌≡◌, refl, sym, ◌∙◌, ap, subst, ℕ, Bool, true, false, List, [], ◌∷◌, ◌++◌, map, Some, inl, inr, arith}
 use Rattle.std.proofs.lemmas.Bool.{cases_Bool}
 use Rattle.std.specs.List.{list_any}
 use Rattle.osi_session.specs.Respond.{verdict, is_faulty}
@@ -13,9 +13,9 @@ use Rattle.osi_machine.specs.Runs.{IsRun}
 use Rattle.osi_machine.specs.Tables.{Tables}
 use Rattle.osi_machine.specs.AsTables.{IsTableRun, AtEachSide, IsNoFaultNext, is_leaving, IsOverWhenLeft}
 use Rattle.osi_machine.proofs.CoreLaws.{SessionLaws}
-use Rattle.osi_machine.proofs.Projects.{stopped, Carried, session_is}
+use Rattle.osi_machine.proofs.Projects.{stopped, Carried, session_is, not_both}
 use Rattle.osi_machine.proofs.ProjectTake.{split_first}
-use Rattle.osi_machine.proofs.ProjectStart.{Way, nothing_sent, asked, agreed, denied, asks, replies}
+use Rattle.osi_machine.proofs.ProjectStart.{Way, asks, replies}
 use Rattle.osi_machine.proofs.ProjectWorld.{Repeats}
 use Rattle.osi_machine.proofs.Whole.{Stage, turned_stage}
 use Rattle.osi_machine.proofs.MachineLaws.{stage_at}
@@ -68,26 +68,17 @@ no_unit_leaves [] = refl
 no_unit_leaves (u ∷ us) = no_unit_leaves us
 
 no_reply_leaves : (way : Way) → list_any is_leaving (replies way) ≡ false
-no_reply_leaves nothing_sent = refl
-no_reply_leaves asked = refl
-no_reply_leaves agreed = refl
-no_reply_leaves (denied r) = refl
+no_reply_leaves way = grind arith
 
 no_ask_leaves : (way : Way) → list_any is_leaving (asks way) ≡ false
-no_ask_leaves nothing_sent = refl
-no_ask_leaves asked = refl
-no_ask_leaves agreed = refl
-no_ask_leaves (denied r) = refl
-
-never_both : {A : Type 0} (b : Bool) → b ≡ true → b ≡ false → A
-never_both b p q = absurd (cc)
+no_ask_leaves way = grind arith
 
 over_when_left : (b : Bool) (w : World) (t u : Told) → Stage b w t u → IsOverWhenLeft (session_of w) w.peer.channel
-over_when_left b w t u (inl h) e = never_both _ e (ap (list_any is_leaving) h.peer_channel ∙ no_reply_leaves h.way)
-over_when_left b w t u (inr (inl h)) e = never_both _ e (ap (list_any is_leaving) h.own_channel ∙ no_ask_leaves h.way)
+over_when_left b w t u (inl h) e = not_both _ e (ap (list_any is_leaving) h.peer_channel ∙ no_reply_leaves h.way)
+over_when_left b w t u (inr (inl h)) e = not_both _ e (ap (list_any is_leaving) h.own_channel ∙ no_ask_leaves h.way)
 over_when_left b w t u (inr (inr h)) e = elim (cases_Bool (is_over (session_of w).phase)) [
   | inl o ↦ o
-  | inr o ↦ let c = h.projects.own.carried o in never_both _ e (ap (list_any is_leaving) c.carries ∙ no_unit_leaves (c.there ++ c.tail))
+  | inr o ↦ let c = h.projects.own.carried o in not_both _ e (ap (list_any is_leaving) c.carries ∙ no_unit_leaves (c.there ++ c.tail))
 ]
 
 over_when_both_left : SessionLaws → (m : Machine) → IsRun m → (r : ℕ) (w : World) → connection_at r m.worlds ≡ Some w

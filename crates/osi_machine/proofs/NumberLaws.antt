@@ -1,12 +1,12 @@
 -- The lower of two numbers, and what the units on the way do to the direction of points.
 use Rattle.std.proofs.Common.{◌≡◌, refl, ℕ, ◌≤◌, ◌<◌, Bool, true, false, ◌||◌, nat_lt, if◌then◌else◌, List, [], ◌∷◌, arith}
-use Rattle.std.proofs.lemmas.Bool.{ltb-true, ltb-false}
+use Rattle.std.proofs.lemmas.Bool.{ltb-true, ltb-false, or_parts}
 use Rattle.std.specs.List.{list_any}
 use Rattle.osi_machine.specs.Floor.{State, Meaning, CN, AC, RF, DT, GT, PT, MIP, MIA, MAP, MAA, RS, RA, FN, DN, NF, AB, AA, data_token, lower, is_wait_cn, is_connecting, is_acceptable, stands, point_taken, minor_confirmed, major_confirmed, restarted_at, becomes, next, Good}
 use Rattle.osi_machine.specs.Channels.{is_plain, AllFit, heard, stops, needs_token}
 use Rattle.osi_machine.specs.Parties.{is_opening}
-use Rattle.osi_machine.proofs.PhaseLaws.{implied}
-use Rattle.osi_machine.proofs.Units.{next_cases, fit_cases}
+use Rattle.osi_machine.proofs.PhaseLaws.{implied, by_test}
+use Rattle.osi_machine.proofs.Units.{next_cases, fit_cases, chosen}
 use Rattle.osi_machine.proofs.ChannelLaws.{kept_heard}
 
 -- ---- the lower of two numbers
@@ -26,11 +26,7 @@ lower_second n m = lower_by n m m (λ l. omega arith) (λ l. omega arith)
 
 -- a lower bound of both is one of the lower
 pub lower_from : (n m k : ℕ) → k ≤ n → k ≤ m → k ≤ lower n m
-lower_from n m k p q = by (nat_lt n m)
-  where
-    by : (b : Bool) → k ≤ (if b then n else m)
-    by true = p
-    by false = q
+lower_from n m k p q = by_test (nat_lt n m) (λ e. rw e p) (λ e. rw e q)
 
 -- of lower numbers
 pub lower_less : (m a b c : ℕ) → a ≤ b → lower m b ≤ c → lower m a ≤ c
@@ -53,10 +49,6 @@ lower_both n m a c le h =
 pub record Turned (s : State) : Type 0 where
   pub phase : is_opening s.phase ≡ false
   pub answers : s.numbers.answers ≡ true
-
-chosen : (P : State → Type 0) (b : Bool) (x y : State) → P x → P y → P (if b then x else y)
-chosen P true x y h k = h
-chosen P false x y h k = k
 
 becomes_turned : (s : State) (u : Meaning) → is_plain u ≡ true → Good s u → Turned s → Turned (becomes s u)
 unfolding point_taken minor_confirmed major_confirmed restarted_at
@@ -95,13 +87,9 @@ becomes_sends s (MAP n o) p h = absurd (cc)
 becomes_sends s (RS k n w o) p h = chosen Sends (stands s n) _ s h h
 becomes_sends s _ p h = h
 
-or_false : (a b : Bool) → (a || b) ≡ false → (a ≡ false) × (b ≡ false)
-or_false true b h = absurd (cc)
-or_false false b h = (refl, h)
-
 pub heard_sends : (s : State) (us : List Meaning) → list_any (needs_token data_token) us ≡ false → s.numbers.answers ≡ false → (heard s us).numbers.answers ≡ false
 heard_sends s [] n h = h
 heard_sends s (u ∷ us) n h =
-    let p = or_false (needs_token data_token u) (list_any (needs_token data_token) us) n in
+    let p = or_parts (needs_token data_token u) (list_any (needs_token data_token) us) n in
     chosen Sends (stops s u) s (heard (next s u) us) h
     (heard_sends (next s u) us p.1 (next_cases Sends s u (λ d. h) (λ d. becomes_sends s u p.0 h)))

@@ -1,10 +1,11 @@
 -- What is under way while a connection is being opened: nothing that acts.
-use Rattle.std.proofs.Common.{◌≡◌, refl, subst, Bool, true, false, if◌then◌else◌, List, [], ◌∷◌}
+use Rattle.std.proofs.Common.{◌≡◌, refl, subst, true, false, if◌then◌else◌, List, [], ◌∷◌}
 use Rattle.osi_machine.specs.Floor.{State, Phase, Meaning, CN, AC, RF, DT, GT, PT, MIP, MIA, MAP, MAA, RS, RA, FN, DN, NF, AB, AA, is_wait_cn, is_connecting, is_answering, is_restarting, is_ready, is_major_asked, is_releasing, may_ask, takes_data, takes_please, takes_minor_ack, takes_restart, is_expected, is_acceptable, has_no_effect, passes_restarting, becomes, stands, drops, Good, next}
 use Rattle.osi_machine.specs.Channels.{is_plain, Fits, AllFit, flush}
-use Rattle.osi_machine.proofs.PhaseLaws.{excluded}
-use Rattle.osi_machine.proofs.Units.{next_dropped, next_acted}
+use Rattle.osi_machine.proofs.PhaseLaws.{excluded, by_test}
+use Rattle.osi_machine.proofs.Units.{next_dropped, next_acted, chosen}
 use Rattle.osi_machine.proofs.Deaf.{AllEmpty, dropped_empty}
+use Rattle.std.proofs.lemmas.Bool.{both_ways}
 
 -- a side that owes the answer to a CN expects nothing
 pub none_answering : (p : Phase) (u : Meaning) → is_answering p ≡ true → is_plain u ≡ true → is_expected p u ≡ false
@@ -28,10 +29,6 @@ none_answering p _ h k = absurd (cc)
 abbrev Later : State → Type 0
 Later s = is_connecting s.phase ≡ false
 
-chosen : (P : State → Type 0) (b : Bool) (x y : State) → P x → P y → P (if b then x else y)
-chosen P true x y h k = h
-chosen P false x y h k = k
-
 becomes_later : (s : State) (u : Meaning) → is_plain u ≡ true → Good s u → Later (becomes s u)
 becomes_later s (CN v u n w from to z o) p g = chosen Later (is_acceptable v u z) _ _ refl refl
 becomes_later s (RF r o) p g = absurd (cc)
@@ -46,17 +43,11 @@ becomes_later s (AB b o) p g = absurd (cc)
 becomes_later s AA p g = absurd (cc)
 becomes_later s _ p g = refl
 
-apart : (b : Bool) → b ≡ false → b ≡ true → ⊥
-apart true p q = cc
-apart false p q = cc
-
 -- a unit that leaves it waiting was discarded
 waiting_drops : (s : State) (u : Meaning) → Fits s u → is_connecting (next s u).phase ≡ true → drops s u ≡ true
-waiting_drops s u f c = by (drops s u) refl
-  where
-    by : (b : Bool) → drops s u ≡ b → b ≡ true
-    by true d = refl
-    by false d = absurd (apart _ (becomes_later s u f.plain (f.good d)) (subst (λ (r : State). is_connecting r.phase ≡ true) (next_acted s u d) c))
+waiting_drops s u f c = by_test (drops s u)
+    (λ d. d)
+    (λ d. absurd (both_ways _ (becomes_later s u f.plain (f.good d)) (subst (λ (r : State). is_connecting r.phase ≡ true) (next_acted s u d) c)))
 
 -- it has waited all the time, and nothing was under way
 pub waiting : (s : State) (us : List Meaning) → is_connecting (flush s us).phase ≡ true → AllFit s us → AllEmpty us × (is_connecting s.phase ≡ true)

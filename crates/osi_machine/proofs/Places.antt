@@ -1,6 +1,6 @@
 -- What stands at a reference, after one connection is another, after one more, an end and a break.
-use Rattle.std.proofs.Common.{◌≡◌, refl, ◌∙◌, ap, ℕ, zero, suc, ◌+◌, ◌<◌, ◌≤◌, true, List, [], ◌∷◌, ◌++◌, length, Option, Some, None, is_some, arith}
-use Rattle.std.specs.List.{slice_get}
+use Rattle.std.proofs.Common.{◌≡◌, refl, ◌∙◌, ap, subst, ℕ, zero, suc, ◌+◌, ◌<◌, ◌≤◌, true, List, [], ◌∷◌, ◌++◌, length, Option, Some, None, is_some, arith}
+use Rattle.std.specs.List.{AllByRecursion, slice_get}
 use Rattle.osi_machine.specs.Core.{Side}
 use Rattle.osi_machine.specs.Machine.{connection_at, replaced, with_connection}
 use Rattle.osi_machine.specs.Tables.{Line, seen_from, ends_there, ended_lines, cut_channels}
@@ -16,9 +16,7 @@ replaced_other zero (suc r) (w ∷ ws) v n = refl
 replaced_other (suc k) (suc r) (w ∷ ws) v n = replaced_other k r ws v (λ e. n (ap suc e))
 
 pub with_other : {C : Type 0} → (k r : ℕ) (ws : List C) (v : C) → (k ≡ r → ⊥) → connection_at k (with_connection r v ws) ≡ connection_at k ws
-with_other zero (suc r) ws v n = refl
-with_other (suc k) (suc r) ws v n = replaced_other k r ws v (λ e. n (ap suc e))
-with_other _ zero ws v n = refl
+with_other k r ws v n = grind (arith, replaced_other)
 
 replaced_same : (r : ℕ) (ls : List Line) (l x : Line) → slice_get ls r ≡ Some l → slice_get (replaced r x ls) r ≡ Some x
 replaced_same r [] l x e = absurd (cc)
@@ -121,3 +119,30 @@ ended_count side keep k (l ∷ ls) = ap suc (ended_count side keep (k + 1) ls)
 pub cut_count : (left right : ℕ → ℕ) (k : ℕ) (ls : List Line) → length (cut_channels left right k ls) ≡ length ls
 cut_count left right k [] = refl
 cut_count left right k (l ∷ ls) = ap suc (cut_count left right (k + 1) ls)
+
+-- ---- what is true of each
+
+pub all_more : {C : Type 0} → (P : C → Type 0) (ws : List C) (w : C) → P w → AllByRecursion P ws → AllByRecursion P (ws ++ w ∷ [])
+all_more P [] w p h = (p, tt)
+all_more P (v ∷ ws) w p h = (h.0, all_more P ws w p h.1)
+
+pub all_replaced : {C : Type 0} → (P : C → Type 0) (r : ℕ) (w : C) (ws : List C) → P w → AllByRecursion P ws → AllByRecursion P (replaced r w ws)
+all_replaced P r w [] p h = tt
+all_replaced P zero w (v ∷ ws) p h = (p, h.1)
+all_replaced P (suc r) w (v ∷ ws) p h = (h.0, all_replaced P r w ws p h.1)
+
+pub all_with : {C : Type 0} → (P : C → Type 0) (r : ℕ) (w : C) (ws : List C) → P w → AllByRecursion P ws → AllByRecursion P (with_connection r w ws)
+all_with P zero w ws p h = h
+all_with P (suc r) w ws p h = all_replaced P r w ws p h
+
+pub some_same : {C : Type 0} → (x w : C) → Some x ≡ Some w → x ≡ w
+some_same x w e = cc
+
+pub all_got : {C : Type 0} → (P : C → Type 0) (r : ℕ) (ws : List C) (w : C) → slice_get ws r ≡ Some w → AllByRecursion P ws → P w
+all_got P r [] w e h = absurd (cc)
+all_got P zero (v ∷ ws) w e h = subst P (some_same v w e) h.0
+all_got P (suc r) (v ∷ ws) w e h = all_got P r ws w e h.1
+
+pub all_at : {C : Type 0} → (P : C → Type 0) (r : ℕ) (ws : List C) (w : C) → connection_at r ws ≡ Some w → AllByRecursion P ws → P w
+all_at P zero ws w e h = absurd (cc)
+all_at P (suc r) ws w e h = all_got P r ws w e h

@@ -1,38 +1,28 @@
 -- The call of Please keeps what is true of both sides.
 use Rattle.std.proofs.Common.{◌≡◌, refl, sym, ◌∙◌, ap, subst, ℕ, Bool, true, ◌&&◌, List, [], ◌∷◌, ◌++◌, Ok}
 use Rattle.std.specs.List.{list_any}
-use Rattle.osi_machine.specs.Floor.{State, Meaning, PT, Tokens, data_token, available, may_ask, is_within, is_restarting, Please, Granted, allowed}
+use Rattle.osi_machine.specs.Floor.{State, Meaning, PT, Tokens, data_token, available, may_ask, is_within, is_restarting, Please}
 use Rattle.osi_machine.specs.Histories.{Item, cutat, AreNumberedFrom}
 use Rattle.osi_machine.specs.Owners.{turned_owners}
-use Rattle.osi_machine.specs.Channels.{AllFit, heard, hears, heard_view, data_of, needs_token}
+use Rattle.osi_machine.specs.Channels.{AllFit, heard, hears, data_of, needs_token}
 use Rattle.osi_machine.specs.Core.{Party, Core, answered}
 use Rattle.osi_machine.specs.Parties.{AreConsistent}
 use Rattle.osi_machine.proofs.ChannelLaws.{fit_append, data_append}
-use Rattle.osi_machine.proofs.CoreLaws.{SessionLaws, answered_kept}
-use Rattle.osi_machine.proofs.Records.{flushed, Views, Pair, Stands}
+use Rattle.osi_machine.proofs.Records.{flushed, Views, Stands}
 use Rattle.osi_machine.proofs.Idle.{IsIdle, flush_idle, heard_idle, sending, own_half, peer_half, own_counts, peer_counts, please_fits, append_nil, view_idle, list_any_append}
 
 idle : (tokens : Tokens) (octets : List ℕ) → IsIdle (PT tokens octets)
 idle tokens octets s = refl
 
--- nothing is added to a history or to what was said
-same_end : (v h : List Item) → v ≡ h → v ++ [] ≡ h ++ []
-same_end v h e = ap (λ (r : List Item). r ++ []) e
-
 own_views : (h : List Item) (x y : Party) (m : Meaning) → Views h x y → Views (h ++ []) (sending x m (x.view ++ []) (x.said ++ [])) y
-own_views h x y m k = record {
-  ends = λ l. ap (heard_view x.session y.sent) (append_nil x.view) ∙ k.ends l ∙ sym (append_nil h);
-  cut = λ r. append_nil x.view ∙ k.cut r ∙ ap (λ (w : List Item). cutat x.session.base w x.session.numbers.next) (sym (append_nil h));
-  due = λ d. k.due d ∙ sym (append_nil h);
-  stream = λ d. ((k.stream d).0, append_nil h ∙ (k.stream d).1);
-}
+own_views h x y m k = search append_nil
 
 peer_views : (h : List Item) (x y : Party) (tokens : Tokens) (octets : List ℕ) → AllFit y.session x.sent → AllFit y.session (x.sent ++ PT tokens octets ∷ [])
     → Views h y x → Views (h ++ []) y (sending x (PT tokens octets) (x.view ++ []) (x.said ++ []))
 peer_views h x y tokens octets f more k = record {
   ends = λ l. view_idle (PT tokens octets) (λ s v. refl) y.session x.sent y.view f more ∙ k.ends (subst (λ (q : State). hears q.phase ≡ true) same l) ∙ sym (append_nil h);
   cut = λ r. k.cut (subst (λ (q : State). is_restarting q.phase ≡ true) same r) ∙ ap (λ (w : List Item). cutat y.session.base w y.session.numbers.next) (sym (append_nil h));
-  due = λ d. same_end x.view h (k.due d);
+  due = λ d. ap (λ (r : List Item). r ++ []) (k.due d);
   stream = λ d. streams (k.stream (ap (λ (q : State). q.units.duplex) (sym (flush_idle (PT tokens octets) (idle tokens octets) y.session x.sent)) ∙ d));
 }
   where
@@ -45,18 +35,10 @@ peer_views h x y tokens octets f more k = record {
       append_nil h ∙ old.1,
     )
 
-pair_kept : (h : List Item) (x y : Party) (tokens : Tokens) (octets : List ℕ) → Pair h x y → Pair (h ++ []) (sending x (PT tokens octets) (x.view ++ []) (x.said ++ [])) y
-pair_kept h x y tokens octets p = record {
-  numbered = subst (AreNumberedFrom (flushed x y).base) (sym (append_nil h)) p.numbered;
-  one_way = λ d. ap (λ (b : Bool). b && list_any (needs_token data_token) y.sent) (list_any_append (needs_token data_token) x.sent (PT tokens octets) refl) ∙ p.one_way d;
-  callers = p.callers;
-  profile = p.profile;
-}
-
-all_kept : (w : Core) (tokens : Tokens) (octets : List ℕ) → may_ask w.own.session.phase ≡ true → is_within tokens (available w.own.session.units) ≡ true → Stands w
+pub please_stands : (w : Core) (tokens : Tokens) (octets : List ℕ) → may_ask w.own.session.phase ≡ true → is_within tokens (available w.own.session.units) ≡ true → Stands w
     → AreConsistent (answered w (Please tokens octets) (Ok (record { next = w.own.session; sent = PT tokens octets })))
     → Stands (answered w (Please tokens octets) (Ok (record { next = w.own.session; sent = PT tokens octets })))
-all_kept w tokens octets asks within h c =
+please_stands w tokens octets asks within h c =
     let x = w.own in
     let y = w.peer in
     let m = PT tokens octets in
@@ -70,13 +52,10 @@ all_kept w tokens octets asks within h c =
       peer_views = peer_views w.history x y tokens octets h.peer.fits more h.peer_views;
       own_counts = own_counts x y m (x.view ++ []) (x.said ++ []) (idle tokens octets) h.peer.fits more h.own_counts;
       peer_counts = peer_counts x y m (x.view ++ []) (x.said ++ []) (idle tokens octets) h.peer.fits more h.peer_counts;
-      pair = pair_kept w.history x y tokens octets h.pair;
+      pair = record {
+        numbered = subst (AreNumberedFrom (flushed x y).base) (sym (append_nil w.history)) h.pair.numbered;
+        one_way = λ d. ap (λ (b : Bool). b && list_any (needs_token data_token) y.sent) (list_any_append (needs_token data_token) x.sent (PT tokens octets) refl) ∙ h.pair.one_way d;
+        callers = h.pair.callers;
+        profile = h.pair.profile;
+      };
     }
-
-pub please_stands : SessionLaws → (w : Core) (tokens : Tokens) (octets : List ℕ) (g : Granted) → allowed w.own.session (Please tokens octets) ≡ Ok g → Stands w
-    → Stands (answered w (Please tokens octets) (Ok g))
-please_stands laws w tokens octets g e h =
-    let q = laws.passed w.own.session (Please tokens octets) g e in
-    let c = answered_kept laws w (Please tokens octets) (Ok g) tt e h.consistent in
-    subst (λ (r : Granted). Stands (answered w (Please tokens octets) (Ok r))) (sym q.gives)
-    (all_kept w tokens octets q.phase q.needed.0 h (subst (λ (r : Granted). AreConsistent (answered w (Please tokens octets) (Ok r))) q.gives c))

@@ -1,29 +1,27 @@
 -- The calls of Minor and of Major keep what is true of both sides.
 use Rattle.std.proofs.Common.{◌≡◌, refl, sym, ◌∙◌, ap, subst, ℕ, ◌+◌, ◌==◌, ◌≤◌, ◌<◌, Bool, true, false, not, ◌&&◌, ◌||◌, nat_le, nat_lt, if◌then◌else◌, List, [], ◌∷◌, ◌++◌, ◌⊎◌, inl, inr, Ok, arith}
-use Rattle.std.proofs.lemmas.Bool.{and_parts, ltb-true, leb-true, lt-ltb, le-leb, eq-eqb, or_left}
+use Rattle.std.proofs.lemmas.Bool.{and_parts, ltb-true, leb-true, lt-ltb, le-leb, eq-eqb, or_left, and_from, not-true, not-false, and_right}
 use Rattle.std.specs.List.{list_any}
-use Rattle.osi_machine.specs.Floor.{State, Phase, Numbers, FunctionalUnits, Ready, MajorAsked, Meaning, CN, AC, RF, DT, GT, PT, MIP, MIA, MAP, MAA, RS, RA, FN, DN, NF, AB, AA, Token, data_token, minor, major, has, available, has_right, is_ready, is_major_asked, is_restarting, is_restart_due, may_ask, may_hold, takes_please, takes_minor_ack, takes_restart, lower, point_sent, point_taken, minor_confirmed, becomes, drops, next, Good, has_no_effect, passes_restarting, Minor, Major, Granted, allowed, after}
+use Rattle.osi_machine.specs.Floor.{State, Phase, Numbers, FunctionalUnits, Ready, MajorAsked, Meaning, DT, GT, PT, MIP, MIA, MAP, RS, FN, Token, data_token, minor, major, has, available, has_right, is_ready, is_major_asked, is_restarting, is_restart_due, may_ask, may_hold, takes_please, takes_minor_ack, takes_restart, lower, point_sent, point_taken, minor_confirmed, becomes, drops, next, Good, has_no_effect, passes_restarting, Minor, Major, after}
 use Rattle.osi_machine.specs.Histories.{Item, PointKind, Point, points, minor_kind, major_point, AreNumberedFrom}
 use Rattle.osi_machine.specs.Channels.{is_plain, heard_view, stops, needs_token}
 use Rattle.osi_machine.specs.Core.{Core, answered}
 use Rattle.osi_machine.specs.Parties.{is_opening, AreConsistent}
-use Rattle.osi_machine.proofs.PhaseLaws.{implied, excluded, implied_two}
+use Rattle.osi_machine.proofs.PhaseLaws.{implied, excluded, implied_two, by_either, by_test}
 use Rattle.osi_machine.proofs.Units.{next_dropped}
 use Rattle.osi_machine.proofs.ChannelLaws.{heard_flush}
 use Rattle.osi_machine.proofs.Tokens.{Holds, empty_has, united_has, nothing_to_see, heard_holds}
 use Rattle.osi_machine.proofs.Begun.{none_needs, flush_open, heard_open}
 use Rattle.osi_machine.proofs.Idle.{HasRight, right_of, other_lacks, end_units}
 use Rattle.osi_machine.proofs.DataCall.{none_owed}
-use Rattle.osi_machine.proofs.CoreLaws.{SessionLaws, answered_kept}
 use Rattle.osi_machine.proofs.Records.{flushed, hearing, matched, IsOfProfile, Stands}
 use Rattle.osi_machine.proofs.NumberLaws.{heard_sends}
 use Rattle.osi_machine.proofs.ViewLaws.{heard_counted, unseen, numbered_point}
 use Rattle.osi_machine.proofs.Shift.{Shift, listening_stands, none_never}
 use Rattle.osi_machine.proofs.ShiftCall.{Sending, sending_stands}
-use Rattle.osi_machine.proofs.ReleaseCall.{in_phase, good_in, is_ready_is, not_lacking}
-
-both : (a b : Bool) → a ≡ true → b ≡ true → (a && b) ≡ true
-both a b p q = rw (p, q) refl
+use Rattle.osi_machine.proofs.ReleaseCall.{in_phase, good_in, is_ready_is}
+use Rattle.osi_machine.proofs.Deaf.{not_both}
+use Rattle.osi_machine.proofs.CoreLaws.{IsGranted, granted}
 
 -- ---- what the call changes
 
@@ -48,39 +46,31 @@ still_acks : (p : Phase) (v : Numbers) (n : ℕ) → (not v.answers && (nat_le v
 still_acks p v n h =
     let a = and_parts (not v.answers) (nat_le v.confirmed n && nat_lt n v.next) h in
     let b = and_parts (nat_le v.confirmed n) (nat_lt n v.next) a.1 in
-    both (nat_le (if v.answers then v.next else v.confirmed) n) (if is_major_asked p then nat_lt (n + 1) (v.next + 1) else nat_lt n (v.next + 1))
-    (low v.answers a.0 b.0) (by (is_major_asked p) (ltb-true n v.next b.1))
-  where
-    low : (b : Bool) → not b ≡ true → nat_le v.confirmed n ≡ true → nat_le (if b then v.next else v.confirmed) n ≡ true
-    low true x y = absurd (cc)
-    low false x y = y
-
-    by : (b : Bool) → n < v.next → (if b then nat_lt (n + 1) (v.next + 1) else nat_lt n (v.next + 1)) ≡ true
-    by true l = lt-ltb (n + 1) (v.next + 1) (omega arith)
-    by false l = lt-ltb n (v.next + 1) (omega arith)
+    and_from (nat_le (if v.answers then v.next else v.confirmed) n) (if is_major_asked p then nat_lt (n + 1) (v.next + 1) else nat_lt n (v.next + 1))
+    (by_test v.answers
+    (λ e. let x = rw e at a.0 in let y : nat_le v.confirmed n ≡ true = b.0 in absurd (cc))
+    (λ e. rw e (let y : nat_le v.confirmed n ≡ true = b.0 in y))) (by_test (is_major_asked p)
+    (λ q. rw q (let l : n < v.next = (ltb-true n v.next b.1) in lt-ltb (n + 1) (v.next + 1) (omega arith)))
+    (λ q. rw q (let l : n < v.next = (ltb-true n v.next b.1) in lt-ltb n (v.next + 1) (omega arith))))
 
 still_below : (b n next : ℕ) → (nat_le b n && (false || nat_le n next)) ≡ true → (nat_le b n && nat_le n (next + 1)) ≡ true
 still_below b n next h =
     let a = and_parts (nat_le b n) (nat_le n next) h in
     let l = leb-true n next a.1 in
-    both (nat_le b n) (nat_le n (next + 1)) a.0 (le-leb n (next + 1) (omega arith))
-
-below_in : (p : Phase) (b n next : ℕ) → is_restarting p ≡ false → (nat_le b n && (false || nat_le n next)) ≡ true
-    → (nat_le b n && (is_restarting p || nat_le n (next + 1))) ≡ true
-below_in p b n next e h = ap (λ (r : Bool). nat_le b n && (r || nat_le n (next + 1))) e ∙ still_below b n next h
+    and_from (nat_le b n) (nat_le n (next + 1)) a.0 (le-leb n (next + 1) (omega arith))
 
 point_good : (p : Phase) → IsOpenPhase p → (s : State) (u : Meaning) → has s.held data_token ≡ true → is_plain u ≡ true → has_no_effect u ≡ false
     → Good (in_phase Ready s) u → Good (sent_in p s) u
 unfolding point_sent
-point_good p k s (DT o) d pl e g = absurd (not_lacking (has s.held data_token) g.met.0 d)
+point_good p k s (DT o) d pl e g = absurd (not_both (has s.held data_token) g.met.0 d)
 point_good p k s (GT j) d pl e g = record { expected = k.asks; met = g.met }
 point_good p k s (PT j o) d pl e g = record { expected = k.please; met = g.met }
-point_good p k s (MIP c n o) d pl e g = absurd (not_lacking (has s.held data_token) (and_parts (not (has s.held data_token)) (not (has s.held minor)) g.met.1.0).0 d)
+point_good p k s (MIP c n o) d pl e g = absurd (not_both (has s.held data_token) (and_parts (not (has s.held data_token)) (not (has s.held minor)) g.met.1.0).0 d)
 point_good p k s (MIA n o) d pl e g = record { expected = k.acks; met = (g.met.0, (still_acks p s.numbers n g.met.1.0, tt)) }
-point_good p k s (MAP n o) d pl e g = absurd (not_lacking (has s.held data_token) (and_parts (not (has s.held data_token)) (not (has s.held minor) && not (has s.held major)) g.met.1.0).0 d)
+point_good p k s (MAP n o) d pl e g = absurd (not_both (has s.held data_token) (and_parts (not (has s.held data_token)) (not (has s.held minor) && not (has s.held major)) g.met.1.0).0 d)
 point_good p k s (RS j n w o) d pl e g = record {
   expected = k.restart;
-  met = (g.met.0, (below_in p s.base n s.numbers.next (excluded may_hold is_restarting refl p k.holds) g.met.1.0, tt));
+  met = (g.met.0, (ap (λ (r : Bool). nat_le s.base n && (r || nat_le n (s.numbers.next + 1))) (excluded may_hold is_restarting refl p k.holds) ∙ still_below s.base n s.numbers.next g.met.1.0, tt));
 }
 point_good p k s (FN o) d pl e g = absurd (let a = empty_has s.held data_token g.met.0 in cc)
 point_good p k s _ d pl e g = absurd (let a = g.expected in cc)
@@ -89,26 +79,20 @@ point_good p k s _ d pl e g = absurd (let a = g.expected in cc)
 same_numbers : (v : Numbers) (n : ℕ) → v.answers ≡ false → minor_confirmed n (point_sent v) ≡ point_sent (minor_confirmed n v)
 unfolding point_sent minor_confirmed
 same_numbers v n e = ap (λ (b : Bool). record { next = v.next + 1; confirmed = if b then n + 1 else n + 1; lowest = v.lowest; answers = false }) (sym e)
-    ∙ ap (λ (c : ℕ). record { next = v.next + 1; confirmed = c; lowest = v.lowest; answers = false }) (by v.answers e)
-  where
-    by : (b : Bool) → b ≡ false → (if b then n + 1 else n + 1) ≡ (if b then v.next else n + 1)
-    by true h = absurd (cc)
-    by false h = refl
+    ∙ ap (λ (c : ℕ). record { next = v.next + 1; confirmed = c; lowest = v.lowest; answers = false }) (by_test v.answers
+    (λ q. let h = rw q at e in absurd (cc))
+    (λ q. rw q))
 
 point_step : (p : Phase) (s : State) (u : Meaning) → Speaks s → is_plain u ≡ true → Good (in_phase Ready s) u → stops s u ≡ false
     → (becomes (sent_in p s) u ≡ sent_in p (becomes s u)) × Speaks (becomes s u)
 point_step p s (DT o) i pl g st = (refl, i)
 point_step p s (GT j) i pl g st = (refl, record { phase = i.phase; held = united_has s.held j data_token ∙ or_left (has s.held data_token) (has j data_token) i.held })
 point_step p s (PT j o) i pl g st = (refl, i)
-point_step p s (MIP c n o) i pl g st = absurd (not_lacking (has s.held data_token) (and_parts (not (has s.held data_token)) (not (has s.held minor)) g.met.1.0).0 i.held)
+point_step p s (MIP c n o) i pl g st = absurd (not_both (has s.held data_token) (and_parts (not (has s.held data_token)) (not (has s.held minor)) g.met.1.0).0 i.held)
 point_step p s (MIA n o) i pl g st =
     let a = and_parts (not s.numbers.answers) (nat_le s.numbers.confirmed n && nat_lt n s.numbers.next) g.met.1.0 in
-    (ap (λ (v : Numbers). record s { phase = p; numbers = v }) (same_numbers s.numbers n (turn s.numbers.answers a.0)), record { phase = i.phase; held = i.held })
-  where
-    turn : (b : Bool) → not b ≡ true → b ≡ false
-    turn true h = absurd (cc)
-    turn false h = refl
-point_step p s (MAP n o) i pl g st = absurd (not_lacking (has s.held data_token) (and_parts (not (has s.held data_token)) (not (has s.held minor) && not (has s.held major)) g.met.1.0).0 i.held)
+    (ap (λ (v : Numbers). record s { phase = p; numbers = v }) (same_numbers s.numbers n (not-true s.numbers.answers a.0)), record { phase = i.phase; held = i.held })
+point_step p s (MAP n o) i pl g st = absurd (not_both (has s.held data_token) (and_parts (not (has s.held data_token)) (not (has s.held minor) && not (has s.held major)) g.met.1.0).0 i.held)
 point_step p s (RS j n w o) i pl g st = absurd (let t = listening_stands s n (ap is_restarting i.phase) in cc)
 point_step p s (FN o) i pl g st = absurd (let a = empty_has s.held data_token g.met.0 in let b = i.held in cc)
 point_step p s _ i pl g st = absurd (let a = g.expected in cc)
@@ -137,38 +121,21 @@ own_units w a h = end_units w.owner w.own w.peer h.own (excluded is_ready is_ope
 
 -- half-duplex, and so the data token is held
 is_half : (u : FunctionalUnits) → IsOfProfile u → (u.minor ≡ true) ⊎ (u.major ≡ true) → u.duplex ≡ false
-is_half u p k = by u.duplex refl
-  where
-    by : (b : Bool) → u.duplex ≡ b → b ≡ false
-    by false e = refl
-    by true e = absurd (let d = p.alone e in elim k [ inl m ↦ (let n = d.0 in cc) | inr m ↦ (let n = d.1 in cc) ])
+is_half u p k = by_test u.duplex (λ e. absurd (let d = p.alone e in elim k [ inl m ↦ (let n = d.0 in cc) | inr m ↦ (let n = d.1 in cc) ])) (λ e. e)
 
 has_data : (u : FunctionalUnits) → IsOfProfile u → u.duplex ≡ false → has (available u) data_token ≡ true
 unfolding available
-has_data u p d = turn u.half_duplex (sym p.duplex ∙ d)
-  where
-    turn : (b : Bool) → not b ≡ false → b ≡ true
-    turn true h = refl
-    turn false h = absurd (cc)
+has_data u p d = not-false u.half_duplex (sym p.duplex ∙ d)
 
 pub holds_data : (w : Core) → Points w → Stands w → has w.own.session.held data_token ≡ true
-holds_data w a h = by a.right
-  where
-    profile : IsOfProfile w.own.session.units
-    profile = subst IsOfProfile (own_units w a h) h.pair.profile
-
-    by : HasRight w.own.session data_token → has w.own.session.held data_token ≡ true
-    by (inl e) = e
-    by (inr e) = absurd (let f = has_data w.own.session.units profile (is_half w.own.session.units profile a.selected) in cc)
-
-speaks : (w : Core) → Points w → Stands w → Speaks w.own.session
-speaks w a h = record { phase = is_ready_is w.own.session.phase a.phase; held = holds_data w a h }
-
-listens : (w : Core) → Points w → is_restarting w.own.session.phase ≡ false
-listens w a = excluded is_ready is_restarting refl w.own.session.phase a.phase
+holds_data w a h =
+    let profile : IsOfProfile w.own.session.units = subst IsOfProfile (own_units w a h) h.pair.profile in
+    by_either a.right
+    (λ e. e)
+    (λ e. absurd (let f = has_data w.own.session.units profile (is_half w.own.session.units profile a.selected) in cc))
 
 owed : (w : Core) → Points w → Stands w → is_restart_due (flushed w.peer w.own).phase ≡ false
-owed w a h = none_owed w.owner w.own w.peer h.own (listens w a)
+owed w a h = none_owed w.owner w.own w.peer h.own (excluded is_ready is_restarting refl w.own.session.phase a.phase)
 
 holding : (w : Core) → Points w → Stands w → Holds data_token w.own.session
 holding w a h = record { held = holds_data w a h; phase = implied is_ready may_hold refl w.own.session.phase a.phase }
@@ -208,13 +175,10 @@ other_saw w h e l n =
 -- so each number up to V(M) of the history is below its own
 pub other_above : (w : Core) (n : ℕ) → Stands w → w.peer.session.base ≡ w.own.session.base ⊎ (is_opening w.peer.session.phase ≡ true) → points w.peer.view ≡ points w.history
     → w.own.session.base ≤ n → n < w.own.session.base + points w.history → n < w.peer.session.numbers.next
-other_above w n h b e from to = by b
-  where
-    by : w.peer.session.base ≡ w.own.session.base ⊎ (is_opening w.peer.session.phase ≡ true) → n < w.peer.session.numbers.next
-    by (inl q) = let c = h.consistent.peer.count in omega arith
-    by (inr q) =
-        let f = ap points (h.consistent.peer.fresh q).view in
-        absurd (omega arith)
+other_above w n h b e from to = by_either b
+    (λ q. let c = h.consistent.peer.count in omega arith)
+    (λ q. let f = ap points (h.consistent.peer.fresh q).view in
+    absurd (omega arith))
 
 -- ---- the lines on numbers
 
@@ -230,15 +194,9 @@ heard_there s m w d = by (has_no_effect m) (is_restarting s.phase) (passes_resta
 
 -- a side that hears after it heard before
 pub hears_there : (s : State) (m : Meaning) → passes_restarting m ≡ false → not (is_restarting (next s m).phase) ≡ true → is_restarting s.phase ≡ false
-hears_there s m w l = by (drops s m) refl
-  where
-    by : (b : Bool) → drops s m ≡ b → is_restarting s.phase ≡ false
-    by false d = heard_there s m w d
-    by true d = turn (is_restarting s.phase) (ap (λ (q : State). not (is_restarting q.phase)) (sym (next_dropped s m d)) ∙ l)
-      where
-        turn : (b : Bool) → not b ≡ true → b ≡ false
-        turn true h = absurd (cc)
-        turn false h = refl
+hears_there s m w l = by_test (drops s m)
+    (λ d. not-true (is_restarting s.phase) (ap (λ (q : State). not (is_restarting q.phase)) (sym (next_dropped s m d)) ∙ l))
+    (λ d. heard_there s m w d)
 
 ends_same : (w : Core) → Points w → Stands w → hearing w.peer w.own ≡ flushed w.peer w.own
 ends_same w a h = heard_flush w.peer.session w.own.sent h.peer.fits (owed w a h)
@@ -247,11 +205,9 @@ there_base : (w : Core) → Points w → Stands w → (flushed w.peer w.own).bas
 there_base w a h = sym h.own.meeting.base ∙ end_base w a h
 
 same_base : (w : Core) → Points w → Stands w → w.peer.session.base ≡ w.own.session.base ⊎ (is_opening w.peer.session.phase ≡ true)
-same_base w a h = by (is_opening w.peer.session.phase) refl
-  where
-    by : (b : Bool) → is_opening w.peer.session.phase ≡ b → w.peer.session.base ≡ w.own.session.base ⊎ (is_opening w.peer.session.phase ≡ true)
-    by true e = inr e
-    by false e = inl (sym (flush_open w.peer.session w.own.sent e h.peer.fits).base ∙ there_base w a h)
+same_base w a h = by_test (is_opening w.peer.session.phase)
+    (λ e. inr e)
+    (λ e. inl (sym (flush_open w.peer.session w.own.sent e h.peer.fits).base ∙ there_base w a h))
 
 -- the number of this side, just before a restart that stands
 heard_number : (w : Core) → Points w → Stands w → (hearing w.own w.peer).numbers.next ≡ w.own.session.base + points w.history
@@ -266,25 +222,19 @@ nothing_needed w a h = none_needs data_token w.own.session w.peer.sent (holding 
 
 -- where points were taken last here, none is under way there
 both_answer : (w : Core) → Points w → Stands w → (hearing w.own w.peer).numbers.answers ≡ true → (flushed w.peer w.own).numbers.answers ≡ false
-both_answer w a h t = by w.own.session.numbers.answers refl
-  where
-    by : (b : Bool) → w.own.session.numbers.answers ≡ b → (flushed w.peer w.own).numbers.answers ≡ false
-    by true e = ap (λ (q : State). q.numbers.answers) (sym (ends_same w a h)) ∙ h.own_counts.flag e
-    by false e = absurd (let n = heard_sends w.own.session w.peer.sent (nothing_needed w a h) e in cc)
+both_answer w a h t = by_test w.own.session.numbers.answers
+    (λ e. ap (λ (q : State). q.numbers.answers) (sym (ends_same w a h)) ∙ h.own_counts.flag e)
+    (λ e. absurd (let n = heard_sends w.own.session w.peer.sent (nothing_needed w a h) e in cc))
 
 pub point_below : (w : Core) (n : ℕ) → Points w → Stands w → is_restarting (flushed w.peer w.own).phase ≡ false → (hearing w.own w.peer).base ≤ n
     → n < (if (hearing w.own w.peer).numbers.answers then (hearing w.own w.peer).numbers.next else (hearing w.own w.peer).numbers.confirmed)
     → n < w.peer.session.numbers.next
-point_below w n a h l from to = by (hearing w.own w.peer).numbers.answers refl to
-  where
-    by : (b : Bool) → (hearing w.own w.peer).numbers.answers ≡ b
-        → n < (if b then (hearing w.own w.peer).numbers.next else (hearing w.own w.peer).numbers.confirmed) → n < w.peer.session.numbers.next
-    by false e k = h.own_counts.below (ap (λ (q : State). not (is_restarting q.phase)) (ends_same w a h) ∙ ap not l) n from k
-    by true e k =
-        let saw = other_saw w h (ends_same w a h) l (both_answer w a h e) in
-        other_above w n h (same_base w a h) saw
-        (subst (λ (b : ℕ). b ≤ n) (heard_open w.own.session w.peer.sent (excluded is_ready is_opening refl w.own.session.phase a.phase) h.own.fits).base from)
-        (subst (λ (m : ℕ). n < m) (heard_number w a h) k)
+point_below w n a h l from to = by_test (hearing w.own w.peer).numbers.answers
+    (λ e. let k = rw e at to in let saw = other_saw w h (ends_same w a h) l (both_answer w a h e) in
+    other_above w n h (same_base w a h) saw
+    (subst (λ (b : ℕ). b ≤ n) (heard_open w.own.session w.peer.sent (excluded is_ready is_opening refl w.own.session.phase a.phase) h.own.fits).base from)
+    (subst (λ (m : ℕ). n < m) (heard_number w a h) k))
+    (λ e. let k = rw e at to in h.own_counts.below (ap (λ (q : State). not (is_restarting q.phase)) (ends_same w a h) ∙ ap not l) n from k)
 
 pub point_reach : (w : Core) → Stands w → w.peer.session.numbers.answers ≡ true
     → lower w.peer.session.numbers.next (if (hearing w.own w.peer).numbers.answers then (hearing w.own w.peer).numbers.next else (hearing w.own w.peer).numbers.confirmed)
@@ -296,26 +246,21 @@ point_reach w h t =
 pub point_other_below : (w : Core) (m : Meaning) (n : ℕ) → Points w → Stands w → passes_restarting m ≡ false → ((s : State) → (becomes s m).numbers ≡ point_taken s.numbers)
     → (flushed w.peer w.own).base ≤ n → n < (next (flushed w.peer w.own) m).numbers.confirmed → n < w.own.session.numbers.next + 1
 unfolding point_taken
-point_other_below w m n a h waits taken from to = by (drops fy m) refl to
+point_other_below w m n a h waits taken from to = by_test (drops (flushed w.peer w.own) m)
+    (λ d. let k = rw d at to in was k)
+    (λ d. let k = rw d at to in acted (heard_there (flushed w.peer w.own) m waits d) (flushed w.peer w.own).numbers.answers (subst (λ (v : Numbers). n < v.confirmed) (taken (flushed w.peer w.own)) k))
   where
-    fy : State
-    fy = flushed w.peer w.own
-
-    was : n < fy.numbers.confirmed → n < w.own.session.numbers.next + 1
+    was : n < (flushed w.peer w.own).numbers.confirmed → n < w.own.session.numbers.next + 1
     was k =
         let l = h.peer_counts.below (heeds w a h) n (subst (λ (q : State). q.base ≤ n) (sym (ends_same w a h)) from) (subst (λ (q : State). n < q.numbers.confirmed) (sym (ends_same w a h)) k) in
         omega arith
 
-    acted : is_restarting fy.phase ≡ false → (b : Bool) → n < (if b then fy.numbers.confirmed else fy.numbers.next) → n < w.own.session.numbers.next + 1
+    acted : is_restarting (flushed w.peer w.own).phase ≡ false → (b : Bool) → n < (if b then (flushed w.peer w.own).numbers.confirmed else (flushed w.peer w.own).numbers.next) → n < w.own.session.numbers.next + 1
     acted l true k = was k
     acted l false k =
         let x = own_number w a h in
         let y = other_number w h (there_base w a h) (ends_same w a h) l in
         omega arith
-
-    by : (b : Bool) → drops fy m ≡ b → n < (if b then fy else becomes fy m).numbers.confirmed → n < w.own.session.numbers.next + 1
-    by true d k = was k
-    by false d k = acted (heard_there fy m waits d) fy.numbers.answers (subst (λ (v : Numbers). n < v.confirmed) (taken fy) k)
 
 pub point_sees : (w : Core) (more : List Item) → Points w → Stands w → heard_view w.own.session w.peer.sent (w.own.view ++ more) ≡ w.history ++ more
 point_sees w more a h =
@@ -332,28 +277,18 @@ point_numbered w k octets a h p =
 
 pub point_one_way : (w : Core) (m : Meaning) → Points w → Stands w
     → (list_any (needs_token data_token) (w.own.sent ++ m ∷ []) && list_any (needs_token data_token) w.peer.sent) ≡ false
-point_one_way w m a h = and_no (list_any (needs_token data_token) (w.own.sent ++ m ∷ [])) (list_any (needs_token data_token) w.peer.sent) (nothing_needed w a h)
-  where
-    and_no : (b c : Bool) → c ≡ false → (b && c) ≡ false
-    and_no true c e = e
-    and_no false c e = refl
+point_one_way w m a h = and_right (list_any (needs_token data_token) (w.own.sent ++ m ∷ [])) (list_any (needs_token data_token) w.peer.sent) (nothing_needed w a h)
 
 -- ---- the other takes it
 
 there_ready : (w : Core) → Stands w → (flushed w.own w.peer).phase ≡ Ready → is_ready (flushed w.peer w.own).phase ≡ true
 there_ready w h e = implied_two (λ p q. matched p q && is_ready p) (λ p q. is_ready q) refl (flushed w.own w.peer).phase (flushed w.peer w.own).phase
-    (both (matched (flushed w.own w.peer).phase (flushed w.peer w.own).phase) (is_ready (flushed w.own w.peer).phase) h.own.meeting.meets (ap is_ready e))
-
-there_units : (w : Core) → Points w → Stands w → (flushed w.peer w.own).units ≡ w.own.session.units
-there_units w a h = sym h.own.meeting.units ∙ own_units w a h
+    (and_from (matched (flushed w.own w.peer).phase (flushed w.peer w.own).phase) (is_ready (flushed w.own w.peer).phase) h.own.meeting.meets (ap is_ready e))
 
 there_lacks : (w : Core) (t : Token) → Points w → Stands w → HasRight w.own.session t → is_ready (flushed w.peer w.own).phase ≡ true → not (has (flushed w.peer w.own).held t) ≡ true
 there_lacks w t a h right r =
     ap not (other_lacks w.owner w.own w.peer t h.own h.peer (excluded is_ready is_opening refl w.own.session.phase a.phase) right (owed w a h)
     (implied is_ready may_hold refl (flushed w.peer w.own).phase r))
-
-there_number : (w : Core) → Points w → Stands w → is_restarting (flushed w.peer w.own).phase ≡ false → (w.own.session.numbers.next == (flushed w.peer w.own).numbers.next) ≡ true
-there_number w a h l = eq-eqb w.own.session.numbers.next (flushed w.peer w.own).numbers.next (own_number w a h ∙ sym (other_number w h (there_base w a h) (ends_same w a h) l))
 
 -- ---- Minor
 
@@ -364,24 +299,19 @@ minor_sending : (w : Core) (confirm : Bool) (octets : List ℕ) → Points w →
     → Sending w (point_shift Ready ready_open) (MIP confirm w.own.session.numbers.next octets) (Point w.own.session.numbers.next (minor_kind confirm) octets ∷ [])
 unfolding point_sent point_taken
 minor_sending w confirm octets a sel right h = record {
-  now = speaks w a h;
+  now = record { phase = is_ready_is w.own.session.phase a.phase; held = holds_data w a h };
   none = none_never w.peer.sent;
-  plain = refl;
-  effect = refl;
-  waits = refl;
-  quiet = λ s. refl;
-  keeps = λ s. record { units = refl; wishes = refl; held = refl; proposed = refl; base = refl; is_caller = refl };
+  unit = assumption;
   shows = λ s v. refl;
-  empty = refl;
   good = λ l i.
       let r = there_ready w h i.phase in
       record {
         expected = r;
         met = (
-          ap (λ (u : FunctionalUnits). u.minor) (there_units w a h) ∙ sel,
+          ap (λ (u : FunctionalUnits). u.minor) (sym h.own.meeting.units ∙ own_units w a h) ∙ sel,
           (
-            both (not (has (flushed w.peer w.own).held data_token)) (not (has (flushed w.peer w.own).held minor)) (there_lacks w data_token a h a.right r) (there_lacks w minor a h right r),
-            (there_number w a h l, tt),
+            and_from (not (has (flushed w.peer w.own).held data_token)) (not (has (flushed w.peer w.own).held minor)) (there_lacks w data_token a h a.right r) (there_lacks w minor a h right r),
+            (eq-eqb w.own.session.numbers.next (flushed w.peer w.own).numbers.next (own_number w a h ∙ sym (other_number w h (there_base w a h) (ends_same w a h) l)), tt),
           ),
         );
       };
@@ -404,20 +334,17 @@ minor_sending w confirm octets a sel right h = record {
 same_phase : (s : State) → s.phase ≡ Ready → after s (Minor false []) ≡ sent_in Ready s
 same_phase s e = λ i. record s { phase = e i; numbers = point_sent s.numbers }
 
-pub minor_stands : SessionLaws → (w : Core) (confirm : Bool) (octets : List ℕ) (g : Granted) → allowed w.own.session (Minor confirm octets) ≡ Ok g → Stands w
-    → Stands (answered w (Minor confirm octets) (Ok g))
-minor_stands laws w confirm octets g e h =
-    let q = laws.passed w.own.session (Minor confirm octets) g e in
-    let c = answered_kept laws w (Minor confirm octets) (Ok g) tt e h.consistent in
+pub minor_stands : (w : Core) (confirm : Bool) (octets : List ℕ) → IsGranted w (Minor confirm octets) → Stands w
+    → Stands (answered w (Minor confirm octets) (Ok (granted w.own.session (Minor confirm octets))))
+minor_stands w confirm octets q h =
     let p = and_parts (has_right w.own.session data_token) (has_right w.own.session minor) q.needed.1.0 in
     let a : Points w = record { phase = q.phase; selected = inl q.needed.0; right = right_of w.own.session data_token p.0 } in
+    let same = same_phase w.own.session (is_ready_is w.own.session.phase a.phase) in
     let m = MIP confirm w.own.session.numbers.next octets in
-    let gives : g ≡ record { next = sent_in Ready w.own.session; sent = MIP confirm w.own.session.numbers.next octets } =
-    q.gives ∙ ap (λ (s : State). record { next = s; sent = MIP confirm w.own.session.numbers.next octets }) (same_phase w.own.session (is_ready_is w.own.session.phase a.phase)) in
-    subst (λ (r : Granted). Stands (answered w (Minor confirm octets) (Ok r))) (sym gives)
-    (sending_stands w (point_shift Ready ready_open) (MIP confirm w.own.session.numbers.next octets) (Point w.own.session.numbers.next (minor_kind confirm) octets ∷ [])
+    subst (λ (s : State). Stands (answered w (Minor confirm octets) (Ok (record { next = s; sent = m })))) (sym same)
+    (sending_stands w (point_shift Ready ready_open) m (Point w.own.session.numbers.next (minor_kind confirm) octets ∷ [])
     (minor_sending w confirm octets a q.needed.0 (right_of w.own.session minor p.1) h) h
-    (subst (λ (r : Granted). AreConsistent (answered w (Minor confirm octets) (Ok r))) gives c))
+    (subst (λ (s : State). AreConsistent (answered w (Minor confirm octets) (Ok (record { next = s; sent = m })))) same q.kept))
 
 -- ---- Major
 
@@ -428,25 +355,20 @@ major_sending : (w : Core) (octets : List ℕ) → Points w → w.own.session.un
     → Sending w (point_shift MajorAsked asked_open) (MAP w.own.session.numbers.next octets) (Point w.own.session.numbers.next major_point octets ∷ [])
 unfolding point_sent point_taken
 major_sending w octets a sel right right' h = record {
-  now = speaks w a h;
+  now = record { phase = is_ready_is w.own.session.phase a.phase; held = holds_data w a h };
   none = none_never w.peer.sent;
-  plain = refl;
-  effect = refl;
-  waits = refl;
-  quiet = λ s. refl;
-  keeps = λ s. record { units = refl; wishes = refl; held = refl; proposed = refl; base = refl; is_caller = refl };
+  unit = assumption;
   shows = λ s v. refl;
-  empty = refl;
   good = λ l i.
       let r = there_ready w h i.phase in
       record {
         expected = r;
         met = (
-          ap (λ (u : FunctionalUnits). u.major) (there_units w a h) ∙ sel,
+          ap (λ (u : FunctionalUnits). u.major) (sym h.own.meeting.units ∙ own_units w a h) ∙ sel,
           (
-            both (not (has (flushed w.peer w.own).held data_token)) (not (has (flushed w.peer w.own).held minor) && not (has (flushed w.peer w.own).held major)) (there_lacks w data_token a h a.right r)
-                (both (not (has (flushed w.peer w.own).held minor)) (not (has (flushed w.peer w.own).held major)) (there_lacks w minor a h right r) (there_lacks w major a h right' r)),
-            (there_number w a h l, tt),
+            and_from (not (has (flushed w.peer w.own).held data_token)) (not (has (flushed w.peer w.own).held minor) && not (has (flushed w.peer w.own).held major)) (there_lacks w data_token a h a.right r)
+                (and_from (not (has (flushed w.peer w.own).held minor)) (not (has (flushed w.peer w.own).held major)) (there_lacks w minor a h right r) (there_lacks w major a h right' r)),
+            (eq-eqb w.own.session.numbers.next (flushed w.peer w.own).numbers.next (own_number w a h ∙ sym (other_number w h (there_base w a h) (ends_same w a h) l)), tt),
           ),
         );
       };
@@ -465,15 +387,10 @@ major_sending w octets a sel right right' h = record {
   one_way = λ d. point_one_way w (MAP w.own.session.numbers.next octets) a h;
 }
 
-pub major_stands : SessionLaws → (w : Core) (octets : List ℕ) (g : Granted) → allowed w.own.session (Major octets) ≡ Ok g → Stands w
-    → Stands (answered w (Major octets) (Ok g))
-major_stands laws w octets g e h =
-    let q = laws.passed w.own.session (Major octets) g e in
-    let c = answered_kept laws w (Major octets) (Ok g) tt e h.consistent in
+pub major_stands : (w : Core) (octets : List ℕ) → IsGranted w (Major octets) → Stands w → Stands (answered w (Major octets) (Ok (granted w.own.session (Major octets))))
+major_stands w octets q h =
     let p = and_parts (has_right w.own.session data_token) (has_right w.own.session minor && has_right w.own.session major) q.needed.1.0 in
     let r = and_parts (has_right w.own.session minor) (has_right w.own.session major) p.1 in
     let a : Points w = record { phase = q.phase; selected = inr q.needed.0; right = right_of w.own.session data_token p.0 } in
-    subst (λ (r : Granted). Stands (answered w (Major octets) (Ok r))) (sym q.gives)
-    (sending_stands w (point_shift MajorAsked asked_open) (MAP w.own.session.numbers.next octets) (Point w.own.session.numbers.next major_point octets ∷ [])
-    (major_sending w octets a q.needed.0 (right_of w.own.session minor r.0) (right_of w.own.session major r.1) h) h
-    (subst (λ (r : Granted). AreConsistent (answered w (Major octets) (Ok r))) q.gives c))
+    sending_stands w (point_shift MajorAsked asked_open) (MAP w.own.session.numbers.next octets) (Point w.own.session.numbers.next major_point octets ∷ [])
+    (major_sending w octets a q.needed.0 (right_of w.own.session minor r.0) (right_of w.own.session major r.1) h) h q.kept

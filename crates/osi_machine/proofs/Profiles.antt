@@ -1,5 +1,5 @@
 -- The units that an AC selects.
-use Rattle.std.proofs.Common.{◌≡◌, refl, sym, ◌∙◌, ap, subst, ℕ, ◌==◌, Bool, true, false, not, ◌&&◌, ◌||◌, if◌then◌else◌, Some, None, unwrap_or, arith}
+use Rattle.std.proofs.Common.{◌≡◌, refl, sym, ◌∙◌, ap, subst, ℕ, ◌==◌, Bool, true, false, not, ◌&&◌, ◌||◌, if◌then◌else◌, arith}
 use Rattle.std.proofs.lemmas.Bool.{eqb-true, and_parts}
 use Rattle.std.proofs.lemmas.Nat.{and_assoc, and_le_r}
 use Rattle.std.specs.Int.RustNames.{bit_and}
@@ -7,6 +7,7 @@ use Rattle.osi_message.specs.Reading.{names}
 use Rattle.osi_machine.specs.Floor.{FunctionalUnits, functional_units, both_units, units_within, has_data, has_points, is_profile, base_for, serial_for}
 use Rattle.osi_session.specs.Respond.{agreed_base}
 use Rattle.osi_machine.proofs.Records.{IsOfProfile}
+use Rattle.osi_machine.proofs.PhaseLaws.{cut_or, by_test}
 
 -- ---- the profile
 
@@ -20,45 +21,29 @@ no_duplex bits e =
 
 pub profile_of : (bits : ℕ) → is_profile bits ≡ true → IsOfProfile (functional_units bits)
 unfolding is_profile
-profile_of bits h = by (bits == 2) refl h
-  where
-    alone : IsOfProfile (functional_units 2)
-    alone = record { duplex = refl; alone = λ d. (refl, refl, refl, refl) }
-
-    by : (b : Bool) → (bits == 2) ≡ b → (b || ((bit_and bits 185 == bits) && names bits 1)) ≡ true → IsOfProfile (functional_units bits)
-    by true e k = subst (λ (n : ℕ). IsOfProfile (functional_units n)) (sym (eqb-true bits 2 e)) alone
-    by false e k =
-        let p = and_parts (bit_and bits 185 == bits) (names bits 1) k in
-        let half = p.1 in
-        let none = no_duplex bits (eqb-true (bit_and bits 185) bits p.0) in
-        record { duplex = none ∙ sym (ap not half); alone = λ d. absurd (cc) }
+profile_of bits h =
+    let alone : IsOfProfile (functional_units 2) = record { duplex = refl; alone = λ d. (refl, refl, refl, refl) } in
+    by_test (bits == 2)
+    (λ e. subst (λ (n : ℕ). IsOfProfile (functional_units n)) (sym (eqb-true bits 2 e)) alone)
+    (λ e. let k = rw e at h in let p = and_parts (bit_and bits 185 == bits) (names bits 1) k in
+    let half = p.1 in
+    let none = no_duplex bits (eqb-true (bit_and bits 185) bits p.0) in
+    record { duplex = none ∙ sym (ap not half); alone = λ d. absurd (cc) })
 
 pub profile_data : (u : FunctionalUnits) → IsOfProfile u → has_data u ≡ true
 unfolding has_data
-profile_data u p = ap (λ (b : Bool). u.half_duplex || b) p.duplex ∙ by u.half_duplex
-  where
-    by : (b : Bool) → (b || not b) ≡ true
-    by true = refl
-    by false = refl
-
--- ---- units that were asked for
-
-within_part : (a b : Bool) → (not a || b) ≡ true → a ≡ true → b ≡ true
-within_part true b h k = h
-within_part false b h k = absurd (cc)
+profile_data u p = ap (λ (b : Bool). u.half_duplex || b) p.duplex ∙ by_test u.half_duplex (λ e. rw e) (λ e. rw e)
 
 pub within_duplex : (a b : FunctionalUnits) → units_within a b ≡ true → a.duplex ≡ true → b.duplex ≡ true
 unfolding units_within
-within_duplex a b h = within_part a.duplex b.duplex (and_parts _ _ (and_parts (not a.half_duplex || b.half_duplex) _ h).1).0
+within_duplex a b h = cut_or a.duplex b.duplex (and_parts _ _ (and_parts (not a.half_duplex || b.half_duplex) _ h).1).0
 
 pub within_half : (a b : FunctionalUnits) → units_within a b ≡ true → a.half_duplex ≡ true → b.half_duplex ≡ true
 unfolding units_within
-within_half a b h = within_part a.half_duplex b.half_duplex (and_parts (not a.half_duplex || b.half_duplex) _ h).0
+within_half a b h = cut_or a.half_duplex b.half_duplex (and_parts (not a.half_duplex || b.half_duplex) _ h).0
 
 part_both : (a b : Bool) → (not a || b) ≡ true → (b && a) ≡ a
-part_both true false h = absurd (cc)
-part_both false false h = refl
-part_both _ true h = refl
+part_both a b h = grind arith
 
 -- what both name is what was selected
 pub within_both : (a b : FunctionalUnits) → units_within a b ≡ true → both_units b a ≡ a
@@ -81,8 +66,4 @@ within_both a b h =
 -- ---- the first number
 
 pub same_first : (u : FunctionalUnits) (serial proposed : ℕ) → agreed_base u (serial_for u serial) proposed ≡ base_for u serial
-same_first u serial proposed = by (has_points u)
-  where
-    by : (b : Bool) → (if b then unwrap_or (if b then Some serial else None) proposed else 0) ≡ (if b then serial else 0)
-    by true = refl
-    by false = refl
+same_first u serial proposed = by_test (has_points u) (λ e. rw e) (λ e. rw e)

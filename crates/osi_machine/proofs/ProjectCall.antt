@@ -3,18 +3,19 @@ use Rattle.std.proofs.Common.{◌≡◌, refl, sym, ◌∙◌, ap, subst, ℕ, �
 use Rattle.std.proofs.lemmas.List.{length-append, map-append}
 use Rattle.std.specs.List.{list_any}
 use Rattle.osi_session.specs.Allowed.{Passed}
-use Rattle.osi_machine.specs.Floor.{State, Meaning, Token, has, is_over, Call, Accept, Refuse, Give, Major, MajorConfirm, Restart, RestartConfirm, Release, ReleaseAccept, ReleaseRefuse, Abort, Granted, allowed, after, sends, may_call, Numbers}
+use Rattle.osi_machine.specs.Floor.{State, Meaning, Token, has, is_over, Call, Accept, Give, Restart, RestartConfirm, Granted, allowed, after, sends, may_call, Numbers}
 use Rattle.osi_machine.specs.Histories.{Item, cutat}
-use Rattle.osi_machine.specs.Owners.{Owner, Own, Theirs, ToOwn, ToThem, Pool, Absent, Owners, is_own, turned_owner, given_up, own_to_pool, left_by}
+use Rattle.osi_machine.specs.Owners.{Owner, Own, Owners, is_own, turned_owner, given_up, own_to_pool, left_by}
 use Rattle.osi_machine.specs.Channels.{is_plain}
-use Rattle.osi_machine.specs.Core.{Core, turned, stays_in_core, says, speaks, view_called, owners_called, answered}
-use Rattle.osi_machine.specs.Worlds.{Message, unit, Kept, World, put, mark_called, after_call, turned as turned_world}
-use Rattle.osi_machine.proofs.CoreLaws.{SessionLaws}
+use Rattle.osi_machine.specs.Core.{Core, stays_in_core, says, speaks, view_called, owners_called, answered}
+use Rattle.osi_machine.specs.Worlds.{Message, unit, Kept, World, put, mark_called, after_call}
+use Rattle.osi_machine.proofs.CoreLaws.{SessionLaws, granted}
 use Rattle.osi_machine.proofs.Records.{Stands}
 use Rattle.osi_machine.proofs.Idle.{append_nil}
 use Rattle.osi_machine.proofs.Promises.{sees_the_history}
 use Rattle.osi_machine.proofs.RestartCall.{same_cut, in_range, given_theirs}
-use Rattle.osi_machine.proofs.Projects.{stopped, parts, IsLast, IsTail, Carried, OneSide, Projects, over_side}
+use Rattle.osi_machine.proofs.Projects.{stopped, parts, IsLast, IsTail, Carried, OneSide, Projects, one_over}
+use Rattle.osi_machine.proofs.PhaseLaws.{by_either, by_test}
 
 -- ---- channels
 
@@ -24,12 +25,7 @@ any_append p (x ∷ ms) m h = ap (λ (b : Bool). p x || b) (any_append p ms m h)
 
 -- where the sender is not over, no last unit is under way
 pub none_last : (s : State) (lost tail : List Meaning) → IsTail false s lost tail → tail ≡ []
-none_last s lost [] h = refl
-none_last s lost (u ∷ []) h = absurd (let e = h.0 in cc)
-none_last s lost (u ∷ v ∷ us) h = absurd (h)
-
-all_there : (there lost sent : List Meaning) → there ++ lost ≡ sent → lost ≡ [] → there ≡ sent
-all_there there lost sent e n = sym (append_nil there) ∙ ap (λ (r : List Meaning). there ++ r) (sym n) ∙ e
+none_last s lost tail h = grind arith
 
 -- one unit more
 pub carried_more : (broken : Bool) (channel : List Message) (sent : List Meaning) (s r : State) (m : Meaning) → Carried broken false channel sent s
@@ -49,15 +45,11 @@ carried_more false channel sent s r m h = record {
   tail = [];
   splits = append_nil (sent ++ m ∷ []);
   carries = ap (λ (ms : List Message). ms ++ unit m ∷ []) (h.carries ∙ ap (λ (us : List Meaning). map unit (h.there ++ us)) (none_last s h.lost h.tail h.last)
-      ∙ ap (map unit) (append_nil h.there ∙ all_there h.there h.lost sent h.splits (nothing_lost h.whole)))
+      ∙ ap (map unit) (append_nil h.there ∙ sym (append_nil h.there) ∙ ap (λ (r : List Meaning). h.there ++ r) (sym (by_either h.whole (λ e. e) (λ e. absurd (cc)))) ∙ h.splits))
       ∙ sym (map-append unit sent (m ∷ [])) ∙ ap (map unit) (sym (append_nil (sent ++ m ∷ [])));
   whole = inl refl;
   last = tt;
 }
-  where
-    nothing_lost : (h.lost ≡ []) ⊎ (false ≡ true) → h.lost ≡ []
-    nothing_lost (inl e) = e
-    nothing_lost (inr e) = absurd (cc)
 
 -- the last unit of a side
 pub carried_last : (broken : Bool) (channel : List Message) (sent : List Meaning) (s : State) (m : Meaning) → IsLast s m → Carried broken false channel sent s
@@ -77,15 +69,11 @@ carried_last false channel sent s m k h = record {
   tail = m ∷ [];
   splits = append_nil sent;
   carries = ap (λ (ms : List Message). ms ++ unit m ∷ []) (h.carries ∙ ap (λ (us : List Meaning). map unit (h.there ++ us)) (none_last s h.lost h.tail h.last)
-      ∙ ap (map unit) (append_nil h.there ∙ all_there h.there h.lost sent h.splits (nothing_lost h.whole)))
+      ∙ ap (map unit) (append_nil h.there ∙ sym (append_nil h.there) ∙ ap (λ (r : List Meaning). h.there ++ r) (sym (by_either h.whole (λ e. e) (λ e. absurd (cc)))) ∙ h.splits))
       ∙ sym (map-append unit sent (m ∷ []));
   whole = inl refl;
   last = (refl, refl, k);
 }
-  where
-    nothing_lost : (h.lost ≡ []) ⊎ (false ≡ true) → h.lost ≡ []
-    nothing_lost (inl e) = e
-    nothing_lost (inr e) = absurd (cc)
 
 -- ---- owners
 
@@ -93,22 +81,14 @@ pub left_lives : (s : State) (o : Owners) → is_over s.phase ≡ false → left
 left_lives s o e = ap (λ (b : Bool). if b then given_up o else o) e
 
 pub left_theirs : (s : State) (o : Owners) (t : Token) → is_own (turned_owner (left_by s o t)) ≡ is_own (turned_owner (o t))
-left_theirs s o t = by (is_over s.phase)
-  where
-    by : (b : Bool) → is_own (turned_owner ((if b then given_up o else o) t)) ≡ is_own (turned_owner (o t))
-    by true = sym (given_theirs (o t))
-    by false = refl
+left_theirs s o t = by_test (is_over s.phase) (λ e. rw e (sym (given_theirs (o t)))) (λ e. rw e)
 
 pub own_gone : (p : Owner) → is_own (own_to_pool p) ≡ false
 own_gone Own = refl
 own_gone _ = refl
 
 owns_called : (s : State) (c : Call) (o p : Owners) (t : Token) → is_own (o t) ≡ is_own (p t) → is_own (owners_called s c o t) ≡ is_own (owners_called s c p t)
-owns_called s (Give k) o p t e = by (has k t)
-  where
-    by : (b : Bool) → is_own (if b then ToThem else o t) ≡ is_own (if b then ToThem else p t)
-    by true = refl
-    by false = e
+owns_called s (Give k) o p t e = by_test (has k t) (λ q. rw q) (λ q. rw q e)
 owns_called s (Accept u n a z x) o p t e = refl
 owns_called s (RestartConfirm a x) o p t e = refl
 owns_called s (Restart n x y) o p t e = own_gone (o t) ∙ sym (own_gone (p t))
@@ -116,11 +96,7 @@ owns_called s _ o p t e = e
 
 theirs_called : (s : State) (c : Call) (o p : Owners) (t : Token) → is_own (turned_owner (o t)) ≡ is_own (turned_owner (p t))
     → is_own (turned_owner (owners_called s c o t)) ≡ is_own (turned_owner (owners_called s c p t))
-theirs_called s (Give k) o p t e = by (has k t)
-  where
-    by : (b : Bool) → is_own (turned_owner (if b then ToThem else o t)) ≡ is_own (turned_owner (if b then ToThem else p t))
-    by true = refl
-    by false = e
+theirs_called s (Give k) o p t e = by_test (has k t) (λ q. rw q) (λ q. rw q e)
 theirs_called s (Accept u n a z x) o p t e = refl
 theirs_called s (RestartConfirm a x) o p t e = refl
 theirs_called s (Restart n x y) o p t e = sym (given_theirs (o t)) ∙ e ∙ given_theirs (p t)
@@ -129,26 +105,10 @@ theirs_called s _ o p t e = e
 -- ---- a call that the core makes too
 
 call_lives : (s : State) (c : Call) → stays_in_core c ≡ true → is_over s.phase ≡ false → is_over (after s c).phase ≡ false
-call_lives s (Accept u n a z o) k l = refl
-call_lives s (Refuse o) k l = absurd (cc)
-call_lives s (Major o) k l = refl
-call_lives s (MajorConfirm o) k l = refl
-call_lives s (Restart n x o) k l = refl
-call_lives s (RestartConfirm a o) k l = refl
-call_lives s (Release o) k l = refl
-call_lives s (ReleaseAccept o) k l = absurd (cc)
-call_lives s (ReleaseRefuse o) k l = refl
-call_lives s (Abort o) k l = absurd (cc)
-call_lives s _ k l = l
+call_lives s c k l = grind arith
 
 call_plain : (s : State) (c : Call) → stays_in_core c ≡ true → is_plain (sends s c) ≡ true
-call_plain s (Refuse o) k = absurd (cc)
-call_plain s (ReleaseAccept o) k = absurd (cc)
-call_plain s (Abort o) k = absurd (cc)
-call_plain s _ k = refl
-
-mark_more : (mark : ℕ) (v said : List Item) → mark ≡ length v → mark + length said ≡ length (v ++ said)
-mark_more mark v said e = ap (λ (n : ℕ). n + length said) e ∙ sym (length-append v said)
+call_plain s c k = grind arith
 
 marked : (c : Core) (x : Call) (h : List Item) (mark : ℕ) → Stands c → Passed c.own.session x (record { next = after c.own.session x; sent = sends c.own.session x })
     → h ≡ c.history → mark ≡ length c.own.view → mark_called c.own.session x h mark ≡ length (view_called c.own.session x c.own.view)
@@ -157,10 +117,7 @@ marked c (Restart n x o) h mark s p e m =
     let le = subst (λ (k : ℕ). n ≤ k) s.consistent.own.count range.1 in
     ap (λ (g : List Item). length (cutat c.own.session.base g n)) e
     ∙ ap length (sym (same_cut c.own.session.base n c.own.view c.history (sees_the_history c s) le))
-marked c x h mark s p e m = mark_more mark c.own.view (says c.own.session x) m
-
-abbrev granted : State → Call → Granted
-granted s c = record { next = after s c; sent = sends s c }
+marked c x h mark s p e m = ap (λ (n : ℕ). n + length (says c.own.session x)) m ∙ sym (length-append c.own.view (says c.own.session x))
 
 called_own : (broken : Bool) (w : World) (c : Core) (x : Call) → stays_in_core x ≡ true → stopped w.own ≡ false → Projects broken w c → Stands c
     → Passed c.own.session x (granted c.own.session x)
@@ -189,31 +146,6 @@ called_own broken w c x k lives p s q =
     parted true e = e
     parted false e = any_append parts w.own.channel (unit (sends c.own.session x)) (ap not (call_plain c.own.session x k)) ∙ e
 
-called_peer : (broken : Bool) (w : World) (c : Core) (x : Call) → stays_in_core x ≡ true → stopped w.own ≡ false → Projects broken w c
-    → OneSide broken (turned_world (after_call broken c.own.session x (granted c.own.session x) w)) (turned (answered c x (Ok (granted c.own.session x))))
-called_peer broken w c x k lives p =
-    let s' = c.own.session in
-    let own = p.own.alike lives in
-    let now = call_lives s' x k (ap (λ (r : Kept). is_over r.phase) (sym own.kept) ∙ lives) in
-    record {
-      begun = p.peer.begun;
-      counted = p.peer.counted;
-      alike = λ l.
-          let a = p.peer.alike l in
-          record {
-            transport = a.transport;
-            kept = a.kept;
-            mark = a.mark;
-            said = a.said;
-            got = a.got;
-            owns = λ t. left_theirs (after s' x) (owners_called (after s' x) x w.owner) t ∙ theirs_called (after s' x) x w.owner c.owner t (a.owns t);
-          };
-      carried = λ l. subst (λ (b : Bool). Carried broken b (put broken (unit (sends s' x) ∷ []) w.own.channel) (c.own.sent ++ sends s' x ∷ []) (after s' x)) (sym now)
-          (carried_more broken w.own.channel c.own.sent s' (after s' x) (sends s' x)
-          (subst (λ (b : Bool). Carried broken b w.own.channel c.own.sent s') lives (p.peer.carried l)));
-      parted = p.peer.parted;
-    }
-
 pub call_projects : SessionLaws → (broken : Bool) (w : World) (c : Core) (x : Call) (g : Granted) → stays_in_core x ≡ true → stopped w.own ≡ false → Projects broken w c → Stands c
     → allowed c.own.session x ≡ Ok g → Projects broken (after_call broken c.own.session x g w) (answered c x (Ok g))
 call_projects laws broken w c x g k lives p s e =
@@ -222,52 +154,49 @@ call_projects laws broken w c x g k lives p s e =
     subst (λ (r : Granted). Projects broken (after_call broken c.own.session x r w) (answered c x (Ok r))) (sym q.gives) (record {
       history = ap (λ (h : List Item). h ++ says c.own.session x) p.history;
       own = called_own broken w c x k lives p s same;
-      peer = called_peer broken w c x k lives p;
+      peer =
+          let s' = c.own.session in
+          let own = p.own.alike lives in
+          let now = call_lives s' x k (ap (λ (r : Kept). is_over r.phase) (sym own.kept) ∙ lives) in
+          record {
+            begun = p.peer.begun;
+            counted = p.peer.counted;
+            alike = λ l.
+                let a = p.peer.alike l in
+                record {
+                  transport = a.transport;
+                  kept = a.kept;
+                  mark = a.mark;
+                  said = a.said;
+                  got = a.got;
+                  owns = λ t. left_theirs (after s' x) (owners_called (after s' x) x w.owner) t ∙ theirs_called (after s' x) x w.owner c.owner t (a.owns t);
+                };
+            carried = λ l. subst (λ (b : Bool). Carried broken b (put broken (unit (sends s' x) ∷ []) w.own.channel) (c.own.sent ++ sends s' x ∷ []) (after s' x)) (sym now)
+                (carried_more broken w.own.channel c.own.sent s' (after s' x) (sends s' x)
+                (subst (λ (b : Bool). Carried broken b w.own.channel c.own.sent s') lives (p.peer.carried l)));
+            parted = p.peer.parted;
+          };
     })
 
 -- ---- a call after which a side is over
 
-stop_over : (s : State) (c : Call) → stays_in_core c ≡ false → is_over (after s c).phase ≡ true
-stop_over s (Refuse o) k = refl
-stop_over s (ReleaseAccept o) k = refl
-stop_over s (Abort o) k = refl
-stop_over s _ k = absurd (cc)
+pub stop_over : (s : State) (c : Call) → stays_in_core c ≡ false → is_over (after s c).phase ≡ true
+stop_over s c k = grind arith
 
 stop_last : (s : State) (c : Call) → stays_in_core c ≡ false → may_call s.phase c ≡ true → IsLast s (sends s c)
-stop_last s (Refuse o) k m = m
-stop_last s (ReleaseAccept o) k m = m
-stop_last s (Abort o) k m = refl
-stop_last s _ k m = absurd (cc)
+stop_last s c k m = grind arith
 
 stop_silent : (s : State) (c : Call) → stays_in_core c ≡ false → says s c ≡ []
-stop_silent s (Refuse o) k = refl
-stop_silent s (ReleaseAccept o) k = refl
-stop_silent s (Abort o) k = refl
-stop_silent s _ k = absurd (cc)
+stop_silent s c k = grind arith
 
 stop_owners : (s : State) (c : Call) (o : Owners) → stays_in_core c ≡ false → owners_called s c o ≡ o
-stop_owners s (Refuse x) o k = refl
-stop_owners s (ReleaseAccept x) o k = refl
-stop_owners s (Abort x) o k = refl
-stop_owners s _ o k = absurd (cc)
+stop_owners s c o k = grind arith
 
 stop_numbers : (s : State) (c : Call) → stays_in_core c ≡ false → (after s c).numbers ≡ s.numbers
-stop_numbers s (Refuse x) k = refl
-stop_numbers s (ReleaseAccept x) k = refl
-stop_numbers s (Abort x) k = refl
-stop_numbers s _ k = absurd (cc)
-
-stop_base : (s : State) (c : Call) → stays_in_core c ≡ false → (after s c).base ≡ s.base
-stop_base s (Refuse x) k = refl
-stop_base s (ReleaseAccept x) k = refl
-stop_base s (Abort x) k = refl
-stop_base s _ k = absurd (cc)
+stop_numbers s c k = grind arith
 
 stop_mark : (s : State) (c : Call) (h : List Item) (mark : ℕ) → stays_in_core c ≡ false → mark_called s c h mark ≡ mark
-stop_mark s (Refuse x) h mark k = omega arith
-stop_mark s (ReleaseAccept x) h mark k = omega arith
-stop_mark s (Abort x) h mark k = omega arith
-stop_mark s _ h mark k = absurd (cc)
+stop_mark s c h mark k = grind arith
 
 pub stop_projects : SessionLaws → (broken : Bool) (w : World) (c : Core) (x : Call) (g : Granted) → stays_in_core x ≡ false → stopped w.own ≡ false → Projects broken w c
     → allowed c.own.session x ≡ Ok g → Projects broken (after_call broken c.own.session x g w) c
@@ -277,9 +206,9 @@ stop_projects laws broken w c x g k lives p e =
     let now = stop_over s' x k in
     subst (λ (r : Granted). Projects broken (after_call broken s' x r w) c) (sym q.gives) (record {
       history = ap (λ (d : List Item). w.history ++ d) (stop_silent s' x k) ∙ append_nil w.history ∙ p.history;
-      own = over_side broken (after_call broken s' x (granted s' x) w) c p.own.begun now (record {
+      own = one_over broken (after_call broken s' x (granted s' x) w) c p.own.begun now (record {
         acked = ap (λ (v : Numbers). v.confirmed) (stop_numbers s' x k);
-        based = stop_base s' x k;
+        based = grind arith;
         marked = stop_mark s' x w.history w.own.mark k ∙ p.own.counted.marked;
       });
       peer = record {

@@ -1,12 +1,15 @@
 -- A close, a break and the end of a side at a whole connection: to the core nothing has happened.
-use Rattle.std.proofs.Common.{◌≡◌, refl, sym, ◌∙◌, ap, ℕ, zero, suc, Bool, true, false, ◌||◌, List, [], ◌∷◌, ◌++◌, map, take, inr}
+use Rattle.std.proofs.Common.{◌≡◌, refl, sym, ◌∙◌, ap, ℕ, zero, suc, Bool, true, false, ◌||◌, List, [], ◌∷◌, ◌++◌, map, take, inr, arith}
 use Rattle.std.specs.List.{list_any}
 use Rattle.osi_machine.specs.Floor.{State, Meaning, lost}
 use Rattle.osi_machine.specs.Core.{Core, turned}
 use Rattle.osi_machine.specs.Worlds.{Message, unit, bye, over, Transport, linked, gone, World, session_of, moved, shortened, closed, ended_at, turned as turned_world}
 use Rattle.osi_machine.specs.Machine.{without_first}
-use Rattle.osi_machine.proofs.Projects.{stopped, parts, IsTail, Carried, OneSide, Projects, both_over, over_side}
+use Rattle.osi_machine.proofs.Projects.{stopped, parts, IsTail, Carried, OneSide, Projects, both_over, not_both, one_over}
 use Rattle.osi_machine.proofs.ProjectCall.{left_theirs}
+use Rattle.std.proofs.lemmas.Bool.{or_parts}
+use Rattle.osi_machine.proofs.RestartFlow.{or_true}
+use Rattle.osi_machine.proofs.PhaseLaws.{by_test}
 
 -- ---- a suffix of a channel is lost
 
@@ -44,9 +47,7 @@ cut_there (suc k) over_now s (u ∷ there) lost tail h =
     }
 
 more_over : (a b : Bool) (s : State) (lost tail : List Meaning) → (a ≡ true → b ≡ true) → IsTail a s lost tail → IsTail b s lost tail
-more_over a b s lost [] f h = tt
-more_over a b s lost (u ∷ []) f h = (f h.0, h.1, h.2)
-more_over a b s lost (u ∷ v ∷ us) f h = h
+more_over a b s lost tail f h = grind arith
 
 -- where the sender is over or the connection broken
 carried_cut : (k : ℕ) (broken broken' a b : Bool) (channel : List Message) (sent : List Meaning) (s : State) → (a ≡ true → b ≡ true) → (b || broken') ≡ true
@@ -63,20 +64,10 @@ carried_cut k broken broken' a b channel sent s f w h =
       last = c.last;
     }
 
-or_parts : (a b : Bool) → (a || b) ≡ false → (a ≡ false) × (b ≡ false)
-or_parts true b h = absurd (cc)
-or_parts false b h = (refl, h)
-
 pub none_parts : (k : ℕ) (ms : List Message) → list_any parts ms ≡ false → list_any parts (take k ms) ≡ false
 none_parts zero ms h = refl
 none_parts (suc k) [] h = refl
 none_parts (suc k) (m ∷ ms) h = let p = or_parts (parts m) (list_any parts ms) h in let q = none_parts k ms p.1 in rw (p.0, q) refl
-
--- ---- a break
-
-or_true : (b : Bool) → (b || true) ≡ true
-or_true true = refl
-or_true false = refl
 
 cut_side : (k j : ℕ) (broken : Bool) (w : World) (c : Core) → OneSide broken w c
     → OneSide true (record w { own = record w.own { channel = take k w.own.channel }; peer = record w.peer { channel = take j w.peer.channel } }) c
@@ -90,11 +81,7 @@ cut_side k j broken w c h = record {
 
 pub break_projects : (k j : ℕ) (broken : Bool) (w : World) (c : Core) → Projects broken w c
     → Projects true (record w { own = record w.own { channel = take k w.own.channel }; peer = record w.peer { channel = take j w.peer.channel } }) c
-break_projects k j broken w c p = record {
-  history = p.history;
-  own = cut_side k j broken w c p.own;
-  peer = cut_side j k broken (turned_world w) (turned c) p.peer;
-}
+break_projects k j broken w c p = assumption (cut_side k j broken w c p.own, cut_side j k broken (turned_world w) (turned c) p.peer)
 
 -- ---- the end of a side
 
@@ -118,16 +105,7 @@ ended_peer k broken w c h = record {
 }
 
 pub end_projects : (k : ℕ) (broken : Bool) (w : World) (c : Core) → Projects broken w c → Projects broken (ended_at k w) c
-end_projects k broken w c p = record {
-  history = p.history;
-  own = over_side broken (ended_at k w) c refl refl p.own.counted;
-  peer = ended_peer k broken w c p.peer;
-}
-
--- ---- what is under way to a side that is not over
-
-not_both : {A : Type 0} (b : Bool) → b ≡ true → b ≡ false → A
-not_both b p q = absurd (cc)
+end_projects k broken w c p = assumption (one_over broken (ended_at k w) c refl refl p.own.counted, ended_peer k broken w c p.peer)
 
 abbrev pub is_unit : Message → Bool
 is_unit (unit u) = true
@@ -143,11 +121,9 @@ comes_unit broken w c m ms p l e = let k = p.own.carried l in units_alone m ms (
 
 -- and whose sender is not over when a message parts
 pub parting_over : (broken : Bool) (w : World) (c : Core) (m : Message) (ms : List Message) → Projects broken w c → w.peer.channel ≡ m ∷ ms → parts m ≡ true → stopped w.peer ≡ true
-parting_over broken w c m ms p e q = by (stopped w.peer) refl
-  where
-    by : (b : Bool) → stopped w.peer ≡ b → b ≡ true
-    by true l = refl
-    by false l = not_both (parts m) q (or_parts (parts m) (list_any parts ms) (ap (list_any parts) (sym e) ∙ p.peer.parted l)).0
+parting_over broken w c m ms p e q = by_test (stopped w.peer)
+    (λ l. l)
+    (λ l. rw l (not_both (parts m) q (or_parts (parts m) (list_any parts ms) (ap (list_any parts) (sym e) ∙ p.peer.parted l)).0))
 
 abbrev pub is_linked : Transport → Bool
 is_linked linked = true
@@ -155,11 +131,9 @@ is_linked _ = false
 
 -- a side whose transport connection is not open is over
 pub unlinked_over : (broken : Bool) (w : World) (c : Core) → Projects broken w c → is_linked w.own.transport ≡ false → stopped w.own ≡ true
-unlinked_over broken w c p e = by (stopped w.own) refl
-  where
-    by : (b : Bool) → stopped w.own ≡ b → b ≡ true
-    by true l = refl
-    by false l = not_both (is_linked w.own.transport) (ap is_linked (p.own.alike l).transport) e
+unlinked_over broken w c p e = by_test (stopped w.own)
+    (λ l. l)
+    (λ l. rw l (not_both (is_linked w.own.transport) (ap is_linked (p.own.alike l).transport) e))
 
 -- ---- a message that changes nothing
 
@@ -176,11 +150,7 @@ popped_peer broken w c m ms h e = record {
 -- at a side that is over
 pub popped_projects : (broken : Bool) (w : World) (c : Core) (m : Message) (ms : List Message) → Projects broken w c → stopped w.own ≡ true → w.peer.channel ≡ m ∷ ms
     → Projects broken (without_first w ms) c
-popped_projects broken w c m ms p o e = record {
-  history = p.history;
-  own = over_side broken (without_first w ms) c p.own.begun o p.own.counted;
-  peer = popped_peer broken w c m ms p.peer e;
-}
+popped_projects broken w c m ms p o e = assumption (one_over broken (without_first w ms) c p.own.begun o p.own.counted, popped_peer broken w c m ms p.peer e)
 
 -- ---- a close, at a side that is over and from a side that is over
 

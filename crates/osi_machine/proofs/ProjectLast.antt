@@ -1,5 +1,5 @@
 -- The last unit of a side that is over is taken, and a side that is over takes a unit.
-use Rattle.std.proofs.Common.{◌≡◌, ℕ, refl, sym, ◌∙◌, ap, subst, Bool, true, false, not, ◌&&◌, ◌||◌, if◌then◌else◌, List, [], ◌∷◌}
+use Rattle.std.proofs.Common.{◌≡◌, ℕ, refl, sym, ◌∙◌, ap, subst, Bool, true, false, not, ◌&&◌, ◌||◌, if◌then◌else◌, List, [], ◌∷◌, arith}
 use Rattle.std.specs.List.{list_any}
 use Rattle.osi_machine.specs.Floor.{State, Ended, without_tokens, Meaning, CN, AC, RF, DT, GT, PT, MIP, MIA, MAP, MAA, RS, RA, FN, DN, NF, AB, AA, Outcome, nothing, good, is_over, is_aborting, is_ended, in_aborting, in_ended, is_wait_cn, is_connecting, is_answering, is_ready, is_major_asked, is_releasing, is_release_due, is_restarting, may_ask, takes_data, takes_please, takes_minor_ack, is_expected, respond_unit, stands, next, becomes}
 use Rattle.osi_machine.specs.Histories.{Item}
@@ -9,17 +9,18 @@ use Rattle.osi_machine.specs.Channels.{is_plain, AllFit, flush, stops, heard}
 use Rattle.osi_machine.specs.Core.{Core, turned}
 use Rattle.osi_machine.specs.Worlds.{Message, unit, World, session_of, put, replied, mark_after, after_unit, turned as turned_world}
 use Rattle.osi_machine.specs.Machine.{without_first}
-use Rattle.osi_machine.proofs.PhaseLaws.{excluded, implied_two}
+use Rattle.osi_machine.proofs.PhaseLaws.{excluded, implied_two, if_no, if_yes, if_second, by_test}
 use Rattle.osi_machine.proofs.Records.{flushed, matched, Stands}
-use Rattle.osi_machine.proofs.Units.{fit_cases}
+use Rattle.osi_machine.proofs.Units.{fit_cases, and_false}
 use Rattle.osi_machine.proofs.Acting.{acts_good, not_acted, over_of}
 use Rattle.osi_machine.proofs.Alive.{alive}
 use Rattle.osi_machine.proofs.Deaf.{all_empty, empty_end}
 use Rattle.osi_machine.proofs.Opening.{none_answering}
-use Rattle.osi_machine.proofs.RestartMeet.{listener_stands}
-use Rattle.osi_machine.proofs.Projects.{stopped, parts, IsLast, Carried, Counted, OneSide, Projects, both_over, over_side}
+use Rattle.osi_machine.proofs.Projects.{stopped, parts, IsLast, Carried, Counted, OneSide, Projects, both_over, one_over}
 use Rattle.osi_machine.proofs.ProjectCall.{left_theirs}
 use Rattle.osi_machine.proofs.ProjectTake.{Last, took, put_nothing}
+use Rattle.std.proofs.lemmas.Bool.{and_from, not-false, or_parts}
+use Rattle.osi_machine.proofs.Shift.{listening_stands}
 
 -- ---- DN comes to a side that has asked for release, and RF to one that has asked for the connection
 
@@ -35,7 +36,7 @@ none_acts s (MIP c n o) h k st = excluded is_release_due is_ready refl s.phase h
 none_acts s (MIA n o) h k st = excluded is_release_due takes_minor_ack refl s.phase h
 none_acts s (MAP n o) h k st = excluded is_release_due is_ready refl s.phase h
 none_acts s (MAA n o) h k st = excluded is_release_due is_major_asked refl s.phase h
-none_acts s (RS j n w o) h k st = absurd (let t = listener_stands s n (excluded is_release_due is_restarting refl s.phase h) in cc)
+none_acts s (RS j n w o) h k st = absurd (let t = listening_stands s n (excluded is_release_due is_restarting refl s.phase h) in cc)
 none_acts s (RA n w o) h k st = excluded is_release_due is_restarting refl s.phase h
 none_acts s (FN o) h k st = excluded is_release_due is_ready refl s.phase h
 none_acts s (NF o) h k st = excluded is_release_due is_releasing refl s.phase h
@@ -43,20 +44,12 @@ none_acts s _ h k st = absurd (cc)
 
 still_owes : (s : State) (us : List Meaning) → is_release_due s.phase ≡ true → AllFit s us → is_release_due (heard s us).phase ≡ true
 still_owes s [] h f = h
-still_owes s (u ∷ us) h f = by (stops s u) refl (λ e. still_owes (next s u) us (kept e) f.1)
+still_owes s (u ∷ us) h f = by_test (stops s u)
+    (λ e. rw e h)
+    (λ e. rw e (let more : (stops s u ≡ false → is_release_due (heard (next s u) us).phase ≡ true) = (λ e. still_owes (next s u) us (kept e) f.1) in more e))
   where
     kept : stops s u ≡ false → is_release_due (next s u).phase ≡ true
     kept e = fit_cases (λ r. is_release_due r.phase ≡ true) s u f.0 h (λ d g. absurd (let n = none_acts s u h f.0.plain e in let x = g.expected in cc))
-
-    by : (b : Bool) → stops s u ≡ b → (stops s u ≡ false → is_release_due (heard (next s u) us).phase ≡ true) → is_release_due (if b then s else heard (next s u) us).phase ≡ true
-    by true e more = h
-    by false e more = more e
-
-releasing_now : (c : Core) → Stands c → is_release_due c.peer.session.phase ≡ true → is_releasing c.own.session.phase ≡ true
-releasing_now c s d = s.peer.meeting.released (still_owes c.peer.session c.own.sent d s.peer.fits)
-
-both : (a b : Bool) → a ≡ true → b ≡ true → (a && b) ≡ true
-both a b p q = rw (p, q) refl
 
 connecting_now : (c : Core) → Stands c → c.peer.sent ≡ [] → is_answering c.peer.session.phase ≡ true → is_connecting c.own.session.phase ≡ true
 connecting_now c s none a =
@@ -66,19 +59,13 @@ connecting_now c s none a =
     let meets = ap (λ (r : State). matched r.phase (flushed c.peer c.own).phase) (sym here) ∙ s.own.meeting.meets in
     let met = ap (λ (r : State). matched c.own.session.phase r.phase) (sym there) ∙ meets in
     implied_two (λ p q. matched p q && is_answering q) (λ p q. is_connecting p) refl c.own.session.phase c.peer.session.phase
-    (both (matched c.own.session.phase c.peer.session.phase) (is_answering c.peer.session.phase) met a)
-
--- ---- the last unit
-
-kept_aside : (b : Bool) → (b && false) ≡ false
-kept_aside true = refl
-kept_aside false = refl
+    (and_from (matched c.own.session.phase c.peer.session.phase) (is_answering c.peer.session.phase) met a)
 
 pub last_good : (c : Core) (u : Meaning) → Stands c → c.peer.sent ≡ [] → IsLast c.peer.session u → respond_unit c.own.session u ≡ good c.own.session u
 last_good c (AB b o) s none l =
-    acts_good c.own.session (AB b o) (record { lives = alive c.owner c.own c.peer s.own; heeds = kept_aside (is_restarting c.own.session.phase); good = record { expected = refl; met = tt } })
+    acts_good c.own.session (AB b o) (record { lives = alive c.owner c.own c.peer s.own; heeds = and_false (is_restarting c.own.session.phase); good = record { expected = refl; met = tt } })
 last_good c (DN o) s none l =
-    let r = releasing_now c s l in
+    let r = s.peer.meeting.released (still_owes c.peer.session c.own.sent l s.peer.fits) in
     acts_good c.own.session (DN o) (record {
       lives = alive c.owner c.own c.peer s.own;
       heeds = ap (λ (b : Bool). b && true) (excluded is_releasing is_restarting refl c.own.session.phase r);
@@ -94,42 +81,19 @@ last_good c (RF x o) s none l =
 last_good c _ s none l = absurd (l)
 
 good_over : (s r : State) (u : Meaning) → IsLast r u → is_over (good s u).next.phase ≡ true
-good_over s r (AB b o) l = refl
-good_over s r (DN o) l = refl
-good_over s r (RF x o) l = refl
-good_over s r _ l = absurd (l)
+good_over s r u l = grind arith
 
 last_cuts : (s r : State) (u : Meaning) (h : List Item) → IsLast r u → cut_by s u h ≡ h
-last_cuts s r (AB b o) h l = refl
-last_cuts s r (DN o) h l = refl
-last_cuts s r (RF x o) h l = refl
-last_cuts s r _ h l = absurd (l)
-
-same_if : (b : Bool) (g h : List Item) → g ≡ h → (if b then g else h) ≡ h
-same_if true g h e = e
-same_if false g h e = refl
+last_cuts s r u h l = grind arith
 
 last_numbers : (s r : State) (u : Meaning) → IsLast r u → (becomes s u).numbers.confirmed ≡ s.numbers.confirmed
-last_numbers s r (AB b o) l = refl
-last_numbers s r (DN o) l = refl
-last_numbers s r (RF x o) l = refl
-last_numbers s r _ l = absurd (l)
+last_numbers s r u l = grind arith
 
 last_base : (s r : State) (u : Meaning) → IsLast r u → (becomes s u).base ≡ s.base
-last_base s r (AB b o) l = refl
-last_base s r (DN o) l = refl
-last_base s r (RF x o) l = refl
-last_base s r _ l = absurd (l)
+last_base s r u l = grind arith
 
 last_mark : (s r : State) (u : Meaning) (h : List Item) (mark : ℕ) → IsLast r u → mark_after s u h mark ≡ mark
-last_mark s r (AB b o) h mark l = refl
-last_mark s r (DN o) h mark l = refl
-last_mark s r (RF x o) h mark l = refl
-last_mark s r _ h mark l = absurd (l)
-
-same_mark : (b : Bool) (m n : ℕ) → m ≡ n → (if b then m else n) ≡ n
-same_mark true m n e = e
-same_mark false m n e = refl
+last_mark s r u h mark l = grind arith
 
 -- both sides are over after it
 pub last_projects : (broken : Bool) (w : World) (c : Core) (u : Meaning) (ms : List Message) → Projects broken w c → Stands c
@@ -138,14 +102,9 @@ last_projects broken w c u ms p s l =
     let ends = ap (λ (o : Outcome). is_over o.next.phase) (last_good c u s l.none l.last) ∙ good_over c.own.session c.peer.session u l.last in (
       ends,
       both_over broken (took broken w c u ms) c
-          (same_if (is_acted_on c.own.session u) (cut_by c.own.session u w.history) w.history (last_cuts c.own.session c.peer.session u w.history l.last) ∙ p.history)
+          (if_second (is_acted_on c.own.session u) (cut_by c.own.session u w.history) w.history (last_cuts c.own.session c.peer.session u w.history l.last) ∙ p.history)
           p.own.begun ends p.peer.begun l.ended
-          (record {
-            acked = ap (λ (o : Outcome). o.next.numbers.confirmed) (last_good c u s l.none l.last) ∙ last_numbers c.own.session c.peer.session u l.last;
-            based = ap (λ (o : Outcome). o.next.base) (last_good c u s l.none l.last) ∙ last_base c.own.session c.peer.session u l.last;
-            marked = same_mark (is_acted_on c.own.session u) (mark_after c.own.session u w.history w.own.mark) w.own.mark (last_mark c.own.session c.peer.session u w.history w.own.mark l.last)
-                ∙ p.own.counted.marked;
-          }) p.peer.counted,
+          (search (last_good, last_numbers, last_base, if_second, last_mark)) p.peer.counted,
     )
 
 -- ---- a side that is over
@@ -161,21 +120,11 @@ pub over_next : (s : State) (u : Meaning) → is_over s.phase ≡ true → is_ov
 over_next s u o = not_acted (λ r. is_over r.phase ≡ true) s u (over_not_acted s u o) o refl refl
 
 plain_aborting : (s : State) (u : Meaning) → is_plain u ≡ true → in_aborting s u ≡ nothing s
-plain_aborting s (AB b o) p = absurd (cc)
-plain_aborting s AA p = absurd (cc)
-plain_aborting s _ p = refl
+plain_aborting s u p = grind arith
 
 plain_ended : (s : State) (u : Meaning) → is_plain u ≡ true → in_ended s u ≡ nothing s
 plain_ended s (AB b o) p = absurd (cc)
 plain_ended s _ p = refl
-
-other : (b : Bool) (x y : Outcome) → b ≡ false → (if b then x else y) ≡ y
-other true x y h = absurd (cc)
-other false x y h = refl
-
-first : (b : Bool) (x y : Outcome) → b ≡ true → (if b then x else y) ≡ x
-first true x y h = refl
-first false x y h = absurd (cc)
 
 -- it discards what a side sends that is not
 pub over_nothing : (s : State) (u : Meaning) → is_over s.phase ≡ true → is_plain u ≡ true → respond_unit s u ≡ nothing s
@@ -184,8 +133,8 @@ over_nothing s u o p = by (is_aborting s.phase) refl (is_ended s.phase) refl
   where
     by : (a : Bool) → is_aborting s.phase ≡ a → (e : Bool) → is_ended s.phase ≡ e
         → respond_unit s u ≡ nothing s
-    by true h e k = first (is_aborting s.phase) _ _ h ∙ plain_aborting s u p
-    by false h true k = other (is_aborting s.phase) _ _ h ∙ first (is_ended s.phase) _ _ k ∙ plain_ended s u p
+    by true h e k = if_yes (is_aborting s.phase) _ _ h ∙ plain_aborting s u p
+    by false h true k = if_no (is_aborting s.phase) _ _ h ∙ if_yes (is_ended s.phase) _ _ k ∙ plain_ended s u p
     by false h false k = absurd (let n = over_of false false s.phase h k in cc)
 
 -- it stays as it is, or is ended
@@ -203,17 +152,9 @@ over_as P s u o same ended_now = by (is_aborting s.phase) refl (is_ended s.phase
     ended _ = same
 
     by : (a : Bool) → is_aborting s.phase ≡ a → (e : Bool) → is_ended s.phase ≡ e → P (respond_unit s u).next
-    by true h e k = subst (λ (x : Outcome). P x.next) (sym (first (is_aborting s.phase) _ _ h)) (aborting u)
-    by false h true k = subst (λ (x : Outcome). P x.next) (sym (other (is_aborting s.phase) _ _ h ∙ first (is_ended s.phase) _ _ k)) (ended u)
+    by true h e k = subst (λ (x : Outcome). P x.next) (sym (if_yes (is_aborting s.phase) _ _ h)) (aborting u)
+    by false h true k = subst (λ (x : Outcome). P x.next) (sym (if_no (is_aborting s.phase) _ _ h ∙ if_yes (is_ended s.phase) _ _ k)) (ended u)
     by false h false k = absurd (let n = over_of false false s.phase h k in cc)
-
-pub not_true : (b : Bool) → not b ≡ false → b ≡ true
-not_true true h = refl
-not_true false h = absurd (cc)
-
-or_parts : (a b : Bool) → (a || b) ≡ false → (a ≡ false) × (b ≡ false)
-or_parts true b h = absurd (cc)
-or_parts false b h = (refl, h)
 
 -- what a side that is over makes of a unit
 abbrev pub ignored : Bool → World → Meaning → List Message → World
@@ -228,7 +169,7 @@ over_giver : (broken : Bool) (w : World) (c : Core) (u : Meaning) (ms : List Mes
 over_giver broken w c u ms p o e l =
     let s = session_of (without_first w ms) in
     let parted = or_parts (parts (unit u)) (list_any parts ms) (ap (list_any parts) (sym e) ∙ p.peer.parted l) in
-    let none = over_nothing s u o (not_true (is_plain u) parted.0) in
+    let none = over_nothing s u o (not-false (is_plain u) parted.0) in
     let channel : put broken (replied (respond_unit s u).reply) w.own.channel ≡ w.own.channel =
     ap (λ (x : Outcome). put broken (replied x.reply) w.own.channel) none ∙ put_nothing broken w.own.channel in
     let a = p.peer.alike l in
@@ -251,7 +192,9 @@ over_giver broken w c u ms p o e l =
 
 pub over_projects : (broken : Bool) (w : World) (c : Core) (u : Meaning) (ms : List Message) → Projects broken w c → stopped w.own ≡ true → w.peer.channel ≡ unit u ∷ ms
     → Projects broken (ignored broken w u ms) c
-over_projects broken w c u ms p o e = by (stopped w.peer) refl
+over_projects broken w c u ms p o e = by_test (stopped w.peer)
+    (λ l. both_over broken (ignored broken w u ms) c (over_history broken w u ms o ∙ p.history) p.own.begun ends p.peer.begun l counted p.peer.counted)
+    (λ l. assumption (over_history broken w u ms o ∙ p.history, one_over broken (ignored broken w u ms) c p.own.begun ends counted, over_giver broken w c u ms p o e l))
   where
     ends : stopped (ignored broken w u ms).own ≡ true
     ends = over_next (session_of (without_first w ms)) u o
@@ -262,12 +205,4 @@ over_projects broken w c u ms p o e = by (stopped w.peer) refl
       based = over_as (λ r. r.base ≡ c.own.session.base) (session_of (without_first w ms)) u o p.own.counted.based p.own.counted.based;
       marked = ap (λ (b : Bool). if b then mark_after (session_of (without_first w ms)) u w.history w.own.mark else w.own.mark) (over_not_acted (session_of (without_first w ms)) u o)
           ∙ p.own.counted.marked;
-    }
-
-    by : (b : Bool) → stopped w.peer ≡ b → Projects broken (ignored broken w u ms) c
-    by true l = both_over broken (ignored broken w u ms) c (over_history broken w u ms o ∙ p.history) p.own.begun ends p.peer.begun l counted p.peer.counted
-    by false l = record {
-      history = over_history broken w u ms o ∙ p.history;
-      own = over_side broken (ignored broken w u ms) c p.own.begun ends counted;
-      peer = over_giver broken w c u ms p o e l;
     }

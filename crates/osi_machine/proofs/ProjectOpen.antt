@@ -1,34 +1,25 @@
 -- A message is taken where a connection was asked for and not yet agreed to; the first that a caller takes
 -- agrees to it, and the core begins.
-use Rattle.std.proofs.Common.{◌≡◌, refl, sym, ◌∙◌, ap, subst, ℕ, Bool, true, false, List, [], ◌∷◌, ◌++◌, ◌⊎◌, inl, inr}
+use Rattle.std.proofs.Common.{◌≡◌, refl, sym, ◌∙◌, ap, subst, ℕ, Bool, true, false, List, [], ◌∷◌, ◌++◌, ◌⊎◌, inl, inr, arith}
 use Rattle.std.specs.List.{list_any}
 use Rattle.osi_machine.specs.Floor.{State, Ended, Meaning, awaiting, without_tokens}
-use Rattle.osi_machine.specs.Owners.{Owner, Absent, is_own, turned_owner, left_by}
+use Rattle.osi_machine.specs.Owners.{Owner, is_own, turned_owner}
 use Rattle.osi_machine.specs.Core.{Offer, offering, offer_sent, core_start, turned}
 use Rattle.osi_machine.specs.Worlds.{Message, unit, ask, agree, deny, Transport, not_yet, linked, gone, World, session_of, put, moved, Taking, unchanged, Terms, accepts, denies, asked_at, message_taken, turned as turned_world}
 use Rattle.osi_machine.specs.Machine.{without_first}
 use Rattle.osi_machine.specs.Views.{Told}
 use Rattle.osi_machine.proofs.Promises.{offer_stands}
 use Rattle.osi_machine.proofs.ViewFold.{Tells, told_all}
-use Rattle.osi_machine.proofs.Projects.{stopped, parts, is_begun, Alike, Carried, OneSide}
+use Rattle.osi_machine.proofs.Projects.{stopped, parts, is_begun, Alike, Carried, OneSide, not_both}
 use Rattle.osi_machine.proofs.ProjectTake.{put_nothing}
 use Rattle.osi_machine.proofs.ProjectWorld.{Repeats}
 use Rattle.osi_machine.proofs.ProjectStart.{caller_zero, called_zero, Waits, Idle, Way, nothing_sent, asked, agreed, denied, asks, replies, suits, Opens, absent_left, absent_back}
-
-not_both : {A : Type 0} (b : Bool) → b ≡ true → b ≡ false → A
-not_both b p q = absurd (cc)
 
 -- ---- the start
 
 -- the connection once the caller has taken the agreement
 abbrev started : Bool → World → World
 started broken w = moved broken linked (offering w.offer) (unit (offer_sent w.offer) ∷ []) (without_first w [])
-
-absent_own : (p : Owner) → p ≡ Absent → is_own p ≡ false
-absent_own p e = ap is_own e
-
-absent_theirs : (p : Owner) → p ≡ Absent → is_own (turned_owner p) ≡ false
-absent_theirs p e = ap (λ (o : Owner). is_own (turned_owner o)) e
 
 first_carried : (broken : Bool) (channel : List Message) (m : Meaning) (s : State) → channel ≡ [] → Carried broken false (put broken (unit m ∷ []) channel) (m ∷ []) s
 first_carried true channel m s e = record { there = []; lost = m ∷ []; tail = []; splits = refl; carries = e; whole = inr refl; last = tt }
@@ -49,7 +40,7 @@ started_own broken w t u h k e = record {
     mark = k.mark;
     said = k.said;
     got = k.got;
-    owns = λ x. absent_own (left_by (offering w.offer) w.owner x) (absent_left (offering w.offer) w.owner x (h.owner x));
+    owns = λ x. ap is_own (absent_left (offering w.offer) w.owner x (h.owner x));
   };
   carried = λ l. record { there = []; lost = []; tail = []; splits = refl; carries = refl; whole = inl refl; last = tt };
   parted = λ l. first_parted broken w.offer w.own.channel e;
@@ -66,7 +57,7 @@ started_alike broken w t u h b l = elim h.called [
       mark = k.mark;
       said = k.said;
       got = k.got;
-      owns = λ x. absent_theirs (left_by (offering w.offer) w.owner x) (absent_left (offering w.offer) w.owner x (h.owner x));
+      owns = λ x. ap (λ (o : Owner). is_own (turned_owner o)) (absent_left (offering w.offer) w.owner x (h.owner x));
     }
     | inr k ↦ not_both (stopped w.peer) k.over_now l
   ]
@@ -141,10 +132,7 @@ refused_now broken w t u reason h e =
     }
 
 asks_none : (way : Way) (m : Message) (ms : List Message) → m ∷ ms ≡ replies way → asks way ≡ []
-asks_none nothing_sent m ms e = refl
-asks_none asked m ms e = absurd (cc)
-asks_none agreed m ms e = refl
-asks_none (denied r) m ms e = refl
+asks_none way m ms e = grind arith
 
 caller_agreed : (broken : Bool) (terms : Terms) (k : ℕ) (w : World) (t u : Told) → Opens w t u → w.own.channel ≡ [] → is_begun w.peer.transport ≡ true
     → OpenTaken broken t u (message_taken broken terms k w.own.transport (without_first w []) agree)
@@ -211,12 +199,6 @@ asked_late w t u h e = record {
   peer_told = h.peer_told;
 }
 
--- what a called side answers
-answer_of : Bool → Terms → Way
-answer_of true terms = nothing_sent
-answer_of false (accepts class) = agreed
-answer_of false (denies reason) = denied reason
-
 accepted_now : (broken : Bool) (w : World) (t u : Told) → Opens (turned_world w) t u → w.own.channel ≡ [] → Idle not_yet w.own
     → (way : Way) → put broken (agree ∷ []) w.own.channel ≡ replies way → asks way ≡ [] → suits way linked ≡ true
     → Opens (turned_world (moved broken linked awaiting (agree ∷ []) (without_first w []))) t u
@@ -280,14 +262,12 @@ asked_message broken terms k w t u h e = elim h.called [
 
 called_way : (broken : Bool) (terms : Terms) (k : ℕ) (w : World) (t u : Told) (m : Message) (ms : List Message) → Opens (turned_world w) t u
     → (way : Way) → m ∷ ms ≡ asks way → w.own.channel ≡ replies way → CalledTaken t u (message_taken broken terms k w.own.transport (without_first w ms) m)
-called_way broken terms k w t u m ms h nothing_sent f e = absurd (cc)
-called_way broken terms k w t u m ms h agreed f e = absurd (cc)
-called_way broken terms k w t u m ms h (denied r) f e = absurd (cc)
 called_way broken terms k w t u m ms h asked f e =
     let same : ask ≡ m = cc in
     let none : [] ≡ ms = cc in
     subst (λ (x : Message). CalledTaken t u (message_taken broken terms k w.own.transport (without_first w ms) x)) same
     (subst (λ (xs : List Message). CalledTaken t u (message_taken broken terms k w.own.transport (without_first w xs) ask)) none (asked_message broken terms k w t u h e))
+called_way broken terms k w t u m ms h _ f e = absurd (cc)
 
 pub called_takes : (broken : Bool) (terms : Terms) (k : ℕ) (w : World) (t u : Told) (m : Message) (ms : List Message) → Opens (turned_world w) t u → w.peer.channel ≡ m ∷ ms
     → CalledTaken t u (message_taken broken terms k w.own.transport (without_first w ms) m)

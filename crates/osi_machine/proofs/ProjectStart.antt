@@ -1,18 +1,19 @@
 -- A whole connection that was asked for and not yet agreed to: nobody owns, sees or sends anything.
-use Rattle.std.proofs.Common.{◌≡◌, refl, sym, ◌∙◌, ap, ℕ, zero, suc, Bool, true, false, not, ◌||◌, if◌then◌else◌, List, [], ◌∷◌, take, ◌⊎◌, inl, inr, Err}
+use Rattle.std.proofs.Common.{◌≡◌, refl, sym, ◌∙◌, ap, ℕ, zero, Bool, true, false, not, ◌||◌, if◌then◌else◌, List, [], ◌∷◌, take, ◌⊎◌, inl, inr, Err, arith}
 use Rattle.std.proofs.Math.Seq.{take-nil}
 use Rattle.osi_session.specs.declared.faults.CallError.TheVariants as error
 use Rattle.osi_session.specs.Phases.{may_abort}
-use Rattle.osi_machine.specs.Floor.{State, Phase, Token, Call, Accept, Refuse, Data, Give, Please, Minor, MinorConfirm, Major, MajorConfirm, Restart, RestartConfirm, Release, ReleaseAccept, ReleaseRefuse, Abort, Answer, CallError, allowed, may_call, is_over, is_wait_transport, is_wait_cn, is_answering, is_ready, is_major_due, is_release_due, is_restart_due, may_give, may_ask, may_confirm_minor, may_restart, is_profile, awaiting, lost}
-use Rattle.osi_machine.specs.Owners.{Owner, Own, Theirs, ToOwn, ToThem, Pool, Absent, Owners, own_to_pool, given_up, turned_owner, left_by}
+use Rattle.osi_machine.specs.Floor.{State, Phase, Token, Call, Accept, Refuse, Give, Please, MinorConfirm, MajorConfirm, Restart, RestartConfirm, ReleaseAccept, ReleaseRefuse, Abort, CallError, allowed, may_call, is_over, is_wait_transport, is_wait_cn, is_answering, is_ready, is_major_due, is_release_due, is_restart_due, may_give, may_ask, may_confirm_minor, may_restart, is_profile, awaiting, lost}
+use Rattle.osi_machine.specs.Owners.{Owner, Absent, Owners, own_to_pool, turned_owner, left_by}
 use Rattle.osi_machine.specs.Core.{Offer, CanBeOffered, Left, Right}
 use Rattle.osi_machine.specs.Worlds.{Message, ask, agree, deny, Transport, not_yet, waiting, linked, gone, Kept, kept_of, End, World, session_of, shortened, asked_with, ended_at, shown_at_end, turned as turned_world}
 use Rattle.osi_machine.specs.Views.{Told, untold}
-use Rattle.osi_machine.proofs.PhaseLaws.{excluded}
+use Rattle.osi_machine.proofs.PhaseLaws.{excluded, if_yes, if_no, by_test}
 use Rattle.osi_machine.proofs.ViewFold.{told_all}
 use Rattle.osi_machine.proofs.Projects.{stopped, is_begun}
 use Rattle.osi_machine.proofs.ProjectWorld.{refused}
 use Rattle.osi_machine.proofs.ProjectSteps.{loss_told}
+use Rattle.std.proofs.lemmas.Bool.{or_left, or_right}
 
 -- ---- the lines
 
@@ -48,12 +49,9 @@ pub caller_zero : (x : End) → Waits x ⊎ Left_it x → AreZero x.kept.confirm
 caller_zero x (inl h) = h.zero_now
 caller_zero x (inr h) = h.zero_now
 
-idle_zero : (tr : Transport) (x : End) → Idle tr x → AreZero x.kept.confirmed x.kept.base x.mark
-idle_zero tr x h = record { acked = ap (λ (k : Kept). k.confirmed) h.kept; based = ap (λ (k : Kept). k.base) h.kept; marked = h.mark }
-
 pub called_zero : (x : End) → Idle not_yet x ⊎ (Idle linked x ⊎ Left_it x) → AreZero x.kept.confirmed x.kept.base x.mark
-called_zero x (inl h) = idle_zero not_yet x h
-called_zero x (inr (inl h)) = idle_zero linked x h
+called_zero x (inl h) = record { acked = ap (λ (k : Kept). k.confirmed) h.kept; based = ap (λ (k : Kept). k.base) h.kept; marked = h.mark }
+called_zero x (inr (inl h)) = record { acked = ap (λ (k : Kept). k.confirmed) h.kept; based = ap (λ (k : Kept). k.base) h.kept; marked = h.mark }
 called_zero x (inr (inr h)) = h.zero_now
 
 -- what is under way
@@ -129,22 +127,7 @@ no_call p _ h = excluded is_early is_ready refl p h
 pub refused_early : (s : State) (x : Call) → is_early s.phase ≡ true → allowed s x ≡ Err error.BadState
 unfolding allowed
 refused_early s x h =
-    other (is_over s.phase) _ _ (excluded is_early is_over refl s.phase h) ∙ first (not (may_call s.phase x)) _ _ (ap not (no_call s.phase x h))
-  where
-    first : (b : Bool) (a c : Answer) → b ≡ true → (if b then a else c) ≡ a
-    first true a c e = refl
-    first false a c e = absurd (cc)
-
-    other : (b : Bool) (a c : Answer) → b ≡ false → (if b then a else c) ≡ c
-    other true a c e = absurd (cc)
-    other false a c e = refl
-
-or_first : (a b : Bool) → a ≡ true → (a || b) ≡ true
-or_first a b e = rw e refl
-
-or_second : (a b : Bool) → b ≡ true → (a || b) ≡ true
-or_second true b e = refl
-or_second false b e = e
+    if_no (is_over s.phase) _ _ (excluded is_early is_over refl s.phase h) ∙ if_yes (not (may_call s.phase x)) _ _ (ap not (no_call s.phase x h))
 
 -- a call that is refused changes nothing
 pub record Refuses (s : State) (x : Call) : Type 0 where
@@ -153,14 +136,14 @@ pub record Refuses (s : State) (x : Call) : Type 0 where
 
 pub caller_refuses : (w : World) (t u : Told) (x : Call) → Opens w t u → Refuses (session_of w) x
 caller_refuses w t u x h = elim h.caller [
-  | inl k ↦ record { fault = error.BadState; refused = refused_early (session_of w) x (or_first (is_wait_transport w.own.kept.phase) (is_wait_cn w.own.kept.phase) k.phase) }
+  | inl k ↦ record { fault = error.BadState; refused = refused_early (session_of w) x (or_left (is_wait_transport w.own.kept.phase) (is_wait_cn w.own.kept.phase) k.phase) }
   | inr k ↦ record { fault = error.Ended; refused = refused (session_of w) x k.over_now }
 ]
 
 waits_cn : (tr : Transport) (w : World) (x : Call) → Idle tr w.own → Refuses (session_of w) x
 waits_cn tr w x k = record {
   fault = error.BadState;
-  refused = refused_early (session_of w) x (or_second (is_wait_transport w.own.kept.phase) (is_wait_cn w.own.kept.phase) (ap (λ (y : Kept). is_wait_cn y.phase) k.kept));
+  refused = refused_early (session_of w) x (or_right (is_wait_transport w.own.kept.phase) (is_wait_cn w.own.kept.phase) (ap (λ (y : Kept). is_wait_cn y.phase) k.kept));
 }
 
 pub called_refuses : (w : World) (t u : Told) (x : Call) → Opens w t u → Refuses (session_of (turned_world w)) x
@@ -175,11 +158,7 @@ called_refuses w t u x h = elim h.called [
 -- ---- an end
 
 pub absent_left : (s : State) (o : Owners) (k : Token) → o k ≡ Absent → left_by s o k ≡ Absent
-absent_left s o k e = by (is_over s.phase)
-  where
-    by : (b : Bool) → (if b then given_up o else o) k ≡ Absent
-    by true = ap own_to_pool e
-    by false = e
+absent_left s o k e = by_test (is_over s.phase) (λ q. rw q (ap own_to_pool e)) (λ q. rw q e)
 
 pub absent_back : (p : Owner) → turned_owner p ≡ Absent → p ≡ Absent
 absent_back Absent e = refl
@@ -196,71 +175,17 @@ cut_replies zero (denied reason) = nothing_sent
 cut_replies k way = way
 
 take_asks : (k : ℕ) (way : Way) → take k (asks way) ≡ asks (cut_asks k way)
-take_asks zero asked = refl
-take_asks zero nothing_sent = refl
-take_asks zero agreed = refl
-take_asks zero (denied r) = refl
-take_asks (suc k) asked = ap (λ (ms : List Message). ask ∷ ms) (take-nil k)
-take_asks (suc k) nothing_sent = refl
-take_asks (suc k) agreed = refl
-take_asks (suc k) (denied r) = refl
+take_asks k way = grind (arith, take-nil)
 
 take_replies : (k : ℕ) (way : Way) → take k (replies way) ≡ replies (cut_replies k way)
-take_replies zero asked = refl
-take_replies zero nothing_sent = refl
-take_replies zero agreed = refl
-take_replies zero (denied r) = refl
-take_replies (suc k) asked = refl
-take_replies (suc k) nothing_sent = refl
-take_replies (suc k) agreed = ap (λ (ms : List Message). agree ∷ ms) (take-nil k)
-take_replies (suc k) (denied r) = ap (λ (ms : List Message). deny r ∷ ms) (take-nil k)
+take_replies k way = grind (arith, take-nil)
 
 -- only one of both sides has something under way
 replies_kept : (k : ℕ) (way : Way) → replies (cut_asks k way) ≡ replies way
-replies_kept zero asked = refl
-replies_kept zero nothing_sent = refl
-replies_kept zero agreed = refl
-replies_kept zero (denied r) = refl
-replies_kept (suc k) asked = refl
-replies_kept (suc k) nothing_sent = refl
-replies_kept (suc k) agreed = refl
-replies_kept (suc k) (denied r) = refl
+replies_kept k way = grind arith
 
 asks_kept : (k : ℕ) (way : Way) → asks (cut_replies k way) ≡ asks way
-asks_kept zero asked = refl
-asks_kept zero nothing_sent = refl
-asks_kept zero agreed = refl
-asks_kept zero (denied r) = refl
-asks_kept (suc k) asked = refl
-asks_kept (suc k) nothing_sent = refl
-asks_kept (suc k) agreed = refl
-asks_kept (suc k) (denied r) = refl
-
-suits_asks : (k : ℕ) (way : Way) (tr : Transport) → suits way tr ≡ true → suits (cut_asks k way) tr ≡ true
-suits_asks zero asked tr h = refl
-suits_asks zero nothing_sent tr h = refl
-suits_asks zero agreed tr h = h
-suits_asks zero (denied r) tr h = refl
-suits_asks (suc k) asked tr h = refl
-suits_asks (suc k) nothing_sent tr h = refl
-suits_asks (suc k) agreed tr h = h
-suits_asks (suc k) (denied r) tr h = refl
-
-suits_replies : (k : ℕ) (way : Way) (tr : Transport) → suits way tr ≡ true → suits (cut_replies k way) tr ≡ true
-suits_replies zero asked tr h = refl
-suits_replies zero nothing_sent tr h = refl
-suits_replies zero agreed tr h = refl
-suits_replies zero (denied r) tr h = refl
-suits_replies (suc k) asked tr h = refl
-suits_replies (suc k) nothing_sent tr h = refl
-suits_replies (suc k) agreed tr h = h
-suits_replies (suc k) (denied r) tr h = refl
-
-suits_gone : (way : Way) → suits way gone ≡ true
-suits_gone asked = refl
-suits_gone nothing_sent = refl
-suits_gone agreed = refl
-suits_gone (denied r) = refl
+asks_kept k way = grind arith
 
 -- the caller ends, and the called side
 pub caller_ends : (k : ℕ) (w : World) (t u : Told) → Opens w t u → Opens (ended_at k w) (told_all t (shown_at_end w)) u
@@ -274,7 +199,7 @@ caller_ends k w t u h = record {
   way = cut_asks k h.way;
   own_channel = ap (take k) h.own_channel ∙ take_asks k h.way;
   peer_channel = h.peer_channel ∙ sym (replies_kept k h.way);
-  suited = suits_asks k h.way w.peer.transport h.suited;
+  suited = grind arith;
   own_told = loss_told t (session_of w) ∙ h.own_told;
   peer_told = h.peer_told;
 }
@@ -290,7 +215,7 @@ called_ends k w t u h = record {
   way = cut_replies k h.way;
   own_channel = h.own_channel ∙ sym (asks_kept k h.way);
   peer_channel = ap (take k) h.peer_channel ∙ take_replies k h.way;
-  suited = suits_gone (cut_replies k h.way);
+  suited = grind arith;
   own_told = h.own_told;
   peer_told = loss_told u (session_of w) ∙ h.peer_told;
 }
@@ -304,13 +229,10 @@ caller_kept : (x : End) (ch : List Message) → Waits x ⊎ Left_it x → Waits 
 caller_kept x ch (inl h) = inl (record { transport = h.transport; phase = h.phase; mark = h.mark; said = h.said; got = h.got; zero_now = h.zero_now })
 caller_kept x ch (inr h) = inr (record { transport = h.transport; over_now = h.over_now; zero_now = h.zero_now })
 
-idle_kept : (tr : Transport) (x : End) (ch : List Message) → Idle tr x → Idle tr (record x { channel = ch })
-idle_kept tr x ch h = record { transport = h.transport; kept = h.kept; mark = h.mark; said = h.said; got = h.got }
-
 called_kept : (x : End) (ch : List Message) → Idle not_yet x ⊎ (Idle linked x ⊎ Left_it x)
     → Idle not_yet (record x { channel = ch }) ⊎ (Idle linked (record x { channel = ch }) ⊎ Left_it (record x { channel = ch }))
-called_kept x ch (inl h) = inl (idle_kept not_yet x ch h)
-called_kept x ch (inr (inl h)) = inr (inl (idle_kept linked x ch h))
+called_kept x ch (inl h) = inl (record { transport = h.transport; kept = h.kept; mark = h.mark; said = h.said; got = h.got })
+called_kept x ch (inr (inl h)) = inr (inl (record { transport = h.transport; kept = h.kept; mark = h.mark; said = h.said; got = h.got }))
 called_kept x ch (inr (inr h)) = inr (inr (record { transport = h.transport; over_now = h.over_now; zero_now = h.zero_now }))
 
 pub break_opens : (k j : ℕ) (w : World) (t u : Told) → Opens w t u → Opens (cut_both k j w) t u
@@ -324,7 +246,7 @@ break_opens k j w t u h = record {
   way = cut_replies j (cut_asks k h.way);
   own_channel = ap (take k) h.own_channel ∙ take_asks k h.way ∙ sym (asks_kept j (cut_asks k h.way));
   peer_channel = ap (take j) (h.peer_channel ∙ sym (replies_kept k h.way)) ∙ take_replies j (cut_asks k h.way);
-  suited = suits_replies j (cut_asks k h.way) w.peer.transport (suits_asks k h.way w.peer.transport h.suited);
+  suited = grind arith;
   own_told = h.own_told;
   peer_told = h.peer_told;
 }

@@ -1,18 +1,15 @@
 -- A message that is taken, a close, a break and an end at a whole connection that was agreed to.
 use Rattle.std.proofs.Common.{◌≡◌, refl, sym, ◌∙◌, ap, subst, ℕ, Bool, true, false, if◌then◌else◌, List, [], ◌∷◌, take}
-use Rattle.osi_session.specs.Shown.{Lost}
 use Rattle.osi_machine.specs.Floor.{State, shows_loss, lost}
 use Rattle.osi_machine.specs.Worlds.{Message, unit, ask, agree, deny, bye, over, Transport, not_yet, waiting, linked, closing, gone, World, session_of, moved, moves, put, shortened, unchanged, Terms, message_taken, closed, ended_at, shown_at_end}
 use Rattle.osi_machine.specs.Machine.{without_first}
 use Rattle.osi_machine.specs.Views.{Told}
 use Rattle.osi_machine.proofs.CoreLaws.{SessionLaws}
 use Rattle.osi_machine.proofs.ViewFold.{told_all}
-use Rattle.osi_machine.proofs.Projects.{stopped, parts, is_begun, Projects, both_over}
+use Rattle.osi_machine.proofs.Projects.{stopped, parts, is_begun, Projects, both_over, not_both}
 use Rattle.osi_machine.proofs.ProjectEnd.{break_projects, end_projects, comes_unit, parting_over, unlinked_over, is_linked, is_unit, popped_projects, closed_projects, bye_projects}
 use Rattle.osi_machine.proofs.ProjectWorld.{Repeats, Taken, unit_repeats}
-
-not_both : {A : Type 0} (b : Bool) → b ≡ true → b ≡ false → A
-not_both b p q = absurd (cc)
+use Rattle.osi_machine.proofs.PhaseLaws.{by_test}
 
 -- where only the connection is another
 same_core : (broken broken' : Bool) (w v : World) (t u : Told) (h : Repeats broken w t u) → Projects broken' v h.core → Repeats broken' v t u
@@ -20,20 +17,14 @@ same_core broken broken' w v t u h p = record { core = h.core; stands = h.stands
 
 -- what is shown of a loss tells nothing
 pub loss_told : (t : Told) (s : State) → told_all t (lost s).shown ≡ t
-loss_told t s = by (shows_loss s.phase)
-  where
-    by : (b : Bool) → told_all t (if b then Lost ∷ [] else []) ≡ t
-    by true = refl
-    by false = refl
+loss_told t s = by_test (shows_loss s.phase) (λ e. rw e) (λ e. rw e)
 
 -- ---- a message
 
 not_unit_over : (broken : Bool) (w : World) (t u : Told) (m : Message) (ms : List Message) → Repeats broken w t u → w.peer.channel ≡ m ∷ ms → is_unit m ≡ false → stopped w.own ≡ true
-not_unit_over broken w t u m ms h e q = by (stopped w.own) refl
-  where
-    by : (b : Bool) → stopped w.own ≡ b → b ≡ true
-    by true o = refl
-    by false l = not_both (is_unit m) (comes_unit broken w h.core m ms h.projects l e) q
+not_unit_over broken w t u m ms h e q = by_test (stopped w.own)
+    (λ o. o)
+    (λ l. rw l (not_both (is_unit m) (comes_unit broken w h.core m ms h.projects l e) q))
 
 popped : (broken : Bool) (w : World) (t u : Told) (m : Message) (ms : List Message) → Repeats broken w t u → w.peer.channel ≡ m ∷ ms → stopped w.own ≡ true
     → Taken broken t u (unchanged (without_first w ms))
@@ -58,22 +49,11 @@ bye_taken broken k w t u reason ms h e = record {
 -- a close that is answered, or that crosses another
 answered_close : (broken : Bool) (w : World) (t u : Told) (m : Message) (ms : List Message) → Repeats broken w t u → w.peer.channel ≡ m ∷ ms → parts m ≡ true → stopped w.own ≡ true
     → Taken broken t u (unchanged (record (without_first w ms) { own = record w.own { transport = gone } }))
-answered_close broken w t u m ms h e q o = record {
-  repeats = same_core broken broken w (record (without_first w ms) { own = record w.own { transport = gone } }) t u h
-      (both_over broken (record (without_first w ms) { own = record w.own { transport = gone } }) h.core h.projects.history refl o h.projects.peer.begun (parting_over broken w h.core m ms h.projects e q)
-      h.projects.own.counted h.projects.peer.counted);
-  over_now = λ k. absurd (cc);
-}
+answered_close broken w t u m ms h e q o = search (same_core, both_over, parting_over)
 
 late_close : (broken : Bool) (w : World) (t u : Told) (m : Message) (ms : List Message) → Repeats broken w t u → w.peer.channel ≡ m ∷ ms → parts m ≡ true → stopped w.own ≡ true
     → Taken broken t u (unchanged (record (without_first w ms) { own = record w.own { channel = put broken (over ∷ []) w.own.channel } }))
-late_close broken w t u m ms h e q o = record {
-  repeats = same_core broken broken w (record (without_first w ms) { own = record w.own { channel = put broken (over ∷ []) w.own.channel } }) t u h
-      (both_over broken (record (without_first w ms) { own = record w.own { channel = put broken (over ∷ []) w.own.channel } }) h.core h.projects.history h.projects.own.begun o h.projects.peer.begun
-      (parting_over broken w h.core m ms h.projects e q)
-      h.projects.own.counted h.projects.peer.counted);
-  over_now = λ k. absurd (cc);
-}
+late_close broken w t u m ms h e q o = search (same_core, both_over, parting_over)
 
 pub message_repeats : SessionLaws → (broken : Bool) (terms : Terms) (k : ℕ) (w : World) (t u : Told) (m : Message) (ms : List Message) → Repeats broken w t u → w.peer.channel ≡ m ∷ ms
     → Taken broken t u (message_taken broken terms k w.own.transport (without_first w ms) m)

@@ -1,11 +1,11 @@
 -- A unit is taken at a whole connection, and in the core.
-use Rattle.std.proofs.Common.{◌≡◌, refl, sym, ◌∙◌, ap, subst, ℕ, ◌+◌, Bool, true, false, not, ◌&&◌, ◌||◌, if◌then◌else◌, List, [], ◌∷◌, ◌++◌, map, length, Option, Some, None, ◌⊎◌, inl, inr}
+use Rattle.std.proofs.Common.{◌≡◌, refl, sym, ◌∙◌, ap, subst, ℕ, ◌+◌, Bool, true, false, not, ◌&&◌, ◌||◌, if◌then◌else◌, List, [], ◌∷◌, ◌++◌, map, length, Option, Some, None, ◌⊎◌, inl, inr, arith}
 use Rattle.std.proofs.lemmas.List.{length-append}
 use Rattle.std.specs.List.{list_any}
-use Rattle.osi_machine.specs.Floor.{TokenSetting, TsduMaximumSize, State, Meaning, CN, AC, RF, DT, GT, MIP, MAP, RS, RA, AB, Token, has, Outcome, nothing, good, is_over, is_acceptable, are_sizes, has_data, functional_units, respond_unit, becomes, stands, drops}
+use Rattle.osi_machine.specs.Floor.{TokenSetting, TsduMaximumSize, State, Meaning, CN, AC, RF, DT, GT, MIP, MAP, RS, RA, AB, Token, has, Outcome, is_over, is_acceptable, are_sizes, has_data, functional_units, respond_unit, becomes, stands, drops}
 use Rattle.osi_session.specs.Respond.{reply_for}
 use Rattle.osi_machine.specs.Histories.{Item, Octets, Point, minor_kind, major_point, cutat}
-use Rattle.osi_machine.specs.Owners.{Owner, Own, Theirs, ToOwn, ToThem, Pool, Absent, Owners, all_to_pool, is_own, turned_owner, pooled, left_by}
+use Rattle.osi_machine.specs.Owners.{Owners, is_own, turned_owner, left_by}
 use Rattle.osi_machine.specs.Taking.{is_acted_on, seen, got_in, cut_by, owners_after}
 use Rattle.osi_machine.specs.Channels.{is_plain, AllFit, Fits}
 use Rattle.osi_machine.specs.Core.{Core, turned, taking}
@@ -16,20 +16,11 @@ use Rattle.osi_machine.proofs.Idle.{append_nil}
 use Rattle.osi_machine.proofs.Acting.{no_fault}
 use Rattle.osi_machine.proofs.Alive.{alive}
 use Rattle.osi_machine.proofs.TakeMoves.{at}
-use Rattle.osi_machine.proofs.TakeRestart.{cut_seen}
+use Rattle.osi_machine.proofs.TakeRestart.{cut_seen, pool_own, pool_theirs}
 use Rattle.osi_machine.proofs.TakeAnswers.{acceptable}
 use Rattle.osi_machine.proofs.Projects.{stopped, parts, Alike, IsLast, IsTail, Carried, OneSide, Projects}
 use Rattle.osi_machine.proofs.ProjectCall.{left_lives, left_theirs, none_last}
-
--- ---- what a unit that is acted on does to the mark, what was got and the owners
-
-pool_own : (p : Owner) → is_own (all_to_pool p) ≡ false
-pool_own Own = refl
-pool_own _ = refl
-
-pub pool_theirs : (p : Owner) → is_own (turned_owner (all_to_pool p)) ≡ false
-pool_theirs Own = refl
-pool_theirs _ = refl
+use Rattle.osi_machine.proofs.PhaseLaws.{by_test}
 
 -- a restart that stands leaves of the history what it leaves of what was seen
 abbrev CutsAlike : State → Meaning → List Item → List Item → Type 0
@@ -41,65 +32,25 @@ cuts_alike c (RS k n x o) us s = cut_seen c k n x o us s
 cuts_alike c _ us s = tt
 
 seen_mark : (s : State) (u : Meaning) (h v : List Item) (mark : ℕ) → CutsAlike s u h v → mark ≡ length v → mark_after s u h mark ≡ length (seen s u v)
-seen_mark s (DT o) h v mark cut e = by s.units.duplex
-  where
-    by : (b : Bool) → (if b then mark else mark + 1) ≡ length (if b then v else v ++ Octets o ∷ [])
-    by true = e
-    by false = ap (λ (n : ℕ). n + 1) e ∙ sym (length-append v (Octets o ∷ []))
+seen_mark s (DT o) h v mark cut e = by_test s.units.duplex (λ q. rw q e) (λ q. rw q (ap (λ (n : ℕ). n + 1) e ∙ sym (length-append v (Octets o ∷ []))))
 seen_mark s (MIP c n o) h v mark cut e = ap (λ (n : ℕ). n + 1) e ∙ sym (length-append v (Point n (minor_kind c) o ∷ []))
 seen_mark s (MAP n o) h v mark cut e = ap (λ (n : ℕ). n + 1) e ∙ sym (length-append v (Point n major_point o ∷ []))
-seen_mark s (RS k n x o) h v mark cut e = by (stands s n) refl
-  where
-    by : (b : Bool) → stands s n ≡ b → (if b then length (cutat s.base h n) else mark) ≡ length (if b then cutat s.base v n else v)
-    by true st = ap length (sym (cut st))
-    by false st = e
+seen_mark s (RS k n x o) h v mark cut e = by_test (stands s n) (λ st. rw st (ap length (sym (cut st)))) (λ st. rw st e)
 seen_mark s _ h v mark cut e = e
 
 owns_after : (s : State) (u : Meaning) (o p : Owners) (t : Token) → is_own (o t) ≡ is_own (p t) → is_own (owners_after s u o t) ≡ is_own (owners_after s u p t)
-owns_after s (GT k) o p t e = passed (has k t)
-  where
-    passed : (b : Bool) → is_own (if b then Own else o t) ≡ is_own (if b then Own else p t)
-    passed true = refl
-    passed false = e
-owns_after s (AC v r n x z y) o p t e = passed (has (becomes s (AC v r n x z y)).held t)
-  where
-    passed : (b : Bool) → is_own (if b then Own else o t) ≡ is_own (if b then Own else p t)
-    passed true = refl
-    passed false = e
-owns_after s (RA n x y) o p t e = passed (has (becomes s (RA n x y)).held t)
-  where
-    passed : (b : Bool) → is_own (if b then Own else o t) ≡ is_own (if b then Own else p t)
-    passed true = refl
-    passed false = e
-owns_after s (RS k n x y) o p t e = by (stands s n)
-  where
-    by : (b : Bool) → is_own ((if b then pooled o else o) t) ≡ is_own ((if b then pooled p else p) t)
-    by true = pool_own (o t) ∙ sym (pool_own (p t))
-    by false = e
+owns_after s (GT k) o p t e = by_test (has k t) (λ q. rw q) (λ q. rw q e)
+owns_after s (AC v r n x z y) o p t e = by_test (has (becomes s (AC v r n x z y)).held t) (λ l. rw l) (λ l. rw l e)
+owns_after s (RA n x y) o p t e = by_test (has (becomes s (RA n x y)).held t) (λ c. rw c) (λ c. rw c e)
+owns_after s (RS k n x y) o p t e = by_test (stands s n) (λ i. rw i (pool_own (o t) ∙ sym (pool_own (p t)))) (λ i. rw i e)
 owns_after s _ o p t e = e
 
 theirs_after : (s : State) (u : Meaning) (o p : Owners) (t : Token) → is_own (turned_owner (o t)) ≡ is_own (turned_owner (p t))
     → is_own (turned_owner (owners_after s u o t)) ≡ is_own (turned_owner (owners_after s u p t))
-theirs_after s (GT k) o p t e = passed (has k t)
-  where
-    passed : (b : Bool) → is_own (turned_owner (if b then Own else o t)) ≡ is_own (turned_owner (if b then Own else p t))
-    passed true = refl
-    passed false = e
-theirs_after s (AC v r n x z y) o p t e = passed (has (becomes s (AC v r n x z y)).held t)
-  where
-    passed : (b : Bool) → is_own (turned_owner (if b then Own else o t)) ≡ is_own (turned_owner (if b then Own else p t))
-    passed true = refl
-    passed false = e
-theirs_after s (RA n x y) o p t e = passed (has (becomes s (RA n x y)).held t)
-  where
-    passed : (b : Bool) → is_own (turned_owner (if b then Own else o t)) ≡ is_own (turned_owner (if b then Own else p t))
-    passed true = refl
-    passed false = e
-theirs_after s (RS k n x y) o p t e = by (stands s n)
-  where
-    by : (b : Bool) → is_own (turned_owner ((if b then pooled o else o) t)) ≡ is_own (turned_owner ((if b then pooled p else p) t))
-    by true = pool_theirs (o t) ∙ sym (pool_theirs (p t))
-    by false = e
+theirs_after s (GT k) o p t e = by_test (has k t) (λ q. rw q) (λ q. rw q e)
+theirs_after s (AC v r n x z y) o p t e = by_test (has (becomes s (AC v r n x z y)).held t) (λ l. rw l) (λ l. rw l e)
+theirs_after s (RA n x y) o p t e = by_test (has (becomes s (RA n x y)).held t) (λ c. rw c) (λ c. rw c e)
+theirs_after s (RS k n x y) o p t e = by_test (stands s n) (λ i. rw i (pool_theirs (o t) ∙ sym (pool_theirs (p t)))) (λ i. rw i e)
 theirs_after s _ o p t e = e
 
 -- ---- a unit of the core is answered by none
@@ -133,14 +84,10 @@ record Takes (broken : Bool) (w : World) (c : Core) (u : Meaning) (us : List Mea
   lives : stopped w.own ≡ false
   channel : w.peer.channel ≡ unit u ∷ ms
 
-lives_in_core : (broken : Bool) (w : World) (c : Core) (u : Meaning) (us : List Meaning) (ms : List Message) → Takes broken w c u us ms → is_over c.own.session.phase ≡ false
-lives_in_core broken w c u us ms k = ap (λ (r : Kept). is_over r.phase) (sym (k.old.own.alike k.lives).kept) ∙ k.lives
-
 fits_first : (broken : Bool) (w : World) (c : Core) (u : Meaning) (us : List Meaning) (ms : List Message) → Takes broken w c u us ms → Fits c.own.session u
-fits_first broken w c u us ms k = f.0
-  where
-    f : AllFit c.own.session (u ∷ us)
-    f = k.all.own.fits
+fits_first broken w c u us ms k =
+    let f : AllFit c.own.session (u ∷ us) = k.all.own.fits in
+    f.0
 
 lives_then : (broken : Bool) (w : World) (c : Core) (u : Meaning) (us : List Meaning) (ms : List Message) → Takes broken w c u us ms
     → is_over (respond_unit c.own.session u).next.phase ≡ false
@@ -149,17 +96,15 @@ lives_then broken w c u us ms k = alive (taking c (u ∷ us)).owner (taking c (u
 no_reply : (broken : Bool) (w : World) (c : Core) (u : Meaning) (us : List Meaning) (ms : List Message) → Takes broken w c u us ms → (respond_unit c.own.session u).reply ≡ None
 no_reply broken w c u us ms k =
     let f = fits_first broken w c u us ms k in
-    ap (λ (o : Outcome). o.reply) (no_fault c.own.session u (lives_in_core broken w c u us ms k) f) ∙ by (drops c.own.session u) refl f.plain
+    ap (λ (o : Outcome). o.reply) (no_fault c.own.session u (ap (λ (r : Kept). is_over r.phase) (sym (k.old.own.alike k.lives).kept) ∙ k.lives) f) ∙ by_test (drops c.own.session u)
+    (λ d. rw d)
+    (λ d. rw d (let p : is_plain u ≡ true = f.plain in plain_reply c.own.session u p (accepts u refl d)))
   where
     accepts : (m : Meaning) → m ≡ u → drops c.own.session u ≡ false → (v : Bool) (r : ℕ) (n : Option ℕ) (x : TokenSetting) (from to : Option (List ℕ)) (z : TsduMaximumSize) (o : List ℕ)
         → m ≡ CN v r n x from to z o → is_acceptable v r z ≡ true
     accepts m e d v r n x from to z o same =
         let path = sym e ∙ same in
         acceptable c v r n x from to z o us (subst (λ (y : Meaning). drops c.own.session y ≡ false) path d) (subst (λ (y : Meaning). Stands (at c (y ∷ us))) path k.all)
-
-    by : (b : Bool) → drops c.own.session u ≡ b → is_plain u ≡ true → (if b then nothing c.own.session else good c.own.session u).reply ≡ None
-    by true d p = refl
-    by false d p = plain_reply c.own.session u p (accepts u refl d)
 
 same_channel : (broken : Bool) (w : World) (c : Core) (u : Meaning) (us : List Meaning) (ms : List Message) → Takes broken w c u us ms
     → put broken (replied (respond_unit c.own.session u).reply) w.own.channel ≡ w.own.channel
@@ -171,24 +116,10 @@ was_alike broken w c u us ms k = k.old.own.alike k.lives
 taker_mark : (broken : Bool) (w : World) (c : Core) (u : Meaning) (us : List Meaning) (ms : List Message) → Takes broken w c u us ms
     → (if is_acted_on c.own.session u then mark_after c.own.session u w.history w.own.mark else w.own.mark)
     ≡ length (if is_acted_on c.own.session u then seen c.own.session u c.own.view else c.own.view)
-taker_mark broken w c u us ms k = by (is_acted_on c.own.session u)
-  where
-    s : State
-    s = c.own.session
-
-    by : (b : Bool) → (if b then mark_after c.own.session u w.history w.own.mark else w.own.mark) ≡ length (if b then seen c.own.session u c.own.view else c.own.view)
-    by true = ap (λ (h : List Item). mark_after c.own.session u h w.own.mark) k.old.history
-        ∙ seen_mark c.own.session u c.history c.own.view w.own.mark (cuts_alike c u us k.all) (was_alike broken w c u us ms k).mark
-    by false = (was_alike broken w c u us ms k).mark
-
-taker_got : (broken : Bool) (w : World) (c : Core) (u : Meaning) (us : List Meaning) (ms : List Message) → Takes broken w c u us ms
-    → (if is_acted_on c.own.session u then w.own.got + length (got_in c.own.session u) else w.own.got)
-    ≡ length (if is_acted_on c.own.session u then c.own.got ++ got_in c.own.session u else c.own.got)
-taker_got broken w c u us ms k = by (is_acted_on c.own.session u)
-  where
-    by : (b : Bool) → (if b then w.own.got + length (got_in c.own.session u) else w.own.got) ≡ length (if b then c.own.got ++ got_in c.own.session u else c.own.got)
-    by true = ap (λ (n : ℕ). n + length (got_in c.own.session u)) (was_alike broken w c u us ms k).got ∙ sym (length-append c.own.got (got_in c.own.session u))
-    by false = (was_alike broken w c u us ms k).got
+taker_mark broken w c u us ms k = by_test (is_acted_on c.own.session u)
+    (λ e. rw e (ap (λ (h : List Item). mark_after c.own.session u h w.own.mark) k.old.history
+    ∙ seen_mark c.own.session u c.history c.own.view w.own.mark (cuts_alike c u us k.all) (was_alike broken w c u us ms k).mark))
+    (λ e. rw e (was_alike broken w c u us ms k).mark)
 
 taker_owns : (broken : Bool) (w : World) (c : Core) (u : Meaning) (us : List Meaning) (ms : List Message) → Takes broken w c u us ms → (t : Token)
     → is_own (left_by (respond_unit c.own.session u).next (if is_acted_on c.own.session u then owners_after c.own.session u w.owner else w.owner) t)
@@ -201,23 +132,6 @@ taker_owns broken w c u us ms k t =
     by : (b : Bool) → is_own ((if b then owners_after c.own.session u w.owner else w.owner) t) ≡ is_own ((if b then owners_after c.own.session u c.owner else c.owner) t)
     by true = owns_after c.own.session u w.owner c.owner t ((was_alike broken w c u us ms k).owns t)
     by false = (was_alike broken w c u us ms k).owns t
-
-taker_side : (broken : Bool) (w : World) (c : Core) (u : Meaning) (us : List Meaning) (ms : List Message) → Takes broken w c u us ms
-    → Carried broken (stopped w.peer) ms us c.peer.session → OneSide broken (took broken w c u ms) (taking c (u ∷ us))
-taker_side broken w c u us ms k rest = record {
-  begun = k.old.own.begun;
-  counted = record { acked = refl; based = refl; marked = taker_mark broken w c u us ms k };
-  alike = λ l. record {
-    transport = (was_alike broken w c u us ms k).transport;
-    kept = refl;
-    mark = taker_mark broken w c u us ms k;
-    said = (was_alike broken w c u us ms k).said;
-    got = taker_got broken w c u us ms k;
-    owns = taker_owns broken w c u us ms k;
-  };
-  carried = λ l. rest;
-  parted = λ l. ap (list_any parts) (same_channel broken w c u us ms k) ∙ k.old.own.parted k.lives;
-}
 
 -- its sender
 carried_on : (broken : Bool) (channel channel' : List Message) (sent : List Meaning) (s r : State) (b : Bool) → channel' ≡ channel → b ≡ false → Carried broken false channel sent s
@@ -268,14 +182,25 @@ pub take_projects : (broken : Bool) (w : World) (c : Core) (u : Meaning) (us : L
 take_projects broken w c u us ms p all then_all lives e rest =
     let k : Takes broken w c u us ms = record { old = p; all = all; then_all = then_all; lives = lives; channel = e } in
     record {
-      history = by (is_acted_on c.own.session u);
-      own = taker_side broken w c u us ms k rest;
+      history = by_test (is_acted_on c.own.session u) (λ q. rw q (ap (cut_by c.own.session u) p.history)) (λ q. rw q p.history);
+      own = record {
+        begun = k.old.own.begun;
+        counted = record { acked = refl; based = refl; marked = taker_mark broken w c u us ms k };
+        alike = λ l. record {
+          transport = (was_alike broken w c u us ms k).transport;
+          kept = refl;
+          mark = taker_mark broken w c u us ms k;
+          said = (was_alike broken w c u us ms k).said;
+          got = by_test (is_acted_on c.own.session u)
+              (λ e. rw e (ap (λ (n : ℕ). n + length (got_in c.own.session u)) (was_alike broken w c u us ms k).got ∙ sym (length-append c.own.got (got_in c.own.session u))))
+              (λ e. rw e (was_alike broken w c u us ms k).got);
+          owns = taker_owns broken w c u us ms k;
+        };
+        carried = λ l. rest;
+        parted = λ l. ap (list_any parts) (same_channel broken w c u us ms k) ∙ k.old.own.parted k.lives;
+      };
       peer = giver_side broken w c u us ms k;
     }
-  where
-    by : (b : Bool) → (if b then cut_by c.own.session u w.history else w.history) ≡ (if b then cut_by c.own.session u c.history else c.history)
-    by true = ap (cut_by c.own.session u) p.history
-    by false = p.history
 
 -- ---- the first unit under way is that of the core's channel, or the last of a side that is over
 
@@ -301,11 +226,7 @@ split_there broken over_now u ms s v vs lost tail e whole last =
     }
 
 split_tail : (over_now : Bool) (u : Meaning) (ms : List Message) (s : State) (lost tail : List Meaning) → unit u ∷ ms ≡ map unit tail → IsTail over_now s lost tail → Last over_now u ms lost s
-split_tail over_now u ms s lost [] e last = absurd (cc)
-split_tail over_now u ms s lost (v ∷ []) e last =
-    let same : v ≡ u = cc in
-    record { none = last.1; ended = last.0; last = subst (IsLast s) same last.2 }
-split_tail over_now u ms s lost (v ∷ x ∷ us) e last = absurd (last)
+split_tail over_now u ms s lost tail e last = grind (arith, IsLast)
 
 pub split_first : (broken over_now : Bool) (u : Meaning) (ms : List Message) (sent : List Meaning) (s : State) → Carried broken over_now (unit u ∷ ms) sent s
     → First broken over_now u ms sent s ⊎ Last over_now u ms sent s

@@ -1,14 +1,13 @@
 -- A whole connection at every step: one of which nothing is lost repeats it, and the records of both sides
 -- tell what that one has seen.
-use Rattle.std.proofs.Common.{◌≡◌, refl, sym, ◌∙◌, ap, subst, ℕ, Bool, true, false, not, if◌then◌else◌, List, [], ◌∷◌, inl, inr, Ok, Err}
+use Rattle.std.proofs.Common.{◌≡◌, refl, sym, ◌∙◌, ap, subst, ℕ, Bool, true, false, if◌then◌else◌, List, [], ◌∷◌, inl, inr, Ok, Err, arith}
 use Rattle.osi_session.specs.declared.faults.CallError.TheVariants as error
-use Rattle.osi_session.specs.Shown.{Shown, Aborted, PeerAbort}
+use Rattle.osi_session.specs.Shown.{Aborted, PeerAbort}
 use Rattle.osi_message.specs.Reading.{names}
 use Rattle.osi_session.specs.Respond.{shown_for, closes_for}
-use Rattle.osi_machine.specs.Floor.{State, Meaning, RF, DN, AB, AA, Call, Refuse, ReleaseAccept, Abort, Answer, HasSerial, Outcome, nothing, good, allowed, is_over, is_aborting, is_ended, is_wait_cn, in_aborting, in_ended, respond_unit, drops}
-use Rattle.osi_machine.specs.Owners.{Owners}
+use Rattle.osi_machine.specs.Floor.{State, Meaning, RF, DN, AB, AA, Call, Answer, HasSerial, Outcome, allowed, is_over, is_aborting, is_ended, is_wait_cn, in_aborting, in_ended, respond_unit, drops}
 use Rattle.osi_machine.specs.Channels.{is_plain}
-use Rattle.osi_machine.specs.Core.{Core, turned, stays_in_core, answered, taking}
+use Rattle.osi_machine.specs.Core.{Core, turned, stays_in_core, answered}
 use Rattle.osi_machine.specs.Worlds.{Message, unit, World, session_of, after_call, after_answer, after_unit, Taking, unit_taken, turned as turned_world}
 use Rattle.osi_machine.specs.Machine.{without_first}
 use Rattle.osi_machine.specs.Views.{Told, told_call}
@@ -20,11 +19,12 @@ use Rattle.osi_machine.proofs.TakeMoves.{at, stands_at}
 use Rattle.osi_machine.proofs.Dispatch.{called_stands, taking_stands, turned_stands, turned_twice}
 use Rattle.osi_machine.proofs.ViewFold.{Tells, told_all}
 use Rattle.osi_machine.proofs.ViewRun.{answer_tells, taken_tells}
-use Rattle.osi_machine.proofs.Projects.{stopped, IsLast, Carried, OneSide, Projects, session_is}
+use Rattle.osi_machine.proofs.Projects.{stopped, IsLast, Carried, OneSide, Projects, session_is, not_both}
 use Rattle.osi_machine.proofs.ProjectCall.{call_projects, stop_projects}
 use Rattle.osi_machine.proofs.ProjectTake.{First, Last, split_first, take_projects}
 use Rattle.osi_machine.proofs.ProjectLast.{last_projects, last_good, over_projects, over_next, over_nothing}
 use Rattle.osi_machine.proofs.ProjectEnd.{parting_over}
+use Rattle.osi_machine.proofs.PhaseLaws.{if_no, if_yes, by_test}
 
 -- t and u are what the records of this side and of the other tell
 pub record Repeats (broken : Bool) (w : World) (t u : Told) : Type 0 where
@@ -39,12 +39,7 @@ pub turned_repeats : (broken : Bool) (w : World) (t u : Told) → Repeats broken
 turned_repeats broken w t u h = record {
   core = turned h.core;
   stands = turned_stands h.core h.stands;
-  projects = record {
-    history = h.projects.history;
-    own = h.projects.peer;
-    peer = subst (λ (o : Owners). OneSide broken (record w { owner = o }) (turned (turned h.core))) (sym (turned_twice w.owner))
-        (subst (λ (o : Owners). OneSide broken w (record { history = h.core.history; owner = o; own = h.core.own; peer = h.core.peer })) (sym (turned_twice h.core.owner)) h.projects.own);
-  };
+  projects = search (OneSide, turned_twice);
   own = h.peer;
   peer = h.own;
 }
@@ -61,10 +56,7 @@ told_answer t x (Ok g) = told_call t x
 told_answer t x (Err e) = t
 
 stop_told : (t : Told) (x : Call) → stays_in_core x ≡ false → told_call t x ≡ t
-stop_told t (Refuse o) k = refl
-stop_told t (ReleaseAccept o) k = refl
-stop_told t (Abort o) k = refl
-stop_told t _ k = absurd (cc)
+stop_told t x k = grind arith
 
 core_answer : SessionLaws → (broken : Bool) (w : World) (t u : Told) (x : Call) → HasSerial x → (h : Repeats broken w t u) → stopped w.own ≡ false
     → (k : Bool) → stays_in_core x ≡ k → (a : Answer) → allowed h.core.own.session x ≡ a → Repeats broken (answered_by broken h.core.own.session x w a) (told_answer t x a) u
@@ -77,13 +69,7 @@ core_answer laws broken w t u x small h l true q (Ok g) e = record {
   own = answer_tells laws h.core x (Ok g) t q e h.stands h.own;
   peer = h.peer;
 }
-core_answer laws broken w t u x small h l false q (Ok g) e = record {
-  core = h.core;
-  stands = h.stands;
-  projects = stop_projects laws broken w h.core x g q l h.projects e;
-  own = subst (λ (d : Told). Tells d h.core.own.session h.core.own.view h.core.own.said h.core.own.got) (sym (stop_told t x q)) h.own;
-  peer = h.peer;
-}
+core_answer laws broken w t u x small h l false q (Ok g) e = search (stop_projects, Tells, stop_told)
 
 answers_as : (broken : Bool) (w : World) (x : Call) (a : Answer) → answered_by broken (session_of w) x w a ≡ after_answer broken x w a
 answers_as broken w x (Ok g) = refl
@@ -91,23 +77,16 @@ answers_as broken w x (Err e) = refl
 
 pub refused : (s : State) (x : Call) → is_over s.phase ≡ true → allowed s x ≡ Err error.Ended
 unfolding allowed
-refused s x o = first (is_over s.phase) _ _ o
-  where
-    first : (b : Bool) (a c : Answer) → b ≡ true → (if b then a else c) ≡ a
-    first true a c e = refl
-    first false a c e = absurd (cc)
+refused s x o = if_yes (is_over s.phase) _ _ o
 
 pub call_repeats : SessionLaws → (broken : Bool) (w : World) (t u : Told) (x : Call) → HasSerial x → Repeats broken w t u
     → Repeats broken (after_answer broken x w (allowed (session_of w) x)) (told_answer t x (allowed (session_of w) x)) u
-call_repeats laws broken w t u x small h = by (stopped w.own) refl
-  where
-    by : (b : Bool) → stopped w.own ≡ b → Repeats broken (after_answer broken x w (allowed (session_of w) x)) (told_answer t x (allowed (session_of w) x)) u
-    by true o = subst (λ (a : Answer). Repeats broken (after_answer broken x w a) (told_answer t x a) u) (sym (refused (session_of w) x o)) h
-    by false l =
-        let e = session_is w h.core h.stands h.projects.history h.projects.own.counted (h.projects.own.alike l) in
-        subst (λ (v : World). Repeats broken v (told_answer t x (allowed (session_of w) x)) u) (answers_as broken w x (allowed (session_of w) x))
-        (subst (λ (s : State). Repeats broken (answered_by broken s x w (allowed s x)) (told_answer t x (allowed s x)) u) (sym e)
-        (core_answer laws broken w t u x small h l (stays_in_core x) refl (allowed h.core.own.session x) refl))
+call_repeats laws broken w t u x small h = by_test (stopped w.own)
+    (λ o. subst (λ (a : Answer). Repeats broken (after_answer broken x w a) (told_answer t x a) u) (sym (refused (session_of w) x o)) h)
+    (λ l. let e = session_is w h.core h.stands h.projects.history h.projects.own.counted (h.projects.own.alike l) in
+    subst (λ (v : World). Repeats broken v (told_answer t x (allowed (session_of w) x)) u) (answers_as broken w x (allowed (session_of w) x))
+    (subst (λ (s : State). Repeats broken (answered_by broken s x w (allowed s x)) (told_answer t x (allowed s x)) u) (sym e)
+    (core_answer laws broken w t u x small h l (stays_in_core x) refl (allowed h.core.own.session x) refl)))
 
 -- ---- a message that is taken
 
@@ -121,19 +100,12 @@ unit_as broken w m ms s = record { world = after_unit broken s m (without_first 
 
 -- the first unit of the core's channel
 plain_open : (u : Meaning) → is_plain u ≡ true → closes_for u ≡ false
-plain_open (RF x o) p = absurd (cc)
-plain_open (DN o) p = absurd (cc)
-plain_open _ p = refl
+plain_open u p = grind arith
 
 first_open : (c : Core) (m : Meaning) (us : List Meaning) → Stands (at c (m ∷ us)) → (respond_unit c.own.session m).closes ≡ false
-first_open c m us s = ap (λ (o : Outcome). o.closes) (no_fault c.own.session m (alive c.owner c.own (at c (m ∷ us)).peer s.own) s.own.fits.0) ∙ by (drops c.own.session m) s.own.fits.0.plain
-  where
-    by : (b : Bool) → is_plain m ≡ true → (if b then nothing c.own.session else good c.own.session m).closes ≡ false
-    by true p = refl
-    by false p = plain_open m p
-
-not_both : {A : Type 0} (b : Bool) → b ≡ true → b ≡ false → A
-not_both b p q = absurd (cc)
+first_open c m us s = ap (λ (o : Outcome). o.closes) (no_fault c.own.session m (alive c.owner c.own (at c (m ∷ us)).peer s.own) s.own.fits.0) ∙ by_test (drops c.own.session m)
+    (λ e. rw e)
+    (λ e. rw e (let p : is_plain m ≡ true = s.own.fits.0.plain in plain_open m p))
 
 take_first : SessionLaws → (broken : Bool) (w : World) (t u : Told) (m : Meaning) (ms : List Message) (h : Repeats broken w t u) → stopped w.own ≡ false → w.peer.channel ≡ unit m ∷ ms
     → First broken (stopped w.peer) m ms h.core.peer.sent h.core.peer.session → Taken broken t u (unit_as broken w m ms h.core.own.session)
@@ -142,13 +114,7 @@ take_first laws broken w t u m ms h l e f =
     let all = stands_at h.core (m ∷ f.rest) f.sent_is h.stands in
     let then_all = taking_stands laws h.core (m ∷ f.rest) f.sent_is h.stands in
     record {
-      repeats = record {
-        core = taking h.core (m ∷ f.rest);
-        stands = then_all;
-        projects = take_projects broken w h.core m f.rest ms h.projects all then_all l e f.carried;
-        own = taken_tells h.core (m ∷ f.rest) t f.sent_is h.stands h.own (respond_unit h.core.own.session m).shown refl;
-        peer = h.peer;
-      };
+      repeats = search (take_projects, taken_tells);
       over_now = λ k. not_both (respond_unit h.core.own.session m).closes k (first_open h.core m f.rest all);
     }
 
@@ -157,11 +123,9 @@ last_told : (t : Told) (s r : State) (m : Meaning) → IsLast r m → told_all t
 last_told t s r (RF x o) l = refl
 last_told t s r (DN o) l = refl
 last_told t s r (AB b o) l =
-    subst (λ (n : ℕ). told_all t (if is_wait_cn s.phase then [] else (if names n 2 then Aborted o else PeerAbort n) ∷ []) ≡ t) (sym l) (by (is_wait_cn s.phase))
-  where
-    by : (a : Bool) → told_all t (if a then [] else Aborted o ∷ []) ≡ t
-    by true = refl
-    by false = refl
+    subst (λ (n : ℕ). told_all t (if is_wait_cn s.phase then [] else (if names n 2 then Aborted o else PeerAbort n) ∷ []) ≡ t) (sym l) (by_test (is_wait_cn s.phase)
+    (λ e. rw e)
+    (λ e. rw e))
 last_told t s r _ l = absurd (l)
 
 take_last : (broken : Bool) (w : World) (t u : Told) (m : Meaning) (ms : List Message) (h : Repeats broken w t u)
@@ -195,36 +159,23 @@ over_silent s m o = by (is_aborting s.phase) refl (is_ended s.phase) refl
     ended (AB b o) = refl
     ended _ = refl
 
-    other : (b : Bool) (x y : Outcome) → b ≡ false → (if b then x else y) ≡ y
-    other true x y h = absurd (cc)
-    other false x y h = refl
-
-    first : (b : Bool) (x y : Outcome) → b ≡ true → (if b then x else y) ≡ x
-    first true x y h = refl
-    first false x y h = absurd (cc)
-
     by : (a : Bool) → is_aborting s.phase ≡ a → (e : Bool) → is_ended s.phase ≡ e → (respond_unit s m).shown ≡ []
-    by true h e k = ap (λ (x : Outcome). x.shown) (first (is_aborting s.phase) _ _ h) ∙ aborting m
-    by false h true k = ap (λ (x : Outcome). x.shown) (other (is_aborting s.phase) _ _ h ∙ first (is_ended s.phase) _ _ k) ∙ ended m
+    by true h e k = ap (λ (x : Outcome). x.shown) (if_yes (is_aborting s.phase) _ _ h) ∙ aborting m
+    by false h true k = ap (λ (x : Outcome). x.shown) (if_no (is_aborting s.phase) _ _ h ∙ if_yes (is_ended s.phase) _ _ k) ∙ ended m
     by false h false k = absurd (let n = over_of false false s.phase h k in cc)
 
 take_over : (broken : Bool) (w : World) (t u : Told) (m : Meaning) (ms : List Message) → Repeats broken w t u → stopped w.own ≡ true → w.peer.channel ≡ unit m ∷ ms
     → Taken broken t u (unit_as broken w m ms (session_of w))
 unfolding unit_as
 take_over broken w t u m ms h o e = record {
-  repeats = record {
-    core = h.core;
-    stands = h.stands;
-    projects = over_projects broken w h.core m ms h.projects o e;
-    own = subst (λ (i : List Shown). Tells (told_all t i) h.core.own.session h.core.own.view h.core.own.said h.core.own.got) (sym (over_silent (session_of w) m o)) h.own;
-    peer = h.peer;
-  };
-  over_now = λ k. (over_next (session_of w) m o, parting_over broken w h.core (unit m) ms h.projects e (by (is_plain m) refl k));
+  repeats = search (over_projects, Tells, told_all, over_silent);
+  over_now = λ k. (
+    over_next (session_of w) m o,
+    parting_over broken w h.core (unit m) ms h.projects e (by_test (is_plain m)
+        (λ p. rw p (not_both (respond_unit (session_of w) m).closes k (ap (λ (x : Outcome). x.closes) (over_nothing (session_of w) m o p))))
+        (λ p. rw p)),
+  );
 }
-  where
-    by : (b : Bool) → is_plain m ≡ b → (respond_unit (session_of w) m).closes ≡ true → not b ≡ true
-    by false p k = refl
-    by true p k = not_both (respond_unit (session_of w) m).closes k (ap (λ (x : Outcome). x.closes) (over_nothing (session_of w) m o p))
 
 pub unit_repeats : SessionLaws → (broken : Bool) (w : World) (t u : Told) (m : Meaning) (ms : List Message) → Repeats broken w t u → w.peer.channel ≡ unit m ∷ ms
     → Taken broken t u (unit_taken broken (without_first w ms) m)

@@ -89,10 +89,10 @@ pub record Projects (broken : Bool) (w : World) (c : Core) : Type 0 where
 
 -- ---- where both sides are over, nothing is said but that
 
-not_both : {A : Type 0} (b : Bool) → b ≡ true → b ≡ false → A
+pub not_both : {A : Type 0} (b : Bool) → b ≡ true → b ≡ false → A
 not_both b p q = absurd (cc)
 
-one_over : (broken : Bool) (w : World) (c : Core) → is_begun w.own.transport ≡ true → stopped w.own ≡ true → Counted w.own c.own
+pub one_over : (broken : Bool) (w : World) (c : Core) → is_begun w.own.transport ≡ true → stopped w.own ≡ true → Counted w.own c.own
     → OneSide broken w c
 one_over broken w c b o a = record { begun = b; counted = a; alike = λ l. not_both _ o l; carried = λ l. not_both _ o l; parted = λ l. not_both _ o l }
 
@@ -100,10 +100,6 @@ pub both_over : (broken : Bool) (w : World) (c : Core) → w.history ≡ c.histo
     → is_begun w.peer.transport ≡ true → stopped w.peer ≡ true → Counted w.own c.own → Counted w.peer c.peer
     → Projects broken w c
 both_over broken w c h b o d p x y = record { history = h; own = one_over broken w c b o x; peer = one_over broken (turned_world w) (turned c) d p y }
-
-pub over_side : (broken : Bool) (w : World) (c : Core) → is_begun w.own.transport ≡ true → stopped w.own ≡ true → Counted w.own c.own
-    → OneSide broken w c
-over_side = one_over
 
 -- ---- the session of a side that is not over is that of the core
 

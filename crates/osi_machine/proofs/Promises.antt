@@ -2,7 +2,7 @@
 use Rattle.std.proofs.Common.{◌≡◌, refl, sym, ◌∙◌, ap, subst, ℕ, zero, suc, ◌+◌, ◌-◌, ◌≤◌, ◌<◌, Bool, true, false, not, ◌&&◌, if◌then◌else◌, List, [], ◌∷◌, ◌++◌, length, length-append, inl, inr, append_assoc, arith}
 use Rattle.osi_machine.specs.Floor.{is_profile, State, Numbers, has, Meaning, DT, MIP, MAP, FunctionalUnits, is_restarting, functional_units}
 use Rattle.osi_machine.specs.Histories.{Item, Octets, Point, PointKind, points, upto, AreNumberedFrom, Begins, Agree}
-use Rattle.osi_machine.specs.Owners.{Owner, Own, Theirs, ToOwn, ToThem, Pool, Absent, turned_owner, is_own}
+use Rattle.osi_machine.specs.Owners.{Owner, Own, turned_owner, is_own}
 use Rattle.osi_machine.specs.Taking.{is_acted_on, seen, cut_by}
 use Rattle.osi_machine.specs.Channels.{data_of}
 use Rattle.osi_machine.specs.Core.{Offer, CanBeOffered, Party, Core, taking, core_start}
@@ -13,12 +13,14 @@ use Rattle.osi_machine.proofs.Units.{next_hears}
 use Rattle.osi_machine.proofs.ChannelLaws.{kept_heard}
 use Rattle.osi_machine.proofs.Begun.{flush_open, heard_open}
 use Rattle.osi_machine.proofs.Idle.{append_nil}
-use Rattle.osi_machine.proofs.Heard.{begins_points, heard_grown, listener_begins}
+use Rattle.osi_machine.proofs.Heard.{begins_points, heard_grown, listener_begins, begins_twice}
 use Rattle.osi_machine.proofs.Alive.{first_is_no_fault}
 use Rattle.osi_machine.proofs.CoreLaws.{SessionLaws}
 use Rattle.osi_machine.proofs.Starts.{starts_stand}
 use Rattle.osi_machine.proofs.Profiles.{profile_of, profile_data}
 use Rattle.osi_machine.proofs.Dispatch.{taking_stands, run_stands}
+use Rattle.osi_machine.proofs.DataCall.{said_seen}
+use Rattle.osi_machine.proofs.PhaseLaws.{by_test}
 
 -- ---- it is true of each connection that came about
 
@@ -58,11 +60,9 @@ upto_begins (suc k) (Octets octets ∷ h) = let b = upto_begins (suc k) h in (b.
 upto_begins (suc k) (Point n kind octets ∷ h) = let b = upto_begins k h in (b.0, ap (λ (r : List Item). Point n kind octets ∷ r) b.1)
 
 view_begins : (h : List Item) (x y : Party) → Views h x y → Begins x.view h
-view_begins h x y v = by (is_restarting (hearing x y).phase) refl
-  where
-    by : (b : Bool) → is_restarting (hearing x y).phase ≡ b → Begins x.view h
-    by false e = listener_begins h x y v (ap not e)
-    by true e = subst (λ (r : List Item). Begins r h) (sym (v.cut e)) (upto_begins (x.session.numbers.next - x.session.base) h)
+view_begins h x y v = by_test (is_restarting (hearing x y).phase)
+    (λ e. subst (λ (r : List Item). Begins r h) (sym (v.cut e)) (upto_begins (x.session.numbers.next - x.session.base) h))
+    (λ e. listener_begins h x y v (ap not e))
 
 pub sees_the_history : (w : Core) → Stands w → SeesTheHistory w
 sees_the_history w s = view_begins w.history w.own w.peer s.own_views
@@ -97,13 +97,10 @@ views_agree w s = begins_agree w.own.view w.peer.view w.history (view_begins w.h
 
 -- with duplex
 pub got_what_was_said : (w : Core) → Stands w → GotWhatWasSaid w
-got_what_was_said w s d = by (is_opening w.own.session.phase) refl
-  where
-    by : (b : Bool) → is_opening w.own.session.phase ≡ b → Begins w.own.got w.peer.said
-    by true e = subst (λ (r : List (List ℕ)). Begins r w.peer.said) (sym (s.consistent.own.fresh e).got) (w.peer.said, refl)
-    by false e =
-        let u = (flush_open w.own.session w.peer.sent e s.own.fits).units in
-        (data_of w.peer.sent, (s.own_views.stream (ap (λ (f : FunctionalUnits). f.duplex) u ∙ d)).0)
+got_what_was_said w s d = by_test (is_opening w.own.session.phase)
+    (λ e. subst (λ (r : List (List ℕ)). Begins r w.peer.said) (sym (s.consistent.own.fresh e).got) (w.peer.said, refl))
+    (λ e. let u = (flush_open w.own.session w.peer.sent e s.own.fits).units in
+    (data_of w.peer.sent, (s.own_views.stream (ap (λ (f : FunctionalUnits). f.duplex) u ∙ d)).0))
 
 -- ---- what is taken
 
@@ -119,13 +116,9 @@ seen_next laws w u us e a s =
     (subst (Begins (if is_acted_on w.own.session u then seen w.own.session u w.own.view else w.own.view))
     (ap (λ (b : Bool). if b then cut_by w.own.session u w.history else w.history) a) n)
 
-duplex_or_not : (b : Bool) (v : List Item) (i : Item) → (if b then v else v ++ i ∷ []) ≡ v ++ (if b then [] else i ∷ [])
-duplex_or_not true v i = sym (append_nil v)
-duplex_or_not false v i = refl
-
 pub takes_the_next_item : SessionLaws → (w : Core) → Stands w → TakesTheNextItem w
 takes_the_next_item laws w s (DT o) us e a =
-    subst (λ (v : List Item). Begins v w.history) (duplex_or_not w.own.session.units.duplex w.own.view (Octets o)) (seen_next laws w (DT o) us e a s)
+    subst (λ (v : List Item). Begins v w.history) (said_seen w.own.session.units.duplex w.own.view (Octets o)) (seen_next laws w (DT o) us e a s)
 takes_the_next_item laws w s (MIP c n o) us e a = seen_next laws w (MIP c n o) us e a s
 takes_the_next_item laws w s (MAP n o) us e a = seen_next laws w (MAP n o) us e a s
 takes_the_next_item laws w s _ us e a = none_brought w s
@@ -172,9 +165,6 @@ seen_there b n before kind octets v h a p q l = elim (begins_agree (before ++ Po
         let k = number in
         absurd (omega arith)
 
-begins_through : (v w z : List Item) → Begins v w → Begins w z → Begins v z
-begins_through v w z a b = (a.0 ++ b.0, sym (append_assoc v a.0 b.0) ∙ ap (λ (r : List Item). r ++ b.0) a.1 ∙ b.1)
-
 pub none_in_nil : (before : List Item) (i : Item) → Begins (before ++ i ∷ []) [] → ⊥
 none_in_nil [] i b = let e = ap length b.1 in omega arith
 none_in_nil (j ∷ before) i b = let e = ap length b.1 in omega arith
@@ -186,7 +176,7 @@ confirmed_is_seen w s before n kind octets b l r = by (is_opening w.own.session.
     by true q e f = absurd (none_in_nil before (Point n kind octets) (subst (Begins (before ++ Point n kind octets ∷ [])) (s.consistent.own.fresh e).view b))
     by false q e f =
         let begun = flush_open w.own.session w.peer.sent e s.own.fits in
-        let all = begins_through (before ++ Point n kind octets ∷ []) w.own.view w.history b (sees_the_history w s) in
+        let all = begins_twice (before ++ Point n kind octets ∷ []) w.own.view w.history b (sees_the_history w s) in
         let number = numbered_at w.own.session.base before n kind octets all.0
         (subst (AreNumberedFrom w.own.session.base) (sym all.1 ∙ append_assoc before (Point n kind octets ∷ []) all.0)
         (subst (λ (k : ℕ). AreNumberedFrom k w.history) begun.base s.pair.numbered)) in

@@ -1,28 +1,26 @@
 -- The calls of Release and of ReleaseRefuse keep what is true of both sides.
 use Rattle.std.proofs.Common.{◌≡◌, refl, sym, ◌∙◌, ap, subst, ℕ, ◌≤◌, ◌<◌, Bool, true, false, not, ◌&&◌, ◌||◌, if◌then◌else◌, List, [], ◌∷◌, ◌++◌, inl, inr, Ok}
-use Rattle.std.proofs.lemmas.Bool.{and_parts}
+use Rattle.std.proofs.lemmas.Bool.{and_parts, and_from, not-true, or_parts, and_right}
 use Rattle.std.specs.List.{list_any}
-use Rattle.osi_machine.specs.Floor.{State, Phase, Numbers, FunctionalUnits, Ready, Releasing, ReleaseDue, Tokens, Meaning, CN, AC, RF, DT, GT, PT, MIP, MIA, MAP, MAA, RS, RA, FN, DN, NF, AB, AA, Token, data_token, minor, major, has, available, each, has_right, is_empty, is_within, is_disjoint, is_ready, is_releasing, is_release_due, is_restarting, is_restart_due, is_wait_cn, is_connecting, is_major_asked, is_acceptable, lower, passes_restarting, has_no_effect, may_hold, becomes, stands, drops, next, Good, Release, ReleaseRefuse, Granted, allowed}
+use Rattle.osi_machine.specs.Floor.{State, Phase, Numbers, FunctionalUnits, Ready, Releasing, ReleaseDue, Tokens, Meaning, CN, AC, DT, GT, PT, MIP, MIA, MAP, MAA, RS, RA, FN, NF, AA, Token, data_token, minor, major, has, available, each, has_right, is_empty, is_within, is_disjoint, is_ready, is_releasing, is_release_due, is_restarting, is_restart_due, is_wait_cn, is_connecting, is_major_asked, is_acceptable, lower, passes_restarting, has_no_effect, may_hold, becomes, stands, next, Good, Release, ReleaseRefuse}
 use Rattle.osi_machine.specs.Histories.{AreNumberedFrom}
 use Rattle.osi_machine.specs.Owners.{turned_owners}
 use Rattle.osi_machine.specs.Channels.{is_plain, Fits, AllFit, flush, stops, heard_view, needs_token}
 use Rattle.osi_machine.specs.Core.{Core, answered}
-use Rattle.osi_machine.specs.Parties.{is_opening, AreConsistent}
-use Rattle.osi_machine.proofs.PhaseLaws.{implied, excluded, implied_two}
-use Rattle.osi_machine.proofs.Units.{next_cases, fit_cases, next_acted, next_dropped, next_hears}
+use Rattle.osi_machine.specs.Parties.{is_opening}
+use Rattle.osi_machine.proofs.PhaseLaws.{implied, excluded, implied_two, by_either, by_test}
+use Rattle.osi_machine.proofs.Units.{next_cases, fit_cases, next_acted, next_dropped, next_hears, chosen}
 use Rattle.osi_machine.proofs.ChannelLaws.{kept_all, kept_heard, heard_flush}
 use Rattle.osi_machine.proofs.Tokens.{each_has}
 use Rattle.osi_machine.proofs.Begun.{flush_open, none_needs}
 use Rattle.osi_machine.proofs.Fewer.{is_empty_of, within_has, disjoint_has}
 use Rattle.osi_machine.proofs.Idle.{HasRight, right_of, other_lacks, end_units, append_nil, list_any_append}
-use Rattle.osi_machine.proofs.CoreLaws.{SessionLaws, answered_kept}
 use Rattle.osi_machine.proofs.Records.{flushed, hearing, matched, IsOfProfile, Stands}
 use Rattle.osi_machine.proofs.Shift.{Shift, listening_stands, none_never}
 use Rattle.osi_machine.proofs.DataCall.{none_owed}
 use Rattle.osi_machine.proofs.ShiftCall.{Sending, sending_stands}
-
-both : (a b : Bool) → a ≡ true → b ≡ true → (a && b) ≡ true
-both a b p q = rw (p, q) refl
+use Rattle.osi_machine.proofs.Deaf.{not_both}
+use Rattle.osi_machine.proofs.CoreLaws.{IsGranted, granted}
 
 pub is_ready_is : (p : Phase) → is_ready p ≡ true → p ≡ Ready
 is_ready_is Ready h = refl
@@ -56,10 +54,6 @@ has_it : (s : State) (t : Token) → HasRight s t → has (available s.units) t 
 has_it s t (inl h) a = h
 has_it s t (inr n) a = absurd (cc)
 
-pub not_lacking : (b : Bool) → not b ≡ true → b ≡ true → ⊥
-not_lacking true p q = cc
-not_lacking false p q = cc
-
 -- no token is left to come
 none_to_come : (s : State) (k : Tokens) → ((t : Token) → HasRight s t) → is_within k (available s.units) ≡ true → is_disjoint k s.held ≡ true → is_empty k ≡ true
 none_to_come s k right within apart = is_empty_of k (λ t. by t (has k t) refl)
@@ -84,12 +78,12 @@ release_good s (GT k) right f p e g = absurd (
 release_good s (PT k o) right f p e g = record { expected = refl; met = g.met }
 release_good s (MIP c n o) right f p e g = absurd (
     let l = and_parts (not (has s.held data_token)) (not (has s.held minor)) g.met.1.0 in
-    not_lacking (has s.held minor) l.1 (has_it s minor (right minor) g.met.0))
+    not_both (has s.held minor) l.1 (has_it s minor (right minor) g.met.0))
 release_good s (MIA n o) right f p e g = record { expected = refl; met = g.met }
 release_good s (MAP n o) right f p e g = absurd (
     let l = and_parts (not (has s.held data_token)) (not (has s.held minor) && not (has s.held major)) g.met.1.0 in
     let m = and_parts (not (has s.held minor)) (not (has s.held major)) l.1 in
-    not_lacking (has s.held major) m.1 (has_it s major (right major) g.met.0))
+    not_both (has s.held major) m.1 (has_it s major (right major) g.met.0))
 release_good s (RS j n w o) right f p e g = record { expected = refl; met = g.met }
 release_good s _ right f p e g = absurd (let a = g.expected in cc)
 
@@ -104,12 +98,12 @@ release_step s (GT k) i f p e g st = absurd (
 release_step s (PT k o) i f p e g st = (refl, i)
 release_step s (MIP c n o) i f p e g st = absurd (
     let l = and_parts (not (has s.held data_token)) (not (has s.held minor)) g.met.1.0 in
-    not_lacking (has s.held minor) l.1 (has_it s minor (i.right minor) g.met.0))
+    not_both (has s.held minor) l.1 (has_it s minor (i.right minor) g.met.0))
 release_step s (MIA n o) i f p e g st = (refl, record { phase = i.phase; right = i.right })
 release_step s (MAP n o) i f p e g st = absurd (
     let l = and_parts (not (has s.held data_token)) (not (has s.held minor) && not (has s.held major)) g.met.1.0 in
     let m = and_parts (not (has s.held minor)) (not (has s.held major)) l.1 in
-    not_lacking (has s.held major) m.1 (has_it s major (i.right major) g.met.0))
+    not_both (has s.held major) m.1 (has_it s major (i.right major) g.met.0))
 release_step s (RS j n w o) i f p e g st = absurd (let t = listening_stands s n (ap is_restarting i.phase) in cc)
 release_step s _ i f p e g st = absurd (let a = g.expected in cc)
 
@@ -149,31 +143,18 @@ owed_becomes s _ p g h = absurd (let a = excluded is_release_due is_wait_cn refl
 owed_flush : (s : State) (us : List Meaning) → ReleaseOwed s → AllFit s us → ReleaseOwed (flush s us)
 owed_flush = kept_all ReleaseOwed (λ s u h f. fit_cases ReleaseOwed s u f h (λ d g. owed_becomes s u f.plain g h))
 
--- where it is among what is under way, its answer will be due
-finish_acts : (s : State) (o : List ℕ) → is_restarting s.phase ≡ false → drops s (FN o) ≡ false
-finish_acts s o h = rw h refl
-
 finish_ends : (s : State) (us : List Meaning) → is_restarting s.phase ≡ false → is_opening s.phase ≡ false → s.units.resynchronize ≡ false → AllFit s us
     → list_any is_finish us ≡ true → is_release_due (flush s us).phase ≡ true
 finish_ends s [] h o n f e = absurd (cc)
 finish_ends s (u ∷ us) h o n f e =
     let begun = flush_open s (u ∷ []) o (f.0, tt) in
-    first u f.0 f.1 e (λ m. finish_ends (next s u) us (turn _ (next_hears s u (ap not h))) begun.phase (ap (λ (v : FunctionalUnits). v.resynchronize) begun.units ∙ n) f.1 m)
+    first u f.0 f.1 e (λ m. finish_ends (next s u) us (not-true _ (next_hears s u (ap not h))) begun.phase (ap (λ (v : FunctionalUnits). v.resynchronize) begun.units ∙ n) f.1 m)
   where
-    turn : (b : Bool) → not b ≡ true → b ≡ false
-    turn true p = absurd (cc)
-    turn false p = refl
-
     first : (w : Meaning) → Fits s w → AllFit (next s w) us → (is_finish w || list_any is_finish us) ≡ true → (list_any is_finish us ≡ true → is_release_due (flush (next s w) us).phase ≡ true)
         → is_release_due (flush (next s w) us).phase ≡ true
     first (FN a) g rest m more =
-        (owed_flush (next s (FN a)) us (subst ReleaseOwed (sym (next_acted s (FN a) (finish_acts s a h))) (record { phase = refl; none = n })) rest).phase
+        (owed_flush (next s (FN a)) us (subst ReleaseOwed (sym (next_acted s (FN a) (rw h refl))) (record { phase = refl; none = n })) rest).phase
     first _ g rest m more = more m
-
--- no unit leads to Releasing
-chosen : (P : State → Type 0) (b : Bool) (x y : State) → P x → P y → P (if b then x else y)
-chosen P true x y h k = h
-chosen P false x y h k = k
 
 abbrev Unreleased : State → Type 0
 Unreleased s = is_releasing s.phase ≡ false
@@ -207,7 +188,14 @@ own_units w a h = end_units w.owner w.own w.peer h.own (open_now w a)
 
 -- with duplex
 duplex_none : (w : Core) → Asks w → Stands w → w.own.session.units.duplex ≡ true → list_any is_finish w.peer.sent ≡ false
-duplex_none w a h d = by (list_any is_finish w.peer.sent) refl
+duplex_none w a h d = by_test (list_any is_finish w.peer.sent)
+    (λ e. absurd (
+    let r = finish_ends w.own.session w.peer.sent (excluded is_ready is_restarting refl w.own.session.phase a.phase) (open_now w a) (profile.alone d).2 h.own.fits e in
+    let m = implied_two (λ p q. matched p q && is_release_due p) (λ p q. is_releasing q) refl (flushed w.own w.peer).phase (flushed w.peer w.own).phase
+    (and_from (matched (flushed w.own w.peer).phase (flushed w.peer w.own).phase) (is_release_due (flushed w.own w.peer).phase) h.own.meeting.meets r) in
+    let n = unreleased w.peer.session w.own.sent there h.peer.fits in
+    cc))
+    (λ e. e)
   where
     profile : IsOfProfile w.own.session.units
     profile = subst IsOfProfile (own_units w a h) h.pair.profile
@@ -220,36 +208,21 @@ duplex_none w a h d = by (list_any is_finish w.peer.sent) refl
         cut false q e f = absurd (cc)
 
     there : is_releasing w.peer.session.phase ≡ false
-    there = asks (is_releasing w.peer.session.phase) refl
-      where
-        asks : (b : Bool) → is_releasing w.peer.session.phase ≡ b → b ≡ false
-        asks false e = refl
-        asks true e = absurd (
-            let units = sym (end_units (turned_owners w.owner) w.peer w.own h.peer (excluded is_releasing is_opening refl w.peer.session.phase e))
-            ∙ sym h.own.meeting.units ∙ own_units w a h in
-            let c = h.consistent.peer.asker e (ap (λ (v : FunctionalUnits). v.duplex) units ∙ d) in
-            let n = h.pair.callers in
-            let m = here in
-            cc)
-
-    by : (b : Bool) → list_any is_finish w.peer.sent ≡ b → b ≡ false
-    by false e = refl
-    by true e = absurd (
-        let r = finish_ends w.own.session w.peer.sent (excluded is_ready is_restarting refl w.own.session.phase a.phase) (open_now w a) (profile.alone d).2 h.own.fits e in
-        let m = implied_two (λ p q. matched p q && is_release_due p) (λ p q. is_releasing q) refl (flushed w.own w.peer).phase (flushed w.peer w.own).phase
-        (both (matched (flushed w.own w.peer).phase (flushed w.peer w.own).phase) (is_release_due (flushed w.own w.peer).phase) h.own.meeting.meets r) in
-        let n = unreleased w.peer.session w.own.sent there h.peer.fits in
-        cc)
+    there = by_test (is_releasing w.peer.session.phase)
+        (λ e. absurd (
+        let units = sym (end_units (turned_owners w.owner) w.peer w.own h.peer (excluded is_releasing is_opening refl w.peer.session.phase e))
+        ∙ sym h.own.meeting.units ∙ own_units w a h in
+        let c = h.consistent.peer.asker e (ap (λ (v : FunctionalUnits). v.duplex) units ∙ d) in
+        let n = h.pair.callers in
+        let m = here in
+        cc))
+        (λ e. e)
 
 -- with the data token
 finish_needs : (us : List Meaning) → list_any (needs_token data_token) us ≡ false → list_any is_finish us ≡ false
 finish_needs [] h = refl
-finish_needs (u ∷ us) h = by u (parts (needs_token data_token u) (list_any (needs_token data_token) us) h) (λ e. finish_needs us e)
+finish_needs (u ∷ us) h = by u (or_parts (needs_token data_token u) (list_any (needs_token data_token) us) h) (λ e. finish_needs us e)
   where
-    parts : (a b : Bool) → (a || b) ≡ false → (a ≡ false) × (b ≡ false)
-    parts true b e = absurd (cc)
-    parts false b e = (refl, e)
-
     by : (w : Meaning) → (needs_token data_token w ≡ false) × (list_any (needs_token data_token) us ≡ false) → (list_any (needs_token data_token) us ≡ false → list_any is_finish us ≡ false)
         → (is_finish w || list_any is_finish us) ≡ false
     by (FN o) p more = absurd (let a = p.0 in cc)
@@ -262,40 +235,14 @@ no_half : (u : FunctionalUnits) → has (available u) data_token ≡ false → u
 unfolding available
 no_half u h = h
 
-no_finish : (w : Core) → Asks w → Stands w → list_any is_finish w.peer.sent ≡ false
-no_finish w a h = by (a.right data_token)
-  where
-    by : HasRight w.own.session data_token → list_any is_finish w.peer.sent ≡ false
-    by (inl e) = finish_needs w.peer.sent (held_none w a h e)
-    by (inr e) =
-        let p = subst IsOfProfile (own_units w a h) h.pair.profile in
-        duplex_none w a h (p.duplex ∙ ap not (no_half w.own.session.units e))
-
 release_one_way : (w : Core) (octets : List ℕ) → Asks w → Stands w → (flushed w.own w.peer).units.half_duplex ≡ true
     → (list_any (needs_token data_token) (w.own.sent ++ FN octets ∷ []) && list_any (needs_token data_token) w.peer.sent) ≡ false
-release_one_way w octets a h d = by (a.right data_token)
-  where
-    and_no : (b c : Bool) → c ≡ false → (b && c) ≡ false
-    and_no true c e = e
-    and_no false c e = refl
-
-    by : HasRight w.own.session data_token → (list_any (needs_token data_token) (w.own.sent ++ FN octets ∷ []) && list_any (needs_token data_token) w.peer.sent) ≡ false
-    by (inl e) = and_no (list_any (needs_token data_token) (w.own.sent ++ FN octets ∷ [])) (list_any (needs_token data_token) w.peer.sent) (held_none w a h e)
-    by (inr e) = absurd (
-        let n = no_half w.own.session.units e in
-        let y = ap (λ (v : FunctionalUnits). v.half_duplex) (sym (own_units w a h)) ∙ d in
-        cc)
-
--- the answer finds no token at the other side
-finish_good : (w : Core) (octets : List ℕ) → Asks w → Stands w → is_restart_due (flushed w.peer w.own).phase ≡ false → Releases (flushed w.own w.peer)
-    → Good (flushed w.peer w.own) (FN octets)
-finish_good w octets a h owed i =
-    let ready = implied_two (λ p q. matched p q && is_ready p) (λ p q. is_ready q) refl (flushed w.own w.peer).phase (flushed w.peer w.own).phase
-    (both (matched (flushed w.own w.peer).phase (flushed w.peer w.own).phase) (is_ready (flushed w.own w.peer).phase) h.own.meeting.meets (ap is_ready i.phase)) in
-    record {
-      expected = ready;
-      met = (is_empty_of (flushed w.peer w.own).held (λ t. other_lacks w.owner w.own w.peer t h.own h.peer (open_now w a) (a.right t) owed (implied is_ready may_hold refl (flushed w.peer w.own).phase ready)), tt);
-    }
+release_one_way w octets a h d = by_either (a.right data_token)
+    (λ e. and_right (list_any (needs_token data_token) (w.own.sent ++ FN octets ∷ [])) (list_any (needs_token data_token) w.peer.sent) (held_none w a h e))
+    (λ e. absurd (
+    let n = no_half w.own.session.units e in
+    let y = ap (λ (v : FunctionalUnits). v.half_duplex) (sym (own_units w a h)) ∙ d in
+    cc))
 
 -- ---- a call that changes no number
 
@@ -310,74 +257,59 @@ same_numbers : (w : Core) (m : Meaning) → ((s : State) → (becomes s m).numbe
     → is_restarting w.own.session.phase ≡ false → is_restart_due (flushed w.peer w.own).phase ≡ false → Stands w → SameNumbers w m
 same_numbers w m same waits listens owed h = record {
   heard = end;
-  numbers = next_cases (λ q. q.numbers ≡ fy.numbers) fy m (λ d. refl) (λ d. same fy) ∙ ap (λ (q : State). q.numbers) (sym end);
-  hears = λ l. ap (λ (q : State). not (is_restarting q.phase)) end ∙ by (is_restarting fy.phase) refl l;
+  numbers = next_cases (λ q. q.numbers ≡ (flushed w.peer w.own).numbers) (flushed w.peer w.own) m (λ d. refl) (λ d. same (flushed w.peer w.own)) ∙ ap (λ (q : State). q.numbers) (sym end);
+  hears = λ l. ap (λ (q : State). not (is_restarting q.phase)) end ∙ by_test (is_restarting (flushed w.peer w.own).phase)
+      (λ e. ap (λ (q : State). not (is_restarting q.phase)) (sym (next_dropped (flushed w.peer w.own) m (dropped (is_restarting (flushed w.peer w.own).phase) (passes_restarting m) e waits))) ∙ l)
+      (λ e. ap not e);
   heeds = kept_heard (λ (q : State). not (is_restarting q.phase) ≡ true) (λ q u p g. next_hears q u p) w.own.session w.peer.sent (ap not listens) h.own.fits;
 }
   where
-    fy : State
-    fy = flushed w.peer w.own
-
-    end : hearing w.peer w.own ≡ fy
+    end : hearing w.peer w.own ≡ (flushed w.peer w.own)
     end = heard_flush w.peer.session w.own.sent h.peer.fits owed
 
     dropped : (b c : Bool) → b ≡ true → c ≡ false → (has_no_effect m || (b && not c)) ≡ true
-    dropped b c p q = rw (p, q) (right (has_no_effect m))
-      where
-        right : (a : Bool) → (a || true) ≡ true
-        right true = refl
-        right false = refl
-
-    by : (b : Bool) → is_restarting fy.phase ≡ b → not (is_restarting (next fy m).phase) ≡ true → not (is_restarting fy.phase) ≡ true
-    by false e l = ap not e
-    by true e l = ap (λ (q : State). not (is_restarting q.phase)) (sym (next_dropped fy m (dropped (is_restarting fy.phase) (passes_restarting m) e waits))) ∙ l
+    dropped b c p q = rw (p, q) (by_test (has_no_effect m) (λ z. rw z) (λ z. rw z))
 
 release_sending : (w : Core) (octets : List ℕ) → Asks w → Stands w → Sending w release_shift (FN octets) []
-release_sending w octets a h = record {
-  now = record { phase = is_ready_is w.own.session.phase a.phase; right = a.right };
-  none = no_finish w a h;
-  plain = refl;
-  effect = refl;
-  waits = refl;
-  quiet = λ s. refl;
-  keeps = λ s. record { units = refl; wishes = refl; held = refl; proposed = refl; base = refl; is_caller = refl };
-  shows = λ s v. sym (append_nil v);
-  empty = refl;
-  good = λ l i. finish_good w octets a h owed i;
-  meets = λ l i. refl;
-  release = λ s i r. absurd (cc);
-  releasing = λ s i r. refl;
-  sees = λ l. ap (heard_view w.own.session w.peer.sent) (append_nil w.own.view) ∙ h.own_views.ends l ∙ sym (append_nil w.history);
-  duplex = λ d. refl;
-  flag = λ f. ap (λ (v : Numbers). v.answers) n.numbers ∙ h.own_counts.flag f;
-  below = λ l k from to. h.own_counts.below (n.hears l) k from to;
-  reach = h.own_counts.reach;
-  other_flag = h.peer_counts.flag;
-  other_below = λ k from to. h.peer_counts.below n.heeds k (subst (λ (q : State). q.base ≤ k) (sym n.heard) from) (subst (λ (v : Numbers). k < v.confirmed) n.numbers to);
-  other_reach = λ f. subst (λ (v : Numbers). lower w.own.session.numbers.next v.confirmed ≤ w.own.session.numbers.confirmed) (sym n.numbers) (h.peer_counts.reach f);
-  numbered = λ p. subst (AreNumberedFrom (flushed w.own w.peer).base) (sym (append_nil w.history)) p;
-  one_way = release_one_way w octets a h;
-}
-  where
-    listens : is_restarting w.own.session.phase ≡ false
-    listens = excluded is_ready is_restarting refl w.own.session.phase a.phase
+release_sending w octets a h =
+    let listens : is_restarting w.own.session.phase ≡ false = excluded is_ready is_restarting refl w.own.session.phase a.phase in
+    let owed : is_restart_due (flushed w.peer w.own).phase ≡ false = none_owed w.owner w.own w.peer h.own listens in
+    let n : SameNumbers w (FN octets) = same_numbers w (FN octets) (λ s. refl) refl listens owed h in
+    record {
+      now = record { phase = is_ready_is w.own.session.phase a.phase; right = a.right };
+      none = by_either (a.right data_token)
+          (λ e. finish_needs w.peer.sent (held_none w a h e))
+          (λ e. let p = subst IsOfProfile (own_units w a h) h.pair.profile in
+          duplex_none w a h (p.duplex ∙ ap not (no_half w.own.session.units e)));
+      unit = assumption;
+      shows = λ s v. sym (append_nil v);
+      good = λ l i.
+          let ready = implied_two (λ p q. matched p q && is_ready p) (λ p q. is_ready q) refl (flushed w.own w.peer).phase (flushed w.peer w.own).phase
+          (and_from (matched (flushed w.own w.peer).phase (flushed w.peer w.own).phase) (is_ready (flushed w.own w.peer).phase) h.own.meeting.meets (ap is_ready i.phase)) in
+          record {
+            expected = ready;
+            met = (is_empty_of (flushed w.peer w.own).held (λ t. other_lacks w.owner w.own w.peer t h.own h.peer (open_now w a) (a.right t) owed (implied is_ready may_hold refl (flushed w.peer w.own).phase ready)), tt);
+          };
+      meets = λ l i. refl;
+      release = λ s i r. absurd (cc);
+      releasing = λ s i r. refl;
+      sees = λ l. ap (heard_view w.own.session w.peer.sent) (append_nil w.own.view) ∙ h.own_views.ends l ∙ sym (append_nil w.history);
+      duplex = λ d. refl;
+      flag = λ f. ap (λ (v : Numbers). v.answers) n.numbers ∙ h.own_counts.flag f;
+      below = λ l k from to. h.own_counts.below (n.hears l) k from to;
+      reach = h.own_counts.reach;
+      other_flag = h.peer_counts.flag;
+      other_below = λ k from to. h.peer_counts.below n.heeds k (subst (λ (q : State). q.base ≤ k) (sym n.heard) from) (subst (λ (v : Numbers). k < v.confirmed) n.numbers to);
+      other_reach = λ f. subst (λ (v : Numbers). lower w.own.session.numbers.next v.confirmed ≤ w.own.session.numbers.confirmed) (sym n.numbers) (h.peer_counts.reach f);
+      numbered = λ p. subst (AreNumberedFrom (flushed w.own w.peer).base) (sym (append_nil w.history)) p;
+      one_way = release_one_way w octets a h;
+    }
 
-    owed : is_restart_due (flushed w.peer w.own).phase ≡ false
-    owed = none_owed w.owner w.own w.peer h.own listens
-
-    n : SameNumbers w (FN octets)
-    n = same_numbers w (FN octets) (λ s. refl) refl listens owed h
-
-pub release_stands : SessionLaws → (w : Core) (octets : List ℕ) (g : Granted) → allowed w.own.session (Release octets) ≡ Ok g → Stands w
-    → Stands (answered w (Release octets) (Ok g))
-release_stands laws w octets g e h =
-    let q = laws.passed w.own.session (Release octets) g e in
-    let c = answered_kept laws w (Release octets) (Ok g) tt e h.consistent in
+pub release_stands : (w : Core) (octets : List ℕ) → IsGranted w (Release octets) → Stands w → Stands (answered w (Release octets) (Ok (granted w.own.session (Release octets))))
+release_stands w octets q h =
     let p = and_parts (each (has_right w.own.session)) (not w.own.session.units.duplex || w.own.session.is_caller) q.needed.0 in
     let a : Asks w = record { phase = q.phase; right = λ t. right_of w.own.session t (each_has (has_right w.own.session) t p.0); caller = p.1 } in
-    subst (λ (r : Granted). Stands (answered w (Release octets) (Ok r))) (sym q.gives)
-    (sending_stands w release_shift (FN octets) [] (release_sending w octets a h) h
-    (subst (λ (r : Granted). AreConsistent (answered w (Release octets) (Ok r))) q.gives c))
+    sending_stands w release_shift (FN octets) [] (release_sending w octets a h) h q.kept
 
 -- ---- the refusal of a release
 
@@ -408,53 +340,35 @@ record Refuses (w : Core) : Type 0 where
 
 other_releasing : (w : Core) → Stands w → (flushed w.own w.peer).phase ≡ ReleaseDue → is_releasing (flushed w.peer w.own).phase ≡ true
 other_releasing w h i = implied_two (λ p q. matched p q && is_release_due p) (λ p q. is_releasing q) refl (flushed w.own w.peer).phase (flushed w.peer w.own).phase
-    (both (matched (flushed w.own w.peer).phase (flushed w.peer w.own).phase) (is_release_due (flushed w.own w.peer).phase) h.own.meeting.meets (ap is_release_due i))
+    (and_from (matched (flushed w.own w.peer).phase (flushed w.peer w.own).phase) (is_release_due (flushed w.own w.peer).phase) h.own.meeting.meets (ap is_release_due i))
 
 refusal_sending : (w : Core) (octets : List ℕ) → Refuses w → Stands w → Sending w refusal_shift (NF octets) []
-refusal_sending w octets a h = record {
-  now = is_release_due_is w.own.session.phase a.phase;
-  none = none_never w.peer.sent;
-  plain = refl;
-  effect = refl;
-  waits = refl;
-  quiet = λ s. refl;
-  keeps = λ s. record { units = refl; wishes = refl; held = refl; proposed = refl; base = refl; is_caller = refl };
-  shows = λ s v. sym (append_nil v);
-  empty = refl;
-  good = λ l i. record { expected = other_releasing w h i; met = (ap (λ (v : FunctionalUnits). v.negotiated_release) units ∙ a.selected, tt) };
-  meets = λ l i. refl;
-  release = λ s i r. absurd (cc);
-  releasing = λ s i r. absurd (cc);
-  sees = λ l. ap (heard_view w.own.session w.peer.sent) (append_nil w.own.view) ∙ h.own_views.ends l ∙ sym (append_nil w.history);
-  duplex = λ d. refl;
-  flag = λ f. ap (λ (v : Numbers). v.answers) n.numbers ∙ h.own_counts.flag f;
-  below = λ l k from to. h.own_counts.below (n.hears l) k from to;
-  reach = h.own_counts.reach;
-  other_flag = h.peer_counts.flag;
-  other_below = λ k from to. h.peer_counts.below n.heeds k (subst (λ (q : State). q.base ≤ k) (sym n.heard) from) (subst (λ (v : Numbers). k < v.confirmed) n.numbers to);
-  other_reach = λ f. subst (λ (v : Numbers). lower w.own.session.numbers.next v.confirmed ≤ w.own.session.numbers.confirmed) (sym n.numbers) (h.peer_counts.reach f);
-  numbered = λ p. subst (AreNumberedFrom (flushed w.own w.peer).base) (sym (append_nil w.history)) p;
-  one_way = λ d. ap (λ (b : Bool). b && list_any (needs_token data_token) w.peer.sent) (list_any_append (needs_token data_token) w.own.sent (NF octets) refl) ∙ h.pair.one_way d;
-}
-  where
-    listens : is_restarting w.own.session.phase ≡ false
-    listens = excluded is_release_due is_restarting refl w.own.session.phase a.phase
+refusal_sending w octets a h =
+    let listens : is_restarting w.own.session.phase ≡ false = excluded is_release_due is_restarting refl w.own.session.phase a.phase in
+    let owed : is_restart_due (flushed w.peer w.own).phase ≡ false = none_owed w.owner w.own w.peer h.own listens in
+    let n : SameNumbers w (NF octets) = same_numbers w (NF octets) (λ s. refl) refl listens owed h in
+    let units : (flushed w.peer w.own).units ≡ w.own.session.units = sym h.own.meeting.units ∙ end_units w.owner w.own w.peer h.own (excluded is_release_due is_opening refl w.own.session.phase a.phase) in
+    record {
+      now = is_release_due_is w.own.session.phase a.phase;
+      none = none_never w.peer.sent;
+      unit = assumption;
+      shows = λ s v. sym (append_nil v);
+      good = λ l i. record { expected = other_releasing w h i; met = (ap (λ (v : FunctionalUnits). v.negotiated_release) units ∙ a.selected, tt) };
+      meets = λ l i. refl;
+      release = λ s i r. absurd (cc);
+      releasing = λ s i r. absurd (cc);
+      sees = λ l. ap (heard_view w.own.session w.peer.sent) (append_nil w.own.view) ∙ h.own_views.ends l ∙ sym (append_nil w.history);
+      duplex = λ d. refl;
+      flag = λ f. ap (λ (v : Numbers). v.answers) n.numbers ∙ h.own_counts.flag f;
+      below = λ l k from to. h.own_counts.below (n.hears l) k from to;
+      reach = h.own_counts.reach;
+      other_flag = h.peer_counts.flag;
+      other_below = λ k from to. h.peer_counts.below n.heeds k (subst (λ (q : State). q.base ≤ k) (sym n.heard) from) (subst (λ (v : Numbers). k < v.confirmed) n.numbers to);
+      other_reach = λ f. subst (λ (v : Numbers). lower w.own.session.numbers.next v.confirmed ≤ w.own.session.numbers.confirmed) (sym n.numbers) (h.peer_counts.reach f);
+      numbered = λ p. subst (AreNumberedFrom (flushed w.own w.peer).base) (sym (append_nil w.history)) p;
+      one_way = λ d. ap (λ (b : Bool). b && list_any (needs_token data_token) w.peer.sent) (list_any_append (needs_token data_token) w.own.sent (NF octets) refl) ∙ h.pair.one_way d;
+    }
 
-    owed : is_restart_due (flushed w.peer w.own).phase ≡ false
-    owed = none_owed w.owner w.own w.peer h.own listens
-
-    n : SameNumbers w (NF octets)
-    n = same_numbers w (NF octets) (λ s. refl) refl listens owed h
-
-    units : (flushed w.peer w.own).units ≡ w.own.session.units
-    units = sym h.own.meeting.units ∙ end_units w.owner w.own w.peer h.own (excluded is_release_due is_opening refl w.own.session.phase a.phase)
-
-pub refuse_stands : SessionLaws → (w : Core) (octets : List ℕ) (g : Granted) → allowed w.own.session (ReleaseRefuse octets) ≡ Ok g → Stands w
-    → Stands (answered w (ReleaseRefuse octets) (Ok g))
-refuse_stands laws w octets g e h =
-    let q = laws.passed w.own.session (ReleaseRefuse octets) g e in
-    let c = answered_kept laws w (ReleaseRefuse octets) (Ok g) tt e h.consistent in
-    let a : Refuses w = record { phase = q.phase; selected = q.needed.0 } in
-    subst (λ (r : Granted). Stands (answered w (ReleaseRefuse octets) (Ok r))) (sym q.gives)
-    (sending_stands w refusal_shift (NF octets) [] (refusal_sending w octets a h) h
-    (subst (λ (r : Granted). AreConsistent (answered w (ReleaseRefuse octets) (Ok r))) q.gives c))
+pub refuse_stands : (w : Core) (octets : List ℕ) → IsGranted w (ReleaseRefuse octets) → Stands w → Stands (answered w (ReleaseRefuse octets) (Ok (granted w.own.session (ReleaseRefuse octets))))
+refuse_stands w octets q h =
+    sending_stands w refusal_shift (NF octets) [] (refusal_sending w octets (record { phase = q.phase; selected = q.needed.0 }) h) h q.kept

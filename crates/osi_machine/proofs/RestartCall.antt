@@ -1,27 +1,28 @@
 -- The call of Restart keeps what is true of both sides.
 use Rattle.std.proofs.Common.{◌≡◌, refl, sym, ◌∙◌, ap, subst, ℕ, ◌+◌, ◌-◌, ◌≤◌, Bool, true, false, not, ◌&&◌, ◌||◌, nat_le, nat_lt, if◌then◌else◌, List, [], ◌∷◌, ◌++◌, Ok, inl, inr, arith}
-use Rattle.std.proofs.lemmas.Bool.{leb-true, ltb-true, and_parts}
+use Rattle.std.proofs.lemmas.Bool.{leb-true, and_parts, and_from, both_ways}
 use Rattle.std.specs.List.{list_any}
 use Rattle.osi_spdu.specs.declared.fields.ResyncType.TheVariants as resync
-use Rattle.osi_machine.specs.Floor.{TokenSetting, State, FunctionalUnits, RS, data_token, has, available, in_major, last_number, is_restarting, is_restart_due, is_release_due, restarted_at, is_restartable, offered, Restart, Granted, allowed, IsSound, next}
+use Rattle.osi_machine.specs.Floor.{TokenSetting, State, FunctionalUnits, RS, data_token, has, available, in_major, last_number, is_restarting, is_restart_due, is_release_due, restarted_at, is_restartable, offered, Restart, IsSound, next}
 use Rattle.osi_machine.specs.Histories.{Item, points, cutat, AreNumberedFrom, Begins}
-use Rattle.osi_machine.specs.Owners.{Owner, Own, Theirs, ToOwn, ToThem, Pool, Absent, turned_owner, turned_owners, is_own, is_to_own, is_absent, own_to_pool, given_up}
+use Rattle.osi_machine.specs.Owners.{Owner, Own, turned_owner, turned_owners, is_own, is_to_own, is_absent, own_to_pool, given_up}
 use Rattle.osi_machine.specs.Channels.{flush, heard, hears, data_of, needs_token}
 use Rattle.osi_machine.specs.Core.{Party, Core, answered}
 use Rattle.osi_machine.specs.Parties.{AreConsistent}
-use Rattle.osi_machine.proofs.PhaseLaws.{excluded, implied_two}
+use Rattle.osi_machine.proofs.PhaseLaws.{excluded, implied_two, by_test}
 use Rattle.osi_machine.proofs.ChannelLaws.{fit_append, flush_append, due_end, data_append}
 use Rattle.osi_machine.proofs.HistoryLaws.{upto_append}
 use Rattle.osi_machine.proofs.Tokens.{none_held}
 use Rattle.osi_machine.proofs.Begun.{flush_open, heard_open, is_lively}
-use Rattle.osi_machine.proofs.CoreLaws.{SessionLaws, answered_kept}
 use Rattle.osi_machine.proofs.Records.{flushed, hearing, matched, Meeting, Half, Views, Counting, Counts, IsOfProfile, Pair, Stands}
 use Rattle.osi_machine.proofs.Idle.{append_nil, list_any_append}
 use Rattle.osi_machine.proofs.NumberLaws.{lower_second, lower_less, lower_both, heard_turned}
-use Rattle.osi_machine.proofs.Deaf.{crossed, restart_next, heard_restart, view_restart}
+use Rattle.osi_machine.proofs.Deaf.{crossed, restart_next, heard_restart, view_restart, not_both}
 use Rattle.osi_machine.proofs.Heard.{Grown, heard_grown, listener_begins}
 use Rattle.osi_machine.proofs.RestartFlow.{Flow}
 use Rattle.osi_machine.proofs.RestartMeet.{Restarts, Met, asked, begun, flows, not_due, other_heard, other_units, other_base, other_asked, ends_meet, own_hears, restart_fits, crossed_units, crossed_base}
+use Rattle.osi_machine.proofs.Consistent.{below_if}
+use Rattle.osi_machine.proofs.CoreLaws.{IsGranted, granted}
 
 -- ---- both sides after the call
 
@@ -59,9 +60,7 @@ given_own Own = refl
 given_own _ = refl
 
 given_absent : (p : Owner) → is_absent p ≡ true → is_absent (own_to_pool p) ≡ true
-given_absent Absent h = refl
-given_absent Own h = absurd (cc)
-given_absent _ h = h
+given_absent p h = grind arith
 
 pub given_theirs : (p : Owner) → is_own (turned_owner p) ≡ is_own (turned_owner (own_to_pool p))
 given_theirs Own = refl
@@ -71,98 +70,60 @@ given_wanted : (p : Owner) → (is_own (turned_owner p) || is_to_own (turned_own
 given_wanted Own = refl
 given_wanted _ = refl
 
-given_turned_absent : (p : Owner) → is_absent (turned_owner p) ≡ true → is_absent (turned_owner (own_to_pool p)) ≡ true
-given_turned_absent Absent h = refl
-given_turned_absent Own h = absurd (cc)
-given_turned_absent _ h = h
-
 -- ---- the two halves
 
 own_half : (w : Core) (n : ℕ) (t : TokenSetting) (o : List ℕ) → Restarts w n → Stands w → Half (given_up w.owner) (asker w.own n t o) w.peer
-own_half w n t o q s = record {
-  fits = flow.fits;
-  meeting = subst (λ (e : State). Meeting (given_up w.owner) r end e (heard r w.peer.sent) w.peer.session) (sym (other_end w n t o))
-      (subst (λ (e : State). Meeting (given_up w.owner) r end (crossed fy n t) e w.peer.session) (sym flow.heard) (record {
-        meets = met.meets;
-        units = own_units w n t q s ∙ sym (crossed_units fy n t ∙ other_units w n q s);
-        base = own_base w n t q s ∙ sym (crossed_base fy n t ∙ other_base w n q s);
-        restart = met.restart;
-        connect = λ c. absurd (let e = met.connect in cc);
-        holds = λ k. none_held k ∙ given_own (w.owner k);
-        wants = λ m. absurd (cc);
-        absent = λ k z. given_absent (w.owner k) (s.own.meeting.absent k
-            (ap (λ (u : FunctionalUnits). has (available u) k) (was_units w n q s ∙ sym (own_units w n t q s)) ∙ z));
-        released = λ d. absurd (cc);
-      }));
-}
-  where
-    r : State
-    r = asked w.own.session n t
-
-    end : State
-    end = flush (asked w.own.session n t) w.peer.sent
-
-    fy : State
-    fy = flushed w.peer w.own
-
-    flow : Flow w.own.session (asked w.own.session n t) w.peer.sent
-    flow = flows w n t q s
-
-    met : Met (flush (asked w.own.session n t) w.peer.sent) (crossed (flushed w.peer w.own) n t)
-    met = ends_meet w n t q s
+own_half w n t o q s =
+    let flow : Flow w.own.session (asked w.own.session n t) w.peer.sent = flows w n t q s in
+    let met : Met (flush (asked w.own.session n t) w.peer.sent) (crossed (flushed w.peer w.own) n t) = ends_meet w n t q s in
+    record {
+      fits = flow.fits;
+      meeting = subst (λ (e : State). Meeting (given_up w.owner) (asked w.own.session n t) (flush (asked w.own.session n t) w.peer.sent) e (heard (asked w.own.session n t) w.peer.sent) w.peer.session) (sym (other_end w n t o))
+          (subst (λ (e : State). Meeting (given_up w.owner) (asked w.own.session n t) (flush (asked w.own.session n t) w.peer.sent) (crossed (flushed w.peer w.own) n t) e w.peer.session) (sym flow.heard) (record {
+            meets = met.meets;
+            units = own_units w n t q s ∙ sym (crossed_units (flushed w.peer w.own) n t ∙ other_units w n q s);
+            base = own_base w n t q s ∙ sym (crossed_base (flushed w.peer w.own) n t ∙ other_base w n q s);
+            restart = met.restart;
+            connect = λ c. absurd (let e = met.connect in cc);
+            holds = λ k. none_held k ∙ given_own (w.owner k);
+            wants = λ m. absurd (cc);
+            absent = λ k z. given_absent (w.owner k) (s.own.meeting.absent k
+                (ap (λ (u : FunctionalUnits). has (available u) k) (was_units w n q s ∙ sym (own_units w n t q s)) ∙ z));
+            released = λ d. absurd (cc);
+          }));
+    }
 
 -- the other owes no answer to a release
 no_release : (w : Core) (n : ℕ) (t : TokenSetting) → Restarts w n → Stands w → is_release_due (hearing w.peer w.own).phase ≡ true → ⊥
-no_release w n t q s d = elim (flows w n t q s).end [
-  | inl e ↦
-      let k = implied_two (λ p q. matched p q && is_lively p) (λ p q. not (is_release_due q)) refl (flushed w.own w.peer).phase (flushed w.peer w.own).phase
-      (both (matched (flushed w.own w.peer).phase (flushed w.peer w.own).phase) (is_lively (flushed w.own w.peer).phase) s.own.meeting.meets e.0) in
-      turn _ k here
-  | inr e ↦ apart _ (excluded is_restarting is_release_due refl (flushed w.peer w.own).phase (other_asked w s e.0)) here
-]
-  where
-    both : (a b : Bool) → a ≡ true → b ≡ true → (a && b) ≡ true
-    both a b p q = rw (p, q) refl
-
-    turn : (b : Bool) → not b ≡ true → b ≡ true → ⊥
-    turn true p q = cc
-    turn false p q = cc
-
-    apart : (b : Bool) → b ≡ false → b ≡ true → ⊥
-    apart true p q = cc
-    apart false p q = cc
-
-    here : is_release_due (flushed w.peer w.own).phase ≡ true
-    here = ap (λ (r : State). is_release_due r.phase) (sym (other_heard w n q s)) ∙ d
+no_release w n t q s d =
+    let here : is_release_due (flushed w.peer w.own).phase ≡ true = ap (λ (r : State). is_release_due r.phase) (sym (other_heard w n q s)) ∙ d in
+    elim (flows w n t q s).end [
+      | inl e ↦
+          let k = implied_two (λ p q. matched p q && is_lively p) (λ p q. not (is_release_due q)) refl (flushed w.own w.peer).phase (flushed w.peer w.own).phase
+          (and_from (matched (flushed w.own w.peer).phase (flushed w.peer w.own).phase) (is_lively (flushed w.own w.peer).phase) s.own.meeting.meets e.0) in
+          not_both _ k here
+      | inr e ↦ both_ways _ (excluded is_restarting is_release_due refl (flushed w.peer w.own).phase (other_asked w s e.0)) here
+    ]
 
 peer_half : (w : Core) (n : ℕ) (t : TokenSetting) (o : List ℕ) → Restarts w n → Stands w → Half (turned_owners (given_up w.owner)) w.peer (asker w.own n t o)
-peer_half w n t o q s = record {
-  fits = fit_append w.peer.session w.own.sent (RS resync.Restart n t o) s.peer.fits (restart_fits w n t o q s);
-  meeting = subst (λ (e : State). Meeting (turned_owners (given_up w.owner)) w.peer.session e end (heard w.peer.session (w.own.sent ++ RS resync.Restart n t o ∷ [])) r) (sym (other_end w n t o))
-      (subst (λ (e : State). Meeting (turned_owners (given_up w.owner)) w.peer.session (crossed fy n t) end e r) (sym (other_before w n t o q s)) (record {
-        meets = met.turned;
-        units = sym (own_units w n t q s ∙ sym (crossed_units fy n t ∙ other_units w n q s));
-        base = sym (own_base w n t q s ∙ sym (crossed_base fy n t ∙ other_base w n q s));
-        restart = met.back;
-        connect = λ c. absurd (let e = met.other_connect in cc);
-        holds = λ k. s.peer.meeting.holds k ∙ given_theirs (w.owner k);
-        wants = λ m k. s.peer.meeting.wants m k ∙ given_wanted (w.owner k);
-        absent = λ k z. given_turned_absent (w.owner k) (s.peer.meeting.absent k (ap (λ (u : FunctionalUnits). has (available u) k) (sym (crossed_units fy n t)) ∙ z));
-        released = λ d. absurd (no_release w n t q s d);
-      }));
-}
-  where
-    r : State
-    r = asked w.own.session n t
-
-    end : State
-    end = flush (asked w.own.session n t) w.peer.sent
-
-    fy : State
-    fy = flushed w.peer w.own
-
-    met : Met (flush (asked w.own.session n t) w.peer.sent) (crossed (flushed w.peer w.own) n t)
-    met = ends_meet w n t q s
+peer_half w n t o q s =
+    let end : State = flush (asked w.own.session n t) w.peer.sent in
+    let met : Met (flush (asked w.own.session n t) w.peer.sent) (crossed (flushed w.peer w.own) n t) = ends_meet w n t q s in
+    record {
+      fits = fit_append w.peer.session w.own.sent (RS resync.Restart n t o) s.peer.fits (restart_fits w n t o q s);
+      meeting = subst (λ (e : State). Meeting (turned_owners (given_up w.owner)) w.peer.session e end (heard w.peer.session (w.own.sent ++ RS resync.Restart n t o ∷ [])) (asked w.own.session n t)) (sym (other_end w n t o))
+          (subst (λ (e : State). Meeting (turned_owners (given_up w.owner)) w.peer.session (crossed (flushed w.peer w.own) n t) end e (asked w.own.session n t)) (sym (other_before w n t o q s)) (record {
+            meets = met.turned;
+            units = sym (own_units w n t q s ∙ sym (crossed_units (flushed w.peer w.own) n t ∙ other_units w n q s));
+            base = sym (own_base w n t q s ∙ sym (crossed_base (flushed w.peer w.own) n t ∙ other_base w n q s));
+            restart = met.back;
+            connect = λ c. absurd (let e = met.other_connect in cc);
+            holds = λ k. s.peer.meeting.holds k ∙ given_theirs (w.owner k);
+            wants = λ m k. s.peer.meeting.wants m k ∙ given_wanted (w.owner k);
+            absent = λ k z. grind arith;
+            released = λ d. absurd (no_release w n t q s d);
+          }));
+    }
 
 -- ---- what was seen
 
@@ -237,32 +198,27 @@ unfolding restarted_at
 peer_counts w n t o q s =
     subst (λ (e : State). Counting w.peer.session e (heard (asked w.own.session n t) w.peer.sent) (asked w.own.session n t)) (sym (other_before w n t o q s))
     (subst (λ (e : State). Counting w.peer.session (hearing w.peer w.own) e (asked w.own.session n t)) (sym (flows w n t q s).heard) (record {
-      flag = λ f. sending (w.own.session.numbers.answers) refl (s.peer_counts.flag f);
+      flag = λ f. by_test (w.own.session.numbers.answers)
+          (λ e. let f : (hearing w.own w.peer).numbers.answers ≡ false = (s.peer_counts.flag f) in absurd (let k = (heard_turned w.own.session w.peer.sent (record { phase = begun w n q; answers = e }) s.own.fits).answers in cc))
+          (λ e. e);
       below = λ l. absurd (cc);
       reach = λ f. lower_both n w.own.session.numbers.next _ w.own.session.numbers.confirmed q.top (s.peer_counts.reach f);
     }))
-  where
-    sending : (b : Bool) → w.own.session.numbers.answers ≡ b → (hearing w.own w.peer).numbers.answers ≡ false → b ≡ false
-    sending false e f = refl
-    sending true e f = absurd (let k = (heard_turned w.own.session w.peer.sent (record { phase = begun w n q; answers = e }) s.own.fits).answers in cc)
 
 -- ---- both at once
 
 pair_kept : (w : Core) (n : ℕ) (t : TokenSetting) (o : List ℕ) → Restarts w n → Stands w → Pair (w.history ++ []) (asker w.own n t o) w.peer
-pair_kept w n t o q s = record {
-  numbered = subst (AreNumberedFrom (flush (asked w.own.session n t) w.peer.sent).base) (sym (append_nil w.history))
-      (subst (λ (b : ℕ). AreNumberedFrom b w.history) (was ∙ sym (own_base w n t q s)) s.pair.numbered);
-  one_way = λ d. ap (λ (b : Bool). b && list_any (needs_token data_token) w.peer.sent) (list_any_append (needs_token data_token) w.own.sent (RS resync.Restart n t o) refl)
-      ∙ s.pair.one_way (ap (λ (u : FunctionalUnits). u.half_duplex) same ∙ d);
-  callers = s.pair.callers;
-  profile = subst IsOfProfile same s.pair.profile;
-}
-  where
-    was : (flushed w.own w.peer).base ≡ w.own.session.base
-    was = (flush_open w.own.session w.peer.sent (begun w n q) s.own.fits).base
-
-    same : (flushed w.own w.peer).units ≡ (flush (asked w.own.session n t) w.peer.sent).units
-    same = was_units w n q s ∙ sym (own_units w n t q s)
+pair_kept w n t o q s =
+    let was : (flushed w.own w.peer).base ≡ w.own.session.base = (flush_open w.own.session w.peer.sent (begun w n q) s.own.fits).base in
+    let same : (flushed w.own w.peer).units ≡ (flush (asked w.own.session n t) w.peer.sent).units = was_units w n q s ∙ sym (own_units w n t q s) in
+    record {
+      numbered = subst (AreNumberedFrom (flush (asked w.own.session n t) w.peer.sent).base) (sym (append_nil w.history))
+          (subst (λ (b : ℕ). AreNumberedFrom b w.history) (was ∙ sym (own_base w n t q s)) s.pair.numbered);
+      one_way = λ d. ap (λ (b : Bool). b && list_any (needs_token data_token) w.peer.sent) (list_any_append (needs_token data_token) w.own.sent (RS resync.Restart n t o) refl)
+          ∙ s.pair.one_way (ap (λ (u : FunctionalUnits). u.half_duplex) same ∙ d);
+      callers = s.pair.callers;
+      profile = subst IsOfProfile same s.pair.profile;
+    }
 
 -- ---- the call
 
@@ -271,20 +227,7 @@ all_kept : (w : Core) (n : ℕ) (wishes : TokenSetting) (o : List ℕ) → Resta
     → Stands (answered w (Restart n wishes o) (Ok (record { next = asked w.own.session n (offered w.own.session.units wishes); sent = RS resync.Restart n (offered w.own.session.units wishes) o })))
 all_kept w n wishes o q s c =
     let t = offered w.own.session.units wishes in
-    record {
-      consistent = c;
-      own = own_half w n t o q s;
-      peer = peer_half w n t o q s;
-      own_views = own_views w n t o q s;
-      peer_views = peer_views w n t o q s;
-      own_counts = own_counts w n t o q s;
-      peer_counts = peer_counts w n t o q s;
-      pair = pair_kept w n t o q s;
-    }
-
-below_if : (b : Bool) (n next : ℕ) → (if b then nat_lt n next else nat_le n next) ≡ true → n ≤ next
-below_if true n next h = let k = ltb-true n next h in omega arith
-below_if false n next h = leb-true n next h
+    assumption (own_half w n t o q s, peer_half w n t o q s, own_views w n t o q s, peer_views w n t o q s, own_counts w n t o q s, peer_counts w n t o q s, pair_kept w n t o q s)
 
 pub in_range : (s : State) (n : ℕ) → IsSound s → is_restartable s n ≡ true → (s.base ≤ n) × (n ≤ s.numbers.next)
 in_range s n sound h =
@@ -295,12 +238,8 @@ in_range s n sound h =
     let from = sound.ordered.lowest_from in
     (omega arith, below_if (in_major s.phase) n s.numbers.next b.1)
 
-pub restart_stands : SessionLaws → (w : Core) (n : ℕ) (wishes : TokenSetting) (o : List ℕ) (g : Granted)
-    → allowed w.own.session (Restart n wishes o) ≡ Ok g → Stands w → Stands (answered w (Restart n wishes o) (Ok g))
-restart_stands laws w n wishes o g e s =
-    let p = laws.passed w.own.session (Restart n wishes o) g e in
-    let c = answered_kept laws w (Restart n wishes o) (Ok g) tt e s.consistent in
+pub restart_stands : (w : Core) (n : ℕ) (wishes : TokenSetting) (o : List ℕ) → IsGranted w (Restart n wishes o) → Stands w
+    → Stands (answered w (Restart n wishes o) (Ok (granted w.own.session (Restart n wishes o))))
+restart_stands w n wishes o p s =
     let range = in_range w.own.session n s.consistent.own.sound p.needed.1.0 in
-    let q : Restarts w n = record { phase = p.phase; selected = p.needed.0; low = range.0; top = range.1 } in
-    subst (λ (r : Granted). Stands (answered w (Restart n wishes o) (Ok r))) (sym p.gives)
-    (all_kept w n wishes o q s (subst (λ (r : Granted). AreConsistent (answered w (Restart n wishes o) (Ok r))) p.gives c))
+    all_kept w n wishes o (record { phase = p.phase; selected = p.needed.0; low = range.0; top = range.1 }) s p.kept

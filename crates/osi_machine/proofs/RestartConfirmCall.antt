@@ -1,18 +1,17 @@
 -- The call of RestartConfirm keeps what is true of both sides.
 use Rattle.std.proofs.Common.{◌≡◌, refl, sym, ◌∙◌, ap, subst, ℕ, Bool, true, false, not, ◌&&◌, if◌then◌else◌, List, [], ◌∷◌, ◌++◌, Ok, arith}
-use Rattle.std.proofs.lemmas.Bool.{eq-eqb}
+use Rattle.std.proofs.lemmas.Bool.{eq-eqb, and_from}
 use Rattle.std.specs.List.{list_any}
-use Rattle.osi_machine.specs.Floor.{TokenSetting, State, FunctionalUnits, Sides, Ready, Meaning, RA, Tokens, Token, data_token, has, available, settle, setting_of, of_asker, of_answerer, stated, answers_wishes, is_restarting, is_restart_due, may_hold, RestartConfirm, Granted, allowed, becomes, next}
+use Rattle.osi_machine.specs.Floor.{TokenSetting, State, FunctionalUnits, Sides, Ready, Meaning, RA, Tokens, Token, data_token, has, available, settle, setting_of, of_asker, of_answerer, stated, answers_wishes, is_restarting, is_restart_due, may_hold, RestartConfirm, becomes, next}
 use Rattle.osi_machine.specs.Histories.{Item, AreNumberedFrom}
 use Rattle.osi_machine.specs.Owners.{turned_owners, settled_by}
 use Rattle.osi_machine.specs.Channels.{Fits, flush, heard, hears, heard_view, data_of, needs_token}
 use Rattle.osi_machine.specs.Core.{Party, Core, answered}
 use Rattle.osi_machine.specs.Parties.{AreConsistent}
 use Rattle.osi_machine.proofs.PhaseLaws.{excluded, implied_two}
-use Rattle.osi_machine.proofs.Units.{none_due, next_acted}
+use Rattle.osi_machine.proofs.Units.{none_due, next_acted, and_false}
 use Rattle.osi_machine.proofs.ChannelLaws.{fit_append, flush_append, heard_append, view_append, data_append}
 use Rattle.osi_machine.proofs.Tokens.{none_held}
-use Rattle.osi_machine.proofs.CoreLaws.{SessionLaws, answered_kept}
 use Rattle.osi_machine.proofs.Records.{flushed, hearing, matched, Meeting, Half, Views, Counting, Counts, IsOfProfile, Pair, Stands}
 use Rattle.osi_machine.proofs.Idle.{append_nil, list_any_append}
 use Rattle.osi_machine.proofs.Deaf.{AllEmpty, all_empty, empty_fits, empty_end, empty_heard, empty_view, deaf_end, deaf_heard, deaf_view}
@@ -48,14 +47,11 @@ own_end w due s = empty_end w.own.session w.peer.sent (none_under_way w due s)
 own_heard : (w : Core) → is_restart_due w.own.session.phase ≡ true → Stands w → hearing w.own w.peer ≡ w.own.session
 own_heard w due s = empty_heard w.own.session w.peer.sent (none_under_way w due s)
 
-both : (a b : Bool) → a ≡ true → b ≡ true → (a && b) ≡ true
-both a b p q = rw (p, q) refl
-
 other_waits : (w : Core) → is_restart_due w.own.session.phase ≡ true → Stands w → is_restarting (flushed w.peer w.own).phase ≡ true
 other_waits w due s =
     let d = ap (λ (r : State). is_restart_due r.phase) (own_end w due s) ∙ due in
     implied_two (λ p q. matched p q && is_restart_due p) (λ p q. is_restarting q) refl (flushed w.own w.peer).phase (flushed w.peer w.own).phase
-    (both (matched (flushed w.own w.peer).phase (flushed w.peer w.own).phase) (is_restart_due (flushed w.own w.peer).phase) s.own.meeting.meets d)
+    (and_from (matched (flushed w.own w.peer).phase (flushed w.peer w.own).phase) (is_restart_due (flushed w.own w.peer).phase) s.own.meeting.meets d)
 
 other_end : (w : Core) → is_restart_due w.own.session.phase ≡ true → Stands w → flushed w.peer w.own ≡ w.peer.session
 other_end w due s = deaf_end w.peer.session w.own.sent (other_waits w due s) s.peer.fits
@@ -72,23 +68,11 @@ other_owes_none w due s = excluded is_restarting is_restart_due refl (flushed w.
 other_units : (w : Core) → is_restart_due w.own.session.phase ≡ true → Stands w → (flushed w.peer w.own).units ≡ w.own.session.units
 other_units w due s = sym s.own.meeting.units ∙ ap (λ (r : State). r.units) (own_end w due s)
 
-other_base : (w : Core) → is_restart_due w.own.session.phase ≡ true → Stands w → (flushed w.peer w.own).base ≡ w.own.session.base
-other_base w due s = sym s.own.meeting.base ∙ ap (λ (r : State). r.base) (own_end w due s)
-
-other_number : (w : Core) → is_restart_due w.own.session.phase ≡ true → Stands w → (flushed w.peer w.own).numbers.next ≡ w.own.session.numbers.next
-other_number w due s = (s.peer.meeting.restart (other_waits w due s)).0 ∙ ap (λ (r : State). r.numbers.next) (own_end w due s)
-
 other_wishes : (w : Core) → is_restart_due w.own.session.phase ≡ true → Stands w → (flushed w.peer w.own).wishes ≡ w.own.session.wishes
 other_wishes w due s = (s.peer.meeting.restart (other_waits w due s)).1 ∙ ap (λ (r : State). r.wishes) (own_end w due s)
 
--- ---- the answer
-
-answer_kept : (b : Bool) → (b && false) ≡ false
-answer_kept true = refl
-answer_kept false = refl
-
 answer_next : (s : State) (n : ℕ) (t : TokenSetting) (o : List ℕ) → next s (RA n t o) ≡ becomes s (RA n t o)
-answer_next s n t o = next_acted s (RA n t o) (answer_kept (is_restarting s.phase))
+answer_next s n t o = next_acted s (RA n t o) (and_false (is_restarting s.phase))
 
 answer_fits : (w : Core) (a : Sides) (o : List ℕ) → is_restart_due w.own.session.phase ≡ true → Stands w → Fits (flushed w.peer w.own) (answer w.own.session a o)
 answer_fits w a o due s = record {
@@ -96,7 +80,7 @@ answer_fits w a o due s = record {
   good = λ d. record {
     expected = other_waits w due s;
     met = (
-      eq-eqb w.own.session.numbers.next (flushed w.peer w.own).numbers.next (sym (other_number w due s)),
+      eq-eqb w.own.session.numbers.next (flushed w.peer w.own).numbers.next (sym ((s.peer.meeting.restart (other_waits w due s)).0 ∙ ap (λ (r : State). r.numbers.next) (own_end w due s))),
       (
         ap (λ (u : FunctionalUnits). answers_wishes u (flushed w.peer w.own).wishes (setting_of (settle w.own.session.units w.own.session.wishes a))) (other_units w due s)
             ∙ ap (λ (t : TokenSetting). answers_wishes w.own.session.units t (setting_of (settle w.own.session.units w.own.session.wishes a))) (other_wishes w due s)
@@ -141,7 +125,7 @@ own_half w a o due s =
           (subst (λ (e : State). Meeting owners r r e r w.peer.session) (sym (end_after w a o)) (record {
             meets = refl;
             units = sym (other_units w due s);
-            base = sym (other_base w due s);
+            base = sym (sym s.own.meeting.base ∙ ap (λ (r : State). r.base) (own_end w due s));
             restart = λ k. absurd (cc);
             connect = λ k. absurd (cc);
             holds = λ t. own_held (has (held_by w.own.session a) t) (has (available w.own.session.units) t);
@@ -166,7 +150,7 @@ peer_half w a o due s =
           (subst (λ (e : State). Meeting owners w.peer.session (restarted w a o) e (restarted w a o) r) (sym (empty_end r w.peer.sent none)) (record {
             meets = refl;
             units = other_units w due s;
-            base = other_base w due s;
+            base = sym s.own.meeting.base ∙ ap (λ (r : State). r.base) (own_end w due s);
             restart = λ k. absurd (cc);
             connect = λ k. absurd (cc);
             holds = λ t. ap (λ (v : Tokens). has v t) no_tokens ∙ none_held t ∙ their_held (has (held_by w.own.session a) t) (has (available w.own.session.units) t);
@@ -197,7 +181,7 @@ own_views w a o due s =
 peer_views : (w : Core) (a : Sides) (o : List ℕ) → is_restart_due w.own.session.phase ≡ true → Stands w → Views (w.history ++ []) w.peer (answerer w.own a o)
 peer_views w a o due s = record {
   ends = λ l. view_append w.peer.session w.own.sent u w.peer.view s.peer.fits (other_owes_none w due s)
-      ∙ ap (λ (b : Bool). if b then heard_view w.peer.session w.own.sent w.peer.view else heard_view w.peer.session w.own.sent w.peer.view) (answer_kept (is_restarting (flushed w.peer w.own).phase))
+      ∙ ap (λ (b : Bool). if b then heard_view w.peer.session w.own.sent w.peer.view else heard_view w.peer.session w.own.sent w.peer.view) (and_false (is_restarting (flushed w.peer w.own).phase))
       ∙ deaf_view w.peer.session w.own.sent w.peer.view (other_waits w due s) s.peer.fits
       ∙ s.own_views.due due ∙ sym (append_nil w.history);
   cut = λ c. absurd (let e = ap (λ (q : State). is_restarting q.phase) (sym (heard_after w a o due s)) ∙ c in cc);
@@ -226,7 +210,7 @@ own_counts w a o due s =
       flag = λ f. ap (λ (q : State). q.numbers.answers) (other_end w due s ∙ sym (other_heard w due s)) ∙ old.flag f;
       below = λ l n from to.
           let order = s.consistent.own.sound.ordered.confirmed_to in
-          let same = ap (λ (q : State). q.numbers.next) (sym (other_end w due s)) ∙ other_number w due s in
+          let same = ap (λ (q : State). q.numbers.next) (sym (other_end w due s)) ∙ (s.peer.meeting.restart (other_waits w due s)).0 ∙ ap (λ (r : State). r.numbers.next) (own_end w due s) in
           omega arith;
       reach = old.reach;
     }))
@@ -258,24 +242,7 @@ pair_kept w a o due s =
 
 -- ---- the call
 
-all_kept : (w : Core) (a : Sides) (o : List ℕ) → is_restart_due w.own.session.phase ≡ true → Stands w
+pub restart_confirm_stands : (w : Core) (a : Sides) (o : List ℕ) → is_restart_due w.own.session.phase ≡ true → Stands w
     → AreConsistent (answered w (RestartConfirm a o) (Ok (record { next = confirmed w.own.session a; sent = answer w.own.session a o })))
     → Stands (answered w (RestartConfirm a o) (Ok (record { next = confirmed w.own.session a; sent = answer w.own.session a o })))
-all_kept w a o due s c = record {
-  consistent = c;
-  own = own_half w a o due s;
-  peer = peer_half w a o due s;
-  own_views = own_views w a o due s;
-  peer_views = peer_views w a o due s;
-  own_counts = own_counts w a o due s;
-  peer_counts = peer_counts w a o due s;
-  pair = pair_kept w a o due s;
-}
-
-pub restart_confirm_stands : SessionLaws → (w : Core) (a : Sides) (o : List ℕ) (g : Granted) → allowed w.own.session (RestartConfirm a o) ≡ Ok g → Stands w
-    → Stands (answered w (RestartConfirm a o) (Ok g))
-restart_confirm_stands laws w a o g e s =
-    let p = laws.passed w.own.session (RestartConfirm a o) g e in
-    let c = answered_kept laws w (RestartConfirm a o) (Ok g) tt e s.consistent in
-    subst (λ (r : Granted). Stands (answered w (RestartConfirm a o) (Ok r))) (sym p.gives)
-    (all_kept w a o p.phase s (subst (λ (r : Granted). AreConsistent (answered w (RestartConfirm a o) (Ok r))) p.gives c))
+restart_confirm_stands w a o due s c = assumption (own_half w a o due s, peer_half w a o due s, own_views w a o due s, peer_views w a o due s, own_counts w a o due s, peer_counts w a o due s, pair_kept w a o due s)

@@ -1,15 +1,16 @@
 -- What is under way to a side when it asks for a restart: all of it is discarded, but for one restart.
-use Rattle.std.proofs.Common.{◌≡◌, refl, sym, ◌∙◌, ap, subst, ℕ, Bool, true, false, not, ◌&&◌, ◌||◌, nat_le, if◌then◌else◌, List, [], ◌∷◌, ◌⊎◌, inl, inr}
+use Rattle.std.proofs.Common.{◌≡◌, refl, sym, ◌∙◌, ap, subst, ℕ, Bool, true, false, ◌&&◌, ◌||◌, nat_le, if◌then◌else◌, List, [], ◌∷◌, ◌⊎◌, inl, inr, arith}
 use Rattle.std.proofs.lemmas.Bool.{and_parts}
-use Rattle.osi_machine.specs.Floor.{TokenSetting, ResyncType, State, FunctionalUnits, RestartDue, Meaning, RS, RA, AB, is_restarting, is_restart_due, takes_restart, has_no_effect, passes_restarting, is_restart, without_tokens, restarted_at, stands, drops, next}
+use Rattle.osi_machine.specs.Floor.{TokenSetting, ResyncType, State, FunctionalUnits, Meaning, RS, is_restarting, is_restart_due, takes_restart, passes_restarting, is_restart, restarted_at, stands, next}
 use Rattle.osi_machine.specs.Histories.{Item, cutat}
 use Rattle.osi_machine.specs.Taking.{seen}
 use Rattle.osi_machine.specs.Channels.{Fits, AllFit, flush, stops, heard, view_next, heard_view}
-use Rattle.osi_machine.proofs.PhaseLaws.{implied, excluded}
-use Rattle.osi_machine.proofs.Units.{fit_cases, next_dropped, none_due, restart_due}
+use Rattle.osi_machine.proofs.PhaseLaws.{implied, excluded, if_first, by_test}
+use Rattle.osi_machine.proofs.Units.{fit_cases, next_dropped, none_due, restart_due, and_false}
 use Rattle.osi_machine.proofs.Begun.{Open, becomes_open, is_lively, Lively, becomes_lively}
 use Rattle.osi_machine.proofs.Deaf.{AllEmpty, all_empty, empty_fits, empty_end, empty_heard, empty_view, crossed, restart_kept, restart_next, yielded, stood}
 use Rattle.osi_machine.specs.Parties.{is_opening}
+use Rattle.osi_machine.proofs.ShiftCall.{drops_waiting}
 
 -- The one side asks for nothing, the other asks for a restart; their units and base are the same.
 pub record Asks (s r : State) : Type 0 where
@@ -26,67 +27,35 @@ pub record Flow (s r : State) (us : List Meaning) : Type 0 where
   pub end : (Lively (flush s us) × (flush r us ≡ r))
       ⊎ ((is_restart_due (flush s us).phase ≡ true) × (flush r us ≡ crossed r (flush s us).numbers.next (flush s us).wishes))
 
-either : {A : Type 0} → (b : Bool) (x y : A) → y ≡ x → (if b then x else y) ≡ x
-either true x y e = refl
-either false x y e = e
-
 -- ---- what comes before a restart is discarded
 
-or_true : (b : Bool) → (b || true) ≡ true
+pub or_true : (b : Bool) → (b || true) ≡ true
 or_true true = refl
 or_true false = refl
 
 not_asking : (s : State) → Lively s → is_restarting s.phase ≡ false
 not_asking s h = excluded is_lively is_restarting refl s.phase h
 
-answer_kept : (b : Bool) → (b && false) ≡ false
-answer_kept true = refl
-answer_kept false = refl
-
 before : (s : State) (u : Meaning) → Lively s → Fits s u → stops s u ≡ false → passes_restarting u ≡ false
 unfolding stands
-before s (RS k n w o) h f st = absurd (let e = not_asking s h in let t : stands s n ≡ true = rw e refl in cc)
-before s (RA n w o) h f st = absurd (
-    let g = f.good (answer_kept (is_restarting s.phase)) in
-    let e = not_asking s h in
-    let x = g.expected in
-    cc)
-before s (AB b o) h f st = absurd (let p = f.plain in cc)
-before s _ h f st = refl
-
-deaf_to : (r : State) (u : Meaning) → is_restarting r.phase ≡ true → passes_restarting u ≡ false → drops r u ≡ true
-deaf_to r u a p = by (has_no_effect u) (is_restarting r.phase) (passes_restarting u) a p
-  where
-    by : (e k q : Bool) → k ≡ true → q ≡ false → (e || (k && not q)) ≡ true
-    by true k q a p = refl
-    by false true false a p = refl
-    by false true true a p = absurd (cc)
-    by false false q a p = absurd (cc)
-
-next_lively : (s : State) (u : Meaning) → Lively s → Fits s u → stops s u ≡ false → Lively (next s u)
-next_lively s u h f st = fit_cases Lively s u f h (λ d g. becomes_lively s u f.plain g st h)
+before s u h f st = grind (arith, not_asking, and_false)
 
 next_asks : (s r : State) (u : Meaning) → Asks s r → Fits s u → stops s u ≡ false → Asks (next s u) r
 next_asks s r u a f st =
     let begun = excluded is_lively is_opening refl s.phase a.lives in
     let open_now : Open s.units s.base s = record { phase = begun; units = refl; base = refl } in
     let open_then = fit_cases (Open s.units s.base) s u f open_now (λ d g. becomes_open s.units s.base s u f.plain g open_now) in
-    record {
-      lives = next_lively s u a.lives f st;
-      asked = a.asked;
-      units = a.units ∙ sym open_then.units;
-      base = a.base ∙ sym open_then.base;
-    }
+    assumption (fit_cases Lively s u f a.lives (λ d g. becomes_lively s u f.plain g st a.lives), a.units ∙ sym open_then.units, a.base ∙ sym open_then.base)
 
 flow_before : (s r : State) (u : Meaning) (us : List Meaning) → Asks s r → Fits s u → stops s u ≡ false → Flow (next s u) r us → Flow s r (u ∷ us)
 flow_before s r u us a f st more =
-    let d = deaf_to r u a.asked (before s u a.lives f st) in
+    let d = drops_waiting r u a.asked (before s u a.lives f st) in
     let same = next_dropped r u d in
     let nothing : (v : List Item) → view_next r u v ≡ v = λ v. ap (λ (b : Bool). if b then v else seen r u v) d in
     record {
       fits = (record { plain = f.plain; good = λ e. absurd (cc) }, subst (λ (q : State). AllFit q us) (sym same) more.fits);
-      heard = either (stops r u) r (heard (next r u) us) (ap (λ (q : State). heard q us) same ∙ more.heard);
-      view = λ v. either (stops r u) v (heard_view (next r u) us (view_next r u v))
+      heard = if_first (stops r u) r (heard (next r u) us) (ap (λ (q : State). heard q us) same ∙ more.heard);
+      view = λ v. if_first (stops r u) v (heard_view (next r u) us (view_next r u v))
           (ap (λ (q : State). heard_view q us (view_next r u v)) same ∙ ap (heard_view r us) (nothing v) ∙ more.view v);
       end = elim more.end [ inl e ↦ inl (e.0, ap (λ (q : State). flush q us) same ∙ e.1) | inr e ↦ inr (e.0, ap (λ (q : State). flush q us) same ∙ e.1) ];
     }
@@ -115,21 +84,13 @@ restart_fits s r k n w o a f =
 after_due : (s : State) (us : List Meaning) → is_restart_due s.phase ≡ true → AllFit s us → AllEmpty us
 after_due s us d f = all_empty s us (λ u p. none_due s.phase u d p) (excluded is_restart_due is_restarting refl s.phase d) f
 
--- the side that asked for nothing has it to answer
-stood_flush : (s : State) (k : ResyncType) (n : ℕ) (w : TokenSetting) (o : List ℕ) (us : List Meaning) → stands s n ≡ true → AllEmpty us
-    → flush s (RS k n w o ∷ us) ≡ record (without_tokens RestartDue s) { wishes = w; numbers = restarted_at n s.numbers }
-stood_flush s k n w o us st e = empty_end (next s (RS k n w o)) us e ∙ restart_next s k n w o ∙ stood s n w st
-
-crossed_at : (r e : State) (n : ℕ) (w : TokenSetting) → e.numbers.next ≡ n → e.wishes ≡ w → crossed r n w ≡ crossed r e.numbers.next e.wishes
-crossed_at r e n w p q = ap (λ (m : ℕ). crossed r m w) (sym p) ∙ ap (crossed r e.numbers.next) (sym q)
-
 flow_restart : (s r : State) (k : ResyncType) (n : ℕ) (w : TokenSetting) (o : List ℕ) (us : List Meaning) → Asks s r → Fits s (RS k n w o) → stands s n ≡ true
     → AllFit (next s (RS k n w o)) us → Flow s r (RS k n w o ∷ us)
 unfolding restarted_at
 flow_restart s r k n w o us a f st more =
     let u = RS k n w o in
     let e = after_due (next s u) us (restart_due s u st) more in
-    let end = stood_flush s k n w o us st e in
+    let end = empty_end (next s (RS k n w o)) us e ∙ restart_next s k n w o ∙ stood s n w st in
     record {
       fits = (restart_fits s r k n w o a f, empty_fits (next r u) us e);
       heard = by (stands r n) refl (empty_heard (next r u) us e);
@@ -137,7 +98,7 @@ flow_restart s r k n w o us a f st more =
       end = inr (
         ap (λ (q : State). is_restart_due q.phase) end,
         empty_end (next r u) us e ∙ restart_next r k n w o
-            ∙ crossed_at r (flush s (u ∷ us)) n w (ap (λ (q : State). q.numbers.next) end) (ap (λ (q : State). q.wishes) end),
+            ∙ ap (λ (m : ℕ). crossed r m w) (sym (ap (λ (q : State). q.numbers.next) end)) ∙ ap (crossed r (flush s (u ∷ us)).numbers.next) (sym (ap (λ (q : State). q.wishes) end)),
       );
     }
   where
@@ -157,8 +118,6 @@ flow_stop s r _ us a f st more = absurd (cc)
 
 pub restart_flow : (s r : State) (us : List Meaning) → Asks s r → AllFit s us → Flow s r us
 restart_flow s r [] a f = record { fits = tt; heard = refl; view = λ v. refl; end = inl (a.lives, refl) }
-restart_flow s r (u ∷ us) a f = by (stops s u) refl (λ e. restart_flow (next s u) r us (next_asks s r u a f.0 e) f.1)
-  where
-    by : (b : Bool) → stops s u ≡ b → (stops s u ≡ false → Flow (next s u) r us) → Flow s r (u ∷ us)
-    by true e more = flow_stop s r u us a f.0 e f.1
-    by false e more = flow_before s r u us a f.0 e (more e)
+restart_flow s r (u ∷ us) a f = by_test (stops s u)
+    (λ e. flow_stop s r u us a f.0 e f.1)
+    (λ e. let more : (stops s u ≡ false → Flow (next s u) r us) = (λ e. restart_flow (next s u) r us (next_asks s r u a f.0 e) f.1) in flow_before s r u us a f.0 e (more e))

@@ -1,13 +1,13 @@
 -- How two sides meet after one of them has asked for a restart.
 use Rattle.std.proofs.Common.{◌≡◌, refl, sym, ◌∙◌, ap, subst, ℕ, ◌+◌, ◌==◌, ◌≤◌, Bool, true, false, not, ◌&&◌, ◌||◌, nat_le, nat_lt, if◌then◌else◌, List, inl, inr, arith}
-use Rattle.std.proofs.lemmas.Bool.{lt-ltb, le-ltb, le-leb, eq-eqb, ne_eqb, cases_order}
+use Rattle.std.proofs.lemmas.Bool.{lt-ltb, le-ltb, le-leb, eq-eqb, ne_eqb, cases_order, and_from, not-true}
 use Rattle.osi_spdu.specs.declared.fields.ResyncType.TheVariants as resync
 use Rattle.osi_machine.specs.Floor.{TokenSetting, State, FunctionalUnits, Restarting, RestartDue, RS, may_restart, takes_restart, is_restarting, is_restart_due, is_connecting, without_tokens, restarted_at, stands}
 use Rattle.osi_machine.specs.Histories.{points}
 use Rattle.osi_machine.specs.Channels.{Fits, flush, hears}
 use Rattle.osi_machine.specs.Core.{Core}
 use Rattle.osi_machine.specs.Parties.{is_opening}
-use Rattle.osi_machine.proofs.PhaseLaws.{implied, excluded, implied_two}
+use Rattle.osi_machine.proofs.PhaseLaws.{implied, excluded, implied_two, by_test}
 use Rattle.osi_machine.proofs.Units.{next_hears}
 use Rattle.osi_machine.proofs.ChannelLaws.{kept_heard, heard_flush}
 use Rattle.osi_machine.proofs.Records.{flushed, hearing, matched, Stands}
@@ -17,16 +17,13 @@ use Rattle.osi_machine.proofs.DataCall.{none_owed}
 use Rattle.osi_machine.proofs.Deaf.{crossed, stood, yielded, deaf_end}
 use Rattle.osi_machine.proofs.Heard.{begins_points, listener_count, listener_begins}
 use Rattle.osi_machine.proofs.RestartFlow.{Flow, restart_flow}
+use Rattle.osi_machine.proofs.Shift.{listening_stands}
 
 -- ---- which of two restarts stands
 
 asked_stands : (s : State) (n : ℕ) → is_restarting s.phase ≡ true → stands s n ≡ (nat_lt n s.numbers.next || ((n == s.numbers.next) && not s.is_caller))
 unfolding stands
 asked_stands s n r = rw r refl
-
-pub listener_stands : (s : State) (n : ℕ) → is_restarting s.phase ≡ false → stands s n ≡ true
-unfolding stands
-listener_stands s n r = rw r refl
 
 -- of two that cross the one stands where the other does not
 of_two : (n m : ℕ) (c : Bool) → (nat_lt m n || ((m == n) && not c)) ≡ not (nat_lt n m || ((n == m) && not (not c)))
@@ -81,28 +78,17 @@ meets_one a b n w r e f st = subst (Met a) (sym (stood b n w st)) (record {
 
 meets_both : (a b : State) (n m : ℕ) (w v : TokenSetting) → is_restarting a.phase ≡ true → a.numbers.next ≡ n → a.wishes ≡ w
     → is_restarting b.phase ≡ true → b.numbers.next ≡ m → b.wishes ≡ v → b.is_caller ≡ not a.is_caller → Met (crossed a m v) (crossed b n w)
-meets_both a b n m w v r e f t g h c = by (stands b n) refl
-  where
-    one : stands a m ≡ not (stands b n)
-    one = one_stands a b n m r t e g c
-
-    by : (s : Bool) → stands b n ≡ s → Met (crossed a m v) (crossed b n w)
-    by true st = subst (λ (q : State). Met q (crossed b n w)) (sym (yielded a m v (one ∙ ap not st))) (meets_one a b n w r e f st)
-    by false st = subst (Met (crossed a m v)) (sym (yielded b n w st)) (turn_met b (crossed a m v) (meets_one b a m v t g h (one ∙ ap not st)))
+meets_both a b n m w v r e f t g h c =
+    let one : stands a m ≡ not (stands b n) = one_stands a b n m r t e g c in
+    by_test (stands b n)
+    (λ st. subst (λ (q : State). Met q (crossed b n w)) (sym (yielded a m v (one ∙ ap not st))) (meets_one a b n w r e f st))
+    (λ st. subst (Met (crossed a m v)) (sym (yielded b n w st)) (turn_met b (crossed a m v) (meets_one b a m v t g h (one ∙ ap not st))))
 
 pub crossed_units : (s : State) (n : ℕ) (w : TokenSetting) → (crossed s n w).units ≡ s.units
-crossed_units s n w = by (stands s n)
-  where
-    by : (b : Bool) → (if b then record (without_tokens RestartDue s) { wishes = w; numbers = restarted_at n s.numbers } else s).units ≡ s.units
-    by true = refl
-    by false = refl
+crossed_units s n w = by_test (stands s n) (λ e. rw e) (λ e. rw e)
 
 pub crossed_base : (s : State) (n : ℕ) (w : TokenSetting) → (crossed s n w).base ≡ s.base
-crossed_base s n w = by (stands s n)
-  where
-    by : (b : Bool) → (if b then record (without_tokens RestartDue s) { wishes = w; numbers = restarted_at n s.numbers } else s).base ≡ s.base
-    by true = refl
-    by false = refl
+crossed_base s n w = by_test (stands s n) (λ e. rw e) (λ e. rw e)
 
 -- ---- the side that asks
 
@@ -138,50 +124,37 @@ other_units w n q s = sym s.own.meeting.units ∙ end_units w.owner w.own w.peer
 pub other_base : (w : Core) (n : ℕ) → Restarts w n → Stands w → (flushed w.peer w.own).base ≡ w.own.session.base
 other_base w n q s = sym s.own.meeting.base ∙ (flush_open w.own.session w.peer.sent (begun w n q) s.own.fits).base
 
-both : (a b : Bool) → a ≡ true → b ≡ true → (a && b) ≡ true
-both a b p q = rw (p, q) refl
-
 -- where no restart comes to this side the other takes one, and where one comes the other has asked
 pub other_takes : (w : Core) → Stands w → Lively (flushed w.own w.peer)
     → (takes_restart (flushed w.peer w.own).phase ≡ true) × (is_restarting (flushed w.peer w.own).phase ≡ false)
 other_takes w s l =
     let fx = (flushed w.own w.peer).phase in
     let fy = (flushed w.peer w.own).phase in
-    let k = both (matched fx fy) (is_lively fx) s.own.meeting.meets l in (
+    let k = and_from (matched fx fy) (is_lively fx) s.own.meeting.meets l in (
       implied_two (λ p q. matched p q && is_lively p) (λ p q. takes_restart q) refl fx fy k,
-      turn _ (implied_two (λ p q. matched p q && is_lively p) (λ p q. hears q) refl fx fy k),
+      not-true _ (implied_two (λ p q. matched p q && is_lively p) (λ p q. hears q) refl fx fy k),
     )
-  where
-    turn : (b : Bool) → not b ≡ true → b ≡ false
-    turn true p = absurd (cc)
-    turn false p = refl
 
 pub other_asked : (w : Core) → Stands w → is_restart_due (flushed w.own w.peer).phase ≡ true → is_restarting (flushed w.peer w.own).phase ≡ true
 other_asked w s d =
     let fx = (flushed w.own w.peer).phase in
     let fy = (flushed w.peer w.own).phase in
-    implied_two (λ p q. matched p q && is_restart_due p) (λ p q. is_restarting q) refl fx fy (both (matched fx fy) (is_restart_due fx) s.own.meeting.meets d)
+    implied_two (λ p q. matched p q && is_restart_due p) (λ p q. is_restarting q) refl fx fy (and_from (matched fx fy) (is_restart_due fx) s.own.meeting.meets d)
 
 -- the sides will meet
 pub ends_meet : (w : Core) (n : ℕ) (t : TokenSetting) → Restarts w n → Stands w
     → Met (flush (asked w.own.session n t) w.peer.sent) (crossed (flushed w.peer w.own) n t)
 unfolding restarted_at
 ends_meet w n t q s = elim (flows w n t q s).end [
-  | inl e ↦ subst (λ (r : State). Met r (crossed fy n t)) (sym e.1)
-      (meets_one (asked w.own.session n t) fy n t refl refl refl (listener_stands fy n (other_takes w s e.0).1))
+  | inl e ↦ subst (λ (r : State). Met r (crossed (flushed w.peer w.own) n t)) (sym e.1)
+      (meets_one (asked w.own.session n t) (flushed w.peer w.own) n t refl refl refl (listening_stands (flushed w.peer w.own) n (other_takes w s e.0).1))
   | inr e ↦
       let a = other_asked w s e.0 in
       let same = s.peer.meeting.restart a in
       let caller = ap (λ (r : State). r.is_caller) (deaf_end w.peer.session w.own.sent a s.peer.fits) ∙ s.pair.callers in
-      subst (λ (r : State). Met r (crossed fy n t)) (sym e.1)
-      (meets_both (asked w.own.session n t) fy n fx.numbers.next t fx.wishes refl refl refl a same.0 same.1 caller)
+      subst (λ (r : State). Met r (crossed (flushed w.peer w.own) n t)) (sym e.1)
+      (meets_both (asked w.own.session n t) (flushed w.peer w.own) n (flushed w.own w.peer).numbers.next t (flushed w.own w.peer).wishes refl refl refl a same.0 same.1 caller)
 ]
-  where
-    fx : State
-    fx = flushed w.own w.peer
-
-    fy : State
-    fy = flushed w.peer w.own
 
 -- ---- the restart fits
 
@@ -204,14 +177,9 @@ other_top w n q s l =
 
 restart_met : (s : State) (n : ℕ) → s.base ≤ n → ((is_restarting s.phase ≡ false) → n ≤ s.numbers.next)
     → (nat_le s.base n && (is_restarting s.phase || nat_le n s.numbers.next)) ≡ true
-restart_met s n from to = by (is_restarting s.phase) refl
-  where
-    by : (b : Bool) → is_restarting s.phase ≡ b → (nat_le s.base n && (b || nat_le n s.numbers.next)) ≡ true
-    by true e = let k = le-leb s.base n from in rw k refl
-    by false e = let k = le-leb s.base n from in let l = le-leb n s.numbers.next (to e) in rw (k, l) refl
-
-and_true : (b : Bool) → b ≡ true → (b && true) ≡ true
-and_true b e = rw e refl
+restart_met s n from to = by_test (is_restarting s.phase)
+    (λ e. rw e (let k = le-leb s.base n from in rw k refl))
+    (λ e. rw e (let k = le-leb s.base n from in let l = le-leb n s.numbers.next (to e) in rw (k, l) refl))
 
 pub restart_fits : (w : Core) (n : ℕ) (t : TokenSetting) (o : List ℕ) → Restarts w n → Stands w → Fits (flushed w.peer w.own) (RS resync.Restart n t o)
 restart_fits w n t o q s = record {
@@ -219,14 +187,11 @@ restart_fits w n t o q s = record {
   good = λ d. record {
     expected = elim (flows w n t q s).end [
       | inl e ↦ (other_takes w s e.0).0
-      | inr e ↦ implied is_restarting takes_restart refl fy.phase (other_asked w s e.0)
+      | inr e ↦ implied is_restarting takes_restart refl (flushed w.peer w.own).phase (other_asked w s e.0)
     ];
     met = (
-      and_true fy.units.resynchronize (ap (λ (u : FunctionalUnits). u.resynchronize) (other_units w n q s) ∙ q.selected),
-      (restart_met fy n (subst (λ (b : ℕ). b ≤ n) (sym (other_base w n q s)) q.low) (other_top w n q s), tt),
+      (rw (ap (λ (u : FunctionalUnits). u.resynchronize) (other_units w n q s) ∙ q.selected) refl),
+      (restart_met (flushed w.peer w.own) n (subst (λ (b : ℕ). b ≤ n) (sym (other_base w n q s)) q.low) (other_top w n q s), tt),
     );
   };
 }
-  where
-    fy : State
-    fy = flushed w.peer w.own

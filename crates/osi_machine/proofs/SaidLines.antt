@@ -123,16 +123,15 @@ one_said true parts ch said heard u n h = record {
       ∙ ap (λ (us : List Meaning). us ++ u ∷ []) h.splits;
   whole = inr refl;
 }
-one_said false parts ch said heard u n h = record {
-  lost = [];
-  splits = ap (λ (us : List Meaning). heard ++ us) (append-nil (units_in (ch ++ unit u ∷ [])) ∙ units_append ch (unit u ∷ []))
-      ∙ sym (append_assoc heard (units_in ch) (u ∷ []))
-      ∙ ap (λ (us : List Meaning). us ++ u ∷ []) (ap (λ (us : List Meaning). heard ++ us) (sym (append-nil (units_in ch))) ∙ ap (λ (us : List Meaning). heard ++ (units_in ch ++ us)) (sym none) ∙ h.splits);
-  whole = inl refl;
-}
-  where
-    none : h.lost ≡ []
-    none = elim h.whole [ inl e ↦ e | inr stop ↦ absurd (n stop) ]
+one_said false parts ch said heard u n h =
+    let none : h.lost ≡ [] = elim h.whole [ inl e ↦ e | inr stop ↦ absurd (n stop) ] in
+    record {
+      lost = [];
+      splits = ap (λ (us : List Meaning). heard ++ us) (append-nil (units_in (ch ++ unit u ∷ [])) ∙ units_append ch (unit u ∷ []))
+          ∙ sym (append_assoc heard (units_in ch) (u ∷ []))
+          ∙ ap (λ (us : List Meaning). us ++ u ∷ []) (ap (λ (us : List Meaning). heard ++ us) (sym (append-nil (units_in ch))) ∙ ap (λ (us : List Meaning). heard ++ (units_in ch ++ us)) (sym none) ∙ h.splits);
+      whole = inl refl;
+    }
 
 pub reply_said : (b parts : Bool) (ch : List Message) (said heard : List Meaning) (r : Option Meaning) → (parts ≡ true → ⊥) → Carried (b || parts) ch said heard
     → Carried (b || parts) (put b (replied r) ch) (said ++ one_or_none r) heard

@@ -1,8 +1,8 @@
 -- What each side of a connection said, and what the other heard of it, over all that may happen to a line.
-use Rattle.std.proofs.Common.{◌≡◌, refl, sym, ◌∙◌, ap, subst, ℕ, Bool, true, false, ◌||◌, if◌then◌else◌, List, [], ◌∷◌, ◌++◌, take, Option, Some, None, Ok, Err, inl}
+use Rattle.std.proofs.Common.{◌≡◌, refl, sym, ◌∙◌, ap, subst, ℕ, Bool, true, false, ◌||◌, if◌then◌else◌, List, [], ◌∷◌, ◌++◌, take, Option, Some, None, Ok, Err, inl, arith}
 use Rattle.std.proofs.lemmas.List.{append-nil}
 use Rattle.std.specs.List.{list_any}
-use Rattle.osi_session.specs.Moves.{called, taken, opened, refused, broken as broken_off, Standing, react, answered as answered_move, denied, rests}
+use Rattle.osi_session.specs.Moves.{called, taken, opened, refused, broken as broken_off, Standing, react, answered as answered_move}
 use Rattle.osi_session.specs.Phases.{may_abort, is_over, is_ended, is_wait_transport}
 use Rattle.osi_message.specs.Sendable.{said_of}
 use Rattle.osi_machine.specs.Floor.{Phase, Meaning, Call, Answer, allowed}
@@ -14,7 +14,7 @@ use Rattle.osi_machine.specs.Tables.{Seat, Line, turned, asked_with, made, after
 use Rattle.osi_machine.specs.AsTables.{cut_line}
 use Rattle.osi_machine.specs.Sayings.{one_or_none, said_to, heard_of, units_in, is_parting}
 use Rattle.osi_machine.proofs.EarlyLines.{is_agree}
-use Rattle.osi_machine.proofs.PhaseLaws.{excluded, implied}
+use Rattle.osi_machine.proofs.PhaseLaws.{excluded, implied, by_test}
 use Rattle.osi_machine.proofs.SaidLines.{SayLaws, Words, silent, says_more, hears_more, and_more, is_early, put_no_units, no_units_taken, no_agree_taken, no_agree_put, Carried, same_units, fewer_units, first_heard, reply_said, begins_so, begins_more}
 
 -- ---- phases
@@ -103,10 +103,6 @@ opened_fits own' peer e o m u = record {
   first = λ k n. absurd (let x = sym (ap is_early k) ∙ e in cc);
 }
 
--- once a side parts nothing that comes to it is heard
-unheard : (b : Bool) (own peer own' peer' : Seat) (said heard : List Meaning) → is_parting peer'.transport ≡ true → Way b own peer said heard → Way b own' peer' said heard
-unheard b own peer own' peer' said heard e h = record { begins = h.begins; carried = λ k. absurd (cc) }
-
 -- a side parts: its session is over, and of what is under way from it units may be lost
 parts_told : (b : Bool) (l : Line) (own' : Seat) (x y : Words) → is_parting own'.transport ≡ true → is_early own'.transport ≡ false → is_over own'.session.state.phase ≡ true
     → (is_early l.peer.transport ≡ true → units_in own'.channel ≡ []) → (is_parting l.peer.transport ≡ false → Carried true own'.channel x.said y.heard)
@@ -116,14 +112,10 @@ parts_told b l own' x y p e o u c h = record {
   peer_fits = past l.peer l.own own' e h.peer_fits;
   out = record {
     begins = h.out.begins;
-    carried = λ k. same_units true (b || is_parting own'.transport) own'.channel own'.channel x.said y.heard refl (λ s. stop b) (c k);
+    carried = λ k. same_units true (b || is_parting own'.transport) own'.channel own'.channel x.said y.heard refl (λ s. by_test b (λ q. rw q) (λ q. rw q p)) (c k);
   };
-  back = unheard b l.peer l.own l.peer own' y.said x.heard p h.back;
+  back = record { begins = h.back.begins; carried = λ k. absurd (cc) };
 }
-  where
-    stop : (b : Bool) → (b || is_parting own'.transport) ≡ true
-    stop true = refl
-    stop false = p
 
 -- the rest of its channel is lost
 cuts_told : (b : Bool) (l : Line) (own' : Seat) (keep : ℕ) (x y : Words) → is_parting own'.transport ≡ true → is_early own'.transport ≡ false → is_over own'.session.state.phase ≡ true
@@ -184,15 +176,7 @@ denies_told b l reason x y h =
         unsaid = λ k. n ∙ h.own_fits.unsaid k;
         first = h.own_fits.first;
       };
-      peer_fits = record {
-        waits = h.peer_fits.waits;
-        over_now = h.peer_fits.over_now;
-        early = h.peer_fits.early;
-        unasked = h.peer_fits.unasked;
-        mute = h.peer_fits.mute;
-        unsaid = h.peer_fits.unsaid;
-        first = h.peer_fits.first;
-      };
+      peer_fits = assumption;
       out = record {
         begins = h.out.begins;
         carried = λ k. same_units (b || is_parting l.own.transport) (b || is_parting l.own.transport) l.own.channel (put b (deny reason ∷ []) l.own.channel) x.said y.heard n (λ s. s) (h.out.carried k);
@@ -214,19 +198,13 @@ none_heard b l x y h = subst (λ (us : List Meaning). Told b l (record { said = 
 
 -- a call that is refused changes nothing, and puts nothing
 nothing_put : (b : Bool) (l : Line) (x y : Words) → Told b l x y → Told b (record l { own = record l.own { channel = put b [] l.own.channel } }) x y
-nothing_put b l x y h = subst (λ (ch : List Message). Told b (record l { own = record l.own { channel = ch } }) x y) (sym (none b)) h
-  where
-    none : (b : Bool) → put b [] l.own.channel ≡ l.own.channel
-    none true = refl
-    none false = append-nil l.own.channel
+nothing_put b l x y h = subst (λ (ch : List Message). Told b (record l { own = record l.own { channel = ch } }) x y) (sym (by_test b
+    (λ e. rw e)
+    (λ e. rw e (append-nil l.own.channel)))) h
 
 -- where a call is accepted the transport connection is there at both sides, or closes at the other
 linked_there : (tr : Transport) (p : Phase) → is_given tr ≡ true → may_abort p ≡ true → (tr ≡ waiting → is_wait_transport p ≡ true) → (is_parting tr ≡ true → is_over p ≡ true) → tr ≡ linked
-linked_there not_yet p g m w o = absurd (cc)
-linked_there waiting p g m w o = absurd (let x = waits_mute p (w refl) in cc)
-linked_there linked p g m w o = refl
-linked_there closing p g m w o = absurd (let x = over_mute p (o refl) in cc)
-linked_there gone p g m w o = absurd (let x = over_mute p (o refl) in cc)
+linked_there tr p g m w o = grind (arith, waits_mute, over_mute)
 
 not_early : (e : Bool) (p : Phase) → (e ≡ true → may_abort p ≡ false) → may_abort p ≡ true → e ≡ false
 not_early true p f m = absurd (let x = f refl in cc)
@@ -257,11 +235,7 @@ end_told laws b keep l x y h =
     cuts_told b l (ended_at keep l).line.own keep x y refl refl (ended_over (react l.own.session broken_off).next.state.phase (laws.lost l.own.session)) refl h
 
 pub ends_told : SayLaws → (b : Bool) (keep : ℕ) (l : Line) (x y : Words) → Told b l x y → Told b (ends_there keep l) x y
-ends_told laws b keep l x y h = by (is_given l.own.transport)
-  where
-    by : (g : Bool) → Told b (if g then (ended_at keep l).line else l) x y
-    by true = end_told laws b keep l x y h
-    by false = h
+ends_told laws b keep l x y h = by_test (is_given l.own.transport) (λ e. rw e (end_told laws b keep l x y h)) (λ e. rw e h)
 
 cut_fits : (keep : ℕ) (own peer : Seat) (ch : List Message) → Fits own peer → Fits (record own { channel = take keep own.channel }) (record peer { channel = ch })
 cut_fits keep own peer ch h = record {
@@ -282,12 +256,7 @@ cut_way b keep own peer ch said heard h = record {
 }
 
 pub cut_told : (b : Bool) (left right : ℕ) (l : Line) (x y : Words) → Told b l x y → Told true (cut_line left right l) x y
-cut_told b left right l x y h = record {
-  own_fits = cut_fits left l.own l.peer (take right l.peer.channel) h.own_fits;
-  peer_fits = cut_fits right l.peer l.own (take left l.own.channel) h.peer_fits;
-  out = cut_way b left l.own l.peer (take right l.peer.channel) x.said y.heard h.out;
-  back = cut_way b right l.peer l.own (take left l.own.channel) y.said x.heard h.back;
-}
+cut_told b left right l x y h = search (cut_fits, cut_way)
 
 -- ---- a new connection
 
@@ -325,15 +294,7 @@ asked_told b o = record {
 popped : (b : Bool) (l : Line) (m : Message) (xs : List Message) (x y : Words) → l.peer.channel ≡ m ∷ xs → (is_parting l.own.transport ≡ false → units_in xs ≡ units_in (m ∷ xs)) → Told b l x y
     → Told b (without_first l xs) x y
 popped b l m xs x y e n h = record {
-  own_fits = record {
-    waits = h.own_fits.waits;
-    over_now = h.own_fits.over_now;
-    early = h.own_fits.early;
-    unasked = h.own_fits.unasked;
-    mute = h.own_fits.mute;
-    unsaid = h.own_fits.unsaid;
-    first = h.own_fits.first;
-  };
+  own_fits = assumption;
   peer_fits = rest_fits l.peer l.own m xs e h.peer_fits;
   out = record { begins = h.out.begins; carried = h.out.carried };
   back = record {
@@ -347,20 +308,7 @@ heard_first : (b : Bool) (l : Line) (u : Meaning) (xs : List Message) (x y : Wor
     → Told b (without_first l xs) (hears_more x (u ∷ [])) y
 heard_first b l u xs x y e p h =
     let c = first_heard (b || is_parting l.peer.transport) u xs y.said x.heard (subst (λ (ms : List Message). Carried (b || is_parting l.peer.transport) ms y.said x.heard) e (h.back.carried p)) in
-    record {
-      own_fits = record {
-        waits = h.own_fits.waits;
-        over_now = h.own_fits.over_now;
-        early = h.own_fits.early;
-        unasked = h.own_fits.unasked;
-        mute = h.own_fits.mute;
-        unsaid = h.own_fits.unsaid;
-        first = h.own_fits.first;
-      };
-      peer_fits = rest_fits l.peer l.own (unit u) xs e h.peer_fits;
-      out = record { begins = h.out.begins; carried = h.out.carried };
-      back = record { begins = begins_so (b || is_parting l.peer.transport) xs y.said (x.heard ++ u ∷ []) c; carried = λ k. c };
-    }
+    search (rest_fits, begins_so)
 
 -- what tells that the transport connection is there comes from where it is there
 agreed_there : (tr : Transport) (l : Line) (xs : List Message) → l.own.transport ≡ waiting → l.peer.channel ≡ agree ∷ xs → l.peer.transport ≡ tr → Fits l.own l.peer → Fits l.peer l.own → is_early tr ≡ false
@@ -379,11 +327,7 @@ no_unit_early l u xs e f k = absurd (let n = ap units_in (sym e) ∙ k.unsaid f 
 
 denied_over : (s : Standing) (reason : ℕ) → is_wait_transport s.state.phase ≡ true → (is_over (react s (refused reason)).next.state.phase ≡ true) × ((react s (refused reason)).reply ≡ None)
 unfolding react
-denied_over s reason w = by (is_wait_transport s.state.phase) w
-  where
-    by : (b : Bool) → b ≡ true → (is_over (if b then denied reason s else rests s).next.state.phase ≡ true) × ((if b then denied reason s else rests s).reply ≡ None)
-    by true e = (refl, refl)
-    by false e = absurd (cc)
+denied_over s reason w = by_test (is_wait_transport s.state.phase) (λ q. rw q (refl, refl)) (λ q. let e = rw q at w in absurd (cc))
 
 lost_none : (s : Standing) → (react s broken_off).reply ≡ None
 unfolding react

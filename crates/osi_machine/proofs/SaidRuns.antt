@@ -10,14 +10,15 @@ use Rattle.osi_message.specs.Sendable.{said_of}
 use Rattle.osi_machine.specs.Floor.{Meaning, Call}
 use Rattle.osi_machine.specs.Histories.{Begins}
 use Rattle.osi_machine.specs.Core.{Offer, Side, Left, Right}
-use Rattle.osi_machine.specs.Worlds.{Class, class_0, class_2, Message, unit, ask, agree, deny, over, Transport, not_yet, waiting, linked, closing, gone, Terms}
-use Rattle.osi_machine.specs.Machine.{Ending, closed_here, Refusal, Step, connects, calls, delivers, breaks, ends, call_answered, shown_at, ended, connection_at, with_connection, is_given, learns, is_told}
+use Rattle.osi_machine.specs.Worlds.{Class, class_2, Message, unit, ask, agree, deny, over, Transport, not_yet, waiting, linked, closing, gone, Terms}
+use Rattle.osi_machine.specs.Machine.{Ending, closed_here, Refusal, Step, connects, calls, delivers, breaks, ends, shown_at, ended, connection_at, with_connection, is_given, learns, is_told}
 use Rattle.osi_machine.specs.Tables.{Line, Turn, Tables, asked_with, after_call, message_taken, closed, start, seen_from, side_of, end_of, stays, noted, refusal, asked_in, call_in, ends_there, ended_lines, shown_in_order, marked_ended, after_end, closes_by, after_turn, without_first, taken_in, delivered_to, cut_channels, step, run}
 use Rattle.osi_machine.specs.AsTables.{cut_line}
 use Rattle.osi_machine.specs.Sayings.{one_or_none, said_to, heard_of, said_to_first, heard_of_first, said_at_delivery, heard_at_delivery, said_at_call, said_at, heard_at, said_in, heard_in, other_side, units_in, is_parting, IsHeardAsSaid}
-use Rattle.osi_machine.proofs.Places.{with_other, with_same, ended_there, cut_there}
+use Rattle.osi_machine.proofs.Places.{with_other, with_same, ended_there, cut_there, some_same}
 use Rattle.osi_machine.proofs.SaidLines.{SayLaws, Words, silent, and_more, Carried}
 use Rattle.osi_machine.proofs.SaidMoves.{Told, turned_told, call_told, close_told, ends_told, cut_told, asked_told, message_told}
+use Rattle.osi_machine.proofs.PhaseLaws.{by_test}
 
 -- ---- one reference
 
@@ -42,10 +43,6 @@ told_as Right b l x y h = turned_told b l x y h
 none_at : (side : Side) (b : Bool) (x y : Words) → HoldsAt side b x y None → (x ≡ silent) × (y ≡ silent)
 none_at Left b x y h = h
 none_at Right b x y h = (h.1, h.0)
-
-still_none : (side : Side) (b : Bool) (x y : Words) → x ≡ silent → y ≡ silent → HoldsAt side b x y None
-still_none Left b x y e f = (e, f)
-still_none Right b x y e f = (f, e)
 
 quiet : (x : Words) → x ≡ and_more x [] []
 quiet x = ap (λ (us : List Meaning). record { said = us; heard = x.heard }) (sym (append-nil x.said))
@@ -109,50 +106,30 @@ asked_knows t r o None x y h = elim (new_there r t.lines (asked_with t.broken o)
 call_same : SayLaws → (t : Tables) (side : Side) (r : ℕ) (c : Call) (x y : Words) (o : Option Line) → connection_at r t.lines ≡ o → HoldsAt side t.broken x y o
     → HoldsAt side (call_in t side r c (side_of side o)).broken (and_more x (said_at_call c (side_of side o)) []) y (connection_at r (call_in t side r c (side_of side o)).lines)
 call_same laws t side r c x y None e h = same_holds side t.broken (and_more x [] []) y None (connection_at r t.lines) e (quiet_holds side t.broken x y None h)
-call_same laws t side r c x y (Some l) e h = by (is_given (seen_from side l).own.transport) refl
-  where
-    by : (g : Bool) → is_given (seen_from side l).own.transport ≡ g
-        → HoldsAt side
-        (if g then noted (call_answered side r c (react (seen_from side l).own.session (called c)).error ∷ []) (stays t side r (after_call t.broken c (seen_from side l)))
-        else noted (call_answered side r c (Some error.NoSuchConnection) ∷ []) t).broken
-        (and_more x (if g then one_or_none (react (seen_from side l).own.session (called c)).reply else []) []) y
-        (connection_at r (if g then noted (call_answered side r c (react (seen_from side l).own.session (called c)).error ∷ []) (stays t side r (after_call t.broken c (seen_from side l)))
-        else noted (call_answered side r c (Some error.NoSuchConnection) ∷ []) t).lines)
-    by true g = same_holds side t.broken (and_more x (one_or_none (react (seen_from side l).own.session (called c)).reply) []) y (Some (seen_from side (after_call t.broken c (seen_from side l)))) _
-        (with_same r t.lines l (seen_from side (after_call t.broken c (seen_from side l))) e)
-        (told_as side t.broken (after_call t.broken c (seen_from side l)) (and_more x (one_or_none (react (seen_from side l).own.session (called c)).reply) []) y
-        (call_told laws t.broken c (seen_from side l) x y g (told_from side t.broken l x y h)))
-    by false g = same_holds side t.broken (and_more x [] []) y (Some l) _ e (quiet_holds side t.broken x y (Some l) h)
+call_same laws t side r c x y (Some l) e h = by_test (is_given (seen_from side l).own.transport)
+    (λ g. rw g (same_holds side t.broken (and_more x (one_or_none (react (seen_from side l).own.session (called c)).reply) []) y (Some (seen_from side (after_call t.broken c (seen_from side l)))) _
+    (with_same r t.lines l (seen_from side (after_call t.broken c (seen_from side l))) e)
+    (told_as side t.broken (after_call t.broken c (seen_from side l)) (and_more x (one_or_none (react (seen_from side l).own.session (called c)).reply) []) y
+    (call_told laws t.broken c (seen_from side l) x y g (told_from side t.broken l x y h)))))
+    (λ g. rw g (same_holds side t.broken (and_more x [] []) y (Some l) _ e (quiet_holds side t.broken x y (Some l) h)))
 
 call_other : (t : Tables) (side : Side) (q r : ℕ) (c : Call) (x y : Words) (o : Option Line) → (r ≡ q → ⊥) → HoldsAt side t.broken x y (connection_at r t.lines)
     → HoldsAt side (call_in t side q c (side_of side o)).broken x y (connection_at r (call_in t side q c (side_of side o)).lines)
 call_other t side q r c x y None n h = h
-call_other t side q r c x y (Some l) n h = by (is_given (seen_from side l).own.transport)
-  where
-    by : (g : Bool)
-        → HoldsAt side
-        (if g then noted (call_answered side q c (react (seen_from side l).own.session (called c)).error ∷ []) (stays t side q (after_call t.broken c (seen_from side l)))
-        else noted (call_answered side q c (Some error.NoSuchConnection) ∷ []) t).broken x y
-        (connection_at r (if g then noted (call_answered side q c (react (seen_from side l).own.session (called c)).error ∷ []) (stays t side q (after_call t.broken c (seen_from side l)))
-        else noted (call_answered side q c (Some error.NoSuchConnection) ∷ []) t).lines)
-    by true = same_holds side t.broken x y (connection_at r t.lines) _ (with_other r q t.lines (seen_from side (after_call t.broken c (seen_from side l))) n) h
-    by false = h
+call_other t side q r c x y (Some l) n h = by_test (is_given (seen_from side l).own.transport)
+    (λ e. rw e (same_holds side t.broken x y (connection_at r t.lines) _ (with_other r q t.lines (seen_from side (after_call t.broken c (seen_from side l))) n) h))
+    (λ e. rw e h)
 
 call_knows : SayLaws → (t : Tables) (side : Side) (q r : ℕ) (c : Call) (x y : Words) → HoldsAt side t.broken x y (connection_at r t.lines)
     → HoldsAt side (call_in t side q c (side_of side (connection_at q t.lines))).broken
     (and_more x (if q == r then said_at_call c (side_of side (connection_at r t.lines)) else []) []) y
     (connection_at r (call_in t side q c (side_of side (connection_at q t.lines))).lines)
-call_knows laws t side q r c x y h = by (q == r) refl
-  where
-    by : (a : Bool) → (q == r) ≡ a
-        → HoldsAt side (call_in t side q c (side_of side (connection_at q t.lines))).broken
-        (and_more x (if a then said_at_call c (side_of side (connection_at r t.lines)) else []) []) y
-        (connection_at r (call_in t side q c (side_of side (connection_at q t.lines))).lines)
-    by true e = subst (λ (n : ℕ). HoldsAt side (call_in t side n c (side_of side (connection_at n t.lines))).broken
-        (and_more x (said_at_call c (side_of side (connection_at r t.lines))) []) y
-        (connection_at r (call_in t side n c (side_of side (connection_at n t.lines))).lines)) (sym (eqb-true q r e))
-        (call_same laws t side r c x y (connection_at r t.lines) refl h)
-    by false e = quiet_holds side _ x y _ (call_other t side q r c x y (connection_at q t.lines) (not_equal q r e) h)
+call_knows laws t side q r c x y h = by_test (q == r)
+    (λ e. rw e (subst (λ (n : ℕ). HoldsAt side (call_in t side n c (side_of side (connection_at n t.lines))).broken
+    (and_more x (said_at_call c (side_of side (connection_at r t.lines))) []) y
+    (connection_at r (call_in t side n c (side_of side (connection_at n t.lines))).lines)) (sym (eqb-true q r e))
+    (call_same laws t side r c x y (connection_at r t.lines) refl h)))
+    (λ e. rw e (quiet_holds side _ x y _ (call_other t side q r c x y (connection_at q t.lines) (not_equal q r e) h)))
 
 -- ---- the end of a side
 
@@ -189,7 +166,7 @@ message_closes laws b terms keep tr l m c = absurd (cc)
 turn_same : SayLaws → (t : Tables) (side : Side) (r : ℕ) (keep : ℕ → ℕ) (turn : Turn) (l : Line) (x y : Words) → connection_at r t.lines ≡ Some l
     → (turn.closes ≡ true → is_ended turn.line.own.session.state.phase ≡ true) → Told t.broken turn.line x y
     → HoldsAt side (after_turn t side r keep turn).broken x y (connection_at r (after_turn t side r keep turn).lines)
-turn_same laws t side r keep turn l x y e ends_so h = by turn.closes refl
+turn_same laws t side r keep turn l x y e ends_so h = by_test turn.closes (λ c. rw c (last t.known (ends_so c))) (λ c. rw c stayed)
   where
     stayed : HoldsAt side t.broken x y (connection_at r (with_connection r (seen_from side turn.line) t.lines))
     stayed = same_holds side t.broken x y (Some (seen_from side turn.line)) _ (with_same r t.lines l (seen_from side turn.line) e) (told_as side t.broken turn.line x y h)
@@ -201,12 +178,6 @@ turn_same laws t side r keep turn l x y e ends_so h = by turn.closes refl
         (with_same r t.lines l (seen_from side (closed t.broken (keep r) turn.line)) e)
         (told_as side t.broken (closed t.broken (keep r) turn.line) x y (close_told t.broken (keep r) turn.line x y o h))
     last _ o = end_knows laws side closed_here keep (stays (noted (map (shown_at side r) turn.shown) t) side r turn.line) r x y stayed
-
-    by : (b : Bool) → turn.closes ≡ b
-        → HoldsAt side (if b then closes_by t.known (noted (map (shown_at side r) turn.shown) t) side r keep turn.line else noted (map (shown_at side r) turn.shown) (stays t side r turn.line)).broken x y
-        (connection_at r (if b then closes_by t.known (noted (map (shown_at side r) turn.shown) t) side r keep turn.line else noted (map (shown_at side r) turn.shown) (stays t side r turn.line)).lines)
-    by true c = last t.known (ends_so c)
-    by false c = stayed
 
 taken_same : SayLaws → (t : Tables) (side : Side) (r : ℕ) (keep : ℕ → ℕ) (l : Line) (x y : Words) → connection_at r t.lines ≡ Some l → HoldsAt side t.broken x y (Some l)
     → (ms : List Message) → (seen_from side l).peer.channel ≡ ms
@@ -228,7 +199,7 @@ delivery_same laws t side r keep x y (Some l) e h = taken_same laws t side r kee
 
 turn_other : SayLaws → (t : Tables) (side : Side) (q r : ℕ) (keep : ℕ → ℕ) (turn : Turn) (x y : Words) → (r ≡ q → ⊥) → HoldsAt side t.broken x y (connection_at r t.lines)
     → HoldsAt side (after_turn t side q keep turn).broken x y (connection_at r (after_turn t side q keep turn).lines)
-turn_other laws t side q r keep turn x y n h = by turn.closes
+turn_other laws t side q r keep turn x y n h = by_test turn.closes (λ e. rw e (last t.known)) (λ e. rw e (stayed (seen_from side turn.line)))
   where
     stayed : (l : Line) → HoldsAt side t.broken x y (connection_at r (with_connection q l t.lines))
     stayed l = same_holds side t.broken x y (connection_at r t.lines) _ (with_other r q t.lines l n) h
@@ -238,12 +209,6 @@ turn_other laws t side q r keep turn x y n h = by turn.closes
         (connection_at r (closes_by known (noted (map (shown_at side q) turn.shown) t) side q keep turn.line).lines)
     last (Some class_2) = stayed (seen_from side (closed t.broken (keep q) turn.line))
     last _ = end_knows laws side closed_here keep (stays (noted (map (shown_at side q) turn.shown) t) side q turn.line) r x y (stayed (seen_from side turn.line))
-
-    by : (b : Bool)
-        → HoldsAt side (if b then closes_by t.known (noted (map (shown_at side q) turn.shown) t) side q keep turn.line else noted (map (shown_at side q) turn.shown) (stays t side q turn.line)).broken x y
-        (connection_at r (if b then closes_by t.known (noted (map (shown_at side q) turn.shown) t) side q keep turn.line else noted (map (shown_at side q) turn.shown) (stays t side q turn.line)).lines)
-    by true = last t.known
-    by false = stayed (seen_from side turn.line)
 
 taken_other : SayLaws → (t : Tables) (side : Side) (q r : ℕ) (keep : ℕ → ℕ) (l : Line) (x y : Words) (ms : List Message) → (r ≡ q → ⊥) → HoldsAt side t.broken x y (connection_at r t.lines)
     → HoldsAt side (taken_in t side q keep l ms).broken x y (connection_at r (taken_in t side q keep l ms).lines)
@@ -295,11 +260,9 @@ break_knows t left right r x y h = by t.broken
 
 ends_knows : SayLaws → (t : Tables) (side : Side) (e : Ending) (keep : ℕ → ℕ) (r : ℕ) (x y : Words) → HoldsAt side t.broken x y (connection_at r t.lines)
     → HoldsAt side (step t (ends side e keep)).broken x y (connection_at r (step t (ends side e keep)).lines)
-ends_knows laws t side e keep r x y h = by (is_some (end_of side t) || not (is_told e t.broken))
-  where
-    by : (b : Bool) → HoldsAt side (if b then t else after_end side e keep t).broken x y (connection_at r (if b then t else after_end side e keep t).lines)
-    by true = h
-    by false = end_knows laws side e keep t r x y h
+ends_knows laws t side e keep r x y h = by_test (is_some (end_of side t) || not (is_told e t.broken))
+    (λ q. rw q h)
+    (λ q. rw q (end_knows laws side e keep t r x y h))
 
 -- ---- a step, and a list of steps
 
@@ -338,11 +301,6 @@ run_knows laws r t (s ∷ steps) x y h =
 start_knows : (r : ℕ) (terms : Terms) → Knows r (start terms) silent silent
 start_knows zero terms = (refl, refl)
 start_knows (suc r) terms = (refl, refl)
-
--- ---- what was said, and what of it was heard
-
-some_same : (x l : Line) → Some x ≡ Some l → x ≡ l
-some_same x l e = cc
 
 line_of_side : (side : Side) (b : Bool) (x y : Words) (o : Option Line) (l : Line) → HoldsAt side b x y o → side_of side o ≡ Some l → Told b l x y
 line_of_side side b x y None l h e = absurd (cc)

@@ -1,12 +1,11 @@
 -- The tokens of both sides, once an answerer has settled them.
-use Rattle.std.proofs.Common.{◌≡◌, refl, sym, ◌∙◌, ap, Bool, true, false, not, ◌&&◌, ◌||◌, if◌then◌else◌}
+use Rattle.std.proofs.Common.{◌≡◌, refl, sym, ◌∙◌, ap, Bool, true, false, not, ◌&&◌, ◌||◌, if◌then◌else◌, arith}
 use Rattle.osi_spdu.specs.declared.settings.TokenSetting.{TokenSetting}
 use Rattle.osi_spdu.specs.declared.settings.Wish.{Wish}
-use Rattle.osi_spdu.specs.declared.settings.Wish.TheVariants.{Asker, Answerer, Choice}
 use Rattle.osi_spdu.specs.declared.settings.Side.{Side}
 use Rattle.osi_spdu.specs.declared.settings.Side.TheVariants as side
 use Rattle.osi_spdu.specs.Fields.{wish_of}
-use Rattle.osi_session.specs.Sides.{wish_for, sides_by, setting_by, settled, stated_side, allows}
+use Rattle.osi_session.specs.Sides.{wish_for, sides_by, settled, stated_side, allows}
 use Rattle.osi_machine.specs.Floor.{FunctionalUnits, Sides, Token, data_token, minor, major, release, has, each, available, side_for, is_asker, settle, stated, setting_of, of_asker, of_answerer, answers_wishes}
 use Rattle.osi_machine.specs.Owners.{Owner, Own, ToThem, Absent, turned_owner, is_own, is_to_own, is_absent}
 use Rattle.osi_machine.proofs.Tokens.{has_set}
@@ -14,31 +13,18 @@ use Rattle.osi_machine.proofs.Tokens.{has_set}
 -- ---- a side for each token
 
 side_by : (f : Token → Side) (t : Token) → side_for (sides_by f) t ≡ f t
-side_by f data_token = refl
-side_by f minor = refl
-side_by f major = refl
-side_by f release = refl
-
-wish_by : (f : Token → Wish) (t : Token) → wish_for (setting_by f) t ≡ f t
-wish_by f data_token = refl
-wish_by f minor = refl
-wish_by f major = refl
-wish_by f release = refl
+side_by f t = grind arith
 
 settle_side : (u : FunctionalUnits) (w : TokenSetting) (a : Sides) (t : Token) → side_for (settle u w a) t ≡ settled (has (available u) t) (wish_for w t) (side_for a t)
 unfolding settle
 settle_side u w a t = side_by (λ t. settled (has (available u) t) (wish_for w t) (side_for a t)) t
 
 setting_wish : (s : Sides) (t : Token) → wish_for (setting_of s) t ≡ wish_of (side_for s t)
-setting_wish s t = wish_by (λ t. wish_of (side_for s t)) t
+setting_wish s t = grind arith
 
 -- what is settled is stated as it is
 named : (b : Bool) (w : Wish) (s : Side) → stated_side b (wish_of (settled b w s)) ≡ settled b w s
-named false w s = refl
-named true Asker s = refl
-named true Answerer s = refl
-named true Choice side.Asker = refl
-named true Choice side.Answerer = refl
+named b w s = grind arith
 
 stated_settled : (u : FunctionalUnits) (w : TokenSetting) (a : Sides) (t : Token) → side_for (stated u (setting_of (settle u w a))) t ≡ side_for (settle u w a) t
 unfolding stated
@@ -50,13 +36,9 @@ stated_settled u w a t =
 
 -- and answers each wish
 one_allowed : (b : Bool) (w : Wish) (s : Side) → allows b w (wish_of (settled b w s)) ≡ true
-one_allowed false w s = refl
-one_allowed true Asker s = refl
-one_allowed true Answerer s = refl
-one_allowed true Choice side.Asker = refl
-one_allowed true Choice side.Answerer = refl
+one_allowed b w s = grind arith
 
-each_of : (p : Token → Bool) → ((t : Token) → p t ≡ true) → each p ≡ true
+pub each_of : (p : Token → Bool) → ((t : Token) → p t ≡ true) → each p ≡ true
 each_of p h = let a = h data_token in let b = h minor in let c = h major in let d = h release in rw (a, b, c, d) refl
 
 pub settled_answers : (u : FunctionalUnits) (w : TokenSetting) (a : Sides) → answers_wishes u w (setting_of (settle u w a)) ≡ true
@@ -111,29 +93,20 @@ abbrev given : Bool → Bool → Owner
 given h a = if h then Own else if a then ToThem else Absent
 
 pub own_held : (h a : Bool) → h ≡ is_own (given h a)
-own_held true a = refl
-own_held false true = refl
-own_held false false = refl
+own_held h a = grind arith
 
 pub own_wanted : (h a : Bool) → h ≡ (is_own (given h a) || is_to_own (given h a))
-own_wanted true a = refl
-own_wanted false true = refl
-own_wanted false false = refl
+own_wanted h a = grind arith
 
 pub own_absent : (h a : Bool) → (h ≡ true → a ≡ true) → a ≡ false → is_absent (given h a) ≡ true
 own_absent true a f e = absurd (let k = f refl in cc)
 own_absent false a f e = rw e refl
 
 pub their_held : (h a : Bool) → false ≡ is_own (turned_owner (given h a))
-their_held true a = refl
-their_held false true = refl
-their_held false false = refl
+their_held h a = grind arith
 
 pub their_wanted : (h a : Bool) → (a && not h) ≡ (is_own (turned_owner (given h a)) || is_to_own (turned_owner (given h a)))
-their_wanted true true = refl
-their_wanted true false = refl
-their_wanted false true = refl
-their_wanted false false = refl
+their_wanted h a = grind arith
 
 pub their_absent : (h a : Bool) → (h ≡ true → a ≡ true) → a ≡ false → is_absent (turned_owner (given h a)) ≡ true
 their_absent true a f e = absurd (let k = f refl in cc)

@@ -1,14 +1,15 @@
 -- A call that changes no more of a side than its phase and its numbers: what is under way to it goes on
 -- fitting, and leaves it the same but for that change, until a restart stands.
-use Rattle.std.proofs.Common.{◌≡◌, refl, sym, ◌∙◌, ap, subst, ℕ, Bool, true, false, not, ◌&&◌, ◌||◌, if◌then◌else◌, List, [], ◌∷◌, ◌++◌, ◌⊎◌, inl, inr}
+use Rattle.std.proofs.Common.{◌≡◌, refl, sym, ◌∙◌, ap, subst, ℕ, Bool, true, false, not, ◌&&◌, ◌||◌, if◌then◌else◌, List, [], ◌∷◌, ◌++◌, ◌⊎◌, inl, inr, arith}
 use Rattle.std.specs.List.{list_any}
-use Rattle.osi_machine.specs.Floor.{State, FunctionalUnits, TokenSetting, Meaning, DT, RS, RestartDue, may_hold, is_restarting, is_restart_due, has_no_effect, passes_restarting, restarted_at, without_tokens, becomes, stands, drops, next, Good}
-use Rattle.osi_machine.specs.Histories.{Item, Octets, cutat}
+use Rattle.osi_machine.specs.Floor.{State, TokenSetting, Meaning, RS, RestartDue, may_hold, is_restarting, is_restart_due, has_no_effect, passes_restarting, restarted_at, without_tokens, becomes, stands, drops, next, Good}
+use Rattle.osi_machine.specs.Histories.{Item}
 use Rattle.osi_machine.specs.Taking.{seen}
 use Rattle.osi_machine.specs.Channels.{is_plain, Fits, AllFit, flush, stops, heard, view_next, heard_view}
-use Rattle.osi_machine.proofs.PhaseLaws.{excluded}
+use Rattle.osi_machine.proofs.PhaseLaws.{excluded, by_test}
 use Rattle.osi_machine.proofs.Units.{next_acted, next_dropped, restart_acted, none_due}
 use Rattle.osi_machine.proofs.ChannelLaws.{due_end}
+use Rattle.std.proofs.lemmas.Bool.{or_parts}
 
 -- all but phase and numbers is the same
 pub record Still (s r : State) : Type 0 where
@@ -45,10 +46,10 @@ pub record Due (s r : State) : Type 0 where
 abbrev pub Shifted : Shift → State → State → Type 0
 Shifted k s r = ((r ≡ k.to s) × k.inv s) ⊎ Due s r
 
--- ---- sides that listen discard the same, and show the same
-
 drops_is : (s : State) (u : Meaning) → is_restarting s.phase ≡ false → drops s u ≡ (has_no_effect u || false)
 drops_is s u h = ap (λ (b : Bool). has_no_effect u || (b && not (passes_restarting u))) h
+
+-- ---- sides that listen discard the same, and show the same
 
 pub same_drops : (s r : State) (u : Meaning) → is_restarting s.phase ≡ false → is_restarting r.phase ≡ false → drops r u ≡ drops s u
 same_drops s r u h k = drops_is r u k ∙ sym (drops_is s u h)
@@ -62,22 +63,12 @@ same_stops s r (RS j n w o) h k = listening_stands r n k ∙ sym (listening_stan
 same_stops s r _ h k = refl
 
 same_seen : (s r : State) (u : Meaning) (v : List Item) → is_restarting s.phase ≡ false → is_restarting r.phase ≡ false → Still s r → seen r u v ≡ seen s u v
-same_seen s r (RS j n w o) v h k e =
-    ap (λ (b : Bool). if b then cutat r.base v n else v) (listening_stands r n k ∙ sym (listening_stands s n h))
-    ∙ ap (λ (b : ℕ). if stands s n then cutat b v n else v) e.base
-same_seen s r (DT o) v h k e = ap (λ (f : FunctionalUnits). if f.duplex then v else v ++ Octets o ∷ []) e.units
-same_seen s r _ v h k e = refl
+same_seen s r u v h k e = grind (arith, listening_stands)
 
 pub same_view : (s r : State) (u : Meaning) (v : List Item) → is_restarting s.phase ≡ false → is_restarting r.phase ≡ false → Still s r → view_next r u v ≡ view_next s u v
 same_view s r u v h k e =
     ap (λ (b : Bool). if b then v else seen r u v) (same_drops s r u h k)
     ∙ ap (λ (x : List Item). if drops s u then v else x) (same_seen s r u v h k e)
-
--- ---- one unit
-
-or_false : (a b : Bool) → (a || b) ≡ false → (a ≡ false) × (b ≡ false)
-or_false true b h = absurd (cc)
-or_false false b h = (refl, h)
 
 pub due_listens : (s : State) → is_restart_due s.phase ≡ true → is_restarting s.phase ≡ false
 due_listens s h = excluded is_restart_due is_restarting refl s.phase h
@@ -105,12 +96,7 @@ unfolding restarted_at
 stood_due s r (RS j n w o) p q e =
     let a : becomes s (RS j n w o) ≡ restarted s n w = ap (λ (b : Bool). if b then restarted s n w else s) p in
     let b : becomes r (RS j n w o) ≡ restarted r n w = ap (λ (c : Bool). if c then restarted r n w else r) q in
-    let d : Due (restarted s n w) (restarted r n w) = record {
-      due = refl;
-      other = refl;
-      same = record { units = e.units; wishes = refl; held = refl; proposed = e.proposed; base = e.base; is_caller = e.is_caller };
-      next = refl;
-    } in
+    let d : Due (restarted s n w) (restarted r n w) = (search) in
     subst (λ (x : State). Due x (becomes r (RS j n w o))) (sym a) (subst (Due (restarted s n w)) (sym b) d)
 stood_due s r _ p q e = absurd (cc)
 
@@ -119,24 +105,19 @@ inv_fits k s u i n f = record {
   plain = f.plain;
   good = λ d.
       let e = sym (same_drops s (k.to s) u (inv_listens k s i) (after_listens k s i)) ∙ d in
-      k.good s u i n f.plain (or_false (has_no_effect u) (is_restarting s.phase && not (passes_restarting u)) e).0 (f.good e);
+      k.good s u i n f.plain (or_parts (has_no_effect u) (is_restarting s.phase && not (passes_restarting u)) e).0 (f.good e);
 }
 
 inv_next : (k : Shift) (s : State) (u : Meaning) → k.inv s → k.never u ≡ false → Fits s u → stops s u ≡ false
     → (next (k.to s) u ≡ k.to (next s u)) × k.inv (next s u)
-inv_next k s u i n f st = by (drops s u) refl
-  where
-    both : drops (k.to s) u ≡ drops s u
-    both = same_drops s (k.to s) u (inv_listens k s i) (after_listens k s i)
-
-    by : (b : Bool) → drops s u ≡ b → (next (k.to s) u ≡ k.to (next s u)) × k.inv (next s u)
-    by true d =
-        let a = next_dropped s u d in
-        (next_dropped (k.to s) u (both ∙ d) ∙ ap k.to (sym a), subst k.inv (sym a) i)
-    by false d =
-        let a = next_acted s u d in
-        let p = k.step s u i n f.plain (or_false (has_no_effect u) (is_restarting s.phase && not (passes_restarting u)) d).0 (f.good d) st in
-        (next_acted (k.to s) u (both ∙ d) ∙ p.0 ∙ ap k.to (sym a), subst k.inv (sym a) p.1)
+inv_next k s u i n f st =
+    let both : drops (k.to s) u ≡ drops s u = same_drops s (k.to s) u (inv_listens k s i) (after_listens k s i) in
+    by_test (drops s u)
+    (λ d. let a = next_dropped s u d in
+    (next_dropped (k.to s) u (both ∙ d) ∙ ap k.to (sym a), subst k.inv (sym a) i))
+    (λ d. let a = next_acted s u d in
+    let p = k.step s u i n f.plain (or_parts (has_no_effect u) (is_restarting s.phase && not (passes_restarting u)) d).0 (f.good d) st in
+    (next_acted (k.to s) u (both ∙ d) ∙ p.0 ∙ ap k.to (sym a), subst k.inv (sym a) p.1))
 
 stood_next : (k : Shift) (s : State) (u : Meaning) → k.inv s → stops s u ≡ true → Due (next s u) (next (k.to s) u)
 stood_next k s u i st =
@@ -147,11 +128,7 @@ stood_next k s u i st =
 
 -- where both owe the answer, only what is discarded fits
 due_drops : (s : State) (u : Meaning) → is_restart_due s.phase ≡ true → Fits s u → drops s u ≡ true
-due_drops s u h f = by (drops s u) refl
-  where
-    by : (b : Bool) → drops s u ≡ b → b ≡ true
-    by true d = refl
-    by false d = absurd (let n = none_due s.phase u h f.plain in let e = (f.good d).expected in cc)
+due_drops s u h f = by_test (drops s u) (λ d. d) (λ d. absurd (let n = none_due s.phase u h f.plain in let e = (f.good d).expected in cc))
 
 due_fits : (s r : State) (us : List Meaning) → Due s r → AllFit s us → AllFit r us
 due_fits s r [] d f = tt
@@ -174,7 +151,7 @@ pub record Shifts (k : Shift) (s : State) (us : List Meaning) : Type 0 where
 pub shifts : (k : Shift) (s : State) (us : List Meaning) → k.inv s → list_any k.never us ≡ false → AllFit s us → Shifts k s us
 shifts k s [] i n f = record { fits = tt; flush = inl (refl, i); heard = (refl, i) }
 shifts k s (u ∷ us) i n f =
-    let no = or_false (k.never u) (list_any k.never us) n in
+    let no = or_parts (k.never u) (list_any k.never us) n in
     by no.0 (stops s u) refl (λ st.
     let p = inv_next k s u i no.0 f.0 st in
     subst (λ (q : State). AllFit q us × Shifted k (flush (next s u) us) (flush q us) × (heard q us ≡ k.to (heard (next s u) us)) × k.inv (heard (next s u) us)) (sym p.0)
@@ -217,7 +194,7 @@ pub shift_view : (k : Shift) (s : State) (us : List Meaning) (v : List Item) →
     → heard_view (k.to s) us v ≡ heard_view s us v
 shift_view k s [] v i n f = refl
 shift_view k s (u ∷ us) v i n f =
-    let no = or_false (k.never u) (list_any k.never us) n in
+    let no = or_parts (k.never u) (list_any k.never us) n in
     by (stops s u) refl (λ st.
     let p = inv_next k s u i no.0 f.0 st in
     ap (λ (q : State). heard_view q us (view_next s u v)) p.0 ∙ shift_view k (next s u) us (view_next s u v) p.1 no.1 f.1)

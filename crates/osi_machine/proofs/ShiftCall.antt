@@ -9,15 +9,17 @@ use Rattle.osi_machine.specs.Taking.{seen}
 use Rattle.osi_machine.specs.Channels.{is_plain, Fits, flush, stops, heard, hears, view_next, heard_view, data_in, data_of, needs_token}
 use Rattle.osi_machine.specs.Core.{Party, Core}
 use Rattle.osi_machine.specs.Parties.{AreConsistent}
-use Rattle.osi_machine.proofs.PhaseLaws.{excluded, implied_two}
+use Rattle.osi_machine.proofs.PhaseLaws.{excluded, implied_two, by_either}
 use Rattle.osi_machine.proofs.Units.{next_cases, next_acted, next_dropped, next_hears}
 use Rattle.osi_machine.proofs.ChannelLaws.{fit_append, flush_append, heard_flush, heard_append, view_append, data_append}
 use Rattle.osi_machine.proofs.HistoryLaws.{cut_append}
-use Rattle.osi_machine.proofs.Records.{flushed, hearing, matched, Meeting, Half, Views, Counting, Counts, IsOfProfile, Pair, Stands}
+use Rattle.osi_machine.proofs.Records.{flushed, hearing, matched, Meeting, Half, Views, Counting, Counts, IsOfProfile, Stands}
 use Rattle.osi_machine.proofs.Idle.{append_nil}
 use Rattle.osi_machine.proofs.DataCall.{none_owed}
 use Rattle.osi_machine.proofs.TakeMoves.{none_due_there}
 use Rattle.osi_machine.proofs.Shift.{Shift, Still, still, Due, Shifted, Shifts, shifts, shift_view, shifted_still, shifted_listens, inv_listens, after_listens}
+use Rattle.std.proofs.lemmas.Bool.{and_from, not-true}
+use Rattle.osi_machine.proofs.Deaf.{not_both}
 
 -- the connection after the call
 abbrev pub sender : Party → State → Meaning → List Item → Party
@@ -26,17 +28,21 @@ sender x r m more = record { session = r; view = x.view ++ more; said = x.said +
 abbrev pub after_sending : Core → State → Meaning → List Item → Core
 after_sending w r m more = record { history = w.history ++ more; owner = w.owner; own = sender w.own r m more; peer = w.peer }
 
--- what has to be known: the change, the unit, and what it adds to the history
-pub record Sending (w : Core) (k : Shift) (m : Meaning) (more : List Item) : Type 0 where
-  pub now : k.inv w.own.session
-  pub none : list_any k.never w.peer.sent ≡ false
+-- what has to be known of the unit by itself
+pub record IsUnit (m : Meaning) : Type 0 where
   pub plain : is_plain m ≡ true
   pub effect : has_no_effect m ≡ false
   pub waits : passes_restarting m ≡ false
   pub quiet : (s : State) → stops s m ≡ false
   pub keeps : (s : State) → Still s (becomes s m)
-  pub shows : (s : State) (v : List Item) → seen s m v ≡ v ++ more
   pub empty : data_in m ≡ []
+
+-- what has to be known: the change, the unit, and what it adds to the history
+pub record Sending (w : Core) (k : Shift) (m : Meaning) (more : List Item) : Type 0 where
+  pub now : k.inv w.own.session
+  pub none : list_any k.never w.peer.sent ≡ false
+  pub unit : IsUnit m
+  pub shows : (s : State) (v : List Item) → seen s m v ≡ v ++ more
   pub good : is_restarting (flushed w.peer w.own).phase ≡ false → k.inv (flushed w.own w.peer) → Good (flushed w.peer w.own) m
   pub meets : is_restarting (flushed w.peer w.own).phase ≡ false → k.inv (flushed w.own w.peer)
       → matched (k.to (flushed w.own w.peer)).phase (becomes (flushed w.peer w.own) m).phase ≡ true
@@ -56,11 +62,6 @@ pub record Sending (w : Core) (k : Shift) (m : Meaning) (more : List Item) : Typ
   pub numbered : AreNumberedFrom (flushed w.own w.peer).base w.history → AreNumberedFrom (flushed w.own w.peer).base (w.history ++ more)
   pub one_way : (flushed w.own w.peer).units.half_duplex ≡ true
       → (list_any (needs_token data_token) (w.own.sent ++ m ∷ []) && list_any (needs_token data_token) w.peer.sent) ≡ false
-
--- ---- the channel to the caller
-
-both : (a b : Bool) → a ≡ true → b ≡ true → (a && b) ≡ true
-both a b p q = rw (p, q) refl
 
 pub runs : (w : Core) (k : Shift) (m : Meaning) (more : List Item) → Sending w k m more → Stands w → Shifts k w.own.session w.peer.sent
 runs w k m more g h = shifts k w.own.session w.peer.sent g.now g.none h.own.fits
@@ -84,7 +85,7 @@ record Acts (w : Core) (k : Shift) (m : Meaning) : Type 0 where
   same : next (flushed w.peer w.own) m ≡ becomes (flushed w.peer w.own) m
   acts : drops (flushed w.peer w.own) m ≡ false
 
-drops_waiting : (s : State) (m : Meaning) → is_restarting s.phase ≡ true → passes_restarting m ≡ false → drops s m ≡ true
+pub drops_waiting : (s : State) (m : Meaning) → is_restarting s.phase ≡ true → passes_restarting m ≡ false → drops s m ≡ true
 drops_waiting s m h k = by (has_no_effect m) (is_restarting s.phase) (passes_restarting m) h k
   where
     by : (a b c : Bool) → b ≡ true → c ≡ false → (a || (b && not c)) ≡ true
@@ -95,60 +96,36 @@ acts_listening : (s : State) (m : Meaning) → is_restarting s.phase ≡ false �
 acts_listening s m h k = rw (k, h) refl
 
 sides : (w : Core) (k : Shift) (m : Meaning) (more : List Item) → Sending w k m more → Stands w → Deaf w k m ⊎ Acts w k m
-sides w k m more g h = by (runs w k m more g h).flush
-  where
-    fx : State
-    fx = flushed w.own w.peer
-
-    fy : State
-    fy = flushed w.peer w.own
-
-    by : Shifted k fx (flush (k.to w.own.session) w.peer.sent) → Deaf w k m ⊎ Acts w k m
-    by (inr d) =
-        let r = implied_two (λ p q. matched p q && is_restart_due p) (λ p q. is_restarting q) refl fx.phase fy.phase
-        (both (matched fx.phase fy.phase) (is_restart_due fx.phase) h.own.meeting.meets d.due) in
-        inl (record { asked = r; due = d; same = next_dropped fy m (drops_waiting fy m r g.waits) })
-    by (inl (e, i)) =
-        let l = not_true (is_restarting fy.phase) (implied_two (λ p q. matched p q && may_hold p) (λ p q. not (is_restarting q)) refl fx.phase fy.phase
-        (both (matched fx.phase fy.phase) (may_hold fx.phase) h.own.meeting.meets (k.holds fx i))) in
-        let a = acts_listening fy m l g.effect in
-        inr (record { listens = l; inv = i; there = e; same = next_acted fy m a; acts = a })
-      where
-        not_true : (b : Bool) → not b ≡ true → b ≡ false
-        not_true true p = absurd (cc)
-        not_true false p = refl
+sides w k m more g h = by_either (runs w k m more g h).flush
+    (λ z. let l = not-true (is_restarting (flushed w.peer w.own).phase) (implied_two (λ p q. matched p q && may_hold p) (λ p q. not (is_restarting q)) refl (flushed w.own w.peer).phase (flushed w.peer w.own).phase
+    (and_from (matched (flushed w.own w.peer).phase (flushed w.peer w.own).phase) (may_hold (flushed w.own w.peer).phase) h.own.meeting.meets (k.holds (flushed w.own w.peer) z.1))) in
+    let a = acts_listening (flushed w.peer w.own) m l g.unit.effect in
+    inr (record { listens = l; inv = z.1; there = z.0; same = next_acted (flushed w.peer w.own) m a; acts = a }))
+    (λ d. let r = implied_two (λ p q. matched p q && is_restart_due p) (λ p q. is_restarting q) refl (flushed w.own w.peer).phase (flushed w.peer w.own).phase
+    (and_from (matched (flushed w.own w.peer).phase (flushed w.peer w.own).phase) (is_restart_due (flushed w.own w.peer).phase) h.own.meeting.meets d.due) in
+    inl (record { asked = r; due = d; same = next_dropped (flushed w.peer w.own) m (drops_waiting (flushed w.peer w.own) m r g.unit.waits) }))
 
 other_fits : (w : Core) (k : Shift) (m : Meaning) (more : List Item) → Sending w k m more → Stands w → Fits (flushed w.peer w.own) m
-other_fits w k m more g h = by (sides w k m more g h)
-  where
-    by : Deaf w k m ⊎ Acts w k m → Fits (flushed w.peer w.own) m
-    by (inl d) = record { plain = g.plain; good = λ a. absurd (let b = drops_waiting (flushed w.peer w.own) m d.asked g.waits in cc) }
-    by (inr a) = record { plain = g.plain; good = λ b. g.good a.listens a.inv }
+other_fits w k m more g h = by_either (sides w k m more g h)
+    (λ d. record { plain = g.unit.plain; good = λ a. absurd (let b = drops_waiting (flushed w.peer w.own) m d.asked g.unit.waits in cc) })
+    (λ a. record { plain = g.unit.plain; good = λ b. g.good a.listens a.inv })
 
 -- ---- what both will be
 
 pub meets_after : (w : Core) (k : Shift) (m : Meaning) (more : List Item) → Sending w k m more → Stands w
     → matched (flush (k.to w.own.session) w.peer.sent).phase (next (flushed w.peer w.own) m).phase ≡ true
-meets_after w k m more g h = by (sides w k m more g h)
-  where
-    fx' : State
-    fx' = flush (k.to w.own.session) w.peer.sent
-
-    fy : State
-    fy = flushed w.peer w.own
-
-    by : Deaf w k m ⊎ Acts w k m → matched fx'.phase (next fy m).phase ≡ true
-    by (inl d) = subst (λ (q : State). matched fx'.phase q.phase ≡ true) (sym d.same)
-        (implied_two (λ p q. is_restart_due p && is_restarting q) (λ p q. matched p q) refl fx'.phase fy.phase
-        (both (is_restart_due fx'.phase) (is_restarting fy.phase) d.due.other d.asked))
-    by (inr a) = subst (λ (q : State). matched q.phase (next fy m).phase ≡ true) (sym a.there)
-        (subst (λ (q : State). matched (k.to (flushed w.own w.peer)).phase q.phase ≡ true) (sym a.same) (g.meets a.listens a.inv))
+meets_after w k m more g h = by_either (sides w k m more g h)
+    (λ d. subst (λ (q : State). matched (flush (k.to w.own.session) w.peer.sent).phase q.phase ≡ true) (sym d.same)
+    (implied_two (λ p q. is_restart_due p && is_restarting q) (λ p q. matched p q) refl (flush (k.to w.own.session) w.peer.sent).phase (flushed w.peer w.own).phase
+    (and_from (is_restart_due (flush (k.to w.own.session) w.peer.sent).phase) (is_restarting (flushed w.peer w.own).phase) d.due.other d.asked)))
+    (λ a. subst (λ (q : State). matched q.phase (next (flushed w.peer w.own) m).phase ≡ true) (sym a.there)
+    (subst (λ (q : State). matched (k.to (flushed w.own w.peer)).phase q.phase ≡ true) (sym a.same) (g.meets a.listens a.inv)))
 
 own_still : (w : Core) (k : Shift) (m : Meaning) (more : List Item) → Sending w k m more → Stands w → Still (flushed w.own w.peer) (flush (k.to w.own.session) w.peer.sent)
 own_still w k m more g h = shifted_still k (flushed w.own w.peer) (flush (k.to w.own.session) w.peer.sent) (runs w k m more g h).flush
 
 other_still : (w : Core) (k : Shift) (m : Meaning) (more : List Item) → Sending w k m more → Still (flushed w.peer w.own) (next (flushed w.peer w.own) m)
-other_still w k m more g = next_cases (Still (flushed w.peer w.own)) (flushed w.peer w.own) m (λ d. still (flushed w.peer w.own)) (λ d. g.keeps (flushed w.peer w.own))
+other_still w k m more g = next_cases (Still (flushed w.peer w.own)) (flushed w.peer w.own) m (λ d. still (flushed w.peer w.own)) (λ d. g.unit.keeps (flushed w.peer w.own))
 
 other_end : (w : Core) (m : Meaning) → flush w.peer.session (w.own.sent ++ m ∷ []) ≡ next (flushed w.peer w.own) m
 other_end w m = flush_append w.peer.session w.own.sent m
@@ -157,7 +134,7 @@ other_heard : (w : Core) (k : Shift) (m : Meaning) (more : List Item) → Sendin
     → heard w.peer.session (w.own.sent ++ m ∷ []) ≡ next (flushed w.peer w.own) m
 other_heard w k m more g h =
     heard_append w.peer.session w.own.sent m h.peer.fits (owed w k m more g h)
-    ∙ ap (λ (b : Bool). if b then flushed w.peer w.own else next (flushed w.peer w.own) m) (g.quiet (flushed w.peer w.own))
+    ∙ ap (λ (b : Bool). if b then flushed w.peer w.own else next (flushed w.peer w.own) m) (g.unit.quiet (flushed w.peer w.own))
 
 heard_end : (w : Core) (k : Shift) (m : Meaning) (more : List Item) → Sending w k m more → Stands w → hearing w.peer w.own ≡ flushed w.peer w.own
 heard_end w k m more g h = heard_flush w.peer.session w.own.sent h.peer.fits (owed w k m more g h)
@@ -167,45 +144,33 @@ heard_end w k m more g h = heard_flush w.peer.session w.own.sent h.peer.fits (ow
 own_half : (w : Core) (k : Shift) (m : Meaning) (more : List Item) → Sending w k m more → Stands w → Half w.owner (sender w.own (k.to w.own.session) m more) w.peer
 own_half w k m more g h = record {
   fits = (runs w k m more g h).fits;
-  meeting = subst (λ (q : State). Meeting w.owner (k.to w.own.session) fx' q (heard (k.to w.own.session) w.peer.sent) w.peer.session) (sym (other_end w m))
-      (subst (λ (q : State). Meeting w.owner (k.to w.own.session) fx' (next fy m) q w.peer.session) (sym (runs w k m more g h).heard.0)
+  meeting = subst (λ (q : State). Meeting w.owner (k.to w.own.session) (flush (k.to w.own.session) w.peer.sent) q (heard (k.to w.own.session) w.peer.sent) w.peer.session) (sym (other_end w m))
+      (subst (λ (q : State). Meeting w.owner (k.to w.own.session) (flush (k.to w.own.session) w.peer.sent) (next (flushed w.peer w.own) m) q w.peer.session) (sym (runs w k m more g h).heard.0)
       (record {
         meets = meets_after w k m more g h;
         units = a.units ∙ h.own.meeting.units ∙ sym b.units;
         base = a.base ∙ h.own.meeting.base ∙ sym b.base;
-        restart = λ r. absurd (let l = (shifted_listens k fx fx' (runs w k m more g h).flush).1 in cc);
+        restart = λ r. absurd (let l = (shifted_listens k (flushed w.own w.peer) (flush (k.to w.own.session) w.peer.sent) (runs w k m more g h).flush).1 in cc);
         connect = λ r. absurd (let l = not_connecting (runs w k m more g h).flush in cc);
         holds = λ t. ap (λ (s : Tokens). has s t) (k.same w.own.session g.now).held ∙ h.own.meeting.holds t;
-        wants = λ l t. ap (λ (s : Tokens). has s t) (k.same hx i).held ∙ h.own.meeting.wants (k.holds hx i) t;
+        wants = λ l t. ap (λ (s : Tokens). has s t) (k.same (hearing w.own w.peer) i).held ∙ h.own.meeting.wants (k.holds (hearing w.own w.peer) i) t;
         absent = λ t n. h.own.meeting.absent t (ap (λ (u : FunctionalUnits). has (available u) t) (sym a.units) ∙ n);
-        released = λ r. h.own.meeting.released (g.release hx i r);
+        released = λ r. h.own.meeting.released (g.release (hearing w.own w.peer) i r);
       }));
 }
   where
-    fx : State
-    fx = flushed w.own w.peer
-
-    fx' : State
-    fx' = flush (k.to w.own.session) w.peer.sent
-
-    fy : State
-    fy = flushed w.peer w.own
-
-    hx : State
-    hx = hearing w.own w.peer
-
-    i : k.inv hx
+    i : k.inv (hearing w.own w.peer)
     i = (runs w k m more g h).heard.1
 
-    a : Still fx fx'
+    a : Still (flushed w.own w.peer) (flush (k.to w.own.session) w.peer.sent)
     a = own_still w k m more g h
 
-    b : Still fy (next fy m)
+    b : Still (flushed w.peer w.own) (next (flushed w.peer w.own) m)
     b = other_still w k m more g
 
-    not_connecting : Shifted k fx fx' → is_connecting fx'.phase ≡ false
-    not_connecting (inl (e, j)) = ap (λ (q : State). is_connecting q.phase) e ∙ excluded may_hold is_connecting refl (k.to fx).phase (k.holds_after fx j)
-    not_connecting (inr d) = excluded is_restart_due is_connecting refl fx'.phase d.other
+    not_connecting : Shifted k (flushed w.own w.peer) (flush (k.to w.own.session) w.peer.sent) → is_connecting (flush (k.to w.own.session) w.peer.sent).phase ≡ false
+    not_connecting (inl (e, j)) = ap (λ (q : State). is_connecting q.phase) e ∙ excluded may_hold is_connecting refl (k.to (flushed w.own w.peer)).phase (k.holds_after (flushed w.own w.peer) j)
+    not_connecting (inr d) = excluded is_restart_due is_connecting refl (flush (k.to w.own.session) w.peer.sent).phase d.other
 
 -- ---- the half of the other
 
@@ -214,70 +179,41 @@ other_wants : (w : Core) (k : Shift) (m : Meaning) (more : List Item) → Sendin
 other_wants w k m more g h may t =
     ap (λ (s : Tokens). has s t) (other_still w k m more g).held
     ∙ subst (λ (q : State). has q.held t ≡ (is_own (turned_owners w.owner t) || is_to_own (turned_owners w.owner t))) (heard_end w k m more g h)
-    (h.peer.meeting.wants (ap (λ (q : State). may_hold q.phase) (heard_end w k m more g h) ∙ by (sides w k m more g h)) t)
-  where
-    fx : State
-    fx = flushed w.own w.peer
-
-    fy : State
-    fy = flushed w.peer w.own
-
-    by : Deaf w k m ⊎ Acts w k m → may_hold fy.phase ≡ true
-    by (inl d) = ap (λ (q : State). may_hold q.phase) (sym d.same) ∙ may
-    by (inr a) = implied_two (λ p q. matched p q && may_hold p) (λ p q. may_hold q) refl fx.phase fy.phase
-        (both (matched fx.phase fy.phase) (may_hold fx.phase) h.own.meeting.meets (k.holds fx a.inv))
+    (h.peer.meeting.wants (ap (λ (q : State). may_hold q.phase) (heard_end w k m more g h) ∙ by_either (sides w k m more g h)
+    (λ d. ap (λ (q : State). may_hold q.phase) (sym d.same) ∙ may)
+    (λ a. implied_two (λ p q. matched p q && may_hold p) (λ p q. may_hold q) refl (flushed w.own w.peer).phase (flushed w.peer w.own).phase
+    (and_from (matched (flushed w.own w.peer).phase (flushed w.peer w.own).phase) (may_hold (flushed w.own w.peer).phase) h.own.meeting.meets (k.holds (flushed w.own w.peer) a.inv)))) t)
 
 other_restart : (w : Core) (k : Shift) (m : Meaning) (more : List Item) → Sending w k m more → Stands w → is_restarting (next (flushed w.peer w.own) m).phase ≡ true
     → ((next (flushed w.peer w.own) m).numbers.next ≡ (flush (k.to w.own.session) w.peer.sent).numbers.next)
     × ((next (flushed w.peer w.own) m).wishes ≡ (flush (k.to w.own.session) w.peer.sent).wishes)
-other_restart w k m more g h r = by (sides w k m more g h)
-  where
-    fx' : State
-    fx' = flush (k.to w.own.session) w.peer.sent
-
-    fy : State
-    fy = flushed w.peer w.own
-
-    by : Deaf w k m ⊎ Acts w k m → ((next fy m).numbers.next ≡ fx'.numbers.next) × ((next fy m).wishes ≡ fx'.wishes)
-    by (inl d) =
-        let old = h.peer.meeting.restart d.asked in
-        (ap (λ (q : State). q.numbers.next) d.same ∙ old.0 ∙ sym d.due.next, ap (λ (q : State). q.wishes) d.same ∙ old.1 ∙ sym d.due.same.wishes)
-    by (inr a) = absurd (turn _ (next_hears fy m (ap not a.listens)) r)
-      where
-        turn : (b : Bool) → not b ≡ true → b ≡ true → ⊥
-        turn true p q = cc
-        turn false p q = cc
+other_restart w k m more g h r = by_either (sides w k m more g h)
+    (λ d. let old = h.peer.meeting.restart d.asked in
+    (ap (λ (q : State). q.numbers.next) d.same ∙ old.0 ∙ sym d.due.next, ap (λ (q : State). q.wishes) d.same ∙ old.1 ∙ sym d.due.same.wishes))
+    (λ a. absurd (not_both _ (next_hears (flushed w.peer w.own) m (ap not a.listens)) r))
 
 other_released : (w : Core) (k : Shift) (m : Meaning) (more : List Item) → Sending w k m more → Stands w → is_release_due (next (flushed w.peer w.own) m).phase ≡ true
     → is_releasing (k.to w.own.session).phase ≡ true
-other_released w k m more g h r = by (runs w k m more g h).flush
+other_released w k m more g h r = by_either (runs w k m more g h).flush
+    (λ z. g.releasing (flushed w.own w.peer) z.1 (ap (λ (q : State). is_releasing q.phase) (sym z.0) ∙ here))
+    (λ d. absurd (let n = excluded is_restart_due is_releasing refl (flush (k.to w.own.session) w.peer.sent).phase d.other in let p = here in cc))
   where
-    fx : State
-    fx = flushed w.own w.peer
-
-    fx' : State
-    fx' = flush (k.to w.own.session) w.peer.sent
-
-    here : is_releasing fx'.phase ≡ true
-    here = implied_two (λ p q. matched p q && is_release_due q) (λ p q. is_releasing p) refl fx'.phase (next (flushed w.peer w.own) m).phase
-        (both (matched fx'.phase (next (flushed w.peer w.own) m).phase) (is_release_due (next (flushed w.peer w.own) m).phase) (meets_after w k m more g h) r)
-
-    by : Shifted k fx fx' → is_releasing (k.to w.own.session).phase ≡ true
-    by (inl (e, i)) = g.releasing fx i (ap (λ (q : State). is_releasing q.phase) (sym e) ∙ here)
-    by (inr d) = absurd (let n = excluded is_restart_due is_releasing refl fx'.phase d.other in let p = here in cc)
+    here : is_releasing (flush (k.to w.own.session) w.peer.sent).phase ≡ true
+    here = implied_two (λ p q. matched p q && is_release_due q) (λ p q. is_releasing p) refl (flush (k.to w.own.session) w.peer.sent).phase (next (flushed w.peer w.own) m).phase
+        (and_from (matched (flush (k.to w.own.session) w.peer.sent).phase (next (flushed w.peer w.own) m).phase) (is_release_due (next (flushed w.peer w.own) m).phase) (meets_after w k m more g h) r)
 
 peer_half : (w : Core) (k : Shift) (m : Meaning) (more : List Item) → Sending w k m more → Stands w → Half (turned_owners w.owner) w.peer (sender w.own (k.to w.own.session) m more)
 peer_half w k m more g h = record {
   fits = fit_append w.peer.session w.own.sent m h.peer.fits (other_fits w k m more g h);
-  meeting = subst (λ (q : State). Meeting (turned_owners w.owner) w.peer.session q fx' (heard w.peer.session (w.own.sent ++ m ∷ [])) (k.to w.own.session)) (sym (other_end w m))
-      (subst (λ (q : State). Meeting (turned_owners w.owner) w.peer.session (next fy m) fx' q (k.to w.own.session)) (sym (other_heard w k m more g h))
+  meeting = subst (λ (q : State). Meeting (turned_owners w.owner) w.peer.session q (flush (k.to w.own.session) w.peer.sent) (heard w.peer.session (w.own.sent ++ m ∷ [])) (k.to w.own.session)) (sym (other_end w m))
+      (subst (λ (q : State). Meeting (turned_owners w.owner) w.peer.session (next fy m) (flush (k.to w.own.session) w.peer.sent) q (k.to w.own.session)) (sym (other_heard w k m more g h))
       (record {
-        meets = implied_two matched (λ p q. matched q p) refl fx'.phase (next fy m).phase (meets_after w k m more g h);
+        meets = implied_two matched (λ p q. matched q p) refl (flush (k.to w.own.session) w.peer.sent).phase (next fy m).phase (meets_after w k m more g h);
         units = b.units ∙ h.peer.meeting.units ∙ sym a.units;
         base = b.base ∙ h.peer.meeting.base ∙ sym a.base;
         restart = other_restart w k m more g h;
-        connect = λ r. absurd (not_answering (runs w k m more g h).flush (implied_two (λ p q. matched p q && is_connecting q) (λ p q. is_answering p) refl fx'.phase (next fy m).phase
-            (both (matched fx'.phase (next fy m).phase) (is_connecting (next fy m).phase) (meets_after w k m more g h) r)));
+        connect = λ r. absurd (not_answering (runs w k m more g h).flush (implied_two (λ p q. matched p q && is_connecting q) (λ p q. is_answering p) refl (flush (k.to w.own.session) w.peer.sent).phase (next fy m).phase
+            (and_from (matched (flush (k.to w.own.session) w.peer.sent).phase (next fy m).phase) (is_connecting (next fy m).phase) (meets_after w k m more g h) r)));
         holds = h.peer.meeting.holds;
         wants = other_wants w k m more g h;
         absent = λ t n. h.peer.meeting.absent t (ap (λ (u : FunctionalUnits). has (available u) t) (sym b.units) ∙ n);
@@ -285,24 +221,18 @@ peer_half w k m more g h = record {
       }));
 }
   where
-    fx : State
-    fx = flushed w.own w.peer
-
-    fx' : State
-    fx' = flush (k.to w.own.session) w.peer.sent
-
     fy : State
     fy = flushed w.peer w.own
 
-    a : Still fx fx'
+    a : Still (flushed w.own w.peer) (flush (k.to w.own.session) w.peer.sent)
     a = own_still w k m more g h
 
     b : Still fy (next fy m)
     b = other_still w k m more g
 
-    not_answering : Shifted k fx fx' → is_answering fx'.phase ≡ true → ⊥
-    not_answering (inl (e, j)) r = let n = ap (λ (q : State). is_answering q.phase) e ∙ excluded may_hold is_answering refl (k.to fx).phase (k.holds_after fx j) in cc
-    not_answering (inr d) r = let n = excluded is_restart_due is_answering refl fx'.phase d.other in cc
+    not_answering : Shifted k (flushed w.own w.peer) (flush (k.to w.own.session) w.peer.sent) → is_answering (flush (k.to w.own.session) w.peer.sent).phase ≡ true → ⊥
+    not_answering (inl (e, j)) r = let n = ap (λ (q : State). is_answering q.phase) e ∙ excluded may_hold is_answering refl (k.to (flushed w.own w.peer)).phase (k.holds_after (flushed w.own w.peer) j) in cc
+    not_answering (inr d) r = let n = excluded is_restart_due is_answering refl (flush (k.to w.own.session) w.peer.sent).phase d.other in cc
 
 -- ---- what was seen
 
@@ -323,26 +253,13 @@ own_views w k m more g h = record {
 
 peer_sees : (w : Core) (k : Shift) (m : Meaning) (more : List Item) → Sending w k m more → Stands w → hears (next (flushed w.peer w.own) m).phase ≡ true
     → heard_view w.peer.session (w.own.sent ++ m ∷ []) w.peer.view ≡ w.history ++ more
-peer_sees w k m more g h l = by (sides w k m more g h)
-  where
-    fy : State
-    fy = flushed w.peer w.own
-
-    was : List Item
-    was = heard_view w.peer.session w.own.sent w.peer.view
-
-    turn : (b : Bool) → not b ≡ true → b ≡ true → ⊥
-    turn true p q = cc
-    turn false p q = cc
-
-    by : Deaf w k m ⊎ Acts w k m → heard_view w.peer.session (w.own.sent ++ m ∷ []) w.peer.view ≡ w.history ++ more
-    by (inl d) = absurd (turn _ (ap (λ (q : State). hears q.phase) (sym d.same) ∙ l) d.asked)
-    by (inr a) =
-        view_append w.peer.session w.own.sent m w.peer.view h.peer.fits (owed w k m more g h)
-        ∙ ap (λ (b : Bool). if b then heard_view w.peer.session w.own.sent w.peer.view else view_next fy m (heard_view w.peer.session w.own.sent w.peer.view)) (g.quiet fy)
-        ∙ ap (λ (b : Bool). if b then heard_view w.peer.session w.own.sent w.peer.view else seen fy m (heard_view w.peer.session w.own.sent w.peer.view)) a.acts
-        ∙ g.shows fy (heard_view w.peer.session w.own.sent w.peer.view)
-        ∙ ap (λ (v : List Item). v ++ more) (h.peer_views.ends (ap (λ (q : State). hears q.phase) (heard_end w k m more g h) ∙ ap not a.listens))
+peer_sees w k m more g h l = by_either (sides w k m more g h)
+    (λ d. absurd (not_both _ (ap (λ (q : State). hears q.phase) (sym d.same) ∙ l) d.asked))
+    (λ a. view_append w.peer.session w.own.sent m w.peer.view h.peer.fits (owed w k m more g h)
+    ∙ ap (λ (b : Bool). if b then heard_view w.peer.session w.own.sent w.peer.view else view_next (flushed w.peer w.own) m (heard_view w.peer.session w.own.sent w.peer.view)) (g.unit.quiet (flushed w.peer w.own))
+    ∙ ap (λ (b : Bool). if b then heard_view w.peer.session w.own.sent w.peer.view else seen (flushed w.peer w.own) m (heard_view w.peer.session w.own.sent w.peer.view)) a.acts
+    ∙ g.shows (flushed w.peer w.own) (heard_view w.peer.session w.own.sent w.peer.view)
+    ∙ ap (λ (v : List Item). v ++ more) (h.peer_views.ends (ap (λ (q : State). hears q.phase) (heard_end w k m more g h) ∙ ap not a.listens)))
 
 peer_views : (w : Core) (k : Shift) (m : Meaning) (more : List Item) → Sending w k m more → Stands w
     → Views (w.history ++ more) w.peer (sender w.own (k.to w.own.session) m more)
@@ -353,26 +270,19 @@ peer_views w k m more g h = record {
   stream = λ d. streams (ap (λ (u : FunctionalUnits). u.duplex) (sym (other_still w k m more g).units) ∙ ap (λ (q : State). q.units.duplex) (sym (other_end w m)) ∙ d);
 }
   where
-    fy : State
-    fy = flushed w.peer w.own
-
-    was : (b : Bool) → is_restarting fy.phase ≡ b → is_restarting (next fy m).phase ≡ true → is_restarting fy.phase ≡ true
+    was : (b : Bool) → is_restarting (flushed w.peer w.own).phase ≡ b → is_restarting (next (flushed w.peer w.own) m).phase ≡ true → is_restarting (flushed w.peer w.own).phase ≡ true
     was true e r = e
-    was false e r = absurd (turn _ (next_hears fy m (ap not e)) r)
-      where
-        turn : (b : Bool) → not b ≡ true → b ≡ true → ⊥
-        turn true p q = cc
-        turn false p q = cc
+    was false e r = absurd (not_both _ (next_hears (flushed w.peer w.own) m (ap not e)) r)
 
-    cuts : is_restarting fy.phase ≡ true → w.peer.view ≡ cutat w.peer.session.base (w.history ++ more) w.peer.session.numbers.next
+    cuts : is_restarting (flushed w.peer w.own).phase ≡ true → w.peer.view ≡ cutat w.peer.session.base (w.history ++ more) w.peer.session.numbers.next
     cuts r =
         let c = h.peer_views.cut (ap (λ (q : State). is_restarting q.phase) (heard_end w k m more g h) ∙ r) in
         c ∙ sym (cut_append w.peer.session.base w.peer.session.numbers.next w.history more w.peer.view c h.consistent.peer.count)
 
-    streams : fy.units.duplex ≡ true → (w.peer.got ++ data_of (w.own.sent ++ m ∷ []) ≡ w.own.said ++ []) × (w.history ++ more ≡ [])
+    streams : (flushed w.peer w.own).units.duplex ≡ true → (w.peer.got ++ data_of (w.own.sent ++ m ∷ []) ≡ w.own.said ++ []) × (w.history ++ more ≡ [])
     streams d =
         let s = h.peer_views.stream d in
-        let e = data_append w.own.sent (m ∷ []) ∙ ap (λ (r : List (List ℕ)). data_of w.own.sent ++ (r ++ [])) g.empty ∙ append_nil (data_of w.own.sent) in (
+        let e = data_append w.own.sent (m ∷ []) ∙ ap (λ (r : List (List ℕ)). data_of w.own.sent ++ (r ++ [])) g.unit.empty ∙ append_nil (data_of w.own.sent) in (
           ap (λ (r : List (List ℕ)). w.peer.got ++ r) e ∙ s.0 ∙ sym (append_nil w.own.said),
           ap (λ (v : List Item). w.history ++ v) (g.duplex (ap (λ (u : FunctionalUnits). u.duplex) h.own.meeting.units ∙ d)) ∙ append_nil w.history ∙ s.1,
         )
@@ -397,17 +307,6 @@ peer_counts w k m more g h =
 
 -- ---- both at once
 
-pair_after : (w : Core) (k : Shift) (m : Meaning) (more : List Item) → Sending w k m more → Stands w
-    → Pair (w.history ++ more) (sender w.own (k.to w.own.session) m more) w.peer
-pair_after w k m more g h =
-    let e = own_still w k m more g h in
-    record {
-      numbered = subst (λ (b : ℕ). AreNumberedFrom b (w.history ++ more)) (sym e.base) (g.numbered h.pair.numbered);
-      one_way = λ d. g.one_way (ap (λ (u : FunctionalUnits). u.half_duplex) (sym e.units) ∙ d);
-      callers = h.pair.callers ∙ ap not (sym (k.same w.own.session g.now).is_caller);
-      profile = subst IsOfProfile (sym e.units) h.pair.profile;
-    }
-
 pub sending_stands : (w : Core) (k : Shift) (m : Meaning) (more : List Item) → Sending w k m more → Stands w
     → AreConsistent (after_sending w (k.to w.own.session) m more) → Stands (after_sending w (k.to w.own.session) m more)
 sending_stands w k m more g h c = record {
@@ -418,5 +317,12 @@ sending_stands w k m more g h c = record {
   peer_views = peer_views w k m more g h;
   own_counts = own_counts w k m more g h;
   peer_counts = peer_counts w k m more g h;
-  pair = pair_after w k m more g h;
+  pair =
+      let e = own_still w k m more g h in
+      record {
+        numbered = subst (λ (b : ℕ). AreNumberedFrom b (w.history ++ more)) (sym e.base) (g.numbered h.pair.numbered);
+        one_way = λ d. g.one_way (ap (λ (u : FunctionalUnits). u.half_duplex) (sym e.units) ∙ d);
+        callers = h.pair.callers ∙ ap not (sym (k.same w.own.session g.now).is_caller);
+        profile = subst IsOfProfile (sym e.units) h.pair.profile;
+      };
 }

@@ -1,12 +1,14 @@
 -- What is true of both sides is true where the CN of a caller is under way.
-use Rattle.std.proofs.Common.{◌≡◌, refl, sym, ap, subst, Bool, true, false, ◌&&◌, if◌then◌else◌, Some, None, unwrap_or, arith}
-use Rattle.osi_machine.specs.Floor.{State, Answering, Ended, are_sizes, has_data, has_points, functional_units, base_for, serial_for, offered, is_restarting, without_tokens, awaiting, next}
+use Rattle.std.proofs.Common.{◌≡◌, refl, sym, ap, subst, Bool, true, false, ◌&&◌, if◌then◌else◌, unwrap_or, arith}
+use Rattle.osi_machine.specs.Floor.{State, Answering, Ended, are_sizes, has_data, has_points, functional_units, serial_for, offered, is_restarting, without_tokens, awaiting, next}
 use Rattle.osi_machine.specs.Owners.{no_owner, turned_owners}
 use Rattle.osi_machine.specs.Channels.{Fits}
 use Rattle.osi_machine.specs.Core.{Offer, CanBeOffered, offering, offer_sent, core_start}
 use Rattle.osi_machine.proofs.Tokens.{has_set}
 use Rattle.osi_machine.proofs.CoreLaws.{starts}
 use Rattle.osi_machine.proofs.Records.{Meeting, Counting, IsOfProfile, Stands}
+use Rattle.std.proofs.lemmas.Bool.{and_from}
+use Rattle.osi_machine.proofs.PhaseLaws.{by_test}
 
 -- the called side, once it has taken the CN
 answering : Offer → State
@@ -18,20 +20,10 @@ answering o = record awaiting {
   sizes = o.sizes;
 }
 
-both : (a b : Bool) → a ≡ true → b ≡ true → (a && b) ≡ true
-both a b p q = rw (p, q) refl
-
 is_answered : (o : Offer) → are_sizes o.sizes ≡ true → has_data (functional_units o.requirements) ≡ true → answering o ≡ next awaiting (offer_sent o)
 unfolding answering
 is_answered o z h =
-    sym (ap (λ (b : Bool). if b then answering o else without_tokens Ended awaiting) (both (has_data (functional_units o.requirements)) (are_sizes o.sizes) h z))
-
-same_number : (o : Offer) → base_for (functional_units o.requirements) o.serial ≡ unwrap_or (serial_for (functional_units o.requirements) o.serial) 0
-same_number o = by (has_points (functional_units o.requirements))
-  where
-    by : (b : Bool) → (if b then o.serial else 0) ≡ unwrap_or (if b then Some o.serial else None) 0
-    by true = refl
-    by false = refl
+    sym (ap (λ (b : Bool). if b then answering o else without_tokens Ended awaiting) (and_from (has_data (functional_units o.requirements)) (are_sizes o.sizes) h z))
 
 own_meets : (o : Offer) → Meeting no_owner (offering o) (offering o) (answering o) (offering o) awaiting
 unfolding answering
@@ -40,7 +32,7 @@ own_meets o = record {
   units = refl;
   base = refl;
   restart = λ r. absurd (cc);
-  connect = λ r. (refl, same_number o);
+  connect = λ r. (refl, by_test (has_points (functional_units o.requirements)) (λ e. rw e) (λ e. rw e));
   holds = λ t. has_set (λ t. false) t;
   wants = λ r. absurd (cc);
   absent = λ t n. refl;
@@ -86,12 +78,7 @@ starts_stand o small p h =
         meeting = subst (λ (s : State). Meeting (turned_owners no_owner) awaiting s (offering o) s (offering o)) e (peer_meets o);
       };
       own_views = record { ends = λ l. refl; cut = λ r. absurd (cc); due = λ r. absurd (cc); stream = λ d. (refl, refl) };
-      peer_views = record {
-        ends = λ l. refl;
-        cut = λ r. absurd (not_asked o (subst (λ (s : State). is_restarting s.phase ≡ true) (sym e) r));
-        due = λ r. absurd (cc);
-        stream = λ d. (refl, refl);
-      };
+      peer_views = search not_asked;
       own_counts = subst (λ (s : State). Counting (offering o) (offering o) s awaiting) e (own_counts o);
       peer_counts = subst (λ (s : State). Counting awaiting s (offering o) (offering o)) e (peer_counts o);
       pair = record { numbered = tt; one_way = λ d. refl; callers = refl; profile = p };

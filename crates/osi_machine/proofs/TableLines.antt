@@ -2,9 +2,9 @@
 use Rattle.std.proofs.Common.{◌≡◌, refl, sym, ◌∙◌, ap, subst, ◌+◌, Bool, true, false, List, [], ◌∷◌, take, Option, Some, Ok, Err}
 use Rattle.osi_session.specs.Moves.{called, taken, react, answered as answered_move}
 use Rattle.osi_message.specs.Sendable.{said_of}
-use Rattle.osi_machine.specs.Floor.{State, WaitTransport, Ended, Meaning, Token, Call, HasSerial, Answer, Granted, CallError, no_token, without_tokens, allowed, respond, respond_unit, awaiting}
+use Rattle.osi_machine.specs.Floor.{State, WaitTransport, Ended, Meaning, Token, Call, HasSerial, Answer, Granted, CallError, without_tokens, allowed, respond, respond_unit, awaiting}
 use Rattle.osi_machine.specs.Histories.{points}
-use Rattle.osi_machine.specs.Owners.{Owners, is_own, turned_owner, owned, given_up, left_by}
+use Rattle.osi_machine.specs.Owners.{is_own, turned_owner, given_up, left_by}
 use Rattle.osi_machine.specs.Core.{offering, offer_sent}
 use Rattle.osi_machine.specs.Worlds.{Message, unit, Transport, not_yet, waiting, linked, kept_of, World, turned, session_of, put, replied, after_call, after_answer, Taking, unit_taken}
 use Rattle.osi_machine.specs.Machine.{error_of, without_first}
@@ -13,7 +13,7 @@ use Rattle.osi_machine.specs.Tables as tables
 use Rattle.osi_machine.specs.Views.{Told}
 use Rattle.osi_machine.proofs.CoreLaws.{SessionLaws}
 use Rattle.osi_machine.proofs.RestartCall.{given_theirs}
-use Rattle.osi_machine.proofs.Projects.{is_begun}
+use Rattle.osi_machine.proofs.Projects.{is_begun, not_both}
 use Rattle.osi_machine.proofs.ProjectCall.{own_gone, left_theirs}
 use Rattle.osi_machine.proofs.ProjectTake.{put_nothing}
 use Rattle.osi_machine.proofs.ProjectWorld.{Repeats}
@@ -57,11 +57,6 @@ pub record TurnTabled (x : Turn) (k : Taking) : Type 0 where
   pub same : x ≡ turn_of k first second
   pub seated : AreSeated k.world first second
 
--- ---- sides
-
-not_both : {A : Type 0} (b : Bool) → b ≡ true → b ≡ false → A
-not_both b p q = absurd (cc)
-
 pub begun_seated : (w : World) (a : Option Meaning) → is_begun w.own.transport ≡ true → Disowned w → IsSeated w a
 begun_seated w a b d = record {
   calls = λ e. not_both _ b (ap is_begun e);
@@ -69,16 +64,6 @@ begun_seated w a b d = record {
   idle = λ e. not_both _ b (ap is_begun e);
   bare = λ e. not_both _ b e;
   disowned = d;
-}
-
--- the other side, whose tokens are as they were
-other_seated : (w : World) (o : Owners) (a : Option Meaning) → ((t : Token) → is_own (o t) ≡ is_own (w.owner t)) → IsSeated w a → IsSeated (record w { owner = o }) a
-other_seated w o a same h = record {
-  calls = h.calls;
-  called = h.called;
-  idle = h.idle;
-  bare = λ e t. same t ∙ h.bare e t;
-  disowned = λ e t. same t ∙ h.disowned e t;
 }
 
 pub turned_tabled : (l : Line) (w : World) → Tabled l w → Tabled (tables.turned l) (turned w)
@@ -91,9 +76,6 @@ turned_tabled l w h = record {
 
 -- ---- what a session that is over leaves of its tokens
 
-gave_up : (w : World) → owned (given_up w.owner) ≡ no_token
-gave_up w = owned_none (given_up w.owner) (λ t. own_gone (w.owner t))
-
 pub theirs_stay : (s : State) (w : World) → session_of (turned (record w { owner = left_by s w.owner })) ≡ session_of (turned w)
 theirs_stay s w =
     ap (λ h. state_from w.peer.kept h (w.peer.kept.base + points (take w.peer.mark w.history)))
@@ -101,7 +83,7 @@ theirs_stay s w =
 
 -- a side that is lost or denied
 pub gone_state : (w : World) → session_of (record w { owner = given_up w.owner; own = record w.own { kept = kept_of (without_tokens Ended (session_of w)) } }) ≡ without_tokens Ended (session_of w)
-gone_state w = ap (λ h. state_from (kept_of (without_tokens Ended (session_of w))) h (w.own.kept.base + points (take w.own.mark w.history))) (gave_up w)
+gone_state w = ap (λ h. state_from (kept_of (without_tokens Ended (session_of w))) h (w.own.kept.base + points (take w.own.mark w.history))) (owned_none (given_up w.owner) (λ t. own_gone (w.owner t)))
 
 pub gone_seated : (w : World) (tr : Transport) (ms : List Message) (a b : Option Meaning) → is_begun tr ≡ true → AreSeated w a b
     → AreSeated (record w { owner = given_up w.owner; own = record w.own { transport = tr; kept = kept_of (without_tokens Ended (session_of w)); channel = ms } }) a b

@@ -4,17 +4,17 @@ use Rattle.osi_session.specs.Moves.{opened, refused, broken as broken_off, Move,
 use Rattle.osi_session.specs.Shown.{RefusedByTransport}
 use Rattle.osi_machine.specs.Floor.{WaitTransport, Connecting, Ended, Meaning, Token, Tokens, no_token, is_wait_transport, without_tokens, awaiting, lost}
 use Rattle.osi_machine.specs.Histories.{points}
-use Rattle.osi_machine.specs.Owners.{is_own, owned, given_up, left_by}
+use Rattle.osi_machine.specs.Owners.{is_own, owned, left_by}
 use Rattle.osi_machine.specs.Core.{Offer, offering, offer_sent}
 use Rattle.osi_machine.specs.Worlds.{Message, unit, ask, agree, deny, bye, over, Transport, not_yet, waiting, linked, closing, gone, Kept, kept_of, World, turned, session_of, asked_with, put, replied, unchanged, moves, moved, Terms, accepts, denies, asked_at, message_taken, shortened, closed, ended_at, shown_at_end}
-use Rattle.osi_machine.specs.Tables.{Seat, Line, Turn}
 use Rattle.osi_machine.specs.Tables as tables
 use Rattle.osi_machine.proofs.Projects.{stopped, is_begun}
 use Rattle.osi_machine.proofs.ProjectCall.{own_gone, left_theirs}
 use Rattle.osi_machine.proofs.ProjectTake.{put_nothing}
 use Rattle.osi_machine.proofs.Lines.{cut_to}
-use Rattle.osi_machine.proofs.TableSeats.{state_from, Disowned, owned_none, owned_as}
+use Rattle.osi_machine.proofs.TableSeats.{state_from, owned_none, owned_as}
 use Rattle.osi_machine.proofs.TableLines.{seat_of, line_of, AreSeated, Tabled, TurnTabled, begun_seated, gone_seated, gone_state, theirs_stay}
+use Rattle.osi_machine.proofs.PhaseLaws.{if_yes, by_test}
 
 -- ---- what changes nothing but the transport and what is under way
 
@@ -31,18 +31,12 @@ linked_seated w tr ms a b e h = record {
   peer = record { calls = h.peer.calls; called = h.peer.called; idle = h.peer.idle; bare = h.peer.bare; disowned = h.peer.disowned };
 }
 
-same_turn : (w : World) (a b : Option Meaning) → AreSeated w a b → TurnTabled (tables.unseen (line_of w a b)) (unchanged w)
-same_turn w a b h = record { first = a; second = b; same = refl; seated = h }
-
 -- ---- the other has asked
-
-awaits_state : (w : World) → w.own.kept ≡ kept_of awaiting → session_of w ≡ session_of (record w { own = record w.own { kept = kept_of awaiting } })
-awaits_state w e = ap (λ (k : Kept). state_from k (owned w.owner) (k.base + points (take w.own.mark w.history))) e
 
 asked_tabled : (broken : Bool) (terms : Terms) (w : World) (a b : Option Meaning) → w.own.transport ≡ not_yet → AreSeated w a b
     → TurnTabled (tables.unseen (tables.asked_at broken terms (line_of w a b))) (unchanged (asked_at broken terms w))
 asked_tabled broken (accepts class) w a b e h =
-    let own = awaits_state w (h.own.idle e) in
+    let own = ap (λ (k : Kept). state_from k (owned w.owner) (k.base + points (take w.own.mark w.history))) (h.own.idle e) in
     record {
       first = a;
       second = b;
@@ -56,12 +50,6 @@ asked_tabled broken (accepts class) w a b e h =
       };
     }
 asked_tabled broken (denies reason) w a b e h = record { first = a; second = b; same = refl; seated = still_seated w (put broken (deny reason ∷ []) w.own.channel) a b h }
-
--- ---- the caller is answered
-
-if_yes : {A : Type 0} (b : Bool) (x y : A) → b ≡ true → (if b then x else y) ≡ x
-if_yes true x y e = refl
-if_yes false x y e = absurd (cc)
 
 waits_now : (w : World) → w.own.kept ≡ kept_of (without_tokens WaitTransport (offering w.offer)) → is_wait_transport w.own.kept.phase ≡ true
 waits_now w e = ap (λ (k : Kept). is_wait_transport k.phase) e
@@ -159,48 +147,20 @@ is_heard tr m = false
 pub message_tabled : (broken : Bool) (terms : Terms) (keep : ℕ) (tr : Transport) (w : World) (a b : Option Meaning) (m : Message) → w.own.transport ≡ tr → is_heard tr m ≡ false → AreSeated w a b
     → TurnTabled (tables.message_taken broken terms keep tr (line_of w a b) m) (message_taken broken terms keep tr w m)
 message_tabled broken terms keep not_yet w a b ask e q h = asked_tabled broken terms w a b e h
-message_tabled broken terms keep not_yet w a b (unit u) e q h = same_turn w a b h
-message_tabled broken terms keep not_yet w a b agree e q h = same_turn w a b h
-message_tabled broken terms keep not_yet w a b (deny r) e q h = same_turn w a b h
-message_tabled broken terms keep not_yet w a b (bye r) e q h = same_turn w a b h
-message_tabled broken terms keep not_yet w a b over e q h = same_turn w a b h
 message_tabled broken terms keep waiting w a b agree e q h = agreed_tabled broken w a b e h
 message_tabled broken terms keep waiting w a b (deny r) e q h = denied_tabled broken r w a b e h
-message_tabled broken terms keep waiting w a b ask e q h = same_turn w a b h
-message_tabled broken terms keep waiting w a b (unit u) e q h = same_turn w a b h
-message_tabled broken terms keep waiting w a b (bye r) e q h = same_turn w a b h
-message_tabled broken terms keep waiting w a b over e q h = same_turn w a b h
 message_tabled broken terms keep linked w a b (unit u) e q h = absurd (cc)
 message_tabled broken terms keep linked w a b (bye r) e q h = lost_tabled broken keep w a b r h
-message_tabled broken terms keep linked w a b ask e q h = same_turn w a b h
-message_tabled broken terms keep linked w a b agree e q h = same_turn w a b h
-message_tabled broken terms keep linked w a b (deny r) e q h = same_turn w a b h
-message_tabled broken terms keep linked w a b over e q h = same_turn w a b h
 message_tabled broken terms keep closing w a b (bye r) e q h = record { first = a; second = b; same = refl; seated = linked_seated w gone w.own.channel a b refl h }
 message_tabled broken terms keep closing w a b over e q h = record { first = a; second = b; same = refl; seated = linked_seated w gone w.own.channel a b refl h }
-message_tabled broken terms keep closing w a b (unit u) e q h = same_turn w a b h
-message_tabled broken terms keep closing w a b ask e q h = same_turn w a b h
-message_tabled broken terms keep closing w a b agree e q h = same_turn w a b h
-message_tabled broken terms keep closing w a b (deny r) e q h = same_turn w a b h
 message_tabled broken terms keep gone w a b (bye r) e q h = record { first = a; second = b; same = refl; seated = still_seated w (put broken (over ∷ []) w.own.channel) a b h }
-message_tabled broken terms keep gone w a b (unit u) e q h = same_turn w a b h
-message_tabled broken terms keep gone w a b ask e q h = same_turn w a b h
-message_tabled broken terms keep gone w a b agree e q h = same_turn w a b h
-message_tabled broken terms keep gone w a b (deny r) e q h = same_turn w a b h
-message_tabled broken terms keep gone w a b over e q h = same_turn w a b h
+message_tabled broken terms keep _ w a b _ e q h = record { first = a; second = b; same = refl; seated = h }
 
 -- ---- a close, an end, a break
 
-close_owned : (w : World) → Disowned w → (t : Token) → is_own (left_by (session_of w) w.owner t) ≡ is_own (w.owner t)
-close_owned w d t = by (stopped w.own) refl
-  where
-    by : (b : Bool) → stopped w.own ≡ b → is_own ((if b then given_up w.owner else w.owner) t) ≡ is_own (w.owner t)
-    by true o = own_gone (w.owner t) ∙ sym (d o t)
-    by false o = refl
-
 pub close_tabled : (broken : Bool) (keep : ℕ) (w : World) (a b : Option Meaning) → AreSeated w a b → Tabled (tables.closed broken keep (line_of w a b)) (closed broken keep w)
 close_tabled broken keep w a b h =
-    let held = owned_as w.owner (left_by (session_of w) w.owner) (λ t. sym (close_owned w h.own.disowned t)) in
+    let held = owned_as w.owner (left_by (session_of w) w.owner) (λ t. sym (by_test (stopped w.own) (λ o. rw o (own_gone (w.owner t) ∙ sym (h.own.disowned o t))) (λ o. rw o))) in
     let peer = sym (theirs_stay (session_of w) w) in
     record {
       first = a;
@@ -214,7 +174,7 @@ close_tabled broken keep w a b h =
         peer = record { transport = w.peer.transport; session = record { state = peer i; waiting = b }; channel = w.peer.channel };
       };
       seated = record {
-        own = begun_seated (closed broken keep w) a refl (λ o t. close_owned w h.own.disowned t ∙ h.own.disowned o t);
+        own = begun_seated (closed broken keep w) a refl (λ o t. by_test (stopped w.own) (λ o. rw o (own_gone (w.owner t) ∙ sym (h.own.disowned o t))) (λ o. rw o) ∙ h.own.disowned o t);
         peer = record {
           calls = h.peer.calls;
           called = h.peer.called;

@@ -1,10 +1,10 @@
 -- What two users may rely on, read from the tables and the journal.
-use Rattle.std.proofs.Common.{◌≡◌, refl, sym, ◌∙◌, ap, subst, ℕ, zero, suc, List, [], ◌∷◌, map, Option, Some, None}
+use Rattle.std.proofs.Common.{◌≡◌, refl, sym, ◌∙◌, ap, subst, ℕ, zero, suc, List, [], ◌∷◌, map, Option, Some, None, Bool, ◌+◌}
 use Rattle.std.specs.List.{AllByRecursion, list_any, slice_get}
 use Rattle.osi_machine.specs.Floor.{State}
 use Rattle.osi_machine.specs.Core.{Offer, Side, Left, Right}
 use Rattle.osi_machine.specs.Worlds.{Message, World, Terms, turned, session_of}
-use Rattle.osi_machine.specs.Machine.{IsLegal, Step, Entry, Machine, start, connection_at, end_of, run, HasNumber}
+use Rattle.osi_machine.specs.Machine.{IsLegal, Step, Entry, Machine, start, connection_at, run, HasNumber}
 use Rattle.osi_machine.specs.Tables.{Line, Tables}
 use Rattle.osi_machine.specs.Tables as tables
 use Rattle.osi_machine.specs.Views.{Told, told_of}
@@ -12,11 +12,14 @@ use Rattle.osi_machine.specs.Runs.{IsRun, is_fault, loses, LosesByItsEnd}
 use Rattle.osi_machine.specs.AsTables.{IsLine, AreLines, AtEachSide, IsAsTables, offers_in, IsTableRun, AreOffered, OfEachLine, HoldNoneTwice, AreNoFaults, AreAgreed, IsShownAsAsked, IsSeenInBoth, TellsNoFault, LosesAsItEnds}
 use Rattle.osi_machine.proofs.CoreLaws.{SessionLaws}
 use Rattle.osi_machine.proofs.FaultShown.{no_fault_shown}
-use Rattle.osi_machine.proofs.OffersTold.{offer_of, Offered, run_offered}
-use Rattle.osi_machine.proofs.MachineLaws.{holders, no_faults, agreements, duplex_agreements, confirmations}
+use Rattle.osi_machine.proofs.OffersTold.{offer_of, Offered}
+use Rattle.osi_machine.proofs.MachineLaws.{holders, no_faults, agreements, duplex_agreements, confirmations, good_run}
 use Rattle.osi_machine.proofs.LossRun.{losses_have_an_end}
 use Rattle.osi_machine.proofs.TableLines.{Tabled, SaysItsUnit}
-use Rattle.osi_machine.proofs.TableRuns.{AllTabled, At, tables_of, Follows, line_there, all_follow}
+use Rattle.osi_machine.proofs.TableRuns.{AllTabled, At, Follows, line_there, all_follow, end_as}
+use Rattle.osi_machine.proofs.Places.{some_same}
+use Rattle.osi_machine.proofs.Lines.{Lines}
+use Rattle.osi_machine.proofs.Whole.{Whole}
 
 -- ---- the machine and its tables side by side
 
@@ -53,15 +56,8 @@ record IsThere (m : Machine) (r : ℕ) (l : Line) : Type 0 where
   found : connection_at r m.worlds ≡ Some world
   tabled : Tabled l world
 
-some_line : (x l : Line) → Some x ≡ Some l → x ≡ l
-some_line x l e = ap or_else e
-  where
-    or_else : Option Line → Line
-    or_else None = x
-    or_else (Some y) = y
-
 line_found : (m : Machine) (r : ℕ) (l : Line) (a : Option Line) (b : Option World) → At a b → a ≡ Some l → connection_at r m.worlds ≡ b → IsThere m r l
-line_found m r l (Some x) (Some w) h e q = record { world = w; found = q; tabled = subst (λ (y : Line). Tabled y w) (some_line x l e) h }
+line_found m r l (Some x) (Some w) h e q = record { world = w; found = q; tabled = subst (λ (y : Line). Tabled y w) (some_same x l e) h }
 line_found m r l None (Some w) h e q = absurd h
 line_found m r l None None h e q = absurd (cc)
 line_found m r l (Some x) None h e q = absurd h
@@ -79,13 +75,6 @@ offer_got : (ws : List World) (r : ℕ) (w : World) → connection_at r ws ≡ S
 offer_got ws zero w e = absurd (cc)
 offer_got ws (suc r) w e = offers_got ws r w e
 
-some_offer : (x o : Offer) → Some x ≡ Some o → x ≡ o
-some_offer x o e = ap or_else e
-  where
-    or_else : Option Offer → Offer
-    or_else None = x
-    or_else (Some y) = y
-
 -- what is true of each connection of the machine is true of each line
 lifted : (P : State → State → Told → Told → Type 0) (t : Tables) (m : Machine) → Follows t m → Offered m
     → ((r : ℕ) (w : World) → connection_at r m.worlds ≡ Some w → P (session_of w) (session_of (turned w)) (told_of Left r w.offer m.journal) (told_of Right r w.offer m.journal))
@@ -93,7 +82,7 @@ lifted : (P : State → State → Told → Told → Type 0) (t : Tables) (m : Ma
 lifted P t m h q all r l o e f =
     let journal : t.journal ≡ m.journal = ap (λ (x : Tables). x.journal) h.same in
     let there = line_found m r l (connection_at r h.lines) (connection_at r m.worlds) (line_there h.lines m.worlds r h.all) (ap (λ (x : Tables). connection_at r x.lines) (sym h.same) ∙ e) refl in
-    let offer = some_offer there.world.offer o (sym (offer_got m.worlds r there.world there.found) ∙ ap (connection_at r) (sym q) ∙ ap (λ (j : List Entry). connection_at r (offers_in j)) (sym journal) ∙ f) in
+    let offer = some_same there.world.offer o (sym (offer_got m.worlds r there.world there.found) ∙ ap (connection_at r) (sym q) ∙ ap (λ (j : List Entry). connection_at r (offers_in j)) (sym journal) ∙ f) in
     subst (λ (x : Line). P x.own.session.state x.peer.session.state (told_of Left r o t.journal) (told_of Right r o t.journal)) (sym there.tabled.same)
     (subst (λ (j : List Entry). P (session_of there.world) (session_of (turned there.world)) (told_of Left r o j) (told_of Right r o j)) (sym journal)
     (subst (λ (p : Offer). P (session_of there.world) (session_of (turned there.world)) (told_of Left r p m.journal) (told_of Right r p m.journal)) offer
@@ -108,20 +97,30 @@ offered_as t m h q r l e =
       found = ap (λ (j : List Entry). connection_at r (offers_in j)) journal ∙ ap (connection_at r) q ∙ offer_got m.worlds r there.world there.found;
     }
 
+lines_offers : (b : Bool) (j : List Entry) (k : ℕ) (ws : List World) (os : List Offer) → Lines Whole b j k ws os → os ≡ map offer_of ws
+lines_offers b j k [] [] h = refl
+lines_offers b j k (w ∷ ws) (o ∷ os) h = let a = h.0.offer in let c = lines_offers b j (k + 1) ws os h.1 in cc
+lines_offers b j k [] (o ∷ os) h = absurd h
+lines_offers b j k (w ∷ ws) [] h = absurd h
+
+are_offered : SessionLaws → (m : Machine) → IsRun m → Offered m
+are_offered laws m h = let g = good_run laws m h in g.asked ∙ lines_offers m.broken m.journal 1 m.worlds g.offers g.lines
+
 of_runs : SessionLaws → SaysItsUnit → (P : State → State → Told → Told → Type 0)
     → ((m : Machine) → IsRun m → (r : ℕ) (w : World) → connection_at r m.worlds ≡ Some w → P (session_of w) (session_of (turned w)) (told_of Left r w.offer m.journal) (told_of Right r w.offer m.journal))
     → (t : Tables) → IsTableRun t → OfEachLine P t
 of_runs laws says P all t h =
+    let r : IsRun (run (start h.agreed) h.steps) = record { agreed = h.agreed; steps = h.steps; numbered = h.numbered; reached = refl } in
     lifted P t (run (start h.agreed) h.steps)
     (subst (λ (x : Tables). Follows x (run (start h.agreed) h.steps)) h.reached (all_follow laws says h.agreed h.steps h.numbered))
-    (run_offered (start h.agreed) h.steps refl)
-    (all (run (start h.agreed) h.steps) (record { agreed = h.agreed; steps = h.steps; numbered = h.numbered; reached = refl }))
+    (are_offered laws (run (start h.agreed) h.steps) r)
+    (all (run (start h.agreed) h.steps) r)
 
 pub table_offers : SessionLaws → SaysItsUnit → (t : Tables) → IsTableRun t → AreOffered t
 table_offers laws says t h =
     offered_as t (run (start h.agreed) h.steps)
     (subst (λ (x : Tables). Follows x (run (start h.agreed) h.steps)) h.reached (all_follow laws says h.agreed h.steps h.numbered))
-    (run_offered (start h.agreed) h.steps refl)
+    (are_offered laws (run (start h.agreed) h.steps) (record { agreed = h.agreed; steps = h.steps; numbered = h.numbered; reached = refl }))
 
 pub table_holders : SessionLaws → SaysItsUnit → (t : Tables) → IsTableRun t → OfEachLine HoldNoneTwice t
 table_holders laws says = of_runs laws says HoldNoneTwice (holders laws)
@@ -172,12 +171,8 @@ table_faultless laws says t h =
     (ap (λ (x : Tables). list_any is_fault x.journal) same.same
     ∙ no_fault_shown laws (run (start h.agreed) h.steps) (record { agreed = h.agreed; steps = h.steps; numbered = h.numbered; reached = refl }))
 
-ends_as : (side : Side) (m : Machine) (ls : List Line) → tables.end_of side (tables_of m ls) ≡ end_of side m
-ends_as Left m ls = refl
-ends_as Right m ls = refl
-
 lost_as : (t : Tables) (m : Machine) → Follows t m → LosesByItsEnd m → LosesAsItEnds t
-lost_as t m h all = subst LosesAsItEnds (sym h.same) (λ side e. ap loses (ends_as side m h.lines) ∙ all side e)
+lost_as t m h all = subst LosesAsItEnds (sym h.same) (λ side e. ap loses (end_as side m h.lines) ∙ all side e)
 
 pub table_losses : SessionLaws → SaysItsUnit → (t : Tables) → IsTableRun t → LosesAsItEnds t
 table_losses laws says t h =

@@ -1,24 +1,25 @@
 -- Over every list of steps the tables do what the machine does.
-use Rattle.std.proofs.Common.{◌≡◌, refl, sym, ◌∙◌, ap, subst, ℕ, zero, suc, ◌+◌, Bool, true, false, not, ◌||◌, if◌then◌else◌, List, [], ◌∷◌, ◌++◌, map, Option, Some, None, is_some, inl, inr}
+use Rattle.std.proofs.Common.{◌≡◌, refl, sym, ◌∙◌, ap, subst, ℕ, zero, suc, ◌+◌, Bool, true, false, not, ◌||◌, if◌then◌else◌, List, [], ◌∷◌, ◌++◌, map, Option, Some, None, is_some, inl, inr, arith}
 use Rattle.std.specs.List.{AllByRecursion, slice_get}
 use Rattle.osi_session.specs.Moves.{taken, broken as broken_off, react}
 use Rattle.osi_session.specs.Shown.{Shown}
 use Rattle.osi_message.specs.Sendable.{said_of}
 use Rattle.osi_machine.specs.Floor.{CallError, Call, HasSerial, Meaning, allowed}
 use Rattle.osi_machine.specs.Core.{Offer, Side, Left, Right}
-use Rattle.osi_machine.specs.Worlds.{Class, class_0, class_2, Message, unit, Transport, linked, World, turned, session_of, after_answer, Taking, unit_taken, Terms, message_taken, ended_at, shown_at_end}
+use Rattle.osi_machine.specs.Worlds.{Class, class_2, Message, unit, Transport, linked, World, turned, session_of, after_answer, Taking, unit_taken, Terms, message_taken, shown_at_end}
 use Rattle.osi_machine.specs.Machine.{Ending, closed_here, Refusal, Step, connects, calls, delivers, breaks, ends, Entry, connect_answered, call_answered, shown_at, ended, Machine, start, connection_at, replaced, with_connection, seen_from, end_of, stays, noted, is_given, refusal_by, transport_of, refusal, asked_in, error_of, call_in, side_of, ends_there, ended_worlds, shown_in_order, marked_ended, after_end, closes_by, after_taking, without_first, learns, taken_in, delivered_to, cut_channels, is_told, step, run, HasNumber}
-use Rattle.osi_machine.specs.Tables.{Seat, Line, Turn, Tables}
+use Rattle.osi_machine.specs.Tables.{Line, Turn, Tables}
 use Rattle.osi_machine.specs.Tables as tables
 use Rattle.osi_machine.specs.AsTables.{cut_line}
 use Rattle.osi_machine.specs.Views.{Told, told_of}
 use Rattle.osi_machine.proofs.CoreLaws.{SessionLaws}
-use Rattle.osi_machine.proofs.ProjectStart.{Way, nothing_sent, asked, agreed, denied, asks, replies, caller_refuses, called_refuses, Refuses}
+use Rattle.osi_machine.proofs.ProjectStart.{Way, agreed, asks, replies, caller_refuses, called_refuses, Refuses}
 use Rattle.osi_machine.proofs.LinesRun.{IsGood, step_good}
 use Rattle.osi_machine.proofs.Whole.{Stage, Whole, whole_kept, turned_back, turned_stage}
 use Rattle.osi_machine.proofs.MachineLaws.{line_at}
 use Rattle.osi_machine.proofs.TableLines.{line_of, AreSeated, Tabled, TurnTabled, turned_tabled, call_tabled, refused_tabled, error_as, SaysItsUnit, unit_tabled}
 use Rattle.osi_machine.proofs.TableMessages.{message_tabled, close_tabled, shown_as, end_tabled, break_tabled, new_tabled}
+use Rattle.osi_machine.proofs.PhaseLaws.{by_test}
 
 -- ---- all connections
 
@@ -100,12 +101,6 @@ asked_follows : (m : Machine) (ls : List Line) (o : Offer) (a : Option Refusal) 
 asked_follows m ls o (Some e) k = record { lines = ls; all = k; same = refl }
 asked_follows m ls o None k = record { lines = ls ++ tables.asked_with m.broken o ∷ []; all = appended ls m.worlds (tables.asked_with m.broken o) _ (new_tabled m.broken o) k; same = refl }
 
-connect_follows : (m : Machine) (ls : List Line) (o : Offer) → AllTabled ls m.worlds → Follows (tables.step (tables_of m ls) (connects o)) (step m (connects o))
-connect_follows m ls o k =
-    subst (λ (a : Option Refusal). Follows (tables.noted (connect_answered o a ∷ []) (tables.asked_in (tables_of m ls) o a)) (step m (connects o)))
-    (sym (ap (λ (ts : List Transport). refusal_by (is_some m.left_end) m.known ts o) (transports_as ls m.worlds k)))
-    (asked_follows m ls o (refusal m o) k)
-
 -- ---- the stage of a connection
 
 pub record StageOf (b : Bool) (w : World) : Type 0 where
@@ -157,11 +152,9 @@ call_follows laws terms m ls side r c small k g (Some l) None e h = absurd h
 -- ---- the end of a side
 
 ends_tabled : (keep : ℕ) (w : World) (a b : Option Meaning) → AreSeated w a b → Tabled (tables.ends_there keep (line_of w a b)) (ends_there keep w)
-ends_tabled keep w a b h = by (is_given w.own.transport)
-  where
-    by : (g : Bool) → Tabled (if g then (tables.ended_at keep (line_of w a b)).line else line_of w a b) (if g then ended_at keep w else w)
-    by true = end_tabled keep w a b h
-    by false = record { first = a; second = b; same = refl; seated = h }
+ends_tabled keep w a b h = by_test (is_given w.own.transport)
+    (λ e. rw e (end_tabled keep w a b h))
+    (λ e. rw e (record { first = a; second = b; same = refl; seated = h }))
 
 ended_tabled : (side : Side) (keep : ℕ → ℕ) (r : ℕ) (ls : List Line) (ws : List World) → AllTabled ls ws → AllTabled (tables.ended_lines side keep r ls) (ended_worlds side keep r ws)
 ended_tabled side keep r [] [] h = tt
@@ -229,16 +222,10 @@ turn_follows m ls side r keep x k h t =
 
 -- before a connection is agreed to no unit is under way
 pub no_unit_back : (way : Way) (m : Meaning) (ms : List Message) → unit m ∷ ms ≡ replies way → ⊥
-no_unit_back nothing_sent m ms e = absurd (cc)
-no_unit_back asked m ms e = absurd (cc)
-no_unit_back agreed m ms e = absurd (cc)
-no_unit_back (denied r) m ms e = absurd (cc)
+no_unit_back way m ms e = grind arith
 
 pub no_unit_out : (way : Way) (m : Meaning) (ms : List Message) → unit m ∷ ms ≡ asks way → ⊥
-no_unit_out nothing_sent m ms e = absurd (cc)
-no_unit_out asked m ms e = absurd (cc)
-no_unit_out agreed m ms e = absurd (cc)
-no_unit_out (denied r) m ms e = absurd (cc)
+no_unit_out way m ms e = grind arith
 
 -- a message, at any stage
 stage_unit : SessionLaws → SaysItsUnit → (b : Bool) (w : World) (t u : Told) (first second : Option Meaning) (m : Meaning) (ms : List Message) → Stage b w t u → w.peer.channel ≡ unit m ∷ ms
@@ -296,18 +283,17 @@ cut_tabled left right r (l ∷ ls) (w ∷ ws) h = (
 cut_tabled left right r [] (w ∷ ws) h = absurd h
 cut_tabled left right r (l ∷ ls) [] h = absurd h
 
-break_follows : (m : Machine) (ls : List Line) (left right : ℕ → ℕ) → AllTabled ls m.worlds → Follows (tables.step (tables_of m ls) (breaks left right)) (step m (breaks left right))
-break_follows m ls left right k = if_follows m.broken _ _ _ _ (record { lines = ls; all = k; same = refl })
-    (record { lines = tables.cut_channels left right 1 ls; all = cut_tabled left right 1 ls m.worlds k; same = refl })
-
 -- ---- a step, and a list of steps
 
-end_as : (side : Side) (m : Machine) (ls : List Line) → tables.end_of side (tables_of m ls) ≡ end_of side m
+pub end_as : (side : Side) (m : Machine) (ls : List Line) → tables.end_of side (tables_of m ls) ≡ end_of side m
 end_as Left m ls = refl
 end_as Right m ls = refl
 
 step_of : SessionLaws → SaysItsUnit → (terms : Terms) (m : Machine) (ls : List Line) (s : Step) → HasNumber s → AllTabled ls m.worlds → IsGood terms Whole m → Follows (tables.step (tables_of m ls) s) (step m s)
-step_of laws says terms m ls (connects o) small k g = connect_follows m ls o k
+step_of laws says terms m ls (connects o) small k g =
+    subst (λ (a : Option Refusal). Follows (tables.noted (connect_answered o a ∷ []) (tables.asked_in (tables_of m ls) o a)) (step m (connects o)))
+    (sym (ap (λ (ts : List Transport). refusal_by (is_some m.left_end) m.known ts o) (transports_as ls m.worlds k)))
+    (asked_follows m ls o (refusal m o) k)
 step_of laws says terms m ls (calls side r c) small k g =
     call_follows laws terms m ls side r c small k g (connection_at r ls) (connection_at r m.worlds) refl (line_there ls m.worlds r k)
 step_of laws says terms m ls (delivers side r keep) small k g =
@@ -315,7 +301,8 @@ step_of laws says terms m ls (delivers side r keep) small k g =
     (sym (end_as side m ls))
     (if_follows (is_some (end_of side m)) _ _ _ _ (record { lines = ls; all = k; same = refl })
     (delivery_follows laws says terms m ls side r keep k g (connection_at r ls) (connection_at r m.worlds) refl (line_there ls m.worlds r k)))
-step_of laws says terms m ls (breaks left right) small k g = break_follows m ls left right k
+step_of laws says terms m ls (breaks left right) small k g = if_follows m.broken _ _ _ _ (record { lines = ls; all = k; same = refl })
+    (record { lines = tables.cut_channels left right 1 ls; all = cut_tabled left right 1 ls m.worlds k; same = refl })
 step_of laws says terms m ls (ends side e keep) small k g =
     subst (λ (x : Option Ending). Follows (if is_some x || not (is_told e m.broken) then tables_of m ls else tables.after_end side e keep (tables_of m ls)) (step m (ends side e keep)))
     (sym (end_as side m ls))
@@ -333,4 +320,4 @@ run_follows laws says terms t m (s ∷ steps) small h g =
 
 pub all_follow : SessionLaws → SaysItsUnit → (terms : Terms) (steps : List Step) → AllByRecursion HasNumber steps → Follows (tables.run (tables.start terms) steps) (run (start terms) steps)
 all_follow laws says terms steps small =
-    run_follows laws says terms (tables.start terms) (start terms) steps small (record { lines = []; all = tt; same = refl }) (record { offers = []; lines = tt; fresh = λ d n o l. refl; none = λ d o. refl; agreed = refl })
+    run_follows laws says terms (tables.start terms) (start terms) steps small (record { lines = []; all = tt; same = refl }) (record { offers = []; lines = tt; fresh = λ d n o l. refl; none = λ d o. refl; agreed = refl; asked = refl })

@@ -1,8 +1,8 @@
 -- The session of each side after a call and after a unit that is taken: it is the one that the tables leave,
 -- and that of the other side stays.
-use Rattle.std.proofs.Common.{◌≡◌, refl, sym, ◌∙◌, ap, subst, ℕ, Bool, true, false, if◌then◌else◌, List, ◌∷◌, inl, inr, Ok}
-use Rattle.osi_machine.specs.Floor.{State, Ended, Meaning, AC, RF, DN, AB, GT, RS, RA, Token, Tokens, has, no_token, available, without_tokens, Call, Accept, Refuse, Give, Restart, RestartConfirm, ReleaseAccept, Abort, Granted, Answer, HasSerial, Outcome, allowed, after, is_over, respond_unit, becomes, stands}
-use Rattle.osi_machine.specs.Owners.{Own, ToThem, Absent, Owners, is_own, turned_owner, owned, given_up, left_by, pooled}
+use Rattle.std.proofs.Common.{◌≡◌, refl, sym, ◌∙◌, ap, subst, ℕ, Bool, true, false, if◌then◌else◌, List, ◌∷◌, inl, inr, Ok, arith}
+use Rattle.osi_machine.specs.Floor.{State, Ended, Meaning, AC, GT, RS, RA, Token, Tokens, has, no_token, available, without_tokens, Call, Accept, Give, Restart, RestartConfirm, Granted, Answer, HasSerial, Outcome, allowed, after, is_over, respond_unit, becomes, stands}
+use Rattle.osi_machine.specs.Owners.{Own, ToThem, Absent, Owners, is_own, turned_owner, owned, given_up, left_by}
 use Rattle.osi_machine.specs.Taking.{is_acted_on, owners_after}
 use Rattle.osi_machine.specs.Core.{Core, turned, stays_in_core, owners_called, answered, taking}
 use Rattle.osi_machine.specs.Worlds.{Message, unit, Kept, kept_of, World, session_of, after_call, after_unit, turned as turned_world}
@@ -18,9 +18,11 @@ use Rattle.osi_machine.proofs.Dispatch.{called_stands, taking_stands, turned_sta
 use Rattle.osi_machine.proofs.RestartCall.{given_theirs}
 use Rattle.osi_machine.proofs.Projects.{stopped, IsLast, Carried, OneSide, next_is, owned_is, session_is}
 use Rattle.osi_machine.proofs.ProjectCall.{own_gone, left_theirs, call_projects, stop_projects}
-use Rattle.osi_machine.proofs.ProjectTake.{First, Last, pool_theirs, split_first, take_projects}
+use Rattle.osi_machine.proofs.ProjectTake.{First, Last, split_first, take_projects}
 use Rattle.osi_machine.proofs.ProjectLast.{last_good, last_projects, over_as, over_projects}
 use Rattle.osi_machine.proofs.ProjectWorld.{Repeats, refused}
+use Rattle.osi_machine.proofs.TakeRestart.{pool_theirs}
+use Rattle.osi_machine.proofs.PhaseLaws.{by_test}
 
 -- ---- a side, by what it keeps, holds and counts
 
@@ -51,11 +53,7 @@ abbrev unless_over : Bool → Tokens → Tokens
 unless_over over_now held = if over_now then no_token else held
 
 owned_now : (broken : Bool) (w : World) (c : Core) → Stands c → OneSide broken w c → Disowned w → owned w.owner ≡ unless_over (stopped w.own) c.own.session.held
-owned_now broken w c s o d = by (stopped w.own) refl
-  where
-    by : (b : Bool) → stopped w.own ≡ b → owned w.owner ≡ unless_over b c.own.session.held
-    by true e = owned_none w.owner (d e)
-    by false e = owned_is w c s (o.alike e)
+owned_now broken w c s o d = by_test (stopped w.own) (λ e. rw e (owned_none w.owner (d e))) (λ e. rw e (owned_is w c s (o.alike e)))
 
 seat_state : (broken : Bool) (w : World) (c : Core) → Stands c → w.history ≡ c.history → OneSide broken w c → Disowned w
     → session_of w ≡ state_from w.own.kept (unless_over (stopped w.own) c.own.session.held) c.own.session.numbers.next
@@ -82,42 +80,20 @@ left_none : (s : State) (o : Owners) (t : Token) → is_over s.phase ≡ true �
 left_none s o t e = ap (λ (b : Bool). is_own ((if b then given_up o else o) t)) e ∙ own_gone (o t)
 
 not_theirs : (a b : Bool) → is_own (turned_owner (if a then Own else if b then ToThem else Absent)) ≡ false
-not_theirs true b = refl
-not_theirs false true = refl
-not_theirs false false = refl
+not_theirs a b = grind arith
 
 none_called : (s : State) (c : Call) (o : Owners) (t : Token) → is_own (turned_owner (o t)) ≡ false → is_own (turned_owner (owners_called s c o t)) ≡ false
-none_called s (Give k) o t e = by (has k t)
-  where
-    by : (b : Bool) → is_own (turned_owner (if b then ToThem else o t)) ≡ false
-    by true = refl
-    by false = e
+none_called s (Give k) o t e = by_test (has k t) (λ q. rw q) (λ q. rw q e)
 none_called s (Accept u n a z x) o t e = not_theirs (has s.held t) (has (available s.units) t)
 none_called s (RestartConfirm a x) o t e = not_theirs (has s.held t) (has (available s.units) t)
 none_called s (Restart n x y) o t e = sym (given_theirs (o t)) ∙ e
 none_called s _ o t e = e
 
 none_after : (s : State) (u : Meaning) (o : Owners) (t : Token) → is_own (turned_owner (o t)) ≡ false → is_own (turned_owner (owners_after s u o t)) ≡ false
-none_after s (GT k) o t e = by (has k t)
-  where
-    by : (b : Bool) → is_own (turned_owner (if b then Own else o t)) ≡ false
-    by true = refl
-    by false = e
-none_after s (AC v r n x z y) o t e = by (has (becomes s (AC v r n x z y)).held t)
-  where
-    by : (b : Bool) → is_own (turned_owner (if b then Own else o t)) ≡ false
-    by true = refl
-    by false = e
-none_after s (RA n x y) o t e = by (has (becomes s (RA n x y)).held t)
-  where
-    by : (b : Bool) → is_own (turned_owner (if b then Own else o t)) ≡ false
-    by true = refl
-    by false = e
-none_after s (RS k n x y) o t e = by (stands s n)
-  where
-    by : (b : Bool) → is_own (turned_owner ((if b then pooled o else o) t)) ≡ false
-    by true = pool_theirs (o t)
-    by false = e
+none_after s (GT k) o t e = by_test (has k t) (λ q. rw q) (λ q. rw q e)
+none_after s (AC v r n x z y) o t e = by_test (has (becomes s (AC v r n x z y)).held t) (λ l. rw l) (λ l. rw l e)
+none_after s (RA n x y) o t e = by_test (has (becomes s (RA n x y)).held t) (λ c. rw c) (λ c. rw c e)
+none_after s (RS k n x y) o t e = by_test (stands s n) (λ i. rw i (pool_theirs (o t))) (λ i. rw i e)
 none_after s _ o t e = e
 
 pub called_disowned : (broken : Bool) (s : State) (x : Call) (g : Granted) (w : World) → Disowned (turned_world w)
@@ -147,10 +123,7 @@ pub record Followed (w v : World) (s : State) : Type 0 where
 
 stop_state : (s : State) (c : Call) → stays_in_core c ≡ false
     → state_from (kept_of (after s c)) (unless_over (is_over (after s c).phase) s.held) s.numbers.next ≡ after s c
-stop_state s (Refuse x) k = refl
-stop_state s (ReleaseAccept x) k = refl
-stop_state s (Abort x) k = refl
-stop_state s _ k = absurd (cc)
+stop_state s c k = grind arith
 
 call_seats : SessionLaws → (broken : Bool) (w : World) (t u : Told) (x : Call) (g : Granted) → HasSerial x → (h : Repeats broken w t u) → stopped w.own ≡ false
     → Disowned (turned_world w) → allowed h.core.own.session x ≡ Ok g → (k : Bool) → stays_in_core x ≡ k → Followed w (after_call broken h.core.own.session x g w) g.next
@@ -180,14 +153,11 @@ call_seats laws broken w t u x g small h l d e false q =
 
 pub call_followed : SessionLaws → (broken : Bool) (w : World) (t u : Told) (x : Call) (g : Granted) → HasSerial x → Repeats broken w t u → Disowned (turned_world w)
     → allowed (session_of w) x ≡ Ok g → Followed w (after_call broken (session_of w) x g w) g.next
-call_followed laws broken w t u x g small h d e = by (stopped w.own) refl
-  where
-    by : (b : Bool) → stopped w.own ≡ b → Followed w (after_call broken (session_of w) x g w) g.next
-    by true o = absurd (let n = refused (session_of w) x o in cc)
-    by false l =
-        let same = session_is w h.core h.stands h.projects.history h.projects.own.counted (h.projects.own.alike l) in
-        subst (λ (s : State). allowed s x ≡ Ok g → Followed w (after_call broken s x g w) g.next) (sym same)
-        (λ a. call_seats laws broken w t u x g small h l d a (stays_in_core x) refl) e
+call_followed laws broken w t u x g small h d e = by_test (stopped w.own)
+    (λ o. absurd (let n = refused (session_of w) x o in cc))
+    (λ l. let same = session_is w h.core h.stands h.projects.history h.projects.own.counted (h.projects.own.alike l) in
+    subst (λ (s : State). allowed s x ≡ Ok g → Followed w (after_call broken s x g w) g.next) (sym same)
+    (λ a. call_seats laws broken w t u x g small h l d a (stays_in_core x) refl) e)
 
 -- ---- a unit that is taken
 
@@ -211,10 +181,7 @@ first_seats laws broken w t u m ms h l e d f =
     }
 
 last_state : (s r : State) (u : Meaning) → IsLast r u → state_from (kept_of (becomes s u)) (unless_over (is_over (becomes s u).phase) s.held) s.numbers.next ≡ becomes s u
-last_state s r (AB b o) l = refl
-last_state s r (DN o) l = refl
-last_state s r (RF x o) l = refl
-last_state s r _ l = absurd (l)
+last_state s r u l = grind arith
 
 last_seats : (broken : Bool) (w : World) (t u : Told) (m : Meaning) (ms : List Message) (h : Repeats broken w t u)
     → Disowned (turned_world w) → Last (stopped w.peer) m ms h.core.peer.sent h.core.peer.session

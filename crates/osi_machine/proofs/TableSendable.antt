@@ -1,21 +1,23 @@
 -- Every unit that is under way can be sent, and the numbers of each session are in order.
-use Rattle.std.proofs.Common.{◌≡◌, refl, sym, ap, subst, ℕ, zero, suc, ◌+◌, ◌<◌, Bool, true, false, not, ◌&&◌, ◌||◌, nat_le, if◌then◌else◌, List, [], ◌∷◌, ◌++◌, map, length, take, Option, Some, None, is_some, Ok, Err, arith}
-use Rattle.std.proofs.lemmas.Bool.{leb-true, ltb-false}
-use Rattle.std.specs.List.{AllByRecursion, list_any, slice_get}
+use Rattle.std.proofs.Common.{◌≡◌, refl, sym, subst, ℕ, zero, suc, ◌+◌, ◌<◌, Bool, true, false, not, ◌&&◌, ◌||◌, nat_le, if◌then◌else◌, List, [], ◌∷◌, ◌++◌, map, length, take, Option, Some, None, is_some, Ok, Err, arith}
+use Rattle.std.proofs.lemmas.Bool.{leb-true, ltb-false, or_parts, not-false}
+use Rattle.std.specs.List.{AllByRecursion, list_any}
 use Rattle.osi_session.specs.declared.faults.CallError.TheVariants as error
 use Rattle.osi_session.specs.Moves.{Input, called, taken, opened, refused, broken as broken_off, Standing, Move, react, answered as answered_move, begun, denied, rests, after_inputs}
 use Rattle.osi_session.specs.Runs.{HasNumbers}
 use Rattle.osi_session.specs.Sessions.{CanBeSent}
-use Rattle.osi_message.specs.Reading.{Said, alone, behind}
+use Rattle.osi_message.specs.Reading.{Said}
 use Rattle.osi_message.specs.Sendable.{said_of, IsAddress}
 use Rattle.osi_message.specs.Written.{is_second, user_data_of}
-use Rattle.osi_machine.specs.Floor.{State, Meaning, GT, WaitTransport, Call, HasSerial, Granted, Answer, IsNumbered, IsSmall, IsSound, IsSendable, no_token, allowed, respond, without_tokens, awaiting, functional_units, has_points, is_wait_transport, is_profile}
+use Rattle.osi_machine.specs.Floor.{State, Meaning, WaitTransport, Call, HasSerial, Granted, Answer, IsSmall, IsSound, IsSendable, allowed, respond, without_tokens, awaiting, functional_units, has_points, is_wait_transport, is_profile}
 use Rattle.osi_machine.specs.Core.{Offer, CanBeOffered, Side, Left, Right, offering, offer_sent}
-use Rattle.osi_machine.specs.Worlds.{Class, class_0, class_2, Message, unit, ask, agree, deny, bye, over, Transport, not_yet, waiting, linked, closing, gone, put, replied, Terms, accepts, denies}
-use Rattle.osi_machine.specs.Machine.{Ending, closed_here, Refusal, Step, connects, calls, delivers, breaks, ends, call_answered, shown_at, ended, connection_at, replaced, with_connection, is_given, is_known, is_class_0, is_waiting, live_count, is_long_selector, is_long, refusal_by, learns, is_told, HasNumber}
-use Rattle.osi_machine.specs.Tables.{Line, Turn, Tables, turned, asked_with, in_transport, puts, shortened, made, after_call, message_taken, closed, ended_at, start, seen_from, side_of, end_of, stays, noted, transport_of, refusal, asked_in, call_in, ends_there, ended_lines, shown_in_order, marked_ended, after_end, closes_by, after_turn, without_first, taken_in, delivered_to, cut_channels, step, run}
+use Rattle.osi_machine.specs.Worlds.{Class, class_2, Message, unit, ask, agree, deny, bye, over, Transport, not_yet, waiting, linked, closing, gone, put, replied, Terms, accepts, denies}
+use Rattle.osi_machine.specs.Machine.{Ending, closed_here, Refusal, Step, connects, calls, delivers, breaks, ends, call_answered, shown_at, ended, connection_at, is_given, is_known, is_class_0, is_waiting, live_count, is_long_selector, is_long, refusal_by, learns, is_told, HasNumber}
+use Rattle.osi_machine.specs.Tables.{Line, Turn, Tables, asked_with, in_transport, puts, shortened, made, after_call, message_taken, closed, ended_at, start, seen_from, side_of, end_of, stays, noted, transport_of, refusal, asked_in, call_in, ends_there, ended_lines, shown_in_order, marked_ended, after_end, closes_by, after_turn, without_first, taken_in, delivered_to, cut_channels, step, run}
 use Rattle.osi_machine.specs.AsTables.{AreSendable, IsSoundLine, AreSoundLines, IsTableRun}
 use Rattle.osi_machine.proofs.LinesRun.{if_none}
+use Rattle.osi_machine.proofs.Places.{all_more, all_with, all_at}
+use Rattle.osi_machine.proofs.PhaseLaws.{by_test}
 
 -- what is proved of one session
 pub record SendLaws : Type 0 where
@@ -70,11 +72,7 @@ well_called laws s c small h w = by (allowed s.state c) refl (sound_after laws s
 
 well_taken : SendLaws → (s : Standing) (said : Said) → HasNumbers (taken said) → IsSound s.state → CanBeSent s.waiting → IsWell (react s (taken said))
 unfolding react
-well_taken laws s said n h w = record {
-  sound = sound_after laws s (taken said) n h;
-  waits = w;
-  reply = by (respond s.state said).reply refl;
-}
+well_taken laws s said n h w = assumption (sound_after laws s (taken said) n h, by (respond s.state said).reply refl)
   where
     by : (r : Option Meaning) → (respond s.state said).reply ≡ r → CanBeSent r
     by None e = tt
@@ -83,10 +81,6 @@ well_taken laws s said n h w = record {
 well_broken : SendLaws → (s : Standing) → IsSound s.state → CanBeSent s.waiting → IsWell (react s broken_off)
 unfolding react
 well_broken laws s h w = record { sound = sound_after laws s broken_off tt h; waits = w; reply = tt }
-
-well_if : (b : Bool) (x y : Move) → IsWell x → IsWell y → IsWell (if b then x else y)
-well_if true x y h k = h
-well_if false x y h k = k
 
 well_opened : SendLaws → (s : Standing) → IsSound s.state → CanBeSent s.waiting → IsWell (react s opened)
 unfolding react
@@ -129,9 +123,6 @@ gone_line tr l h = record { own = record { sound = h.own.sound; waits = h.own.wa
 short_line : (n : ℕ) (l : Line) → IsSoundLine l → IsSoundLine (shortened n l)
 short_line n l h = record { own = record { sound = h.own.sound; waits = h.own.waits; under_way = take_sendable n l.own.channel h.own.under_way }; peer = h.peer }
 
-turned_line : (l : Line) → IsSoundLine l → IsSoundLine (turned l)
-turned_line l h = record { own = h.peer; peer = h.own }
-
 popped_line : (l : Line) (ms : List Message) → AreSendable ms → IsSoundLine l → IsSoundLine (without_first l ms)
 popped_line l ms k h = record { own = h.own; peer = record { sound = h.peer.sound; waits = h.peer.waits; under_way = k } }
 
@@ -142,16 +133,6 @@ called_line laws b c l small h =
       own = record { sound = w.sound; waits = w.waits; under_way = put_sendable b (replied (react l.own.session (called c)).reply) l.own.channel (replied_sendable (react l.own.session (called c)).reply w.reply) h.own.under_way };
       peer = h.peer;
     }
-
-said_numbered : (u : Meaning) → IsNumbered u → AllByRecursion IsNumbered (said_of u)
-said_numbered u n = by (is_second u)
-  where
-    by : (b : Bool) → AllByRecursion IsNumbered (if b then behind (GT no_token) u else alone u)
-    by true = (tt, (n, tt))
-    by false = (n, tt)
-
-first_sendable : (u : Meaning) (ms : List Message) → AreSendable (unit u ∷ ms) → IsSendable u
-first_sendable u ms h = h.0
 
 message_line : SendLaws → (b : Bool) (terms : Terms) (keep : ℕ) (tr : Transport) (l : Line) (x : Message) (xs : List Message) → AreSendable (x ∷ xs) → IsSoundLine l
     → IsSoundLine (message_taken b terms keep tr (without_first l xs) x).line
@@ -165,7 +146,7 @@ message_line laws b terms keep waiting l (deny r) xs k h =
     moved_line b gone (react l.own.session (refused r)) (without_first l xs) (well_refused laws l.own.session r h.own.sound h.own.waits) (popped_line l xs k h)
 message_line laws b terms keep linked l (unit u) xs k h =
     moved_line b linked (react l.own.session (taken (said_of u))) (without_first l xs)
-    (well_taken laws l.own.session (said_of u) (said_numbered u (first_sendable u xs k).numbered) h.own.sound h.own.waits) (popped_line l xs k.1 h)
+    (well_taken laws l.own.session (said_of u) (by_test (is_second u) (λ e. rw e (tt, ((k.0).numbered, tt))) (λ e. rw e ((k.0).numbered, tt))) h.own.sound h.own.waits) (popped_line l xs k.1 h)
 message_line laws b terms keep linked l (bye r) xs k h =
     let p = moved_line b gone (react l.own.session broken_off) (shortened keep (without_first l xs)) (well_broken laws l.own.session h.own.sound h.own.waits) (short_line keep (without_first l xs) (popped_line l xs k h)) in
     record {
@@ -185,16 +166,6 @@ closed_line b keep l h = put_line b (bye 128 ∷ []) closing (shortened keep l) 
 ended_line : SendLaws → (keep : ℕ) (l : Line) → IsSoundLine l → IsSoundLine (ended_at keep l).line
 ended_line laws keep l h = moved_line true gone (react l.own.session broken_off) (shortened keep l) (well_broken laws l.own.session h.own.sound h.own.waits) (short_line keep l h)
 
--- ---- a new connection
-
-or_parts : (a b : Bool) → (a || b) ≡ false → (a ≡ false) × (b ≡ false)
-or_parts true b h = absurd (cc)
-or_parts false b h = (refl, h)
-
-not_false : (b : Bool) → not b ≡ false → b ≡ true
-not_false true h = refl
-not_false false h = absurd (cc)
-
 short_selector : (s : Option (List ℕ)) → is_long_selector s ≡ false → IsAddress s
 short_selector None h = tt
 short_selector (Some octets) h = ltb-false 16 (length octets) h
@@ -204,7 +175,7 @@ unfolding user_data_of
 offer_sendable o small h =
     let a = or_parts (is_long_selector o.calling_selector) _ h in
     let b = or_parts (is_long_selector o.called_selector) _ a.1 in
-    let c = leb-true (length o.octets) 10240 (not_false _ b.1) in
+    let c = leb-true (length o.octets) 10240 (not-false _ b.1) in
     record {
       version = refl;
       numbered = numbered (has_points (functional_units o.requirements)) small.0;
@@ -261,33 +232,7 @@ asked_short ended_now known asked o h =
 
 side_line : (side : Side) (l : Line) → IsSoundLine l → IsSoundLine (seen_from side l)
 side_line Left l h = h
-side_line Right l h = turned_line l h
-
-replaced_lines : (r : ℕ) (l : Line) (ls : List Line) → IsSoundLine l → AllByRecursion IsSoundLine ls → AllByRecursion IsSoundLine (replaced r l ls)
-replaced_lines r l [] k h = tt
-replaced_lines zero l (x ∷ ls) k h = (k, h.1)
-replaced_lines (suc r) l (x ∷ ls) k h = (h.0, replaced_lines r l ls k h.1)
-
-with_lines : (r : ℕ) (l : Line) (ls : List Line) → IsSoundLine l → AllByRecursion IsSoundLine ls → AllByRecursion IsSoundLine (with_connection r l ls)
-with_lines zero l ls k h = h
-with_lines (suc r) l ls k h = replaced_lines r l ls k h
-
-more_lines : (ls : List Line) (l : Line) → IsSoundLine l → AllByRecursion IsSoundLine ls → AllByRecursion IsSoundLine (ls ++ l ∷ [])
-more_lines [] l k h = (k, tt)
-more_lines (x ∷ ls) l k h = (h.0, more_lines ls l k h.1)
-
-got_line : (r : ℕ) (ls : List Line) (l : Line) → slice_get ls r ≡ Some l → AllByRecursion IsSoundLine ls → IsSoundLine l
-got_line r [] l e h = absurd (cc)
-got_line zero (x ∷ ls) l e h = subst IsSoundLine (ap or_else e) h.0
-  where
-    or_else : Option Line → Line
-    or_else None = x
-    or_else (Some y) = y
-got_line (suc r) (x ∷ ls) l e h = got_line r ls l e h.1
-
-found_line : (r : ℕ) (ls : List Line) (l : Line) → connection_at r ls ≡ Some l → AllByRecursion IsSoundLine ls → IsSoundLine l
-found_line zero ls l e h = absurd (cc)
-found_line (suc r) ls l e h = got_line r ls l e h
+side_line Right l h = record { own = h.peer; peer = h.own }
 
 abbrev Sound : Tables → Type 0
 Sound t = AllByRecursion IsSoundLine t.lines
@@ -298,7 +243,7 @@ if_sound false t u h k = k
 
 asked_sound : (t : Tables) (o : Offer) → CanBeOffered o → Sound t → (a : Option Refusal) → refusal t o ≡ a → Sound (asked_in t o a)
 asked_sound t o small h (Some e) q = h
-asked_sound t o small h None q = more_lines t.lines (asked_with t.broken o) (asked_line t.broken o small (asked_short (is_some t.left_end) t.known (map transport_of t.lines) o q)) h
+asked_sound t o small h None q = all_more IsSoundLine t.lines (asked_with t.broken o) (asked_line t.broken o small (asked_short (is_some t.left_end) t.known (map transport_of t.lines) o q)) h
 
 call_sound : SendLaws → (t : Tables) (side : Side) (r : ℕ) (c : Call) → HasSerial c → Sound t → (a : Option Line) → connection_at r t.lines ≡ a → Sound (call_in t side r c (side_of side a))
 call_sound laws t side r c small h None e = h
@@ -306,14 +251,10 @@ call_sound laws t side r c small h (Some l) e =
     if_sound (is_given (seen_from side l).own.transport)
     (noted (call_answered side r c (react (seen_from side l).own.session (called c)).error ∷ []) (stays t side r (after_call t.broken c (seen_from side l))))
     (noted (call_answered side r c (Some error.NoSuchConnection) ∷ []) t)
-    (with_lines r _ t.lines (side_line side _ (called_line laws t.broken c (seen_from side l) small (side_line side l (found_line r t.lines l e h)))) h) h
+    (all_with IsSoundLine r _ t.lines (side_line side _ (called_line laws t.broken c (seen_from side l) small (side_line side l (all_at IsSoundLine r t.lines l e h)))) h) h
 
 ends_line : SendLaws → (keep : ℕ) (l : Line) → IsSoundLine l → IsSoundLine (ends_there keep l)
-ends_line laws keep l h = by (is_given l.own.transport)
-  where
-    by : (g : Bool) → IsSoundLine (if g then (ended_at keep l).line else l)
-    by true = ended_line laws keep l h
-    by false = h
+ends_line laws keep l h = by_test (is_given l.own.transport) (λ e. rw e (ended_line laws keep l h)) (λ e. rw e h)
 
 ended_lines_sound : SendLaws → (side : Side) (keep : ℕ → ℕ) (k : ℕ) (ls : List Line) → AllByRecursion IsSoundLine ls → AllByRecursion IsSoundLine (ended_lines side keep k ls)
 ended_lines_sound laws side keep k [] h = tt
@@ -328,13 +269,13 @@ end_sound laws side e keep t h = marked_sound side e
     (noted (shown_in_order side 1 t.lines ++ ended side e ∷ []) (record t { lines = ended_lines side keep 1 t.lines })) (ended_lines_sound laws side keep 1 t.lines h)
 
 closes_sound : SendLaws → (known : Option Class) (t : Tables) (side : Side) (r : ℕ) (keep : ℕ → ℕ) (l : Line) → IsSoundLine l → Sound t → Sound (closes_by known t side r keep l)
-closes_sound laws (Some class_2) t side r keep l k h = with_lines r _ t.lines (side_line side _ (closed_line t.broken (keep r) l k)) h
-closes_sound laws _ t side r keep l k h = end_sound laws side closed_here keep (stays t side r l) (with_lines r _ t.lines (side_line side l k) h)
+closes_sound laws (Some class_2) t side r keep l k h = all_with IsSoundLine r _ t.lines (side_line side _ (closed_line t.broken (keep r) l k)) h
+closes_sound laws _ t side r keep l k h = end_sound laws side closed_here keep (stays t side r l) (all_with IsSoundLine r _ t.lines (side_line side l k) h)
 
 turn_sound : SendLaws → (t : Tables) (side : Side) (r : ℕ) (keep : ℕ → ℕ) (x : Turn) → IsSoundLine x.line → Sound t → Sound (after_turn t side r keep x)
 turn_sound laws t side r keep x k h =
     if_sound x.closes (closes_by t.known (noted (map (shown_at side r) x.shown) t) side r keep x.line) (noted (map (shown_at side r) x.shown) (stays t side r x.line))
-    (closes_sound laws t.known (noted (map (shown_at side r) x.shown) t) side r keep x.line k h) (with_lines r _ t.lines (side_line side x.line k) h)
+    (closes_sound laws t.known (noted (map (shown_at side r) x.shown) t) side r keep x.line k h) (all_with IsSoundLine r _ t.lines (side_line side x.line k) h)
 
 taken_sound : SendLaws → (t : Tables) (side : Side) (r : ℕ) (keep : ℕ → ℕ) (l : Line) → IsSoundLine l → Sound t → (ms : List Message) → AreSendable ms → Sound (taken_in t side r keep l ms)
 taken_sound laws t side r keep l k h [] s = h
@@ -345,7 +286,7 @@ taken_sound laws t side r keep l k h (x ∷ xs) s =
 delivery_sound : SendLaws → (t : Tables) (side : Side) (r : ℕ) (keep : ℕ → ℕ) → Sound t → (a : Option Line) → connection_at r t.lines ≡ a → Sound (delivered_to t side r keep (side_of side a))
 delivery_sound laws t side r keep h None e = h
 delivery_sound laws t side r keep h (Some l) e =
-    let k = side_line side l (found_line r t.lines l e h) in
+    let k = side_line side l (all_at IsSoundLine r t.lines l e h) in
     taken_sound laws t side r keep (seen_from side l) k h (seen_from side l).peer.channel k.peer.under_way
 
 cut_sound : (left right : ℕ → ℕ) (k : ℕ) (ls : List Line) → AllByRecursion IsSoundLine ls → AllByRecursion IsSoundLine (cut_channels left right k ls)
@@ -370,4 +311,4 @@ run_sound laws t [] small h = h
 run_sound laws t (s ∷ steps) small h = run_sound laws (step t s) steps small.1 (step_sound laws t s small.0 h)
 
 pub are_sound : SendLaws → (t : Tables) → IsTableRun t → AreSoundLines t
-are_sound laws t h r l e = found_line r t.lines l e (subst Sound h.reached (run_sound laws (start h.agreed) h.steps h.numbered tt))
+are_sound laws t h r l e = all_at IsSoundLine r t.lines l e (subst Sound h.reached (run_sound laws (start h.agreed) h.steps h.numbered tt))

@@ -4,7 +4,7 @@ use Rattle.osi_machine.specs.Floor.{TokenSetting, TsduMaximumSize, State, Functi
 use Rattle.osi_machine.specs.Channels.{AllFit, flush}
 use Rattle.osi_machine.specs.Core.{Core, taking}
 use Rattle.osi_machine.specs.Parties.{is_opening}
-use Rattle.osi_machine.proofs.PhaseLaws.{implied, excluded, implied_two}
+use Rattle.osi_machine.proofs.PhaseLaws.{implied, excluded, implied_two, by_test}
 use Rattle.osi_machine.proofs.Units.{next_acted}
 use Rattle.osi_machine.proofs.Tokens.{none_held}
 use Rattle.osi_machine.proofs.CoreLaws.{SessionLaws}
@@ -13,6 +13,7 @@ use Rattle.osi_machine.proofs.Alive.{over_kept}
 use Rattle.osi_machine.proofs.TakeMoves.{at, Calm, calm_stands}
 use Rattle.osi_machine.proofs.TakeTokens.{Gains, gains_stand}
 use Rattle.osi_machine.proofs.Settled.{asker_there}
+use Rattle.osi_machine.proofs.Deaf.{not_both}
 
 -- before an answer no token is held
 bare_lacks : (s : State) (t : Token) → s.held ≡ no_token → has s.held t ≡ false
@@ -99,27 +100,18 @@ called s u n x z = record s { phase = Answering; units = functional_units u; wis
 -- one that cannot be accepted would end the called side, and no two sides meet so
 pub acceptable : (w : Core) (v : Bool) (u : ℕ) (n : Option ℕ) (x : TokenSetting) (from to : Option (List ℕ)) (z : TsduMaximumSize) (o : List ℕ) (us : List Meaning)
     → drops w.own.session (CN v u n x from to z o) ≡ false → Stands (at w (CN v u n x from to z o ∷ us)) → is_acceptable v u z ≡ true
-acceptable w v u n x from to z o us d h = by (is_acceptable v u z) refl
+acceptable w v u n x from to z o us d h = by_test (is_acceptable v u z)
+    (λ e. e)
+    (λ e. absurd (not_both _
+    (implied_two matched (λ p q. not (is_over p)) refl (flush w.own.session ((CN v u n x from to z o) ∷ us)).phase (flush w.peer.session w.own.sent).phase h.own.meeting.meets)
+    (over_kept (next w.own.session (CN v u n x from to z o)) us (ended e) f.1)))
   where
-    m : Meaning
-    m = CN v u n x from to z o
-
-    f : AllFit w.own.session (m ∷ us)
+    f : AllFit w.own.session ((CN v u n x from to z o) ∷ us)
     f = h.own.fits
 
-    turn : (b : Bool) → not b ≡ true → b ≡ true → ⊥
-    turn true p q = cc
-    turn false p q = cc
-
-    ended : is_acceptable v u z ≡ false → is_over (next w.own.session m).phase ≡ true
+    ended : is_acceptable v u z ≡ false → is_over (next w.own.session (CN v u n x from to z o)).phase ≡ true
     ended e = ap (λ (r : State). is_over r.phase)
-        (next_acted w.own.session m d ∙ ap (λ (b : Bool). if b then called w.own.session u n x z else without_tokens Ended w.own.session) e)
-
-    by : (b : Bool) → is_acceptable v u z ≡ b → b ≡ true
-    by true e = refl
-    by false e = absurd (turn _
-        (implied_two matched (λ p q. not (is_over p)) refl (flush w.own.session (m ∷ us)).phase (flush w.peer.session w.own.sent).phase h.own.meeting.meets)
-        (over_kept (next w.own.session m) us (ended e) f.1))
+        (next_acted w.own.session (CN v u n x from to z o) d ∙ ap (λ (b : Bool). if b then called w.own.session u n x z else without_tokens Ended w.own.session) e)
 
 connect_calm : (w : Core) (v : Bool) (u : ℕ) (n : Option ℕ) (x : TokenSetting) (from to : Option (List ℕ)) (z : TsduMaximumSize) (o : List ℕ) (us : List Meaning)
     → drops w.own.session (CN v u n x from to z o) ≡ false → Stands (at w (CN v u n x from to z o ∷ us)) → Calm w (CN v u n x from to z o) us (called w.own.session u n x z)
@@ -127,14 +119,9 @@ connect_calm w v u n x from to z o us d h =
     let g = h.own.fits.0.good d in
     record {
       acts = d;
-      stays = refl;
+      plain = assumption;
       next = next_acted w.own.session (CN v u n x from to z o) d
           ∙ ap (λ (b : Bool). if b then called w.own.session u n x z else without_tokens Ended w.own.session) (acceptable w v u n x from to z o us d h);
-      silent = refl;
-      empty = refl;
-      history = refl;
-      owner = refl;
-      held = refl;
       listens = excluded is_wait_cn is_restarting refl w.own.session.phase g.expected;
       hears = refl;
       owes = refl;
@@ -142,7 +129,6 @@ connect_calm w v u n x from to z o us d h =
       flag = h.own_counts.flag;
       below = h.peer_counts.below;
       reach = h.peer_counts.reach;
-      caller = refl;
     }
 
 pub connect_taken : SessionLaws → (w : Core) (v : Bool) (u : ℕ) (n : Option ℕ) (x : TokenSetting) (from to : Option (List ℕ)) (z : TsduMaximumSize) (o : List ℕ) (us : List Meaning)

@@ -1,6 +1,6 @@
 -- A unit is taken that changes nothing of its taker's state: data, a request for tokens, and all that is
 -- discarded. It keeps what is true of both sides.
-use Rattle.std.proofs.Common.{◌≡◌, refl, sym, ◌∙◌, ap, subst, ℕ, Bool, true, false, not, ◌&&◌, ◌||◌, if◌then◌else◌, List, [], ◌∷◌, ◌++◌, append_assoc, is_none}
+use Rattle.std.proofs.Common.{◌≡◌, refl, sym, ◌∙◌, ap, subst, ℕ, Bool, true, false, not, ◌&&◌, ◌||◌, if◌then◌else◌, List, [], ◌∷◌, ◌++◌, append_assoc, is_none, arith}
 use Rattle.std.specs.List.{list_any}
 use Rattle.osi_machine.specs.Floor.{State, FunctionalUnits, Meaning, DT, PT, Tokens, data_token, is_empty, takes_data, is_over, is_expected, si, first_fault, conditions, has_no_effect, passes_restarting, is_restarting, is_restart_due, drops, next}
 use Rattle.osi_machine.specs.Histories.{Item, cutat}
@@ -9,7 +9,7 @@ use Rattle.osi_machine.specs.Taking.{is_acted_on, seen, got_in, cut_by, owners_a
 use Rattle.osi_machine.specs.Channels.{AllFit, flush, stops, heard, hears, view_next, heard_view, data_in, data_of, needs_token}
 use Rattle.osi_machine.specs.Core.{Party, Core, taking}
 use Rattle.osi_machine.specs.Parties.{is_opening, IsConsistent, AreConsistent}
-use Rattle.osi_machine.proofs.PhaseLaws.{excluded}
+use Rattle.osi_machine.proofs.PhaseLaws.{excluded, if_first, by_test}
 use Rattle.osi_machine.proofs.Units.{restart_acted, next_acted, next_dropped, next_hears}
 use Rattle.osi_machine.proofs.Records.{Meeting, Half, Views, Counting, Counts, IsOfProfile, Pair, Stands}
 use Rattle.osi_machine.proofs.ChannelLaws.{kept_heard, due_end}
@@ -18,6 +18,7 @@ use Rattle.osi_machine.proofs.DataCall.{none_owed}
 use Rattle.osi_machine.proofs.Alive.{alive, taken_party, takes_as}
 use Rattle.osi_machine.proofs.Begun.{flush_open}
 use Rattle.osi_machine.proofs.CoreLaws.{SessionLaws, taking_kept}
+use Rattle.osi_machine.proofs.Deaf.{not_both}
 
 -- the other side, once the first unit was taken
 abbrev pub rest_of : Party → List Meaning → Party
@@ -30,34 +31,6 @@ heard_rest s u us e = ap (λ (b : Bool). if b then s else heard (next s u) us) e
 
 view_rest : (s : State) (u : Meaning) (us : List Meaning) (v : List Item) → stops s u ≡ false → heard_view s (u ∷ us) v ≡ heard_view (next s u) us (view_next s u v)
 view_rest s u us v e = ap (λ (b : Bool). if b then v else heard_view (next s u) us (view_next s u v)) e
-
--- the lines of the taker's half stay, for the same owners, where the unit moves no token
-pub taker_half : (o : Owners) (x y : Party) (u : Meaning) (us : List Meaning) → stops x.session u ≡ false → next x.session u ≡ x.session
-    → Half o x (rest_of y (u ∷ us)) → Half o (taken_party x u) (rest_of y us)
-taker_half o x y u us st same h = record {
-  fits = h.fits.1;
-  meeting = subst (λ (r : State). Meeting o r (flush (next x.session u) us) (flush y.session x.sent) (heard (next x.session u) us) y.session) (sym same)
-      (subst (λ (r : State). Meeting o x.session (flush (next x.session u) us) (flush y.session x.sent) r y.session) (heard_rest x.session u us st) h.meeting);
-}
-
-pub giver_half : (o : Owners) (x y : Party) (u : Meaning) (us : List Meaning) → next x.session u ≡ x.session
-    → Half o (rest_of y (u ∷ us)) x → Half o (rest_of y us) (taken_party x u)
-giver_half o x y u us same h = record {
-  fits = h.fits;
-  meeting = subst (λ (r : State). Meeting o y.session (flush y.session x.sent) (flush (next x.session u) us) (heard y.session x.sent) r) (sym same) h.meeting;
-}
-
-pub taker_counts : (x y : Party) (u : Meaning) (us : List Meaning) → stops x.session u ≡ false → next x.session u ≡ x.session
-    → Counts x (rest_of y (u ∷ us)) → Counts (taken_party x u) (rest_of y us)
-taker_counts x y u us st same h =
-    subst (λ (r : State). Counting r (heard (next x.session u) us) (heard y.session x.sent) y.session) (sym same)
-    (subst (λ (r : State). Counting x.session r (heard y.session x.sent) y.session) (heard_rest x.session u us st) h)
-
-pub giver_counts : (x y : Party) (u : Meaning) (us : List Meaning) → stops x.session u ≡ false → next x.session u ≡ x.session
-    → Counts (rest_of y (u ∷ us)) x → Counts (rest_of y us) (taken_party x u)
-giver_counts x y u us st same h =
-    subst (λ (r : State). Counting y.session (heard y.session x.sent) (heard (next x.session u) us) r) (sym same)
-    (subst (λ (r : State). Counting y.session (heard y.session x.sent) r x.session) (heard_rest x.session u us st) h)
 
 -- ---- both at once
 
@@ -80,45 +53,32 @@ pair_rest h x y u us same p = record {
 -- ---- a unit that is discarded
 
 pub dropped_stops : (s : State) (u : Meaning) → drops s u ≡ true → stops s u ≡ false
-dropped_stops s u d = by (stops s u) refl
-  where
-    by : (b : Bool) → stops s u ≡ b → b ≡ false
-    by false e = refl
-    by true e = absurd (let a = restart_acted s u e in cc)
-
-pub dropped_same : (s : State) (u : Meaning) → drops s u ≡ true → next s u ≡ s
-dropped_same s u d = next_dropped s u d
-
-view_dropped : (s : State) (u : Meaning) (v : List Item) → drops s u ≡ true → view_next s u v ≡ v
-view_dropped s u v d = ap (λ (b : Bool). if b then v else seen s u v) d
+dropped_stops s u d = by_test (stops s u) (λ e. absurd (let a = restart_acted s u e in cc)) (λ e. e)
 
 -- what its taker sees, where with duplex no data is dropped
 pub taker_views_dropped : (h : List Item) (x y : Party) (u : Meaning) (us : List Meaning) → drops x.session u ≡ true
     → ((flush x.session (u ∷ us)).units.duplex ≡ true → data_in u ≡ [])
     → Views h x (rest_of y (u ∷ us)) → Views h (taken_party x u) (rest_of y us)
-taker_views_dropped h x y u us d none v = record {
-  ends = λ l. sym (view_rest x.session u us x.view st) ∙ v.ends (ap (λ (r : State). hears r.phase) (heard_rest x.session u us st) ∙ l);
-  cut = λ r. view_dropped x.session u x.view d ∙ v.cut (ap (λ (r : State). is_restarting r.phase) (heard_rest x.session u us st) ∙ r)
-      ∙ ap (λ (q : State). cutat q.base h q.numbers.next) (sym same);
-  due = λ r. v.due (ap (λ (q : State). is_restart_due q.phase) (sym same) ∙ r);
-  stream = λ e.
-      let old = v.stream e in
-      let got = ap (λ (b : Bool). if b then x.got else x.got ++ got_in x.session u) d in
-      (ap (λ (r : List (List ℕ)). r ++ data_of us) got ∙ ap (λ (r : List (List ℕ)). x.got ++ (r ++ data_of us)) (sym (none e)) ∙ old.0, old.1);
-}
-  where
-    st : stops x.session u ≡ false
-    st = dropped_stops x.session u d
-
-    same : next x.session u ≡ x.session
-    same = dropped_same x.session u d
+taker_views_dropped h x y u us d none v =
+    let st : stops x.session u ≡ false = dropped_stops x.session u d in
+    let same : next x.session u ≡ x.session = next_dropped x.session u d in
+    record {
+      ends = λ l. sym (view_rest x.session u us x.view st) ∙ v.ends (ap (λ (r : State). hears r.phase) (heard_rest x.session u us st) ∙ l);
+      cut = λ r. ap (λ (b : Bool). if b then x.view else seen x.session u x.view) d ∙ v.cut (ap (λ (r : State). is_restarting r.phase) (heard_rest x.session u us st) ∙ r)
+          ∙ ap (λ (q : State). cutat q.base h q.numbers.next) (sym same);
+      due = λ r. v.due (ap (λ (q : State). is_restart_due q.phase) (sym same) ∙ r);
+      stream = λ e.
+          let old = v.stream e in
+          let got = ap (λ (b : Bool). if b then x.got else x.got ++ got_in x.session u) d in
+          (ap (λ (r : List (List ℕ)). r ++ data_of us) got ∙ ap (λ (r : List (List ℕ)). x.got ++ (r ++ data_of us)) (sym (none e)) ∙ old.0, old.1);
+    }
 
 pub giver_views_dropped : (h : List Item) (x y : Party) (u : Meaning) (us : List Meaning) → drops x.session u ≡ true
     → Views h (rest_of y (u ∷ us)) x → Views h (rest_of y us) (taken_party x u)
 giver_views_dropped h x y u us d v = record {
   ends = v.ends;
   cut = v.cut;
-  due = λ r. view_dropped x.session u x.view d ∙ v.due r;
+  due = λ r. ap (λ (b : Bool). if b then x.view else seen x.session u x.view) d ∙ v.due r;
   stream = v.stream;
 }
 
@@ -131,15 +91,11 @@ pub taker_views_acted : (h : List Item) (x y : Party) (u : Meaning) (us : List M
     → Views h x (rest_of y (u ∷ us)) → Views h (taken_party x u) (rest_of y us)
 taker_views_acted h x y u us f listens st same gets v = record {
   ends = λ l. sym (view_rest x.session u us x.view st) ∙ v.ends (ap (λ (r : State). hears r.phase) (heard_rest x.session u us st) ∙ l);
-  cut = λ r. absurd (turn _ (kept_heard (λ (s : State). hears s.phase ≡ true) (λ s m p q. next_hears s m p) (next x.session u) us
+  cut = λ r. absurd (not_both _ (kept_heard (λ (s : State). hears s.phase ≡ true) (λ s m p q. next_hears s m p) (next x.session u) us
       (ap (λ (q : State). hears q.phase) same ∙ ap not listens) f) r);
   due = λ r. v.due (ap (λ (q : State). is_restart_due q.phase) (sym same) ∙ r);
   stream = λ e. let s = v.stream e in (gets e ∙ s.0, s.1);
 }
-  where
-    turn : (b : Bool) → not b ≡ true → b ≡ true → ⊥
-    turn true p q = cc
-    turn false p q = cc
 
 -- no answer is due at the other side
 pub giver_views_acted : (o : Owners) (h : List Item) (x y : Party) (u : Meaning) (us : List Meaning) → is_restarting x.session.phase ≡ false
@@ -164,11 +120,9 @@ data_got x octets us d e =
     ∙ append_assoc x.got (octets ∷ []) (data_of us)
 
 please_got : (x : Party) (k : Tokens) (octets : List ℕ) (us : List Meaning) → (taken_party x (PT k octets)).got ++ data_of us ≡ x.got ++ data_of (PT k octets ∷ us)
-please_got x k octets us = ap (λ (r : List (List ℕ)). r ++ data_of us) (by (drops x.session (PT k octets)))
-  where
-    by : (b : Bool) → (if b then x.got else x.got ++ []) ≡ x.got
-    by true = refl
-    by false = append_nil x.got
+please_got x k octets us = ap (λ (r : List (List ℕ)). r ++ data_of us) (by_test (drops x.session (PT k octets))
+    (λ e. rw e)
+    (λ e. rw e (append_nil x.got)))
 
 -- ---- all that is said of both sides
 
@@ -194,24 +148,28 @@ idle_stands laws w u us e s k =
     λ i. record { history = sym k.history i; owner = sym k.owner i; own = sym party i; peer = rest_of w.peer us } in
     subst Stands path (record {
       consistent = subst AreConsistent (sym path) (taking_kept laws w (u ∷ us) e s.consistent);
-      own = taker_half w.owner w.own w.peer u us k.stays k.same own;
-      peer = giver_half (turned_owners w.owner) w.own w.peer u us k.same peer;
+      own = record {
+        fits = own.fits.1;
+        meeting = subst (λ (r : State). Meeting w.owner r (flush (next w.own.session u) us) (flush w.peer.session w.own.sent) (heard (next w.own.session u) us) w.peer.session) (sym k.same)
+            (subst (λ (r : State). Meeting w.owner w.own.session (flush (next w.own.session u) us) (flush w.peer.session w.own.sent) r w.peer.session) (heard_rest w.own.session u us k.stays) own.meeting);
+      };
+      peer = record {
+        fits = peer.fits;
+        meeting = subst (λ (r : State). Meeting (turned_owners w.owner) w.peer.session (flush w.peer.session w.own.sent) (flush (next w.own.session u) us) (heard w.peer.session w.own.sent) r) (sym k.same) peer.meeting;
+      };
       own_views = k.own_seen (subst (λ (vs : List Meaning). Views w.history w.own (rest_of w.peer vs)) e s.own_views);
       peer_views = k.peer_seen (subst (λ (vs : List Meaning). Views w.history (rest_of w.peer vs) w.own) e s.peer_views);
-      own_counts = taker_counts w.own w.peer u us k.stays k.same (subst (λ (vs : List Meaning). Counts w.own (rest_of w.peer vs)) e s.own_counts);
-      peer_counts = giver_counts w.own w.peer u us k.stays k.same (subst (λ (vs : List Meaning). Counts (rest_of w.peer vs) w.own) e s.peer_counts);
+      own_counts =
+          subst (λ (r : State). Counting r (heard (next w.own.session u) us) (heard w.peer.session w.own.sent) w.peer.session) (sym k.same)
+          (subst (λ (r : State). Counting w.own.session r (heard w.peer.session w.own.sent) w.peer.session) (heard_rest w.own.session u us k.stays) (subst (λ (vs : List Meaning). Counts w.own (rest_of w.peer vs)) e s.own_counts));
+      peer_counts =
+          subst (λ (r : State). Counting w.peer.session (heard w.peer.session w.own.sent) (heard (next w.own.session u) us) r) (sym k.same)
+          (subst (λ (r : State). Counting w.peer.session (heard w.peer.session w.own.sent) r w.own.session) (heard_rest w.own.session u us k.stays) (subst (λ (vs : List Meaning). Counts (rest_of w.peer vs) w.own) e s.peer_counts));
       pair = pair_rest w.history w.own w.peer u us k.same (subst (λ (vs : List Meaning). Pair w.history w.own (rest_of w.peer vs)) e s.pair);
     })
 
-either_way : {A : Type 0} → (b : Bool) (a : A) → (if b then a else a) ≡ a
-either_way true a = refl
-either_way false a = refl
-
 listening : (e r p : Bool) → (e || (r && not p)) ≡ false → p ≡ false → r ≡ false
-listening true r p h k = absurd (cc)
-listening false true true h k = absurd (cc)
-listening false true false h k = absurd (cc)
-listening false false p h k = refl
+listening e r p h k = grind arith
 
 -- data is taken
 pub data_taken : SessionLaws → (w : Core) (octets : List ℕ) (us : List Meaning) → w.peer.sent ≡ DT octets ∷ us → drops w.own.session (DT octets) ≡ false → Stands w
@@ -227,8 +185,8 @@ data_taken laws w octets us e d s =
     idle_stands laws w (DT octets) us e s (record {
       stays = refl;
       same = same;
-      history = either_way (is_acted_on w.own.session (DT octets)) w.history;
-      owner = either_way (is_acted_on w.own.session (DT octets)) w.owner;
+      history = if_first (is_acted_on w.own.session (DT octets)) w.history w.history refl;
+      owner = if_first (is_acted_on w.own.session (DT octets)) w.owner w.owner refl;
       own_seen = taker_views_acted w.history w.own w.peer (DT octets) us own.fits.1 listens refl same
           (λ x. data_got w.own octets us d (sym (ap (λ (u : FunctionalUnits). u.duplex) units) ∙ x));
       peer_seen = giver_views_acted w.owner w.history w.own w.peer (DT octets) us listens own peer;
@@ -242,14 +200,7 @@ please_taken laws w k octets us e d s =
     let peer = subst (λ (vs : List Meaning). Half (turned_owners w.owner) (rest_of w.peer vs) w.own) e s.peer in
     let same : next w.own.session (PT k octets) ≡ w.own.session = next_acted w.own.session (PT k octets) d in
     let listens = listening (is_empty k) (is_restarting w.own.session.phase) false d refl in
-    idle_stands laws w (PT k octets) us e s (record {
-      stays = refl;
-      same = same;
-      history = either_way (is_acted_on w.own.session (PT k octets)) w.history;
-      owner = either_way (is_acted_on w.own.session (PT k octets)) w.owner;
-      own_seen = taker_views_acted w.history w.own w.peer (PT k octets) us own.fits.1 listens refl same (λ x. please_got w.own k octets us);
-      peer_seen = giver_views_acted w.owner w.history w.own w.peer (PT k octets) us listens own peer;
-    })
+    idle_stands laws w (PT k octets) us e s (search (if_first, taker_views_acted, please_got, giver_views_acted))
 
 -- a unit is discarded
 dropped_not_acted : (s : State) (u : Meaning) → drops s u ≡ true → is_acted_on s u ≡ false
@@ -276,7 +227,7 @@ dropped_data x u d c p = by (has_no_effect u) (is_restarting x.session.phase) re
 pub dropped_taken : SessionLaws → (w : Core) (u : Meaning) (us : List Meaning) → w.peer.sent ≡ u ∷ us → drops w.own.session u ≡ true → Stands w
     → Stands (taking w (u ∷ us))
 dropped_taken laws w u us e d s =
-    let same = dropped_same w.own.session u d in
+    let same = next_dropped w.own.session u d in
     let st = dropped_stops w.own.session u d in
     let a = dropped_not_acted w.own.session u d in
     idle_stands laws w u us e s (record {

@@ -9,7 +9,7 @@ use Rattle.osi_machine.specs.Taking.{is_acted_on, seen, got_in, cut_by, owners_a
 use Rattle.osi_machine.specs.Channels.{AllFit, flush, stops, heard, hears, view_next, heard_view, data_in, data_of, needs_token}
 use Rattle.osi_machine.specs.Core.{Party, Core, taking}
 use Rattle.osi_machine.specs.Parties.{AreConsistent}
-use Rattle.osi_machine.proofs.Records.{Meeting, Half, Views, Counting, Counts, IsOfProfile, Pair, Stands}
+use Rattle.osi_machine.proofs.Records.{Meeting, Half, Counting, IsOfProfile, Stands}
 use Rattle.osi_machine.proofs.Units.{next_hears}
 use Rattle.osi_machine.proofs.ChannelLaws.{kept_heard, due_end}
 use Rattle.osi_machine.proofs.Idle.{append_nil}
@@ -18,6 +18,8 @@ use Rattle.osi_machine.proofs.Retoken.{Tokens_of}
 use Rattle.osi_machine.proofs.TakeIdle.{rest_of, one_less}
 use Rattle.osi_machine.proofs.Alive.{alive, taken_party, takes_as}
 use Rattle.osi_machine.proofs.CoreLaws.{SessionLaws, taking_kept}
+use Rattle.osi_machine.proofs.Deaf.{not_both}
+use Rattle.osi_machine.proofs.PhaseLaws.{if_second, if_first}
 
 -- the connection, where these units are all that is under way to this side
 abbrev pub at : Core → List Meaning → Core
@@ -70,84 +72,6 @@ view_is s r u us v v' st e k =
     ap (λ (b : Bool). if b then v else heard_view (next s u) us (view_next s u v)) st
     ∙ ap (λ (q : State). heard_view q us (view_next s u v)) e ∙ ap (heard_view r us) k
 
-taker_half : (w : Core) (u : Meaning) (us : List Meaning) (r : State) (v : List Item) (got : List (List ℕ)) (o : Owners) → Moves w u us r v got o
-    → Half w.owner w.own (rest_of w.peer (u ∷ us)) → Half o (party_after w.own r v got) (rest_of w.peer us)
-taker_half w u us r v got o k h = record {
-  fits = subst (λ (q : State). AllFit q us) k.next h.fits.1;
-  meeting = subst (λ (q : State). Meeting o r q (flush w.peer.session w.own.sent) (heard r us) w.peer.session) (flush_is w.own.session r u us k.next)
-      (subst (λ (q : State). Meeting o r (flush w.own.session (u ∷ us)) (flush w.peer.session w.own.sent) q w.peer.session) (heard_is w.own.session r u us k.stays k.next)
-      (record {
-        meets = h.meeting.meets;
-        units = h.meeting.units;
-        base = h.meeting.base;
-        restart = h.meeting.restart;
-        connect = h.meeting.connect;
-        holds = k.tokens.holds;
-        wants = k.tokens.wants;
-        absent = k.tokens.absent;
-        released = h.meeting.released;
-      }));
-}
-
-giver_half : (w : Core) (u : Meaning) (us : List Meaning) (r : State) (v : List Item) (got : List (List ℕ)) (o : Owners) → Moves w u us r v got o
-    → Half (turned_owners w.owner) (rest_of w.peer (u ∷ us)) w.own → Half (turned_owners o) (rest_of w.peer us) (party_after w.own r v got)
-giver_half w u us r v got o k h = record {
-  fits = h.fits;
-  meeting = subst (λ (q : State). Meeting (turned_owners o) w.peer.session (flush w.peer.session w.own.sent) q (heard w.peer.session w.own.sent) r) (flush_is w.own.session r u us k.next)
-      (record {
-        meets = h.meeting.meets;
-        units = h.meeting.units;
-        base = h.meeting.base;
-        restart = h.meeting.restart;
-        connect = h.meeting.connect;
-        holds = k.others.holds;
-        wants = k.others.wants;
-        absent = k.others.absent;
-        released = k.released;
-      });
-}
-
-taker_views : (w : Core) (u : Meaning) (us : List Meaning) (r : State) (v : List Item) (got : List (List ℕ)) (o : Owners) → Moves w u us r v got o
-    → Views w.history w.own (rest_of w.peer (u ∷ us)) → Views w.history (party_after w.own r v got) (rest_of w.peer us)
-taker_views w u us r v got o k h = record {
-  ends = λ l. sym (view_is w.own.session r u us w.own.view v k.stays k.next k.view)
-      ∙ h.ends (ap (λ (q : State). hears q.phase) (heard_is w.own.session r u us k.stays k.next) ∙ l);
-  cut = λ c. k.cut (ap (λ (q : State). is_restarting q.phase) (heard_is w.own.session r u us k.stays k.next) ∙ c);
-  due = k.due;
-  stream = λ d.
-      let e = ap (λ (q : State). q.units.duplex) (flush_is w.own.session r u us k.next) ∙ d in
-      let s = h.stream e in
-      (k.stream e ∙ s.0, s.1);
-}
-
-giver_views : (w : Core) (u : Meaning) (us : List Meaning) (r : State) (v : List Item) (got : List (List ℕ)) (o : Owners) → Moves w u us r v got o
-    → Views w.history (rest_of w.peer (u ∷ us)) w.own → Views w.history (rest_of w.peer us) (party_after w.own r v got)
-giver_views w u us r v got o k h = record { ends = h.ends; cut = h.cut; due = k.other_due; stream = h.stream }
-
-taker_counts : (w : Core) (u : Meaning) (us : List Meaning) (r : State) (v : List Item) (got : List (List ℕ)) (o : Owners) → Moves w u us r v got o
-    → Counts w.own (rest_of w.peer (u ∷ us)) → Counts (party_after w.own r v got) (rest_of w.peer us)
-taker_counts w u us r v got o k h =
-    subst (λ (q : State). Counting r q (heard w.peer.session w.own.sent) w.peer.session) (heard_is w.own.session r u us k.stays k.next)
-    (record { flag = k.flag; below = h.below; reach = h.reach })
-
-giver_counts : (w : Core) (u : Meaning) (us : List Meaning) (r : State) (v : List Item) (got : List (List ℕ)) (o : Owners) → Moves w u us r v got o
-    → Counts (rest_of w.peer (u ∷ us)) w.own → Counts (rest_of w.peer us) (party_after w.own r v got)
-giver_counts w u us r v got o k h =
-    subst (λ (q : State). Counting w.peer.session (heard w.peer.session w.own.sent) q r) (heard_is w.own.session r u us k.stays k.next)
-    (record { flag = h.flag; below = k.below; reach = k.reach })
-
-pair_after : (w : Core) (u : Meaning) (us : List Meaning) (r : State) (v : List Item) (got : List (List ℕ)) (o : Owners) → Moves w u us r v got o
-    → Pair w.history w.own (rest_of w.peer (u ∷ us)) → Pair w.history (party_after w.own r v got) (rest_of w.peer us)
-pair_after w u us r v got o k p =
-    let e = flush_is w.own.session r u us k.next in
-    record {
-      numbered = subst (λ (q : State). AreNumberedFrom q.base w.history) e p.numbered;
-      one_way = λ d. one_less (needs_token data_token) (list_any (needs_token data_token) w.own.sent) u us
-          (p.one_way (ap (λ (q : State). q.units.half_duplex) e ∙ d));
-      callers = p.callers ∙ ap not (sym k.caller);
-      profile = subst (λ (q : State). IsOfProfile q.units) e p.profile;
-    }
-
 -- all that is true of both sides stays
 pub moves_stands : SessionLaws → (w : Core) (u : Meaning) (us : List Meaning) (r : State) (v : List Item) (got : List (List ℕ)) (o : Owners)
     → w.peer.sent ≡ u ∷ us → Stands w → Moves w u us r v got o → Stands (taking w (u ∷ us))
@@ -161,13 +85,43 @@ moves_stands laws w u us r v got o e s k =
     λ i. record { history = sym k.history i; owner = sym k.owner i; own = sym (party ∙ same) i; peer = rest_of w.peer us } in
     subst Stands path (record {
       consistent = subst AreConsistent (sym path) (taking_kept laws w (u ∷ us) e s.consistent);
-      own = taker_half w u us r v got o k h.own;
-      peer = giver_half w u us r v got o k h.peer;
-      own_views = taker_views w u us r v got o k h.own_views;
-      peer_views = giver_views w u us r v got o k h.peer_views;
-      own_counts = taker_counts w u us r v got o k h.own_counts;
-      peer_counts = giver_counts w u us r v got o k h.peer_counts;
-      pair = pair_after w u us r v got o k h.pair;
+      own = record {
+        fits = subst (λ (q : State). AllFit q us) k.next h.own.fits.1;
+        meeting = subst (λ (q : State). Meeting o r q (flush w.peer.session w.own.sent) (heard r us) w.peer.session) (flush_is w.own.session r u us k.next)
+            (subst (λ (q : State). Meeting o r (flush w.own.session (u ∷ us)) (flush w.peer.session w.own.sent) q w.peer.session) (heard_is w.own.session r u us k.stays k.next)
+            (assumption));
+      };
+      peer = record {
+        fits = h.peer.fits;
+        meeting = subst (λ (q : State). Meeting (turned_owners o) w.peer.session (flush w.peer.session w.own.sent) q (heard w.peer.session w.own.sent) r) (flush_is w.own.session r u us k.next)
+            (assumption);
+      };
+      own_views = record {
+        ends = λ l. sym (view_is w.own.session r u us w.own.view v k.stays k.next k.view)
+            ∙ h.own_views.ends (ap (λ (q : State). hears q.phase) (heard_is w.own.session r u us k.stays k.next) ∙ l);
+        cut = λ c. k.cut (ap (λ (q : State). is_restarting q.phase) (heard_is w.own.session r u us k.stays k.next) ∙ c);
+        due = k.due;
+        stream = λ d.
+            let e = ap (λ (q : State). q.units.duplex) (flush_is w.own.session r u us k.next) ∙ d in
+            let s = h.own_views.stream e in
+            (k.stream e ∙ s.0, s.1);
+      };
+      peer_views = record { ends = h.peer_views.ends; cut = h.peer_views.cut; due = k.other_due; stream = h.peer_views.stream };
+      own_counts =
+          subst (λ (q : State). Counting r q (heard w.peer.session w.own.sent) w.peer.session) (heard_is w.own.session r u us k.stays k.next)
+          (record { flag = k.flag; below = h.own_counts.below; reach = h.own_counts.reach });
+      peer_counts =
+          subst (λ (q : State). Counting w.peer.session (heard w.peer.session w.own.sent) q r) (heard_is w.own.session r u us k.stays k.next)
+          (record { flag = h.peer_counts.flag; below = k.below; reach = k.reach });
+      pair =
+          let e = flush_is w.own.session r u us k.next in
+          record {
+            numbered = subst (λ (q : State). AreNumberedFrom q.base w.history) e h.pair.numbered;
+            one_way = λ d. one_less (needs_token data_token) (list_any (needs_token data_token) w.own.sent) u us
+                (h.pair.one_way (ap (λ (q : State). q.units.half_duplex) e ∙ d));
+            callers = h.pair.callers ∙ ap not (sym k.caller);
+            profile = subst (λ (q : State). IsOfProfile q.units) e h.pair.profile;
+          };
     })
 
 -- ---- a unit that moves no token, at a side that listens
@@ -180,28 +134,16 @@ same_tokens o now end other heard peer r m e = record {
   absent = m.absent;
 }
 
-pub either_way : {A : Type 0} → (b : Bool) (a c : A) → a ≡ c → (if b then a else c) ≡ c
-either_way true a c e = e
-either_way false a c e = refl
-
 -- what shows no data gets none
 pub none_got : (x : Party) (u : Meaning) → got_in x.session u ≡ [] → (if drops x.session u then x.got else x.got ++ got_in x.session u) ≡ x.got
-none_got x u e = either_else (drops x.session u) x.got (x.got ++ got_in x.session u) (ap (λ (g : List (List ℕ)). x.got ++ g) e ∙ append_nil x.got)
-  where
-    either_else : (b : Bool) (a c : List (List ℕ)) → c ≡ a → (if b then a else c) ≡ a
-    either_else true a c k = refl
-    either_else false a c k = k
+none_got x u e = if_first (drops x.session u) x.got (x.got ++ got_in x.session u) (ap (λ (g : List (List ℕ)). x.got ++ g) e ∙ append_nil x.got)
 
 pub same_stream : (got : List (List ℕ)) (u : Meaning) (us : List Meaning) → data_in u ≡ [] → got ++ data_of us ≡ got ++ data_of (u ∷ us)
 same_stream got u us e = ap (λ (d : List (List ℕ)). got ++ (d ++ data_of us)) (sym e)
 
 -- a side that listens never has asked for a restart
 pub no_cut : (r : State) (us : List Meaning) → is_restarting r.phase ≡ false → AllFit r us → is_restarting (heard r us).phase ≡ true → ⊥
-no_cut r us listens f c = turn _ (kept_heard (λ (q : State). hears q.phase ≡ true) (λ q m p g. next_hears q m p) r us (ap not listens) f) c
-  where
-    turn : (b : Bool) → not b ≡ true → b ≡ true → ⊥
-    turn true p q = cc
-    turn false p q = cc
+no_cut r us listens f c = not_both _ (kept_heard (λ (q : State). hears q.phase ≡ true) (λ q m p g. next_hears q m p) r us (ap not listens) f) c
 
 -- no answer is due at the other of a side that listens
 pub none_due_there : (o : Owners) (x y : Party) → Half o x y → Half (turned_owners o) y x → is_restarting x.session.phase ≡ false
@@ -212,16 +154,21 @@ none_due_there o x y a b listens r =
     let n = none_owed o x y a listens in
     cc
 
--- what has to be known of it then
-pub record Calm (w : Core) (u : Meaning) (us : List Meaning) (r : State) : Type 0 where
-  pub acts : drops w.own.session u ≡ false
+-- it shows no data, cuts nothing off and moves no token
+pub record MovesNothing (w : Core) (u : Meaning) (r : State) : Type 0 where
   pub stays : stops w.own.session u ≡ false
-  pub next : next w.own.session u ≡ r
   pub silent : got_in w.own.session u ≡ []
   pub empty : data_in u ≡ []
   pub history : cut_by w.own.session u w.history ≡ w.history
   pub owner : owners_after w.own.session u w.owner ≡ w.owner
   pub held : r.held ≡ w.own.session.held
+  pub caller : r.is_caller ≡ w.own.session.is_caller
+
+-- what has to be known of it then
+pub record Calm (w : Core) (u : Meaning) (us : List Meaning) (r : State) : Type 0 where
+  pub acts : drops w.own.session u ≡ false
+  pub plain : MovesNothing w u r
+  pub next : next w.own.session u ≡ r
   pub listens : is_restarting w.own.session.phase ≡ false
   pub hears : is_restarting r.phase ≡ false
   pub owes : is_restart_due r.phase ≡ false
@@ -230,29 +177,28 @@ pub record Calm (w : Core) (u : Meaning) (us : List Meaning) (r : State) : Type 
   pub below : not (is_restarting (heard w.own.session (u ∷ us)).phase) ≡ true → (n : ℕ) → (heard w.peer.session w.own.sent).base ≤ n
       → n < (heard w.peer.session w.own.sent).numbers.confirmed → n < r.numbers.next
   pub reach : r.numbers.answers ≡ true → lower r.numbers.next (heard w.peer.session w.own.sent).numbers.confirmed ≤ r.numbers.confirmed
-  pub caller : r.is_caller ≡ w.own.session.is_caller
 
 pub calm_moves : (w : Core) (u : Meaning) (us : List Meaning) (r : State) → Stands (at w (u ∷ us)) → Calm w u us r
     → Moves w u us r (seen w.own.session u w.own.view) w.own.got w.owner
 calm_moves w u us r h k = record {
-  stays = k.stays;
+  stays = k.plain.stays;
   next = k.next;
   view = ap (λ (b : Bool). if b then w.own.view else seen w.own.session u w.own.view) k.acts;
-  gets = none_got w.own u k.silent;
-  history = either_way (is_acted_on w.own.session u) (cut_by w.own.session u w.history) w.history k.history;
-  owner = either_way (is_acted_on w.own.session u) (owners_after w.own.session u w.owner) w.owner k.owner;
-  tokens = same_tokens w.owner w.own.session (flush w.own.session (u ∷ us)) (flush w.peer.session w.own.sent) (heard w.own.session (u ∷ us)) w.peer.session r h.own.meeting k.held;
+  gets = none_got w.own u k.plain.silent;
+  history = if_second (is_acted_on w.own.session u) (cut_by w.own.session u w.history) w.history k.plain.history;
+  owner = if_second (is_acted_on w.own.session u) (owners_after w.own.session u w.owner) w.owner k.plain.owner;
+  tokens = same_tokens w.owner w.own.session (flush w.own.session (u ∷ us)) (flush w.peer.session w.own.sent) (heard w.own.session (u ∷ us)) w.peer.session r h.own.meeting k.plain.held;
   others = same_tokens (turned_owners w.owner) w.peer.session (flush w.peer.session w.own.sent) (flush w.own.session (u ∷ us)) (heard w.peer.session w.own.sent) w.own.session w.peer.session h.peer.meeting refl;
   released = k.released;
   cut = λ c. absurd (no_cut r us k.hears (subst (λ (q : State). AllFit q us) k.next f.1)
-      (subst (λ (q : State). is_restarting q.phase ≡ true) (heard_is w.own.session r u us k.stays k.next) c));
+      (subst (λ (q : State). is_restarting q.phase ≡ true) (heard_is w.own.session r u us k.plain.stays k.next) c));
   due = λ d. absurd (let o = k.owes in cc);
   other_due = λ d. absurd (none_due_there w.owner w.own (rest_of w.peer (u ∷ us)) h.own h.peer k.listens d);
-  stream = λ d. same_stream w.own.got u us k.empty;
+  stream = λ d. same_stream w.own.got u us k.plain.empty;
   flag = k.flag;
   below = k.below;
   reach = k.reach;
-  caller = k.caller;
+  caller = k.plain.caller;
 }
   where
     f : AllFit w.own.session (u ∷ us)

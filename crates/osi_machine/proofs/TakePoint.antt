@@ -1,22 +1,21 @@
 -- A synchronization point is taken. It keeps what is true of both sides.
 use Rattle.std.proofs.Common.{◌≡◌, refl, sym, ◌∙◌, ap, subst, ℕ, ◌+◌, ◌≤◌, ◌<◌, Bool, true, false, not, ◌&&◌, ◌||◌, nat_lt, if◌then◌else◌, List, ◌∷◌, ◌⊎◌, inl, inr, arith}
-use Rattle.std.proofs.lemmas.Bool.{ltb-true, ltb-false}
+use Rattle.std.proofs.lemmas.Bool.{ltb-true, ltb-false, false_from_ne_true}
 use Rattle.std.specs.List.{list_any}
 use Rattle.osi_machine.specs.Floor.{State, Numbers, FunctionalUnits, Meaning, MIP, MAP, data_token, lower, MajorDue, is_ready, is_releasing, is_restarting, is_restart_due, point_taken, drops, next}
 use Rattle.osi_machine.specs.Channels.{AllFit, flush, stops, heard, hears, needs_token}
-use Rattle.osi_machine.specs.Core.{Core, taking}
+use Rattle.osi_machine.specs.Core.{Core}
 use Rattle.osi_machine.specs.Parties.{is_opening}
-use Rattle.osi_machine.proofs.PhaseLaws.{excluded}
+use Rattle.osi_machine.proofs.PhaseLaws.{excluded, by_test}
 use Rattle.osi_machine.proofs.Records.{IsOfProfile, Stands}
 use Rattle.osi_machine.proofs.Units.{next_acted}
 use Rattle.osi_machine.proofs.ChannelLaws.{heard_flush, kept_heard}
 use Rattle.osi_machine.proofs.Units.{next_hears}
 use Rattle.osi_machine.proofs.Begun.{flush_open}
 use Rattle.osi_machine.proofs.DataCall.{none_owed}
-use Rattle.osi_machine.proofs.CoreLaws.{SessionLaws}
 use Rattle.osi_machine.proofs.TakeIdle.{rest_of}
 use Rattle.osi_machine.proofs.NumberLaws.{lower_second, lower_from, heard_turned, heard_sends}
-use Rattle.osi_machine.proofs.TakeMoves.{at, heard_is, Calm, calm_stands}
+use Rattle.osi_machine.proofs.TakeMoves.{at, heard_is, Calm}
 
 -- the number of points that are confirmed, once one more is taken
 reach_point : (a : Bool) (next c confirmed : ℕ) → c ≤ next → (a ≡ true → lower next c ≤ confirmed) → lower (next + 1) c ≤ (if a then confirmed else next)
@@ -29,16 +28,10 @@ reach_point false next c confirmed le f = let r = lower_second (next + 1) c in o
 
 -- half-duplex, where points are selected
 half : (u : FunctionalUnits) → IsOfProfile u → (u.minor ≡ true) ⊎ (u.major ≡ true) → u.half_duplex ≡ true
-half u p k = by u.half_duplex refl
-  where
-    by : (b : Bool) → u.half_duplex ≡ b → b ≡ true
-    by true e = refl
-    by false e = absurd (let d = p.alone (p.duplex ∙ ap not e) in
-        elim k [ inl m ↦ (let n = d.0 in cc) | inr m ↦ (let n = d.1 in cc) ])
-
-not_true : (b : Bool) → (b ≡ true → ⊥) → b ≡ false
-not_true true f = absurd (f refl)
-not_true false f = refl
+half u p k = by_test u.half_duplex
+    (λ e. e)
+    (λ e. absurd (let d = p.alone (p.duplex ∙ ap not e) in
+    elim k [ inl m ↦ (let n = d.0 in cc) | inr m ↦ (let n = d.1 in cc) ]))
 
 -- ---- what has to be known of a point
 
@@ -52,14 +45,10 @@ record Pointed (w : Core) (u : Meaning) (us : List Meaning) (r : State) : Type 0
   opened : is_opening r.phase ≡ false
   numbers : r.numbers ≡ point_taken w.own.session.numbers
 
-own_units : (w : Core) (u : Meaning) (us : List Meaning) (r : State) → Stands (at w (u ∷ us)) → Pointed w u us r
-    → (flush w.own.session (u ∷ us)).units ≡ w.own.session.units
-own_units w u us r h k = (flush_open w.own.session (u ∷ us) (excluded is_ready is_opening refl w.own.session.phase k.ready) h.own.fits).units
-
 -- no point is under way the other way
 none_back : (w : Core) (u : Meaning) (us : List Meaning) (r : State) → Stands (at w (u ∷ us)) → Pointed w u us r → list_any (needs_token data_token) w.own.sent ≡ false
 none_back w u us r h k =
-    let units = own_units w u us r h k in
+    let units = (flush_open w.own.session (u ∷ us) (excluded is_ready is_opening refl w.own.session.phase k.ready) h.own.fits).units in
     let two = half w.own.session.units (subst IsOfProfile units h.pair.profile) k.selected in
     by (list_any (needs_token data_token) w.own.sent) (needs_token data_token u) (list_any (needs_token data_token) us) k.needs
     (h.pair.one_way (ap (λ (v : FunctionalUnits). v.half_duplex) units ∙ two))
@@ -72,7 +61,7 @@ none_back w u us r h k =
 -- the other side does not answer
 other_sends : (w : Core) (u : Meaning) (us : List Meaning) (r : State) → Stands (at w (u ∷ us)) → Pointed w u us r → w.peer.session.numbers.answers ≡ false
 unfolding point_taken
-other_sends w u us r h k = not_true w.peer.session.numbers.answers (λ a.
+other_sends w u us r h k = false_from_ne_true w.peer.session.numbers.answers (λ a.
     let no = h.peer_counts.flag a in
     let turned = heard_turned r us (record { phase = k.opened; answers = ap (λ (v : Numbers). v.answers) k.numbers }) (subst (λ (q : State). AllFit q us) k.next h.own.fits.1) in
     let yes = ap (λ (q : State). q.numbers.answers) (heard_is w.own.session r u us k.stays k.next) ∙ turned.answers in
@@ -125,10 +114,10 @@ point_reach w u us r h k = subst (λ (v : Numbers). lower v.next (heard w.peer.s
 
 -- ---- the two kinds of points
 
-taken_minor : State → State
+pub taken_minor : State → State
 taken_minor s = record s { numbers = point_taken s.numbers }
 
-taken_major : State → State
+pub taken_major : State → State
 taken_major s = record s { phase = MajorDue; numbers = point_taken s.numbers }
 
 minor_pointed : (w : Core) (confirm : Bool) (n : ℕ) (octets : List ℕ) (us : List Meaning) → drops w.own.session (MIP confirm n octets) ≡ false
@@ -147,20 +136,15 @@ minor_pointed w confirm n octets us d h =
       numbers = refl;
     }
 
-minor_calm : (w : Core) (confirm : Bool) (n : ℕ) (octets : List ℕ) (us : List Meaning) → drops w.own.session (MIP confirm n octets) ≡ false
+pub minor_calm : (w : Core) (confirm : Bool) (n : ℕ) (octets : List ℕ) (us : List Meaning) → drops w.own.session (MIP confirm n octets) ≡ false
     → Stands (at w (MIP confirm n octets ∷ us)) → Calm w (MIP confirm n octets) us (taken_minor w.own.session)
 unfolding taken_minor
 minor_calm w confirm n octets us d h =
     let k = minor_pointed w confirm n octets us d h in
     record {
       acts = d;
-      stays = refl;
+      plain = assumption;
       next = k.next;
-      silent = refl;
-      empty = refl;
-      history = refl;
-      owner = refl;
-      held = refl;
       listens = listens w (MIP confirm n octets) us (taken_minor w.own.session) k;
       hears = excluded is_ready is_restarting refl w.own.session.phase k.ready;
       owes = excluded is_ready is_restart_due refl w.own.session.phase k.ready;
@@ -168,13 +152,7 @@ minor_calm w confirm n octets us d h =
       flag = λ a. point_flag w (MIP confirm n octets) us (taken_minor w.own.session) h k;
       below = point_below w (MIP confirm n octets) us (taken_minor w.own.session) h k;
       reach = λ a. point_reach w (MIP confirm n octets) us (taken_minor w.own.session) h k;
-      caller = refl;
     }
-
-pub point_taken_stands : SessionLaws → (w : Core) (confirm : Bool) (n : ℕ) (octets : List ℕ) (us : List Meaning) → w.peer.sent ≡ MIP confirm n octets ∷ us
-    → drops w.own.session (MIP confirm n octets) ≡ false → Stands w → Stands (taking w (MIP confirm n octets ∷ us))
-point_taken_stands laws w confirm n octets us e d s =
-    calm_stands laws w (MIP confirm n octets) us (taken_minor w.own.session) e s (minor_calm w confirm n octets us d)
 
 major_pointed : (w : Core) (n : ℕ) (octets : List ℕ) (us : List Meaning) → drops w.own.session (MAP n octets) ≡ false
     → Stands (at w (MAP n octets ∷ us)) → Pointed w (MAP n octets) us (taken_major w.own.session)
@@ -192,20 +170,15 @@ major_pointed w n octets us d h =
       numbers = refl;
     }
 
-major_calm : (w : Core) (n : ℕ) (octets : List ℕ) (us : List Meaning) → drops w.own.session (MAP n octets) ≡ false
+pub major_calm : (w : Core) (n : ℕ) (octets : List ℕ) (us : List Meaning) → drops w.own.session (MAP n octets) ≡ false
     → Stands (at w (MAP n octets ∷ us)) → Calm w (MAP n octets) us (taken_major w.own.session)
 unfolding taken_major
 major_calm w n octets us d h =
     let k = major_pointed w n octets us d h in
     record {
       acts = d;
-      stays = refl;
+      plain = assumption;
       next = k.next;
-      silent = refl;
-      empty = refl;
-      history = refl;
-      owner = refl;
-      held = refl;
       listens = listens w (MAP n octets) us (taken_major w.own.session) k;
       hears = refl;
       owes = refl;
@@ -213,10 +186,4 @@ major_calm w n octets us d h =
       flag = λ a. point_flag w (MAP n octets) us (taken_major w.own.session) h k;
       below = point_below w (MAP n octets) us (taken_major w.own.session) h k;
       reach = λ a. point_reach w (MAP n octets) us (taken_major w.own.session) h k;
-      caller = refl;
     }
-
-pub major_taken : SessionLaws → (w : Core) (n : ℕ) (octets : List ℕ) (us : List Meaning) → w.peer.sent ≡ MAP n octets ∷ us
-    → drops w.own.session (MAP n octets) ≡ false → Stands w → Stands (taking w (MAP n octets ∷ us))
-major_taken laws w n octets us e d s =
-    calm_stands laws w (MAP n octets) us (taken_major w.own.session) e s (major_calm w n octets us d)

@@ -1,38 +1,29 @@
 -- A request for release, its refusal, and a confirmation are taken. Each keeps what is true of both sides.
 use Rattle.std.proofs.Common.{◌≡◌, refl, sym, subst, ℕ, Bool, true, false, not, ◌&&◌, List, ◌∷◌, ◌⊎◌, inl, inr}
-use Rattle.std.proofs.lemmas.Bool.{and_parts}
+use Rattle.std.proofs.lemmas.Bool.{and_parts, and_from, not-true}
 use Rattle.osi_machine.specs.Floor.{State, Meaning, FN, NF, MIA, MAA, is_ready, is_major_asked, is_releasing, is_release_due, is_restarting, is_restart_due, takes_minor_ack, minor_confirmed, major_confirmed, Ready, ReleaseDue, drops, next, becomes}
 use Rattle.osi_machine.specs.Channels.{flush, heard}
-use Rattle.osi_machine.specs.Core.{Core, taking}
+use Rattle.osi_machine.specs.Core.{Core}
 use Rattle.osi_machine.proofs.PhaseLaws.{excluded, implied_two}
 use Rattle.osi_machine.proofs.Records.{matched, Stands}
 use Rattle.osi_machine.proofs.Units.{next_acted}
 use Rattle.osi_machine.proofs.ChannelLaws.{heard_flush}
 use Rattle.osi_machine.proofs.Begun.{is_lively, Lively, ends_lively}
 use Rattle.osi_machine.proofs.DataCall.{none_owed}
-use Rattle.osi_machine.proofs.CoreLaws.{SessionLaws}
 use Rattle.osi_machine.proofs.TakeIdle.{rest_of}
 use Rattle.osi_machine.proofs.NumberLaws.{lower_first}
-use Rattle.osi_machine.proofs.TakeMoves.{at, Calm, calm_stands}
-
-both : (a b : Bool) → a ≡ true → b ≡ true → (a && b) ≡ true
-both a b p q = rw (p, q) refl
+use Rattle.osi_machine.proofs.TakeMoves.{at, Calm}
 
 -- ---- a request for release
 
-finish_calm : (w : Core) (octets : List ℕ) (us : List Meaning) → drops w.own.session (FN octets) ≡ false → Stands (at w (FN octets ∷ us))
+pub finish_calm : (w : Core) (octets : List ℕ) (us : List Meaning) → drops w.own.session (FN octets) ≡ false → Stands (at w (FN octets ∷ us))
     → Calm w (FN octets) us (record w.own.session { phase = ReleaseDue })
 finish_calm w octets us d h =
     let g = h.own.fits.0.good d in
     record {
       acts = d;
-      stays = refl;
+      plain = assumption;
       next = next_acted w.own.session (FN octets) d;
-      silent = refl;
-      empty = refl;
-      history = refl;
-      owner = refl;
-      held = refl;
       listens = excluded is_ready is_restarting refl w.own.session.phase g.expected;
       hears = refl;
       owes = refl;
@@ -40,13 +31,7 @@ finish_calm w octets us d h =
       flag = h.own_counts.flag;
       below = h.peer_counts.below;
       reach = h.peer_counts.reach;
-      caller = refl;
     }
-
-pub finish_taken : SessionLaws → (w : Core) (octets : List ℕ) (us : List Meaning) → w.peer.sent ≡ FN octets ∷ us → drops w.own.session (FN octets) ≡ false → Stands w
-    → Stands (taking w (FN octets ∷ us))
-finish_taken laws w octets us e d s =
-    calm_stands laws w (FN octets) us (record w.own.session { phase = ReleaseDue }) e s (finish_calm w octets us d)
 
 -- ---- its refusal: the other does not owe the answer any more
 
@@ -63,7 +48,7 @@ after_refusal w octets us d h r =
     let there : is_release_due (flush w.peer.session w.own.sent).phase ≡ true = subst (λ (q : State). is_release_due q.phase ≡ true) end r in
     let here = implied_two (λ p q. matched p q && is_release_due p) (λ p q. is_releasing q) refl
     (flush w.peer.session w.own.sent).phase (flush w.own.session (NF octets ∷ us)).phase
-    (both (matched (flush w.peer.session w.own.sent).phase (flush w.own.session (NF octets ∷ us)).phase) (is_release_due (flush w.peer.session w.own.sent).phase) h.peer.meeting.meets there) in
+    (and_from (matched (flush w.peer.session w.own.sent).phase (flush w.own.session (NF octets ∷ us)).phase) (is_release_due (flush w.peer.session w.own.sent).phase) h.peer.meeting.meets there) in
     let same : next w.own.session (NF octets) ≡ becomes w.own.session (NF octets) = next_acted w.own.session (NF octets) d in
     let lives : Lively (next w.own.session (NF octets)) = subst Lively (sym same) refl in
     by here (ends_lively (next w.own.session (NF octets)) us lives h.own.fits.1)
@@ -73,19 +58,14 @@ after_refusal w octets us d h r =
     by here (inl l) = not_both _ l (excluded is_releasing is_lively refl (flush w.own.session (NF octets ∷ us)).phase here)
     by here (inr l) = not_both _ l (excluded is_releasing is_restart_due refl (flush w.own.session (NF octets ∷ us)).phase here)
 
-not_finished_calm : (w : Core) (octets : List ℕ) (us : List Meaning) → drops w.own.session (NF octets) ≡ false → Stands (at w (NF octets ∷ us))
+pub not_finished_calm : (w : Core) (octets : List ℕ) (us : List Meaning) → drops w.own.session (NF octets) ≡ false → Stands (at w (NF octets ∷ us))
     → Calm w (NF octets) us (record w.own.session { phase = Ready })
 not_finished_calm w octets us d h =
     let g = h.own.fits.0.good d in
     record {
       acts = d;
-      stays = refl;
+      plain = assumption;
       next = next_acted w.own.session (NF octets) d;
-      silent = refl;
-      empty = refl;
-      history = refl;
-      owner = refl;
-      held = refl;
       listens = excluded is_releasing is_restarting refl w.own.session.phase g.expected;
       hears = refl;
       owes = refl;
@@ -93,34 +73,23 @@ not_finished_calm w octets us d h =
       flag = h.own_counts.flag;
       below = h.peer_counts.below;
       reach = h.peer_counts.reach;
-      caller = refl;
     }
-
-pub not_finished_taken : SessionLaws → (w : Core) (octets : List ℕ) (us : List Meaning) → w.peer.sent ≡ NF octets ∷ us → drops w.own.session (NF octets) ≡ false → Stands w
-    → Stands (taking w (NF octets ∷ us))
-not_finished_taken laws w octets us e d s =
-    calm_stands laws w (NF octets) us (record w.own.session { phase = Ready }) e s (not_finished_calm w octets us d)
 
 -- ---- the confirmation of a minor point, which a side takes that has sent points last
 
-confirmed : State → ℕ → State
+pub confirmed : State → ℕ → State
 confirmed s n = record s { numbers = minor_confirmed n s.numbers }
 
-point_confirmed_calm : (w : Core) (n : ℕ) (octets : List ℕ) (us : List Meaning) → drops w.own.session (MIA n octets) ≡ false → Stands (at w (MIA n octets ∷ us))
+pub point_confirmed_calm : (w : Core) (n : ℕ) (octets : List ℕ) (us : List Meaning) → drops w.own.session (MIA n octets) ≡ false → Stands (at w (MIA n octets ∷ us))
     → Calm w (MIA n octets) us (confirmed w.own.session n)
 unfolding confirmed minor_confirmed
 point_confirmed_calm w n octets us d h =
     let g = h.own.fits.0.good d in
-    let sends : w.own.session.numbers.answers ≡ false = not_true _ (and_parts (not w.own.session.numbers.answers) _ g.met.1.0).0 in
+    let sends : w.own.session.numbers.answers ≡ false = not-true _ (and_parts (not w.own.session.numbers.answers) _ g.met.1.0).0 in
     record {
       acts = d;
-      stays = refl;
+      plain = assumption;
       next = next_acted w.own.session (MIA n octets) d;
-      silent = refl;
-      empty = refl;
-      history = refl;
-      owner = refl;
-      held = refl;
       listens = excluded takes_minor_ack is_restarting refl w.own.session.phase g.expected;
       hears = excluded takes_minor_ack is_restarting refl w.own.session.phase g.expected;
       owes = excluded takes_minor_ack is_restart_due refl w.own.session.phase g.expected;
@@ -128,37 +97,22 @@ point_confirmed_calm w n octets us d h =
       flag = h.own_counts.flag;
       below = h.peer_counts.below;
       reach = λ a. absurd (not_both _ a sends);
-      caller = refl;
     }
-  where
-    not_true : (b : Bool) → not b ≡ true → b ≡ false
-    not_true true p = absurd (cc)
-    not_true false p = refl
-
-pub point_confirmed : SessionLaws → (w : Core) (n : ℕ) (octets : List ℕ) (us : List Meaning) → w.peer.sent ≡ MIA n octets ∷ us
-    → drops w.own.session (MIA n octets) ≡ false → Stands w → Stands (taking w (MIA n octets ∷ us))
-point_confirmed laws w n octets us e d s =
-    calm_stands laws w (MIA n octets) us (confirmed w.own.session n) e s (point_confirmed_calm w n octets us d)
 
 -- ---- the confirmation of a major point
 
-major_done : State → State
+pub major_done : State → State
 major_done s = record s { phase = Ready; numbers = major_confirmed s.numbers }
 
-major_confirmed_calm : (w : Core) (n : ℕ) (octets : List ℕ) (us : List Meaning) → drops w.own.session (MAA n octets) ≡ false → Stands (at w (MAA n octets ∷ us))
+pub major_confirmed_calm : (w : Core) (n : ℕ) (octets : List ℕ) (us : List Meaning) → drops w.own.session (MAA n octets) ≡ false → Stands (at w (MAA n octets ∷ us))
     → Calm w (MAA n octets) us (major_done w.own.session)
 unfolding major_done major_confirmed
 major_confirmed_calm w n octets us d h =
     let g = h.own.fits.0.good d in
     record {
       acts = d;
-      stays = refl;
+      plain = assumption;
       next = next_acted w.own.session (MAA n octets) d;
-      silent = refl;
-      empty = refl;
-      history = refl;
-      owner = refl;
-      held = refl;
       listens = excluded is_major_asked is_restarting refl w.own.session.phase g.expected;
       hears = refl;
       owes = refl;
@@ -166,10 +120,4 @@ major_confirmed_calm w n octets us d h =
       flag = h.own_counts.flag;
       below = h.peer_counts.below;
       reach = λ a. lower_first w.own.session.numbers.next (heard w.peer.session w.own.sent).numbers.confirmed;
-      caller = refl;
     }
-
-pub major_confirmed_taken : SessionLaws → (w : Core) (n : ℕ) (octets : List ℕ) (us : List Meaning) → w.peer.sent ≡ MAA n octets ∷ us
-    → drops w.own.session (MAA n octets) ≡ false → Stands w → Stands (taking w (MAA n octets ∷ us))
-major_confirmed_taken laws w n octets us e d s =
-    calm_stands laws w (MAA n octets) us (major_done w.own.session) e s (major_confirmed_calm w n octets us d)

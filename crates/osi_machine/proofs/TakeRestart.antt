@@ -1,16 +1,16 @@
 -- A restart is taken. It keeps what is true of both sides: where it stands it cuts what was seen and the
 -- history, and where it does not it changes nothing.
-use Rattle.std.proofs.Common.{◌≡◌, refl, sym, ◌∙◌, ap, subst, ℕ, zero, suc, ◌-◌, ◌==◌, ◌≤◌, ◌<◌, Bool, true, false, not, ◌&&◌, ◌||◌, nat_le, nat_lt, if◌then◌else◌, List, [], ◌∷◌, ◌++◌, arith}
-use Rattle.std.proofs.lemmas.Bool.{leb-true, ltb-true, eqb-true, and_parts}
+use Rattle.std.proofs.Common.{◌≡◌, refl, sym, ◌∙◌, ap, subst, ℕ, zero, suc, ◌-◌, ◌==◌, ◌≤◌, ◌<◌, Bool, true, false, not, ◌&&◌, ◌||◌, nat_le, if◌then◌else◌, List, [], ◌∷◌, ◌++◌, arith}
+use Rattle.std.proofs.lemmas.Bool.{and_parts, and_from}
 use Rattle.std.specs.List.{list_any}
 use Rattle.osi_machine.specs.Floor.{TokenSetting, ResyncType, State, RestartDue, Meaning, RS, Tokens, data_token, has, is_restarting, is_restart_due, is_release_due, may_hold, without_tokens, restarted_at, stands, next}
 use Rattle.osi_machine.specs.Histories.{Item, upto, cutat, AreNumberedFrom}
-use Rattle.osi_machine.specs.Owners.{Owner, Own, Theirs, ToOwn, ToThem, Pool, Absent, turned_owner, turned_owners, is_own, is_absent, all_to_pool, pooled}
+use Rattle.osi_machine.specs.Owners.{Owner, Own, turned_owner, turned_owners, is_own, all_to_pool, pooled}
 use Rattle.osi_machine.specs.Taking.{is_acted_on, seen, cut_by, owners_after}
 use Rattle.osi_machine.specs.Channels.{Fits, AllFit, flush, heard, hears, view_next, heard_view, data_of, needs_token}
 use Rattle.osi_machine.specs.Core.{Party, Core, taking}
 use Rattle.osi_machine.specs.Parties.{AreConsistent}
-use Rattle.osi_machine.proofs.PhaseLaws.{excluded, implied_two}
+use Rattle.osi_machine.proofs.PhaseLaws.{excluded, implied_two, by_test}
 use Rattle.osi_machine.proofs.Units.{none_due, restart_due}
 use Rattle.osi_machine.proofs.HistoryLaws.{upto_twice, numbered_cut}
 use Rattle.osi_machine.proofs.Tokens.{none_held}
@@ -21,7 +21,8 @@ use Rattle.osi_machine.proofs.Records.{matched, Meeting, Half, Views, Counting, 
 use Rattle.osi_machine.proofs.NumberLaws.{lower_second, lower_less, lower_both}
 use Rattle.osi_machine.proofs.TakeIdle.{rest_of, one_less}
 use Rattle.osi_machine.proofs.TakeMoves.{at, stands_at, party_after, none_got}
-use Rattle.osi_machine.proofs.Deaf.{AllEmpty, all_empty, empty_fits, empty_end, empty_heard, empty_view, restart_kept, restart_next, stood, deaf_end, deaf_heard}
+use Rattle.osi_machine.proofs.Deaf.{AllEmpty, all_empty, empty_fits, empty_end, empty_heard, empty_view, restart_kept, restart_next, stood, deaf_end, deaf_heard, not_both}
+use Rattle.osi_machine.proofs.Consistent.{stood_below}
 
 -- ---- the taker after it
 
@@ -33,36 +34,26 @@ record Comes (w : Core) (k : ResyncType) (n : ℕ) (t : TokenSetting) (o : List 
   all : Stands (at w (RS k n t o ∷ us))
   wins : stands w.own.session n ≡ true
 
-next_is : (w : Core) (k : ResyncType) (n : ℕ) (t : TokenSetting) (o : List ℕ) (us : List Meaning) → Comes w k n t o us → next w.own.session (RS k n t o) ≡ answering w.own.session n t
-next_is w k n t o us c = restart_next w.own.session k n t o ∙ stood w.own.session n t c.wins
-
 fit_first : (w : Core) (k : ResyncType) (n : ℕ) (t : TokenSetting) (o : List ℕ) (us : List Meaning) → Comes w k n t o us → Fits w.own.session (RS k n t o)
-fit_first w k n t o us c = f.0
-  where
-    f : AllFit w.own.session (RS k n t o ∷ us)
-    f = c.all.own.fits
+fit_first w k n t o us c =
+    let f : AllFit w.own.session (RS k n t o ∷ us) = c.all.own.fits in
+    f.0
 
 -- nothing comes behind it
 none_behind : (w : Core) (k : ResyncType) (n : ℕ) (t : TokenSetting) (o : List ℕ) (us : List Meaning) → Comes w k n t o us → AllEmpty us
 none_behind w k n t o us c =
+    let f : AllFit w.own.session (RS k n t o ∷ us) = c.all.own.fits in
     let d = restart_due w.own.session (RS k n t o) c.wins in
     let s = next w.own.session (RS k n t o) in
     all_empty s us (λ u p. none_due s.phase u d p) (excluded is_restart_due is_restarting refl s.phase d) f.1
-  where
-    f : AllFit w.own.session (RS k n t o ∷ us)
-    f = c.all.own.fits
 
 end_is : (w : Core) (k : ResyncType) (n : ℕ) (t : TokenSetting) (o : List ℕ) (us : List Meaning) → Comes w k n t o us
     → flush w.own.session (RS k n t o ∷ us) ≡ answering w.own.session n t
-end_is w k n t o us c = empty_end (next w.own.session (RS k n t o)) us (none_behind w k n t o us c) ∙ next_is w k n t o us c
+end_is w k n t o us c = empty_end (next w.own.session (RS k n t o)) us (none_behind w k n t o us c) ∙ restart_next w.own.session k n t o ∙ stood w.own.session n t c.wins
 
 heard_is : (w : Core) (k : ResyncType) (n : ℕ) (t : TokenSetting) (o : List ℕ) (us : List Meaning) → Comes w k n t o us
     → heard w.own.session (RS k n t o ∷ us) ≡ w.own.session
 heard_is w k n t o us c = ap (λ (b : Bool). if b then w.own.session else heard (next w.own.session (RS k n t o)) us) c.wins
-
--- the other has asked for it, and discards all that is under way
-both : (a b : Bool) → a ≡ true → b ≡ true → (a && b) ≡ true
-both a b p q = rw (p, q) refl
 
 other_waits : (w : Core) (k : ResyncType) (n : ℕ) (t : TokenSetting) (o : List ℕ) (us : List Meaning) → Comes w k n t o us
     → is_restarting (flush w.peer.session w.own.sent).phase ≡ true
@@ -71,20 +62,17 @@ other_waits w k n t o us c =
     let other = flush w.peer.session w.own.sent in
     let d = ap (λ (r : State). is_restart_due r.phase) (end_is w k n t o us c) in
     implied_two (λ p q. matched p q && is_restart_due p) (λ p q. is_restarting q) refl end.phase other.phase
-    (both (matched end.phase other.phase) (is_restart_due end.phase) c.all.own.meeting.meets d)
+    (and_from (matched end.phase other.phase) (is_restart_due end.phase) c.all.own.meeting.meets d)
 
 other_end : (w : Core) (k : ResyncType) (n : ℕ) (t : TokenSetting) (o : List ℕ) (us : List Meaning) → Comes w k n t o us → flush w.peer.session w.own.sent ≡ w.peer.session
 other_end w k n t o us c = deaf_end w.peer.session w.own.sent (other_waits w k n t o us c) c.all.peer.fits
-
-other_heard : (w : Core) (k : ResyncType) (n : ℕ) (t : TokenSetting) (o : List ℕ) (us : List Meaning) → Comes w k n t o us → heard w.peer.session w.own.sent ≡ w.peer.session
-other_heard w k n t o us c = deaf_heard w.peer.session w.own.sent (other_waits w k n t o us c) c.all.peer.fits
 
 asking_now : (w : Core) (k : ResyncType) (n : ℕ) (t : TokenSetting) (o : List ℕ) (us : List Meaning) → Comes w k n t o us → is_restarting w.peer.session.phase ≡ true
 asking_now w k n t o us c = ap (λ (r : State). is_restarting r.phase) (sym (other_end w k n t o us c)) ∙ other_waits w k n t o us c
 
 heard_asking : (w : Core) (k : ResyncType) (n : ℕ) (t : TokenSetting) (o : List ℕ) (us : List Meaning) → Comes w k n t o us
     → is_restarting (heard w.peer.session w.own.sent).phase ≡ true
-heard_asking w k n t o us c = ap (λ (r : State). is_restarting r.phase) (other_heard w k n t o us c) ∙ asking_now w k n t o us c
+heard_asking w k n t o us c = ap (λ (r : State). is_restarting r.phase) (deaf_heard w.peer.session w.own.sent (other_waits w k n t o us c) c.all.peer.fits) ∙ asking_now w k n t o us c
 
 -- ---- its number
 
@@ -99,16 +87,6 @@ same_base : (w : Core) (k : ResyncType) (n : ℕ) (t : TokenSetting) (o : List �
 same_base w k n t o us c =
     ap (λ (r : State). r.base) (sym (other_end w k n t o us c)) ∙ c.all.peer.meeting.base ∙ ap (λ (r : State). r.base) (end_is w k n t o us c)
 
-stood_below : (s : State) (n : ℕ) → (is_restarting s.phase || nat_le n s.numbers.next) ≡ true → stands s n ≡ true → n ≤ s.numbers.next
-unfolding stands
-stood_below s n e st = by (is_restarting s.phase) (nat_lt n s.numbers.next) (nat_le n s.numbers.next) e st (ltb-true n s.numbers.next) (leb-true n s.numbers.next)
-  where
-    by : (r l m : Bool) → (r || m) ≡ true → (not r || (l || ((n == s.numbers.next) && not s.is_caller))) ≡ true
-        → (l ≡ true → n < s.numbers.next) → (m ≡ true → n ≤ s.numbers.next) → n ≤ s.numbers.next
-    by false l m e st f g = g e
-    by true true m e st f g = let k = f refl in omega arith
-    by true false m e st f g = let k = eqb-true n s.numbers.next (and_parts (n == s.numbers.next) (not s.is_caller) st).0 in omega arith
-
 top : (w : Core) (k : ResyncType) (n : ℕ) (t : TokenSetting) (o : List ℕ) (us : List Meaning) → Comes w k n t o us → n ≤ w.own.session.numbers.next
 top w k n t o us c =
     let g = (fit_first w k n t o us c).good (restart_kept w.own.session k n t o) in
@@ -121,20 +99,16 @@ cut_twice base n m h le = upto_twice (n - base) (m - base) h (omega arith)
 
 same_cut : (w : Core) (k : ResyncType) (n : ℕ) (t : TokenSetting) (o : List ℕ) (us : List Meaning) → Comes w k n t o us
     → cutat w.own.session.base w.own.view n ≡ cutat w.own.session.base w.history n
-same_cut w k n t o us c = by (is_restarting w.own.session.phase) refl
+same_cut w k n t o us c = by_test (is_restarting w.own.session.phase)
+    (λ e. let l = ap (λ (r : State). is_restarting r.phase) (heard_is w k n t o us c) ∙ e in
+    ap (λ (h : List Item). cutat w.own.session.base h n) (c.all.own_views.cut l)
+    ∙ cut_twice w.own.session.base n w.own.session.numbers.next w.history (top w k n t o us c))
+    (λ e. let l = ap (λ (r : State). hears r.phase) (heard_is w k n t o us c) ∙ ap not e in
+    seen_all (sym (ap (λ (b : Bool). if b then w.own.view else heard_view (next w.own.session (RS k n t o)) us (view_next w.own.session (RS k n t o) w.own.view)) c.wins)
+    ∙ c.all.own_views.ends l))
   where
     seen_all : (w.own.view ≡ w.history) → cutat w.own.session.base w.own.view n ≡ cutat w.own.session.base w.history n
     seen_all e = ap (λ (h : List Item). cutat w.own.session.base h n) e
-
-    by : (b : Bool) → is_restarting w.own.session.phase ≡ b → cutat w.own.session.base w.own.view n ≡ cutat w.own.session.base w.history n
-    by false e =
-        let l = ap (λ (r : State). hears r.phase) (heard_is w k n t o us c) ∙ ap not e in
-        seen_all (sym (ap (λ (b : Bool). if b then w.own.view else heard_view (next w.own.session (RS k n t o)) us (view_next w.own.session (RS k n t o) w.own.view)) c.wins)
-        ∙ c.all.own_views.ends l)
-    by true e =
-        let l = ap (λ (r : State). is_restarting r.phase) (heard_is w k n t o us c) ∙ e in
-        ap (λ (h : List Item). cutat w.own.session.base h n) (c.all.own_views.cut l)
-        ∙ cut_twice w.own.session.base n w.own.session.numbers.next w.history (top w k n t o us c)
 
 pub cut_seen : (w : Core) (k : ResyncType) (n : ℕ) (t : TokenSetting) (o : List ℕ) (us : List Meaning) → Stands (at w (RS k n t o ∷ us)) → stands w.own.session n ≡ true
     → cutat w.own.session.base w.own.view n ≡ cutat w.own.session.base w.history n
@@ -142,23 +116,13 @@ cut_seen w k n t o us s st = same_cut w k n t o us (record { all = s; wins = st 
 
 -- ---- tokens
 
-pool_own : (p : Owner) → false ≡ is_own (all_to_pool p)
+pub pool_own : (p : Owner) → is_own (all_to_pool p) ≡ false
 pool_own Own = refl
 pool_own _ = refl
 
-pool_theirs : (p : Owner) → false ≡ is_own (turned_owner (all_to_pool p))
+pub pool_theirs : (p : Owner) → is_own (turned_owner (all_to_pool p)) ≡ false
 pool_theirs Own = refl
 pool_theirs _ = refl
-
-pool_absent : (p : Owner) → is_absent p ≡ true → is_absent (all_to_pool p) ≡ true
-pool_absent Absent h = refl
-pool_absent Pool h = h
-pool_absent _ h = absurd (cc)
-
-pool_turned_absent : (p : Owner) → is_absent (turned_owner p) ≡ true → is_absent (turned_owner (all_to_pool p)) ≡ true
-pool_turned_absent Absent h = refl
-pool_turned_absent Pool h = h
-pool_turned_absent _ h = absurd (cc)
 
 -- ---- the two halves
 
@@ -194,9 +158,9 @@ taker_half w k n t o us c =
             base = m.base;
             restart = m.restart;
             connect = m.connect;
-            holds = λ a. none_held a ∙ pool_own (w.owner a);
+            holds = λ a. none_held a ∙ sym (pool_own (w.owner a));
             wants = λ h. absurd (cc);
-            absent = λ a z. pool_absent (w.owner a) (m.absent a z);
+            absent = λ a z. grind arith;
             released = λ d. absurd (cc);
           }));
     }
@@ -219,9 +183,9 @@ giver_half w k n t o us c =
             base = m.base;
             restart = m.restart;
             connect = m.connect;
-            holds = λ a. ap (λ (v : Tokens). has v a) no_tokens ∙ none_held a ∙ pool_theirs (w.owner a);
+            holds = λ a. ap (λ (v : Tokens). has v a) no_tokens ∙ none_held a ∙ sym (pool_theirs (w.owner a));
             wants = λ h. absurd (let e = excluded is_restarting may_hold refl (heard w.peer.session w.own.sent).phase asked in cc);
-            absent = λ a z. pool_turned_absent (w.owner a) (m.absent a z);
+            absent = λ a z. grind arith;
             released = λ d. absurd (let e = excluded is_restarting is_release_due refl (heard w.peer.session w.own.sent).phase asked in cc);
           });
     }
@@ -257,7 +221,7 @@ giver_views : (w : Core) (k : ResyncType) (n : ℕ) (t : TokenSetting) (o : List
     → Views (cutat w.own.session.base w.history n) (rest_of w.peer us) (taker w n t)
 unfolding taker
 giver_views w k n t o us c = record {
-  ends = λ l. absurd (both_not _ l (heard_asking w k n t o us c));
+  ends = λ l. absurd (not_both _ l (heard_asking w k n t o us c));
   cut = λ d. c.all.peer_views.cut d
       ∙ ap (cutat w.peer.session.base w.history) (same_number w k n t o us c)
       ∙ sym (cut_twice w.peer.session.base n n w.history (omega arith))
@@ -266,10 +230,6 @@ giver_views w k n t o us c = record {
   due = λ d. absurd (let e = excluded is_restarting is_restart_due refl w.peer.session.phase (asking_now w k n t o us c) in cc);
   stream = λ d. let s = c.all.peer_views.stream d in (s.0, none_left (n - w.own.session.base) w.history s.1);
 }
-  where
-    both_not : (b : Bool) → not b ≡ true → b ≡ true → ⊥
-    both_not true p q = cc
-    both_not false p q = cc
 
 -- ---- the numbers
 
@@ -280,14 +240,10 @@ taker_counts w k n t o us c =
     subst (λ (e : State). Counting (answering w.own.session n t) e (heard w.peer.session w.own.sent) w.peer.session)
     (sym (empty_heard (answering w.own.session n t) us (none_behind w k n t o us c))) (record {
       flag = old.flag;
-      below = λ l. absurd (both_not _ l (heard_asking w k n t o us c));
+      below = λ l. absurd (not_both _ l (heard_asking w k n t o us c));
       reach = λ f. lower_less w.peer.session.numbers.next _ w.own.session.numbers.confirmed w.peer.session.numbers.confirmed
           (lower_second n w.own.session.numbers.confirmed) (old.reach f);
     })
-  where
-    both_not : (b : Bool) → not b ≡ true → b ≡ true → ⊥
-    both_not true p q = cc
-    both_not false p q = cc
 
 giver_counts : (w : Core) (k : ResyncType) (n : ℕ) (t : TokenSetting) (o : List ℕ) (us : List Meaning) → Comes w k n t o us → Counts (rest_of w.peer us) (taker w n t)
 unfolding taker restarted_at
@@ -297,7 +253,7 @@ giver_counts w k n t o us c =
     (sym (empty_heard (answering w.own.session n t) us (none_behind w k n t o us c))) (record {
       flag = old.flag;
       below = λ l a from to.
-          let high = subst (λ (v : State). a < v.numbers.confirmed) (other_heard w k n t o us c) to in
+          let high = subst (λ (v : State). a < v.numbers.confirmed) (deaf_heard w.peer.session w.own.sent (other_waits w k n t o us c) c.all.peer.fits) to in
           let order = c.all.consistent.peer.sound.ordered.confirmed_to in
           let same = same_number w k n t o us c in
           omega arith;
@@ -338,7 +294,7 @@ takes_restart w k n t o us c =
     ap (λ (b : Bool). if b then w.own.view else seen w.own.session u w.own.view) kept
     ∙ ap (λ (b : Bool). if b then cutat w.own.session.base w.own.view n else w.own.view) c.wins in
     let same : taken_party w.own u ≡ party_after w.own (answering w.own.session n t) (cutat w.own.session.base w.own.view n) w.own.got =
-    λ i. record { session = next_is w k n t o us c i; view = view i; said = w.own.said; got = none_got w.own u refl i; sent = w.own.sent } in
+    λ i. record { session = (restart_next w.own.session k n t o ∙ stood w.own.session n t c.wins) i; view = view i; said = w.own.said; got = none_got w.own u refl i; sent = w.own.sent } in
     let history : (if is_acted_on w.own.session u then cut_by w.own.session u w.history else w.history) ≡ cutat w.own.session.base w.history n =
     ap (λ (b : Bool). if b then cut_by w.own.session u w.history else w.history) acts
     ∙ ap (λ (b : Bool). if b then cutat w.own.session.base w.history n else w.history) c.wins in

@@ -1,13 +1,13 @@
 -- A unit is taken that brings tokens. It keeps what is true of both sides.
 use Rattle.std.proofs.Common.{◌≡◌, refl, sym, ◌∙◌, ap, subst, ℕ, ◌≤◌, ◌<◌, Bool, true, false, not, ◌&&◌, ◌||◌, if◌then◌else◌, List, [], ◌∷◌}
-use Rattle.std.proofs.lemmas.Bool.{and_parts}
+use Rattle.std.proofs.lemmas.Bool.{and_parts, or_right}
 use Rattle.osi_machine.specs.Floor.{State, FunctionalUnits, Meaning, GT, Tokens, Token, has, available, is_within, is_disjoint, united, lower, may_ask, may_hold, is_restarting, is_restart_due, is_release_due, is_releasing, drops, next}
-use Rattle.osi_machine.specs.Owners.{Owner, Own, Theirs, ToOwn, ToThem, Pool, Absent, turned_owner, turned_owners, is_own, is_to_own, is_absent, passed_to}
+use Rattle.osi_machine.specs.Owners.{Owner, Own, ToOwn, turned_owner, turned_owners, is_own, is_to_own, is_absent, passed_to}
 use Rattle.osi_machine.specs.Taking.{is_acted_on, seen, got_in, cut_by, owners_after}
 use Rattle.osi_machine.specs.Channels.{AllFit, flush, stops, heard, hears, data_in}
 use Rattle.osi_machine.specs.Core.{Core, taking}
 use Rattle.osi_machine.specs.Parties.{is_opening}
-use Rattle.osi_machine.proofs.PhaseLaws.{implied, excluded}
+use Rattle.osi_machine.proofs.PhaseLaws.{implied, excluded, if_second}
 use Rattle.osi_machine.proofs.Records.{Stands}
 use Rattle.osi_machine.proofs.Retoken.{Tokens_of}
 use Rattle.osi_machine.proofs.Units.{next_acted}
@@ -18,7 +18,7 @@ use Rattle.osi_machine.proofs.CoreLaws.{SessionLaws}
 use Rattle.osi_machine.proofs.Acting.{fit_acts}
 use Rattle.osi_machine.proofs.Alive.{alive}
 use Rattle.osi_machine.proofs.TakeIdle.{rest_of}
-use Rattle.osi_machine.proofs.TakeMoves.{at, heard_is, flush_is, stands_at, none_got, same_stream, either_way, no_cut, Moves, moves_stands}
+use Rattle.osi_machine.proofs.TakeMoves.{at, heard_is, flush_is, stands_at, none_got, same_stream, no_cut, Moves, moves_stands}
 
 -- what has to be known of it: these tokens were not held before, and are after
 pub record Gains (w : Core) (u : Meaning) (us : List Meaning) (r : State) (k : Tokens) : Type 0 where
@@ -47,10 +47,9 @@ to_own_is ToOwn h = refl
 to_own_is _ h = absurd (cc)
 
 rest : (w : Core) (u : Meaning) (us : List Meaning) (r : State) (k : Tokens) → Stands (at w (u ∷ us)) → Gains w u us r k → AllFit r us
-rest w u us r k h g = subst (λ (q : State). AllFit q us) g.next f.1
-  where
-    f : AllFit w.own.session (u ∷ us)
-    f = h.own.fits
+rest w u us r k h g =
+    let f : AllFit w.own.session (u ∷ us) = h.own.fits in
+    subst (λ (q : State). AllFit q us) g.next f.1
 
 -- it will be held
 will_hold : (w : Core) (u : Meaning) (us : List Meaning) (r : State) (k : Tokens) (t : Token) → Stands (at w (u ∷ us)) → Gains w u us r k → has k t ≡ true
@@ -128,7 +127,7 @@ gains_moves w u us r k h g = record {
   next = g.next;
   view = ap (λ (b : Bool). if b then w.own.view else seen w.own.session u w.own.view) g.acts ∙ g.view;
   gets = none_got w.own u g.silent;
-  history = either_way (is_acted_on w.own.session u) (cut_by w.own.session u w.history) w.history g.history;
+  history = if_second (is_acted_on w.own.session u) (cut_by w.own.session u w.history) w.history g.history;
   owner = by (is_acted_on w.own.session u) acted;
   tokens = own_tokens w u us r k h g;
   others = other_tokens w u us r k h g;
@@ -180,7 +179,7 @@ give_gains w k us d h =
       history = refl;
       owner = refl;
       before = λ t e. apart (has k t) (has w.own.session.held t) e (disjoint_has k w.own.session.held t parts.1);
-      after = λ t e. united_has w.own.session.held k t ∙ right (has w.own.session.held t) (has k t) e;
+      after = λ t e. united_has w.own.session.held k t ∙ or_right (has w.own.session.held t) (has k t) e;
       kept = λ t e. united_has w.own.session.held k t ∙ left (has w.own.session.held t) (has k t) e;
       there = λ t e. within_has k (available w.own.session.units) t parts.0 e;
       phase = implied may_ask may_hold refl w.own.session.phase g.expected;
@@ -194,10 +193,6 @@ give_gains w k us d h =
     apart : (a b : Bool) → a ≡ true → (a && b) ≡ false → b ≡ false
     apart true b p q = q
     apart false b p q = absurd (cc)
-
-    right : (a b : Bool) → b ≡ true → (a || b) ≡ true
-    right true b p = refl
-    right false b p = p
 
     left : (a b : Bool) → b ≡ false → (a || b) ≡ a
     left true b p = refl

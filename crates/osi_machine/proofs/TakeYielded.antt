@@ -8,8 +8,9 @@ use Rattle.osi_machine.specs.Channels.{flush, heard}
 use Rattle.osi_machine.specs.Core.{Core, taking}
 use Rattle.osi_machine.proofs.CoreLaws.{SessionLaws}
 use Rattle.osi_machine.proofs.Records.{Stands}
-use Rattle.osi_machine.proofs.TakeMoves.{at, stands_at, Moves, moves_stands, same_tokens, either_way, none_got, same_stream}
+use Rattle.osi_machine.proofs.TakeMoves.{at, stands_at, Moves, moves_stands, same_tokens, none_got, same_stream}
 use Rattle.osi_machine.proofs.Deaf.{restart_next, yielded, yielded_view}
+use Rattle.osi_machine.proofs.PhaseLaws.{if_second}
 
 moves : (w : Core) (k : ResyncType) (n : ℕ) (t : TokenSetting) (o : List ℕ) (us : List Meaning) → stands w.own.session n ≡ false → Stands (at w (RS k n t o ∷ us))
     → Moves w (RS k n t o) us w.own.session w.own.view w.own.got w.owner
@@ -18,9 +19,9 @@ moves w k n t o us yields h = record {
   next = restart_next w.own.session k n t o ∙ yielded w.own.session n t yields;
   view = yielded_view w.own.session k n t o w.own.view yields;
   gets = none_got w.own u refl;
-  history = either_way (is_acted_on w.own.session u) (cut_by w.own.session u w.history) w.history
+  history = if_second (is_acted_on w.own.session u) (cut_by w.own.session u w.history) w.history
       (ap (λ (b : Bool). if b then cutat w.own.session.base w.history n else w.history) yields);
-  owner = either_way (is_acted_on w.own.session u) (owners_after w.own.session u w.owner) w.owner
+  owner = if_second (is_acted_on w.own.session u) (owners_after w.own.session u w.owner) w.owner
       (ap (λ (b : Bool). if b then pooled w.owner else w.owner) yields);
   tokens = same_tokens w.owner w.own.session (flush w.own.session (u ∷ us)) (flush w.peer.session w.own.sent) (heard w.own.session (u ∷ us)) w.peer.session w.own.session h.own.meeting refl;
   others = same_tokens (turned_owners w.owner) w.peer.session (flush w.peer.session w.own.sent) (flush w.own.session (u ∷ us)) (heard w.peer.session w.own.sent) w.own.session w.peer.session h.peer.meeting refl;

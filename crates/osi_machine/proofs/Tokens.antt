@@ -1,20 +1,18 @@
 -- Tokens: a side that holds one, and what that keeps out of its channel.
-use Rattle.std.proofs.Common.{◌≡◌, refl, ◌∙◌, Bool, true, false, not, ◌&&◌, ◌||◌, if◌then◌else◌, List, [], ◌∷◌}
+use Rattle.std.proofs.Common.{◌≡◌, refl, ◌∙◌, Bool, true, false, not, ◌&&◌, ◌||◌, if◌then◌else◌, List, [], ◌∷◌, arith}
 use Rattle.std.proofs.lemmas.Bool.{and_parts, or_left}
 use Rattle.osi_machine.specs.Floor.{State, Tokens, Meaning, CN, AC, RF, DT, GT, PT, MIP, MIA, MAP, MAA, RS, RA, FN, DN, NF, AB, AA, Token, data_token, minor, major, release, has, set_of, each, some, no_token, is_empty, without, united, lacks, may_hold, is_wait_cn, is_connecting, is_restarting, becomes, drops, Good, next}
 use Rattle.osi_machine.specs.Histories.{Item}
 use Rattle.osi_machine.specs.Taking.{seen}
-use Rattle.osi_machine.specs.Channels.{is_plain, Fits, AllFit, stops, heard, is_data, is_data_or_minor, is_no_release, needs_token, view_next, heard_view}
-use Rattle.osi_machine.proofs.PhaseLaws.{excluded}
+use Rattle.osi_machine.specs.Channels.{is_plain, Fits, AllFit, stops, heard, is_data_or_minor, is_no_release, needs_token, view_next, heard_view}
+use Rattle.osi_machine.proofs.PhaseLaws.{excluded, by_test}
 use Rattle.osi_machine.proofs.Units.{fit_cases}
+use Rattle.osi_machine.proofs.Deaf.{not_both}
 
 -- ---- words about sets, for each token
 
 pub has_set : (p : Token → Bool) (t : Token) → has (set_of p) t ≡ p t
-has_set p data_token = refl
-has_set p minor = refl
-has_set p major = refl
-has_set p release = refl
+has_set p t = grind arith
 
 pub each_has : (p : Token → Bool) (t : Token) → each p ≡ true → p t ≡ true
 each_has p t h =
@@ -53,11 +51,7 @@ some_has p release h = by (p data_token) (p minor) (p major) (p release) h
 
 pub empty_has : (a : Tokens) (t : Token) → is_empty a ≡ true → has a t ≡ false
 unfolding is_empty
-empty_has a t h = by (has a t) refl
-  where
-    by : (b : Bool) → has a t ≡ b → b ≡ false
-    by false e = refl
-    by true e = absurd (let s = some_has (has a) t e in cc)
+empty_has a t h = by_test (has a t) (λ e. absurd (let s = some_has (has a) t e in cc)) (λ e. e)
 
 pub united_has : (a b : Tokens) (t : Token) → has (united a b) t ≡ (has a t || has b t)
 unfolding united
@@ -70,33 +64,21 @@ without_has a b t = has_set (λ t. has a t && not (has b t)) t
 pub none_held : (t : Token) → has no_token t ≡ false
 none_held t = has_set (λ t. false) t
 
--- ---- a side that holds a token
-
-lacks_not : (b : Bool) → not b ≡ true → b ≡ true → ⊥
-lacks_not true h k = cc
-lacks_not false h k = cc
-
-is_data_is : (s : State) (t : Token) → has s.held t ≡ true → lacks s data_token ≡ true → is_data t ≡ false
-is_data_is s data_token h l = absurd (lacks_not _ l h)
-is_data_is s minor h l = refl
-is_data_is s major h l = refl
-is_data_is s release h l = refl
-
 is_data_or_minor_is : (s : State) (t : Token) → has s.held t ≡ true → lacks s data_token ≡ true → lacks s minor ≡ true → is_data_or_minor t ≡ false
-is_data_or_minor_is s data_token h l m = absurd (lacks_not _ l h)
-is_data_or_minor_is s minor h l m = absurd (lacks_not _ m h)
+is_data_or_minor_is s data_token h l m = absurd (not_both _ l h)
+is_data_or_minor_is s minor h l m = absurd (not_both _ m h)
 is_data_or_minor_is s major h l m = refl
 is_data_or_minor_is s release h l m = refl
 
 is_no_release_is : (s : State) (t : Token) → has s.held t ≡ true → lacks s data_token ≡ true → lacks s minor ≡ true → lacks s major ≡ true → is_no_release t ≡ false
-is_no_release_is s data_token h l m j = absurd (lacks_not _ l h)
-is_no_release_is s minor h l m j = absurd (lacks_not _ m h)
-is_no_release_is s major h l m j = absurd (lacks_not _ j h)
+is_no_release_is s data_token h l m j = absurd (not_both _ l h)
+is_no_release_is s minor h l m j = absurd (not_both _ m h)
+is_no_release_is s major h l m j = absurd (not_both _ j h)
 is_no_release_is s release h l m j = refl
 
 -- a good unit does not need a token that its taker holds
 pub held_needs : (s : State) (t : Token) (u : Meaning) → has s.held t ≡ true → Good s u → needs_token t u ≡ false
-held_needs s t (DT o) h g = is_data_is s t h g.met.0
+held_needs s t (DT o) h g = grind (arith, not_both)
 held_needs s t (MIP c n o) h g =
     let a = and_parts (lacks s data_token) (lacks s minor) g.met.1.0 in is_data_or_minor_is s t h a.0 a.1
 held_needs s t (MAP n o) h g =
@@ -110,10 +92,6 @@ held_needs s t _ h g = refl
 pub record Holds (t : Token) (s : State) : Type 0 where
   pub held : has s.held t ≡ true
   pub phase : may_hold s.phase ≡ true
-
-chosen : (P : State → Type 0) (b : Bool) (x y : State) → (b ≡ true → P x) → (b ≡ false → P y) → P (if b then x else y)
-chosen P true x y h k = h refl
-chosen P false x y h k = k refl
 
 -- it goes on holding it, until a restart stands
 pub becomes_holds : (t : Token) (s : State) (u : Meaning) → is_plain u ≡ true → Good s u → stops s u ≡ false → Holds t s → Holds t (becomes s u)
@@ -140,35 +118,22 @@ next_holds t s u f st h = fit_cases (Holds t) s u f h (λ d g. becomes_holds t s
 
 -- what is acted on there shows nothing, where the data token is held
 seen_nothing : (s : State) (u : Meaning) (v : List Item) → needs_token data_token u ≡ false → stops s u ≡ false → seen s u v ≡ v
-seen_nothing s (DT o) v h st = absurd (cc)
-seen_nothing s (MIP c n o) v h st = absurd (cc)
-seen_nothing s (MAP n o) v h st = absurd (cc)
-seen_nothing s (RS k n w o) v h st = rw st refl
-seen_nothing s _ v h st = refl
+seen_nothing s u v h st = grind arith
 
 same_view : (s : State) (u : Meaning) (v : List Item) → Fits s u → stops s u ≡ false → has s.held data_token ≡ true → view_next s u v ≡ v
-same_view s u v f st h = by (drops s u) refl
-  where
-    by : (b : Bool) → drops s u ≡ b → (if b then v else seen s u v) ≡ v
-    by true d = refl
-    by false d = seen_nothing s u v (held_needs s data_token u h (f.good d)) st
+same_view s u v f st h = by_test (drops s u) (λ d. rw d) (λ d. rw d (seen_nothing s u v (held_needs s data_token u h (f.good d)) st))
 
 -- where this side holds the data token, nothing that is under way to it before a restart shows anything
 pub nothing_to_see : (s : State) (us : List Meaning) (v : List Item) → Holds data_token s → AllFit s us → heard_view s us v ≡ v
 nothing_to_see s [] v h f = refl
 nothing_to_see s (u ∷ us) v h f =
-    by (stops s u) refl (λ e. nothing_to_see (next s u) us (view_next s u v) (next_holds data_token s u f.0 e h) f.1)
-  where
-    by : (b : Bool) → stops s u ≡ b → (stops s u ≡ false → heard_view (next s u) us (view_next s u v) ≡ view_next s u v)
-        → (if b then v else heard_view (next s u) us (view_next s u v)) ≡ v
-    by true e more = refl
-    by false e more = more e ∙ same_view s u v f.0 e h.held
+    by_test (stops s u)
+    (λ e. rw e)
+    (λ e. rw e (let more : (stops s u ≡ false → heard_view (next s u) us (view_next s u v) ≡ view_next s u v) = (λ e. nothing_to_see (next s u) us (view_next s u v) (next_holds data_token s u f.0 e h) f.1) in more e ∙ same_view s u v f.0 e h.held))
 
 -- it still holds it when it has heard all before a restart
 pub heard_holds : (t : Token) (s : State) (us : List Meaning) → Holds t s → AllFit s us → Holds t (heard s us)
 heard_holds t s [] h f = h
-heard_holds t s (u ∷ us) h f = by (stops s u) refl (λ e. heard_holds t (next s u) us (next_holds t s u f.0 e h) f.1)
-  where
-    by : (b : Bool) → stops s u ≡ b → (stops s u ≡ false → Holds t (heard (next s u) us)) → Holds t (if b then s else heard (next s u) us)
-    by true e more = h
-    by false e more = more e
+heard_holds t s (u ∷ us) h f = by_test (stops s u)
+    (λ e. rw e h)
+    (λ e. rw e (let more : (stops s u ≡ false → Holds t (heard (next s u) us)) = (λ e. heard_holds t (next s u) us (next_holds t s u f.0 e h) f.1) in more e))

@@ -2,19 +2,14 @@
 use Rattle.std.proofs.Common.{◌≡◌, refl, sym, ap, subst, Bool, true, false, ◌&&◌, if◌then◌else◌, List}
 use Rattle.osi_machine.specs.Floor.{State, Phase, Meaning, CN, AC, RF, DT, GT, PT, MIP, MIA, MAP, MAA, RS, RA, FN, DN, NF, AB, AA, is_wait_cn, is_connecting, is_restarting, is_restart_due, takes_data, takes_please, takes_minor_ack, takes_restart, is_ready, is_major_asked, is_releasing, may_ask, is_expected, is_acceptable, becomes, stands, drops, next, Good}
 use Rattle.osi_machine.specs.Histories.{Item}
-use Rattle.osi_machine.specs.Taking.{seen}
 use Rattle.osi_machine.specs.Channels.{is_plain, Fits, stops, hears, view_next}
-use Rattle.osi_machine.proofs.PhaseLaws.{excluded}
+use Rattle.osi_machine.proofs.PhaseLaws.{excluded, by_test}
 
 -- ---- a unit is dropped, or acted on
 
 -- what is left by a unit: what was, where it is discarded, else what the table says
 pub next_cases : (P : State → Type 0) (s : State) (u : Meaning) → (drops s u ≡ true → P s) → (drops s u ≡ false → P (becomes s u)) → P (next s u)
-next_cases P s u h k = by (drops s u) h k
-  where
-    by : (b : Bool) → (b ≡ true → P s) → (b ≡ false → P (becomes s u)) → P (if b then s else becomes s u)
-    by true h k = h refl
-    by false h k = k refl
+next_cases P s u h k = by_test (drops s u) (λ e. rw e (let h = rw e at h in h refl)) (λ e. rw e (let k = rw e at k in k refl))
 
 -- the same, of a unit that fits
 pub fit_cases : (P : State → Type 0) (s : State) (u : Meaning) → Fits s u → P s → (drops s u ≡ false → Good s u → P (becomes s u)) → P (next s u)
@@ -26,7 +21,7 @@ next_dropped s u d = ap (λ (b : Bool). if b then s else becomes s u) d
 pub next_acted : (s : State) (u : Meaning) → drops s u ≡ false → next s u ≡ becomes s u
 next_acted s u d = ap (λ (b : Bool). if b then s else becomes s u) d
 
-and_false : (b : Bool) → (b && false) ≡ false
+pub and_false : (b : Bool) → (b && false) ≡ false
 and_false true = refl
 and_false false = refl
 
@@ -80,25 +75,19 @@ pub due_next : (s : State) (u : Meaning) → is_restart_due s.phase ≡ true →
 due_next s u h f = fit_cases (λ r. r ≡ s) s u f refl (λ d g. absurd (let n = none_due s.phase u h f.plain in let e = g.expected in cc))
 
 pub due_stops : (s : State) (u : Meaning) → is_restart_due s.phase ≡ true → Fits s u → stops s u ≡ false
-due_stops s u h f = by (stops s u) refl
-  where
-    by : (b : Bool) → stops s u ≡ b → b ≡ false
-    by false e = refl
-    by true e = absurd (
-        let g = f.good (restart_acted s u e) in
-        let n = none_due s.phase u h f.plain in
-        let x = g.expected in cc)
+due_stops s u h f = by_test (stops s u)
+    (λ e. absurd (
+    let g = f.good (restart_acted s u e) in
+    let n = none_due s.phase u h f.plain in
+    let x = g.expected in cc))
+    (λ e. e)
 
 pub due_view : (s : State) (u : Meaning) (v : List Item) → is_restart_due s.phase ≡ true → Fits s u → view_next s u v ≡ v
-due_view s u v h f = by (drops s u) refl
-  where
-    by : (b : Bool) → drops s u ≡ b → (if b then v else seen s u v) ≡ v
-    by true d = refl
-    by false d = absurd (let n = none_due s.phase u h f.plain in let e = (f.good d).expected in cc)
+due_view s u v h f = by_test (drops s u) (λ d. rw d) (λ d. absurd (let n = none_due s.phase u h f.plain in let e = (f.good d).expected in cc))
 
 -- ---- no unit leads to Restarting
 
-chosen : (P : State → Type 0) (b : Bool) (x y : State) → P x → P y → P (if b then x else y)
+pub chosen : (P : State → Type 0) (b : Bool) (x y : State) → P x → P y → P (if b then x else y)
 chosen P true x y h k = h
 chosen P false x y h k = k
 

@@ -1,7 +1,7 @@
 -- What the record of a side tells is what the side has seen, and whether it awaits the answer to a restart.
 use Rattle.std.proofs.Common.{◌≡◌, refl, sym, ◌∙◌, ap, ℕ, ◌+◌, Bool, true, false, not, ◌||◌, if◌then◌else◌, List, [], ◌∷◌, ◌++◌, arith}
 use Rattle.osi_session.specs.Shown.{Shown}
-use Rattle.osi_machine.specs.Floor.{State, FunctionalUnits, Call, Accept, Refuse, Data, Give, Please, Minor, MinorConfirm, Major, MajorConfirm, Restart, RestartConfirm, Release, ReleaseAccept, ReleaseRefuse, Abort, Meaning, CN, AC, RF, DT, GT, PT, MIP, MIA, MAP, MAA, RS, RA, FN, DN, NF, AB, AA, Phase, is_over, is_wait_cn, is_connecting, is_answering, is_ready, is_major_asked, is_major_due, is_releasing, is_release_due, is_restarting, is_restart_due, may_restart, takes_restart, takes_data, stands, is_acceptable, becomes, shown_for, after, may_call, agreed_base, both_units, functional_units, Good}
+use Rattle.osi_machine.specs.Floor.{State, FunctionalUnits, Call, Accept, Data, Give, Please, Minor, MinorConfirm, Major, MajorConfirm, Restart, RestartConfirm, Release, ReleaseRefuse, Meaning, CN, AC, DT, GT, PT, MIP, MIA, MAP, MAA, RS, RA, FN, NF, Phase, is_over, is_wait_cn, is_connecting, is_answering, is_ready, is_major_asked, is_major_due, is_releasing, is_release_due, is_restarting, is_restart_due, may_restart, takes_restart, takes_data, stands, is_acceptable, becomes, shown_for, after, may_call, agreed_base, both_units, functional_units, Good}
 use Rattle.osi_machine.specs.Histories.{Item, Octets, Point, PointKind, points, cutat, minor_kind, major_point}
 use Rattle.osi_machine.specs.Taking.{seen, got_in}
 use Rattle.osi_machine.specs.Channels.{is_plain}

@@ -6,30 +6,24 @@ use Rattle.osi_machine.specs.Histories.{Item, Octets, Point, points, minor_kind,
 use Rattle.osi_machine.specs.Taking.{seen}
 use Rattle.osi_machine.specs.Channels.{is_plain, Fits, AllFit, stops, heard, view_next, heard_view}
 use Rattle.osi_machine.specs.Parties.{is_opening}
-use Rattle.osi_machine.proofs.PhaseLaws.{implied, excluded}
-use Rattle.osi_machine.proofs.Units.{next_acted}
+use Rattle.osi_machine.proofs.PhaseLaws.{implied, excluded, by_test}
+use Rattle.osi_machine.proofs.Units.{next_acted, chosen}
 use Rattle.osi_machine.proofs.NumberLaws.{Turned, heard_turned}
 use Rattle.osi_machine.proofs.HistoryLaws.{points_append}
+use Rattle.osi_machine.proofs.Consistent.{one_taken, opened_count}
 
 -- what holds of each state and view up to a restart that stands, or of all
 pub until_heard : (P : State → List Item → Type 0) → ((s : State) (u : Meaning) (v : List Item) → Fits s u → stops s u ≡ false → P s v → P (next s u) (view_next s u v)) →
     (s : State) (us : List Meaning) (v : List Item) → P s v → AllFit s us → P (heard s us) (heard_view s us v)
 until_heard P step s [] v h f = h
 until_heard P step s (u ∷ us) v h f =
-    by (stops s u) refl (λ e. until_heard P step (next s u) us (view_next s u v) (step s u v f.0 e h) f.1)
-  where
-    by : (b : Bool) → stops s u ≡ b → (stops s u ≡ false → P (heard (next s u) us) (heard_view (next s u) us (view_next s u v)))
-        → P (if b then s else heard (next s u) us) (if b then v else heard_view (next s u) us (view_next s u v))
-    by true e more = h
-    by false e more = more e
+    by_test (stops s u)
+    (λ e. rw e h)
+    (λ e. rw e (let more : (stops s u ≡ false → P (heard (next s u) us) (heard_view (next s u) us (view_next s u v))) = (λ e. until_heard P step (next s u) us (view_next s u v) (step s u v f.0 e h) f.1) in more e))
 
 -- one unit that fits: it is discarded, or acted on
 pub view_cases : (P : State → List Item → Type 0) (s : State) (u : Meaning) (v : List Item) → Fits s u → P s v → (Good s u → P (becomes s u) (seen s u v)) → P (next s u) (view_next s u v)
-view_cases P s u v f h k = by (drops s u) refl
-  where
-    by : (b : Bool) → drops s u ≡ b → P (if b then s else becomes s u) (if b then v else seen s u v)
-    by true d = h
-    by false d = k (f.good d)
+view_cases P s u v f h k = by_test (drops s u) (λ d. rw d h) (λ d. rw d (k (f.good d)))
 
 -- ---- V(M) counts
 
@@ -37,19 +31,8 @@ pub record Counted (s : State) (v : List Item) : Type 0 where
   pub count : s.numbers.next ≡ s.base + points v
   pub fresh : is_opening s.phase ≡ true → v ≡ []
 
-one_octets : (n base : ℕ) (b : Bool) (octets : List ℕ) (v : List Item) → n ≡ base + points v → n ≡ base + points (if b then v else v ++ Octets octets ∷ [])
-one_octets n base true octets v h = h
-one_octets n base false octets v h = let e = points_append v (Octets octets ∷ []) in omega arith
-
 one_point : (n base : ℕ) (v : List Item) (i : Item) → points (i ∷ []) ≡ 1 → n ≡ base + points v → n + 1 ≡ base + points (v ++ i ∷ [])
 one_point n base v i one h = let e = points_append v (i ∷ []) in omega arith
-
-none_counted : (base : ℕ) (v : List Item) → v ≡ [] → base ≡ base + points v
-none_counted base v e = rw e (omega arith)
-
-chosen : (P : State → Type 0) (b : Bool) (x y : State) → P x → P y → P (if b then x else y)
-chosen P true x y h k = h
-chosen P false x y h k = k
 
 becomes_counted : (s : State) (u : Meaning) (v : List Item) → is_plain u ≡ true → Good s u → stops s u ≡ false → Counted s v → Counted (becomes s u) (seen s u v)
 unfolding point_taken minor_confirmed major_confirmed
@@ -57,8 +40,8 @@ becomes_counted s (CN w r n x from to z o) v p g st h =
     let e = h.fresh (implied is_wait_cn is_opening refl s.phase g.expected) in
     chosen (λ q. Counted q v) (is_acceptable w r z) _ _ (record { count = h.count; fresh = λ k. e }) (record { count = h.count; fresh = λ k. e })
 becomes_counted s (AC w r n x z o) v p g st h =
-    record { count = none_counted _ v (h.fresh (implied is_connecting is_opening refl s.phase g.expected)); fresh = λ k. absurd (cc) }
-becomes_counted s (DT o) v p g st h = record { count = one_octets _ _ s.units.duplex o v h.count; fresh = λ k. absurd (let e = excluded takes_data is_opening refl s.phase g.expected in cc) }
+    record { count = opened_count _ v (h.fresh (implied is_connecting is_opening refl s.phase g.expected)); fresh = λ k. absurd (cc) }
+becomes_counted s (DT o) v p g st h = record { count = one_taken _ _ s.units.duplex o v h.count; fresh = λ k. absurd (let e = excluded takes_data is_opening refl s.phase g.expected in cc) }
 becomes_counted s (GT k) v p g st h = record { count = h.count; fresh = h.fresh }
 becomes_counted s (PT k o) v p g st h = h
 becomes_counted s (MIP c n o) v p g st h = record {
@@ -135,10 +118,12 @@ major_turned s i o = record { phase = refl; answers = refl }
 
 pub unseen : (s : State) (us : List Meaning) (v : List Item) → AllFit s us → (heard s us).numbers.answers ≡ false → points (heard_view s us v) ≡ points v
 unseen s [] v f n = refl
-unseen s (u ∷ us) v f n = by (stops s u) refl (λ m. unseen (next s u) us (view_next s u v) f.1 m) n
+unseen s (u ∷ us) v f n = by_test (stops s u)
+    (λ e. rw e)
+    (λ e. rw e (let more : ((heard (next s u) us).numbers.answers ≡ false → points (heard_view (next s u) us (view_next s u v)) ≡ points (view_next s u v)) = (λ m. unseen (next s u) us (view_next s u v) f.1 m) in let m = rw e at n in more m ∙ shown e m))
   where
     none_shown : (w : Meaning) → Fits s w → AllFit (next s w) us → stops s w ≡ false → (heard (next s w) us).numbers.answers ≡ false → drops s w ≡ false → points (seen s w v) ≡ points v
-    none_shown (DT o) g more st m d = sym (one_octets (points v) 0 s.units.duplex o v (omega arith) ∙ omega arith)
+    none_shown (DT o) g more st m d = sym (one_taken (points v) 0 s.units.duplex o v (omega arith) ∙ omega arith)
     none_shown (MIP c i o) g more st m d = absurd (
         let a = (g.good d).expected in
         let t = heard_turned (next s (MIP c i o)) us (subst Turned (sym (next_acted s (MIP c i o) d)) (minor_turned s c i o a)) more in
@@ -152,16 +137,7 @@ unseen s (u ∷ us) v f n = by (stops s u) refl (λ m. unseen (next s u) us (vie
     none_shown _ g more st m d = refl
 
     shown : stops s u ≡ false → (heard (next s u) us).numbers.answers ≡ false → points (view_next s u v) ≡ points v
-    shown st m = each (drops s u) refl
-      where
-        each : (b : Bool) → drops s u ≡ b → points (if b then v else seen s u v) ≡ points v
-        each true d = refl
-        each false d = none_shown u f.0 f.1 st m d
-
-    by : (b : Bool) → stops s u ≡ b → ((heard (next s u) us).numbers.answers ≡ false → points (heard_view (next s u) us (view_next s u v)) ≡ points (view_next s u v))
-        → (if b then s else heard (next s u) us).numbers.answers ≡ false → points (if b then v else heard_view (next s u) us (view_next s u v)) ≡ points v
-    by true e more m = refl
-    by false e more m = more m ∙ shown e m
+    shown st m = by_test (drops s u) (λ d. rw d) (λ d. rw d (none_shown u f.0 f.1 st m d))
 
 -- ---- one point more
 

@@ -1,5 +1,5 @@
 -- Over every list of steps of the core, the records of both sides tell what each has seen.
-use Rattle.std.proofs.Common.{◌≡◌, refl, sym, ◌∙◌, ap, subst, ℕ, Bool, true, false, not, if◌then◌else◌, List, [], ◌∷◌, ◌++◌, map, Option, Some, None, Ok, Err}
+use Rattle.std.proofs.Common.{◌≡◌, refl, sym, ◌∙◌, ap, subst, ℕ, Bool, true, false, not, if◌then◌else◌, List, [], ◌∷◌, ◌++◌, map, Option, Some, None, Ok, Err, arith}
 use Rattle.std.specs.List.{AllByRecursion}
 use Rattle.osi_session.specs.Shown.{Shown}
 use Rattle.osi_machine.specs.Floor.{CallError, State, Call, Granted, Answer, Outcome, Meaning, is_over, nothing, good, drops, allowed, respond_unit}
@@ -18,6 +18,7 @@ use Rattle.osi_machine.proofs.TakeMoves.{stands_at}
 use Rattle.osi_machine.proofs.Dispatch.{turned_stands, step_stands, run_stands}
 use Rattle.osi_machine.proofs.Promises.{views_agree}
 use Rattle.osi_machine.proofs.ViewFold.{Tells, told_all, call_tells, unit_tells}
+use Rattle.osi_machine.proofs.PhaseLaws.{by_test}
 
 -- ---- a record, entry by entry
 
@@ -45,10 +46,7 @@ told_answer t c true (Some e) = t
 told_answer t c false e = t
 
 one_answer : (side : Side) (t : Told) (c : Call) (e : Option CallError) → told_by t (record_of side 1 (call_answered side 1 c e ∷ [])) ≡ told_answer t c true e
-one_answer Left t c None = refl
-one_answer Left t c (Some e) = refl
-one_answer Right t c None = refl
-one_answer Right t c (Some e) = refl
+one_answer side t c e = grind arith
 
 call_told : (side : Side) (t : Told) (s : State) (c : Call) → told_by t (record_of side 1 (call_entries side s c)) ≡ told_answer t c (stays_in_core c) (error_of (allowed s c))
 call_told side t s c = by (stays_in_core c) (error_of (allowed s c))
@@ -92,13 +90,7 @@ answer_tells laws w c (Err d) t k e s h = h
 
 called_tells : SessionLaws → (w : Core) (c : Call) (t : Told) → Stands w → Tells t w.own.session w.own.view w.own.said w.own.got
     → Tells (told_answer t c (stays_in_core c) (error_of (allowed w.own.session c))) (called w c).own.session (called w c).own.view (called w c).own.said (called w c).own.got
-called_tells laws w c t s h = by (stays_in_core c) refl
-  where
-    by : (b : Bool) → stays_in_core c ≡ b → Tells (told_answer t c b (error_of (allowed w.own.session c)))
-        (if b then answered w c (allowed w.own.session c) else w).own.session (if b then answered w c (allowed w.own.session c) else w).own.view
-        (if b then answered w c (allowed w.own.session c) else w).own.said (if b then answered w c (allowed w.own.session c) else w).own.got
-    by true k = answer_tells laws w c (allowed w.own.session c) t k refl s h
-    by false k = h
+called_tells laws w c t s h = by_test (stays_in_core c) (λ k. rw k (answer_tells laws w c (allowed w.own.session c) t k refl s h)) (λ k. rw k h)
 
 called_peer : (w : Core) (c : Call) (t : Told) → Tells t w.peer.session w.peer.view w.peer.said w.peer.got → Tells t (called w c).peer.session (called w c).peer.view (called w c).peer.said (called w c).peer.got
 called_peer w c t h = by (stays_in_core c) (allowed w.own.session c)
@@ -123,26 +115,16 @@ pub taken_tells : (w : Core) (us : List Meaning) (t : Told) → w.peer.sent ≡ 
     → (shown : List Shown) → shown_of w us ≡ shown → Tells (told_all t shown) (taking w us).own.session (taking w us).own.view (taking w us).own.said (taking w us).own.got
 taken_tells w [] t e s h shown k = subst (λ (i : List Shown). Tells (told_all t i) w.own.session w.own.view w.own.said w.own.got) k h
 taken_tells w (u ∷ us) t e s h shown k =
-    subst (λ (i : List Shown). Tells (told_all t i) (taking w (u ∷ us)).own.session (taking w (u ∷ us)).own.view (taking w (u ∷ us)).own.said (taking w (u ∷ us)).own.got) k (by (drops w.own.session u) refl)
-  where
-    f : AllFit w.own.session (u ∷ us)
-    f = (stands_at w (u ∷ us) e s).own.fits
-
-    lives : is_over w.own.session.phase ≡ false
-    lives = alive w.owner w.own w.peer s.own
-
-    same : respond_unit w.own.session u ≡ (if drops w.own.session u then nothing w.own.session else good w.own.session u)
-    same = no_fault w.own.session u lives f.0
-
-    acts : is_acted_on w.own.session u ≡ not (drops w.own.session u)
-    acts = fit_acts w.own.session u lives f.0
-
-    by : (b : Bool) → drops w.own.session u ≡ b → Wanted w u t (respond_unit w.own.session u) (is_acted_on w.own.session u)
-    by true d = subst (Wanted w u t (respond_unit w.own.session u)) (sym (acts ∙ ap not d))
-        (subst (λ (o : Outcome). Wanted w u t o false) (sym (same ∙ ap (λ (b : Bool). if b then nothing w.own.session else good w.own.session u) d)) h)
-    by false d = subst (Wanted w u t (respond_unit w.own.session u)) (sym (acts ∙ ap not d))
-        (subst (λ (o : Outcome). Wanted w u t o true) (sym (same ∙ ap (λ (b : Bool). if b then nothing w.own.session else good w.own.session u) d))
-        (unit_tells t w.own.session u w.own.view w.own.said w.own.got f.0.plain (f.0.good d) (λ o. let z = s.consistent.own.fresh o in (z.view, z.said, z.got)) h))
+    let f : AllFit w.own.session (u ∷ us) = (stands_at w (u ∷ us) e s).own.fits in
+    let lives : is_over w.own.session.phase ≡ false = alive w.owner w.own w.peer s.own in
+    let same : respond_unit w.own.session u ≡ (if drops w.own.session u then nothing w.own.session else good w.own.session u) = no_fault w.own.session u lives f.0 in
+    let acts : is_acted_on w.own.session u ≡ not (drops w.own.session u) = fit_acts w.own.session u lives f.0 in
+    subst (λ (i : List Shown). Tells (told_all t i) (taking w (u ∷ us)).own.session (taking w (u ∷ us)).own.view (taking w (u ∷ us)).own.said (taking w (u ∷ us)).own.got) k (by_test (drops w.own.session u)
+    (λ d. subst (Wanted w u t (respond_unit w.own.session u)) (sym (acts ∙ ap not d))
+    (subst (λ (o : Outcome). Wanted w u t o false) (sym (same ∙ ap (λ (b : Bool). if b then nothing w.own.session else good w.own.session u) d)) h))
+    (λ d. subst (Wanted w u t (respond_unit w.own.session u)) (sym (acts ∙ ap not d))
+    (subst (λ (o : Outcome). Wanted w u t o true) (sym (same ∙ ap (λ (b : Bool). if b then nothing w.own.session else good w.own.session u) d))
+    (unit_tells t w.own.session u w.own.view w.own.said w.own.got f.0.plain (f.0.good d) (λ o. let z = s.consistent.own.fresh o in (z.view, z.said, z.got)) h))))
 
 taken_peer : (w : Core) (us : List Meaning) (t : Told) → Tells t w.peer.session w.peer.view w.peer.said w.peer.got → Tells t (taking w us).peer.session (taking w us).peer.view (taking w us).peer.said (taking w us).peer.got
 taken_peer w [] t h = h
@@ -174,11 +156,7 @@ step_tells laws w (call_at Right c) left right s h =
       right = subst (λ (t : Told). Tells t (called (turned w) c).own.session (called (turned w) c).own.view (called (turned w) c).own.said (called (turned w) c).own.got) (sym (call_told Right right w.peer.session c))
           (called_tells laws (turned w) c right (turned_stands w s) h.right);
     }
-step_tells laws w (take_at Left) left right s h = record {
-  left = subst (λ (t : Told). Tells t (takes w).own.session (takes w).own.view (takes w).own.said (takes w).own.got) (sym (take_told Left left w w.peer.sent))
-      (taken_tells w w.peer.sent left refl s h.left (shown_of w w.peer.sent) refl);
-  right = subst (λ (t : Told). Tells t (takes w).peer.session (takes w).peer.view (takes w).peer.said (takes w).peer.got) (sym (take_untold Left right w.own.session w.peer.sent)) (taken_peer w w.peer.sent right h.right);
-}
+step_tells laws w (take_at Left) left right s h = search (Tells, take_told, taken_tells, take_untold, taken_peer)
 step_tells laws w (take_at Right) left right s h = record {
   left = subst (λ (t : Told). Tells t (takes (turned w)).peer.session (takes (turned w)).peer.view (takes (turned w)).peer.said (takes (turned w)).peer.got) (sym (take_untold Right left w.peer.session w.own.sent)) (taken_peer (turned w) w.own.sent left h.left);
   right = subst (λ (t : Told). Tells t (takes (turned w)).own.session (takes (turned w)).own.view (takes (turned w)).own.said (takes (turned w)).own.got) (sym (take_told Right right (turned w) w.own.sent))
@@ -194,12 +172,7 @@ run_tells laws w (step ∷ steps) left right small s h =
     let one = step_tells laws w step left right s h in
     let more = run_tells laws (core_step w step) steps (told_by left (record_of Left 1 (core_entries w step))) (told_by right (record_of Right 1 (core_entries w step)))
     small.1 (step_stands laws w step small.0 s) one in
-    record {
-      left = subst (λ (t : Told). Tells t (core_run (core_step w step) steps).own.session (core_run (core_step w step) steps).own.view (core_run (core_step w step) steps).own.said (core_run (core_step w step) steps).own.got)
-          (sym (told_more Left left (core_entries w step) (core_journal (core_step w step) steps))) more.left;
-      right = subst (λ (t : Told). Tells t (core_run (core_step w step) steps).peer.session (core_run (core_step w step) steps).peer.view (core_run (core_step w step) steps).peer.said (core_run (core_step w step) steps).peer.got)
-          (sym (told_more Right right (core_entries w step) (core_journal (core_step w step) steps))) more.right;
-    }
+    search (Tells, told_more)
 
 starts_told : (o : Offer) → TellBoth (core_start o) (untold Left o) (untold Right o)
 starts_told o = record {

@@ -1,9 +1,9 @@
 -- A connection of the machine, at every step: it was asked for and not yet agreed to, or one of which nothing
 -- is lost repeats it; and what the records of both sides tell.
-use Rattle.std.proofs.Common.{◌≡◌, refl, sym, ◌∙◌, subst, ℕ, Bool, true, false, List, [], ◌∷◌, ◌⊎◌, inl, inr, Ok, Err}
+use Rattle.std.proofs.Common.{◌≡◌, refl, sym, ◌∙◌, subst, ℕ, Bool, true, false, List, [], ◌∷◌, ◌⊎◌, inl, inr, Ok, Err, arith}
 use Rattle.osi_machine.specs.Floor.{Call, HasSerial, Answer, allowed, is_profile}
 use Rattle.osi_machine.specs.Core.{Offer, CanBeOffered, Left, Right}
-use Rattle.osi_machine.specs.Worlds.{Message, unit, ask, agree, deny, bye, over, Transport, not_yet, waiting, linked, closing, gone, World, session_of, asked_with, after_answer, Terms, accepts, denies, message_taken, closed, ended_at, shown_at_end, turned}
+use Rattle.osi_machine.specs.Worlds.{Message, Transport, World, session_of, asked_with, after_answer, Terms, message_taken, closed, ended_at, shown_at_end, turned}
 use Rattle.osi_machine.specs.Machine.{error_of, without_first}
 use Rattle.osi_machine.specs.Views.{Told, untold}
 use Rattle.osi_machine.proofs.CoreLaws.{SessionLaws}
@@ -14,6 +14,7 @@ use Rattle.osi_machine.proofs.ProjectWorld.{Repeats, told_answer, turned_repeats
 use Rattle.osi_machine.proofs.ProjectSteps.{message_repeats, close_repeats, break_repeats, end_repeats}
 use Rattle.osi_machine.proofs.ProjectStart.{Opens, nothing_sent, Refuses, asked_opens, caller_refuses, called_refuses, caller_ends, called_ends, break_opens}
 use Rattle.osi_machine.proofs.ProjectOpen.{caller_takes, called_takes}
+use Rattle.osi_machine.proofs.Projects.{not_both}
 
 -- seen from the caller, from the called side, or once it was agreed to from either
 abbrev pub Stage : Bool → World → Told → Told → Type 0
@@ -58,40 +59,7 @@ called_stage laws b w s t c small (inr (inr h)) =
 -- ---- a message
 
 pub message_offer : (b : Bool) (terms : Terms) (k : ℕ) (tr : Transport) (w : World) (m : Message) → (message_taken b terms k tr w m).world.offer ≡ w.offer
-message_offer b (accepts class) k not_yet w ask = refl
-message_offer b (denies reason) k not_yet w ask = refl
-message_offer b terms k not_yet w (unit u) = refl
-message_offer b terms k not_yet w agree = refl
-message_offer b terms k not_yet w (deny r) = refl
-message_offer b terms k not_yet w (bye r) = refl
-message_offer b terms k not_yet w over = refl
-message_offer b terms k waiting w (unit u) = refl
-message_offer b terms k waiting w ask = refl
-message_offer b terms k waiting w agree = refl
-message_offer b terms k waiting w (deny r) = refl
-message_offer b terms k waiting w (bye r) = refl
-message_offer b terms k waiting w over = refl
-message_offer b terms k linked w (unit u) = refl
-message_offer b terms k linked w ask = refl
-message_offer b terms k linked w agree = refl
-message_offer b terms k linked w (deny r) = refl
-message_offer b terms k linked w (bye r) = refl
-message_offer b terms k linked w over = refl
-message_offer b terms k closing w (unit u) = refl
-message_offer b terms k closing w ask = refl
-message_offer b terms k closing w agree = refl
-message_offer b terms k closing w (deny r) = refl
-message_offer b terms k closing w (bye r) = refl
-message_offer b terms k closing w over = refl
-message_offer b terms k gone w (unit u) = refl
-message_offer b terms k gone w ask = refl
-message_offer b terms k gone w agree = refl
-message_offer b terms k gone w (deny r) = refl
-message_offer b terms k gone w (bye r) = refl
-message_offer b terms k gone w over = refl
-
-apart : {A : Type 0} (b : Bool) → b ≡ true → b ≡ false → A
-apart b p q = absurd (cc)
+message_offer b terms k tr w m = grind arith
 
 taken_stage : SessionLaws → (terms : Terms) (b : Bool) (w : World) (s t : Told) (k : ℕ) (x : Message) (xs : List Message) → w.peer.channel ≡ x ∷ xs → Stage b w s t
     → Stage b (taking_of b terms k w x xs).world (told_all s (taking_of b terms k w x xs).shown) t
@@ -106,8 +74,8 @@ taken_stage laws terms b w s t k x xs e (inr (inr h)) = inr (inr (message_repeat
 
 closed_stage : SessionLaws → (terms : Terms) (b : Bool) (w : World) (s t : Told) (k : ℕ) (x : Message) (xs : List Message) → w.peer.channel ≡ x ∷ xs → Stage b w s t
     → (taking_of b terms k w x xs).closes ≡ true → Stage b (closed b k (taking_of b terms k w x xs).world) (told_all s (taking_of b terms k w x xs).shown) t
-closed_stage laws terms b w s t k x xs e (inl h) c = apart (taking_of b terms k w x xs).closes c (caller_takes b terms k w s t x xs h e).stays_open
-closed_stage laws terms b w s t k x xs e (inr (inl h)) c = apart (taking_of b terms k w x xs).closes c (called_takes b terms k w t s x xs h e).stays_open
+closed_stage laws terms b w s t k x xs e (inl h) c = not_both (taking_of b terms k w x xs).closes c (caller_takes b terms k w s t x xs h e).stays_open
+closed_stage laws terms b w s t k x xs e (inr (inl h)) c = not_both (taking_of b terms k w x xs).closes c (called_takes b terms k w t s x xs h e).stays_open
 closed_stage laws terms b w s t k x xs e (inr (inr h)) c =
     let y = message_repeats laws b terms k w s t x xs h e in
     let both = y.over_now c in
