@@ -1,12 +1,11 @@
 -- The call of Accept keeps what is true of both sides.
 use Rattle.std.proofs.Common.{◌≡◌, refl, sym, ◌∙◌, ap, subst, ℕ, Bool, true, false, not, ◌&&◌, if◌then◌else◌, List, [], ◌∷◌, ◌++◌, Ok, arith}
 use Rattle.std.proofs.lemmas.Bool.{and_parts, and_from}
-use Rattle.std.specs.List.{list_any}
 use Rattle.osi_session.specs.Respond.{agreed_base}
-use Rattle.osi_machine.specs.Floor.{TokenSetting, TsduMaximumSize, State, FunctionalUnits, Sides, Meaning, AC, Tokens, Token, data_token, has, available, functional_units, both_units, units_within, has_data, is_profile, settle, setting_of, of_asker, of_answerer, stated, answers_wishes, base_for, serial_for, opened_with, is_answering, is_connecting, is_restarting, is_restart_due, may_hold, Accept, are_sizes, answered_sizes, becomes, drops, next}
-use Rattle.osi_machine.specs.Histories.{Item, AreNumberedFrom}
+use Rattle.osi_machine.specs.Floor.{TokenSetting, TsduMaximumSize, State, FunctionalUnits, Sides, Meaning, AC, Tokens, Token, has, available, functional_units, both_units, units_within, has_data, is_profile, settle, setting_of, of_asker, of_answerer, stated, answers_wishes, base_for, serial_for, opened_with, is_answering, is_connecting, is_restarting, is_restart_due, may_hold, Accept, are_sizes, answered_sizes, becomes, drops, next}
+use Rattle.osi_machine.specs.Histories.{Item}
 use Rattle.osi_machine.specs.Owners.{turned_owners, settled_by}
-use Rattle.osi_machine.specs.Channels.{Fits, flush, heard, hears, heard_view, data_of, needs_token}
+use Rattle.osi_machine.specs.Channels.{Fits, flush, heard, hears, heard_view, data_of}
 use Rattle.osi_machine.specs.Core.{Party, Core, answered}
 use Rattle.osi_machine.specs.Parties.{is_opening, IsFresh, AreConsistent}
 use Rattle.osi_machine.proofs.PhaseLaws.{implied, excluded, implied_two, if_first}
@@ -269,15 +268,7 @@ pair_kept w u n a z o q =
     let r = accepting w.own.session u n a z in
     let end = empty_end r w.peer.sent (none_under_way w u q) in
     let nothing : w.history ++ [] ≡ [] = append_nil w.history ∙ sym (own_seen w u q) ∙ (q.all.consistent.own.fresh (implied is_answering is_opening refl w.own.session.phase q.answering)).view in
-    record {
-      numbered = subst (AreNumberedFrom (flush r w.peer.sent).base) (sym nothing) tt;
-      one_way = λ d.
-          let was = within_half (functional_units u) w.own.session.units q.within (ap (λ (s : State). s.units.half_duplex) (sym end) ∙ d) in
-          ap (λ (b : Bool). b && list_any (needs_token data_token) w.peer.sent) (list_any_append (needs_token data_token) w.own.sent (acceptance w.own.session u n a z o) refl)
-          ∙ q.all.pair.one_way (ap (λ (s : State). s.units.half_duplex) (own_end w u q) ∙ was);
-      callers = q.all.pair.callers;
-      profile = subst (λ (e : State). IsOfProfile e.units) (sym end) q.profile;
-    }
+    grind (arith, within_half, list_any_append, own_end, IsOfProfile)
 
 -- ---- the call
 

@@ -30,22 +30,10 @@ pub record Acted (s : State) (u : Meaning) : Type 0 where
   pub good : Good s u
 
 pub acted : (s : State) (u : Meaning) → is_acted_on s u ≡ true → Acted s u
-acted s u h =
-    let a = and_parts (not (is_over s.phase)) (not (drops s u) && (is_expected s.phase u && is_none (first_fault (si u) (conditions s u)))) h in
-    let b = and_parts (not (drops s u)) (is_expected s.phase u && is_none (first_fault (si u) (conditions s u))) a.1 in
-    let d = and_parts (is_expected s.phase u) (is_none (first_fault (si u) (conditions s u))) b.1 in
-    search (not-true, all_met, none_is)
+acted s u h = grind (arith, and_parts, not-true, all_met, none_is)
 
 pub is_acted : (s : State) (u : Meaning) → Acted s u → is_acted_on s u ≡ true
-is_acted s u h =
-    let o = h.lives in
-    let d = h.heeds in
-    let e = h.good.expected in
-    let f = no_fault_of (si u) (conditions s u) h.good.met in
-    parts (is_over s.phase) (drops s u) (is_expected s.phase u) (first_fault (si u) (conditions s u)) o d e f
-  where
-    parts : (o d e : Bool) (f : Option UnitFault) → o ≡ false → d ≡ false → e ≡ true → f ≡ None → (not o && (not d && (e && is_none f))) ≡ true
-    parts o d e f p q r t = rw (p, q, r, t) refl
+is_acted s u h = grind (arith, no_fault_of)
 
 over_parts : (p : Phase) → is_over p ≡ (is_aborting p || is_ended p)
 over_parts WaitTransport = refl

@@ -1,19 +1,16 @@
 -- A step of one connection changes no other.
 use Rattle.std.proofs.Common.{◌≡◌, refl, sym, ◌∙◌, ap, ℕ, Bool, true, false, if◌then◌else◌, List, [], ◌∷◌, map, Option, Some, None, is_some, arith}
 use Rattle.osi_session.specs.declared.faults.CallError.TheVariants as error
-use Rattle.osi_machine.specs.Floor.{Call, allowed}
+use Rattle.osi_machine.specs.Floor.{Call}
 use Rattle.osi_machine.specs.Core.{Side, Left, Right}
-use Rattle.osi_machine.specs.Worlds.{Class, class_0, class_2, Message, World, session_of, after_answer, Taking, message_taken, closed}
-use Rattle.osi_machine.specs.Machine.{Ending, closed_here, Machine, connection_at, seen_from, end_of, stays, noted, is_given, shown_at, call_in, side_of, marked_ended, closes_by, after_taking, without_first, learns, taken_in, delivered_to}
+use Rattle.osi_machine.specs.Worlds.{Class, class_0, class_2, Message, World, Taking, message_taken, closed}
+use Rattle.osi_machine.specs.Machine.{Ending, closed_here, Machine, connection_at, seen_from, end_of, stays, noted, shown_at, call_in, side_of, marked_ended, closes_by, after_taking, without_first, learns, taken_in, delivered_to}
 use Rattle.osi_machine.specs.Runs.{AreApart}
 use Rattle.osi_machine.proofs.Places.{with_other, there_still}
 use Rattle.osi_machine.proofs.PhaseLaws.{by_test}
 
 call_other : (m : Machine) (side : Side) (r : ℕ) (c : Call) (k : ℕ) → (k ≡ r → ⊥) → (a : Option World) → connection_at k (call_in m side r c (side_of side a)).worlds ≡ connection_at k m.worlds
-call_other m side r c k n None = refl
-call_other m side r c k n (Some w) = by_test (is_given (seen_from side w).own.transport)
-    (λ e. rw e (with_other k r m.worlds (seen_from side (after_answer m.broken c (seen_from side w) (allowed (session_of (seen_from side w)) c))) n))
-    (λ e. rw e)
+call_other m side r c k n a = grind (arith, with_other)
 
 ended_now : (side : Side) (m : Machine) → end_of side (marked_ended side closed_here m) ≡ Some closed_here
 ended_now Left m = refl

@@ -1,5 +1,5 @@
 -- Channels: one more unit at the end, and what every unit on the way keeps.
-use Rattle.std.proofs.Common.{◌≡◌, refl, sym, ◌∙◌, ap, subst, ℕ, Bool, true, false, if◌then◌else◌, List, [], ◌∷◌, ◌++◌, append_assoc}
+use Rattle.std.proofs.Common.{◌≡◌, refl, sym, ◌∙◌, ap, subst, ℕ, Bool, true, false, if◌then◌else◌, List, [], ◌∷◌, ◌++◌, append_assoc, arith}
 use Rattle.osi_machine.specs.Floor.{State, Meaning, is_restart_due, next}
 use Rattle.osi_machine.specs.Channels.{Fits, AllFit, flush, stops, heard, hears, view_next, heard_view, data_in, data_of}
 use Rattle.osi_machine.specs.Histories.{Item}
@@ -107,13 +107,7 @@ alike R step s r [] h f = record { fits = tt; flush = h; heard = h }
 alike R step s r (u ∷ us) h f =
     let one = step s r u h f.0 in
     let more = alike R step (next s u) (next r u) us one.next f.1 in
-    record {
-      fits = (one.fits, more.fits);
-      flush = more.flush;
-      heard = rw one.stops (by_test (stops s u)
-          (λ e. rw e h)
-          (λ e. rw e (let k : R (heard (next s u) us) (heard (next r u) us) = more.heard in k)));
-    }
+    grind (arith, by_test)
 
 -- and what is seen is the same, where each unit shows the same
 pub alike_view : (R : State → State → Type 0) → ((s r : State) (u : Meaning) → R s r → Fits s u → Steps R s r u) →

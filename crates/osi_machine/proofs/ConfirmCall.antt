@@ -2,7 +2,7 @@
 use Rattle.std.proofs.Common.{◌≡◌, refl, sym, ◌∙◌, ap, subst, ℕ, ◌+◌, ◌-◌, ◌==◌, ◌≤◌, ◌<◌, Bool, true, false, not, ◌&&◌, ◌||◌, nat_le, nat_lt, if◌then◌else◌, List, [], ◌⊎◌, inl, inr, Ok, arith}
 use Rattle.std.proofs.lemmas.Bool.{and_parts, ltb-true, leb-true, lt-ltb, le-leb, eq-eqb, cases_lt, and_from}
 use Rattle.std.specs.List.{list_any}
-use Rattle.osi_machine.specs.Floor.{State, Phase, Numbers, FunctionalUnits, Ready, MajorDue, Meaning, AC, RF, DT, GT, PT, MIP, MIA, MAP, MAA, RS, RA, FN, DN, NF, AB, AA, data_token, is_wait_cn, is_connecting, is_ready, is_major_asked, is_major_due, is_releasing, is_release_due, is_restarting, is_restart_due, in_major, may_hold, may_confirm_minor, takes_minor_ack, lower, point_taken, minor_confirmed, major_confirmed, becomes, drops, next, Good, MinorConfirm, MajorConfirm}
+use Rattle.osi_machine.specs.Floor.{State, Phase, Numbers, FunctionalUnits, Ready, MajorDue, Meaning, AC, DT, GT, PT, MIP, MIA, MAP, MAA, RS, RA, FN, NF, data_token, is_wait_cn, is_connecting, is_ready, is_major_asked, is_major_due, is_releasing, is_release_due, is_restarting, is_restart_due, in_major, may_hold, may_confirm_minor, takes_minor_ack, lower, point_taken, minor_confirmed, major_confirmed, becomes, drops, next, Good, MinorConfirm, MajorConfirm}
 use Rattle.osi_machine.specs.Histories.{Item, points, AreNumberedFrom}
 use Rattle.osi_machine.specs.Taking.{seen}
 use Rattle.osi_machine.specs.Channels.{is_plain, AllFit, heard_view, stops, needs_token}
@@ -104,12 +104,7 @@ confirmed_at n s = record s { numbers = minor_confirmed n s.numbers }
 
 confirm_good : (n : ℕ) (s : State) (u : Meaning) → s.numbers.answers ≡ true → is_plain u ≡ true → Good s u → Good (confirmed_at n s) u
 unfolding minor_confirmed
-confirm_good n s (MIA m o) a p g = absurd (let b = and_parts (not s.numbers.answers) _ g.met.1.0 in not_both s.numbers.answers b.0 a)
-confirm_good n s (RF r o) a p g = absurd (cc)
-confirm_good n s (DN o) a p g = absurd (cc)
-confirm_good n s (AB b o) a p g = absurd (cc)
-confirm_good n s AA a p g = absurd (cc)
-confirm_good n s _ a p g = record { expected = g.expected; met = g.met }
+confirm_good n s u a p g = grind (arith, and_parts, not_both)
 
 taken_confirmed : (n : ℕ) (v : Numbers) → v.answers ≡ true → point_taken (minor_confirmed n v) ≡ minor_confirmed n (point_taken v)
 unfolding point_taken minor_confirmed

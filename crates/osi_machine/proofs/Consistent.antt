@@ -1,7 +1,7 @@
 -- Each call and each unit keeps what is true of a side by itself.
-use Rattle.std.proofs.Common.{◌≡◌, refl, sym, ◌∙◌, ap, ℕ, ◌+◌, ◌==◌, ◌≤◌, ◌<◌, Bool, true, false, not, ◌&&◌, ◌||◌, nat_le, nat_lt, if◌then◌else◌, List, [], ◌∷◌, ◌++◌, arith}
+use Rattle.std.proofs.Common.{◌≡◌, refl, ◌∙◌, ap, ℕ, ◌+◌, ◌==◌, ◌≤◌, ◌<◌, Bool, true, false, not, ◌&&◌, ◌||◌, nat_le, nat_lt, if◌then◌else◌, List, [], ◌∷◌, ◌++◌, arith}
 use Rattle.std.proofs.lemmas.Bool.{leb-true, ltb-true, eqb-true, and_parts}
-use Rattle.osi_machine.specs.Floor.{State, Phase, FunctionalUnits, Call, Accept, Data, Give, Please, Minor, MinorConfirm, Major, Restart, Release, Meaning, CN, AC, DT, GT, PT, MIP, MIA, MAP, RS, AA, is_ready, is_answering, is_connecting, is_wait_cn, is_major_due, is_releasing, is_restarting, in_major, may_give, may_ask, may_confirm_minor, takes_data, takes_please, takes_minor_ack, may_call, needs, after, is_acceptable, becomes, stands, from_base, point_sent, point_taken, minor_confirmed, major_confirmed, restarted_at, IsSound, Good}
+use Rattle.osi_machine.specs.Floor.{State, Phase, Call, Accept, Data, Give, Please, Minor, MinorConfirm, Major, Restart, Release, Meaning, CN, AC, DT, GT, PT, MIP, MIA, MAP, RS, AA, is_ready, is_answering, is_connecting, is_wait_cn, is_major_due, is_releasing, is_restarting, may_give, may_ask, may_confirm_minor, takes_data, takes_please, takes_minor_ack, may_call, needs, after, is_acceptable, becomes, stands, from_base, point_sent, point_taken, minor_confirmed, major_confirmed, restarted_at, IsSound, Good}
 use Rattle.osi_machine.specs.Histories.{Item, Octets, Point, minor_kind, major_point, points, cutat}
 use Rattle.osi_machine.specs.Taking.{seen, got_in}
 use Rattle.osi_machine.specs.Core.{Party, speaks, view_called, party_taking}
@@ -21,23 +21,10 @@ pub record Lines (s : State) (v : List Item) (said got : List (List ℕ)) : Type
   pub fresh : is_opening s.phase ≡ true → (s.base ≡ 0) × (s.numbers ≡ from_base 0) × (v ≡ []) × (said ≡ []) × (got ≡ [])
 
 pub lines_of : (x : Party) → IsConsistent x → Lines x.session x.view x.said x.got
-lines_of x h = record {
-  count = h.count;
-  major = h.major;
-  asked = h.asked;
-  asker = h.asker;
-  fresh = λ k. let f = h.fresh k in (f.base, f.numbers, f.view, f.said, f.got);
-}
+lines_of x h = grind arith
 
 pub consistent : (x : Party) → IsSound x.session → Lines x.session x.view x.said x.got → IsConsistent x
-consistent x sound h = record {
-  sound = sound;
-  count = h.count;
-  major = h.major;
-  asked = h.asked;
-  asker = h.asker;
-  fresh = λ k. let f = h.fresh k in record { base = f.0; numbers = f.1; view = f.2; said = f.3; got = f.4 };
-}
+consistent x sound h = grind arith
 
 append_nil {ℓ} : {A : Type ℓ} → (xs : List A) → xs ++ [] ≡ xs
 append_nil [] = refl
@@ -73,21 +60,12 @@ or_four a b c d h = grind arith
 
 calm : (s : State) (v : List Item) (said got : List (List ℕ)) → quiet s.phase ≡ true → s.numbers.next ≡ s.base + points v → Lines s v said got
 unfolding quiet
-calm s v said got q h =
-    let f = or_four (is_major_due s.phase) (is_restarting s.phase) (is_releasing s.phase) (is_opening s.phase) q in
-    let a = f.0 in let b = f.1 in let c = f.2 in let d = f.3 in
-    record { count = h; major = λ k. absurd (cc); asked = λ k. absurd (cc); asker = λ k. absurd (cc); fresh = λ k. absurd (cc) }
+calm s v said got q h = grind (arith, quiet, or_four)
 
 -- the phase, the units and the flag stay, and the side has begun
 same_lines : (s r : State) (v w : List Item) (said said' got got' : List (List ℕ)) → r.phase ≡ s.phase → r.units ≡ s.units → r.is_caller ≡ s.is_caller
     → r.numbers.answers ≡ s.numbers.answers → is_opening s.phase ≡ false → r.numbers.next ≡ r.base + points w → Lines s v said got → Lines r w said' got'
-same_lines s r v w said said' got got' p u i a o c h = record {
-  count = c;
-  major = λ k. a ∙ h.major (ap is_major_due (sym p) ∙ k);
-  asked = λ k. ap (λ (u : FunctionalUnits). u.resynchronize) u ∙ h.asked (ap is_restarting (sym p) ∙ k);
-  asker = λ k d. i ∙ h.asker (ap is_releasing (sym p) ∙ k) (ap (λ (u : FunctionalUnits). u.duplex) (sym u) ∙ d);
-  fresh = λ k. absurd (let w = ap is_opening (sym p) ∙ k in cc);
-}
+same_lines s r v w said said' got got' p u i a o c h = grind arith
 
 pub below_if : (b : Bool) (n next : ℕ) → (if b then nat_lt n next else nat_le n next) ≡ true → n ≤ next
 below_if true n next h = let k = ltb-true n next h in omega arith
@@ -113,19 +91,7 @@ call_lines s (MinorConfirm n octets) v said got p t sound h =
     same_lines s _ v _ said _ got got refl refl refl refl (excluded may_confirm_minor is_opening refl s.phase p) (nothing_said _ _ v h.count) h
 call_lines s (Major octets) v said got p t sound h =
     calm _ _ _ _ refl (one_point _ _ 0 v (Point s.numbers.next major_point octets) refl h.count)
-call_lines s (Restart n wishes octets) v said got p t sound h = record {
-  count =
-      let a = and_parts _ _ t.1.0 in
-      let b = and_parts _ _ a.1 in
-      let low = leb-true s.numbers.lowest n a.0 in
-      let top = below_if (in_major s.phase) n s.numbers.next b.1 in
-      let from = sound.ordered.lowest_from in
-      points_cut s.base n v (omega arith) (omega arith);
-  major = λ k. absurd (cc);
-  asked = λ k. t.0;
-  asker = λ k. absurd (cc);
-  fresh = λ k. absurd (cc);
-}
+call_lines s (Restart n wishes octets) v said got p t sound h = grind (arith, and_parts, leb-true, below_if, points_cut)
 call_lines s (Release octets) v said got p t sound h = record {
   count = nothing_said _ _ v h.count;
   major = λ k. absurd (cc);
@@ -139,13 +105,7 @@ call_lines s _ v said got p t sound h = calm _ _ _ _ refl (nothing_said _ _ v h.
 
 pub stood_below : (s : State) (n : ℕ) → (is_restarting s.phase || nat_le n s.numbers.next) ≡ true → stands s n ≡ true → n ≤ s.numbers.next
 unfolding stands
-stood_below s n e st = by (is_restarting s.phase) (nat_lt n s.numbers.next) (nat_le n s.numbers.next) e st (ltb-true n s.numbers.next) (leb-true n s.numbers.next)
-  where
-    by : (r l m : Bool) → (r || m) ≡ true → (not r || (l || ((n == s.numbers.next) && not s.is_caller))) ≡ true
-        → (l ≡ true → n < s.numbers.next) → (m ≡ true → n ≤ s.numbers.next) → n ≤ s.numbers.next
-    by false l m e st f g = g e
-    by true true m e st f g = let k = f refl in omega arith
-    by true false m e st f g = let k = eqb-true n s.numbers.next (and_parts (n == s.numbers.next) (not s.is_caller) st).0 in omega arith
+stood_below s n e st = grind (arith, ltb-true, leb-true, eqb-true, and_parts)
 
 chosen_lines : (P : State → List Item → Type 0) (b : Bool) (x y : State) (v w : List Item) → (b ≡ true → P x v) → (b ≡ false → P y w) → P (if b then x else y) (if b then v else w)
 chosen_lines P true x y v w h k = h refl
@@ -157,13 +117,7 @@ unfolding quiet point_taken minor_confirmed major_confirmed restarted_at
 unit_lines s (CN version_2 requirements serial wishes from to sizes octets) v said got g sound h =
     let f = h.fresh (implied is_wait_cn is_opening refl s.phase g.expected) in
     chosen (λ r. Lines r v said (got ++ [])) (is_acceptable version_2 requirements sizes) _ _
-    (record {
-      count = h.count;
-      major = λ k. absurd (cc);
-      asked = λ k. absurd (cc);
-      asker = λ k. absurd (cc);
-      fresh = λ k. (f.0, f.1, f.2, f.3, append_nil got ∙ f.4);
-    })
+    (grind arith)
     (calm _ _ _ _ refl h.count)
 unit_lines s (AC version_2 requirements serial sides sizes octets) v said got g sound h =
     let f = h.fresh (implied is_connecting is_opening refl s.phase g.expected) in

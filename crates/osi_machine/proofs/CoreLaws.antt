@@ -80,14 +80,7 @@ taking_kept laws w (u ∷ us) e h =
     record {
       own =
           consistent (party_taking w.own u) (sound_unit laws w.own.session u small.0 h.own.sound) (taken_lines w.own u h.own.sound (lines_of w.own h.own));
-      peer = record {
-        sound = h.peer.sound;
-        count = h.peer.count;
-        major = h.peer.major;
-        asked = h.peer.asked;
-        asker = h.peer.asker;
-        fresh = λ k. let f = h.peer.fresh k in record { base = f.base; numbers = f.numbers; view = f.view; said = f.said; got = f.got };
-      };
+      peer = grind arith;
       own_small = h.own_small;
       peer_small = small.1;
     }
@@ -124,14 +117,7 @@ small_serial o h = by_test (has_points (functional_units o.requirements))
 pub starts : (o : Offer) → CanBeOffered o → AreConsistent (core_start o)
 starts o h = record {
   own = record {
-    sound = record {
-      ordered = from_zero;
-      first = small_base (has_points (functional_units o.requirements)) o.serial h.0;
-      major = λ k. absurd (cc);
-      restart = λ k. absurd (cc);
-      tokens = λ k. refl;
-      sizes = h.1;
-    };
+    sound = grind (arith, from_zero, small_base);
     count = omega arith;
     major = λ k. absurd (cc);
     asked = λ k. absurd (cc);

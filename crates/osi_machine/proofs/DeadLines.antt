@@ -1,10 +1,10 @@
 -- A connection that its caller has left before it was agreed to: nothing comes of it any more.
-use Rattle.std.proofs.Common.{◌≡◌, refl, sym, ◌∙◌, ap, subst, ℕ, zero, suc, Bool, true, false, not, ◌||◌, if◌then◌else◌, List, [], ◌∷◌, take, inl, inr, ◌⊎◌, arith}
+use Rattle.std.proofs.Common.{◌≡◌, refl, sym, ◌∙◌, ap, subst, ℕ, zero, suc, Bool, true, false, not, ◌||◌, if◌then◌else◌, List, [], ◌∷◌, take, ◌⊎◌, arith}
 use Rattle.std.specs.List.{list_any}
 use Rattle.osi_session.specs.declared.faults.CallError.TheVariants as error
 use Rattle.osi_session.specs.Shown.{Lost}
 use Rattle.osi_machine.specs.Floor.{State, Phase, Call, Answer, allowed, is_over, shows_loss}
-use Rattle.osi_machine.specs.Worlds.{Message, unit, ask, bye, over, Transport, not_yet, waiting, linked, closing, gone, Kept, World, turned, session_of, put, after_answer, Terms, accepts, denies, message_taken, ended_at, shown_at_end}
+use Rattle.osi_machine.specs.Worlds.{Message, unit, ask, bye, over, Transport, not_yet, waiting, linked, closing, gone, World, turned, session_of, put, after_answer, Terms, accepts, denies, message_taken, ended_at, shown_at_end}
 use Rattle.osi_machine.specs.Machine.{is_waiting, without_first}
 use Rattle.osi_machine.specs.Views.{Told}
 use Rattle.osi_machine.proofs.PhaseLaws.{implied, if_no}
@@ -122,30 +122,11 @@ pub record IsQuiet (p : Phase) (tr : Transport) (ms : List Message) : Type 0 whe
   pub no_unit : list_any is_unit ms ≡ false
 
 pub opens_quiet : (w : World) (t u : Told) → Opens w t u → IsQuiet w.peer.kept.phase w.peer.transport w.own.channel
-opens_quiet w t u h = record {
-  quiet = elim h.called [
-    | inl i ↦ ap (λ (x : Kept). shows_loss x.phase) i.kept
-    | inr i ↦ elim i [
-      | inl j ↦ ap (λ (x : Kept). shows_loss x.phase) j.kept
-      | inr j ↦ over_quiet w.peer.kept.phase j.over_now
-    ]
-  ];
-  idle = elim h.called [
-    | inl i ↦ ap is_waiting i.transport
-    | inr i ↦ elim i [
-      | inl j ↦ ap is_waiting j.transport
-      | inr j ↦ ap is_waiting j.transport
-    ]
-  ];
-  no_unit = ap (list_any is_unit) h.own_channel ∙ no_unit_asked h.way;
-}
+opens_quiet w t u h = grind (arith, over_quiet, is_unit, no_unit_asked)
 
 -- its caller waits, or has left it
 abbrev pub IsEarly : World → Type 0
 IsEarly w = (w.own.transport ≡ waiting) ⊎ IsDead w
 
 pub opens_early : (w : World) (t u : Told) → Opens w t u → IsEarly w
-opens_early w t u h = elim h.caller [
-  | inl k ↦ inl k.transport
-  | inr k ↦ inr (let q = opens_quiet w t u h in record { left = k.transport; over_now = k.over_now; quiet = q.quiet; idle = q.idle; no_unit = q.no_unit })
-]
+opens_early w t u h = grind (arith, opens_quiet)

@@ -1,6 +1,6 @@
 -- What is under way to a side that has asked for a restart, or that expects nothing.
 use Rattle.std.proofs.Common.{◌≡◌, refl, sym, ◌∙◌, ap, subst, ℕ, Bool, true, false, not, ◌&&◌, ◌||◌, if◌then◌else◌, List, [], ◌∷◌, ◌++◌, ◌⊎◌, inl, inr, arith}
-use Rattle.osi_machine.specs.Floor.{TokenSetting, ResyncType, State, RestartDue, Meaning, RS, RA, AB, is_restarting, is_restart_due, is_expected, has_no_effect, passes_restarting, without_tokens, restarted_at, becomes, stands, drops, next}
+use Rattle.osi_machine.specs.Floor.{TokenSetting, ResyncType, State, RestartDue, Meaning, RS, is_restarting, is_restart_due, is_expected, has_no_effect, passes_restarting, without_tokens, restarted_at, becomes, stands, drops, next}
 use Rattle.osi_machine.specs.Histories.{Item, cutat}
 use Rattle.osi_machine.specs.Taking.{seen}
 use Rattle.osi_machine.specs.Channels.{is_plain, Fits, AllFit, flush, stops, heard, hears, view_next, heard_view}
@@ -116,14 +116,7 @@ abbrev Passes : State → Meaning → State → Type 0
 Passes s u r = ((r ≡ s) × ((v : List Item) → view_next s u v ≡ v)) ⊎ (hears r.phase ≡ true)
 
 deaf_acts : (s : State) (u : Meaning) → is_plain u ≡ true → passes_restarting u ≡ true → Passes s u (becomes s u)
-deaf_acts s (RS k n w o) p q = by (stands s n) refl
-  where
-    by : (b : Bool) → stands s n ≡ b → Passes s (RS k n w o) (if b then record (without_tokens RestartDue s) { wishes = w; numbers = restarted_at n s.numbers } else s)
-    by true e = inr refl
-    by false e = inl (refl, λ v. yielded_view s k n w o v e)
-deaf_acts s (RA n w o) p q = inr refl
-deaf_acts s (AB b o) p q = absurd (cc)
-deaf_acts s _ p q = absurd (cc)
+deaf_acts s u p q = grind (arith, yielded_view)
 
 deaf_next : (s : State) (u : Meaning) → is_restarting s.phase ≡ true → Fits s u → Passes s u (next s u)
 deaf_next s u r f = by_test (drops s u)

@@ -1,10 +1,9 @@
 -- Every step of the core keeps what is true of both sides.
-use Rattle.std.proofs.Common.{◌≡◌, refl, sym, ◌∙◌, ap, subst, ℕ, Bool, true, false, not, ◌&&◌, if◌then◌else◌, List, [], ◌∷◌, Ok, Err}
-use Rattle.std.specs.List.{AllByRecursion, list_any}
-use Rattle.osi_machine.specs.Floor.{FunctionalUnits, Granted, Answer, Call, Accept, Data, Give, Please, Minor, MinorConfirm, Major, MajorConfirm, Restart, RestartConfirm, Release, ReleaseRefuse, HasSerial, Meaning, CN, AC, RF, DT, GT, PT, MIP, MIA, MAP, MAA, RS, RA, FN, DN, NF, AB, AA, data_token, stands, drops, allowed, is_empty}
-use Rattle.osi_machine.specs.Histories.{AreNumberedFrom}
+use Rattle.std.proofs.Common.{◌≡◌, refl, sym, ◌∙◌, subst, ℕ, Bool, true, false, not, ◌&&◌, if◌then◌else◌, List, [], ◌∷◌, Ok, Err, arith}
+use Rattle.std.specs.List.{AllByRecursion}
+use Rattle.osi_machine.specs.Floor.{Granted, Answer, Call, Accept, Data, Give, Please, Minor, MinorConfirm, Major, MajorConfirm, Restart, RestartConfirm, Release, ReleaseRefuse, HasSerial, Meaning, CN, AC, RF, DT, GT, PT, MIP, MIA, MAP, MAA, RS, RA, FN, DN, NF, AB, AA, stands, drops, allowed, is_empty}
 use Rattle.osi_machine.specs.Owners.{Owner, Own, Owners, turned_owner, turned_owners}
-use Rattle.osi_machine.specs.Channels.{is_plain, AllFit, needs_token}
+use Rattle.osi_machine.specs.Channels.{is_plain, AllFit}
 use Rattle.osi_machine.specs.Core.{Core, CoreStep, call_at, take_at, Side, Left, Right, turned, stays_in_core, answered, called, taking, takes, at_side, core_step, core_run}
 use Rattle.osi_machine.specs.Parties.{IsNumberedStep}
 use Rattle.osi_machine.proofs.CoreLaws.{SessionLaws, turned_kept, IsGranted, granted, is_granted}
@@ -73,11 +72,9 @@ unit_stands laws w (MIP c n o) us e d s = calm_stands laws w (MIP c n o) us _ e 
 unit_stands laws w (MIA n o) us e d s = calm_stands laws w (MIA n o) us _ e s (point_confirmed_calm w n o us d)
 unit_stands laws w (MAP n o) us e d s = calm_stands laws w (MAP n o) us _ e s (major_calm w n o us d)
 unit_stands laws w (MAA n o) us e d s = calm_stands laws w (MAA n o) us _ e s (major_confirmed_calm w n o us d)
-unit_stands laws w (RS k n t o) us e d s = by (stands w.own.session n) refl
-  where
-    by : (b : Bool) → stands w.own.session n ≡ b → Stands (taking w (RS k n t o ∷ us))
-    by true st = restart_taken laws w k n t o us e st s
-    by false st = restart_yielded laws w k n t o us e st s
+unit_stands laws w (RS k n t o) us e d s = by_test (stands w.own.session n)
+    (λ st. restart_taken laws w k n t o us e st s)
+    (λ st. restart_yielded laws w k n t o us e st s)
 unit_stands laws w (RA n sides o) us e d s = restarted_taken laws w n sides o us e d s
 unit_stands laws w (FN o) us e d s = calm_stands laws w (FN o) us _ e s (finish_calm w o us d)
 unit_stands laws w (DN o) us e d s = absurd (let p = not_plain w (DN o) us e s in cc)
@@ -87,11 +84,9 @@ unit_stands laws w AA us e d s = absurd (let p = not_plain w AA us e s in cc)
 
 pub taking_stands : SessionLaws → (w : Core) (us : List Meaning) → w.peer.sent ≡ us → Stands w → Stands (taking w us)
 taking_stands laws w [] e s = s
-taking_stands laws w (u ∷ us) e s = by (drops w.own.session u) refl
-  where
-    by : (b : Bool) → drops w.own.session u ≡ b → Stands (taking w (u ∷ us))
-    by true d = dropped_taken laws w u us e d s
-    by false d = unit_stands laws w u us e d s
+taking_stands laws w (u ∷ us) e s = by_test (drops w.own.session u)
+    (λ d. dropped_taken laws w u us e d s)
+    (λ d. unit_stands laws w u us e d s)
 
 -- ---- seen from the other side
 
@@ -103,13 +98,7 @@ pub turned_twice : (o : Owners) → turned_owners (turned_owners o) ≡ o
 turned_twice o = λ i t. twice (o t) i
 
 turned_pair : (w : Core) → Stands w → Pair w.history w.peer w.own
-turned_pair w s = record {
-  numbered = subst (λ (b : ℕ). AreNumberedFrom b w.history) s.own.meeting.base s.pair.numbered;
-  one_way = λ d. swapped (list_any (needs_token data_token) w.own.sent) (list_any (needs_token data_token) w.peer.sent)
-      (s.pair.one_way (ap (λ (u : FunctionalUnits). u.half_duplex) s.own.meeting.units ∙ d));
-  callers = other_way w.own.session.is_caller ∙ ap not (sym s.pair.callers);
-  profile = subst IsOfProfile s.own.meeting.units s.pair.profile;
-}
+turned_pair w s = grind (arith, IsOfProfile)
   where
     swapped : (a b : Bool) → (a && b) ≡ false → (b && a) ≡ false
     swapped true true h = h

@@ -1,6 +1,6 @@
 -- While no class is known each connection waits for its caller's first message, or is dead; and where a called
 -- end denies, no agreement is under way.
-use Rattle.std.proofs.Common.{◌≡◌, refl, sym, ◌∙◌, ap, subst, ℕ, Bool, true, false, List, [], ◌∷◌, take, Option, Some, None, Ok, Err, inl, inr}
+use Rattle.std.proofs.Common.{◌≡◌, refl, sym, ◌∙◌, ap, subst, ℕ, Bool, true, false, List, [], ◌∷◌, take, Option, Some, None, Ok, Err, inl, inr, arith}
 use Rattle.std.specs.List.{list_any}
 use Rattle.osi_machine.specs.Floor.{Meaning, Call, Answer, allowed, respond_unit}
 use Rattle.osi_machine.specs.Worlds.{Message, unit, ask, agree, deny, bye, over, Transport, not_yet, waiting, linked, closing, gone, World, turned, session_of, put, replied, after_answer, Terms, denies, message_taken, closed, ended_at}
@@ -61,10 +61,7 @@ early_takes b terms keep w t u m ms n h (inl e) =
 
 pub early_taken : (b : Bool) (terms : Terms) (keep : ℕ) (w : World) (t u : Told) (m : Message) (ms : List Message) → w.peer.channel ≡ m ∷ ms → Stage b (turned w) t u → IsEarly (turned w)
     → ((message_taken b terms keep w.own.transport (without_first w ms) m).closes ≡ false) × IsEarly (turned (message_taken b terms keep w.own.transport (without_first w ms) m).world)
-early_taken b terms keep w t u m ms f h (inl e) =
-    let k = called_takes b terms keep w t u m ms (waits_opens b (turned w) t u h e) f in
-    (k.stays_open, opens_early _ _ _ k.leads)
-early_taken b terms keep w t u m ms f h (inr d) = let k = dead_taken b terms keep w m ms d f in (k.0, inr k.1)
+early_taken b terms keep w t u m ms f h k = grind (arith, called_takes, waits_opens, opens_early, dead_taken)
 
 pub early_ends : (b : Bool) (keep : ℕ) (w : World) (t u : Told) → Stage b w t u → IsEarly w → IsEarly (ended_at keep w)
 early_ends b keep w t u h (inl e) = opens_early _ _ _ (caller_ends keep w t u (waits_opens b w t u h e))

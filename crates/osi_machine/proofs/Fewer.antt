@@ -1,8 +1,8 @@
 -- A side that gives tokens away: what is under way to it goes on fitting, and leaves it the same but for
 -- those tokens.
-use Rattle.std.proofs.Common.{◌≡◌, refl, sym, ◌∙◌, ap, subst, Bool, true, false, not, ◌&&◌, ◌||◌, if◌then◌else◌, List, ◌⊎◌, inl, inr}
+use Rattle.std.proofs.Common.{◌≡◌, refl, sym, ◌∙◌, ap, subst, Bool, true, false, not, ◌&&◌, ◌||◌, if◌then◌else◌, List, ◌⊎◌, inl, inr, arith}
 use Rattle.std.proofs.lemmas.Bool.{and_parts, or_left, and_from, not-true}
-use Rattle.osi_machine.specs.Floor.{State, Tokens, Meaning, CN, AC, DT, GT, PT, MIP, MIA, MAP, MAA, RS, RA, FN, NF, Token, data_token, minor, major, release, has, some, is_empty, is_within, is_disjoint, without, united, available, lacks, may_ask, is_wait_cn, is_connecting, is_releasing, is_restarting, is_restart_due, becomes, stands, without_tokens, RestartDue, restarted_at, drops, Good}
+use Rattle.osi_machine.specs.Floor.{State, Tokens, Meaning, CN, AC, DT, GT, PT, MIP, MIA, MAP, MAA, RS, RA, FN, NF, Token, data_token, minor, major, release, has, some, is_empty, is_within, is_disjoint, without, united, available, lacks, may_ask, is_wait_cn, is_connecting, is_releasing, is_restarting, is_restart_due, becomes, stands, drops, Good}
 use Rattle.osi_machine.specs.Histories.{Item}
 use Rattle.osi_machine.specs.Channels.{Fits, stops, view_next}
 use Rattle.osi_machine.proofs.PhaseLaws.{excluded, cut_or}
@@ -41,22 +41,13 @@ abbrev pub less : Tokens → State → State
 less k s = record s { held = without s.held k }
 
 still_lacks : (k : Tokens) (s : State) (t : Token) → lacks s t ≡ true → lacks (less k s) t ≡ true
-still_lacks k s t h = ap not (without_has s.held k t ∙ gone (has s.held t) (not (has k t)) h)
-  where
-    gone : (a b : Bool) → not a ≡ true → (a && b) ≡ false
-    gone true b h = absurd (cc)
-    gone false b h = refl
+still_lacks k s t h = grind (arith, without_has)
 
 two_lack : (a b c d : Bool) → (a ≡ true → c ≡ true) → (b ≡ true → d ≡ true) → (a && b) ≡ true → (c && d) ≡ true
 two_lack a b c d f g h = let p = and_parts a b h in let q = f p.0 in let r = g p.1 in rw (q, r) refl
 
 still_disjoint : (k j : Tokens) (s : State) → is_disjoint j s.held ≡ true → is_disjoint j (without s.held k) ≡ true
-still_disjoint k j s h = disjoint_of j (without s.held k) (λ t. none (has j t) (has s.held t) (has (without s.held k) t) (not (has k t)) (disjoint_has j s.held t h) (without_has s.held k t))
-  where
-    none : (a b c d : Bool) → (a && b) ≡ false → c ≡ (b && d) → (a && c) ≡ false
-    none true true c d h e = absurd (cc)
-    none true false c d h e = e
-    none false b c d h e = refl
+still_disjoint k j s h = grind (arith, disjoint_of, disjoint_has, without_has)
 
 still_empty : (k : Tokens) (s : State) → is_empty s.held ≡ true → is_empty (without s.held k) ≡ true
 still_empty k s h = is_empty_of (without s.held k) (λ t. without_has s.held k t ∙ ap (λ (b : Bool). b && not (has k t)) (empty_has s.held t h))
@@ -88,14 +79,7 @@ abbrev pub Fewer : Tokens → State → State → Type 0
 Fewer k s r = ((r ≡ less k s) × Gives k s) ⊎ ((r ≡ s) × (is_restart_due s.phase ≡ true))
 
 gives_something : (k : Tokens) (s : State) → Gives k s → is_empty s.held ≡ true → ⊥
-gives_something k s h e =
-    let none : is_empty k ≡ true = is_empty_of k (λ t. by t (has k t) refl) in
-    let one = h.one in
-    cc
-  where
-    by : (t : Token) (b : Bool) → has k t ≡ b → has k t ≡ false
-    by t false p = p
-    by t true p = absurd (let q = h.all t p in let n = empty_has s.held t e in cc)
+gives_something k s h e = grind (arith, is_empty_of, empty_has)
 
 -- giving and getting other tokens, in either order
 given_and_got : (k j : Tokens) (s : State) → Gives k s → is_disjoint j s.held ≡ true → united (without s.held k) j ≡ without (united s.held j) k
@@ -140,10 +124,7 @@ fewer_becomes k s _ f g st h = absurd (let p = f.plain in cc)
 -- a restart that stands leaves the same
 stands_same : (k : Tokens) (s : State) (u : Meaning) → stops s u ≡ true → becomes (less k s) u ≡ becomes s u
 unfolding stands
-stands_same k s (RS j n w o) st =
-    let after : State = record (without_tokens RestartDue s) { wishes = w; numbers = restarted_at n s.numbers } in
-    ap (λ (b : Bool). if b then after else less k s) st ∙ sym (ap (λ (b : Bool). if b then after else s) st)
-stands_same k s _ st = absurd (cc)
+stands_same k s u st = grind arith
 
 fewer_stops : (k : Tokens) (s : State) (u : Meaning) → stops (less k s) u ≡ stops s u
 unfolding stands

@@ -1,10 +1,9 @@
 -- The call of Give keeps what is true of both sides.
 use Rattle.std.proofs.Common.{◌≡◌, refl, sym, ◌∙◌, ap, subst, ℕ, Bool, true, false, not, ◌&&◌, ◌||◌, if◌then◌else◌, List, [], ◌∷◌, ◌++◌, inl, inr, Ok, arith}
-use Rattle.std.specs.List.{list_any}
-use Rattle.osi_machine.specs.Floor.{State, FunctionalUnits, GT, Tokens, Token, data_token, has, available, is_empty, is_within, may_give, may_ask, may_hold, is_restarting, is_restart_due, Give, drops, next}
-use Rattle.osi_machine.specs.Histories.{Item, cutat, AreNumberedFrom}
+use Rattle.osi_machine.specs.Floor.{State, FunctionalUnits, GT, Tokens, Token, has, available, is_empty, is_within, may_give, may_ask, may_hold, is_restarting, is_restart_due, Give, drops, next}
+use Rattle.osi_machine.specs.Histories.{Item, cutat}
 use Rattle.osi_machine.specs.Owners.{Owner, ToThem, turned_owner, turned_owners, is_own, is_to_own, is_absent, passed_to}
-use Rattle.osi_machine.specs.Channels.{Fits, flush, heard, hears, heard_view, data_of, needs_token}
+use Rattle.osi_machine.specs.Channels.{Fits, flush, heard, hears, heard_view, data_of}
 use Rattle.osi_machine.specs.Core.{Party, Core, answered}
 use Rattle.osi_machine.specs.Parties.{is_opening, AreConsistent}
 use Rattle.osi_machine.proofs.PhaseLaws.{implied, excluded, implied_two, by_either}
@@ -42,11 +41,7 @@ pub record Giving (w : Core) (k : Tokens) : Type 0 where
   pub one : is_empty k ≡ false
 
 gives : (w : Core) (k : Tokens) → Giving w k → Gives k w.own.session
-gives w k g = record {
-  phase = implied may_give may_ask refl w.own.session.phase g.phase;
-  all = λ t p. within_has k w.own.session.held t g.held p;
-  one = g.one;
-}
+gives w k g = grind (arith, within_has)
 
 -- the channel to the giver, before and after
 runs : (w : Core) (k : Tokens) → Giving w k → Half w.owner w.own w.peer → Runs (Fewer k) w.own.session (less k w.own.session) w.peer.sent
@@ -199,16 +194,7 @@ own_like_end : (w : Core) (k : Tokens) → Giving w k → Half w.owner w.own w.p
 own_like_end w k g h = like _ _ (but_held k (flushed w.own w.peer) _ (runs w k g h).flush)
 
 own_views : (w : Core) (k : Tokens) → Giving w k → Half w.owner w.own w.peer → Views w.history w.own w.peer → Views (w.history ++ []) (giver w.own k) w.peer
-own_views w k g h v = record {
-  ends = λ l. same_seen w k g h (w.own.view ++ []) ∙ ap (heard_view w.own.session w.peer.sent) (append_nil w.own.view)
-      ∙ v.ends (ap hears (sym (own_like_heard w k g h).phase) ∙ l) ∙ sym (append_nil w.history);
-  cut = λ r. append_nil w.own.view ∙ v.cut (ap is_restarting (sym (own_like_heard w k g h).phase) ∙ r)
-      ∙ ap (λ (a : List Item). cutat w.own.session.base a w.own.session.numbers.next) (sym (append_nil w.history));
-  due = λ d. v.due d ∙ sym (append_nil w.history);
-  stream = λ d.
-      let s = v.stream (ap (λ (u : FunctionalUnits). u.duplex) (sym (own_like_end w k g h).units) ∙ d) in
-      (data_same s.0, append_nil w.history ∙ s.1);
-}
+own_views w k g h v = grind (arith, same_seen, append_nil, own_like_heard, own_like_end)
   where
     data_same : w.own.got ++ data_of w.peer.sent ≡ w.peer.said → w.own.got ++ data_of w.peer.sent ≡ w.peer.said
     data_same e = e
@@ -271,12 +257,5 @@ give_stands w k g s c = record {
       s.peer_counts (itself w.peer.session) (peer_like_heard w k g s.own s.peer) (own_like_heard w k g s.own) (like w.own.session (less k w.own.session) refl);
   pair =
       let e = own_like_end w k g s.own in
-      record {
-        numbered = subst (λ (b : ℕ). AreNumberedFrom b (w.history ++ [])) (sym e.base)
-            (subst (AreNumberedFrom (flushed w.own w.peer).base) (sym (append_nil w.history)) s.pair.numbered);
-        one_way = λ d. ap (λ (b : Bool). b && list_any (needs_token data_token) w.peer.sent) (list_any_append (needs_token data_token) w.own.sent (GT k) refl)
-            ∙ s.pair.one_way (ap (λ (u : FunctionalUnits). u.half_duplex) (sym e.units) ∙ d);
-        callers = s.pair.callers;
-        profile = subst IsOfProfile (sym e.units) s.pair.profile;
-      };
+      grind (arith, flushed, append_nil, list_any_append, IsOfProfile);
 }

@@ -1,7 +1,7 @@
 -- What a side will have seen when it has heard all before a restart that stands, and what is confirmed then.
-use Rattle.std.proofs.Common.{◌≡◌, refl, sym, ◌∙◌, ap, subst, ℕ, ◌+◌, ◌≤◌, ◌<◌, Bool, true, false, not, nat_le, if◌then◌else◌, List, [], ◌∷◌, ◌++◌, append_assoc, arith}
+use Rattle.std.proofs.Common.{◌≡◌, refl, sym, ◌∙◌, ap, subst, ℕ, ◌+◌, ◌≤◌, ◌<◌, Bool, true, false, if◌then◌else◌, List, [], ◌∷◌, ◌++◌, append_assoc, arith}
 use Rattle.std.proofs.lemmas.Bool.{leb-true, ltb-true, and_parts}
-use Rattle.osi_machine.specs.Floor.{State, Meaning, CN, AC, RF, DT, GT, PT, MIP, MIA, MAP, MAA, RS, RA, FN, DN, NF, AB, AA, is_major_asked, is_wait_cn, is_connecting, is_acknowledgeable, point_taken, minor_confirmed, major_confirmed, becomes, drops, Good, next}
+use Rattle.osi_machine.specs.Floor.{State, Meaning, CN, AC, RF, DT, GT, PT, MIP, MIA, MAP, MAA, RS, RA, FN, DN, NF, AB, AA, is_wait_cn, is_connecting, is_acknowledgeable, point_taken, minor_confirmed, major_confirmed, becomes, drops, Good, next}
 use Rattle.osi_machine.specs.Histories.{Item, Octets, Point, minor_kind, major_point, points, Begins}
 use Rattle.osi_machine.specs.Taking.{seen}
 use Rattle.osi_machine.specs.Channels.{is_plain, Fits, AllFit, stops, heard, hears, view_next, heard_view}
@@ -49,14 +49,7 @@ pub record Grown (a : ℕ) (s : State) : Type 0 where
   pub to : s.numbers.confirmed ≤ s.numbers.next
 
 acked_from : (s : State) (n : ℕ) → is_acknowledgeable s n ≡ true → (s.numbers.confirmed ≤ n) × (n < s.numbers.next)
-acked_from s n h =
-    let a = and_parts (not s.numbers.answers) _ h in
-    let b = and_parts (nat_le s.numbers.confirmed n) _ a.1 in (
-      leb-true s.numbers.confirmed n b.0,
-      by_test (is_major_asked s.phase)
-          (λ q. let e = rw q at b.1 in let k = ltb-true (n + 1) s.numbers.next e in omega arith)
-          (λ q. let e = rw q at b.1 in ltb-true n s.numbers.next e),
-    )
+acked_from s n h = grind (arith, and_parts, leb-true, ltb-true)
 
 taken_from : (a c n : ℕ) (b : Bool) → a ≤ c → c ≤ n → a ≤ (if b then c else n)
 taken_from a c n true h k = h

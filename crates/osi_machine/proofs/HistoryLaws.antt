@@ -48,10 +48,7 @@ points_below (suc k) (Point m kind octets ∷ h) = let e = points_below k h in o
 
 -- where what a restart leaves was seen, more at the end changes it nothing
 pub cut_append : (base n : ℕ) (h more v : List Item) → v ≡ cutat base h n → n ≡ base + points v → cutat base (h ++ more) n ≡ cutat base h n
-cut_append base n h more v e c =
-    let p = ap points e in
-    let q = points_below (n - base) h in
-    upto_append (n - base) h more (omega arith)
+cut_append base n h more v e c = grind (arith, points_below, upto_append)
 
 -- ---- how many points are left
 
@@ -67,10 +64,7 @@ cut_points a b n g h e q =
     ap (λ (x : ℕ). points (cutat x g n)) e ∙ points_upto_least (n - b) g ∙ ap (λ (x : ℕ). (n - b) - ((n - b) - x)) q ∙ sym (points_upto_least (n - b) h)
 
 pub one_point_more : (m n : ℕ) (t v : List Item) (k : PointKind) (octets : List ℕ) → points t ≡ points v → points (t ++ Point m k octets ∷ []) ≡ points (v ++ Point n k octets ∷ [])
-one_point_more m n t v k octets e =
-    let a = points_append t (Point m k octets ∷ []) in
-    let b = points_append v (Point n k octets ∷ []) in
-    omega arith
+one_point_more m n t v k octets e = grind (arith, points_append)
 
 pub no_point_more : (t : List Item) (octets : List ℕ) → points (t ++ Octets octets ∷ []) ≡ points t
 no_point_more t octets = let a = points_append t (Octets octets ∷ []) in omega arith

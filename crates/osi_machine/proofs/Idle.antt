@@ -1,5 +1,5 @@
 -- Calls that send a unit which changes no state: what is sent, and what both sides then are.
-use Rattle.std.proofs.Common.{◌≡◌, refl, sym, ◌∙◌, ap, subst, ℕ, Bool, true, false, not, ◌&&◌, ◌||◌, if◌then◌else◌, List, [], ◌∷◌, ◌++◌, ◌⊎◌, inl, inr}
+use Rattle.std.proofs.Common.{◌≡◌, refl, sym, ◌∙◌, ap, subst, ℕ, Bool, true, false, not, ◌&&◌, ◌||◌, if◌then◌else◌, List, [], ◌∷◌, ◌++◌, ◌⊎◌, inl, inr, arith}
 use Rattle.std.specs.List.{list_any}
 use Rattle.osi_machine.specs.Floor.{State, FunctionalUnits, Meaning, DT, PT, Tokens, Token, data_token, has, available, has_right, is_within, is_ready, may_ask, may_hold, takes_data, takes_please, is_restarting, is_restart_due, becomes, drops, next}
 use Rattle.osi_machine.specs.Histories.{Item}
@@ -8,7 +8,7 @@ use Rattle.osi_machine.specs.Taking.{seen}
 use Rattle.osi_machine.specs.Channels.{Fits, AllFit, flush, stops, heard, hears, view_next, heard_view}
 use Rattle.osi_machine.specs.Core.{Party}
 use Rattle.osi_machine.specs.Parties.{is_opening}
-use Rattle.osi_machine.proofs.PhaseLaws.{implied, excluded, implied_two, if_first, by_either}
+use Rattle.osi_machine.proofs.PhaseLaws.{implied, excluded, implied_two, if_first, by_either, by_test}
 use Rattle.osi_machine.proofs.Units.{next_cases, next_hears}
 use Rattle.osi_machine.proofs.ChannelLaws.{fit_append, flush_append, kept_heard, heard_flush, heard_append, heard_append_due, view_append, view_append_due}
 use Rattle.osi_machine.proofs.Begun.{flush_open, is_lively, ends_lively, is_talking, Talks, ends_talking}
@@ -25,13 +25,10 @@ pub flush_idle : (m : Meaning) → IsIdle m → (s : State) (us : List Meaning) 
 flush_idle m idle s us = flush_append s us m ∙ next_cases (λ r. r ≡ (flush s us)) (flush s us) m (λ d. refl) (λ d. idle (flush s us))
 
 pub heard_idle : (m : Meaning) → IsIdle m → (s : State) (us : List Meaning) → AllFit s us → AllFit s (us ++ m ∷ []) → heard s (us ++ m ∷ []) ≡ heard s us
-heard_idle m idle s us f more = by (is_restart_due (flush s us).phase) refl
-  where
-    by : (b : Bool) → is_restart_due (flush s us).phase ≡ b → heard s (us ++ m ∷ []) ≡ heard s us
-    by true e = heard_append_due s us m more e
-    by false e =
-        heard_append s us m f e ∙ if_first (stops (flush s us) m) (flush s us) (next (flush s us) m) (next_cases (λ r. r ≡ (flush s us)) (flush s us) m (λ d. refl) (λ d. idle (flush s us)))
-        ∙ sym (heard_flush s us f e)
+heard_idle m idle s us f more = by_test (is_restart_due (flush s us).phase)
+    (λ e. heard_append_due s us m more e)
+    (λ e. heard_append s us m f e ∙ if_first (stops (flush s us) m) (flush s us) (next (flush s us) m) (next_cases (λ r. r ≡ (flush s us)) (flush s us) m (λ d. refl) (λ d. idle (flush s us)))
+    ∙ sym (heard_flush s us f e))
 
 -- ---- the two halves after such a call
 
@@ -63,12 +60,7 @@ abbrev pub HasRight : State → Token → Type 0
 HasRight s t = (has s.held t ≡ true) ⊎ (has (available s.units) t ≡ false)
 
 pub right_of : (s : State) (t : Token) → has_right s t ≡ true → HasRight s t
-right_of s t h = by (has (available s.units) t) (has s.held t) refl refl h
-  where
-    by : (a b : Bool) → has (available s.units) t ≡ a → has s.held t ≡ b → (not a || b) ≡ true → HasRight s t
-    by true true e k h = inl k
-    by true false e k h = absurd (cc)
-    by false b e k h = inr e
+right_of s t h = grind arith
 
 own_not_theirs : (o : Owner) → is_own o ≡ true → (is_own (turned_owner o) || is_to_own (turned_owner o)) ≡ false
 own_not_theirs Own h = refl
@@ -192,13 +184,10 @@ own_views h h' x y m v said idle f asked due seen none k = record {
 
 pub view_idle : (m : Meaning) → ((s : State) (v : List Item) → seen s m v ≡ v) → (s : State) (us : List Meaning) (v : List Item) → AllFit s us → AllFit s (us ++ m ∷ [])
     → heard_view s (us ++ m ∷ []) v ≡ heard_view s us v
-view_idle m none s us v f more = by (is_restart_due (flush s us).phase) refl
-  where
-    by : (b : Bool) → is_restart_due (flush s us).phase ≡ b → heard_view s (us ++ m ∷ []) v ≡ heard_view s us v
-    by true e = view_append_due s us m v more e
-    by false e =
-        view_append s us m v f e ∙ if_first (stops (flush s us) m) (heard_view s us v) (view_next (flush s us) m (heard_view s us v))
-        (if_first (drops (flush s us) m) (heard_view s us v) (seen (flush s us) m (heard_view s us v)) (none (flush s us) (heard_view s us v)))
+view_idle m none s us v f more = by_test (is_restart_due (flush s us).phase)
+    (λ e. view_append_due s us m v more e)
+    (λ e. view_append s us m v f e ∙ if_first (stops (flush s us) m) (heard_view s us v) (view_next (flush s us) m (heard_view s us v))
+    (if_first (drops (flush s us) m) (heard_view s us v) (seen (flush s us) m (heard_view s us v)) (none (flush s us) (heard_view s us v))))
 
 pub list_any_append : (p : Meaning → Bool) (us : List Meaning) (m : Meaning) → p m ≡ false → list_any p (us ++ m ∷ []) ≡ list_any p us
 list_any_append p [] m h = rw h refl

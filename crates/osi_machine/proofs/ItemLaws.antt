@@ -1,5 +1,5 @@
 -- Data or a point that is taken is the item of the history at the mark of the side that takes it.
-use Rattle.std.proofs.Common.{◌≡◌, refl, sym, ◌∙◌, ap, subst, ℕ, Bool, true, false, not, ◌&&◌, List, [], ◌∷◌, ◌++◌, take, length, inl, inr, arith}
+use Rattle.std.proofs.Common.{◌≡◌, sym, ◌∙◌, ap, subst, ℕ, Bool, true, false, ◌&&◌, List, [], ◌∷◌, ◌++◌, take, length, inl, inr, arith}
 use Rattle.osi_machine.specs.Floor.{State, Meaning, is_over}
 use Rattle.osi_machine.specs.Histories.{Item, Begins}
 use Rattle.osi_machine.specs.Taking.{is_acted_on}
@@ -18,11 +18,7 @@ use Rattle.osi_machine.proofs.MachineLaws.{stage_at}
 use Rattle.osi_machine.proofs.TableRuns.{no_unit_back, no_unit_out}
 
 acted_lives : (s : State) (u : Meaning) → is_acted_on s u ≡ true → is_over s.phase ≡ false
-acted_lives s u a = by (is_over s.phase) _ a
-  where
-    by : (b c : Bool) → (not b && c) ≡ true → b ≡ false
-    by true c e = absurd (cc)
-    by false c e = refl
+acted_lives s u a = grind arith
 
 last_brings : (s r : State) (u : Meaning) → IsLast r u → brings s u ≡ []
 last_brings s r u l = grind arith

@@ -81,11 +81,7 @@ own_entry side r = rw (self_side side, eq-eqb r r refl) refl
 
 -- what the own record then tells
 pub call_own : (side : Side) (r : ℕ) (t : Told) (c : Call) (e : Option CallError) → told_by t (record_of side r (call_answered side r c e ∷ [])) ≡ told_of_call t c e
-call_own side r t c e = ap (λ (b : Bool). told_by t (if b then call_answered side r c e ∷ [] else [])) (own_entry side r) ∙ by e
-  where
-    by : (f : Option CallError) → told_by t (call_answered side r c f ∷ []) ≡ told_of_call t c f
-    by None = refl
-    by (Some x) = refl
+call_own side r t c e = grind (arith, own_entry)
 
 pub shown_own : (side : Side) (r : ℕ) (t : Told) (shown : List Shown) → told_by t (record_of side r (map (shown_at side r) shown)) ≡ told_all t shown
 shown_own side r t [] = refl

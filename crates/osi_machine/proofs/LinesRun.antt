@@ -1,12 +1,12 @@
 -- What the moves of one connection keep is true of each connection of a machine after every list of steps.
-use Rattle.std.proofs.Common.{◌≡◌, refl, sym, ◌∙◌, ap, subst, ℕ, zero, suc, ◌+◌, ◌==◌, ◌<◌, ◌≤◌, Bool, true, false, not, ◌&&◌, ◌||◌, nat_le, if◌then◌else◌, List, [], ◌∷◌, ◌++◌, map, length, length-append, Option, Some, None, is_some, append_assoc, arith}
-use Rattle.std.specs.List.{AllByRecursion, list_any, slice_get}
+use Rattle.std.proofs.Common.{◌≡◌, refl, sym, ◌∙◌, ap, subst, ℕ, zero, suc, ◌+◌, ◌==◌, ◌<◌, ◌≤◌, Bool, true, false, not, ◌&&◌, ◌||◌, if◌then◌else◌, List, [], ◌∷◌, ◌++◌, map, length, length-append, Option, Some, None, is_some, append_assoc, arith}
+use Rattle.std.specs.List.{AllByRecursion, slice_get}
 use Rattle.osi_session.specs.declared.faults.CallError.TheVariants as error
 use Rattle.osi_session.specs.Shown.{Shown}
 use Rattle.osi_machine.specs.Floor.{CallError, Call, HasSerial, allowed, is_profile}
 use Rattle.osi_machine.specs.Core.{Offer, CanBeOffered, Side, Left, Right}
 use Rattle.osi_machine.specs.Worlds.{Class, class_0, class_2, Message, Transport, World, session_of, asked_with, after_answer, Terms, closed, shown_at_end}
-use Rattle.osi_machine.specs.Machine.{Ending, closed_here, Refusal, Step, connects, calls, delivers, breaks, ends, Entry, connect_answered, call_answered, shown_at, ended, Machine, start, connection_at, replaced, seen_from, end_of, stays, noted, is_given, is_waiting, is_known, is_class_0, live_count, refusal_by, transport_of, refusal, asked_in, error_of, call_in, side_of, ends_there, ended_worlds, shown_in_order, marked_ended, after_end, closes_by, after_taking, learns, taken_in, delivered_to, cut_channels, is_told, step, run, HasNumber}
+use Rattle.osi_machine.specs.Machine.{Ending, closed_here, Refusal, Step, connects, calls, delivers, breaks, ends, Entry, connect_answered, call_answered, shown_at, ended, Machine, start, connection_at, replaced, seen_from, end_of, stays, noted, is_given, refusal_by, transport_of, refusal, asked_in, error_of, call_in, side_of, ends_there, ended_worlds, shown_in_order, marked_ended, after_end, closes_by, after_taking, learns, taken_in, delivered_to, cut_channels, is_told, step, run, HasNumber}
 use Rattle.osi_machine.specs.Views.{Told, told_by, is_side, record_of, untold, told_of}
 use Rattle.osi_machine.proofs.Idle.{append_nil}
 use Rattle.osi_machine.proofs.ViewFold.{told_all}
@@ -50,14 +50,7 @@ pub record IsGood (terms : Terms) (P : Bool → World → Offer → Told → Tol
 
 -- a note that tells nothing
 mute_good : (terms : Terms) (P : Bool → World → Offer → Told → Told → Type 0) (m : Machine) (es : List Entry) → IsMute es → offers_in es ≡ [] → IsGood terms P m → IsGood terms P (noted es m)
-mute_good terms P m es f q g = record {
-  offers = g.offers;
-  lines = mute_lines P m.broken m.journal es 1 m.worlds g.offers f g.lines;
-  fresh = λ d n o l. told_more d n o m.journal es ∙ f d n _ ∙ g.fresh d n o l;
-  none = λ d o. told_more d 0 o m.journal es ∙ f d 0 _ ∙ g.none d o;
-  agreed = g.agreed;
-  asked = none_asked m.journal es q ∙ g.asked;
-}
+mute_good terms P m es f q g = grind (arith, mute_lines, told_more, none_asked)
 
 replaced_length : (r : ℕ) (w : World) (ws : List World) → length (replaced r w ws) ≡ length ws
 replaced_length r w [] = refl
@@ -125,13 +118,7 @@ if_none true e x h = absurd (cc)
 if_none false e x h = (refl, h)
 
 asked_profile : (ended_now : Bool) (known : Option Class) (asked : List Transport) (o : Offer) → refusal_by ended_now known asked o ≡ None → is_profile o.requirements ≡ true
-asked_profile ended_now known asked o h =
-    let a = if_none ended_now _ _ h in
-    let b = if_none (not (is_known known) && list_any is_waiting asked) _ _ a.1 in
-    let c = if_none (is_class_0 known) _ _ b.1 in
-    let d = if_none (nat_le 64 (live_count asked)) _ _ c.1 in
-    let e = if_none (nat_le 65535 (length asked)) _ _ d.1 in
-    not-false (is_profile o.requirements) (if_none (not (is_profile o.requirements)) _ _ e.1).0
+asked_profile ended_now known asked o h = grind (arith, if_none, not-false)
 
 asked_good : (terms : Terms) (P : Bool → World → Offer → Told → Told → Type 0) → IsKept terms P → (m : Machine) (o : Offer) → CanBeOffered o → IsGood terms P m
     → (a : Option Refusal) → refusal m o ≡ a → IsGood terms P (noted (connect_answered o a ∷ []) (asked_in m o a))
@@ -317,14 +304,7 @@ break_good terms P q m left right g = by m.broken refl
   where
     by : (b : Bool) → m.broken ≡ b → IsGood terms P (if b then m else record m { broken = true; worlds = cut_channels left right 1 m.worlds })
     by true e = g
-    by false e = record {
-      offers = g.offers;
-      lines = cut_lines terms P q m.journal left right 1 m.worlds g.offers (subst (λ (b : Bool). Lines P b m.journal 1 m.worlds g.offers) e g.lines);
-      fresh = λ d n o l. g.fresh d n o (let z = cut_length left right 1 m.worlds in omega arith);
-      none = g.none;
-      agreed = g.agreed;
-      asked = g.asked;
-    }
+    by false e = grind (arith, cut_lines, Lines, cut_length)
 
 -- ---- a step, and a list of steps
 

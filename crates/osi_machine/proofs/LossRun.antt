@@ -382,7 +382,10 @@ close_over laws b terms keep w t u x xs e (inr (inr h)) c = ((message_repeats la
 taking_calm : SessionLaws → (m : Machine) (side : Side) (r : ℕ) (keep : ℕ → ℕ) (w : World) (x : Message) (xs : List Message) → connection_at r m.worlds ≡ Some w → is_some (end_of side m) ≡ false
     → (seen_from side w).peer.channel ≡ x ∷ xs → StageOf m.broken w → IsCalm m
     → IsCalm (after_taking (record m { known = learns m.terms (seen_from side w).own.transport x m.known }) side r keep (took m.broken m.terms (keep r) (seen_from side w) x xs))
-taking_calm laws m side r keep w x xs e i f s c = by (took m.broken m.terms (keep r) (seen_from side w) x xs).closes refl
+taking_calm laws m side r keep w x xs e i f s c = by_test (took m.broken m.terms (keep r) (seen_from side w) x xs).closes
+    (λ d. rw d (last (learns m.terms (seen_from side w).own.transport x m.known) refl d))
+    (λ d. rw d (move_calm m (learns m.terms (seen_from side w).own.transport x m.known) side r w (took m.broken m.terms (keep r) (seen_from side w) x xs).world
+    (map (shown_at side r) (took m.broken m.terms (keep r) (seen_from side w) x xs).shown) e moves c))
   where
     none : is_denial m.terms ≡ true → NoAgree w
     none t = all_at NoAgree r m.worlds w e (c.denied t)
@@ -429,16 +432,6 @@ taking_calm laws m side r keep w x xs e i f s c = by (took m.broken m.terms (kee
         let n = ap is_known q in
         let y = all_at IsEarly r m.worlds w e (c.early (moves.before n)) in
         absurd (let z = sym d ∙ (early_side_takes m.broken m.terms (keep r) side w x xs m.known f (λ t. (none_side_takes m.broken m.terms (keep r) side w x xs f t (none t)).0) n s y).0 in cc)
-
-    by : (b : Bool) → (took m.broken m.terms (keep r) (seen_from side w) x xs).closes ≡ b → IsCalm (if b
-        then closes_by (learns m.terms (seen_from side w).own.transport x m.known)
-        (noted (map (shown_at side r) (took m.broken m.terms (keep r) (seen_from side w) x xs).shown) (record m { known = learns m.terms (seen_from side w).own.transport x m.known })) side r keep
-        (took m.broken m.terms (keep r) (seen_from side w) x xs)
-        else noted (map (shown_at side r) (took m.broken m.terms (keep r) (seen_from side w) x xs).shown)
-        (stays (record m { known = learns m.terms (seen_from side w).own.transport x m.known }) side r (took m.broken m.terms (keep r) (seen_from side w) x xs).world))
-    by true d = last (learns m.terms (seen_from side w).own.transport x m.known) refl d
-    by false d = move_calm m (learns m.terms (seen_from side w).own.transport x m.known) side r w (took m.broken m.terms (keep r) (seen_from side w) x xs).world
-        (map (shown_at side r) (took m.broken m.terms (keep r) (seen_from side w) x xs).shown) e moves c
 
 taken_calm : SessionLaws → (m : Machine) (side : Side) (r : ℕ) (keep : ℕ → ℕ) (w : World) → connection_at r m.worlds ≡ Some w → is_some (end_of side m) ≡ false → StageOf m.broken w → IsCalm m
     → (ms : List Message) → (seen_from side w).peer.channel ≡ ms → IsCalm (taken_in m side r keep (seen_from side w) ms)
@@ -543,11 +536,7 @@ run_calm laws terms m (s ∷ steps) small g c =
     run_calm laws terms (step m s) steps small.1 (step_good terms Whole (whole_kept laws terms) m s small.0 g) (step_calm laws terms m s g c)
 
 start_calm : (terms : Terms) → IsCalm (start terms)
-start_calm terms = record { classes = none terms; alone = λ t. tt; early = λ n. tt; denied = λ t. tt; losses = λ d n. refl }
-  where
-    none : (t : Terms) → by_terms t None ≡ true
-    none (accepts class) = refl
-    none (denies r) = refl
+start_calm terms = grind arith
 
 pub losses_have_an_end : SessionLaws → (m : Machine) → IsRun m → LosesByItsEnd m
 losses_have_an_end laws m h side e = subst (λ (x : Machine). list_any (is_loss side) x.journal ≡ true → loses (end_of side x) ≡ true) h.reached (by (loses (end_of side (run (start h.agreed) h.steps))) refl) e

@@ -115,10 +115,7 @@ same_duplex c s e f = ap (λ (u : FunctionalUnits). u.duplex)
 
 -- so that duplex is selected at a side that is open, where either record tells so
 either_duplex : (a b d : Bool) → a ≡ d → (b ≡ false) ⊎ (b ≡ d) → (a || b) ≡ true → d ≡ true
-either_duplex true b d p q h = sym p
-either_duplex false true d p (inl q) h = absurd (cc)
-either_duplex false true d p (inr q) h = sym q
-either_duplex false false d p q h = absurd (cc)
+either_duplex a b d p q h = grind arith
 
 -- what one side is shown
 shown_there : (s t : Told) (c : Core) → Stands c → Tells s c.own.session c.own.view c.own.said c.own.got → Tells t c.peer.session c.peer.view c.peer.said c.peer.got
@@ -166,10 +163,7 @@ duplex_view c s e d =
     nil_begins c.own.view (subst (Begins c.own.view) (s.own_views.stream (ap (λ (u : FunctionalUnits). u.duplex) units ∙ d)).1 (sees_the_history c s))
 
 pointed : (before v : List Item) (n : ℕ) (kind : PointKind) (octets : List ℕ) → Begins (before ++ Point n kind octets ∷ []) v → points v ≡ 0 → ⊥
-pointed before v n kind octets b e =
-    let more = begins_points (before ++ Point n kind octets ∷ []) v b in
-    let one = points_append before (Point n kind octets ∷ []) in
-    omega arith
+pointed before v n kind octets b e = grind (arith, begins_points, points_append)
 
 -- a record that tells a point is of a side without duplex
 told_point : (t : Told) (c : Core) → Stands c → Tells t c.own.session c.own.view c.own.said c.own.got → (before : List Item) (n : ℕ) (kind : PointKind) (octets : List ℕ)

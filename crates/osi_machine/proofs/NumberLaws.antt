@@ -1,8 +1,8 @@
 -- The lower of two numbers, and what the units on the way do to the direction of points.
-use Rattle.std.proofs.Common.{◌≡◌, refl, ℕ, ◌≤◌, ◌<◌, Bool, true, false, ◌||◌, nat_lt, if◌then◌else◌, List, [], ◌∷◌, arith}
+use Rattle.std.proofs.Common.{◌≡◌, refl, ℕ, ◌≤◌, ◌<◌, true, false, ◌||◌, nat_lt, if◌then◌else◌, List, [], ◌∷◌, arith}
 use Rattle.std.proofs.lemmas.Bool.{ltb-true, ltb-false, or_parts}
 use Rattle.std.specs.List.{list_any}
-use Rattle.osi_machine.specs.Floor.{State, Meaning, CN, AC, RF, DT, GT, PT, MIP, MIA, MAP, MAA, RS, RA, FN, DN, NF, AB, AA, data_token, lower, is_wait_cn, is_connecting, is_acceptable, stands, point_taken, minor_confirmed, major_confirmed, restarted_at, becomes, next, Good}
+use Rattle.osi_machine.specs.Floor.{State, Meaning, CN, AC, RF, DT, GT, PT, MIP, MIA, MAP, MAA, RS, RA, FN, DN, NF, AB, AA, data_token, lower, is_wait_cn, is_connecting, stands, point_taken, minor_confirmed, major_confirmed, restarted_at, becomes, next, Good}
 use Rattle.osi_machine.specs.Channels.{is_plain, AllFit, heard, stops, needs_token}
 use Rattle.osi_machine.specs.Parties.{is_opening}
 use Rattle.osi_machine.proofs.PhaseLaws.{implied, by_test}
@@ -12,11 +12,7 @@ use Rattle.osi_machine.proofs.ChannelLaws.{kept_heard}
 -- ---- the lower of two numbers
 
 lower_by : (n m k : ℕ) → (n < m → n ≤ k) → (m ≤ n → m ≤ k) → lower n m ≤ k
-lower_by n m k f g = by (nat_lt n m) (λ e. f (ltb-true n m e)) (λ e. g (ltb-false n m e))
-  where
-    by : (b : Bool) → (b ≡ true → n ≤ k) → (b ≡ false → m ≤ k) → (if b then n else m) ≤ k
-    by true f g = f refl
-    by false f g = g refl
+lower_by n m k f g = grind (arith, ltb-true, ltb-false)
 
 pub lower_first : (n m : ℕ) → lower n m ≤ n
 lower_first n m = lower_by n m n (λ l. omega arith) (λ l. l)
@@ -30,18 +26,10 @@ lower_from n m k p q = by_test (nat_lt n m) (λ e. rw e p) (λ e. rw e q)
 
 -- of lower numbers
 pub lower_less : (m a b c : ℕ) → a ≤ b → lower m b ≤ c → lower m a ≤ c
-lower_less m a b c le h =
-    let p = lower_first m a in
-    let q = lower_second m a in
-    let r = lower_from m b (lower m a) p (omega arith) in
-    omega arith
+lower_less m a b c le h = grind (arith, lower_first, lower_second, lower_from)
 
 pub lower_both : (n m a c : ℕ) → n ≤ m → lower m a ≤ c → lower n a ≤ lower n c
-lower_both n m a c le h =
-    let p = lower_first n a in
-    let q = lower_second n a in
-    let r = lower_from m a (lower n a) (omega arith) q in
-    lower_from n c (lower n a) p (omega arith)
+lower_both n m a c le h = grind (arith, lower_first, lower_second, lower_from)
 
 -- ---- the direction of points
 
@@ -80,12 +68,7 @@ Sends s = s.numbers.answers ≡ false
 -- none but a point turns it
 becomes_sends : (s : State) (u : Meaning) → needs_token data_token u ≡ false → Sends s → Sends (becomes s u)
 unfolding point_taken minor_confirmed major_confirmed restarted_at
-becomes_sends s (CN v u n w from to z o) p h = chosen Sends (is_acceptable v u z) _ _ h h
-becomes_sends s (AC v u n w z o) p h = refl
-becomes_sends s (MIP c n o) p h = absurd (cc)
-becomes_sends s (MAP n o) p h = absurd (cc)
-becomes_sends s (RS k n w o) p h = chosen Sends (stands s n) _ s h h
-becomes_sends s _ p h = h
+becomes_sends s u p h = grind arith
 
 pub heard_sends : (s : State) (us : List Meaning) → list_any (needs_token data_token) us ≡ false → s.numbers.answers ≡ false → (heard s us).numbers.answers ≡ false
 heard_sends s [] n h = h

@@ -43,21 +43,10 @@ pub record Speaks (s : State) : Type 0 where
 -- a number that may be acknowledged still may
 still_acks : (p : Phase) (v : Numbers) (n : ℕ) → (not v.answers && (nat_le v.confirmed n && nat_lt n v.next)) ≡ true
     → (true && (nat_le (if v.answers then v.next else v.confirmed) n && (if is_major_asked p then nat_lt (n + 1) (v.next + 1) else nat_lt n (v.next + 1)))) ≡ true
-still_acks p v n h =
-    let a = and_parts (not v.answers) (nat_le v.confirmed n && nat_lt n v.next) h in
-    let b = and_parts (nat_le v.confirmed n) (nat_lt n v.next) a.1 in
-    and_from (nat_le (if v.answers then v.next else v.confirmed) n) (if is_major_asked p then nat_lt (n + 1) (v.next + 1) else nat_lt n (v.next + 1))
-    (by_test v.answers
-    (λ e. let x = rw e at a.0 in let y : nat_le v.confirmed n ≡ true = b.0 in absurd (cc))
-    (λ e. rw e (let y : nat_le v.confirmed n ≡ true = b.0 in y))) (by_test (is_major_asked p)
-    (λ q. rw q (let l : n < v.next = (ltb-true n v.next b.1) in lt-ltb (n + 1) (v.next + 1) (omega arith)))
-    (λ q. rw q (let l : n < v.next = (ltb-true n v.next b.1) in lt-ltb n (v.next + 1) (omega arith))))
+still_acks p v n h = grind (arith, and_parts, and_from, ltb-true, lt-ltb)
 
 still_below : (b n next : ℕ) → (nat_le b n && (false || nat_le n next)) ≡ true → (nat_le b n && nat_le n (next + 1)) ≡ true
-still_below b n next h =
-    let a = and_parts (nat_le b n) (nat_le n next) h in
-    let l = leb-true n next a.1 in
-    and_from (nat_le b n) (nat_le n (next + 1)) a.0 (le-leb n (next + 1) (omega arith))
+still_below b n next h = grind (arith, and_parts, leb-true, and_from, le-leb)
 
 point_good : (p : Phase) → IsOpenPhase p → (s : State) (u : Meaning) → has s.held data_token ≡ true → is_plain u ≡ true → has_no_effect u ≡ false
     → Good (in_phase Ready s) u → Good (sent_in p s) u
@@ -78,10 +67,7 @@ point_good p k s _ d pl e g = absurd (let a = g.expected in cc)
 -- the flag is off where a confirmation comes
 same_numbers : (v : Numbers) (n : ℕ) → v.answers ≡ false → minor_confirmed n (point_sent v) ≡ point_sent (minor_confirmed n v)
 unfolding point_sent minor_confirmed
-same_numbers v n e = ap (λ (b : Bool). record { next = v.next + 1; confirmed = if b then n + 1 else n + 1; lowest = v.lowest; answers = false }) (sym e)
-    ∙ ap (λ (c : ℕ). record { next = v.next + 1; confirmed = c; lowest = v.lowest; answers = false }) (by_test v.answers
-    (λ q. let h = rw q at e in absurd (cc))
-    (λ q. rw q))
+same_numbers v n e = grind arith
 
 point_step : (p : Phase) (s : State) (u : Meaning) → Speaks s → is_plain u ≡ true → Good (in_phase Ready s) u → stops s u ≡ false
     → (becomes (sent_in p s) u ≡ sent_in p (becomes s u)) × Speaks (becomes s u)
@@ -184,13 +170,7 @@ other_above w n h b e from to = by_either b
 
 -- a unit that is not discarded comes to a side that listens
 heard_there : (s : State) (m : Meaning) → passes_restarting m ≡ false → drops s m ≡ false → is_restarting s.phase ≡ false
-heard_there s m w d = by (has_no_effect m) (is_restarting s.phase) (passes_restarting m) w d
-  where
-    by : (a b c : Bool) → c ≡ false → (a || (b && not c)) ≡ false → b ≡ false
-    by true b c p q = absurd (cc)
-    by false true true p q = absurd (cc)
-    by false true false p q = absurd (cc)
-    by false false c p q = refl
+heard_there s m w d = grind arith
 
 -- a side that hears after it heard before
 pub hears_there : (s : State) (m : Meaning) → passes_restarting m ≡ false → not (is_restarting (next s m).phase) ≡ true → is_restarting s.phase ≡ false

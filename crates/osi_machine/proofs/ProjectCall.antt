@@ -3,11 +3,11 @@ use Rattle.std.proofs.Common.{◌≡◌, refl, sym, ◌∙◌, ap, subst, ℕ, �
 use Rattle.std.proofs.lemmas.List.{length-append, map-append}
 use Rattle.std.specs.List.{list_any}
 use Rattle.osi_session.specs.Allowed.{Passed}
-use Rattle.osi_machine.specs.Floor.{State, Meaning, Token, has, is_over, Call, Accept, Give, Restart, RestartConfirm, Granted, allowed, after, sends, may_call, Numbers}
+use Rattle.osi_machine.specs.Floor.{State, Meaning, Token, is_over, Call, Restart, Granted, allowed, after, sends, may_call, Numbers}
 use Rattle.osi_machine.specs.Histories.{Item, cutat}
 use Rattle.osi_machine.specs.Owners.{Owner, Own, Owners, is_own, turned_owner, given_up, own_to_pool, left_by}
 use Rattle.osi_machine.specs.Channels.{is_plain}
-use Rattle.osi_machine.specs.Core.{Core, stays_in_core, says, speaks, view_called, owners_called, answered}
+use Rattle.osi_machine.specs.Core.{Core, stays_in_core, says, view_called, owners_called, answered}
 use Rattle.osi_machine.specs.Worlds.{Message, unit, Kept, World, put, mark_called, after_call}
 use Rattle.osi_machine.proofs.CoreLaws.{SessionLaws, granted}
 use Rattle.osi_machine.proofs.Records.{Stands}
@@ -54,15 +54,7 @@ carried_more false channel sent s r m h = record {
 -- the last unit of a side
 pub carried_last : (broken : Bool) (channel : List Message) (sent : List Meaning) (s : State) (m : Meaning) → IsLast s m → Carried broken false channel sent s
     → Carried broken true (put broken (unit m ∷ []) channel) sent s
-carried_last true channel sent s m k h = record {
-  there = h.there;
-  lost = h.lost;
-  tail = [];
-  splits = h.splits;
-  carries = h.carries ∙ ap (λ (us : List Meaning). map unit (h.there ++ us)) (none_last s h.lost h.tail h.last);
-  whole = inr refl;
-  last = tt;
-}
+carried_last true channel sent s m k h = grind (arith, none_last)
 carried_last false channel sent s m k h = record {
   there = sent;
   lost = [];
@@ -88,19 +80,11 @@ own_gone Own = refl
 own_gone _ = refl
 
 owns_called : (s : State) (c : Call) (o p : Owners) (t : Token) → is_own (o t) ≡ is_own (p t) → is_own (owners_called s c o t) ≡ is_own (owners_called s c p t)
-owns_called s (Give k) o p t e = by_test (has k t) (λ q. rw q) (λ q. rw q e)
-owns_called s (Accept u n a z x) o p t e = refl
-owns_called s (RestartConfirm a x) o p t e = refl
-owns_called s (Restart n x y) o p t e = own_gone (o t) ∙ sym (own_gone (p t))
-owns_called s _ o p t e = e
+owns_called s c o p t e = grind (arith, own_gone)
 
 theirs_called : (s : State) (c : Call) (o p : Owners) (t : Token) → is_own (turned_owner (o t)) ≡ is_own (turned_owner (p t))
     → is_own (turned_owner (owners_called s c o t)) ≡ is_own (turned_owner (owners_called s c p t))
-theirs_called s (Give k) o p t e = by_test (has k t) (λ q. rw q) (λ q. rw q e)
-theirs_called s (Accept u n a z x) o p t e = refl
-theirs_called s (RestartConfirm a x) o p t e = refl
-theirs_called s (Restart n x y) o p t e = sym (given_theirs (o t)) ∙ e ∙ given_theirs (p t)
-theirs_called s _ o p t e = e
+theirs_called s c o p t e = grind (arith, given_theirs)
 
 -- ---- a call that the core makes too
 
@@ -129,15 +113,7 @@ called_own broken w c x k lives p s q =
     record {
       begun = p.own.begun;
       counted = record { acked = refl; based = refl; marked = marked c x w.history w.own.mark s q p.history a.mark };
-      alike = λ l. record {
-        transport = a.transport;
-        kept = refl;
-        mark = marked c x w.history w.own.mark s q p.history a.mark;
-        said = ap (λ (d : List (List ℕ)). d ++ speaks s' x) a.said;
-        got = a.got;
-        owns = λ t. ap (λ (o : Owners). is_own (o t)) (left_lives (after s' x) (owners_called (after s' x) x w.owner) now)
-            ∙ owns_called (after s' x) x w.owner c.owner t (a.owns t);
-      };
+      alike = λ l. grind (arith, marked, left_lives, owns_called);
       carried = λ l. p.own.carried lives;
       parted = λ l. parted broken (p.own.parted lives);
     }
@@ -163,14 +139,7 @@ call_projects laws broken w c x g k lives p s e =
             counted = p.peer.counted;
             alike = λ l.
                 let a = p.peer.alike l in
-                record {
-                  transport = a.transport;
-                  kept = a.kept;
-                  mark = a.mark;
-                  said = a.said;
-                  got = a.got;
-                  owns = λ t. left_theirs (after s' x) (owners_called (after s' x) x w.owner) t ∙ theirs_called (after s' x) x w.owner c.owner t (a.owns t);
-                };
+                grind (arith, left_theirs, theirs_called);
             carried = λ l. subst (λ (b : Bool). Carried broken b (put broken (unit (sends s' x) ∷ []) w.own.channel) (c.own.sent ++ sends s' x ∷ []) (after s' x)) (sym now)
                 (carried_more broken w.own.channel c.own.sent s' (after s' x) (sends s' x)
                 (subst (λ (b : Bool). Carried broken b w.own.channel c.own.sent s') lives (p.peer.carried l)));
@@ -216,14 +185,7 @@ stop_projects laws broken w c x g k lives p e =
         counted = p.peer.counted;
         alike = λ l.
             let a = p.peer.alike l in
-            record {
-              transport = a.transport;
-              kept = a.kept;
-              mark = a.mark;
-              said = a.said;
-              got = a.got;
-              owns = λ t. left_theirs (after s' x) (owners_called (after s' x) x w.owner) t ∙ ap (λ (o : Owners). is_own (turned_owner (o t))) (stop_owners (after s' x) x w.owner k) ∙ a.owns t;
-            };
+            grind (arith, left_theirs, stop_owners);
         carried = λ l. subst (λ (b : Bool). Carried broken b (put broken (unit (sends s' x) ∷ []) w.own.channel) c.own.sent s') (sym now)
             (carried_last broken w.own.channel c.own.sent s' (sends s' x) (stop_last s' x k q.phase)
             (subst (λ (b : Bool). Carried broken b w.own.channel c.own.sent s') lives (p.peer.carried l)));

@@ -1,5 +1,5 @@
 -- A close, a break and the end of a side at a whole connection: to the core nothing has happened.
-use Rattle.std.proofs.Common.{◌≡◌, refl, sym, ◌∙◌, ap, ℕ, zero, suc, Bool, true, false, ◌||◌, List, [], ◌∷◌, ◌++◌, map, take, inr, arith}
+use Rattle.std.proofs.Common.{◌≡◌, refl, sym, ◌∙◌, ap, ℕ, zero, suc, Bool, true, false, ◌||◌, List, [], ◌∷◌, ◌++◌, map, take, arith}
 use Rattle.std.specs.List.{list_any}
 use Rattle.osi_machine.specs.Floor.{State, Meaning, lost}
 use Rattle.osi_machine.specs.Core.{Core, turned}
@@ -54,15 +54,7 @@ carried_cut : (k : ℕ) (broken broken' a b : Bool) (channel : List Message) (se
     → Carried broken a channel sent s → Carried broken' b (take k channel) sent s
 carried_cut k broken broken' a b channel sent s f w h =
     let c = cut_there k b s h.there h.lost h.tail (more_over a b s h.lost h.tail f h.last) in
-    record {
-      there = c.kept;
-      lost = c.gone_now;
-      tail = c.rest;
-      splits = c.splits ∙ h.splits;
-      carries = ap (take k) h.carries ∙ c.carries;
-      whole = inr w;
-      last = c.last;
-    }
+    grind arith
 
 pub none_parts : (k : ℕ) (ms : List Message) → list_any parts ms ≡ false → list_any parts (take k ms) ≡ false
 none_parts zero ms h = refl
@@ -92,14 +84,7 @@ ended_peer k broken w c h = record {
   counted = h.counted;
   alike = λ l.
       let a = h.alike l in
-      record {
-        transport = a.transport;
-        kept = a.kept;
-        mark = a.mark;
-        said = a.said;
-        got = a.got;
-        owns = λ t. left_theirs (lost (session_of (shortened k w))).next w.owner t ∙ a.owns t;
-      };
+      grind (arith, left_theirs);
   carried = λ l. carried_cut k broken broken (stopped w.own) true w.own.channel c.own.sent c.own.session (λ e. refl) refl (h.carried l);
   parted = h.parted;
 }
@@ -139,13 +124,7 @@ unlinked_over broken w c p e = by_test (stopped w.own)
 
 popped_peer : (broken : Bool) (w : World) (c : Core) (m : Message) (ms : List Message) → OneSide broken (turned_world w) (turned c) → w.peer.channel ≡ m ∷ ms
     → OneSide broken (turned_world (without_first w ms)) (turned c)
-popped_peer broken w c m ms h e = record {
-  begun = h.begun;
-  counted = h.counted;
-  alike = λ l. let a = h.alike l in record { transport = a.transport; kept = a.kept; mark = a.mark; said = a.said; got = a.got; owns = a.owns };
-  carried = h.carried;
-  parted = λ l. (or_parts (parts m) (list_any parts ms) (ap (list_any parts) (sym e) ∙ h.parted l)).1;
-}
+popped_peer broken w c m ms h e = grind (arith, or_parts, parts)
 
 -- at a side that is over
 pub popped_projects : (broken : Bool) (w : World) (c : Core) (m : Message) (ms : List Message) → Projects broken w c → stopped w.own ≡ true → w.peer.channel ≡ m ∷ ms

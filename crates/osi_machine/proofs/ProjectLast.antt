@@ -1,10 +1,9 @@
 -- The last unit of a side that is over is taken, and a side that is over takes a unit.
-use Rattle.std.proofs.Common.{◌≡◌, ℕ, refl, sym, ◌∙◌, ap, subst, Bool, true, false, not, ◌&&◌, ◌||◌, if◌then◌else◌, List, [], ◌∷◌, arith}
+use Rattle.std.proofs.Common.{◌≡◌, ℕ, refl, sym, ◌∙◌, ap, subst, Bool, true, false, ◌&&◌, ◌||◌, if◌then◌else◌, List, [], ◌∷◌, arith}
 use Rattle.std.specs.List.{list_any}
 use Rattle.osi_machine.specs.Floor.{State, Ended, without_tokens, Meaning, CN, AC, RF, DT, GT, PT, MIP, MIA, MAP, MAA, RS, RA, FN, DN, NF, AB, AA, Outcome, nothing, good, is_over, is_aborting, is_ended, in_aborting, in_ended, is_wait_cn, is_connecting, is_answering, is_ready, is_major_asked, is_releasing, is_release_due, is_restarting, may_ask, takes_data, takes_please, takes_minor_ack, is_expected, respond_unit, stands, next, becomes}
 use Rattle.osi_machine.specs.Histories.{Item}
-use Rattle.osi_machine.specs.Owners.{is_own, turned_owner}
-use Rattle.osi_machine.specs.Taking.{is_acted_on, cut_by, owners_after}
+use Rattle.osi_machine.specs.Taking.{is_acted_on, cut_by}
 use Rattle.osi_machine.specs.Channels.{is_plain, AllFit, flush, stops, heard}
 use Rattle.osi_machine.specs.Core.{Core, turned}
 use Rattle.osi_machine.specs.Worlds.{Message, unit, World, session_of, put, replied, mark_after, after_unit, turned as turned_world}
@@ -110,11 +109,7 @@ last_projects broken w c u ms p s l =
 -- ---- a side that is over
 
 over_not_acted : (s : State) (u : Meaning) → is_over s.phase ≡ true → is_acted_on s u ≡ false
-over_not_acted s u o = gone (is_over s.phase) _ o
-  where
-    gone : (b rest : Bool) → b ≡ true → (not b && rest) ≡ false
-    gone true rest e = refl
-    gone false rest e = absurd (cc)
+over_not_acted s u o = grind arith
 
 pub over_next : (s : State) (u : Meaning) → is_over s.phase ≡ true → is_over (respond_unit s u).next.phase ≡ true
 over_next s u o = not_acted (λ r. is_over r.phase ≡ true) s u (over_not_acted s u o) o refl refl
@@ -176,15 +171,7 @@ over_giver broken w c u ms p o e l =
     record {
       begun = p.peer.begun;
       counted = p.peer.counted;
-      alike = λ k. record {
-        transport = a.transport;
-        kept = a.kept;
-        mark = a.mark;
-        said = a.said;
-        got = a.got;
-        owns = λ t. left_theirs (respond_unit s u).next (if is_acted_on s u then owners_after s u w.owner else w.owner) t
-            ∙ ap (λ (b : Bool). is_own (turned_owner ((if b then owners_after s u w.owner else w.owner) t))) (over_not_acted s u o) ∙ a.owns t;
-      };
+      alike = λ k. grind (arith, left_theirs, over_not_acted);
       carried = λ k. subst (λ (ch : List Message). Carried broken (is_over (respond_unit s u).next.phase) ch c.own.sent c.own.session) (sym channel)
           (subst (λ (b : Bool). Carried broken b w.own.channel c.own.sent c.own.session) (o ∙ sym (over_next s u o)) (p.peer.carried l));
       parted = λ k. parted.1;

@@ -3,7 +3,7 @@
 use Rattle.std.proofs.Common.{◌≡◌, refl, sym, ◌∙◌, ap, subst, ℕ, Bool, true, false, List, [], ◌∷◌, ◌++◌, ◌⊎◌, inl, inr, arith}
 use Rattle.std.specs.List.{list_any}
 use Rattle.osi_machine.specs.Floor.{State, Ended, Meaning, awaiting, without_tokens}
-use Rattle.osi_machine.specs.Owners.{Owner, is_own, turned_owner}
+use Rattle.osi_machine.specs.Owners.{turned_owner}
 use Rattle.osi_machine.specs.Core.{Offer, offering, offer_sent, core_start, turned}
 use Rattle.osi_machine.specs.Worlds.{Message, unit, ask, agree, deny, Transport, not_yet, linked, gone, World, session_of, put, moved, Taking, unchanged, Terms, accepts, denies, asked_at, message_taken, turned as turned_world}
 use Rattle.osi_machine.specs.Machine.{without_first}
@@ -34,14 +34,7 @@ started_own : (broken : Bool) (w : World) (t u : Told) → Opens w t u → Waits
 started_own broken w t u h k e = record {
   begun = refl;
   counted = record { acked = refl; based = refl; marked = k.mark };
-  alike = λ l. record {
-    transport = refl;
-    kept = refl;
-    mark = k.mark;
-    said = k.said;
-    got = k.got;
-    owns = λ x. ap is_own (absent_left (offering w.offer) w.owner x (h.owner x));
-  };
+  alike = λ l. grind (arith, absent_left);
   carried = λ l. record { there = []; lost = []; tail = []; splits = refl; carries = refl; whole = inl refl; last = tt };
   parted = λ l. first_parted broken w.offer w.own.channel e;
 }
@@ -51,27 +44,14 @@ started_alike : (broken : Bool) (w : World) (t u : Told) → Opens w t u → is_
 started_alike broken w t u h b l = elim h.called [
   | inl k ↦ not_both (is_begun w.peer.transport) b (ap is_begun k.transport)
   | inr r ↦ elim r [
-    | inl k ↦ record {
-      transport = k.transport;
-      kept = k.kept;
-      mark = k.mark;
-      said = k.said;
-      got = k.got;
-      owns = λ x. ap (λ (o : Owner). is_own (turned_owner o)) (absent_left (offering w.offer) w.owner x (h.owner x));
-    }
+    | inl k ↦ grind (arith, absent_left)
     | inr k ↦ not_both (stopped w.peer) k.over_now l
   ]
 ]
 
 started_peer : (broken : Bool) (w : World) (t u : Told) → Opens w t u → is_begun w.peer.transport ≡ true → w.own.channel ≡ []
     → OneSide broken (turned_world (started broken w)) (turned (core_start w.offer))
-started_peer broken w t u h b e = record {
-  begun = b;
-  counted = let z = called_zero w.peer h.called in record { acked = z.acked; based = z.based; marked = z.marked };
-  alike = started_alike broken w t u h b;
-  carried = λ l. first_carried broken w.own.channel (offer_sent w.offer) (offering w.offer) e;
-  parted = λ l. refl;
-}
+started_peer broken w t u h b e = grind (arith, called_zero, started_alike, first_carried)
 
 start_repeats : (broken : Bool) (w : World) (t u : Told) → Opens w t u → Waits w.own → w.own.channel ≡ [] → is_begun w.peer.transport ≡ true → Repeats broken (started broken w) t u
 start_repeats broken w t u h k e b = record {

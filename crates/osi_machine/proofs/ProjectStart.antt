@@ -90,20 +90,7 @@ pub record Opens (w : World) (t u : Told) : Type 0 where
   pub peer_told : u ≡ untold Right w.offer
 
 pub asked_opens : (o : Offer) → CanBeOffered o → is_profile o.requirements ≡ true → Opens (asked_with o) (untold Left o) (untold Right o)
-asked_opens o small profile = record {
-  small = small;
-  profile = profile;
-  history = refl;
-  owner = λ k. refl;
-  caller = inl (record { transport = refl; phase = refl; mark = refl; said = refl; got = refl; zero_now = record { acked = refl; based = refl; marked = refl } });
-  called = inl (record { transport = refl; kept = refl; mark = refl; said = refl; got = refl });
-  way = asked;
-  own_channel = refl;
-  peer_channel = refl;
-  suited = refl;
-  own_told = refl;
-  peer_told = refl;
-}
+asked_opens o small profile = grind arith
 
 -- ---- every call is refused
 

@@ -2,9 +2,9 @@
 use Rattle.std.proofs.Common.{◌≡◌, refl, sym, ◌∙◌, ap, subst, ℕ, ◌+◌, Bool, true, false, not, ◌&&◌, ◌||◌, if◌then◌else◌, List, [], ◌∷◌, ◌++◌, map, length, Option, Some, None, ◌⊎◌, inl, inr, arith}
 use Rattle.std.proofs.lemmas.List.{length-append}
 use Rattle.std.specs.List.{list_any}
-use Rattle.osi_machine.specs.Floor.{TokenSetting, TsduMaximumSize, State, Meaning, CN, AC, RF, DT, GT, MIP, MAP, RS, RA, AB, Token, has, Outcome, is_over, is_acceptable, are_sizes, has_data, functional_units, respond_unit, becomes, stands, drops}
+use Rattle.osi_machine.specs.Floor.{TokenSetting, TsduMaximumSize, State, Meaning, CN, AC, RF, GT, RS, RA, AB, Token, has, Outcome, is_over, is_acceptable, are_sizes, has_data, functional_units, respond_unit, becomes, stands, drops}
 use Rattle.osi_session.specs.Respond.{reply_for}
-use Rattle.osi_machine.specs.Histories.{Item, Octets, Point, minor_kind, major_point, cutat}
+use Rattle.osi_machine.specs.Histories.{Item, cutat}
 use Rattle.osi_machine.specs.Owners.{Owners, is_own, turned_owner, left_by}
 use Rattle.osi_machine.specs.Taking.{is_acted_on, seen, got_in, cut_by, owners_after}
 use Rattle.osi_machine.specs.Channels.{is_plain, AllFit, Fits}
@@ -32,11 +32,7 @@ cuts_alike c (RS k n x o) us s = cut_seen c k n x o us s
 cuts_alike c _ us s = tt
 
 seen_mark : (s : State) (u : Meaning) (h v : List Item) (mark : ℕ) → CutsAlike s u h v → mark ≡ length v → mark_after s u h mark ≡ length (seen s u v)
-seen_mark s (DT o) h v mark cut e = by_test s.units.duplex (λ q. rw q e) (λ q. rw q (ap (λ (n : ℕ). n + 1) e ∙ sym (length-append v (Octets o ∷ []))))
-seen_mark s (MIP c n o) h v mark cut e = ap (λ (n : ℕ). n + 1) e ∙ sym (length-append v (Point n (minor_kind c) o ∷ []))
-seen_mark s (MAP n o) h v mark cut e = ap (λ (n : ℕ). n + 1) e ∙ sym (length-append v (Point n major_point o ∷ []))
-seen_mark s (RS k n x o) h v mark cut e = by_test (stands s n) (λ st. rw st (ap length (sym (cut st)))) (λ st. rw st e)
-seen_mark s _ h v mark cut e = e
+seen_mark s u h v mark cut e = grind (arith, length-append)
 
 owns_after : (s : State) (u : Meaning) (o p : Owners) (t : Token) → is_own (o t) ≡ is_own (p t) → is_own (owners_after s u o t) ≡ is_own (owners_after s u p t)
 owns_after s (GT k) o p t e = by_test (has k t) (λ q. rw q) (λ q. rw q e)
@@ -136,15 +132,7 @@ taker_owns broken w c u us ms k t =
 -- its sender
 carried_on : (broken : Bool) (channel channel' : List Message) (sent : List Meaning) (s r : State) (b : Bool) → channel' ≡ channel → b ≡ false → Carried broken false channel sent s
     → Carried broken b channel' sent r
-carried_on broken channel channel' sent s r b e f h = subst (λ (x : Bool). Carried broken x channel' sent r) (sym f) (record {
-  there = h.there;
-  lost = h.lost;
-  tail = [];
-  splits = h.splits;
-  carries = e ∙ h.carries ∙ ap (λ (us : List Meaning). map unit (h.there ++ us)) (none_last s h.lost h.tail h.last);
-  whole = h.whole;
-  last = tt;
-})
+carried_on broken channel channel' sent s r b e f h = subst (λ (x : Bool). Carried broken x channel' sent r) (sym f) (grind (arith, none_last))
 
 or_second : (a b : Bool) → (a || b) ≡ false → b ≡ false
 or_second true b h = absurd (cc)
@@ -216,14 +204,7 @@ pub record Last (over_now : Bool) (u : Meaning) (ms : List Message) (sent : List
 
 split_there : (broken over_now : Bool) (u : Meaning) (ms : List Message) (s : State) (v : Meaning) (vs lost tail : List Meaning)
     → unit u ∷ ms ≡ map unit ((v ∷ vs) ++ tail) → (lost ≡ []) ⊎ ((over_now || broken) ≡ true) → IsTail over_now s lost tail → First broken over_now u ms ((v ∷ vs) ++ lost) s
-split_there broken over_now u ms s v vs lost tail e whole last =
-    let same : u ≡ v = cc in
-    let behind : ms ≡ map unit (vs ++ tail) = cc in
-    record {
-      rest = vs ++ lost;
-      sent_is = ap (λ (x : Meaning). x ∷ (vs ++ lost)) (sym same);
-      carried = record { there = vs; lost = lost; tail = tail; splits = refl; carries = behind; whole = whole; last = last };
-    }
+split_there broken over_now u ms s v vs lost tail e whole last = grind arith
 
 split_tail : (over_now : Bool) (u : Meaning) (ms : List Message) (s : State) (lost tail : List Meaning) → unit u ∷ ms ≡ map unit tail → IsTail over_now s lost tail → Last over_now u ms lost s
 split_tail over_now u ms s lost tail e last = grind (arith, IsLast)

@@ -180,15 +180,12 @@ take_over broken w t u m ms h o e = record {
 pub unit_repeats : SessionLaws → (broken : Bool) (w : World) (t u : Told) (m : Meaning) (ms : List Message) → Repeats broken w t u → w.peer.channel ≡ unit m ∷ ms
     → Taken broken t u (unit_taken broken (without_first w ms) m)
 unfolding unit_as
-unit_repeats laws broken w t u m ms h e = by (stopped w.own) refl
-  where
-    by : (b : Bool) → stopped w.own ≡ b → Taken broken t u (unit_as broken w m ms (session_of w))
-    by true o = take_over broken w t u m ms h o e
-    by false l =
-        let same = session_is w h.core h.stands h.projects.history h.projects.own.counted (h.projects.own.alike l) in
-        let way = subst (λ (ch : List Message). Carried broken (stopped w.peer) ch h.core.peer.sent h.core.peer.session) e (h.projects.own.carried l) in
-        subst (λ (s : State). Taken broken t u (unit_as broken w m ms s)) (sym same)
-        (elim (split_first broken (stopped w.peer) m ms h.core.peer.sent h.core.peer.session way) [
-          | inl f ↦ take_first laws broken w t u m ms h l e f
-          | inr z ↦ take_last broken w t u m ms h z
-        ])
+unit_repeats laws broken w t u m ms h e = by_test (stopped w.own)
+    (λ o. take_over broken w t u m ms h o e)
+    (λ l. let same = session_is w h.core h.stands h.projects.history h.projects.own.counted (h.projects.own.alike l) in
+    let way = subst (λ (ch : List Message). Carried broken (stopped w.peer) ch h.core.peer.sent h.core.peer.session) e (h.projects.own.carried l) in
+    subst (λ (s : State). Taken broken t u (unit_as broken w m ms s)) (sym same)
+    (elim (split_first broken (stopped w.peer) m ms h.core.peer.sent h.core.peer.session way) [
+      | inl f ↦ take_first laws broken w t u m ms h l e f
+      | inr z ↦ take_last broken w t u m ms h z
+    ]))

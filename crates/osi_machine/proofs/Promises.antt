@@ -73,11 +73,7 @@ tail_of [] = []
 tail_of (x ∷ xs) = xs
 
 head_is : {A : Type 0} → (x y : A) (xs ys : List A) → x ∷ xs ≡ y ∷ ys → x ≡ y
-head_is x y xs ys e = ap (λ r. head_or x r) e
-  where
-    head_or : {A : Type 0} → A → List A → A
-    head_or z [] = z
-    head_or z (r ∷ rs) = r
+head_is x y xs ys e = grind arith
 
 agree_of : {A : Type 0} → (a b m k : List A) → a ++ m ≡ b ++ k → Agree a b
 agree_of [] b m k e = inl (b, refl)

@@ -1,15 +1,15 @@
 -- The calls of Release and of ReleaseRefuse keep what is true of both sides.
-use Rattle.std.proofs.Common.{◌≡◌, refl, sym, ◌∙◌, ap, subst, ℕ, ◌≤◌, ◌<◌, Bool, true, false, not, ◌&&◌, ◌||◌, if◌then◌else◌, List, [], ◌∷◌, ◌++◌, inl, inr, Ok}
+use Rattle.std.proofs.Common.{◌≡◌, refl, sym, ◌∙◌, ap, subst, ℕ, ◌≤◌, ◌<◌, Bool, true, false, not, ◌&&◌, ◌||◌, if◌then◌else◌, List, [], ◌∷◌, ◌++◌, inl, inr, Ok, arith}
 use Rattle.std.proofs.lemmas.Bool.{and_parts, and_from, not-true, or_parts, and_right}
 use Rattle.std.specs.List.{list_any}
-use Rattle.osi_machine.specs.Floor.{State, Phase, Numbers, FunctionalUnits, Ready, Releasing, ReleaseDue, Tokens, Meaning, CN, AC, DT, GT, PT, MIP, MIA, MAP, MAA, RS, RA, FN, NF, AA, Token, data_token, minor, major, has, available, each, has_right, is_empty, is_within, is_disjoint, is_ready, is_releasing, is_release_due, is_restarting, is_restart_due, is_wait_cn, is_connecting, is_major_asked, is_acceptable, lower, passes_restarting, has_no_effect, may_hold, becomes, stands, next, Good, Release, ReleaseRefuse}
+use Rattle.osi_machine.specs.Floor.{State, Phase, Numbers, FunctionalUnits, Ready, Releasing, ReleaseDue, Tokens, Meaning, AC, DT, GT, PT, MIP, MIA, MAP, MAA, RS, RA, FN, NF, Token, data_token, minor, major, has, available, each, has_right, is_empty, is_within, is_disjoint, is_ready, is_releasing, is_release_due, is_restarting, is_restart_due, is_wait_cn, is_connecting, is_major_asked, lower, passes_restarting, has_no_effect, may_hold, becomes, next, Good, Release, ReleaseRefuse}
 use Rattle.osi_machine.specs.Histories.{AreNumberedFrom}
 use Rattle.osi_machine.specs.Owners.{turned_owners}
 use Rattle.osi_machine.specs.Channels.{is_plain, Fits, AllFit, flush, stops, heard_view, needs_token}
 use Rattle.osi_machine.specs.Core.{Core, answered}
 use Rattle.osi_machine.specs.Parties.{is_opening}
 use Rattle.osi_machine.proofs.PhaseLaws.{implied, excluded, implied_two, by_either, by_test}
-use Rattle.osi_machine.proofs.Units.{next_cases, fit_cases, next_acted, next_dropped, next_hears, chosen}
+use Rattle.osi_machine.proofs.Units.{next_cases, fit_cases, next_acted, next_dropped, next_hears}
 use Rattle.osi_machine.proofs.ChannelLaws.{kept_all, kept_heard, heard_flush}
 use Rattle.osi_machine.proofs.Tokens.{each_has}
 use Rattle.osi_machine.proofs.Begun.{flush_open, none_needs}
@@ -156,19 +156,8 @@ finish_ends s (u ∷ us) h o n f e =
         (owed_flush (next s (FN a)) us (subst ReleaseOwed (sym (next_acted s (FN a) (rw h refl))) (record { phase = refl; none = n })) rest).phase
     first _ g rest m more = more m
 
-abbrev Unreleased : State → Type 0
-Unreleased s = is_releasing s.phase ≡ false
-
 becomes_unreleased : (s : State) (u : Meaning) → is_releasing s.phase ≡ false → is_releasing (becomes s u).phase ≡ false
-becomes_unreleased s (CN w r n x from to z o) h = chosen Unreleased (is_acceptable w r z) _ _ refl refl
-becomes_unreleased s (DT o) h = h
-becomes_unreleased s (GT k) h = h
-becomes_unreleased s (PT k o) h = h
-becomes_unreleased s (MIP c n o) h = h
-becomes_unreleased s (MIA n o) h = h
-becomes_unreleased s (RS j n w o) h = chosen Unreleased (stands s n) _ s refl h
-becomes_unreleased s AA h = h
-becomes_unreleased s _ h = refl
+becomes_unreleased s u h = grind arith
 
 unreleased : (s : State) (us : List Meaning) → is_releasing s.phase ≡ false → AllFit s us → is_releasing (flush s us).phase ≡ false
 unreleased = kept_all (λ s. is_releasing s.phase ≡ false) (λ s u h f. next_cases (λ q. is_releasing q.phase ≡ false) s u (λ d. h) (λ d. becomes_unreleased s u h))

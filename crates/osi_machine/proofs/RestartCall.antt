@@ -1,12 +1,11 @@
 -- The call of Restart keeps what is true of both sides.
-use Rattle.std.proofs.Common.{◌≡◌, refl, sym, ◌∙◌, ap, subst, ℕ, ◌+◌, ◌-◌, ◌≤◌, Bool, true, false, not, ◌&&◌, ◌||◌, nat_le, nat_lt, if◌then◌else◌, List, [], ◌∷◌, ◌++◌, Ok, inl, inr, arith}
+use Rattle.std.proofs.Common.{◌≡◌, refl, sym, ◌∙◌, ap, subst, ℕ, ◌+◌, ◌-◌, ◌≤◌, true, false, not, ◌&&◌, ◌||◌, if◌then◌else◌, List, [], ◌∷◌, ◌++◌, Ok, inl, inr, arith}
 use Rattle.std.proofs.lemmas.Bool.{leb-true, and_parts, and_from, both_ways}
-use Rattle.std.specs.List.{list_any}
 use Rattle.osi_spdu.specs.declared.fields.ResyncType.TheVariants as resync
-use Rattle.osi_machine.specs.Floor.{TokenSetting, State, FunctionalUnits, RS, data_token, has, available, in_major, last_number, is_restarting, is_restart_due, is_release_due, restarted_at, is_restartable, offered, Restart, IsSound, next}
-use Rattle.osi_machine.specs.Histories.{Item, points, cutat, AreNumberedFrom, Begins}
+use Rattle.osi_machine.specs.Floor.{TokenSetting, State, FunctionalUnits, RS, has, available, is_restarting, is_restart_due, is_release_due, restarted_at, is_restartable, offered, Restart, IsSound, next}
+use Rattle.osi_machine.specs.Histories.{Item, points, cutat, Begins}
 use Rattle.osi_machine.specs.Owners.{Owner, Own, turned_owner, turned_owners, is_own, is_to_own, is_absent, own_to_pool, given_up}
-use Rattle.osi_machine.specs.Channels.{flush, heard, hears, data_of, needs_token}
+use Rattle.osi_machine.specs.Channels.{flush, heard, hears, data_of}
 use Rattle.osi_machine.specs.Core.{Party, Core, answered}
 use Rattle.osi_machine.specs.Parties.{AreConsistent}
 use Rattle.osi_machine.proofs.PhaseLaws.{excluded, implied_two, by_test}
@@ -211,14 +210,7 @@ pair_kept : (w : Core) (n : ℕ) (t : TokenSetting) (o : List ℕ) → Restarts 
 pair_kept w n t o q s =
     let was : (flushed w.own w.peer).base ≡ w.own.session.base = (flush_open w.own.session w.peer.sent (begun w n q) s.own.fits).base in
     let same : (flushed w.own w.peer).units ≡ (flush (asked w.own.session n t) w.peer.sent).units = was_units w n q s ∙ sym (own_units w n t q s) in
-    record {
-      numbered = subst (AreNumberedFrom (flush (asked w.own.session n t) w.peer.sent).base) (sym (append_nil w.history))
-          (subst (λ (b : ℕ). AreNumberedFrom b w.history) (was ∙ sym (own_base w n t q s)) s.pair.numbered);
-      one_way = λ d. ap (λ (b : Bool). b && list_any (needs_token data_token) w.peer.sent) (list_any_append (needs_token data_token) w.own.sent (RS resync.Restart n t o) refl)
-          ∙ s.pair.one_way (ap (λ (u : FunctionalUnits). u.half_duplex) same ∙ d);
-      callers = s.pair.callers;
-      profile = subst IsOfProfile same s.pair.profile;
-    }
+    grind (arith, asked, append_nil, own_base, list_any_append, IsOfProfile)
 
 -- ---- the call
 
@@ -230,13 +222,7 @@ all_kept w n wishes o q s c =
     assumption (own_half w n t o q s, peer_half w n t o q s, own_views w n t o q s, peer_views w n t o q s, own_counts w n t o q s, peer_counts w n t o q s, pair_kept w n t o q s)
 
 pub in_range : (s : State) (n : ℕ) → IsSound s → is_restartable s n ≡ true → (s.base ≤ n) × (n ≤ s.numbers.next)
-in_range s n sound h =
-    let most = if in_major s.phase then nat_lt n s.numbers.next else nat_le n s.numbers.next in
-    let a = and_parts (nat_le s.numbers.lowest n) (nat_le n last_number && most) h in
-    let b = and_parts (nat_le n last_number) most a.1 in
-    let low = leb-true s.numbers.lowest n a.0 in
-    let from = sound.ordered.lowest_from in
-    (omega arith, below_if (in_major s.phase) n s.numbers.next b.1)
+in_range s n sound h = grind (arith, and_parts, leb-true, below_if)
 
 pub restart_stands : (w : Core) (n : ℕ) (wishes : TokenSetting) (o : List ℕ) → IsGranted w (Restart n wishes o) → Stands w
     → Stands (answered w (Restart n wishes o) (Ok (granted w.own.session (Restart n wishes o))))

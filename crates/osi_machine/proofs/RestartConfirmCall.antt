@@ -1,11 +1,9 @@
 -- The call of RestartConfirm keeps what is true of both sides.
 use Rattle.std.proofs.Common.{◌≡◌, refl, sym, ◌∙◌, ap, subst, ℕ, Bool, true, false, not, ◌&&◌, if◌then◌else◌, List, [], ◌∷◌, ◌++◌, Ok, arith}
 use Rattle.std.proofs.lemmas.Bool.{eq-eqb, and_from}
-use Rattle.std.specs.List.{list_any}
-use Rattle.osi_machine.specs.Floor.{TokenSetting, State, FunctionalUnits, Sides, Ready, Meaning, RA, Tokens, Token, data_token, has, available, settle, setting_of, of_asker, of_answerer, stated, answers_wishes, is_restarting, is_restart_due, may_hold, RestartConfirm, becomes, next}
-use Rattle.osi_machine.specs.Histories.{Item, AreNumberedFrom}
+use Rattle.osi_machine.specs.Floor.{TokenSetting, State, FunctionalUnits, Sides, Ready, Meaning, RA, Tokens, Token, has, available, settle, setting_of, of_asker, of_answerer, stated, answers_wishes, is_restarting, is_restart_due, may_hold, RestartConfirm, becomes, next}
 use Rattle.osi_machine.specs.Owners.{turned_owners, settled_by}
-use Rattle.osi_machine.specs.Channels.{Fits, flush, heard, hears, heard_view, data_of, needs_token}
+use Rattle.osi_machine.specs.Channels.{Fits, flush, heard, hears, heard_view, data_of}
 use Rattle.osi_machine.specs.Core.{Party, Core, answered}
 use Rattle.osi_machine.specs.Parties.{AreConsistent}
 use Rattle.osi_machine.proofs.PhaseLaws.{excluded, implied_two}
@@ -169,14 +167,7 @@ own_views w a o due s =
     let none = none_under_way w due s in
     let listens = ap (λ (q : State). hears q.phase) (own_heard w due s) ∙ ap not (excluded is_restart_due is_restarting refl w.own.session.phase due) in
     let seen = sym (empty_view w.own.session w.peer.sent w.own.view none) ∙ s.own_views.ends listens in
-    record {
-      ends = λ l. empty_view r w.peer.sent (w.own.view ++ []) none ∙ ap (λ (v : List Item). v ++ []) seen;
-      cut = λ c. absurd (let e = ap (λ (q : State). is_restarting q.phase) (sym (empty_heard r w.peer.sent none)) ∙ c in cc);
-      due = λ d. absurd (cc);
-      stream = λ d.
-          let k = s.own_views.stream (ap (λ (q : State). q.units.duplex) (own_end w due s) ∙ ap (λ (q : State). q.units.duplex) (sym (empty_end r w.peer.sent none)) ∙ d) in
-          (k.0, append_nil w.history ∙ k.1);
-    }
+    grind (arith, empty_view, empty_heard, own_end, empty_end, append_nil)
 
 peer_views : (w : Core) (a : Sides) (o : List ℕ) → is_restart_due w.own.session.phase ≡ true → Stands w → Views (w.history ++ []) w.peer (answerer w.own a o)
 peer_views w a o due s = record {
@@ -206,14 +197,7 @@ own_counts w a o due s =
     let r = confirmed w.own.session a in
     let old = subst (λ (e : State). Counting w.own.session e (hearing w.peer w.own) w.peer.session) (own_heard w due s) s.own_counts in
     subst (λ (e : State). Counting r e (heard w.peer.session (w.own.sent ++ answer w.own.session a o ∷ [])) w.peer.session) (sym (empty_heard r w.peer.sent (none_under_way w due s)))
-    (subst (λ (e : State). Counting r r e w.peer.session) (sym (heard_after w a o due s)) (record {
-      flag = λ f. ap (λ (q : State). q.numbers.answers) (other_end w due s ∙ sym (other_heard w due s)) ∙ old.flag f;
-      below = λ l n from to.
-          let order = s.consistent.own.sound.ordered.confirmed_to in
-          let same = ap (λ (q : State). q.numbers.next) (sym (other_end w due s)) ∙ (s.peer.meeting.restart (other_waits w due s)).0 ∙ ap (λ (r : State). r.numbers.next) (own_end w due s) in
-          omega arith;
-      reach = old.reach;
-    }))
+    (subst (λ (e : State). Counting r r e w.peer.session) (sym (heard_after w a o due s)) (grind (arith, other_end, other_heard, other_waits, own_end)))
 
 peer_counts : (w : Core) (a : Sides) (o : List ℕ) → is_restart_due w.own.session.phase ≡ true → Stands w → Counts w.peer (answerer w.own a o)
 peer_counts w a o due s =
@@ -231,14 +215,7 @@ pair_kept : (w : Core) (a : Sides) (o : List ℕ) → is_restart_due w.own.sessi
 pair_kept w a o due s =
     let r = confirmed w.own.session a in
     let end = empty_end r w.peer.sent (none_under_way w due s) in
-    record {
-      numbered = subst (λ (e : State). AreNumberedFrom e.base (w.history ++ [])) (sym end)
-          (subst (λ (e : State). AreNumberedFrom e.base (w.history ++ [])) (own_end w due s) (subst (AreNumberedFrom (flushed w.own w.peer).base) (sym (append_nil w.history)) s.pair.numbered));
-      one_way = λ d. ap (λ (b : Bool). b && list_any (needs_token data_token) w.peer.sent) (list_any_append (needs_token data_token) w.own.sent (answer w.own.session a o) refl)
-          ∙ s.pair.one_way (ap (λ (q : State). q.units.half_duplex) (own_end w due s) ∙ ap (λ (q : State). q.units.half_duplex) (sym end) ∙ d);
-      callers = s.pair.callers;
-      profile = subst (λ (e : State). IsOfProfile e.units) (sym end) (subst (λ (e : State). IsOfProfile e.units) (own_end w due s) s.pair.profile);
-    }
+    grind (arith, own_end, flushed, append_nil, list_any_append, IsOfProfile)
 
 -- ---- the call
 

@@ -1,11 +1,11 @@
 -- What is under way to a side when it asks for a restart: all of it is discarded, but for one restart.
-use Rattle.std.proofs.Common.{◌≡◌, refl, sym, ◌∙◌, ap, subst, ℕ, Bool, true, false, ◌&&◌, ◌||◌, nat_le, if◌then◌else◌, List, [], ◌∷◌, ◌⊎◌, inl, inr, arith}
+use Rattle.std.proofs.Common.{◌≡◌, refl, sym, ◌∙◌, ap, ℕ, Bool, true, false, ◌&&◌, ◌||◌, nat_le, if◌then◌else◌, List, [], ◌∷◌, ◌⊎◌, inl, inr, arith}
 use Rattle.std.proofs.lemmas.Bool.{and_parts}
-use Rattle.osi_machine.specs.Floor.{TokenSetting, ResyncType, State, FunctionalUnits, Meaning, RS, is_restarting, is_restart_due, takes_restart, passes_restarting, is_restart, restarted_at, stands, next}
+use Rattle.osi_machine.specs.Floor.{TokenSetting, ResyncType, State, Meaning, RS, is_restarting, is_restart_due, passes_restarting, restarted_at, stands, next}
 use Rattle.osi_machine.specs.Histories.{Item, cutat}
 use Rattle.osi_machine.specs.Taking.{seen}
 use Rattle.osi_machine.specs.Channels.{Fits, AllFit, flush, stops, heard, view_next, heard_view}
-use Rattle.osi_machine.proofs.PhaseLaws.{implied, excluded, if_first, by_test}
+use Rattle.osi_machine.proofs.PhaseLaws.{excluded, if_first, by_test}
 use Rattle.osi_machine.proofs.Units.{fit_cases, next_dropped, none_due, restart_due, and_false}
 use Rattle.osi_machine.proofs.Begun.{Open, becomes_open, is_lively, Lively, becomes_lively}
 use Rattle.osi_machine.proofs.Deaf.{AllEmpty, all_empty, empty_fits, empty_end, empty_heard, empty_view, crossed, restart_kept, restart_next, yielded, stood}
@@ -52,13 +52,7 @@ flow_before s r u us a f st more =
     let d = drops_waiting r u a.asked (before s u a.lives f st) in
     let same = next_dropped r u d in
     let nothing : (v : List Item) → view_next r u v ≡ v = λ v. ap (λ (b : Bool). if b then v else seen r u v) d in
-    record {
-      fits = (record { plain = f.plain; good = λ e. absurd (cc) }, subst (λ (q : State). AllFit q us) (sym same) more.fits);
-      heard = if_first (stops r u) r (heard (next r u) us) (ap (λ (q : State). heard q us) same ∙ more.heard);
-      view = λ v. if_first (stops r u) v (heard_view (next r u) us (view_next r u v))
-          (ap (λ (q : State). heard_view q us (view_next r u v)) same ∙ ap (heard_view r us) (nothing v) ∙ more.view v);
-      end = elim more.end [ inl e ↦ inl (e.0, ap (λ (q : State). flush q us) same ∙ e.1) | inr e ↦ inr (e.0, ap (λ (q : State). flush q us) same ∙ e.1) ];
-    }
+    grind (arith, if_first)
 
 -- ---- the restart
 
@@ -68,13 +62,7 @@ restart_fits s r k n w o a f =
     let from = (and_parts (nat_le s.base n) (is_restarting s.phase || nat_le n s.numbers.next) g.met.1.0).0 in
     record {
       plain = refl;
-      good = λ d. record {
-        expected = implied is_restarting takes_restart refl r.phase a.asked;
-        met = (
-          ap (λ (u : FunctionalUnits). u.resynchronize && is_restart k) a.units ∙ g.met.0,
-          (both (nat_le r.base n) (is_restarting r.phase) (nat_le n r.numbers.next) (ap (λ (b : ℕ). nat_le b n) a.base ∙ from) a.asked, tt),
-        );
-      };
+      good = λ d. grind arith;
     }
   where
     both : (b c d : Bool) → b ≡ true → c ≡ true → (b && (c || d)) ≡ true

@@ -2,7 +2,7 @@
 use Rattle.std.proofs.Common.{◌≡◌, refl, sym, ◌∙◌, ap, subst, ℕ, ◌+◌, ◌==◌, ◌≤◌, Bool, true, false, not, ◌&&◌, ◌||◌, nat_le, nat_lt, if◌then◌else◌, List, inl, inr, arith}
 use Rattle.std.proofs.lemmas.Bool.{lt-ltb, le-ltb, le-leb, eq-eqb, ne_eqb, cases_order, and_from, not-true}
 use Rattle.osi_spdu.specs.declared.fields.ResyncType.TheVariants as resync
-use Rattle.osi_machine.specs.Floor.{TokenSetting, State, FunctionalUnits, Restarting, RestartDue, RS, may_restart, takes_restart, is_restarting, is_restart_due, is_connecting, without_tokens, restarted_at, stands}
+use Rattle.osi_machine.specs.Floor.{TokenSetting, State, FunctionalUnits, Restarting, RS, may_restart, takes_restart, is_restarting, is_restart_due, is_connecting, without_tokens, restarted_at, stands}
 use Rattle.osi_machine.specs.Histories.{points}
 use Rattle.osi_machine.specs.Channels.{Fits, flush, hears}
 use Rattle.osi_machine.specs.Core.{Core}
@@ -45,12 +45,7 @@ of_two n m c = elim (cases_order n m) [
 
 pub one_stands : (s r : State) (n m : ℕ) → is_restarting s.phase ≡ true → is_restarting r.phase ≡ true → s.numbers.next ≡ n → r.numbers.next ≡ m
     → r.is_caller ≡ not s.is_caller → stands s m ≡ not (stands r n)
-one_stands s r n m a b e f c =
-    asked_stands s m a ∙ ap (λ (k : ℕ). nat_lt m k || ((m == k) && not s.is_caller)) e
-    ∙ of_two n m s.is_caller
-    ∙ ap not (ap (λ (d : Bool). nat_lt n m || ((n == m) && not d)) (sym c))
-    ∙ ap not (ap (λ (k : ℕ). nat_lt n k || ((n == k) && not r.is_caller)) (sym f))
-    ∙ ap not (sym (asked_stands r n b))
+one_stands s r n m a b e f c = grind (arith, asked_stands, of_two)
 
 -- ---- two sides of which one waits for the answer and the other owes it
 
@@ -67,14 +62,7 @@ turn_met a b m = record { meets = m.turned; turned = m.meets; restart = m.back; 
 
 meets_one : (a b : State) (n : ℕ) (w : TokenSetting) → is_restarting a.phase ≡ true → a.numbers.next ≡ n → a.wishes ≡ w → stands b n ≡ true → Met a (crossed b n w)
 unfolding restarted_at
-meets_one a b n w r e f st = subst (Met a) (sym (stood b n w st)) (record {
-  meets = implied is_restarting (λ p. matched p RestartDue) refl a.phase r;
-  turned = implied is_restarting (λ p. matched RestartDue p) refl a.phase r;
-  restart = λ k. (e, f);
-  back = λ k. absurd (cc);
-  connect = excluded is_restarting is_connecting refl a.phase r;
-  other_connect = refl;
-})
+meets_one a b n w r e f st = subst (Met a) (sym (stood b n w st)) (grind (arith, matched))
 
 meets_both : (a b : State) (n m : ℕ) (w v : TokenSetting) → is_restarting a.phase ≡ true → a.numbers.next ≡ n → a.wishes ≡ w
     → is_restarting b.phase ≡ true → b.numbers.next ≡ m → b.wishes ≡ v → b.is_caller ≡ not a.is_caller → Met (crossed a m v) (crossed b n w)

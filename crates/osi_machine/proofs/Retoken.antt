@@ -1,6 +1,6 @@
 -- The lines of a half, and of the numbers, where only tokens move.
-use Rattle.std.proofs.Common.{◌≡◌, refl, sym, ◌∙◌, ap, subst, ℕ, ◌≤◌, ◌<◌, true, false, ◌||◌}
-use Rattle.osi_machine.specs.Floor.{State, Phase, Numbers, Token, has, available, lower, is_restarting, is_connecting, is_release_due, is_releasing, may_hold}
+use Rattle.std.proofs.Common.{◌≡◌, refl, sym, ◌∙◌, ap, subst, ℕ, ◌≤◌, ◌<◌, true, false, ◌||◌, arith}
+use Rattle.osi_machine.specs.Floor.{State, Numbers, Token, has, available, lower, may_hold}
 use Rattle.osi_machine.specs.Owners.{Owners, is_own, is_to_own, is_absent}
 use Rattle.osi_machine.specs.Channels.{hears}
 use Rattle.osi_machine.proofs.Records.{matched, Meeting, Counting}
@@ -28,20 +28,7 @@ pub record Tokens_of (o : Owners) (now end heard : State) : Type 0 where
 
 pub retoken : (p o : Owners) (now end other heard peer now' end' other' heard' peer' : State) → Meeting p now end other heard peer
     → Like end end' → Like other other' → Like heard heard' → Like peer peer' → Tokens_of o now' end' heard' → Meeting o now' end' other' heard' peer'
-retoken p o now end other heard peer now' end' other' heard' peer' m a b c d t = record {
-  meets = ap (λ (q : Phase). matched q other'.phase) a.phase ∙ ap (matched end.phase) b.phase ∙ m.meets;
-  units = a.units ∙ m.units ∙ sym b.units;
-  base = a.base ∙ m.base ∙ sym b.base;
-  restart = λ r.
-      let k = m.restart (ap is_restarting (sym a.phase) ∙ r) in
-      (ap (λ (v : Numbers). v.next) a.numbers ∙ k.0 ∙ sym (ap (λ (v : Numbers). v.next) b.numbers), a.wishes ∙ k.1 ∙ sym b.wishes);
-  connect = λ r.
-      let k = m.connect (ap is_connecting (sym a.phase) ∙ r) in (a.wishes ∙ k.0 ∙ sym b.wishes, a.proposed ∙ k.1 ∙ sym b.proposed);
-  holds = t.holds;
-  wants = t.wants;
-  absent = t.absent;
-  released = λ r. ap is_releasing d.phase ∙ m.released (ap is_release_due (sym c.phase) ∙ r);
-}
+retoken p o now end other heard peer now' end' other' heard' peer' m a b c d t = grind (arith, matched)
 
 pub recount : (now heard other_heard other now' heard' other_heard' other' : State) → Counting now heard other_heard other
     → Like now now' → Like heard heard' → Like other_heard other_heard' → Like other other' → Counting now' heard' other_heard' other'

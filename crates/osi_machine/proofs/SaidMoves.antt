@@ -60,15 +60,7 @@ turned_told b l x y h = record { own_fits = h.peer_fits; peer_fits = h.own_fits;
 
 -- seen from the side that stays: the other's transport connection is there, or closes
 past : (own peer peer' : Seat) → is_early peer'.transport ≡ false → Fits own peer → Fits own peer'
-past own peer peer' e h = record {
-  waits = h.waits;
-  over_now = h.over_now;
-  early = h.early;
-  unasked = h.unasked;
-  mute = λ k. absurd (cc);
-  unsaid = λ k. absurd (cc);
-  first = λ k n. absurd (let x = sym (ap is_early n) ∙ e in cc);
-}
+past own peer peer' e h = grind (arith, is_early)
 
 -- the first message of its channel is taken
 rest_fits : (own peer : Seat) (m : Message) (ms : List Message) → own.channel ≡ m ∷ ms → Fits own peer → Fits (record own { channel = ms }) peer
@@ -93,15 +85,7 @@ rest_fits own peer m ms e h = record {
 -- its transport connection is there, or closes, and its session is another
 opened_fits : (own' peer : Seat) → is_early own'.transport ≡ false → (is_parting own'.transport ≡ true → is_over own'.session.state.phase ≡ true)
     → (is_early peer.transport ≡ true → may_abort own'.session.state.phase ≡ false) → (is_early peer.transport ≡ true → units_in own'.channel ≡ []) → Fits own' peer
-opened_fits own' peer e o m u = record {
-  waits = λ k. absurd (let x = sym (ap is_early k) ∙ e in cc);
-  over_now = o;
-  early = λ k. absurd (cc);
-  unasked = λ k. absurd (let x = sym (ap is_early k) ∙ e in cc);
-  mute = m;
-  unsaid = u;
-  first = λ k n. absurd (let x = sym (ap is_early k) ∙ e in cc);
-}
+opened_fits own' peer e o m u = grind (arith, is_early)
 
 -- a side parts: its session is over, and of what is under way from it units may be lost
 parts_told : (b : Bool) (l : Line) (own' : Seat) (x y : Words) → is_parting own'.transport ≡ true → is_early own'.transport ≡ false → is_over own'.session.state.phase ≡ true
@@ -167,15 +151,7 @@ denies_told : (b : Bool) (l : Line) (reason : ℕ) (x y : Words) → Told b l x 
 denies_told b l reason x y h =
     let n = put_no_units b (deny reason ∷ []) l.own.channel refl in
     record {
-      own_fits = record {
-        waits = h.own_fits.waits;
-        over_now = h.own_fits.over_now;
-        early = λ k. n ∙ h.own_fits.early k;
-        unasked = λ k. no_agree_put b reason l.own.channel (h.own_fits.unasked k);
-        mute = h.own_fits.mute;
-        unsaid = λ k. n ∙ h.own_fits.unsaid k;
-        first = h.own_fits.first;
-      };
+      own_fits = grind (arith, no_agree_put);
       peer_fits = assumption;
       out = record {
         begins = h.out.begins;
@@ -238,15 +214,7 @@ pub ends_told : SayLaws → (b : Bool) (keep : ℕ) (l : Line) (x y : Words) →
 ends_told laws b keep l x y h = by_test (is_given l.own.transport) (λ e. rw e (end_told laws b keep l x y h)) (λ e. rw e h)
 
 cut_fits : (keep : ℕ) (own peer : Seat) (ch : List Message) → Fits own peer → Fits (record own { channel = take keep own.channel }) (record peer { channel = ch })
-cut_fits keep own peer ch h = record {
-  waits = h.waits;
-  over_now = h.over_now;
-  early = λ k. no_units_taken keep own.channel (h.early k);
-  unasked = λ k. no_agree_taken keep own.channel (h.unasked k);
-  mute = h.mute;
-  unsaid = λ k. no_units_taken keep own.channel (h.unsaid k);
-  first = h.first;
-}
+cut_fits keep own peer ch h = grind (arith, no_units_taken, no_agree_taken)
 
 cut_way : (b : Bool) (keep : ℕ) (own peer : Seat) (ch : List Message) (said heard : List Meaning) → Way b own peer said heard
     → Way true (record own { channel = take keep own.channel }) (record peer { channel = ch }) said heard
@@ -262,15 +230,7 @@ cut_told b left right l x y h = search (cut_fits, cut_way)
 
 pub asked_told : (b : Bool) (o : Offer) → Told b (asked_with b o) silent silent
 asked_told b o = record {
-  own_fits = record {
-    waits = λ k. refl;
-    over_now = λ k. absurd (cc);
-    early = λ k. none b;
-    unasked = λ k. absurd (cc);
-    mute = λ k. refl;
-    unsaid = λ k. none b;
-    first = λ k n. absurd (cc);
-  };
+  own_fits = grind arith;
   peer_fits = record {
     waits = λ k. absurd (cc);
     over_now = λ k. absurd (cc);
@@ -293,15 +253,7 @@ asked_told b o = record {
 -- the first message that comes to a side is no unit, or the side parts and does not hear it
 popped : (b : Bool) (l : Line) (m : Message) (xs : List Message) (x y : Words) → l.peer.channel ≡ m ∷ xs → (is_parting l.own.transport ≡ false → units_in xs ≡ units_in (m ∷ xs)) → Told b l x y
     → Told b (without_first l xs) x y
-popped b l m xs x y e n h = record {
-  own_fits = assumption;
-  peer_fits = rest_fits l.peer l.own m xs e h.peer_fits;
-  out = record { begins = h.out.begins; carried = h.out.carried };
-  back = record {
-    begins = h.back.begins;
-    carried = λ k. same_units (b || is_parting l.peer.transport) (b || is_parting l.peer.transport) l.peer.channel xs y.said x.heard (n k ∙ ap units_in (sym e)) (λ s. s) (h.back.carried k);
-  };
-}
+popped b l m xs x y e n h = grind (arith, rest_fits, same_units)
 
 -- it is a unit, and is heard
 heard_first : (b : Bool) (l : Line) (u : Meaning) (xs : List Message) (x y : Words) → l.peer.channel ≡ unit u ∷ xs → is_parting l.own.transport ≡ false → Told b l x y

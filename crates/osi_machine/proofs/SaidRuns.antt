@@ -1,16 +1,15 @@
 -- What each side of a connection said, and what the other heard of it, over lists of steps.
-use Rattle.std.proofs.Common.{◌≡◌, refl, sym, ◌∙◌, ap, subst, ℕ, zero, suc, ◌+◌, Bool, true, false, not, ◌&&◌, ◌||◌, ◌==◌, if◌then◌else◌, List, [], ◌∷◌, ◌++◌, append_assoc, map, Option, Some, None, is_some, inl, inr, ◌⊎◌}
+use Rattle.std.proofs.Common.{◌≡◌, refl, sym, ◌∙◌, ap, subst, ℕ, zero, suc, ◌+◌, Bool, true, false, not, ◌&&◌, ◌||◌, ◌==◌, if◌then◌else◌, List, [], ◌∷◌, ◌++◌, append_assoc, map, Option, Some, None, is_some, inl, inr, ◌⊎◌, arith}
 use Rattle.std.proofs.lemmas.Bool.{eqb-true, eq-eqb}
 use Rattle.std.proofs.lemmas.List.{append-nil}
 use Rattle.std.specs.List.{slice_get}
 use Rattle.osi_session.specs.declared.faults.CallError.TheVariants as error
-use Rattle.osi_session.specs.Moves.{called, taken, opened, refused, react}
+use Rattle.osi_session.specs.Moves.{called, react}
 use Rattle.osi_session.specs.Phases.{is_ended}
-use Rattle.osi_message.specs.Sendable.{said_of}
 use Rattle.osi_machine.specs.Floor.{Meaning, Call}
 use Rattle.osi_machine.specs.Histories.{Begins}
 use Rattle.osi_machine.specs.Core.{Offer, Side, Left, Right}
-use Rattle.osi_machine.specs.Worlds.{Class, class_2, Message, unit, ask, agree, deny, over, Transport, not_yet, waiting, linked, closing, gone, Terms}
+use Rattle.osi_machine.specs.Worlds.{Class, class_2, Message, Transport, Terms}
 use Rattle.osi_machine.specs.Machine.{Ending, closed_here, Refusal, Step, connects, calls, delivers, breaks, ends, shown_at, ended, connection_at, with_connection, is_given, learns, is_told}
 use Rattle.osi_machine.specs.Tables.{Line, Turn, Tables, asked_with, after_call, message_taken, closed, start, seen_from, side_of, end_of, stays, noted, refusal, asked_in, call_in, ends_there, ended_lines, shown_in_order, marked_ended, after_end, closes_by, after_turn, without_first, taken_in, delivered_to, cut_channels, step, run}
 use Rattle.osi_machine.specs.AsTables.{cut_line}
@@ -115,10 +114,7 @@ call_same laws t side r c x y (Some l) e h = by_test (is_given (seen_from side l
 
 call_other : (t : Tables) (side : Side) (q r : ℕ) (c : Call) (x y : Words) (o : Option Line) → (r ≡ q → ⊥) → HoldsAt side t.broken x y (connection_at r t.lines)
     → HoldsAt side (call_in t side q c (side_of side o)).broken x y (connection_at r (call_in t side q c (side_of side o)).lines)
-call_other t side q r c x y None n h = h
-call_other t side q r c x y (Some l) n h = by_test (is_given (seen_from side l).own.transport)
-    (λ e. rw e (same_holds side t.broken x y (connection_at r t.lines) _ (with_other r q t.lines (seen_from side (after_call t.broken c (seen_from side l))) n) h))
-    (λ e. rw e h)
+call_other t side q r c x y o n h = grind (arith, same_holds, with_other)
 
 call_knows : SayLaws → (t : Tables) (side : Side) (q r : ℕ) (c : Call) (x y : Words) → HoldsAt side t.broken x y (connection_at r t.lines)
     → HoldsAt side (call_in t side q c (side_of side (connection_at q t.lines))).broken
@@ -155,13 +151,7 @@ end_knows laws side e keep t r x y h =
 
 message_closes : SayLaws → (b : Bool) (terms : Terms) (keep : ℕ) (tr : Transport) (l : Line) (m : Message) → (message_taken b terms keep tr l m).closes ≡ true
     → is_ended (message_taken b terms keep tr l m).line.own.session.state.phase ≡ true
-message_closes laws b terms keep waiting l agree c = laws.closed l.own.session opened c
-message_closes laws b terms keep waiting l (deny reason) c = laws.closed l.own.session (refused reason) c
-message_closes laws b terms keep linked l (unit u) c = laws.closed l.own.session (taken (said_of u)) c
-message_closes laws b terms keep not_yet l ask c = absurd (cc)
-message_closes laws b terms keep closing l over c = absurd (cc)
-message_closes laws b terms keep gone l over c = absurd (cc)
-message_closes laws b terms keep tr l m c = absurd (cc)
+message_closes laws b terms keep tr l m c = grind arith
 
 turn_same : SayLaws → (t : Tables) (side : Side) (r : ℕ) (keep : ℕ → ℕ) (turn : Turn) (l : Line) (x y : Words) → connection_at r t.lines ≡ Some l
     → (turn.closes ≡ true → is_ended turn.line.own.session.state.phase ≡ true) → Told t.broken turn.line x y
@@ -251,12 +241,7 @@ cut_knows left right b ls r x y (Some l) e h =
 
 break_knows : (t : Tables) (left right : ℕ → ℕ) (r : ℕ) (x y : Words) → Holds t.broken x y (connection_at r t.lines)
     → Holds (step t (breaks left right)).broken x y (connection_at r (step t (breaks left right)).lines)
-break_knows t left right r x y h = by t.broken
-  where
-    by : (b : Bool) → Holds (if b then t else record t { broken = true; lines = cut_channels left right 1 t.lines }).broken x y
-        (connection_at r (if b then t else record t { broken = true; lines = cut_channels left right 1 t.lines }).lines)
-    by true = h
-    by false = cut_knows left right t.broken t.lines r x y (connection_at r t.lines) refl h
+break_knows t left right r x y h = grind (arith, cut_knows)
 
 ends_knows : SayLaws → (t : Tables) (side : Side) (e : Ending) (keep : ℕ → ℕ) (r : ℕ) (x y : Words) → HoldsAt side t.broken x y (connection_at r t.lines)
     → HoldsAt side (step t (ends side e keep)).broken x y (connection_at r (step t (ends side e keep)).lines)

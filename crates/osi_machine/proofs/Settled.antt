@@ -28,11 +28,7 @@ named b w s = grind arith
 
 stated_settled : (u : FunctionalUnits) (w : TokenSetting) (a : Sides) (t : Token) → side_for (stated u (setting_of (settle u w a))) t ≡ side_for (settle u w a) t
 unfolding stated
-stated_settled u w a t =
-    side_by (λ t. stated_side (has (available u) t) (wish_for (setting_of (settle u w a)) t)) t
-    ∙ ap (stated_side (has (available u) t)) (setting_wish (settle u w a) t ∙ ap wish_of (settle_side u w a t))
-    ∙ named (has (available u) t) (wish_for w t) (side_for a t)
-    ∙ sym (settle_side u w a t)
+stated_settled u w a t = grind (arith, side_by, setting_wish, settle_side, named)
 
 -- and answers each wish
 one_allowed : (b : Bool) (w : Wish) (s : Side) → allows b w (wish_of (settled b w s)) ≡ true
@@ -60,18 +56,10 @@ asker_has u s t = has_set (λ t. has (available u) t && is_asker (side_for s t))
 
 -- the answerer's are available
 pub answerer_there : (u : FunctionalUnits) (s : Sides) (t : Token) → has (of_answerer u s) t ≡ true → has (available u) t ≡ true
-answerer_there u s t h = by (has (available u) t) (not (is_asker (side_for s t))) (sym (answerer_has u s t) ∙ h)
-  where
-    by : (a b : Bool) → (a && b) ≡ true → a ≡ true
-    by true b p = refl
-    by false b p = absurd (cc)
+answerer_there u s t h = grind (arith, answerer_has)
 
 pub asker_there : (u : FunctionalUnits) (s : Sides) (t : Token) → has (of_asker u s) t ≡ true → has (available u) t ≡ true
-asker_there u s t h = by (has (available u) t) (is_asker (side_for s t)) (sym (asker_has u s t) ∙ h)
-  where
-    by : (a b : Bool) → (a && b) ≡ true → a ≡ true
-    by true b p = refl
-    by false b p = absurd (cc)
+asker_there u s t h = grind (arith, asker_has)
 
 -- and the asker's are the others
 pub asker_holds : (u : FunctionalUnits) (w : TokenSetting) (a : Sides) (t : Token)

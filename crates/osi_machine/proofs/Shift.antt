@@ -178,16 +178,7 @@ shifts k s (u ∷ us) i n f =
     by c true e more =
         let d = stood_next k s u i e in
         let a = due_fits (next s u) (next (k.to s) u) us d f.1 in
-        record {
-          fits = (inv_fits k s u i c f.0, a);
-          flush = subst (λ (x : State). Shifted k x (flush (next (k.to s) u) us)) (sym (due_end (next s u) us d.due f.1))
-              (subst (Shifted k (next s u)) (sym (due_end (next (k.to s) u) us d.other a)) (inr d));
-          heard = (
-            ap (λ (b : Bool). if b then k.to s else heard (next (k.to s) u) us) (there ∙ e)
-                ∙ sym (ap k.to (ap (λ (b : Bool). if b then s else heard (next s u) us) e)),
-            subst k.inv (sym (ap (λ (b : Bool). if b then s else heard (next s u) us) e)) i,
-          );
-        }
+        grind (arith, inv_fits, due_end)
 
 -- what is seen is the same
 pub shift_view : (k : Shift) (s : State) (us : List Meaning) (v : List Item) → k.inv s → list_any k.never us ≡ false → AllFit s us

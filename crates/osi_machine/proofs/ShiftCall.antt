@@ -1,6 +1,6 @@
 -- A call that changes no more of a side than its phase and its numbers: what has to be known of it, so that
 -- all that is true of both sides stays.
-use Rattle.std.proofs.Common.{◌≡◌, refl, sym, ◌∙◌, ap, subst, ℕ, ◌≤◌, ◌<◌, Bool, true, false, not, ◌&&◌, ◌||◌, if◌then◌else◌, List, [], ◌∷◌, ◌++◌, ◌⊎◌, inl, inr}
+use Rattle.std.proofs.Common.{◌≡◌, refl, sym, ◌∙◌, ap, subst, ℕ, ◌≤◌, ◌<◌, Bool, true, false, not, ◌&&◌, ◌||◌, if◌then◌else◌, List, [], ◌∷◌, ◌++◌, ◌⊎◌, inl, inr, arith}
 use Rattle.std.specs.List.{list_any}
 use Rattle.osi_machine.specs.Floor.{State, FunctionalUnits, Tokens, Meaning, Token, has, available, data_token, lower, is_answering, is_connecting, is_release_due, is_releasing, is_restarting, is_restart_due, may_hold, has_no_effect, passes_restarting, becomes, drops, next, Good}
 use Rattle.osi_machine.specs.Histories.{Item, cutat, AreNumberedFrom}
@@ -9,7 +9,7 @@ use Rattle.osi_machine.specs.Taking.{seen}
 use Rattle.osi_machine.specs.Channels.{is_plain, Fits, flush, stops, heard, hears, view_next, heard_view, data_in, data_of, needs_token}
 use Rattle.osi_machine.specs.Core.{Party, Core}
 use Rattle.osi_machine.specs.Parties.{AreConsistent}
-use Rattle.osi_machine.proofs.PhaseLaws.{excluded, implied_two, by_either}
+use Rattle.osi_machine.proofs.PhaseLaws.{excluded, implied_two, by_either, by_test}
 use Rattle.osi_machine.proofs.Units.{next_cases, next_acted, next_dropped, next_hears}
 use Rattle.osi_machine.proofs.ChannelLaws.{fit_append, flush_append, heard_flush, heard_append, view_append, data_append}
 use Rattle.osi_machine.proofs.HistoryLaws.{cut_append}
@@ -86,11 +86,7 @@ record Acts (w : Core) (k : Shift) (m : Meaning) : Type 0 where
   acts : drops (flushed w.peer w.own) m ≡ false
 
 pub drops_waiting : (s : State) (m : Meaning) → is_restarting s.phase ≡ true → passes_restarting m ≡ false → drops s m ≡ true
-drops_waiting s m h k = by (has_no_effect m) (is_restarting s.phase) (passes_restarting m) h k
-  where
-    by : (a b c : Bool) → b ≡ true → c ≡ false → (a || (b && not c)) ≡ true
-    by true b c p q = refl
-    by false b c p q = rw (p, q) refl
+drops_waiting s m h k = grind arith
 
 acts_listening : (s : State) (m : Meaning) → is_restarting s.phase ≡ false → has_no_effect m ≡ false → drops s m ≡ false
 acts_listening s m h k = rw (k, h) refl
@@ -265,15 +261,13 @@ peer_views : (w : Core) (k : Shift) (m : Meaning) (more : List Item) → Sending
     → Views (w.history ++ more) w.peer (sender w.own (k.to w.own.session) m more)
 peer_views w k m more g h = record {
   ends = λ l. peer_sees w k m more g h (ap (λ (q : State). hears q.phase) (sym (other_heard w k m more g h)) ∙ l);
-  cut = λ r. cuts (was (is_restarting (flushed w.peer w.own).phase) refl (ap (λ (q : State). is_restarting q.phase) (sym (other_heard w k m more g h)) ∙ r));
+  cut = λ r. cuts (by_test (is_restarting (flushed w.peer w.own).phase)
+      (λ e. e)
+      (λ e. let r : is_restarting (next (flushed w.peer w.own) m).phase ≡ true = (ap (λ (q : State). is_restarting q.phase) (sym (other_heard w k m more g h)) ∙ r) in absurd (not_both _ (next_hears (flushed w.peer w.own) m (ap not e)) r)));
   due = λ r. absurd (none_due_there w.owner w.own w.peer h.own h.peer (listens w k m more g) r);
   stream = λ d. streams (ap (λ (u : FunctionalUnits). u.duplex) (sym (other_still w k m more g).units) ∙ ap (λ (q : State). q.units.duplex) (sym (other_end w m)) ∙ d);
 }
   where
-    was : (b : Bool) → is_restarting (flushed w.peer w.own).phase ≡ b → is_restarting (next (flushed w.peer w.own) m).phase ≡ true → is_restarting (flushed w.peer w.own).phase ≡ true
-    was true e r = e
-    was false e r = absurd (not_both _ (next_hears (flushed w.peer w.own) m (ap not e)) r)
-
     cuts : is_restarting (flushed w.peer w.own).phase ≡ true → w.peer.view ≡ cutat w.peer.session.base (w.history ++ more) w.peer.session.numbers.next
     cuts r =
         let c = h.peer_views.cut (ap (λ (q : State). is_restarting q.phase) (heard_end w k m more g h) ∙ r) in

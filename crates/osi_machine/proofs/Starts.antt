@@ -1,6 +1,6 @@
 -- What is true of both sides is true where the CN of a caller is under way.
-use Rattle.std.proofs.Common.{◌≡◌, refl, sym, ap, subst, Bool, true, false, ◌&&◌, if◌then◌else◌, unwrap_or, arith}
-use Rattle.osi_machine.specs.Floor.{State, Answering, Ended, are_sizes, has_data, has_points, functional_units, serial_for, offered, is_restarting, without_tokens, awaiting, next}
+use Rattle.std.proofs.Common.{◌≡◌, refl, sym, ap, subst, Bool, true, ◌&&◌, if◌then◌else◌, unwrap_or, arith}
+use Rattle.osi_machine.specs.Floor.{State, Answering, Ended, are_sizes, has_data, functional_units, serial_for, offered, is_restarting, without_tokens, awaiting, next}
 use Rattle.osi_machine.specs.Owners.{no_owner, turned_owners}
 use Rattle.osi_machine.specs.Channels.{Fits}
 use Rattle.osi_machine.specs.Core.{Offer, CanBeOffered, offering, offer_sent, core_start}
@@ -27,31 +27,11 @@ is_answered o z h =
 
 own_meets : (o : Offer) → Meeting no_owner (offering o) (offering o) (answering o) (offering o) awaiting
 unfolding answering
-own_meets o = record {
-  meets = refl;
-  units = refl;
-  base = refl;
-  restart = λ r. absurd (cc);
-  connect = λ r. (refl, by_test (has_points (functional_units o.requirements)) (λ e. rw e) (λ e. rw e));
-  holds = λ t. has_set (λ t. false) t;
-  wants = λ r. absurd (cc);
-  absent = λ t n. refl;
-  released = λ r. absurd (cc);
-}
+own_meets o = grind (arith, by_test, has_set)
 
 peer_meets : (o : Offer) → Meeting (turned_owners no_owner) awaiting (answering o) (offering o) (answering o) (offering o)
 unfolding answering
-peer_meets o = record {
-  meets = refl;
-  units = refl;
-  base = refl;
-  restart = λ r. absurd (cc);
-  connect = λ r. absurd (cc);
-  holds = λ t. has_set (λ t. false) t;
-  wants = λ r. absurd (cc);
-  absent = λ t n. refl;
-  released = λ r. absurd (cc);
-}
+peer_meets o = grind (arith, has_set)
 
 own_counts : (o : Offer) → Counting (offering o) (offering o) (answering o) awaiting
 unfolding answering

@@ -1,5 +1,5 @@
 -- A connection of the machine as its two sides keep it, and that every move of it is the same in tables.
-use Rattle.std.proofs.Common.{◌≡◌, refl, sym, ◌∙◌, ap, subst, ◌+◌, Bool, true, false, List, [], ◌∷◌, take, Option, Some, Ok, Err}
+use Rattle.std.proofs.Common.{◌≡◌, refl, sym, ◌∙◌, ap, subst, ◌+◌, Bool, true, false, List, [], ◌∷◌, take, Option, Some, Ok, Err, arith}
 use Rattle.osi_session.specs.Moves.{called, taken, react, answered as answered_move}
 use Rattle.osi_message.specs.Sendable.{said_of}
 use Rattle.osi_machine.specs.Floor.{State, WaitTransport, Ended, Meaning, Token, Call, HasSerial, Answer, Granted, CallError, without_tokens, allowed, respond, respond_unit, awaiting}
@@ -58,13 +58,7 @@ pub record TurnTabled (x : Turn) (k : Taking) : Type 0 where
   pub seated : AreSeated k.world first second
 
 pub begun_seated : (w : World) (a : Option Meaning) → is_begun w.own.transport ≡ true → Disowned w → IsSeated w a
-begun_seated w a b d = record {
-  calls = λ e. not_both _ b (ap is_begun e);
-  called = λ e. not_both _ b (ap is_begun e);
-  idle = λ e. not_both _ b (ap is_begun e);
-  bare = λ e. not_both _ b e;
-  disowned = d;
-}
+begun_seated w a b d = grind (arith, not_both, is_begun)
 
 pub turned_tabled : (l : Line) (w : World) → Tabled l w → Tabled (tables.turned l) (turned w)
 turned_tabled l w h = record {
@@ -89,13 +83,7 @@ pub gone_seated : (w : World) (tr : Transport) (ms : List Message) (a b : Option
     → AreSeated (record w { owner = given_up w.owner; own = record w.own { transport = tr; kept = kept_of (without_tokens Ended (session_of w)); channel = ms } }) a b
 gone_seated w tr ms a b e h = record {
   own = begun_seated (record w { owner = given_up w.owner; own = record w.own { transport = tr; kept = kept_of (without_tokens Ended (session_of w)); channel = ms } }) a e (λ o t. own_gone (w.owner t));
-  peer = record {
-    calls = h.peer.calls;
-    called = h.peer.called;
-    idle = h.peer.idle;
-    bare = λ q t. sym (given_theirs (w.owner t)) ∙ h.peer.bare q t;
-    disowned = λ q t. sym (given_theirs (w.owner t)) ∙ h.peer.disowned q t;
-  };
+  peer = grind (arith, given_theirs);
 }
 
 -- ---- a call

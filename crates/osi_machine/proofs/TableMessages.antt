@@ -1,5 +1,5 @@
 -- Every message but a session unit does the same in tables; so do a close, an end, a break and a new connection.
-use Rattle.std.proofs.Common.{◌≡◌, refl, sym, ◌∙◌, ap, ℕ, ◌+◌, Bool, true, false, if◌then◌else◌, List, [], ◌∷◌, take, Option, Some, None}
+use Rattle.std.proofs.Common.{◌≡◌, refl, sym, ◌∙◌, ap, ℕ, ◌+◌, Bool, true, false, if◌then◌else◌, List, [], ◌∷◌, take, Option, Some, None, arith}
 use Rattle.osi_session.specs.Moves.{opened, refused, broken as broken_off, Move, react, begun, denied, rests}
 use Rattle.osi_session.specs.Shown.{RefusedByTransport}
 use Rattle.osi_machine.specs.Floor.{WaitTransport, Connecting, Ended, Meaning, Token, Tokens, no_token, is_wait_transport, without_tokens, awaiting, lost}
@@ -20,16 +20,10 @@ use Rattle.osi_machine.proofs.PhaseLaws.{if_yes, by_test}
 
 -- the own side, at the same session
 still_seated : (w : World) (ms : List Message) (a b : Option Meaning) → AreSeated w a b → AreSeated (record w { own = record w.own { channel = ms } }) a b
-still_seated w ms a b h = record {
-  own = record { calls = h.own.calls; called = h.own.called; idle = h.own.idle; bare = h.own.bare; disowned = h.own.disowned };
-  peer = record { calls = h.peer.calls; called = h.peer.called; idle = h.peer.idle; bare = h.peer.bare; disowned = h.peer.disowned };
-}
+still_seated w ms a b h = grind arith
 
 linked_seated : (w : World) (tr : Transport) (ms : List Message) (a b : Option Meaning) → is_begun tr ≡ true → AreSeated w a b → AreSeated (record w { own = record w.own { transport = tr; channel = ms } }) a b
-linked_seated w tr ms a b e h = record {
-  own = begun_seated (record w { own = record w.own { transport = tr; channel = ms } }) a e h.own.disowned;
-  peer = record { calls = h.peer.calls; called = h.peer.called; idle = h.peer.idle; bare = h.peer.bare; disowned = h.peer.disowned };
-}
+linked_seated w tr ms a b e h = grind (arith, begun_seated)
 
 -- ---- the other has asked
 
@@ -206,18 +200,12 @@ end_tabled keep w a b h =
     }
 
 pub break_tabled : (left right : ℕ) (w : World) (a b : Option Meaning) → AreSeated w a b → AreSeated (cut_to left right w) a b
-break_tabled left right w a b h = record {
-  own = record { calls = h.own.calls; called = h.own.called; idle = h.own.idle; bare = h.own.bare; disowned = h.own.disowned };
-  peer = record { calls = h.peer.calls; called = h.peer.called; idle = h.peer.idle; bare = h.peer.bare; disowned = h.peer.disowned };
-}
+break_tabled left right w a b h = grind arith
 
 -- ---- a new connection
 
 pub new_seated : (o : Offer) (ms : List Message) → AreSeated (record (asked_with o) { own = record (asked_with o).own { channel = ms } }) (Some (offer_sent o)) None
-new_seated o ms = record {
-  own = record { calls = λ e. refl; called = λ e. refl; idle = λ e. absurd (cc); bare = λ e t. refl; disowned = λ e t. refl };
-  peer = record { calls = λ e. absurd (cc); called = λ e. absurd (cc); idle = λ e. refl; bare = λ e t. refl; disowned = λ e t. refl };
-}
+new_seated o ms = grind arith
 
 pub new_tabled : (broken : Bool) (o : Offer)
     → Tabled (tables.asked_with broken o) (if broken then record (asked_with o) { own = record (asked_with o).own { channel = [] } } else asked_with o)

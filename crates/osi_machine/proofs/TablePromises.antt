@@ -1,5 +1,5 @@
 -- What two users may rely on, read from the tables and the journal.
-use Rattle.std.proofs.Common.{◌≡◌, refl, sym, ◌∙◌, ap, subst, ℕ, zero, suc, List, [], ◌∷◌, map, Option, Some, None, Bool, ◌+◌}
+use Rattle.std.proofs.Common.{◌≡◌, refl, sym, ◌∙◌, ap, subst, ℕ, zero, suc, List, [], ◌∷◌, map, Option, Some, None, Bool, ◌+◌, arith}
 use Rattle.std.specs.List.{AllByRecursion, list_any, slice_get}
 use Rattle.osi_machine.specs.Floor.{State}
 use Rattle.osi_machine.specs.Core.{Offer, Side, Left, Right}
@@ -43,11 +43,7 @@ pub are_as_tables : SessionLaws → SaysItsUnit → (terms : Terms) (steps : Lis
 are_as_tables laws says terms steps small = follows_as _ _ (all_follow laws says terms steps small)
 
 pub is_legal : SessionLaws → SaysItsUnit → (t : Tables) → (h : IsTableRun t) → IsLegal h.agreed t.journal
-is_legal laws says t h = record {
-  steps = h.steps;
-  numbered = h.numbered;
-  leads = sym (are_as_tables laws says h.agreed h.steps h.numbered).journal ∙ ap (λ (x : Tables). x.journal) h.reached;
-}
+is_legal laws says t h = grind (arith, are_as_tables)
 
 -- ---- a line, and the connection that it is
 

@@ -7,7 +7,7 @@ use Rattle.osi_message.specs.Sendable.{said_of}
 use Rattle.osi_machine.specs.Floor.{CallError, Call, HasSerial, Meaning, allowed}
 use Rattle.osi_machine.specs.Core.{Offer, Side, Left, Right}
 use Rattle.osi_machine.specs.Worlds.{Class, class_2, Message, unit, Transport, linked, World, turned, session_of, after_answer, Taking, unit_taken, Terms, message_taken, shown_at_end}
-use Rattle.osi_machine.specs.Machine.{Ending, closed_here, Refusal, Step, connects, calls, delivers, breaks, ends, Entry, connect_answered, call_answered, shown_at, ended, Machine, start, connection_at, replaced, with_connection, seen_from, end_of, stays, noted, is_given, refusal_by, transport_of, refusal, asked_in, error_of, call_in, side_of, ends_there, ended_worlds, shown_in_order, marked_ended, after_end, closes_by, after_taking, without_first, learns, taken_in, delivered_to, cut_channels, is_told, step, run, HasNumber}
+use Rattle.osi_machine.specs.Machine.{Ending, closed_here, Refusal, Step, connects, calls, delivers, breaks, ends, Entry, connect_answered, call_answered, shown_at, Machine, start, connection_at, replaced, with_connection, seen_from, end_of, stays, noted, is_given, refusal_by, transport_of, refusal, asked_in, error_of, call_in, side_of, ends_there, ended_worlds, shown_in_order, marked_ended, after_end, closes_by, after_taking, without_first, learns, taken_in, delivered_to, cut_channels, is_told, step, run, HasNumber}
 use Rattle.osi_machine.specs.Tables.{Line, Turn, Tables}
 use Rattle.osi_machine.specs.Tables as tables
 use Rattle.osi_machine.specs.AsTables.{cut_line}
@@ -81,11 +81,7 @@ appended (x ∷ ls) [] l w h k = absurd k
 
 stays_follows : (m : Machine) (ls : List Line) (side : Side) (r : ℕ) (l : Line) (w : World) (es : List Entry) → AllTabled ls m.worlds → Tabled l w
     → Follows (tables.noted es (tables.stays (tables_of m ls) side r l)) (noted es (stays m side r w))
-stays_follows m ls side r l w es k h = record {
-  lines = with_connection r (tables.seen_from side l) ls;
-  all = with_tabled ls m.worlds r (tables.seen_from side l) (seen_from side w) (side_tabled side l w h) k;
-  same = refl;
-}
+stays_follows m ls side r l w es k h = grind (arith, with_tabled, side_tabled)
 
 -- ---- a connection is asked for
 
@@ -182,25 +178,13 @@ marked_follows Left e t m h = record { lines = h.lines; all = h.all; same = ap (
 marked_follows Right e t m h = record { lines = h.lines; all = h.all; same = ap (tables.marked_ended Right e) h.same }
 
 end_follows : (side : Side) (e : Ending) (keep : ℕ → ℕ) (t : Tables) (m : Machine) → Follows t m → Follows (tables.after_end side e keep t) (after_end side e keep m)
-end_follows side e keep t m h =
-    marked_follows side e (tables.noted (tables.shown_in_order side 1 t.lines ++ ended side e ∷ []) (record t { lines = tables.ended_lines side keep 1 t.lines }))
-    (noted (shown_in_order side 1 m.worlds ++ ended side e ∷ []) (record m { worlds = ended_worlds side keep 1 m.worlds }))
-    (record {
-      lines = tables.ended_lines side keep 1 h.lines;
-      all = ended_tabled side keep 1 h.lines m.worlds h.all;
-      same = ap (λ (x : Tables). tables.noted (tables.shown_in_order side 1 x.lines ++ ended side e ∷ []) (record x { lines = tables.ended_lines side keep 1 x.lines })) h.same
-          ∙ ap (λ (es : List Entry). tables.noted (es ++ ended side e ∷ []) (record (tables_of m h.lines) { lines = tables.ended_lines side keep 1 h.lines })) (shown_tabled side 1 h.lines m.worlds h.all);
-    })
+end_follows side e keep t m h = grind (arith, marked_follows, ended_tabled, shown_tabled)
 
 -- ---- a delivery
 
 still : (m : Machine) (ls : List Line) (side : Side) (r : ℕ) (k : Taking) (first second : Option Meaning) → AllTabled ls m.worlds → AreSeated k.world first second
     → Follows (tables.stays (tables_of m ls) side r (line_of k.world first second)) (stays m side r k.world)
-still m ls side r k first second h s = record {
-  lines = with_connection r (tables.seen_from side (line_of k.world first second)) ls;
-  all = with_tabled ls m.worlds r _ _ (side_tabled side (line_of k.world first second) k.world (record { first = first; second = second; same = refl; seated = s })) h;
-  same = refl;
-}
+still m ls side r k first second h s = grind (arith, line_of, with_tabled, side_tabled)
 
 closes_follows : (m : Machine) (ls : List Line) (side : Side) (r : ℕ) (keep : ℕ → ℕ) (k : Taking) (first second : Option Meaning) (known : Option Class) → AllTabled ls m.worlds → AreSeated k.world first second
     → Follows (tables.closes_by known (tables_of m ls) side r keep (line_of k.world first second)) (closes_by known m side r keep k)
@@ -235,10 +219,7 @@ stage_unit laws says b w t u first second m ms (inr (inl h)) e l s = absurd (no_
 stage_unit laws says b w t u first second m ms (inr (inr h)) e l s = unit_tabled laws says b w first second t u m ms h e l s
 
 popped_seated : (w : World) (ms : List Message) (a b : Option Meaning) → AreSeated w a b → AreSeated (without_first w ms) a b
-popped_seated w ms a b h = record {
-  own = record { calls = h.own.calls; called = h.own.called; idle = h.own.idle; bare = h.own.bare; disowned = h.own.disowned };
-  peer = record { calls = h.peer.calls; called = h.peer.called; idle = h.peer.idle; bare = h.peer.bare; disowned = h.peer.disowned };
-}
+popped_seated w ms a b h = grind arith
 
 stage_message : SessionLaws → SaysItsUnit → (b : Bool) (terms : Terms) (keep : ℕ) (w : World) (t u : Told) (first second : Option Meaning) (ms : List Message) (tr : Transport) (x : Message)
     → Stage b w t u → w.peer.channel ≡ x ∷ ms → w.own.transport ≡ tr → AreSeated w first second

@@ -1,7 +1,7 @@
 -- The session of each side after a call and after a unit that is taken: it is the one that the tables leave,
 -- and that of the other side stays.
 use Rattle.std.proofs.Common.{◌≡◌, refl, sym, ◌∙◌, ap, subst, ℕ, Bool, true, false, if◌then◌else◌, List, ◌∷◌, inl, inr, Ok, arith}
-use Rattle.osi_machine.specs.Floor.{State, Ended, Meaning, AC, GT, RS, RA, Token, Tokens, has, no_token, available, without_tokens, Call, Accept, Give, Restart, RestartConfirm, Granted, Answer, HasSerial, Outcome, allowed, after, is_over, respond_unit, becomes, stands}
+use Rattle.osi_machine.specs.Floor.{State, Ended, Meaning, AC, GT, RS, RA, Token, Tokens, has, no_token, without_tokens, Call, Granted, Answer, HasSerial, Outcome, allowed, after, is_over, respond_unit, becomes, stands}
 use Rattle.osi_machine.specs.Owners.{Own, ToThem, Absent, Owners, is_own, turned_owner, owned, given_up, left_by}
 use Rattle.osi_machine.specs.Taking.{is_acted_on, owners_after}
 use Rattle.osi_machine.specs.Core.{Core, turned, stays_in_core, owners_called, answered, taking}
@@ -83,11 +83,7 @@ not_theirs : (a b : Bool) → is_own (turned_owner (if a then Own else if b then
 not_theirs a b = grind arith
 
 none_called : (s : State) (c : Call) (o : Owners) (t : Token) → is_own (turned_owner (o t)) ≡ false → is_own (turned_owner (owners_called s c o t)) ≡ false
-none_called s (Give k) o t e = by_test (has k t) (λ q. rw q) (λ q. rw q e)
-none_called s (Accept u n a z x) o t e = not_theirs (has s.held t) (has (available s.units) t)
-none_called s (RestartConfirm a x) o t e = not_theirs (has s.held t) (has (available s.units) t)
-none_called s (Restart n x y) o t e = sym (given_theirs (o t)) ∙ e
-none_called s _ o t e = e
+none_called s c o t e = grind (arith, not_theirs, given_theirs)
 
 none_after : (s : State) (u : Meaning) (o : Owners) (t : Token) → is_own (turned_owner (o t)) ≡ false → is_own (turned_owner (owners_after s u o t)) ≡ false
 none_after s (GT k) o t e = by_test (has k t) (λ q. rw q) (λ q. rw q e)
@@ -98,10 +94,7 @@ none_after s _ o t e = e
 
 pub called_disowned : (broken : Bool) (s : State) (x : Call) (g : Granted) (w : World) → Disowned (turned_world w)
     → Disowned (after_call broken s x g w) × Disowned (turned_world (after_call broken s x g w))
-called_disowned broken s x g w d = (
-  λ o t. left_none g.next (owners_called g.next x w.owner) t o,
-  λ o t. left_theirs g.next (owners_called g.next x w.owner) t ∙ none_called g.next x w.owner t (d o t),
-)
+called_disowned broken s x g w d = grind (arith, left_none, left_theirs, none_called)
 
 pub taken_disowned : (broken : Bool) (s : State) (u : Meaning) (w : World) → Disowned (turned_world w)
     → Disowned (after_unit broken s u w) × Disowned (turned_world (after_unit broken s u w))
@@ -215,15 +208,12 @@ over_seats broken w t u m ms h o e x d =
 
 pub unit_followed : SessionLaws → (broken : Bool) (w : World) (t u : Told) (m : Meaning) (ms : List Message) → Repeats broken w t u → w.peer.channel ≡ unit m ∷ ms
     → Disowned w → Disowned (turned_world w) → Followed w (after_taking broken w m ms (session_of w)) (respond_unit (session_of w) m).next
-unit_followed laws broken w t u m ms h e x d = by (stopped w.own) refl
-  where
-    by : (b : Bool) → stopped w.own ≡ b → Followed w (after_taking broken w m ms (session_of w)) (respond_unit (session_of w) m).next
-    by true o = over_seats broken w t u m ms h o e x d
-    by false l =
-        let same = session_is w h.core h.stands h.projects.history h.projects.own.counted (h.projects.own.alike l) in
-        let way = subst (λ (ch : List Message). Carried broken (stopped w.peer) ch h.core.peer.sent h.core.peer.session) e (h.projects.own.carried l) in
-        subst (λ (s : State). Followed w (after_taking broken w m ms s) (respond_unit s m).next) (sym same)
-        (elim (split_first broken (stopped w.peer) m ms h.core.peer.sent h.core.peer.session way) [
-          | inl f ↦ first_seats laws broken w t u m ms h l e d f
-          | inr z ↦ last_seats broken w t u m ms h d z
-        ])
+unit_followed laws broken w t u m ms h e x d = by_test (stopped w.own)
+    (λ o. over_seats broken w t u m ms h o e x d)
+    (λ l. let same = session_is w h.core h.stands h.projects.history h.projects.own.counted (h.projects.own.alike l) in
+    let way = subst (λ (ch : List Message). Carried broken (stopped w.peer) ch h.core.peer.sent h.core.peer.session) e (h.projects.own.carried l) in
+    subst (λ (s : State). Followed w (after_taking broken w m ms s) (respond_unit s m).next) (sym same)
+    (elim (split_first broken (stopped w.peer) m ms h.core.peer.sent h.core.peer.session way) [
+      | inl f ↦ first_seats laws broken w t u m ms h l e d f
+      | inr z ↦ last_seats broken w t u m ms h d z
+    ]))

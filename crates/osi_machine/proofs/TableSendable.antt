@@ -1,7 +1,7 @@
 -- Every unit that is under way can be sent, and the numbers of each session are in order.
-use Rattle.std.proofs.Common.{◌≡◌, refl, sym, subst, ℕ, zero, suc, ◌+◌, ◌<◌, Bool, true, false, not, ◌&&◌, ◌||◌, nat_le, if◌then◌else◌, List, [], ◌∷◌, ◌++◌, map, length, take, Option, Some, None, is_some, Ok, Err, arith}
+use Rattle.std.proofs.Common.{◌≡◌, refl, sym, subst, ℕ, zero, suc, ◌+◌, ◌<◌, Bool, true, false, not, ◌&&◌, ◌||◌, if◌then◌else◌, List, [], ◌∷◌, ◌++◌, map, length, take, Option, Some, None, is_some, Ok, Err, arith}
 use Rattle.std.proofs.lemmas.Bool.{leb-true, ltb-false, or_parts, not-false}
-use Rattle.std.specs.List.{AllByRecursion, list_any}
+use Rattle.std.specs.List.{AllByRecursion}
 use Rattle.osi_session.specs.declared.faults.CallError.TheVariants as error
 use Rattle.osi_session.specs.Moves.{Input, called, taken, opened, refused, broken as broken_off, Standing, Move, react, answered as answered_move, begun, denied, rests, after_inputs}
 use Rattle.osi_session.specs.Runs.{HasNumbers}
@@ -9,10 +9,10 @@ use Rattle.osi_session.specs.Sessions.{CanBeSent}
 use Rattle.osi_message.specs.Reading.{Said}
 use Rattle.osi_message.specs.Sendable.{said_of, IsAddress}
 use Rattle.osi_message.specs.Written.{is_second, user_data_of}
-use Rattle.osi_machine.specs.Floor.{State, Meaning, WaitTransport, Call, HasSerial, Granted, Answer, IsSmall, IsSound, IsSendable, allowed, respond, without_tokens, awaiting, functional_units, has_points, is_wait_transport, is_profile}
+use Rattle.osi_machine.specs.Floor.{State, Meaning, WaitTransport, Call, HasSerial, Granted, Answer, IsSmall, IsSound, IsSendable, allowed, respond, without_tokens, awaiting, is_wait_transport}
 use Rattle.osi_machine.specs.Core.{Offer, CanBeOffered, Side, Left, Right, offering, offer_sent}
 use Rattle.osi_machine.specs.Worlds.{Class, class_2, Message, unit, ask, agree, deny, bye, over, Transport, not_yet, waiting, linked, closing, gone, put, replied, Terms, accepts, denies}
-use Rattle.osi_machine.specs.Machine.{Ending, closed_here, Refusal, Step, connects, calls, delivers, breaks, ends, call_answered, shown_at, ended, connection_at, is_given, is_known, is_class_0, is_waiting, live_count, is_long_selector, is_long, refusal_by, learns, is_told, HasNumber}
+use Rattle.osi_machine.specs.Machine.{Ending, closed_here, Refusal, Step, connects, calls, delivers, breaks, ends, call_answered, shown_at, ended, connection_at, is_given, is_long_selector, is_long, refusal_by, learns, is_told, HasNumber}
 use Rattle.osi_machine.specs.Tables.{Line, Turn, Tables, asked_with, in_transport, puts, shortened, made, after_call, message_taken, closed, ended_at, start, seen_from, side_of, end_of, stays, noted, transport_of, refusal, asked_in, call_in, ends_there, ended_lines, shown_in_order, marked_ended, after_end, closes_by, after_turn, without_first, taken_in, delivered_to, cut_channels, step, run}
 use Rattle.osi_machine.specs.AsTables.{AreSendable, IsSoundLine, AreSoundLines, IsTableRun}
 use Rattle.osi_machine.proofs.LinesRun.{if_none}
@@ -109,10 +109,7 @@ well_refused laws s reason h w = record { sound = sound_after laws s (refused re
 -- ---- a connection
 
 moved_line : (b : Bool) (tr : Transport) (m : Move) (l : Line) → IsWell m → IsSoundLine l → IsSoundLine (in_transport tr (made b m l))
-moved_line b tr m l w h = record {
-  own = record { sound = w.sound; waits = w.waits; under_way = put_sendable b (replied m.reply) l.own.channel (replied_sendable m.reply w.reply) h.own.under_way };
-  peer = h.peer;
-}
+moved_line b tr m l w h = grind (arith, put_sendable, replied_sendable)
 
 put_line : (b : Bool) (ms : List Message) (tr : Transport) (l : Line) → AreSendable ms → IsSoundLine l → IsSoundLine (puts b ms (in_transport tr l))
 put_line b ms tr l k h = record { own = record { sound = h.own.sound; waits = h.own.waits; under_way = put_sendable b ms l.own.channel k h.own.under_way }; peer = h.peer }
@@ -127,12 +124,7 @@ popped_line : (l : Line) (ms : List Message) → AreSendable ms → IsSoundLine 
 popped_line l ms k h = record { own = h.own; peer = record { sound = h.peer.sound; waits = h.peer.waits; under_way = k } }
 
 called_line : SendLaws → (b : Bool) (c : Call) (l : Line) → HasSerial c → IsSoundLine l → IsSoundLine (after_call b c l)
-called_line laws b c l small h =
-    let w = well_called laws l.own.session c small h.own.sound h.own.waits in
-    record {
-      own = record { sound = w.sound; waits = w.waits; under_way = put_sendable b (replied (react l.own.session (called c)).reply) l.own.channel (replied_sendable (react l.own.session (called c)).reply w.reply) h.own.under_way };
-      peer = h.peer;
-    }
+called_line laws b c l small h = grind (arith, well_called, put_sendable, replied_sendable)
 
 message_line : SendLaws → (b : Bool) (terms : Terms) (keep : ℕ) (tr : Transport) (l : Line) (x : Message) (xs : List Message) → AreSendable (x ∷ xs) → IsSoundLine l
     → IsSoundLine (message_taken b terms keep tr (without_first l xs) x).line
@@ -176,41 +168,21 @@ offer_sendable o small h =
     let a = or_parts (is_long_selector o.calling_selector) _ h in
     let b = or_parts (is_long_selector o.called_selector) _ a.1 in
     let c = leb-true (length o.octets) 10240 (not-false _ b.1) in
-    record {
-      version = refl;
-      numbered = numbered (has_points (functional_units o.requirements)) small.0;
-      sized = small.1;
-      addressed = (short_selector o.calling_selector a.0, short_selector o.called_selector b.0);
-      short = omega arith;
-    }
+    grind (arith, short_selector)
   where
     numbered : (b : Bool) → o.serial < 1000000 → IsSmall (if b then Some o.serial else None)
     numbered true k = omega arith
     numbered false k = tt
 
 calling_sound : (o : Offer) → CanBeOffered o → IsSound (without_tokens WaitTransport (offering o))
-calling_sound o small = record {
-  ordered = record { confirmed_from = omega arith; confirmed_to = omega arith; lowest_from = omega arith; lowest_to = omega arith; last = omega arith };
-  first = first (has_points (functional_units o.requirements));
-  major = λ e. absurd (cc);
-  restart = λ e. absurd (cc);
-  tokens = λ e. refl;
-  sizes = small.1;
-}
+calling_sound o small = grind arith
   where
     first : (b : Bool) → (if b then o.serial else 0) < 1000000
     first true = small.0
     first false = omega arith
 
 awaiting_sound : IsSound awaiting
-awaiting_sound = record {
-  ordered = record { confirmed_from = omega arith; confirmed_to = omega arith; lowest_from = omega arith; lowest_to = omega arith; last = omega arith };
-  first = omega arith;
-  major = λ e. absurd (cc);
-  restart = λ e. absurd (cc);
-  tokens = λ e. refl;
-  sizes = refl;
-}
+awaiting_sound = grind arith
 
 asked_line : (b : Bool) (o : Offer) → CanBeOffered o → is_long o ≡ false → IsSoundLine (asked_with b o)
 asked_line b o small h = record {
@@ -219,14 +191,7 @@ asked_line b o small h = record {
 }
 
 asked_short : (ended_now : Bool) (known : Option Class) (asked : List Transport) (o : Offer) → refusal_by ended_now known asked o ≡ None → is_long o ≡ false
-asked_short ended_now known asked o h =
-    let a = if_none ended_now _ _ h in
-    let b = if_none (not (is_known known) && list_any is_waiting asked) _ _ a.1 in
-    let c = if_none (is_class_0 known) _ _ b.1 in
-    let d = if_none (nat_le 64 (live_count asked)) _ _ c.1 in
-    let e = if_none (nat_le 65535 (length asked)) _ _ d.1 in
-    let f = if_none (not (is_profile o.requirements)) _ _ e.1 in
-    (if_none (is_long o) _ _ f.1).0
+asked_short ended_now known asked o h = grind (arith, if_none)
 
 -- ---- all connections
 

@@ -1,6 +1,6 @@
 -- The answer to a restart, a CN and an AC are taken. Each keeps what is true of both sides.
 use Rattle.std.proofs.Common.{◌≡◌, refl, sym, ◌∙◌, ap, ℕ, Bool, true, false, not, if◌then◌else◌, List, ◌∷◌, Option, unwrap_or, arith}
-use Rattle.osi_machine.specs.Floor.{TokenSetting, TsduMaximumSize, State, FunctionalUnits, Answering, Ended, Meaning, CN, AC, RA, Tokens, Token, no_token, has, both_units, functional_units, stated, of_asker, is_wait_cn, is_connecting, is_restarting, is_releasing, is_over, is_acceptable, may_hold, without_tokens, becomes, drops, next}
+use Rattle.osi_machine.specs.Floor.{TokenSetting, TsduMaximumSize, State, FunctionalUnits, Answering, Ended, Meaning, CN, AC, RA, Tokens, Token, no_token, has, both_units, functional_units, stated, of_asker, is_connecting, is_restarting, is_releasing, is_over, is_acceptable, may_hold, without_tokens, becomes, drops, next}
 use Rattle.osi_machine.specs.Channels.{AllFit, flush}
 use Rattle.osi_machine.specs.Core.{Core, taking}
 use Rattle.osi_machine.specs.Parties.{is_opening}
@@ -117,19 +117,7 @@ connect_calm : (w : Core) (v : Bool) (u : ℕ) (n : Option ℕ) (x : TokenSettin
     → drops w.own.session (CN v u n x from to z o) ≡ false → Stands (at w (CN v u n x from to z o ∷ us)) → Calm w (CN v u n x from to z o) us (called w.own.session u n x z)
 connect_calm w v u n x from to z o us d h =
     let g = h.own.fits.0.good d in
-    record {
-      acts = d;
-      plain = assumption;
-      next = next_acted w.own.session (CN v u n x from to z o) d
-          ∙ ap (λ (b : Bool). if b then called w.own.session u n x z else without_tokens Ended w.own.session) (acceptable w v u n x from to z o us d h);
-      listens = excluded is_wait_cn is_restarting refl w.own.session.phase g.expected;
-      hears = refl;
-      owes = refl;
-      released = λ r. absurd (let a = h.peer.meeting.released r in let b = excluded is_wait_cn is_releasing refl w.own.session.phase g.expected in cc);
-      flag = h.own_counts.flag;
-      below = h.peer_counts.below;
-      reach = h.peer_counts.reach;
-    }
+    grind (arith, next_acted, acceptable)
 
 pub connect_taken : SessionLaws → (w : Core) (v : Bool) (u : ℕ) (n : Option ℕ) (x : TokenSetting) (from to : Option (List ℕ)) (z : TsduMaximumSize) (o : List ℕ) (us : List Meaning)
     → w.peer.sent ≡ CN v u n x from to z o ∷ us → drops w.own.session (CN v u n x from to z o) ≡ false → Stands w → Stands (taking w (CN v u n x from to z o ∷ us))

@@ -1,11 +1,11 @@
 -- A unit is taken that changes nothing of its taker's state: data, a request for tokens, and all that is
 -- discarded. It keeps what is true of both sides.
-use Rattle.std.proofs.Common.{◌≡◌, refl, sym, ◌∙◌, ap, subst, ℕ, Bool, true, false, not, ◌&&◌, ◌||◌, if◌then◌else◌, List, [], ◌∷◌, ◌++◌, append_assoc, is_none, arith}
+use Rattle.std.proofs.Common.{◌≡◌, refl, sym, ◌∙◌, ap, subst, ℕ, Bool, true, false, not, ◌&&◌, ◌||◌, if◌then◌else◌, List, [], ◌∷◌, ◌++◌, append_assoc, arith}
 use Rattle.std.specs.List.{list_any}
-use Rattle.osi_machine.specs.Floor.{State, FunctionalUnits, Meaning, DT, PT, Tokens, data_token, is_empty, takes_data, is_over, is_expected, si, first_fault, conditions, has_no_effect, passes_restarting, is_restarting, is_restart_due, drops, next}
-use Rattle.osi_machine.specs.Histories.{Item, cutat}
+use Rattle.osi_machine.specs.Floor.{State, FunctionalUnits, Meaning, DT, PT, Tokens, data_token, is_empty, takes_data, has_no_effect, is_restarting, is_restart_due, drops, next}
+use Rattle.osi_machine.specs.Histories.{Item}
 use Rattle.osi_machine.specs.Owners.{Owners, turned_owners}
-use Rattle.osi_machine.specs.Taking.{is_acted_on, seen, got_in, cut_by, owners_after}
+use Rattle.osi_machine.specs.Taking.{is_acted_on, got_in, cut_by, owners_after}
 use Rattle.osi_machine.specs.Channels.{AllFit, flush, stops, heard, hears, view_next, heard_view, data_in, data_of, needs_token}
 use Rattle.osi_machine.specs.Core.{Party, Core, taking}
 use Rattle.osi_machine.specs.Parties.{is_opening, IsConsistent, AreConsistent}
@@ -35,12 +35,7 @@ view_rest s u us v e = ap (λ (b : Bool). if b then v else heard_view (next s u)
 -- ---- both at once
 
 pub one_less : (p : Meaning → Bool) (b : Bool) (u : Meaning) (us : List Meaning) → (b && list_any p (u ∷ us)) ≡ false → (b && list_any p us) ≡ false
-one_less p b u us h = by b (p u) (list_any p us) h
-  where
-    by : (a c d : Bool) → (a && (c || d)) ≡ false → (a && d) ≡ false
-    by false c d e = refl
-    by true true d e = absurd (cc)
-    by true false d e = e
+one_less p b u us h = grind arith
 
 pub pair_rest : (h : List Item) (x y : Party) (u : Meaning) (us : List Meaning) → next x.session u ≡ x.session → Pair h x (rest_of y (u ∷ us)) → Pair h (taken_party x u) (rest_of y us)
 pair_rest h x y u us same p = record {
@@ -62,25 +57,11 @@ pub taker_views_dropped : (h : List Item) (x y : Party) (u : Meaning) (us : List
 taker_views_dropped h x y u us d none v =
     let st : stops x.session u ≡ false = dropped_stops x.session u d in
     let same : next x.session u ≡ x.session = next_dropped x.session u d in
-    record {
-      ends = λ l. sym (view_rest x.session u us x.view st) ∙ v.ends (ap (λ (r : State). hears r.phase) (heard_rest x.session u us st) ∙ l);
-      cut = λ r. ap (λ (b : Bool). if b then x.view else seen x.session u x.view) d ∙ v.cut (ap (λ (r : State). is_restarting r.phase) (heard_rest x.session u us st) ∙ r)
-          ∙ ap (λ (q : State). cutat q.base h q.numbers.next) (sym same);
-      due = λ r. v.due (ap (λ (q : State). is_restart_due q.phase) (sym same) ∙ r);
-      stream = λ e.
-          let old = v.stream e in
-          let got = ap (λ (b : Bool). if b then x.got else x.got ++ got_in x.session u) d in
-          (ap (λ (r : List (List ℕ)). r ++ data_of us) got ∙ ap (λ (r : List (List ℕ)). x.got ++ (r ++ data_of us)) (sym (none e)) ∙ old.0, old.1);
-    }
+    grind (arith, view_rest, heard_rest)
 
 pub giver_views_dropped : (h : List Item) (x y : Party) (u : Meaning) (us : List Meaning) → drops x.session u ≡ true
     → Views h (rest_of y (u ∷ us)) x → Views h (rest_of y us) (taken_party x u)
-giver_views_dropped h x y u us d v = record {
-  ends = v.ends;
-  cut = v.cut;
-  due = λ r. ap (λ (b : Bool). if b then x.view else seen x.session u x.view) d ∙ v.due r;
-  stream = v.stream;
-}
+giver_views_dropped h x y u us d v = grind arith
 
 -- ---- a unit that is acted on and changes nothing: data, and a request for tokens
 
@@ -204,11 +185,7 @@ please_taken laws w k octets us e d s =
 
 -- a unit is discarded
 dropped_not_acted : (s : State) (u : Meaning) → drops s u ≡ true → is_acted_on s u ≡ false
-dropped_not_acted s u d = by (is_over s.phase) (drops s u) (is_expected s.phase u && is_none (first_fault (si u) (conditions s u))) d
-  where
-    by : (o d e : Bool) → d ≡ true → (not o && (not d && e)) ≡ false
-    by true d e h = refl
-    by false d e h = rw h refl
+dropped_not_acted s u d = grind arith
 
 nothing_in : (u : Meaning) → has_no_effect u ≡ true → data_in u ≡ []
 nothing_in (DT octets) h = absurd (cc)
@@ -217,12 +194,7 @@ nothing_in _ h = refl
 -- with duplex there is no restart, so that no data is discarded
 dropped_data : (x : Party) (u : Meaning) → drops x.session u ≡ true → IsConsistent x
     → (is_restarting x.session.phase ≡ true → IsOfProfile x.session.units × (x.session.units.duplex ≡ true)) → data_in u ≡ []
-dropped_data x u d c p = by (has_no_effect u) (is_restarting x.session.phase) refl refl d
-  where
-    by : (a r : Bool) → has_no_effect u ≡ a → is_restarting x.session.phase ≡ r → (a || (r && not (passes_restarting u))) ≡ true → data_in u ≡ []
-    by true r h k l = nothing_in u h
-    by false true h k l = absurd (let a = c.asked k in let q = p k in let b = (q.0.alone q.1).2 in cc)
-    by false false h k l = absurd (cc)
+dropped_data x u d c p = grind (arith, nothing_in)
 
 pub dropped_taken : SessionLaws → (w : Core) (u : Meaning) (us : List Meaning) → w.peer.sent ≡ u ∷ us → drops w.own.session u ≡ true → Stands w
     → Stands (taking w (u ∷ us))

@@ -1,6 +1,6 @@
 -- A unit is taken that cuts nothing off: what has to be known of it, so that all that is true of both sides
 -- stays.
-use Rattle.std.proofs.Common.{◌≡◌, refl, sym, ◌∙◌, ap, subst, ℕ, ◌≤◌, ◌<◌, Bool, true, false, not, if◌then◌else◌, List, [], ◌∷◌, ◌++◌}
+use Rattle.std.proofs.Common.{◌≡◌, refl, sym, ◌∙◌, ap, subst, ℕ, ◌≤◌, ◌<◌, Bool, true, false, not, if◌then◌else◌, List, [], ◌∷◌, ◌++◌, arith}
 use Rattle.std.specs.List.{list_any}
 use Rattle.osi_machine.specs.Floor.{State, Tokens, has, data_token, Meaning, lower, is_restarting, is_restart_due, is_release_due, is_releasing, drops, next}
 use Rattle.osi_machine.specs.Histories.{Item, cutat, AreNumberedFrom}
@@ -180,29 +180,28 @@ pub record Calm (w : Core) (u : Meaning) (us : List Meaning) (r : State) : Type 
 
 pub calm_moves : (w : Core) (u : Meaning) (us : List Meaning) (r : State) → Stands (at w (u ∷ us)) → Calm w u us r
     → Moves w u us r (seen w.own.session u w.own.view) w.own.got w.owner
-calm_moves w u us r h k = record {
-  stays = k.plain.stays;
-  next = k.next;
-  view = ap (λ (b : Bool). if b then w.own.view else seen w.own.session u w.own.view) k.acts;
-  gets = none_got w.own u k.plain.silent;
-  history = if_second (is_acted_on w.own.session u) (cut_by w.own.session u w.history) w.history k.plain.history;
-  owner = if_second (is_acted_on w.own.session u) (owners_after w.own.session u w.owner) w.owner k.plain.owner;
-  tokens = same_tokens w.owner w.own.session (flush w.own.session (u ∷ us)) (flush w.peer.session w.own.sent) (heard w.own.session (u ∷ us)) w.peer.session r h.own.meeting k.plain.held;
-  others = same_tokens (turned_owners w.owner) w.peer.session (flush w.peer.session w.own.sent) (flush w.own.session (u ∷ us)) (heard w.peer.session w.own.sent) w.own.session w.peer.session h.peer.meeting refl;
-  released = k.released;
-  cut = λ c. absurd (no_cut r us k.hears (subst (λ (q : State). AllFit q us) k.next f.1)
-      (subst (λ (q : State). is_restarting q.phase ≡ true) (heard_is w.own.session r u us k.plain.stays k.next) c));
-  due = λ d. absurd (let o = k.owes in cc);
-  other_due = λ d. absurd (none_due_there w.owner w.own (rest_of w.peer (u ∷ us)) h.own h.peer k.listens d);
-  stream = λ d. same_stream w.own.got u us k.plain.empty;
-  flag = k.flag;
-  below = k.below;
-  reach = k.reach;
-  caller = k.plain.caller;
-}
-  where
-    f : AllFit w.own.session (u ∷ us)
-    f = h.own.fits
+calm_moves w u us r h k =
+    let f : AllFit w.own.session (u ∷ us) = h.own.fits in
+    record {
+      stays = k.plain.stays;
+      next = k.next;
+      view = ap (λ (b : Bool). if b then w.own.view else seen w.own.session u w.own.view) k.acts;
+      gets = none_got w.own u k.plain.silent;
+      history = if_second (is_acted_on w.own.session u) (cut_by w.own.session u w.history) w.history k.plain.history;
+      owner = if_second (is_acted_on w.own.session u) (owners_after w.own.session u w.owner) w.owner k.plain.owner;
+      tokens = same_tokens w.owner w.own.session (flush w.own.session (u ∷ us)) (flush w.peer.session w.own.sent) (heard w.own.session (u ∷ us)) w.peer.session r h.own.meeting k.plain.held;
+      others = same_tokens (turned_owners w.owner) w.peer.session (flush w.peer.session w.own.sent) (flush w.own.session (u ∷ us)) (heard w.peer.session w.own.sent) w.own.session w.peer.session h.peer.meeting refl;
+      released = k.released;
+      cut = λ c. absurd (no_cut r us k.hears (subst (λ (q : State). AllFit q us) k.next f.1)
+          (subst (λ (q : State). is_restarting q.phase ≡ true) (heard_is w.own.session r u us k.plain.stays k.next) c));
+      due = λ d. absurd (let o = k.owes in cc);
+      other_due = λ d. absurd (none_due_there w.owner w.own (rest_of w.peer (u ∷ us)) h.own h.peer k.listens d);
+      stream = λ d. same_stream w.own.got u us k.plain.empty;
+      flag = k.flag;
+      below = k.below;
+      reach = k.reach;
+      caller = k.plain.caller;
+    }
 
 pub calm_stands : SessionLaws → (w : Core) (u : Meaning) (us : List Meaning) (r : State) → w.peer.sent ≡ u ∷ us → Stands w
     → (Stands (at w (u ∷ us)) → Calm w u us r) → Stands (taking w (u ∷ us))

@@ -1,12 +1,12 @@
 -- A synchronization point is taken. It keeps what is true of both sides.
-use Rattle.std.proofs.Common.{◌≡◌, refl, sym, ◌∙◌, ap, subst, ℕ, ◌+◌, ◌≤◌, ◌<◌, Bool, true, false, not, ◌&&◌, ◌||◌, nat_lt, if◌then◌else◌, List, ◌∷◌, ◌⊎◌, inl, inr, arith}
+use Rattle.std.proofs.Common.{◌≡◌, refl, sym, ◌∙◌, ap, subst, ℕ, ◌+◌, ◌≤◌, ◌<◌, Bool, true, false, not, ◌&&◌, ◌||◌, nat_lt, if◌then◌else◌, List, ◌∷◌, ◌⊎◌, arith}
 use Rattle.std.proofs.lemmas.Bool.{ltb-true, ltb-false, false_from_ne_true}
 use Rattle.std.specs.List.{list_any}
 use Rattle.osi_machine.specs.Floor.{State, Numbers, FunctionalUnits, Meaning, MIP, MAP, data_token, lower, MajorDue, is_ready, is_releasing, is_restarting, is_restart_due, point_taken, drops, next}
 use Rattle.osi_machine.specs.Channels.{AllFit, flush, stops, heard, hears, needs_token}
 use Rattle.osi_machine.specs.Core.{Core}
 use Rattle.osi_machine.specs.Parties.{is_opening}
-use Rattle.osi_machine.proofs.PhaseLaws.{excluded, by_test}
+use Rattle.osi_machine.proofs.PhaseLaws.{excluded}
 use Rattle.osi_machine.proofs.Records.{IsOfProfile, Stands}
 use Rattle.osi_machine.proofs.Units.{next_acted}
 use Rattle.osi_machine.proofs.ChannelLaws.{heard_flush, kept_heard}
@@ -19,19 +19,11 @@ use Rattle.osi_machine.proofs.TakeMoves.{at, heard_is, Calm}
 
 -- the number of points that are confirmed, once one more is taken
 reach_point : (a : Bool) (next c confirmed : ℕ) → c ≤ next → (a ≡ true → lower next c ≤ confirmed) → lower (next + 1) c ≤ (if a then confirmed else next)
-reach_point true next c confirmed le f =
-    let p = f refl in
-    let q = lower_from next c c le (omega arith) in
-    let r = lower_second (next + 1) c in
-    omega arith
-reach_point false next c confirmed le f = let r = lower_second (next + 1) c in omega arith
+reach_point a next c confirmed le f = grind (arith, lower_from, lower_second)
 
 -- half-duplex, where points are selected
 half : (u : FunctionalUnits) → IsOfProfile u → (u.minor ≡ true) ⊎ (u.major ≡ true) → u.half_duplex ≡ true
-half u p k = by_test u.half_duplex
-    (λ e. e)
-    (λ e. absurd (let d = p.alone (p.duplex ∙ ap not e) in
-    elim k [ inl m ↦ (let n = d.0 in cc) | inr m ↦ (let n = d.1 in cc) ]))
+half u p k = grind arith
 
 -- ---- what has to be known of a point
 
@@ -125,16 +117,7 @@ minor_pointed : (w : Core) (confirm : Bool) (n : ℕ) (octets : List ℕ) (us : 
 unfolding taken_minor
 minor_pointed w confirm n octets us d h =
     let g = h.own.fits.0.good d in
-    record {
-      acts = d;
-      ready = g.expected;
-      selected = inl g.met.0;
-      needs = refl;
-      stays = refl;
-      next = next_acted w.own.session (MIP confirm n octets) d;
-      opened = excluded is_ready is_opening refl w.own.session.phase g.expected;
-      numbers = refl;
-    }
+    grind (arith, next_acted)
 
 pub minor_calm : (w : Core) (confirm : Bool) (n : ℕ) (octets : List ℕ) (us : List Meaning) → drops w.own.session (MIP confirm n octets) ≡ false
     → Stands (at w (MIP confirm n octets ∷ us)) → Calm w (MIP confirm n octets) us (taken_minor w.own.session)
@@ -159,16 +142,7 @@ major_pointed : (w : Core) (n : ℕ) (octets : List ℕ) (us : List Meaning) →
 unfolding taken_major
 major_pointed w n octets us d h =
     let g = h.own.fits.0.good d in
-    record {
-      acts = d;
-      ready = g.expected;
-      selected = inr g.met.0;
-      needs = refl;
-      stays = refl;
-      next = next_acted w.own.session (MAP n octets) d;
-      opened = refl;
-      numbers = refl;
-    }
+    grind (arith, next_acted)
 
 pub major_calm : (w : Core) (n : ℕ) (octets : List ℕ) (us : List Meaning) → drops w.own.session (MAP n octets) ≡ false
     → Stands (at w (MAP n octets ∷ us)) → Calm w (MAP n octets) us (taken_major w.own.session)

@@ -1,7 +1,7 @@
 -- A request for release, its refusal, and a confirmation are taken. Each keeps what is true of both sides.
-use Rattle.std.proofs.Common.{◌≡◌, refl, sym, subst, ℕ, Bool, true, false, not, ◌&&◌, List, ◌∷◌, ◌⊎◌, inl, inr}
+use Rattle.std.proofs.Common.{◌≡◌, refl, sym, subst, ℕ, Bool, true, false, not, ◌&&◌, List, ◌∷◌, ◌⊎◌, inl, inr, arith}
 use Rattle.std.proofs.lemmas.Bool.{and_parts, and_from, not-true}
-use Rattle.osi_machine.specs.Floor.{State, Meaning, FN, NF, MIA, MAA, is_ready, is_major_asked, is_releasing, is_release_due, is_restarting, is_restart_due, takes_minor_ack, minor_confirmed, major_confirmed, Ready, ReleaseDue, drops, next, becomes}
+use Rattle.osi_machine.specs.Floor.{State, Meaning, FN, NF, MIA, MAA, is_releasing, is_release_due, is_restarting, is_restart_due, minor_confirmed, major_confirmed, Ready, ReleaseDue, drops, next, becomes}
 use Rattle.osi_machine.specs.Channels.{flush, heard}
 use Rattle.osi_machine.specs.Core.{Core}
 use Rattle.osi_machine.proofs.PhaseLaws.{excluded, implied_two}
@@ -20,18 +20,7 @@ pub finish_calm : (w : Core) (octets : List ℕ) (us : List Meaning) → drops w
     → Calm w (FN octets) us (record w.own.session { phase = ReleaseDue })
 finish_calm w octets us d h =
     let g = h.own.fits.0.good d in
-    record {
-      acts = d;
-      plain = assumption;
-      next = next_acted w.own.session (FN octets) d;
-      listens = excluded is_ready is_restarting refl w.own.session.phase g.expected;
-      hears = refl;
-      owes = refl;
-      released = λ r. absurd (let a = h.peer.meeting.released r in let b = excluded is_ready is_releasing refl w.own.session.phase g.expected in cc);
-      flag = h.own_counts.flag;
-      below = h.peer_counts.below;
-      reach = h.peer_counts.reach;
-    }
+    grind (arith, next_acted)
 
 -- ---- its refusal: the other does not owe the answer any more
 
@@ -62,18 +51,7 @@ pub not_finished_calm : (w : Core) (octets : List ℕ) (us : List Meaning) → d
     → Calm w (NF octets) us (record w.own.session { phase = Ready })
 not_finished_calm w octets us d h =
     let g = h.own.fits.0.good d in
-    record {
-      acts = d;
-      plain = assumption;
-      next = next_acted w.own.session (NF octets) d;
-      listens = excluded is_releasing is_restarting refl w.own.session.phase g.expected;
-      hears = refl;
-      owes = refl;
-      released = λ r. absurd (after_refusal w octets us d h r);
-      flag = h.own_counts.flag;
-      below = h.peer_counts.below;
-      reach = h.peer_counts.reach;
-    }
+    grind (arith, next_acted, after_refusal)
 
 -- ---- the confirmation of a minor point, which a side takes that has sent points last
 
@@ -86,18 +64,7 @@ unfolding confirmed minor_confirmed
 point_confirmed_calm w n octets us d h =
     let g = h.own.fits.0.good d in
     let sends : w.own.session.numbers.answers ≡ false = not-true _ (and_parts (not w.own.session.numbers.answers) _ g.met.1.0).0 in
-    record {
-      acts = d;
-      plain = assumption;
-      next = next_acted w.own.session (MIA n octets) d;
-      listens = excluded takes_minor_ack is_restarting refl w.own.session.phase g.expected;
-      hears = excluded takes_minor_ack is_restarting refl w.own.session.phase g.expected;
-      owes = excluded takes_minor_ack is_restart_due refl w.own.session.phase g.expected;
-      released = h.peer.meeting.released;
-      flag = h.own_counts.flag;
-      below = h.peer_counts.below;
-      reach = λ a. absurd (not_both _ a sends);
-    }
+    grind (arith, next_acted, not_both)
 
 -- ---- the confirmation of a major point
 
@@ -109,15 +76,4 @@ pub major_confirmed_calm : (w : Core) (n : ℕ) (octets : List ℕ) (us : List M
 unfolding major_done major_confirmed
 major_confirmed_calm w n octets us d h =
     let g = h.own.fits.0.good d in
-    record {
-      acts = d;
-      plain = assumption;
-      next = next_acted w.own.session (MAA n octets) d;
-      listens = excluded is_major_asked is_restarting refl w.own.session.phase g.expected;
-      hears = refl;
-      owes = refl;
-      released = λ r. absurd (not_both _ (h.peer.meeting.released r) (excluded is_major_asked is_releasing refl w.own.session.phase g.expected));
-      flag = h.own_counts.flag;
-      below = h.peer_counts.below;
-      reach = λ a. lower_first w.own.session.numbers.next (heard w.peer.session w.own.sent).numbers.confirmed;
-    }
+    grind (arith, next_acted, not_both, lower_first)

@@ -1,13 +1,12 @@
 -- A restart is taken. It keeps what is true of both sides: where it stands it cuts what was seen and the
 -- history, and where it does not it changes nothing.
-use Rattle.std.proofs.Common.{◌≡◌, refl, sym, ◌∙◌, ap, subst, ℕ, zero, suc, ◌-◌, ◌==◌, ◌≤◌, ◌<◌, Bool, true, false, not, ◌&&◌, ◌||◌, nat_le, if◌then◌else◌, List, [], ◌∷◌, ◌++◌, arith}
+use Rattle.std.proofs.Common.{◌≡◌, refl, sym, ◌∙◌, ap, subst, ℕ, ◌-◌, ◌==◌, ◌≤◌, ◌<◌, Bool, true, false, not, ◌&&◌, ◌||◌, if◌then◌else◌, List, [], ◌∷◌, ◌++◌, arith}
 use Rattle.std.proofs.lemmas.Bool.{and_parts, and_from}
-use Rattle.std.specs.List.{list_any}
-use Rattle.osi_machine.specs.Floor.{TokenSetting, ResyncType, State, RestartDue, Meaning, RS, Tokens, data_token, has, is_restarting, is_restart_due, is_release_due, may_hold, without_tokens, restarted_at, stands, next}
-use Rattle.osi_machine.specs.Histories.{Item, upto, cutat, AreNumberedFrom}
+use Rattle.osi_machine.specs.Floor.{TokenSetting, ResyncType, State, RestartDue, Meaning, RS, Tokens, has, is_restarting, is_restart_due, is_release_due, may_hold, without_tokens, restarted_at, stands, next}
+use Rattle.osi_machine.specs.Histories.{Item, upto, cutat}
 use Rattle.osi_machine.specs.Owners.{Owner, Own, turned_owner, turned_owners, is_own, all_to_pool, pooled}
 use Rattle.osi_machine.specs.Taking.{is_acted_on, seen, cut_by, owners_after}
-use Rattle.osi_machine.specs.Channels.{Fits, AllFit, flush, heard, hears, view_next, heard_view, data_of, needs_token}
+use Rattle.osi_machine.specs.Channels.{Fits, AllFit, flush, heard, hears, view_next, heard_view, data_of}
 use Rattle.osi_machine.specs.Core.{Party, Core, taking}
 use Rattle.osi_machine.specs.Parties.{AreConsistent}
 use Rattle.osi_machine.proofs.PhaseLaws.{excluded, implied_two, by_test}
@@ -41,11 +40,7 @@ fit_first w k n t o us c =
 
 -- nothing comes behind it
 none_behind : (w : Core) (k : ResyncType) (n : ℕ) (t : TokenSetting) (o : List ℕ) (us : List Meaning) → Comes w k n t o us → AllEmpty us
-none_behind w k n t o us c =
-    let f : AllFit w.own.session (RS k n t o ∷ us) = c.all.own.fits in
-    let d = restart_due w.own.session (RS k n t o) c.wins in
-    let s = next w.own.session (RS k n t o) in
-    all_empty s us (λ u p. none_due s.phase u d p) (excluded is_restart_due is_restarting refl s.phase d) f.1
+none_behind w k n t o us c = grind (arith, restart_due, all_empty, none_due)
 
 end_is : (w : Core) (k : ResyncType) (n : ℕ) (t : TokenSetting) (o : List ℕ) (us : List Meaning) → Comes w k n t o us
     → flush w.own.session (RS k n t o ∷ us) ≡ answering w.own.session n t
@@ -78,20 +73,14 @@ heard_asking w k n t o us c = ap (λ (r : State). is_restarting r.phase) (deaf_h
 
 same_number : (w : Core) (k : ResyncType) (n : ℕ) (t : TokenSetting) (o : List ℕ) (us : List Meaning) → Comes w k n t o us → w.peer.session.numbers.next ≡ n
 unfolding restarted_at
-same_number w k n t o us c =
-    ap (λ (r : State). r.numbers.next) (sym (other_end w k n t o us c))
-    ∙ (c.all.peer.meeting.restart (other_waits w k n t o us c)).0
-    ∙ ap (λ (r : State). r.numbers.next) (end_is w k n t o us c)
+same_number w k n t o us c = grind (arith, other_end, other_waits, end_is)
 
 same_base : (w : Core) (k : ResyncType) (n : ℕ) (t : TokenSetting) (o : List ℕ) (us : List Meaning) → Comes w k n t o us → w.peer.session.base ≡ w.own.session.base
 same_base w k n t o us c =
     ap (λ (r : State). r.base) (sym (other_end w k n t o us c)) ∙ c.all.peer.meeting.base ∙ ap (λ (r : State). r.base) (end_is w k n t o us c)
 
 top : (w : Core) (k : ResyncType) (n : ℕ) (t : TokenSetting) (o : List ℕ) (us : List Meaning) → Comes w k n t o us → n ≤ w.own.session.numbers.next
-top w k n t o us c =
-    let g = (fit_first w k n t o us c).good (restart_kept w.own.session k n t o) in
-    let b = and_parts (nat_le w.own.session.base n) (is_restarting w.own.session.phase || nat_le n w.own.session.numbers.next) g.met.1.0 in
-    stood_below w.own.session n b.1 c.wins
+top w k n t o us c = grind (arith, fit_first, restart_kept, and_parts, stood_below)
 
 -- what it leaves of what was seen is what it leaves of the history
 cut_twice : (base n m : ℕ) (h : List Item) → n ≤ m → cutat base (cutat base h m) n ≡ cutat base h n
@@ -152,17 +141,7 @@ taker_half w k n t o us c =
       meeting = subst (λ (e : State). Meeting (pooled w.owner) (answering w.own.session n t) e (flush w.peer.session w.own.sent) (heard (answering w.own.session n t) us) w.peer.session)
           (sym (empty_end (answering w.own.session n t) us none))
           (subst (λ (e : State). Meeting (pooled w.owner) (answering w.own.session n t) (answering w.own.session n t) (flush w.peer.session w.own.sent) e w.peer.session)
-          (sym (empty_heard (answering w.own.session n t) us none)) (record {
-            meets = m.meets;
-            units = m.units;
-            base = m.base;
-            restart = m.restart;
-            connect = m.connect;
-            holds = λ a. none_held a ∙ sym (pool_own (w.owner a));
-            wants = λ h. absurd (cc);
-            absent = λ a z. grind arith;
-            released = λ d. absurd (cc);
-          }));
+          (sym (empty_heard (answering w.own.session n t) us none)) (grind (arith, none_held, pool_own)));
     }
 
 giver_half : (w : Core) (k : ResyncType) (n : ℕ) (t : TokenSetting) (o : List ℕ) (us : List Meaning) → Comes w k n t o us
@@ -193,11 +172,7 @@ giver_half w k n t o us c =
 -- ---- what was seen
 
 none_left : (k : ℕ) (h : List Item) → h ≡ [] → upto k h ≡ []
-none_left k h e = ap (upto k) e ∙ by k
-  where
-    by : (k : ℕ) → upto k [] ≡ []
-    by zero = refl
-    by (suc k) = refl
+none_left k h e = grind arith
 
 taker_views : (w : Core) (k : ResyncType) (n : ℕ) (t : TokenSetting) (o : List ℕ) (us : List Meaning) → Comes w k n t o us
     → Views (cutat w.own.session.base w.history n) (taker w n t) (rest_of w.peer us)
@@ -268,13 +243,7 @@ unfolding taker
 pair_after w k n t o us c =
     let same : flush w.own.session (RS k n t o ∷ us) ≡ flush (answering w.own.session n t) us =
     end_is w k n t o us c ∙ sym (empty_end (answering w.own.session n t) us (none_behind w k n t o us c)) in
-    record {
-      numbered = subst (λ (e : State). AreNumberedFrom e.base (cutat w.own.session.base w.history n)) same (numbered_cut _ (n - w.own.session.base) w.history c.all.pair.numbered);
-      one_way = λ d. one_less (needs_token data_token) (list_any (needs_token data_token) w.own.sent) (RS k n t o) us
-          (c.all.pair.one_way (ap (λ (e : State). e.units.half_duplex) same ∙ d));
-      callers = c.all.pair.callers;
-      profile = subst (λ (e : State). IsOfProfile e.units) same c.all.pair.profile;
-    }
+    grind (arith, numbered_cut, one_less, IsOfProfile)
 
 -- ---- all that is true of both sides
 

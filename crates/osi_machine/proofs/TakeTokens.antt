@@ -1,5 +1,5 @@
 -- A unit is taken that brings tokens. It keeps what is true of both sides.
-use Rattle.std.proofs.Common.{◌≡◌, refl, sym, ◌∙◌, ap, subst, ℕ, ◌≤◌, ◌<◌, Bool, true, false, not, ◌&&◌, ◌||◌, if◌then◌else◌, List, [], ◌∷◌}
+use Rattle.std.proofs.Common.{◌≡◌, refl, sym, ◌∙◌, ap, subst, ℕ, ◌≤◌, ◌<◌, Bool, true, false, not, ◌&&◌, ◌||◌, if◌then◌else◌, List, [], ◌∷◌, arith}
 use Rattle.std.proofs.lemmas.Bool.{and_parts, or_right}
 use Rattle.osi_machine.specs.Floor.{State, FunctionalUnits, Meaning, GT, Tokens, Token, has, available, is_within, is_disjoint, united, lower, may_ask, may_hold, is_restarting, is_restart_due, is_release_due, is_releasing, drops, next}
 use Rattle.osi_machine.specs.Owners.{Owner, Own, ToOwn, turned_owner, turned_owners, is_own, is_to_own, is_absent, passed_to}
@@ -7,7 +7,7 @@ use Rattle.osi_machine.specs.Taking.{is_acted_on, seen, got_in, cut_by, owners_a
 use Rattle.osi_machine.specs.Channels.{AllFit, flush, stops, heard, hears, data_in}
 use Rattle.osi_machine.specs.Core.{Core, taking}
 use Rattle.osi_machine.specs.Parties.{is_opening}
-use Rattle.osi_machine.proofs.PhaseLaws.{implied, excluded, if_second}
+use Rattle.osi_machine.proofs.PhaseLaws.{implied, excluded, if_second, by_test}
 use Rattle.osi_machine.proofs.Records.{Stands}
 use Rattle.osi_machine.proofs.Retoken.{Tokens_of}
 use Rattle.osi_machine.proofs.Units.{next_acted}
@@ -122,36 +122,29 @@ other_tokens w u us r k h g = record {
 
 pub gains_moves : (w : Core) (u : Meaning) (us : List Meaning) (r : State) (k : Tokens) → Stands (at w (u ∷ us)) → Gains w u us r k
     → Moves w u us r w.own.view w.own.got (passed_to Own k w.owner)
-gains_moves w u us r k h g = record {
-  stays = g.stays;
-  next = g.next;
-  view = ap (λ (b : Bool). if b then w.own.view else seen w.own.session u w.own.view) g.acts ∙ g.view;
-  gets = none_got w.own u g.silent;
-  history = if_second (is_acted_on w.own.session u) (cut_by w.own.session u w.history) w.history g.history;
-  owner = by (is_acted_on w.own.session u) acted;
-  tokens = own_tokens w u us r k h g;
-  others = other_tokens w u us r k h g;
-  released = g.released;
-  cut = λ c. absurd (no_cut r us (excluded may_hold is_restarting refl r.phase g.phase) (rest w u us r k h g)
-      (subst (λ (q : State). is_restarting q.phase ≡ true) (heard_is w.own.session r u us g.stays g.next) c));
-  due = λ d. absurd (let o = excluded may_hold is_restart_due refl r.phase g.phase in cc);
-  other_due = h.peer_views.due;
-  stream = λ d. same_stream w.own.got u us g.empty;
-  flag = g.flag;
-  below = g.below;
-  reach = g.reach;
-  caller = g.caller;
-}
-  where
-    f : AllFit w.own.session (u ∷ us)
-    f = h.own.fits
-
-    acted : is_acted_on w.own.session u ≡ true
-    acted = fit_acts w.own.session u (alive w.owner w.own (rest_of w.peer (u ∷ us)) h.own) f.0 ∙ ap not g.acts
-
-    by : (b : Bool) → b ≡ true → (if b then owners_after w.own.session u w.owner else w.owner) ≡ passed_to Own k w.owner
-    by true e = g.owner
-    by false e = absurd (cc)
+gains_moves w u us r k h g =
+    let f : AllFit w.own.session (u ∷ us) = h.own.fits in
+    let acted : is_acted_on w.own.session u ≡ true = fit_acts w.own.session u (alive w.owner w.own (rest_of w.peer (u ∷ us)) h.own) f.0 ∙ ap not g.acts in
+    record {
+      stays = g.stays;
+      next = g.next;
+      view = ap (λ (b : Bool). if b then w.own.view else seen w.own.session u w.own.view) g.acts ∙ g.view;
+      gets = none_got w.own u g.silent;
+      history = if_second (is_acted_on w.own.session u) (cut_by w.own.session u w.history) w.history g.history;
+      owner = by_test (is_acted_on w.own.session u) (λ z. rw z g.owner) (λ z. let e = rw z at acted in absurd (cc));
+      tokens = own_tokens w u us r k h g;
+      others = other_tokens w u us r k h g;
+      released = g.released;
+      cut = λ c. absurd (no_cut r us (excluded may_hold is_restarting refl r.phase g.phase) (rest w u us r k h g)
+          (subst (λ (q : State). is_restarting q.phase ≡ true) (heard_is w.own.session r u us g.stays g.next) c));
+      due = λ d. absurd (let o = excluded may_hold is_restart_due refl r.phase g.phase in cc);
+      other_due = h.peer_views.due;
+      stream = λ d. same_stream w.own.got u us g.empty;
+      flag = g.flag;
+      below = g.below;
+      reach = g.reach;
+      caller = g.caller;
+    }
 
 pub gains_stand : SessionLaws → (w : Core) (u : Meaning) (us : List Meaning) (r : State) (k : Tokens) → w.peer.sent ≡ u ∷ us → Stands w
     → (Stands (at w (u ∷ us)) → Gains w u us r k) → Stands (taking w (u ∷ us))

@@ -1,5 +1,5 @@
 -- A restart is taken that does not stand: its taker has asked for one that does. Nothing changes.
-use Rattle.std.proofs.Common.{◌≡◌, refl, ◌∙◌, ap, ℕ, Bool, false, if◌then◌else◌, List, ◌∷◌}
+use Rattle.std.proofs.Common.{◌≡◌, refl, ◌∙◌, ap, ℕ, Bool, false, if◌then◌else◌, List, ◌∷◌, arith}
 use Rattle.osi_machine.specs.Floor.{TokenSetting, ResyncType, Meaning, RS, stands}
 use Rattle.osi_machine.specs.Histories.{cutat}
 use Rattle.osi_machine.specs.Owners.{pooled, turned_owners}
@@ -18,26 +18,23 @@ moves w k n t o us yields h = record {
   stays = yields;
   next = restart_next w.own.session k n t o ∙ yielded w.own.session n t yields;
   view = yielded_view w.own.session k n t o w.own.view yields;
-  gets = none_got w.own u refl;
-  history = if_second (is_acted_on w.own.session u) (cut_by w.own.session u w.history) w.history
+  gets = none_got w.own (RS k n t o) refl;
+  history = if_second (is_acted_on w.own.session (RS k n t o)) (cut_by w.own.session (RS k n t o) w.history) w.history
       (ap (λ (b : Bool). if b then cutat w.own.session.base w.history n else w.history) yields);
-  owner = if_second (is_acted_on w.own.session u) (owners_after w.own.session u w.owner) w.owner
+  owner = if_second (is_acted_on w.own.session (RS k n t o)) (owners_after w.own.session (RS k n t o) w.owner) w.owner
       (ap (λ (b : Bool). if b then pooled w.owner else w.owner) yields);
-  tokens = same_tokens w.owner w.own.session (flush w.own.session (u ∷ us)) (flush w.peer.session w.own.sent) (heard w.own.session (u ∷ us)) w.peer.session w.own.session h.own.meeting refl;
-  others = same_tokens (turned_owners w.owner) w.peer.session (flush w.peer.session w.own.sent) (flush w.own.session (u ∷ us)) (heard w.peer.session w.own.sent) w.own.session w.peer.session h.peer.meeting refl;
+  tokens = same_tokens w.owner w.own.session (flush w.own.session ((RS k n t o) ∷ us)) (flush w.peer.session w.own.sent) (heard w.own.session ((RS k n t o) ∷ us)) w.peer.session w.own.session h.own.meeting refl;
+  others = same_tokens (turned_owners w.owner) w.peer.session (flush w.peer.session w.own.sent) (flush w.own.session ((RS k n t o) ∷ us)) (heard w.peer.session w.own.sent) w.own.session w.peer.session h.peer.meeting refl;
   released = h.peer.meeting.released;
   cut = h.own_views.cut;
   due = h.own_views.due;
   other_due = h.peer_views.due;
-  stream = λ d. same_stream w.own.got u us refl;
+  stream = λ d. same_stream w.own.got (RS k n t o) us refl;
   flag = h.own_counts.flag;
   below = h.peer_counts.below;
   reach = h.peer_counts.reach;
   caller = refl;
 }
-  where
-    u : Meaning
-    u = RS k n t o
 
 pub restart_yielded : SessionLaws → (w : Core) (k : ResyncType) (n : ℕ) (t : TokenSetting) (o : List ℕ) (us : List Meaning) → w.peer.sent ≡ RS k n t o ∷ us
     → stands w.own.session n ≡ false → Stands w → Stands (taking w (RS k n t o ∷ us))

@@ -65,16 +65,10 @@ pub none_held : (t : Token) → has no_token t ≡ false
 none_held t = has_set (λ t. false) t
 
 is_data_or_minor_is : (s : State) (t : Token) → has s.held t ≡ true → lacks s data_token ≡ true → lacks s minor ≡ true → is_data_or_minor t ≡ false
-is_data_or_minor_is s data_token h l m = absurd (not_both _ l h)
-is_data_or_minor_is s minor h l m = absurd (not_both _ m h)
-is_data_or_minor_is s major h l m = refl
-is_data_or_minor_is s release h l m = refl
+is_data_or_minor_is s t h l m = grind (arith, not_both)
 
 is_no_release_is : (s : State) (t : Token) → has s.held t ≡ true → lacks s data_token ≡ true → lacks s minor ≡ true → lacks s major ≡ true → is_no_release t ≡ false
-is_no_release_is s data_token h l m j = absurd (not_both _ l h)
-is_no_release_is s minor h l m j = absurd (not_both _ m h)
-is_no_release_is s major h l m j = absurd (not_both _ j h)
-is_no_release_is s release h l m j = refl
+is_no_release_is s t h l m j = grind (arith, not_both)
 
 -- a good unit does not need a token that its taker holds
 pub held_needs : (s : State) (t : Token) (u : Meaning) → has s.held t ≡ true → Good s u → needs_token t u ≡ false

@@ -1,5 +1,5 @@
 -- What a unit does to the state of its taker, case by case.
-use Rattle.std.proofs.Common.{◌≡◌, refl, sym, ap, subst, Bool, true, false, ◌&&◌, if◌then◌else◌, List}
+use Rattle.std.proofs.Common.{◌≡◌, refl, sym, ap, subst, Bool, true, false, ◌&&◌, if◌then◌else◌, List, arith}
 use Rattle.osi_machine.specs.Floor.{State, Phase, Meaning, CN, AC, RF, DT, GT, PT, MIP, MIA, MAP, MAA, RS, RA, FN, DN, NF, AB, AA, is_wait_cn, is_connecting, is_restarting, is_restart_due, takes_data, takes_please, takes_minor_ack, takes_restart, is_ready, is_major_asked, is_releasing, may_ask, is_expected, is_acceptable, becomes, stands, drops, next, Good}
 use Rattle.osi_machine.specs.Histories.{Item}
 use Rattle.osi_machine.specs.Channels.{is_plain, Fits, stops, hears, view_next}
@@ -75,12 +75,7 @@ pub due_next : (s : State) (u : Meaning) → is_restart_due s.phase ≡ true →
 due_next s u h f = fit_cases (λ r. r ≡ s) s u f refl (λ d g. absurd (let n = none_due s.phase u h f.plain in let e = g.expected in cc))
 
 pub due_stops : (s : State) (u : Meaning) → is_restart_due s.phase ≡ true → Fits s u → stops s u ≡ false
-due_stops s u h f = by_test (stops s u)
-    (λ e. absurd (
-    let g = f.good (restart_acted s u e) in
-    let n = none_due s.phase u h f.plain in
-    let x = g.expected in cc))
-    (λ e. e)
+due_stops s u h f = grind (arith, restart_acted, none_due)
 
 pub due_view : (s : State) (u : Meaning) (v : List Item) → is_restart_due s.phase ≡ true → Fits s u → view_next s u v ≡ v
 due_view s u v h f = by_test (drops s u) (λ d. rw d) (λ d. absurd (let n = none_due s.phase u h f.plain in let e = (f.good d).expected in cc))

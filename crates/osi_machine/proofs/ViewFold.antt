@@ -1,7 +1,7 @@
 -- What the record of a side tells is what the side has seen, and whether it awaits the answer to a restart.
 use Rattle.std.proofs.Common.{◌≡◌, refl, sym, ◌∙◌, ap, ℕ, ◌+◌, Bool, true, false, not, ◌||◌, if◌then◌else◌, List, [], ◌∷◌, ◌++◌, arith}
 use Rattle.osi_session.specs.Shown.{Shown}
-use Rattle.osi_machine.specs.Floor.{State, FunctionalUnits, Call, Accept, Data, Give, Please, Minor, MinorConfirm, Major, MajorConfirm, Restart, RestartConfirm, Release, ReleaseRefuse, Meaning, CN, AC, DT, GT, PT, MIP, MIA, MAP, MAA, RS, RA, FN, NF, Phase, is_over, is_wait_cn, is_connecting, is_answering, is_ready, is_major_asked, is_major_due, is_releasing, is_release_due, is_restarting, is_restart_due, may_restart, takes_restart, takes_data, stands, is_acceptable, becomes, shown_for, after, may_call, agreed_base, both_units, functional_units, Good}
+use Rattle.osi_machine.specs.Floor.{State, FunctionalUnits, Call, Accept, Data, Give, Please, Minor, MinorConfirm, Major, MajorConfirm, Restart, RestartConfirm, Release, ReleaseRefuse, Meaning, CN, AC, DT, GT, PT, MIP, MIA, MAP, MAA, RS, RA, FN, NF, Phase, is_over, is_wait_cn, is_connecting, is_answering, is_ready, is_major_asked, is_major_due, is_releasing, is_release_due, is_restarting, is_restart_due, takes_restart, takes_data, stands, is_acceptable, becomes, shown_for, after, may_call, agreed_base, both_units, functional_units, Good}
 use Rattle.osi_machine.specs.Histories.{Item, Octets, Point, PointKind, points, cutat, minor_kind, major_point}
 use Rattle.osi_machine.specs.Taking.{seen, got_in}
 use Rattle.osi_machine.specs.Channels.{is_plain}
@@ -39,20 +39,7 @@ pub record Tells (t : Told) (s : State) (v : List Item) (spoken heard : List (Li
 -- phase, units and base stay, and nothing is seen
 same_tells : (t : Told) (s r : State) (v w : List Item) (a a' b b' : List (List ℕ)) → r.phase ≡ s.phase → r.units ≡ s.units → r.proposed ≡ s.proposed → r.base ≡ s.base
     → w ≡ v → a' ≡ a → b' ≡ b → Tells t s v a b → Tells t r w a' b'
-same_tells t s r v w x x' y y' p u n b e f g h = record {
-  asked = λ c. let k = h.asked (ap is_connecting (sym p) ∙ c) in (k.0 ∙ sym u, k.1 ∙ sym n);
-  fresh = λ o. h.fresh (ap is_opening (sym p) ∙ o);
-  base = h.base ∙ sym b;
-  view = λ d. h.view (ap (λ (z : FunctionalUnits). z.duplex) (sym u) ∙ d) ∙ sym e;
-  asking = h.asking ∙ ap is_restarting (sym p);
-  duplex = λ o. h.duplex (ap is_open (sym p) ∙ o) ∙ ap (λ (z : FunctionalUnits). z.duplex) (sym u);
-  fine = h.fine;
-  unselected = λ o. h.unselected (ap is_opening (sym p) ∙ o);
-  silent = λ o. h.silent (ap is_opening (sym p) ∙ o);
-  said = λ d. h.said (ap (λ (z : FunctionalUnits). z.duplex) (sym u) ∙ d) ∙ sym f;
-  got = λ d. h.got (ap (λ (z : FunctionalUnits). z.duplex) (sym u) ∙ d) ∙ sym g;
-  pointed = h.pointed ∙ ap points (sym e);
-}
+same_tells t s r v w x x' y y' p u n b e f g h = grind arith
 
 -- from an open phase to one in which nothing is opened
 calm : Phase → Bool
@@ -60,12 +47,7 @@ calm p = not (is_opening p || is_restarting p)
 
 calm_parts : (p : Phase) → calm p ≡ true → (is_opening p ≡ false) × (is_restarting p ≡ false)
 unfolding calm
-calm_parts p h = by (is_opening p) (is_restarting p) h
-  where
-    by : (a b : Bool) → not (a || b) ≡ true → (a ≡ false) × (b ≡ false)
-    by false false e = (refl, refl)
-    by true b e = absurd (cc)
-    by false true e = absurd (cc)
+calm_parts p h = grind (arith, calm)
 
 calm_tells : (t : Told) (s : State) (v : List Item) (said got : List (List ℕ)) → calm s.phase ≡ true → t.base ≡ s.base → (s.units.duplex ≡ false → t.view ≡ v) → t.asking ≡ false
     → (is_open s.phase ≡ true → t.duplex ≡ s.units.duplex) → t.faulted ≡ false → (s.units.duplex ≡ true → t.requested ≡ said) → (s.units.duplex ≡ true → t.indicated ≡ got)
@@ -73,20 +55,7 @@ calm_tells : (t : Told) (s : State) (v : List Item) (said got : List (List ℕ))
 calm_tells t s v said got c b e a d f x y q =
     let p = calm_parts s.phase c in
     let no = p.0 in
-    record {
-      asked = λ k. absurd (let o = implied is_connecting is_opening refl s.phase k in cc);
-      fresh = λ k. absurd (cc);
-      base = b;
-      view = e;
-      asking = a ∙ sym p.1;
-      duplex = d;
-      fine = f;
-      unselected = λ k. absurd (cc);
-      silent = λ k. absurd (cc);
-      said = x;
-      got = y;
-      pointed = q;
-    }
+    grind arith
 
 none_more : (t : Told) (v : List Item) (b : Bool) → (b ≡ false → t.view ≡ v) → b ≡ false → t.view ≡ v ++ []
 none_more t v b f d = f d ∙ sym (append_nil v)
@@ -146,20 +115,7 @@ call_tells t s (Major octets) v said got k p n f h =
 call_tells t s (MajorConfirm octets) v said got k p n f h =
     calm_tells _ _ _ _ _ refl h.base (none_more t v s.units.duplex h.view) (not_asking t s v said got h (excluded is_major_due is_restarting refl s.phase p)) (λ o. h.duplex (implied is_major_due is_open refl s.phase p)) h.fine (λ d. h.said d ∙ sym (append_nil said)) h.got (same_points t s v said got h)
 call_tells t s (Restart m wishes octets) v said got k p n f h =
-    record {
-      asked = λ c. absurd (cc);
-      fresh = λ c. absurd (cc);
-      base = h.base;
-      view = λ d. ap (λ (b : ℕ). cutat b t.view m) h.base ∙ ap (λ (r : List Item). cutat s.base r m) (h.view d);
-      asking = refl;
-      duplex = λ o. h.duplex (implied may_restart is_open refl s.phase p);
-      fine = h.fine;
-      unselected = λ c. absurd (cc);
-      silent = λ c. absurd (cc);
-      said = λ d. h.said d ∙ sym (append_nil said);
-      got = h.got;
-      pointed = cut_points t.base s.base m t.view v h.base h.pointed;
-    }
+    grind (arith, append_nil, cut_points)
 call_tells t s (RestartConfirm sides octets) v said got k p n f h =
     calm_tells _ _ _ _ _ refl h.base (none_more t v s.units.duplex h.view) (not_asking t s v said got h (excluded is_restart_due is_restarting refl s.phase p)) (λ o. h.duplex (implied is_restart_due is_open refl s.phase p)) h.fine (λ d. h.said d ∙ sym (append_nil said)) h.got (same_points t s v said got h)
 call_tells t s (Release octets) v said got k p n f h =
@@ -193,20 +149,7 @@ unit_tells t s (CN w r n x from to z o) v said got p g f h =
     let open_now = implied is_wait_cn is_opening refl s.phase g.expected in
     let fresh = h.fresh open_now in
     either_state (λ a q. Tells (told_all t a) q v said (got ++ [])) (is_acceptable w r z) _ _ _ _
-    (record {
-      asked = λ c. absurd (cc);
-      fresh = λ c. fresh;
-      base = h.base;
-      view = λ d. fresh ∙ sym (f open_now).0;
-      asking = not_asking t s v said got h (excluded is_wait_cn is_restarting refl s.phase g.expected);
-      duplex = λ c. absurd (cc);
-      fine = h.fine;
-      unselected = λ c. h.unselected open_now;
-      silent = λ c. h.silent open_now;
-      said = λ d. (h.silent open_now).0 ∙ sym (f open_now).1;
-      got = λ d. (h.silent open_now).1 ∙ sym (append_nil got ∙ (f open_now).2);
-      pointed = h.pointed;
-    })
+    (grind (arith, not_asking, append_nil))
     (calm_tells _ _ _ _ _ refl h.base (λ d. fresh ∙ sym (f open_now).0) (not_asking t s v said got h (excluded is_wait_cn is_restarting refl s.phase g.expected)) (λ o. absurd (cc)) h.fine (λ d. (h.silent open_now).0 ∙ sym (f open_now).1) (λ d. (h.silent open_now).1 ∙ sym (append_nil got ∙ (f open_now).2)) h.pointed)
 unit_tells t s (AC w r n x z o) v said got p g f h =
     let open_now = implied is_connecting is_opening refl s.phase g.expected in

@@ -49,24 +49,14 @@ one_answer : (side : Side) (t : Told) (c : Call) (e : Option CallError) → told
 one_answer side t c e = grind arith
 
 call_told : (side : Side) (t : Told) (s : State) (c : Call) → told_by t (record_of side 1 (call_entries side s c)) ≡ told_answer t c (stays_in_core c) (error_of (allowed s c))
-call_told side t s c = by (stays_in_core c) (error_of (allowed s c))
-  where
-    by : (b : Bool) (e : Option CallError) → told_by t (record_of side 1 (if b then call_answered side 1 c e ∷ [] else [])) ≡ told_answer t c b e
-    by true e = one_answer side t c e
-    by false e = refl
+call_told side t s c = grind (arith, one_answer)
 
 abbrev pub other : Side → Side
 other Left = Right
 other Right = Left
 
 call_untold : (side : Side) (t : Told) (s : State) (c : Call) → told_by t (record_of (other side) 1 (call_entries side s c)) ≡ t
-call_untold side t s c = by side (stays_in_core c)
-  where
-    by : (d : Side) (b : Bool) → told_by t (record_of (other d) 1 (if b then call_answered d 1 c (error_of (allowed s c)) ∷ [] else [])) ≡ t
-    by Left true = refl
-    by Left false = refl
-    by Right true = refl
-    by Right false = refl
+call_untold side t s c = grind arith
 
 shown_told : (side : Side) (t : Told) (shown : List Shown) → told_by t (record_of side 1 (map (shown_at side 1) shown)) ≡ told_all t shown
 shown_told side t [] = refl
@@ -93,12 +83,7 @@ called_tells : SessionLaws → (w : Core) (c : Call) (t : Told) → Stands w →
 called_tells laws w c t s h = by_test (stays_in_core c) (λ k. rw k (answer_tells laws w c (allowed w.own.session c) t k refl s h)) (λ k. rw k h)
 
 called_peer : (w : Core) (c : Call) (t : Told) → Tells t w.peer.session w.peer.view w.peer.said w.peer.got → Tells t (called w c).peer.session (called w c).peer.view (called w c).peer.said (called w c).peer.got
-called_peer w c t h = by (stays_in_core c) (allowed w.own.session c)
-  where
-    by : (b : Bool) (a : Answer) → Tells t (if b then answered w c a else w).peer.session (if b then answered w c a else w).peer.view (if b then answered w c a else w).peer.said (if b then answered w c a else w).peer.got
-    by true (Ok g) = h
-    by true (Err e) = h
-    by false a = h
+called_peer w c t h = grind (arith, Tells)
 
 -- ---- a unit that is taken
 
@@ -175,10 +160,7 @@ run_tells laws w (step ∷ steps) left right small s h =
     search (Tells, told_more)
 
 starts_told : (o : Offer) → TellBoth (core_start o) (untold Left o) (untold Right o)
-starts_told o = record {
-  left = record { asked = λ c. (refl, refl); fresh = λ k. refl; base = refl; view = λ d. refl; asking = refl; duplex = λ o. absurd (cc); fine = refl; unselected = λ k. refl; silent = λ k. (refl, refl); said = λ d. refl; got = λ d. refl; pointed = refl };
-  right = record { asked = λ c. absurd (cc); fresh = λ k. refl; base = refl; view = λ d. refl; asking = refl; duplex = λ o. absurd (cc); fine = refl; unselected = λ k. refl; silent = λ k. (refl, refl); said = λ d. refl; got = λ d. refl; pointed = refl };
-}
+starts_told o = grind arith
 
 pub are_told : SessionLaws → (o : Offer) (steps : List CoreStep) → AllByRecursion IsNumberedStep steps → Stands (core_start o) → AreTold o steps
 are_told laws o steps small s =

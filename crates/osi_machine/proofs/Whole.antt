@@ -15,6 +15,7 @@ use Rattle.osi_machine.proofs.ProjectSteps.{message_repeats, close_repeats, brea
 use Rattle.osi_machine.proofs.ProjectStart.{Opens, nothing_sent, Refuses, asked_opens, caller_refuses, called_refuses, caller_ends, called_ends, break_opens}
 use Rattle.osi_machine.proofs.ProjectOpen.{caller_takes, called_takes}
 use Rattle.osi_machine.proofs.Projects.{not_both}
+use Rattle.osi_machine.proofs.PhaseLaws.{by_either}
 
 -- seen from the caller, from the called side, or once it was agreed to from either
 abbrev pub Stage : Bool → World → Told → Told → Type 0
@@ -63,12 +64,9 @@ message_offer b terms k tr w m = grind arith
 
 taken_stage : SessionLaws → (terms : Terms) (b : Bool) (w : World) (s t : Told) (k : ℕ) (x : Message) (xs : List Message) → w.peer.channel ≡ x ∷ xs → Stage b w s t
     → Stage b (taking_of b terms k w x xs).world (told_all s (taking_of b terms k w x xs).shown) t
-taken_stage laws terms b w s t k x xs e (inl h) = by (caller_takes b terms k w s t x xs h e).leads
-  where
-    by : Opens (taking_of b terms k w x xs).world (told_all s (taking_of b terms k w x xs).shown) t ⊎ Repeats b (taking_of b terms k w x xs).world (told_all s (taking_of b terms k w x xs).shown) t
-        → Stage b (taking_of b terms k w x xs).world (told_all s (taking_of b terms k w x xs).shown) t
-    by (inl y) = inl y
-    by (inr y) = inr (inr y)
+taken_stage laws terms b w s t k x xs e (inl h) = by_either (caller_takes b terms k w s t x xs h e).leads
+    (λ y. inl y)
+    (λ y. inr (inr y))
 taken_stage laws terms b w s t k x xs e (inr (inl h)) = inr (inl (called_takes b terms k w t s x xs h e).leads)
 taken_stage laws terms b w s t k x xs e (inr (inr h)) = inr (inr (message_repeats laws b terms k w s t x xs h e).repeats)
 
@@ -99,20 +97,7 @@ lost_opens : (o : Offer) → CanBeOffered o → is_profile o.requirements ≡ tr
     → Opens (record (asked_with o) { own = record (asked_with o).own { channel = [] } }) (untold Left o) (untold Right o)
 lost_opens o small profile =
     let h = asked_opens o small profile in
-    record {
-      small = small;
-      profile = profile;
-      history = refl;
-      owner = h.owner;
-      caller = inl (record { transport = refl; phase = refl; mark = refl; said = refl; got = refl; zero_now = record { acked = refl; based = refl; marked = refl } });
-      called = h.called;
-      way = nothing_sent;
-      own_channel = refl;
-      peer_channel = refl;
-      suited = refl;
-      own_told = refl;
-      peer_told = refl;
-    }
+    grind (arith, nothing_sent)
 
 pub whole_kept : SessionLaws → (terms : Terms) → IsKept terms Whole
 whole_kept laws terms = record {
