@@ -1,19 +1,7 @@
 -- Where an end acts, two carriers stand between as they should, whatever has become of them.
 use Rattle.std.proofs.Common.{◌≡◌, ◌≢◌, ℕ, ◌+◌, ◌≤◌, ◌||◌, Bool, true, false, not, List, [], ◌++◌, length, Option, Some, None, is_some, IfSome, if◌then◌else◌, refl, sym, ap, subst, ◌∙◌, append_assoc, arith}
-use Rattle.std.specs.List.{flat_map, AllByRecursion}
-use Rattle.std.proofs.lemmas.List.{append-nil, append_cancel_right}
-use Rattle.osi_tpdu.specs.Value.{Value}
-use Rattle.osi_carrier.specs.Coming.{IsSendable}
-use Rattle.osi_carrier.specs.Place.{place_at, connection_in}
-use Rattle.osi_carrier.specs.State.{Connection, State, packets}
-use Rattle.osi_carrier.specs.declared.ends.EndReason.{EndReason}
-use Rattle.osi_between.specs.Addresses.{units_of, AreFor}
-use Rattle.osi_between.specs.Between.{Both, side, reach_of, within_reach, arriving, Between, last_of, units_from, lost_from, IsOnTheWay, AreJoinedBy, AreBetween, is_cut, to_come, under_way, told_of, put_in, Carries, Acted, becomes}
-use Rattle.osi_between.specs.Course.{progress_of, BringsTo}
-use Rattle.osi_between.specs.Joined.{under_way_for, ActsFor}
-use Rattle.osi_between.specs.Messages.{Message, messages_to, messages_after, begun_at, AreLike}
-use Rattle.osi_between.specs.Progress.{references_for, class_behind_all, leaves_use}
-use Rattle.osi_between.specs.Terms.{Terms, by_two, accepts_in, class_of}
+use Rattle.osi_between.specs.Between.{under_way}
+use Rattle.osi_between.proofs.Vocabulary.{flat_map, AllByRecursion, append-nil, append_cancel_right, Value, IsSendable, place_at, connection_in, Connection, State, packets, EndReason, units_of, AreFor, Both, side, reach_of, within_reach, arriving, Between, last_of, units_from, lost_from, IsOnTheWay, AreJoinedBy, AreBetween, is_cut, to_come, told_of, put_in, Carries, Acted, becomes, progress_of, BringsTo, under_way_for, ActsFor, Message, messages_to, messages_after, begun_at, AreLike, references_for, class_behind_all, leaves_use, Terms, by_two, accepts_in, class_of}
 use Rattle.osi_between.proofs.Addressing.{units_join, units_same, units_other}
 use Rattle.osi_between.proofs.Bringing.{same_like}
 use Rattle.osi_between.proofs.OnTheWay.{going_then, lost_then, all_then, way_out, bound_out}

@@ -1,28 +1,8 @@
 -- What becomes of two carriers: packets are taken, octets handed over, an end comes, and the byte
 -- connection breaks.
 use Rattle.std.proofs.Common.{◌≡◌, ℕ, ◌+◌, ◌<◌, ◌≤◌, ◌||◌, Bool, true, false, not, List, [], ◌∷◌, ◌++◌, length, take, drop, Option, Some, None, is_some, IfSome, refl, sym, ap, subst, ◌∙◌, append_assoc, arith}
-use Rattle.std.proofs.lemmas.List.{append-nil}
-use Rattle.osi_tpkt.specs.Octets.{IsOctets}
-use Rattle.osi_tpkt.specs.Packet.{IsPacket, packet_of}
-use Rattle.osi_tpdu.specs.Value.{Value}
-use Rattle.osi_tpdu.specs.Writing.{written}
-use Rattle.osi_class.specs.Between.{IsShortTsdu}
-use Rattle.osi_class.specs.Link.{Standing}
-use Rattle.osi_carrier.specs.Calls.{may_connect, asks, sent, closed_with}
-use Rattle.osi_carrier.specs.Place.{place_at, connection_in}
-use Rattle.osi_carrier.specs.Happenings.{Happening}
-use Rattle.osi_carrier.specs.Packets.{after_packet}
-use Rattle.osi_carrier.specs.React.{react}
-use Rattle.osi_carrier.specs.Rows.{value_at}
-use Rattle.osi_carrier.specs.State.{Connection, linked, State, ends}
-use Rattle.osi_carrier.specs.declared.ends.EndReason.{EndReason}
-use Rattle.osi_carrier.specs.declared.ends.EndReason.TheVariants.{Closed}
-use Rattle.osi_carrier.proofs.Coming.{packet_reacts}
-use Rattle.osi_between.specs.Addresses.{reference_of, units_of}
-use Rattle.osi_between.specs.Between.{Both, side, reach_of, within_reach, arriving, Between, last_of, units_from, lost_from, IsOnTheWay, AreJoinedBy, AreBetween, is_cut, to_come, under_way, answers_in, Acted, becomes, Took, Same, reach_less, handed_over, still_to_tell, ended_at, broken_at, Loses, Lost}
-use Rattle.osi_between.specs.Course.{IsTsap}
-use Rattle.osi_between.specs.Messages.{Message, ask, message, bye, messages_after, begun_at}
-use Rattle.osi_between.specs.Terms.{Terms, by_two, by_zero, refusing}
+use Rattle.osi_between.specs.Between.{under_way}
+use Rattle.osi_between.proofs.Vocabulary.{append-nil, IsOctets, IsPacket, packet_of, Value, written, IsShortTsdu, Standing, may_connect, asks, sent, closed_with, place_at, connection_in, Happening, after_packet, react, value_at, Connection, linked, State, ends, EndReason, Closed, packet_reacts, reference_of, units_of, Both, side, reach_of, within_reach, arriving, Between, last_of, units_from, lost_from, IsOnTheWay, AreJoinedBy, AreBetween, is_cut, to_come, answers_in, Acted, becomes, Took, Same, reach_less, handed_over, still_to_tell, ended_at, broken_at, Loses, Lost, IsTsap, Message, ask, message, bye, messages_after, begun_at, Terms, by_two, by_zero, refusing}
 use Rattle.osi_between.proofs.Acting.{JoinedAt, Does, by_end, all_from, acted}
 use Rattle.osi_between.proofs.Addressing.{units_join}
 use Rattle.osi_between.proofs.Linked.{with_queues}

@@ -1,22 +1,6 @@
 -- What units bring that an end takes.
 use Rattle.std.proofs.Common.{◌≡◌, ℕ, ◌+◌, Bool, true, false, List, [], ◌∷◌, ◌++◌, length, map, take, Option, Some, None, Result, Ok, Err, refl, sym, ap, ◌∙◌, nat_lt, if◌then◌else◌, IfOk, arith}
-use Rattle.std.specs.List.{AllByRecursion}
-use Rattle.std.proofs.lemmas.List.{map-append}
-use Rattle.osi_tpdu.specs.Value.{Value, data0, data2, acknowledge, disconnect}
-use Rattle.osi_class.specs.Ends.{Ends}
-use Rattle.osi_class.specs.Flow.{Flow, Sender, is_awaited, acknowledged}
-use Rattle.osi_class.specs.Joining.{Joining, joined, with_part}
-use Rattle.osi_class.specs.Link.{Standing, Given, part0, part2, ack, taken, taken_by, taken_flow, unit_of, with_tsdu, with_joined, with_sender}
-use Rattle.osi_class.specs.declared.faults.LinkFault.{LinkFault}
-use Rattle.osi_class.specs.declared.faults.LinkFault.TheVariants.{TsduTooLong, OutOfSequence}
-use Rattle.osi_class.specs.Limits.{longest_tsdu}
-use Rattle.osi_class.proofs.Giving.{drained_leaves}
-use Rattle.osi_class.proofs.Order.{choose_ok, at_ok}
-use Rattle.osi_carrier.specs.Pump.{pumped}
-use Rattle.osi_carrier.specs.React.{handed_out}
-use Rattle.osi_carrier.specs.State.{Connection, asked, linked, closing}
-use Rattle.osi_between.specs.Messages.{Message, message, bye, over, messages_after, begun_at, kind_of, AreLike}
-use Rattle.osi_between.specs.Progress.{Progress, in_use, shutting, gone, may_arrive, behind_arrivals, behind_puts, Brings}
+use Rattle.osi_between.proofs.Vocabulary.{AllByRecursion, map-append, Value, data0, data2, acknowledge, disconnect, Ends, Flow, Sender, is_awaited, acknowledged, Joining, joined, with_part, Standing, Given, part0, part2, ack, taken, taken_by, taken_flow, unit_of, with_tsdu, with_joined, with_sender, LinkFault, TsduTooLong, OutOfSequence, longest_tsdu, drained_leaves, choose_ok, at_ok, pumped, handed_out, Connection, asked, linked, closing, Message, message, bye, over, messages_after, begun_at, kind_of, AreLike, Progress, in_use, shutting, gone, may_arrive, behind_arrivals, behind_puts, Brings}
 use Rattle.osi_between.proofs.MessageLaws.{begun_after, messages_part, kinds_begun, kinds_join}
 
 pub same_like : (o : Option Connection) (some others : List Message) → some ≡ others → AreLike o some others

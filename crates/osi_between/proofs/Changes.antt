@@ -1,24 +1,8 @@
 -- What a carrier of class 2 does with a unit or a call for one connection.
 use Rattle.std.proofs.Common.{◌≡◌, ℕ, Bool, true, false, List, [], ◌∷◌, ◌++◌, map, take, Option, Some, None, Result, Ok, refl, sym, ap, subst, ◌∙◌, arith}
-use Rattle.std.proofs.lemmas.List.{append-nil}
-use Rattle.osi_tpdu.specs.Value.{Value, disconnect, disconnected}
-use Rattle.osi_class.specs.Giving.{all_given}
-use Rattle.osi_class.specs.Link.{Standing, Given, part0, part2, ack, unit_of, is_of_two, taken, with_tsdu}
-use Rattle.osi_class.specs.declared.faults.LinkFault.{LinkFault}
-use Rattle.osi_class.specs.declared.terms.Class.{Class}
-use Rattle.osi_class.specs.declared.terms.Class.TheVariants.{Two}
-use Rattle.osi_carrier.specs.Calls.{link_of, open_link, sent_on, sent, closed_on, closes, closed_with}
-use Rattle.osi_carrier.specs.Happenings.{Happening, tsdu, closed}
-use Rattle.osi_carrier.specs.Pump.{pumped}
-use Rattle.osi_carrier.specs.React.{react, in_class, in_two, to_reference, to_connection, to_linked, to_closing, taking, handed_out, leaves}
-use Rattle.osi_carrier.specs.Orderly.{IsOrderly}
-use Rattle.osi_carrier.specs.Rows.{value_at, put, without}
-use Rattle.osi_carrier.specs.State.{Connection, linked, closing, State, packets}
-use Rattle.osi_carrier.proofs.Apart.{put_here, without_here}
-use Rattle.osi_carrier.proofs.AtReferences.{put_other, without_other}
+use Rattle.osi_carrier.specs.Calls.{closes}
 use Rattle.osi_carrier.proofs.Places.{put_same}
-use Rattle.osi_carrier.proofs.Reacts.{react_quiet}
-use Rattle.osi_between.specs.Meeting.{Changes, addressed, leaving}
+use Rattle.osi_between.proofs.Vocabulary.{append-nil, Value, disconnect, disconnected, all_given, Standing, Given, part0, part2, ack, unit_of, is_of_two, taken, with_tsdu, LinkFault, Class, Two, link_of, open_link, sent_on, sent, closed_on, closed_with, Happening, tsdu, closed, pumped, react, in_class, in_two, to_reference, to_connection, to_linked, to_closing, taking, handed_out, leaves, IsOrderly, value_at, put, without, Connection, linked, closing, State, packets, put_here, without_here, put_other, without_other, react_quiet, Changes, addressed, leaving}
 
 -- ---- what changed
 

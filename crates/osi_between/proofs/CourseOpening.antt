@@ -1,34 +1,7 @@
 -- How a connection of class 2 is opened: the CR, the CC, and what the called end sends before the
 -- caller has it open.
 use Rattle.std.proofs.Common.{◌≡◌, ◌≢◌, ℕ, ◌+◌, ◌<◌, ◌≤◌, Bool, true, false, List, [], ◌∷◌, ◌++◌, map, Option, Some, None, refl, sym, ap, subst, ◌∙◌, inl, inr, arith, nat_lt, if◌then◌else◌}
-use Rattle.std.proofs.lemmas.Bool.{ltb-false, ltb-true}
-use Rattle.std.proofs.lemmas.List.{append-nil, map-append}
-use Rattle.osi_tpkt.specs.Octets.{IsOctets}
-use Rattle.osi_tpdu.specs.Value.{Value, Connect, request, confirm}
-use Rattle.osi_class.specs.Between.{LinkPair, swapped, opened_pair, under_way, IsShortTsdu}
-use Rattle.osi_class.specs.Giving.{all_given}
-use Rattle.osi_class.specs.Link.{Standing, Given, with_tsdu}
-use Rattle.osi_class.specs.Negotiation.{Selection, accept, selected_by, selected_size}
-use Rattle.osi_class.specs.declared.terms.Class.{Class}
-use Rattle.osi_class.specs.declared.terms.Class.TheVariants.{Two}
-use Rattle.osi_class.specs.declared.terms.Local.{Local}
-use Rattle.osi_carrier.specs.References.{references}
-use Rattle.osi_carrier.specs.Calls.{asks, sent, closed_with}
-use Rattle.osi_carrier.specs.Place.{Place, never, was_given, place_at}
-use Rattle.osi_carrier.specs.Happenings.{opened}
-use Rattle.osi_carrier.specs.Negotiation.{proposal_by}
-use Rattle.osi_carrier.specs.Orderly.{IsOrderly}
-use Rattle.osi_carrier.specs.React.{react, in_class, before_class, in_two, answers_request, answers, accepts, has_peer, is_full, opens, to_reference, to_connection}
-use Rattle.osi_carrier.specs.Rows.{value_at}
-use Rattle.osi_carrier.specs.State.{Connection, asked, linked, closing, State, packets}
-use Rattle.osi_carrier.proofs.Apart.{push_here, beyond, put_here}
-use Rattle.osi_carrier.proofs.AtReferences.{push_other, put_other}
-use Rattle.osi_carrier.proofs.Reacts.{react_quiet}
-use Rattle.osi_between.specs.Course.{unasked, asking, accepting, withdrawing, met, answer_of, IsTsap, IsAskedBy, MayTakeTwo, IsAccepted, Acts, CourseMoves}
-use Rattle.osi_between.specs.Meeting.{talking, left_there, addressed, leaving}
-use Rattle.osi_between.specs.Messages.{Message, ask, agree, message, bye, messages_after, uncut_units, kind_of}
-use Rattle.osi_between.specs.OpenLinks.{AreOpen, after_send}
-use Rattle.osi_between.specs.Progress.{not_yet, awaiting, in_use, Brings}
+use Rattle.osi_between.proofs.Vocabulary.{ltb-false, ltb-true, append-nil, map-append, IsOctets, Value, Connect, request, confirm, LinkPair, swapped, opened_pair, under_way, IsShortTsdu, all_given, Standing, Given, with_tsdu, Selection, accept, selected_by, selected_size, Class, Two, Local, references, asks, sent, closed_with, Place, never, was_given, place_at, opened, proposal_by, IsOrderly, react, in_class, before_class, in_two, answers_request, answers, accepts, has_peer, is_full, opens, to_reference, to_connection, value_at, Connection, asked, linked, closing, State, packets, push_here, beyond, put_here, push_other, put_other, react_quiet, unasked, asking, accepting, withdrawing, met, answer_of, IsTsap, IsAskedBy, MayTakeTwo, IsAccepted, Acts, CourseMoves, talking, left_there, addressed, leaving, Message, ask, agree, message, bye, messages_after, uncut_units, kind_of, AreOpen, after_send, not_yet, awaiting, in_use, Brings}
 use Rattle.osi_between.proofs.Bringing.{brings_none, brings_sent, brings_shut}
 use Rattle.osi_between.proofs.Changes.{send_changes, close_changes}
 use Rattle.osi_between.proofs.Courses.{given_place, acts_changed, place_changed, put_references, none_more}

@@ -1,23 +1,7 @@
 -- What is told at one end of two carriers are the first of what was handed in at the other.
 use Rattle.std.proofs.Common.{◌≡◌, ◌≢◌, ℕ, ◌==◌, ◌||◌, Bool, true, false, not, List, [], ◌∷◌, ◌++◌, Option, Some, None, is_some, refl, sym, ap, subst, ◌∙◌, append_assoc, nat_lt, if◌then◌else◌, arith}
-use Rattle.std.specs.List.{flat_map, AllByRecursion}
-use Rattle.std.proofs.lemmas.Bool.{eq-eqb, eqb-true}
-use Rattle.std.proofs.lemmas.List.{append-nil}
-use Rattle.osi_tpdu.specs.Value.{Value}
-use Rattle.osi_class.specs.Link.{Standing}
-use Rattle.osi_carrier.specs.Place.{Place, never, was_given, place_at, connection_in}
-use Rattle.osi_carrier.specs.Happenings.{Happening, opened, refused, tsdu, closed, faulted}
-use Rattle.osi_carrier.specs.Rows.{value_at}
-use Rattle.osi_carrier.specs.State.{Connection, asked, linked, closing, State}
-use Rattle.osi_carrier.specs.declared.ends.EndReason.{EndReason}
-use Rattle.osi_between.specs.Addresses.{AreFor, units_of}
-use Rattle.osi_between.specs.Between.{Both, side, Between, last_of, units_from, under_way, told_of, answers_in, put_in, is_cut, to_come, Carries, AreBetween}
-use Rattle.osi_between.specs.Carried.{tsdus_told, tsdus_in, AreFirstOf}
-use Rattle.osi_between.specs.Course.{progress_of, told_asked, told_answer, told_opening}
-use Rattle.osi_between.specs.Meeting.{is_leaving}
-use Rattle.osi_between.specs.Messages.{Message, ask, agree, deny, message, bye, over, messages_after, begun_at, AreLike}
-use Rattle.osi_between.specs.Progress.{Progress, not_yet, awaiting, in_use, shutting, gone, may_arrive, behind_arrival, behind_arrivals, behind_put, behind_puts, leaves_use}
-use Rattle.osi_between.specs.Terms.{Terms, by_two, by_zero, refusing, accepts_in}
+use Rattle.osi_between.specs.Between.{under_way}
+use Rattle.osi_between.proofs.Vocabulary.{flat_map, AllByRecursion, eq-eqb, eqb-true, append-nil, Value, Standing, Place, never, was_given, place_at, connection_in, Happening, opened, refused, tsdu, closed, faulted, value_at, Connection, asked, linked, closing, State, EndReason, AreFor, units_of, Both, side, Between, last_of, units_from, told_of, answers_in, put_in, is_cut, to_come, Carries, AreBetween, tsdus_told, tsdus_in, AreFirstOf, progress_of, told_asked, told_answer, told_opening, is_leaving, Message, ask, agree, deny, message, bye, over, messages_after, begun_at, AreLike, Progress, not_yet, awaiting, in_use, shutting, gone, may_arrive, behind_arrival, behind_arrivals, behind_put, behind_puts, leaves_use, Terms, by_two, by_zero, refusing, accepts_in}
 use Rattle.osi_between.proofs.Addressing.{units_join, units_same}
 use Rattle.osi_between.proofs.Betweens.{no_open}
 use Rattle.osi_between.proofs.Courses.{is_given}

@@ -1,19 +1,7 @@
 -- TSDUs that are handed in together between two carriers.
 use Rattle.std.proofs.Common.{◌≡◌, refl, sym, ◌∙◌, ap, subst, ℕ, ◌+◌, Bool, true, false, not, nat_lt, if◌then◌else◌, List, [], ◌∷◌, ◌++◌, map, Option, Some, None, is_some, arith, append_assoc}
-use Rattle.std.proofs.lemmas.List.{append-nil, map-append}
-use Rattle.std.specs.List.{flat_map, AllByRecursion}
-use Rattle.osi_tpkt.specs.Octets.{IsOctets}
-use Rattle.osi_class.specs.Between.{IsShortTsdu}
-use Rattle.osi_class.specs.Link.{Standing}
-use Rattle.osi_carrier.specs.Calls.{sent, sent_all}
-use Rattle.osi_carrier.specs.Place.{Place, never, was_given, place_at, connection_in}
-use Rattle.osi_carrier.specs.Rows.{value_at}
-use Rattle.osi_carrier.specs.State.{Connection, asked, linked, closing, State}
-use Rattle.osi_between.specs.Between.{Both, Between, AreBetween, Acted, Carries, side, becomes, last_of, under_way, put_in, told_of}
-use Rattle.osi_between.specs.Course.{progress_of, BringsTo}
-use Rattle.osi_between.specs.Messages.{Message, message, kind_of, AreLike, messages_after, begun_at}
-use Rattle.osi_between.specs.Progress.{Progress, not_yet, awaiting, in_use, shutting, gone, behind_put, behind_puts, behind_arrivals, leaves_use, references_for, asks_in, class_behind_all}
-use Rattle.osi_between.specs.Terms.{Terms, accepts_in, class_of}
+use Rattle.osi_between.specs.Between.{under_way}
+use Rattle.osi_between.proofs.Vocabulary.{append-nil, map-append, flat_map, AllByRecursion, IsOctets, IsShortTsdu, Standing, sent, sent_all, Place, never, was_given, place_at, connection_in, value_at, Connection, asked, linked, closing, State, Both, Between, AreBetween, Acted, Carries, side, becomes, last_of, put_in, told_of, progress_of, BringsTo, Message, message, kind_of, AreLike, messages_after, begun_at, Progress, not_yet, awaiting, in_use, shutting, gone, behind_put, behind_puts, behind_arrivals, leaves_use, references_for, asks_in, class_behind_all, Terms, accepts_in, class_of}
 use Rattle.osi_between.proofs.Bringing.{brings_none, same_like}
 
 -- ---- likeness

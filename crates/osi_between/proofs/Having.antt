@@ -1,21 +1,9 @@
 -- What two carriers have of a reference that the caller did not give, and before a class holds.
 use Rattle.std.proofs.Common.{◌≡◌, ℕ, ◌<◌, ◌≤◌, Bool, true, false, List, [], ◌∷◌, ◌++◌, ◌==◌, Option, Some, None, refl, sym, ap, ◌∙◌, arith, if◌then◌else◌}
-use Rattle.osi_tpdu.specs.Value.{Value, Connect, request}
-use Rattle.osi_class.specs.declared.terms.Class.TheVariants.{Zero, Two}
-use Rattle.osi_carrier.specs.Place.{never, was_given, place_at, connection_in}
-use Rattle.osi_carrier.specs.Rows.{value_at}
-use Rattle.osi_carrier.specs.State.{Connection, asked, State}
-use Rattle.osi_between.specs.Addresses.{units_of, AreFor}
-use Rattle.osi_between.specs.Between.{Both, Between, AreJoinedBy, AreBetween, is_cut, to_come, under_way}
-use Rattle.osi_between.specs.Course.{Course, unasked, asking, accepting, withdrawing, met, at_end, from_end, Holds}
-use Rattle.osi_between.specs.Joined.{AreJoined}
-use Rattle.osi_between.specs.Meeting.{addressed}
-use Rattle.osi_between.specs.Messages.{messages_after, begun_at}
-use Rattle.osi_between.specs.Refusing.{AreRefusing, Refusal, rows_in}
+use Rattle.osi_between.specs.Between.{under_way}
 use Rattle.osi_between.specs.Refusing as refusal
-use Rattle.osi_between.specs.Terms.{Terms, by_two, by_zero, refusing}
-use Rattle.osi_between.specs.Zero.{AreJoinedZero, ZeroCourse, HasOne}
 use Rattle.osi_between.specs.Zero as zero
+use Rattle.osi_between.proofs.Vocabulary.{Value, Connect, request, Zero, Two, never, was_given, place_at, connection_in, value_at, Connection, asked, State, units_of, AreFor, Both, Between, AreJoinedBy, AreBetween, is_cut, to_come, Course, unasked, asking, accepting, withdrawing, met, at_end, from_end, Holds, AreJoined, addressed, messages_after, begun_at, AreRefusing, Refusal, rows_in, Terms, by_two, by_zero, refusing, AreJoinedZero, ZeroCourse, HasOne}
 use Rattle.osi_between.proofs.Addressing.{units_join, units_other}
 use Rattle.osi_between.proofs.JoinedCalls.{next_never}
 use Rattle.osi_between.proofs.JoinedMoves.{within_given, given_live}

@@ -1,19 +1,10 @@
 -- What an end of two carriers holds: packets of units, with no fault, whatever the memory is.
 use Rattle.std.proofs.Common.{◌≡◌, ℕ, Bool, true, false, not, List, [], ◌∷◌, ◌++◌, None, Result, Ok, sym, ap, subst, ◌∙◌, ◌⊎◌, inl, inr, append_assoc, arith}
-use Rattle.osi_tpkt.specs.Packet.{IsPacket, IsFaultOf}
 use Rattle.osi_tpkt.specs.declared.faults.TpktFault.{TpktFault}
 use Rattle.osi_tpdu.specs.Packet.{units_of}
-use Rattle.osi_tpdu.specs.Value.{Value}
 use Rattle.osi_tpdu.specs.declared.faults.TpduFault.{TpduFault}
-use Rattle.osi_carrier.specs.Coming.{AreComing}
-use Rattle.osi_carrier.specs.Packets.{after_packet, Acts, ActsBy, Starves}
-use Rattle.osi_carrier.specs.React.{react}
-use Rattle.osi_carrier.specs.State.{State, packets, ends}
-use Rattle.osi_carrier.specs.declared.ends.EndReason.TheVariants.{NoMemory}
-use Rattle.osi_carrier.proofs.Coming.{all_behind, packet_reacts, unit_read, alone_starved, starved_unit, fault_free}
-use Rattle.osi_carrier.proofs.Pumping.{packets_join}
-use Rattle.osi_between.specs.Between.{Both, side, arriving, Between, units_from, lost_from, IsOnTheWay, AreBetween}
-use Rattle.osi_between.specs.Terms.{Terms}
+use Rattle.osi_carrier.specs.Packets.{Acts}
+use Rattle.osi_between.proofs.Vocabulary.{IsPacket, IsFaultOf, Value, AreComing, after_packet, ActsBy, Starves, react, State, packets, ends, NoMemory, all_behind, packet_reacts, unit_read, alone_starved, starved_unit, fault_free, packets_join, Both, side, arriving, Between, units_from, lost_from, IsOnTheWay, AreBetween, Terms}
 use Rattle.osi_between.proofs.OnTheWay.{TakesFirst, way_takes}
 
 -- what is held and will arrive, and what a break took away, as packets of all units

@@ -1,21 +1,7 @@
 -- A caller that may ask for a connection finds a place at the called end: behind the units that are
 -- under way no more connections are live there than at the caller.
 use Rattle.std.proofs.Common.{◌≡◌, ◌≢◌, ℕ, zero, suc, ◌+◌, ◌<◌, ◌≤◌, ◌==◌, Bool, true, false, List, [], ◌∷◌, ◌++◌, length, map, Option, Some, None, refl, sym, ap, subst, ◌∙◌, arith, nat_lt, is_some, if◌then◌else◌}
-use Rattle.std.proofs.lemmas.Bool.{eq-eqb, eqb-true, ne_eqb, ltb-true, ltb-false}
-use Rattle.std.proofs.lemmas.List.{map-append}
-use Rattle.osi_tpdu.specs.Value.{Value, request, confirm, disconnect, disconnected, data0, data2, acknowledge, error}
-use Rattle.osi_class.specs.declared.terms.Local.{Local}
-use Rattle.osi_carrier.specs.References.{dropped, references}
-use Rattle.osi_carrier.specs.Place.{never, was_given, place_at}
-use Rattle.osi_carrier.specs.Orderly.{RiseFrom, AreUpTo, IsOrderly}
-use Rattle.osi_carrier.specs.Rows.{Rows, value_at, without}
-use Rattle.osi_carrier.specs.State.{Connection, asked, linked, closing, State}
-use Rattle.osi_carrier.proofs.Apart.{absent, beyond, push_here, without_here}
-use Rattle.osi_carrier.proofs.AtReferences.{push_other, without_other, push_rise, push_up, without_rise, without_up}
-use Rattle.osi_between.specs.Addresses.{reference_of, units_of, asked_by, requests, behind, live_behind, live_after, is_last}
-use Rattle.osi_between.specs.Course.{Course, unasked, asking, accepting, withdrawing, met, at_end, from_end}
-use Rattle.osi_between.specs.Joined.{AreJoined}
-use Rattle.osi_between.specs.Meeting.{talking, left_here, left_there, left_both, waiting_here, waiting_there, parted, addressed, farewell}
+use Rattle.osi_between.proofs.Vocabulary.{eq-eqb, eqb-true, ne_eqb, ltb-true, ltb-false, map-append, Value, request, confirm, disconnect, disconnected, data0, data2, acknowledge, error, Local, dropped, references, never, was_given, place_at, RiseFrom, AreUpTo, IsOrderly, Rows, value_at, without, Connection, asked, linked, closing, State, absent, beyond, push_here, without_here, push_other, without_other, push_rise, push_up, without_rise, without_up, reference_of, units_of, asked_by, requests, behind, live_behind, live_after, is_last, Course, unasked, asking, accepting, withdrawing, met, at_end, from_end, AreJoined, talking, left_here, left_there, left_both, waiting_here, waiting_there, parted, addressed, farewell}
 use Rattle.osi_between.proofs.Courses.{given_place, is_given}
 
 -- ---- references as a table

@@ -1,28 +1,6 @@
 -- Two joined carriers stay joined where one of them acts.
 use Rattle.std.proofs.Common.{◌≡◌, ◌≢◌, ℕ, zero, suc, ◌+◌, ◌<◌, ◌≤◌, ◌==◌, Bool, true, false, not, List, [], ◌∷◌, ◌++◌, length, Option, Some, None, refl, sym, ap, subst, ◌∙◌, arith, length-append, nat_lt, if◌then◌else◌}
-use Rattle.std.specs.List.{AllByRecursion}
-use Rattle.std.proofs.lemmas.Bool.{eq-eqb, ne_eqb, ltb-true, ltb-false}
-use Rattle.std.proofs.lemmas.List.{append_cancel_left}
-use Rattle.osi_tpkt.specs.Octets.{IsOctets}
-use Rattle.osi_tpdu.specs.Value.{Value, Connect, request, confirm}
-use Rattle.osi_class.specs.Between.{IsShortTsdu}
-use Rattle.osi_class.specs.Link.{Standing}
-use Rattle.osi_class.specs.declared.terms.Local.{Local}
-use Rattle.osi_carrier.specs.References.{references}
-use Rattle.osi_carrier.specs.Calls.{sent, closed_with}
-use Rattle.osi_carrier.specs.Place.{Place, never, was_given, place_at}
-use Rattle.osi_carrier.specs.Orderly.{RiseFrom, IsOrderly}
-use Rattle.osi_carrier.specs.React.{react, is_of_peer, has_peer}
-use Rattle.osi_carrier.specs.Rows.{Rows, value_at}
-use Rattle.osi_carrier.specs.State.{Connection, asked, linked, closing, State}
-use Rattle.osi_carrier.proofs.Apart.{absent, beyond}
-use Rattle.osi_carrier.proofs.Effects.{orderly_unit, orderly_sent, orderly_closed}
-use Rattle.osi_carrier.proofs.Selecting.{has_room}
-use Rattle.osi_between.specs.Addresses.{reference_of, units_of, AreFor, requests, behind, live_after}
-use Rattle.osi_between.specs.Course.{Course, unasked, asking, accepting, withdrawing, met, answer_of, at_end, from_end, IsAskedBy, Holds, HoldsAt, called_local, asked_in, answers_at, CourseMoves}
-use Rattle.osi_between.specs.Joined.{StandsBetween, HasPlaces, AreJoined, JoinedFrom, Did}
-use Rattle.osi_between.specs.Meeting.{Meeting, talking, left_here, left_there, left_both, waiting_here, waiting_there, parted, mirror, here, out}
-use Rattle.osi_between.specs.Messages.{Message, agree, message, bye}
+use Rattle.osi_between.proofs.Vocabulary.{AllByRecursion, eq-eqb, ne_eqb, ltb-true, ltb-false, append_cancel_left, IsOctets, Value, Connect, request, confirm, IsShortTsdu, Standing, Local, references, sent, closed_with, Place, never, was_given, place_at, RiseFrom, IsOrderly, react, is_of_peer, has_peer, Rows, value_at, Connection, asked, linked, closing, State, absent, beyond, orderly_unit, orderly_sent, orderly_closed, has_room, reference_of, units_of, AreFor, requests, behind, live_after, Course, unasked, asking, accepting, withdrawing, met, answer_of, at_end, from_end, IsAskedBy, Holds, HoldsAt, called_local, asked_in, answers_at, CourseMoves, StandsBetween, HasPlaces, AreJoined, JoinedFrom, Did, Meeting, talking, left_here, left_there, left_both, waiting_here, waiting_there, parted, mirror, here, out, Message, agree, message, bye}
 use Rattle.osi_between.proofs.Addressing.{first_of_all, requests_join, behind_join, places_join, places_rest, places_for}
 use Rattle.osi_between.proofs.Courses.{given_place, is_given, met_caller, met_called, answers_plain}
 use Rattle.osi_between.proofs.CourseOpening.{accepts_moves, accepted_sends, accepted_closes, confirm_moves, withdrawn_moves}

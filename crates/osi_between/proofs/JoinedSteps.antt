@@ -1,20 +1,6 @@
 -- Where one end of two joined carriers acts, each connection stands as it should.
 use Rattle.std.proofs.Common.{◌≡◌, ◌≢◌, ℕ, ◌+◌, ◌<◌, ◌==◌, Bool, true, false, not, List, [], ◌++◌, Option, refl, sym, ap, subst, ◌∙◌, arith}
-use Rattle.std.specs.List.{flat_map}
-use Rattle.std.proofs.lemmas.Bool.{eqb-true, eq-eqb}
-use Rattle.std.proofs.lemmas.List.{append-nil, append_cancel_left}
-use Rattle.osi_tpdu.specs.Value.{Value}
-use Rattle.osi_class.specs.Between.{LinkPair}
-use Rattle.osi_class.specs.declared.terms.Local.{Local}
-use Rattle.osi_tpdu.specs.Value.{Connect}
-use Rattle.osi_carrier.specs.Place.{Place, place_at, connection_in}
-use Rattle.osi_carrier.specs.Happenings.{Happening}
-use Rattle.osi_carrier.specs.State.{Connection, State}
-use Rattle.osi_between.specs.Addresses.{units_of, AreFor}
-use Rattle.osi_between.specs.Course.{at_end, messages_from, told_opening, Course, unasked, asking, accepting, withdrawing, met, from_end, IsAskedBy, IsAccepted, HoldsAt, called_local, Acts, BringsTo, CourseMoves, progress_of}
-use Rattle.osi_between.specs.Joined.{StandsBetween, under_way_for, ActsFor}
-use Rattle.osi_between.specs.Messages.{Message, messages_to, AreLike}
-use Rattle.osi_between.specs.Progress.{leaves_use}
+use Rattle.osi_between.proofs.Vocabulary.{flat_map, eqb-true, eq-eqb, append-nil, append_cancel_left, Value, LinkPair, Local, Connect, Place, place_at, connection_in, Happening, Connection, State, units_of, AreFor, at_end, messages_from, told_opening, Course, unasked, asking, accepting, withdrawing, met, from_end, IsAskedBy, IsAccepted, HoldsAt, called_local, Acts, BringsTo, CourseMoves, progress_of, StandsBetween, under_way_for, ActsFor, Message, messages_to, AreLike, leaves_use}
 use Rattle.osi_between.proofs.Addressing.{units_join, units_same, units_other}
 use Rattle.osi_between.proofs.Openings.{caller_link}
 

@@ -1,10 +1,7 @@
 -- Two carriers behind a list of moves.
 use Rattle.std.proofs.Common.{◌≡◌, ℕ, Bool, true, false, List, [], ◌∷◌, Option, None, refl, sym, ap, subst, ◌∙◌}
-use Rattle.osi_carrier.specs.State.{State}
-use Rattle.osi_carrier.specs.declared.ends.EndReason.TheVariants.{Closed}
-use Rattle.osi_between.specs.Between.{Both, side, Between, AreBetween, becomes, Took}
-use Rattle.osi_between.specs.Journey.{Move, carries, takes, connects, hands_in, closes, tells, ends, breaks, May, moved, MayAll, ended_behind, ended_by_all, StayBetween}
-use Rattle.osi_between.specs.Terms.{Terms, by_two, by_zero, refusing}
+use Rattle.osi_between.specs.Journey.{ends}
+use Rattle.osi_between.proofs.Vocabulary.{State, Closed, Both, side, Between, AreBetween, becomes, Took, Move, carries, takes, connects, hands_in, closes, tells, breaks, May, moved, MayAll, ended_behind, ended_by_all, StayBetween, Terms, by_two, by_zero, refusing}
 use Rattle.osi_between.proofs.Acting.{by_end}
 use Rattle.osi_between.proofs.Betweens.{took, sends, closes_ends, hands_over, ends_at, no_open}
 use Rattle.osi_between.proofs.Betweens as all

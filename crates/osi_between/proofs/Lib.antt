@@ -21,6 +21,7 @@ pub mod Providing
 pub mod Betweens
 pub mod HandedIn
 pub mod Proposals
+mod Vocabulary
 pub mod Zeros
 pub mod ZeroLaws
 pub mod Refusals

@@ -1,23 +1,7 @@
 -- Feeding octets that the other end wrote keeps two carriers joined.
 use Rattle.std.proofs.Common.{◌≡◌, ℕ, Bool, true, false, not, ◌≤◌, List, [], ◌∷◌, ◌++◌, length, take, drop, Option, None, refl, sym, ap, subst, ◌∙◌, inl, inr, arith}
-use Rattle.osi_tpkt.specs.declared.cutting.Fed.{Fed}
-use Rattle.osi_tpdu.specs.Value.{Value}
-use Rattle.osi_class.specs.declared.terms.Local.{Local}
-use Rattle.osi_carrier.specs.Calls.{fresh_state}
-use Rattle.osi_carrier.specs.Coming.{AreComing}
-use Rattle.osi_carrier.specs.Place.{place_at}
-use Rattle.osi_carrier.specs.Happenings.{Happening}
-use Rattle.osi_carrier.specs.Packets.{Carrying, Feeds, is_spoilt}
-use Rattle.osi_carrier.specs.React.{react}
-use Rattle.osi_carrier.specs.State.{State}
-use Rattle.osi_carrier.specs.declared.ends.EndReason.{EndReason}
-use Rattle.osi_carrier.proofs.Effects.{orderly_same}
-use Rattle.osi_between.specs.Addresses.{reference_of}
-use Rattle.osi_between.specs.Taking.{TakesUnits, TakesSome}
-use Rattle.osi_between.specs.Course.{Course, unasked, asking, accepting, withdrawing, met, Holds, answers_at}
-use Rattle.osi_between.specs.Joined.{StandsBetween, AreJoined, JoinedFrom, ActsFor, Did}
 use Rattle.osi_between.specs.Linked.{AreLinked, with_state, with_events, TakesFor, WasFed}
-use Rattle.osi_between.specs.Messages.{Message}
+use Rattle.osi_between.proofs.Vocabulary.{Fed, Value, Local, fresh_state, AreComing, place_at, Happening, Carrying, Feeds, is_spoilt, react, State, EndReason, orderly_same, reference_of, TakesUnits, TakesSome, Course, unasked, asking, accepting, withdrawing, met, Holds, answers_at, StandsBetween, AreJoined, JoinedFrom, ActsFor, Did, Message}
 use Rattle.osi_between.proofs.Taking.{feeds_some, more_coming}
 use Rattle.osi_between.proofs.JoinedCalls.{fresh_joined}
 use Rattle.osi_between.proofs.JoinedMoves.{seen, takes_one}

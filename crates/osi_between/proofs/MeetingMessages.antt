@@ -1,22 +1,7 @@
 -- What is under way of a connection, after each unit that one of its two carriers takes and after each call.
 use Rattle.std.proofs.Common.{◌≡◌, ℕ, zero, suc, ◌<◌, true, List, [], ◌∷◌, ◌++◌, map, take, Option, Some, None, refl, sym, ap, ◌∙◌, arith, append_assoc}
-use Rattle.std.specs.List.{flat_map}
-use Rattle.std.proofs.lemmas.List.{append-nil, map-append}
-use Rattle.osi_tpdu.specs.Value.{Value, data0, disconnected}
-use Rattle.osi_class.specs.Between.{LinkPair, swapped, parts_under_way, under_way, under_way_before}
-use Rattle.osi_class.specs.Ends.{fresh_ends}
-use Rattle.osi_class.specs.Giving.{all_given}
-use Rattle.osi_class.specs.Joining.{Joining}
-use Rattle.osi_class.specs.Link.{Standing, Given, unit_of, with_tsdu, zero_standing}
-use Rattle.osi_class.specs.Tsdus.{tsdus_after, uncut}
-use Rattle.osi_class.proofs.Giving.{drained_leaves}
-use Rattle.osi_carrier.specs.Happenings.{Happening, tsdu, closed}
-use Rattle.osi_carrier.specs.Pump.{pumped}
-use Rattle.osi_carrier.specs.React.{handed_out}
-use Rattle.osi_carrier.specs.State.{Connection, asked, linked, closing}
-use Rattle.osi_between.specs.Meeting.{Meeting, talking, left_here, left_there, left_both, waiting_here, waiting_there, parted, here, there, addressed, leaving, farewell, told_open, told_at, messages_back, messages_out, Carries}
-use Rattle.osi_between.specs.Messages.{Message, message, bye, over, parting, messages_after, uncut_units, kind_of, AreLike}
-use Rattle.osi_between.specs.OpenLinks.{AreOpen, links, LeftTakes, after_take, after_send}
+use Rattle.osi_between.specs.Meeting.{Carries}
+use Rattle.osi_between.proofs.Vocabulary.{flat_map, append-nil, map-append, Value, data0, disconnected, LinkPair, swapped, parts_under_way, under_way, under_way_before, fresh_ends, all_given, Joining, Standing, Given, unit_of, with_tsdu, zero_standing, tsdus_after, uncut, drained_leaves, Happening, tsdu, closed, pumped, handed_out, Connection, asked, linked, closing, Meeting, talking, left_here, left_there, left_both, waiting_here, waiting_there, parted, here, there, addressed, leaving, farewell, told_open, told_at, messages_back, messages_out, Message, message, bye, over, parting, messages_after, uncut_units, kind_of, AreLike, AreOpen, links, LeftTakes, after_take, after_send}
 use Rattle.osi_between.proofs.MessageLaws.{tsdu_messages, messages_behind, messages_front, kinds_begun, kinds_join}
 use Rattle.osi_between.proofs.Turned.{turned_any, turned_any_back, turned_take, turned_send}
 

@@ -1,22 +1,6 @@
 -- How a connection stands after each unit that one of its two carriers takes, and after each call.
 use Rattle.std.proofs.Common.{◌≡◌, ℕ, ◌<◌, ◌||◌, Bool, true, false, List, [], ◌∷◌, ◌++◌, map, take, Some, None, refl, sym, ap, subst, ◌∙◌, arith}
-use Rattle.std.proofs.lemmas.List.{append-nil, map-append}
-use Rattle.osi_tpkt.specs.Octets.{IsOctets}
-use Rattle.osi_tpdu.specs.Value.{Value, disconnected}
-use Rattle.osi_class.specs.Between.{LinkPair, swapped, AreOfClass, IsShortTsdu}
-use Rattle.osi_class.specs.Giving.{all_given}
-use Rattle.osi_class.specs.Link.{Standing, Given, part0, part2, ack, unit_of, is_of_two, with_tsdu}
-use Rattle.osi_class.specs.declared.terms.Class.TheVariants.{Two}
-use Rattle.osi_carrier.specs.Calls.{sent, closed_with}
-use Rattle.osi_carrier.specs.Happenings.{tsdu, closed}
-use Rattle.osi_carrier.specs.React.{react, handed_out}
-use Rattle.osi_carrier.specs.Orderly.{IsOrderly}
-use Rattle.osi_carrier.specs.Rows.{value_at}
-use Rattle.osi_carrier.specs.State.{linked, State}
-use Rattle.osi_between.specs.Addresses.{reference_of, AreFor, is_last}
-use Rattle.osi_between.specs.Meeting.{Meeting, talking, left_here, left_there, left_both, waiting_here, waiting_there, parted, mirror, here, addressed, leaving, farewell, out, back, Stands, answers_of, Moves}
-use Rattle.osi_between.specs.OpenLinks.{AgreeIn, AreOpen, after_take, after_send}
-use Rattle.osi_between.specs.Messages.{Message, message, bye, over, messages_after}
+use Rattle.osi_between.proofs.Vocabulary.{append-nil, map-append, IsOctets, Value, disconnected, LinkPair, swapped, AreOfClass, IsShortTsdu, all_given, Standing, Given, part0, part2, ack, unit_of, is_of_two, with_tsdu, Two, sent, closed_with, tsdu, closed, react, handed_out, IsOrderly, value_at, linked, State, reference_of, AreFor, is_last, Meeting, talking, left_here, left_there, left_both, waiting_here, waiting_there, parted, mirror, here, addressed, leaving, farewell, out, back, Stands, answers_of, Moves, AgreeIn, AreOpen, after_take, after_send, Message, message, bye, over, messages_after}
 use Rattle.osi_between.proofs.Bringing.{brings_given, brings_sent, brings_shut, brings_ignored, brings_bye, brings_crossed}
 use Rattle.osi_between.proofs.MeetingMessages.{parting_is, talking_takes, talking_sends, talking_closes, behind_takes, behind_sends, leaving_takes, behind_closes, left_ignores, both_ignores, waiting_ignores, both_takes, waiting_over, waiting_crossed}
 use Rattle.osi_between.proofs.Changes.{given_changes, given_ignored, leaving_changes, crossed_changes, over_changes, send_changes, close_changes}

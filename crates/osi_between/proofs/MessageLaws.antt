@@ -1,11 +1,6 @@
 -- Units read as messages.
 use Rattle.std.proofs.Common.{◌≡◌, ℕ, true, false, List, [], ◌∷◌, ◌++◌, map, refl, ap}
-use Rattle.osi_tpdu.specs.Value.{Value, request, confirm, disconnect, disconnected, data0, data2, acknowledge, error}
-use Rattle.osi_class.specs.Between.{parts_under_way}
-use Rattle.osi_class.specs.Link.{Given, part0, part2, ack}
-use Rattle.osi_class.specs.Tsdus.{tsdus_after, uncut}
-use Rattle.osi_between.specs.Meeting.{addressed}
-use Rattle.osi_between.specs.Messages.{Message, ask, agree, message, over, parting, messages_after, uncut_units, kind_of}
+use Rattle.osi_between.proofs.Vocabulary.{Value, request, confirm, disconnect, disconnected, data0, data2, acknowledge, error, parts_under_way, Given, part0, part2, ack, tsdus_after, uncut, addressed, Message, ask, agree, message, over, parting, messages_after, uncut_units, kind_of}
 
 -- ---- TSDUs
 

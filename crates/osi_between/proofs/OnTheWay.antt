@@ -1,18 +1,7 @@
 -- The octets between two carriers: units are written behind them, handed over, taken, and lost.
 use Rattle.std.proofs.Common.{◌≡◌, ℕ, ◌+◌, ◌-◌, ◌<◌, ◌≤◌, Bool, true, false, List, [], ◌∷◌, ◌++◌, length, take, drop, Option, Some, None, IfSome, nat_le, refl, sym, ap, subst, ◌∙◌, arith, append_assoc, length-append}
-use Rattle.std.specs.List.{AllByRecursion}
-use Rattle.std.proofs.lemmas.Bool.{leb-true, leb-false}
-use Rattle.std.proofs.lemmas.List.{append-nil, append_cancel_left, take-append-drop, take-append-le, length-take-le, length-drop, take-take, drop-take}
-use Rattle.osi_tpkt.specs.Packet.{IsPacket, IsPartial, packet_of}
 use Rattle.osi_tpkt.proofs.PacketLaws.{one_packet}
-use Rattle.osi_tpkt.proofs.Fronts.{completed_partial, partial_not_whole, empty_partial}
-use Rattle.osi_tpdu.specs.Value.{Value}
-use Rattle.osi_tpdu.specs.Writing.{written}
-use Rattle.osi_carrier.specs.Coming.{IsSendable}
-use Rattle.osi_carrier.specs.State.{packets}
-use Rattle.osi_carrier.proofs.Coming.{all_behind, unit_packet}
-use Rattle.osi_carrier.proofs.Pumping.{packets_join}
-use Rattle.osi_between.specs.Between.{within_reach, IsOnTheWay}
+use Rattle.osi_between.proofs.Vocabulary.{AllByRecursion, leb-true, leb-false, append-nil, append_cancel_left, take-append-drop, take-append-le, length-take-le, length-drop, take-take, drop-take, IsPacket, IsPartial, packet_of, completed_partial, partial_not_whole, empty_partial, Value, written, IsSendable, packets, all_behind, unit_packet, packets_join, within_reach, IsOnTheWay}
 
 front_none : (xs ys : List ℕ) → xs ++ ys ≡ [] → xs ≡ []
 front_none [] ys e = refl

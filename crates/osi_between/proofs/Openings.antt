@@ -1,25 +1,9 @@
 -- Two links of class 2 as a CR and its CC open them.
 use Rattle.std.proofs.Common.{◌≡◌, ℕ, ◌<◌, Bool, false, ◌^◌, ◌≤◌, true, List, [], length, IfSome, min, Option, Some, refl, sym, subst, inl, arith}
-use Rattle.std.specs.List.{AllByRecursion}
-use Rattle.std.proofs.Math.Nat.{pow-le-pow_right}
-use Rattle.osi_tpkt.specs.Octets.{IsOctets}
 use Rattle.osi_tpdu.proofs.StepLaws.{IsOctets-cons}
-use Rattle.osi_tpdu.specs.Limits.{size_code, window_units}
-use Rattle.osi_tpdu.specs.Value.{Connect, IsConnect, request, confirm}
-use Rattle.osi_class.specs.Between.{opened_pair, under_way, IsShortTsdu}
-use Rattle.osi_class.specs.Link.{Standing, two_standing, fresh_two}
-use Rattle.osi_class.specs.Negotiation.{accept, selected_by, selected_size}
-use Rattle.osi_class.specs.declared.terms.Class.{Class}
-use Rattle.osi_class.specs.declared.terms.Class.TheVariants.{Two}
-use Rattle.osi_class.specs.declared.terms.Local.{Local}
-use Rattle.osi_class.proofs.Flows.{agree_begins}
 use Rattle.osi_class.proofs.Nothing as nothing
-use Rattle.osi_class.proofs.Ways.{begins}
-use Rattle.osi_carrier.specs.Coming.{IsSendable}
-use Rattle.osi_carrier.specs.Negotiation.{proposal_by, proposes_zero, alternatives, confirmed, agreed_size, opened_link}
-use Rattle.osi_between.specs.Course.{answer_of, IsTsap}
+use Rattle.osi_between.proofs.Vocabulary.{AllByRecursion, pow-le-pow_right, IsOctets, size_code, window_units, Connect, IsConnect, request, confirm, opened_pair, under_way, IsShortTsdu, Standing, two_standing, fresh_two, accept, selected_by, selected_size, Class, Two, Local, agree_begins, begins, IsSendable, proposal_by, proposes_zero, alternatives, confirmed, agreed_size, opened_link, answer_of, IsTsap, AreOpen, IsSettled}
 use Rattle.osi_between.proofs.Sendables.{request_sendable, confirm_sendable}
-use Rattle.osi_between.specs.OpenLinks.{AreOpen, IsSettled}
 
 -- ---- links
 

@@ -1,22 +1,7 @@
 -- The CR of a caller before a class holds: that it can be written, and what it is answered.
 use Rattle.std.proofs.Common.{◌≡◌, ℕ, ◌<◌, ◌≤◌, ◌^◌, ◌-◌, Bool, true, false, not, ◌&&◌, ◌||◌, List, min, Option, Some, None, option_map, refl, sym, ap, subst, ◌∙◌, ◌⊎◌, inl, inr, arith, if◌then◌else◌}
-use Rattle.std.proofs.Math.Nat.{pow-le-pow_right}
-use Rattle.osi_tpdu.specs.Limits.{size_code}
-use Rattle.osi_tpdu.specs.Value.{Connect, IsConnect, request, confirm}
-use Rattle.osi_class.specs.Between.{opened_pair, under_way}
-use Rattle.osi_class.specs.Ends.{fresh_ends}
-use Rattle.osi_class.specs.Link.{Standing, zero_standing}
-use Rattle.osi_class.specs.Negotiation.{accept, refuse, selected_by, selected_size}
-use Rattle.osi_class.specs.declared.terms.Class.{Class}
-use Rattle.osi_class.specs.declared.terms.Class.TheVariants.{Zero}
-use Rattle.osi_class.specs.declared.terms.Local.{Local}
-use Rattle.osi_class.proofs.Ways.{begins}
-use Rattle.osi_carrier.specs.Coming.{IsSendable}
-use Rattle.osi_carrier.specs.Negotiation.{proposal_by, proposal, proposes_zero, confirmed, agreed_size, opened_link}
-use Rattle.osi_between.specs.Course.{IsTsap}
-use Rattle.osi_between.specs.OpenLinks.{AreOpen, IsSettled}
-use Rattle.osi_between.specs.Terms.{by_two, by_zero, refusing, terms_of, IsProposed}
 use Rattle.osi_between.specs.Zero.{answer_of}
+use Rattle.osi_between.proofs.Vocabulary.{pow-le-pow_right, size_code, Connect, IsConnect, request, confirm, opened_pair, under_way, fresh_ends, Standing, zero_standing, accept, refuse, selected_by, selected_size, Class, Zero, Local, begins, IsSendable, proposal_by, proposal, proposes_zero, confirmed, agreed_size, opened_link, IsTsap, AreOpen, IsSettled, by_two, by_zero, refusing, terms_of, IsProposed}
 use Rattle.osi_between.proofs.Openings.{asked_sendable, no_octets, none_short}
 use Rattle.osi_between.proofs.Sendables.{request_sendable, confirm_sendable}
 

@@ -1,33 +1,7 @@
 -- What a caller's and a called end's carrier do of which the called end refuses each CR.
 use Rattle.std.proofs.Common.{◌≡◌, ℕ, ◌+◌, ◌<◌, ◌==◌, Bool, true, false, List, [], ◌∷◌, ◌++◌, length, Option, Some, None, refl, sym, ap, subst, ◌∙◌, inl, arith, nat_lt, if◌then◌else◌}
-use Rattle.std.specs.List.{flat_map}
-use Rattle.std.proofs.lemmas.Bool.{eq-eqb}
-use Rattle.std.proofs.lemmas.List.{append-nil}
-use Rattle.osi_tpkt.specs.Octets.{IsOctets}
-use Rattle.osi_tpdu.specs.Value.{Value, Connect, request, disconnect}
-use Rattle.osi_class.specs.Between.{IsShortTsdu}
-use Rattle.osi_class.specs.Link.{Standing}
-use Rattle.osi_class.specs.Negotiation.{Selection}
-use Rattle.osi_class.specs.declared.terms.Class.{Class}
-use Rattle.osi_carrier.specs.Calls.{may_connect, class_error, asks, sent}
-use Rattle.osi_carrier.specs.Place.{Place, never, was_given, place_at, connection_in}
-use Rattle.osi_carrier.specs.Happenings.{Happening}
-use Rattle.osi_carrier.specs.Negotiation.{proposal}
-use Rattle.osi_carrier.specs.React.{react, in_class, before_class, to_connection, to_asked, answers, denies, has_peer, is_full}
-use Rattle.osi_carrier.specs.Rows.{Rows, value_at, without}
-use Rattle.osi_carrier.specs.State.{Connection, asked, linked, State, packets}
-use Rattle.osi_carrier.proofs.AtReferences.{without_other}
-use Rattle.osi_carrier.proofs.Effects.{free_of}
-use Rattle.osi_carrier.proofs.Reacts.{react_quiet}
-use Rattle.osi_carrier.proofs.Selecting.{has_room}
-use Rattle.osi_between.specs.Addresses.{reference_of, units_of, AreFor}
-use Rattle.osi_between.specs.Between.{answers_in, told_of}
-use Rattle.osi_between.specs.Course.{IsTsap, BringsTo}
-use Rattle.osi_between.specs.Joined.{under_way_for}
-use Rattle.osi_between.specs.Messages.{Message, ask, deny, message, messages_to}
-use Rattle.osi_between.specs.Progress.{not_yet, awaiting}
-use Rattle.osi_between.specs.Refusing.{Refusal, unasked, asking, denied, rows_in, denying, from_end, Holds, AreRefusing}
-use Rattle.osi_between.specs.Terms.{refusing, IsProposed}
+use Rattle.osi_between.specs.Refusing.{unasked, asking, from_end, Holds}
+use Rattle.osi_between.proofs.Vocabulary.{flat_map, eq-eqb, append-nil, IsOctets, Value, Connect, request, disconnect, IsShortTsdu, Standing, Selection, Class, may_connect, class_error, asks, sent, Place, never, was_given, place_at, connection_in, Happening, proposal, react, in_class, before_class, to_connection, to_asked, answers, denies, has_peer, is_full, Rows, value_at, without, Connection, asked, linked, State, packets, without_other, free_of, react_quiet, has_room, reference_of, units_of, AreFor, answers_in, told_of, IsTsap, BringsTo, under_way_for, Message, ask, deny, message, messages_to, not_yet, awaiting, Refusal, denied, rows_in, denying, AreRefusing, refusing, IsProposed}
 use Rattle.osi_between.proofs.Acting.{JoinedAt, Does}
 use Rattle.osi_between.proofs.Addressing.{units_same}
 use Rattle.osi_between.proofs.Bringing.{same_like, brings_none}

@@ -1,16 +1,7 @@
 -- The units that carriers write for each other go into packets.
 use Rattle.std.proofs.Common.{◌≡◌, ℕ, ◌+◌, ◌<◌, ◌≤◌, List, [], ◌∷◌, ◌++◌, length, Option, Some, None, IfSome, ap, ◌∙◌, arith, length-append}
-use Rattle.std.specs.List.{flat_map, AllByRecursion}
-use Rattle.std.proofs.lemmas.Grind.{flat_map-append}
-use Rattle.osi_tpkt.specs.Octets.{IsOctets}
 use Rattle.osi_tpdu.specs.Spelling.{Item, item_octets, single}
-use Rattle.osi_tpdu.specs.Value.{Connect, Parameters, IsConnect, request, confirm, disconnect, disconnected}
-use Rattle.osi_tpdu.specs.Writing.{items_of, written_items}
-use Rattle.osi_class.specs.Link.{Given, part0, part2, ack, unit_of}
-use Rattle.osi_class.specs.Sound.{HasGivenInRange}
-use Rattle.osi_class.proofs.FitLaws.{unit_fits, unit_length}
-use Rattle.osi_carrier.specs.Coming.{IsSendable}
-use Rattle.osi_between.specs.Meeting.{addressed, leaving}
+use Rattle.osi_between.proofs.Vocabulary.{flat_map, AllByRecursion, flat_map-append, IsOctets, Connect, Parameters, IsConnect, request, confirm, disconnect, disconnected, items_of, written_items, Given, part0, part2, ack, unit_of, HasGivenInRange, unit_fits, unit_length, IsSendable, addressed, leaving}
 
 -- ---- units of links
 

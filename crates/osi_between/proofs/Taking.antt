@@ -1,22 +1,8 @@
 -- However many octets of what was written are fed, units are taken, one after the other.
 use Rattle.std.proofs.Common.{◌≡◌, ℕ, ◌+◌, ◌-◌, ◌≤◌, Bool, true, false, ◌||◌, is_some, List, [], ◌∷◌, ◌++◌, length, map, take, drop, Option, None, Ok, refl, sym, ap, subst, ◌∙◌, inl, inr, arith, append_assoc, if◌then◌else◌}
-use Rattle.std.specs.List.{AllByRecursion}
-use Rattle.std.proofs.lemmas.List.{append-nil, length-take-le, take-take}
-use Rattle.osi_tpkt.specs.Packet.{packet_of}
 use Rattle.osi_tpkt.specs.Stream.{ArePackets, offset_of}
 use Rattle.osi_tpdu.specs.Packet.{units_of}
-use Rattle.osi_tpdu.specs.Value.{Value}
-use Rattle.osi_tpdu.specs.Writing.{written}
-use Rattle.osi_carrier.specs.Coming.{IsSendable, AreComing}
-use Rattle.osi_between.specs.Taking.{TakesUnits, TakesSome}
-use Rattle.osi_tpkt.specs.declared.cutting.Fed.{Fed}
-use Rattle.osi_carrier.specs.Packets.{Carrying, Feeds, waits, is_spoilt, TakesPackets, RunsDry, StopsBehind, Refuses, Starves, FindsNoMemory, Goes}
-use Rattle.osi_carrier.specs.React.{react}
-use Rattle.osi_carrier.specs.State.{State, packets, ends}
-use Rattle.osi_carrier.specs.declared.ends.EndReason.{EndReason}
-use Rattle.osi_carrier.specs.declared.ends.EndReason.TheVariants.{NoMemory}
-use Rattle.osi_carrier.proofs.Pumping.{packets_join}
-use Rattle.osi_carrier.proofs.Coming.{all_behind, unit_packet, unit_read, packet_reacts, Fronts, units_front, fault_free, starved_unit, reads_part}
+use Rattle.osi_between.proofs.Vocabulary.{AllByRecursion, append-nil, length-take-le, take-take, packet_of, Value, written, IsSendable, AreComing, TakesUnits, TakesSome, Fed, Carrying, Feeds, waits, is_spoilt, TakesPackets, RunsDry, StopsBehind, Refuses, Starves, FindsNoMemory, Goes, react, State, packets, ends, EndReason, NoMemory, packets_join, all_behind, unit_packet, unit_read, packet_reacts, Fronts, units_front, fault_free, starved_unit, reads_part}
 
 -- packets that are taken are units that are taken
 units_taken : (done : List Value) (s t : State) → AllByRecursion IsSendable done → TakesPackets s (map written done) t → TakesUnits s done t

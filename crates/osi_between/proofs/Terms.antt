@@ -1,12 +1,8 @@
 -- Whatever two carriers come to: how they begin, and what is asked of them.
 use Rattle.std.proofs.Common.{◌≡◌, ◌≤◌, true, false, not, [], length, None, IfSome, refl, arith}
-use Rattle.osi_tpkt.proofs.Fronts.{empty_partial}
-use Rattle.osi_class.specs.declared.terms.Local.{Local}
-use Rattle.osi_carrier.specs.Calls.{fresh_state}
-use Rattle.osi_between.specs.Between.{side, reach_of, arriving, last_of, units_from, lost_from, IsOnTheWay, AreJoinedBy, AreBetween, fresh_both, fresh_between}
 use Rattle.osi_between.specs.Refusing as refusals
-use Rattle.osi_between.specs.Terms.{Terms, by_two, by_zero, refusing, terms_of}
 use Rattle.osi_between.specs.Zero as zero
+use Rattle.osi_between.proofs.Vocabulary.{empty_partial, Local, fresh_state, side, reach_of, arriving, last_of, units_from, lost_from, IsOnTheWay, AreJoinedBy, AreBetween, fresh_both, fresh_between, Terms, by_two, by_zero, refusing, terms_of}
 use Rattle.osi_between.proofs.Acting.{by_end}
 use Rattle.osi_between.proofs.JoinedCalls.{fresh_joined}
 use Rattle.osi_between.proofs.Proposals.{come_to_two}

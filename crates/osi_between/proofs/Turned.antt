@@ -1,33 +1,11 @@
 -- What a carrier does to an open link, as turns of the two links of its connection.
 use Rattle.std.proofs.Common.{◌≡◌, ℕ, ◌<◌, Bool, true, false, List, [], ◌∷◌, ◌++◌, map, take, drop, Option, Some, None, Result, Ok, Err, refl, sym, ◌∙◌, ap, subst, arith, append_assoc, nat_lt, length, ◌+◌, if◌then◌else◌, IfOk}
-use Rattle.std.specs.List.{flat_map, AllByRecursion}
-use Rattle.std.proofs.lemmas.List.{append-nil, map-append}
-use Rattle.std.proofs.lemmas.Grind.{flat_map-append}
-use Rattle.osi_tpkt.specs.Octets.{IsOctets}
-use Rattle.osi_tpdu.specs.Value.{Value, request, confirm, disconnect, disconnected, data0, data2, acknowledge, error}
-use Rattle.osi_class.specs.Between.{LeftMoves, LinkPair, swapped, Turn, at_left, TurnsAlong, opposite, left_in, right_out, under_way_before, under_way, HasWholeTsdus, IsShortTsdu, TakesOldest}
-use Rattle.osi_class.specs.Ends.{Ends}
-use Rattle.osi_class.specs.Flow.{Flow, Sender, is_awaited, acknowledged}
-use Rattle.osi_class.specs.Giving.{all_given}
-use Rattle.osi_class.specs.Joining.{Joining, joined, with_part}
-use Rattle.osi_class.specs.Link.{Standing, Given, part0, part2, ack, taken, taken_by, taken_flow, unit_of, with_tsdu, with_joined, with_sender}
 use Rattle.osi_class.specs.Runs.{hand_in, give_out, take_in, hand_out, MovesAlong}
-use Rattle.osi_class.specs.Sound.{HasGivenInRange}
-use Rattle.osi_class.specs.declared.faults.LinkFault.{LinkFault}
-use Rattle.osi_class.specs.declared.faults.LinkFault.TheVariants.{TsduTooLong, OutOfSequence}
-use Rattle.osi_class.specs.Limits.{longest_tsdu}
 use Rattle.osi_class.proofs.Classes.{zero_turns}
-use Rattle.osi_class.proofs.FitLaws.{in_range, stays_octets, unit_fits}
-use Rattle.osi_class.proofs.Flows.{agree_turns}
-use Rattle.osi_class.proofs.Giving.{drained_moves, drained_ends, drained_leaves}
 use Rattle.osi_class.proofs.Oldest.{said, oldest_in_class_0, oldest_in_class_2}
-use Rattle.osi_class.proofs.Order.{choose_ok, at_ok}
 use Rattle.osi_class.proofs.Short.{stays_short}
 use Rattle.osi_class.proofs.SoundLaws.{move_sound, move_same}
-use Rattle.osi_class.proofs.Ways.{turns_keep, whole_kept, stays_whole, other_way}
-use Rattle.osi_carrier.specs.Pump.{pumped}
-use Rattle.osi_carrier.specs.React.{handed_out}
-use Rattle.osi_between.specs.OpenLinks.{IsWell, IsSettled, AgreeIn, AreOpen, links, Passes, after_send, after_take, LeftTakes}
+use Rattle.osi_between.proofs.Vocabulary.{flat_map, AllByRecursion, append-nil, map-append, flat_map-append, IsOctets, Value, request, confirm, disconnect, disconnected, data0, data2, acknowledge, error, LeftMoves, LinkPair, swapped, Turn, at_left, TurnsAlong, opposite, left_in, right_out, under_way_before, under_way, HasWholeTsdus, IsShortTsdu, TakesOldest, Ends, Flow, Sender, is_awaited, acknowledged, all_given, Joining, joined, with_part, Standing, Given, part0, part2, ack, taken, taken_by, taken_flow, unit_of, with_tsdu, with_joined, with_sender, HasGivenInRange, LinkFault, TsduTooLong, OutOfSequence, longest_tsdu, in_range, stays_octets, unit_fits, agree_turns, drained_moves, drained_ends, drained_leaves, choose_ok, at_ok, turns_keep, whole_kept, stays_whole, other_way, pumped, handed_out, IsWell, IsSettled, AgreeIn, AreOpen, links, Passes, after_send, after_take, LeftTakes}
 
 -- ---- turns one after the other
 

@@ -1,33 +1,8 @@
 -- Two carriers that come to class 0: each unit that is taken, and each call.
 use Rattle.std.proofs.Common.{◌≡◌, ℕ, ◌==◌, Bool, true, false, List, [], ◌∷◌, ◌++◌, map, Option, Some, None, is_some, refl, sym, ap, subst, ◌∙◌, arith, if◌then◌else◌}
-use Rattle.std.proofs.lemmas.Bool.{eqb-true}
-use Rattle.std.proofs.lemmas.List.{append-nil, append_cancel_left, map-append}
-use Rattle.osi_tpkt.specs.Octets.{IsOctets}
-use Rattle.osi_tpdu.specs.Value.{Value, Connect, request, confirm}
-use Rattle.osi_class.specs.Between.{LinkPair, swapped, under_way, IsShortTsdu}
-use Rattle.osi_class.specs.Giving.{all_given}
-use Rattle.osi_class.specs.Link.{Standing, Given, part0, part2, ack, unit_of, with_tsdu}
-use Rattle.osi_class.specs.declared.terms.Class.{Class}
-use Rattle.osi_class.specs.declared.terms.Class.TheVariants.{Zero}
-use Rattle.osi_class.specs.declared.terms.Local.{Local}
-use Rattle.osi_carrier.specs.Calls.{sent, sent_on, closes, closed_with, closed_on, link_of, open_link}
-use Rattle.osi_carrier.specs.Place.{Place, never, was_given, place_at, connection_in}
-use Rattle.osi_carrier.specs.Happenings.{Happening}
-use Rattle.osi_carrier.specs.Pump.{pumped}
-use Rattle.osi_carrier.specs.React.{react, pumps}
-use Rattle.osi_carrier.specs.Rows.{value_at}
-use Rattle.osi_carrier.specs.State.{Connection, asked, linked, State, ends}
-use Rattle.osi_carrier.specs.declared.ends.EndReason.{EndReason}
-use Rattle.osi_carrier.specs.declared.ends.EndReason.TheVariants.{Closed}
-use Rattle.osi_between.specs.Addresses.{reference_of}
-use Rattle.osi_between.specs.Between.{answers_in}
-use Rattle.osi_between.specs.Course.{answers_at}
-use Rattle.osi_between.specs.Joined.{under_way_for}
-use Rattle.osi_between.specs.Meeting.{addressed}
-use Rattle.osi_between.specs.Messages.{Message, agree, message, messages_after, uncut_units}
-use Rattle.osi_between.specs.OpenLinks.{AreOpen, after_send}
-use Rattle.osi_between.specs.Terms.{by_zero, terms_of}
-use Rattle.osi_between.specs.Zero.{ZeroCourse, unasked, asking, accepting, talking, answer_of, at_end, from_end, IsAccepted, Holds, HasOne, AreJoinedZero}
+use Rattle.osi_carrier.specs.Calls.{closes}
+use Rattle.osi_between.specs.Zero.{unasked, asking, accepting, talking, answer_of, at_end, from_end, IsAccepted, Holds}
+use Rattle.osi_between.proofs.Vocabulary.{eqb-true, append-nil, append_cancel_left, map-append, IsOctets, Value, Connect, request, confirm, LinkPair, swapped, under_way, IsShortTsdu, all_given, Standing, Given, part0, part2, ack, unit_of, with_tsdu, Class, Zero, Local, sent, sent_on, closed_with, closed_on, link_of, open_link, Place, never, was_given, place_at, connection_in, Happening, pumped, react, pumps, value_at, Connection, asked, linked, State, ends, EndReason, Closed, reference_of, answers_in, answers_at, under_way_for, addressed, Message, agree, message, messages_after, uncut_units, AreOpen, after_send, by_zero, terms_of, ZeroCourse, HasOne, AreJoinedZero}
 use Rattle.osi_between.proofs.Acting.{JoinedAt, Does}
 use Rattle.osi_between.proofs.Bringing.{same_like, brings_sent}
 use Rattle.osi_between.proofs.Changes.{open_is_linked}

@@ -1,8 +1,6 @@
 -- Rows after a change at one reference.
 use Rattle.std.proofs.Common.{◌≡◌, ◌≢◌, ℕ, suc, ◌+◌, ◌<◌, ◌≤◌, ◌==◌, Bool, true, false, [], ◌∷◌, ◌++◌, length, Some, None, refl, sym, ap, ◌∙◌, arith}
-use Rattle.std.proofs.lemmas.Bool.{eqb-true}
-use Rattle.osi_carrier.specs.Orderly.{RiseFrom, AreUpTo}
-use Rattle.osi_carrier.specs.Rows.{Rows, value_at, put, without}
+use Rattle.osi_carrier.proofs.Vocabulary.{eqb-true, RiseFrom, AreUpTo, Rows, value_at, put, without}
 
 -- ---- what stands at another reference
 

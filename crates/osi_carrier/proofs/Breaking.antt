@@ -1,18 +1,7 @@
 -- A unit that the link refused has changed nothing yet.
 use Rattle.std.proofs.Common.{◌≡◌, ℕ, List, [], ◌∷◌, ◌++◌, map, Some, Result, Ok, Err, OnOk, sym, ap, ◌∙◌}
-use Rattle.std.proofs.lemmas.List.{append-nil, map-append}
-use Rattle.osi_tpdu.specs.Value.{disconnect}
-use Rattle.osi_class.specs.Link.{Standing}
-use Rattle.osi_class.specs.declared.faults.LinkFault.{LinkFault}
-use Rattle.osi_class.specs.declared.terms.Class.TheVariants.{Two}
-use Rattle.osi_carrier.specs.Happenings.{Happening, happening, faulted}
 use Rattle.osi_carrier.specs.declared.events.Event.{Event}
-use Rattle.osi_carrier.specs.React.{breaks, taking}
-use Rattle.osi_carrier.specs.Rows.{Rows, value_at, put}
-use Rattle.osi_carrier.specs.Stages.{stage_of, link_in}
-use Rattle.osi_carrier.specs.State.{Connection, linked, closing, State, packets}
-use Rattle.osi_carrier.specs.Steps.{link_after, units_after}
-use Rattle.osi_carrier.specs.declared.stages.Stage.TheVariants.{Open}
+use Rattle.osi_carrier.proofs.Vocabulary.{append-nil, map-append, disconnect, Standing, LinkFault, Two, Happening, happening, faulted, breaks, taking, Rows, value_at, put, stage_of, link_in, Connection, linked, closing, State, packets, link_after, units_after, Open}
 use Rattle.osi_carrier.proofs.ByStage.{open_is}
 use Rattle.osi_carrier.proofs.Places.{put_same}
 

@@ -1,18 +1,8 @@
 -- What a unit does to the connection of a reference, by how far it is.
 use Rattle.std.proofs.Common.{◌≡◌, ◌∙◌, ℕ, suc, ◌+◌, ◌≤◌, List, [], ◌∷◌, length, Option, Some, None, refl, ap, sym, true, false, Bool, ◌==◌, is_some, if◌then◌else◌, arith}
 use Rattle.std.proofs.Common.{eq-eqb}
-use Rattle.std.proofs.lemmas.Grind.{common_steps}
-use Rattle.std.specs.List.{position_or_len}
-use Rattle.osi_tpdu.specs.Value.{Value, data0, data2, acknowledge}
-use Rattle.osi_class.specs.Link.{Standing, taken}
-use Rattle.osi_class.specs.declared.terms.Class.TheVariants.{Zero, Two}
-use Rattle.osi_carrier.specs.Rows.{Rows, value_at, place_of, first_of}
-use Rattle.osi_carrier.specs.Calls.{open_link, link_of, WaitsAlone, WaitsOn}
-use Rattle.osi_carrier.specs.React.{to_connection, to_reference, to_unknown, to_asked, to_linked, to_closing, to_only, taking, in_zero, in_two, in_class}
-use Rattle.osi_carrier.specs.Stages.{stage_of, link_in}
-use Rattle.osi_carrier.specs.State.{State, Connection, asked, linked, closing}
+use Rattle.osi_carrier.proofs.Vocabulary.{common_steps, position_or_len, Value, data0, data2, acknowledge, Standing, taken, Zero, Two, Rows, value_at, place_of, first_of, open_link, link_of, WaitsAlone, WaitsOn, to_connection, to_reference, to_unknown, to_asked, to_linked, to_closing, to_only, taking, in_zero, in_two, in_class, stage_of, link_in, State, Connection, asked, linked, closing, Unknown, Asking, Open, Leaving}
 use Rattle.osi_carrier.proofs.Places.{placed}
-use Rattle.osi_carrier.specs.declared.stages.Stage.TheVariants.{Unknown, Asking, Open, Leaving}
 
 pub open_is : (o : Option Connection) (peer : ℕ) → stage_of o ≡ Open peer → o ≡ Some (linked peer (link_in o))
 open_is None peer e = cc

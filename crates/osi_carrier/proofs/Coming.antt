@@ -1,24 +1,9 @@
 -- Octets that a carrier wrote are read as the units that it wrote.
 use Rattle.std.proofs.Common.{◌≡◌, ℕ, ◌<◌, ◌≤◌, List, [], ◌∷◌, ◌++◌, length, map, take, drop, Result, Ok, refl, sym, ap, subst, ◌∙◌, arith, append_assoc, length-append}
-use Rattle.std.specs.List.{AllByRecursion}
-use Rattle.std.proofs.lemmas.List.{append_cancel_left, get_or_append_left, take-append-drop}
-use Rattle.osi_tpkt.specs.Packet.{IsPacket, IsFaultOf, IsBadVersion, IsBadLength, packet_of}
-use Rattle.osi_tpkt.proofs.PacketLaws.{one_packet, packet_front, written_packet, stated_length-append}
-use Rattle.osi_tpkt.specs.Stream.{ArePackets}
-use Rattle.osi_tpkt.specs.declared.faults.TpktFault.{TpktFault}
-use Rattle.osi_tpkt.specs.declared.faults.TpktFault.TheVariants.{BadVersion, BadLength, OutOfMemory}
-use Rattle.osi_tpkt.proofs.Fronts.{front_version, front_length}
 use Rattle.osi_tpdu.proofs.WrittenLaws.{written_spells}
-use Rattle.osi_tpdu.specs.Packet.{units_of}
-use Rattle.osi_tpdu.specs.Value.{Value}
-use Rattle.osi_tpdu.specs.Writing.{written}
-use Rattle.osi_tpdu.specs.declared.faults.TpduFault.{TpduFault}
 use Rattle.osi_tpdu.proofs.PacketLaws.{units_only}
 use Rattle.osi_carrier.specs.Coming.{IsSendable, AreComing}
-use Rattle.osi_carrier.specs.Packets.{acts_by, after_packet, Starves}
-use Rattle.osi_carrier.specs.React.{react, reacts}
-use Rattle.osi_carrier.specs.State.{State, packets, ends}
-use Rattle.osi_carrier.specs.declared.ends.EndReason.TheVariants.{NoMemory}
+use Rattle.osi_carrier.proofs.Vocabulary.{AllByRecursion, append_cancel_left, get_or_append_left, take-append-drop, IsPacket, IsFaultOf, IsBadVersion, IsBadLength, packet_of, one_packet, packet_front, written_packet, stated_length-append, ArePackets, TpktFault, BadVersion, BadLength, OutOfMemory, front_version, front_length, units_of, Value, written, TpduFault, acts_by, after_packet, Starves, react, reacts, State, packets, ends, NoMemory}
 use Rattle.osi_carrier.proofs.Units.{written_least}
 
 pub all_behind : (us vs : List Value) → AllByRecursion IsSendable us → AllByRecursion IsSendable vs → AllByRecursion IsSendable (us ++ vs)

@@ -1,15 +1,7 @@
 -- What the cutter answered, as the carrier's look at the stream.
 use Rattle.std.proofs.Common.{◌≡◌, ℕ, zero, suc, ◌+◌, ◌<◌, ◌≤◌, Bool, true, false, List, [], ◌++◌, length, take, drop, None, Result, Ok, Err, MatchBool, refl, sym, ap, subst, ◌∙◌, inl, inr, arith}
-use Rattle.std.proofs.lemmas.List.{append-nil, take-append-drop, take_all, length-take-le}
 use Rattle.osi_tpkt.specs.Cutter.{TakesPiece, Belongs, Passes}
-use Rattle.osi_tpkt.specs.Held.{Held, IsHolding}
-use Rattle.osi_tpkt.specs.Packet.{IsPacket, IsOnePacket, IsPartial, IsFaultOf}
-use Rattle.osi_tpkt.specs.Stream.{offset_of}
-use Rattle.osi_tpkt.specs.declared.cutting.Fed.{Fed}
-use Rattle.osi_tpkt.specs.declared.faults.TpktFault.{TpktFault}
-use Rattle.osi_tpkt.specs.declared.faults.TpktFault.TheVariants.{BadVersion, BadLength, OutOfMemory}
-use Rattle.osi_carrier.specs.Fetching.{PacketActs, PartHeld, EndsOver, IsNoFront}
-use Rattle.osi_carrier.specs.Packets.{Carrying, IsReading, HasToHold, Acts, after_refusal}
+use Rattle.osi_carrier.proofs.Vocabulary.{append-nil, take-append-drop, take_all, length-take-le, Held, IsHolding, IsPacket, IsOnePacket, IsPartial, IsFaultOf, offset_of, Fed, TpktFault, BadVersion, BadLength, OutOfMemory, PacketActs, PartHeld, EndsOver, IsNoFront, Carrying, IsReading, HasToHold, Acts, after_refusal}
 
 -- a proper prefix of a packet is no packet
 abbrev pub Proper : Type 0

@@ -1,31 +1,12 @@
 -- What needs memory writes, tells or keeps something.
 use Rattle.std.proofs.Common.{◌≡◌, ℕ, ◌+◌, ◌<◌, ◌≤◌, ◌⊎◌, inl, inr, ◌||◌, Bool, true, false, List, [], ◌∷◌, ◌++◌, length, take, drop, Option, Some, None, Result, Ok, Err, IfOk, IsOk, OnErr, ◌==◌, map, refl, sym, ap, subst, ◌∙◌, nat_lt, if◌then◌else◌, length-append, arith}
-use Rattle.std.proofs.lemmas.Bool.{lt-ltb, ltb-true}
-use Rattle.std.proofs.lemmas.List.Sums.{sum_by-cons}
-use Rattle.osi_tpkt.specs.Packet.{packet_of}
-use Rattle.osi_tpdu.specs.Value.{Value, Connect, request, confirm, disconnect, disconnected, data0, data2, acknowledge, error}
-use Rattle.osi_tpdu.specs.Writing.{written}
 use Rattle.osi_class.specs.Flow.{Flow, is_awaited}
 use Rattle.osi_class.specs.Joining.{Joining, joined, with_part}
 use Rattle.osi_class.specs.Limits.{longest_tsdu}
-use Rattle.osi_class.specs.Link.{Standing, Hands, taken, taken_by, taken_flow, with_joined, needs_memory, part_needs_memory}
 use Rattle.osi_class.specs.Taking.{TakesUnit}
-use Rattle.osi_class.specs.declared.faults.LinkFault.{LinkFault}
 use Rattle.osi_class.specs.declared.faults.LinkFault.TheVariants.{WrongForm, OutOfSequence, CreditReduced, TsduTooLong, OutOfMemory}
-use Rattle.osi_class.specs.declared.terms.Class.{Class}
-use Rattle.osi_class.specs.declared.terms.Class.TheVariants.{Zero, Two}
-use Rattle.osi_class.proofs.Giving.{drained_leaves}
 use Rattle.osi_class.proofs.Order.{choose_ok}
-use Rattle.osi_carrier.specs.Calls.{begun_by, kept_in}
-use Rattle.osi_carrier.specs.Growth.{grows}
-use Rattle.osi_carrier.specs.Happenings.{Happening, tsdu}
-use Rattle.osi_carrier.specs.Pump.{pumped, written_by}
-use Rattle.osi_carrier.specs.React.{accepts, breaks, denies, handed_out, leaves, opens, taking, to_unknown}
-use Rattle.osi_carrier.specs.Rows.{Rows, value_at, put}
-use Rattle.osi_carrier.specs.Stages.{stage_of, link_in}
-use Rattle.osi_carrier.specs.State.{Connection, linked, State, packets, drops, tells}
-use Rattle.osi_carrier.specs.Steps.{link_grows, units_after, whole_after, link_after}
-use Rattle.osi_carrier.specs.declared.stages.Stage.TheVariants.{Open}
+use Rattle.osi_carrier.proofs.Vocabulary.{lt-ltb, ltb-true, sum_by-cons, packet_of, Value, Connect, request, confirm, disconnect, disconnected, data0, data2, acknowledge, error, written, Standing, Hands, taken, taken_by, taken_flow, with_joined, needs_memory, part_needs_memory, LinkFault, Class, Zero, Two, drained_leaves, begun_by, kept_in, grows, Happening, tsdu, pumped, written_by, accepts, breaks, denies, handed_out, leaves, opens, taking, to_unknown, Rows, value_at, put, stage_of, link_in, Connection, linked, State, packets, drops, tells, link_grows, units_after, whole_after, link_after, Open}
 use Rattle.osi_carrier.proofs.ByStage.{open_is}
 
 or_left : (a b : Bool) → a ≡ true → (a || b) ≡ true

@@ -1,27 +1,6 @@
 -- Where one list of pieces does not end a carrier, no other with the same octets does.
 use Rattle.std.proofs.Common.{◌≡◌, ℕ, ◌≤◌, ◌||◌, Bool, true, false, List, [], ◌∷◌, ◌++◌, length, take, drop, map, Option, Some, None, Result, Ok, Err, is_some, refl, sym, ap, subst, ◌∙◌, ◌⊎◌, inl, inr, arith, append_assoc, length-append, if◌then◌else◌}
-use Rattle.std.proofs.lemmas.List.{append-nil, take_all, take-append-drop, get_or_append_left}
-use Rattle.std.specs.List.{flat_map}
-use Rattle.osi_tpkt.specs.Packet.{IsPacket, IsOnePacket, IsPartial, IsFaultOf}
-use Rattle.osi_tpkt.proofs.PacketLaws.{stated_length-append}
-use Rattle.osi_tpkt.specs.Stream.{ArePackets}
-use Rattle.osi_tpkt.specs.Stream.Ending.{Faulty}
-use Rattle.osi_tpkt.specs.declared.cutting.Fed.{Fed}
-use Rattle.osi_tpkt.specs.declared.faults.TpktFault.{TpktFault}
-use Rattle.osi_tpkt.specs.declared.faults.TpktFault.TheVariants.{BadVersion, BadLength, OutOfMemory}
-use Rattle.osi_tpkt.proofs.Streams.{partial_no_fault, end_no_packet}
-use Rattle.osi_tpdu.specs.Packet.{units_of}
-use Rattle.osi_tpdu.specs.Value.{Value}
-use Rattle.osi_tpdu.specs.declared.faults.TpduFault.{TpduFault}
-use Rattle.osi_carrier.specs.Calls.{Tells}
-use Rattle.osi_carrier.specs.Happenings.{Happening}
-use Rattle.osi_carrier.specs.Packets.{Carrying, Feeds, Goes, acts_by, after_packet, waits, is_spoilt}
-use Rattle.osi_carrier.specs.Runs.{UserCall, Call, all_done, packet_in, Calls, CallsAlong, used_in, told_in, carried_in, called_in, put_back}
-use Rattle.osi_carrier.specs.Runs.Act.{packet}
-use Rattle.osi_carrier.specs.Runs.Call.{feeding, telling, carrying, calling}
-use Rattle.osi_carrier.specs.State.{State}
-use Rattle.osi_carrier.specs.declared.ends.EndReason.{EndReason}
-use Rattle.osi_carrier.specs.declared.ends.EndReason.TheVariants.{NoMemory}
+use Rattle.osi_carrier.proofs.Vocabulary.{append-nil, take_all, take-append-drop, get_or_append_left, flat_map, IsPacket, IsOnePacket, IsPartial, IsFaultOf, stated_length-append, ArePackets, Faulty, Fed, TpktFault, BadVersion, BadLength, OutOfMemory, partial_no_fault, end_no_packet, units_of, Value, TpduFault, Tells, Happening, Carrying, Feeds, Goes, acts_by, after_packet, waits, is_spoilt, UserCall, Call, all_done, packet_in, Calls, CallsAlong, used_in, told_in, carried_in, called_in, put_back, packet, feeding, telling, carrying, calling, State, EndReason, NoMemory}
 use Rattle.osi_carrier.proofs.InFront.{apart_all}
 use Rattle.osi_carrier.proofs.Pieces.{calls_read, reads_one, ReadsOne, only_packets, packets_done, all_joined}
 use Rattle.osi_carrier.proofs.Reacts.{none_of, reacts_over}

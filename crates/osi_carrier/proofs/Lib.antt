@@ -23,3 +23,4 @@ pub mod Lasting
 pub mod Outcomes
 pub mod Growing
 pub mod Naming
+mod Vocabulary

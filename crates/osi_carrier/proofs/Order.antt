@@ -1,21 +1,13 @@
 -- Rows that rise by a key, as a reference: each key stands at one place, and what keeps them rising.
 use Rattle.std.proofs.Common.{◌≡◌, ℕ, Bool, zero, suc, ◌<◌, ◌≤◌, ◌==◌, true, false, List, [], ◌∷◌, ◌++◌, length, get_or, set, Some, Result, Ok, Err, refl, sym, ap, subst, ◌∙◌, arith, None, inl, inr}
-use Rattle.std.specs.List.{remove, position_or_len}
 use Rattle.std.specs.List.Sorted.{IsSearchInRange, IsBinarySearchResult, IsNonDecreasingBy}
 use Rattle.std.specs.Ordering.{nat_cmp, ordering_index}
 use Rattle.std.specs.Result.{result_ok}
-use Rattle.std.proofs.lemmas.Bool.{eqb-true, eq-eqb, cases_lt}
-use Rattle.std.proofs.lemmas.Bool.Decides.{nat_tests}
 use Rattle.std.proofs.lemmas.Cmp.{ranked}
-use Rattle.std.proofs.lemmas.List.Sorted.{IsNonDecreasingBy-from_default}
-use Rattle.std.proofs.lemmas.List.Sums.{position_or_len_is}
-use Rattle.std.proofs.lemmas.Grind.{common_steps}
-use Rattle.std.proofs.lemmas.List.{length-set}
+use Rattle.osi_carrier.proofs.Vocabulary.{remove, position_or_len, eqb-true, eq-eqb, cases_lt, nat_tests, IsNonDecreasingBy-from_default, position_or_len_is, common_steps, length-set, RiseFrom, Rows, place_of, without}
 use Rattle.osi_carrier.proofs.AtReferences.{without_rise, without_length}
 use Rattle.osi_carrier.proofs.Places.{placed}
-use Rattle.osi_carrier.specs.Orderly.{RiseFrom}
 use Rattle.osi_carrier.specs.Rising.{RiseBy, place_by}
-use Rattle.osi_carrier.specs.Rows.{Rows, place_of, without}
 
 -- ---- the place of a key
 

@@ -1,26 +1,8 @@
 -- How a list of calls ends a carrier: behind a packet, or at a fault of the stream. Two lists with the same
 -- octets end it alike.
 use Rattle.std.proofs.Common.{◌≡◌, ℕ, ◌+◌, ◌-◌, ◌<◌, ◌≤◌, ◌^◌, ◌||◌, Bool, true, false, List, [], ◌∷◌, ◌++◌, length, take, map, Option, Some, None, is_some, refl, sym, ap, subst, ◌∙◌, ◌⊎◌, inl, inr, arith, append_assoc, length-append}
-use Rattle.std.proofs.lemmas.List.{append-nil, take_all}
-use Rattle.std.specs.List.{flat_map}
-use Rattle.osi_tpkt.specs.Packet.{IsPartial, IsFaultOf}
-use Rattle.osi_tpkt.specs.Stream.{ArePackets, offset_of}
-use Rattle.osi_tpkt.specs.Stream.Ending.{Faulty}
-use Rattle.osi_tpkt.specs.declared.cutting.Fed.{Fed}
-use Rattle.osi_tpkt.specs.declared.faults.TpktFault.{TpktFault}
-use Rattle.osi_tpkt.specs.Held.{Held}
-use Rattle.osi_tpkt.proofs.Fronts.{one_fault}
-use Rattle.osi_tpkt.proofs.Streams.{end_no_packet}
-use Rattle.osi_carrier.specs.Calls.{Tells}
-use Rattle.osi_carrier.specs.Happenings.{Happening}
-use Rattle.osi_carrier.specs.Packets.{Carrying, Feeds, Goes, TakesPackets, after_packet, waits, stops, is_spoilt}
-use Rattle.osi_carrier.specs.Runs.{Call, all_done, packet_in, Calls, CallsAlong, used_in, told_in, carried_in, called_in, put_back, EndAlike}
-use Rattle.osi_carrier.specs.Runs.Act.{packet}
-use Rattle.osi_carrier.specs.Runs.Call.{feeding, telling, carrying, calling}
-use Rattle.osi_carrier.specs.State.{State, fails}
 use Rattle.osi_carrier.specs.declared.ends.CarrierFault.TheVariants.{Tpkt}
-use Rattle.osi_carrier.specs.declared.ends.EndReason.{EndReason}
-use Rattle.osi_carrier.specs.declared.ends.EndReason.TheVariants.{NoMemory}
+use Rattle.osi_carrier.proofs.Vocabulary.{append-nil, take_all, flat_map, IsPartial, IsFaultOf, ArePackets, offset_of, Faulty, Fed, TpktFault, Held, one_fault, end_no_packet, Tells, Happening, Carrying, Feeds, Goes, TakesPackets, after_packet, waits, stops, is_spoilt, Call, all_done, packet_in, Calls, CallsAlong, used_in, told_in, carried_in, called_in, put_back, EndAlike, packet, feeding, telling, carrying, calling, State, fails, EndReason, NoMemory}
 use Rattle.osi_carrier.proofs.InFront.{apart_all}
 use Rattle.osi_carrier.proofs.Lasting.{PacketLaws, behind_same, packets_over, map_joined, tells_ended, none_first, over_calls, never, fault_behind, front_used, pieces_last}
 use Rattle.osi_carrier.proofs.Pieces.{ReadsOne, reads_one, only_packets, packets_done, packets_joined, all_joined, back_joined}

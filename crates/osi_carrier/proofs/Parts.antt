@@ -1,11 +1,7 @@
 -- Writing a TSDU straight from its octets, part after part.
 use Rattle.std.proofs.Common.{◌≡◌, ℕ, ◌+◌, ◌<◌, ◌≤◌, List, [], ◌∷◌, ◌++◌, length, drop, None, refl, ap, subst, arith, length-drop}
-use Rattle.osi_class.specs.Giving.{Drained, drained, all_given, octets_of, octets_in, GoesAtOnce, GivesPart, with_rest}
-use Rattle.osi_class.specs.Link.{Standing, Given, next, unit_of, with_tsdu}
-use Rattle.osi_class.proofs.Giving.{drained_none, drained_some}
 use Rattle.osi_class.proofs.PartLaws.{goes_at_once, some_rest}
-use Rattle.osi_carrier.specs.Pump.{pumped, written_by}
-use Rattle.osi_carrier.specs.State.{packets}
+use Rattle.osi_carrier.proofs.Vocabulary.{Drained, drained, all_given, octets_of, octets_in, GoesAtOnce, GivesPart, with_rest, Standing, Given, next, unit_of, with_tsdu, drained_none, drained_some, pumped, written_by, packets}
 use Rattle.osi_carrier.proofs.Pumping.{IsPumping, pumping_first, pumping_next, pumping_octets, pumping_link, pumping_room}
 
 -- all that is left of a TSDU goes now

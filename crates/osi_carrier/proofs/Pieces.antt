@@ -1,24 +1,8 @@
 -- Over every run of calls a carrier has done what the packets of the octets used and its user's calls do.
 use Rattle.std.proofs.Common.{◌≡◌, ℕ, ◌+◌, ◌-◌, ◌<◌, ◌^◌, ◌||◌, Bool, true, false, List, [], ◌∷◌, ◌++◌, length, take, map, Option, Some, None, is_some, refl, sym, ap, subst, ◌∙◌, inl, inr, arith, append_assoc, length-append, if◌then◌else◌}
-use Rattle.std.proofs.lemmas.List.{append-nil, take_all}
 use Rattle.std.proofs.lemmas.List.Concat.{flat_map-append}
-use Rattle.std.specs.List.{flat_map}
-use Rattle.osi_tpkt.specs.Held.{Held}
-use Rattle.osi_tpkt.specs.Packet.{IsPartial}
-use Rattle.osi_tpkt.specs.Stream.{ArePackets, offset_of}
-use Rattle.osi_tpkt.specs.declared.cutting.Fed.{Fed}
-use Rattle.osi_carrier.specs.Calls.{Tells, sent_on, open_link, closes as closes_at, closed_on}
-use Rattle.osi_carrier.specs.Happenings.{Happening}
-use Rattle.osi_class.specs.Link.{Standing}
-use Rattle.osi_class.specs.declared.terms.Class.{Class}
-use Rattle.osi_class.specs.declared.terms.Class.TheVariants.{Zero, Two}
-use Rattle.osi_carrier.specs.Packets.{Carrying, Feeds, Goes, RunsDry, StopsBehind, TakesPackets, after_packet, waits, is_spoilt}
-use Rattle.osi_carrier.specs.Runs.{UserCall, Act, Call, user_does, does, all_done, packet_in, call_in, Calls, CallsAlong, used_in, told_in, carried_in, called_in, put_back, Reads, AreAlike}
-use Rattle.osi_carrier.specs.Runs.UserCall.{connects, sends, closes, breaks}
-use Rattle.osi_carrier.specs.Runs.Act.{packet, user}
-use Rattle.osi_carrier.specs.Runs.Call.{feeding, telling, carrying, calling}
-use Rattle.osi_carrier.specs.State.{State, ends}
-use Rattle.osi_carrier.specs.declared.ends.EndReason.{EndReason}
+use Rattle.osi_carrier.specs.Runs.UserCall.{closes, breaks}
+use Rattle.osi_carrier.proofs.Vocabulary.{append-nil, take_all, flat_map, Held, IsPartial, ArePackets, offset_of, Fed, Tells, sent_on, open_link, closes as closes_at, closed_on, Happening, Standing, Class, Zero, Two, Carrying, Feeds, Goes, RunsDry, StopsBehind, TakesPackets, after_packet, waits, is_spoilt, UserCall, Act, Call, user_does, does, all_done, packet_in, call_in, Calls, CallsAlong, used_in, told_in, carried_in, called_in, put_back, Reads, AreAlike, connects, sends, packet, user, feeding, telling, carrying, calling, State, ends, EndReason}
 use Rattle.osi_carrier.proofs.InFront.{apart_all}
 use Rattle.osi_carrier.proofs.Reacts.{none_of}
 use Rattle.osi_carrier.proofs.Reading.{packets_leave}

@@ -1,9 +1,7 @@
 -- What stands at the place of a reference, and what a write there leaves.
 use Rattle.std.proofs.Common.{◌≡◌, ℕ, Bool, zero, suc, ◌<◌, ◌==◌, true, false, [], ◌∷◌, length, get_or, set, Some, Result, Ok, Err, OnOk, refl, sym, ap, ◌∙◌, arith}
-use Rattle.std.specs.List.{remove}
-use Rattle.std.proofs.lemmas.Bool.{eqb-true}
 use Rattle.std.proofs.lemmas.List.Quantifiers.{position-Some}
-use Rattle.osi_carrier.specs.Rows.{Rows, value_at, place_of, put, without}
+use Rattle.osi_carrier.proofs.Vocabulary.{remove, eqb-true, Rows, value_at, place_of, put, without}
 
 -- where the place `i` of a reference is, `d` being any row
 pub record IsPlace {X : Type 0} (r : ℕ) (rows : Rows X) (i : ℕ) (d : ℕ × X) : Type 0 where

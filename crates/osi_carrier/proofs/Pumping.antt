@@ -1,14 +1,6 @@
 -- Writing all that a link gives, one unit after the other.
 use Rattle.std.proofs.Common.{◌≡◌, ℕ, ◌+◌, ◌*◌, ◌<◌, ◌≤◌, List, [], ◌∷◌, ◌++◌, length, take, map, refl, sym, ap, ◌∙◌, append_assoc, length-append, arith, inl, inr}
-use Rattle.std.proofs.lemmas.Bool.{cases_lt}
-use Rattle.std.proofs.lemmas.List.{append-nil, take_at}
-use Rattle.osi_tpkt.specs.Packet.{packet_of}
-use Rattle.osi_tpdu.specs.Value.{Value}
-use Rattle.osi_tpdu.specs.Writing.{written}
-use Rattle.osi_class.specs.Giving.{Drained, drained, octets_of, octets_in}
-use Rattle.osi_class.specs.Link.{Standing, Given, part0, part2, ack, unit_of, next}
-use Rattle.osi_carrier.specs.Pump.{pumped, written_by}
-use Rattle.osi_carrier.specs.State.{packets}
+use Rattle.osi_carrier.proofs.Vocabulary.{cases_lt, append-nil, take_at, packet_of, Value, written, Drained, drained, octets_of, octets_in, Standing, Given, part0, part2, ack, unit_of, next, pumped, written_by, packets}
 
 pub packets_join : (us vs : List Value) → packets (us ++ vs) ≡ packets us ++ packets vs
 packets_join [] vs = refl

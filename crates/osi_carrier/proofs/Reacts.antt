@@ -1,12 +1,7 @@
 -- Units one after the other, and units after the end.
 use Rattle.std.proofs.Common.{◌≡◌, List, [], ◌∷◌, ◌++◌, Option, Some, None, refl, sym, ap, subst, ◌∙◌, true, false, is_some, inl, inr, append_assoc, arith}
-use Rattle.std.proofs.lemmas.List.{append-nil}
-use Rattle.osi_tpdu.specs.Value.{Value}
-use Rattle.osi_carrier.specs.Growth.{grows}
 use Rattle.osi_carrier.specs.Packets.{Act}
-use Rattle.osi_carrier.specs.React.{react, react_by, reacts, in_class}
-use Rattle.osi_carrier.specs.State.{State, ends}
-use Rattle.osi_carrier.specs.declared.ends.EndReason.TheVariants.{NoMemory}
+use Rattle.osi_carrier.proofs.Vocabulary.{append-nil, Value, grows, react, react_by, reacts, in_class, State, ends, NoMemory}
 
 pub reacts_join : (us vs : List Value) (s : State) → reacts (us ++ vs) s ≡ reacts vs (reacts us s)
 reacts_join [] vs s = refl

@@ -1,10 +1,6 @@
 -- Which rule a CR falls under.
 use Rattle.std.proofs.Common.{◌≡◌, ◌<◌, false, length, Result, Ok, Err, OnOk, ap, ◌∙◌, arith}
-use Rattle.std.proofs.lemmas.Bool.Decides.{nat_tests}
-use Rattle.osi_tpdu.specs.Value.{Connect}
-use Rattle.osi_class.specs.Negotiation.{Selection, selected_by}
-use Rattle.osi_carrier.specs.React.{answers_request, answers, has_peer, is_full}
-use Rattle.osi_carrier.specs.State.{State}
+use Rattle.osi_carrier.proofs.Vocabulary.{nat_tests, Connect, Selection, selected_by, answers_request, answers, has_peer, is_full, State}
 
 pub has_room : (s : State) → length s.live < 64 → s.given < 65535 → is_full s ≡ false
 has_room s few more = grind (arith, nat_tests)

@@ -1,19 +1,8 @@
 -- TSDUs that are sent together.
 use Rattle.std.proofs.Common.{◌≡◌, ℕ, ◌==◌, Bool, true, false, ◌||◌, List, [], ◌∷◌, ◌++◌, length, map, nat_lt, Option, Some, None, is_some, refl, sym, ap, ◌∙◌, append_assoc, arith, if◌then◌else◌}
-use Rattle.std.specs.List.{list_any}
-use Rattle.std.proofs.lemmas.List.{append-nil, map-append}
-use Rattle.osi_class.specs.Giving.{all_given, given_one_by_one, one_by_one}
-use Rattle.osi_class.specs.Link.{Standing, unit_of, with_tsdu}
-use Rattle.osi_carrier.specs.Calls.{link_of, open_link, lengths_error, sent_on, sent_all, pumps_all}
-use Rattle.osi_carrier.specs.Pump.{pumped, written_by, written_for}
-use Rattle.osi_carrier.specs.React.{pumps}
-use Rattle.osi_carrier.specs.Rows.{Rows, value_at, put}
-use Rattle.osi_carrier.specs.Stages.{stage_of, link_in}
-use Rattle.osi_carrier.specs.State.{linked, State, packets}
-use Rattle.osi_carrier.specs.declared.ends.EndReason.{EndReason}
 use Rattle.osi_carrier.specs.declared.faults.SendError.{SendError}
 use Rattle.osi_carrier.specs.declared.faults.SendError.TheVariants.{TooLong}
-use Rattle.osi_carrier.specs.declared.stages.Stage.TheVariants.{Open}
+use Rattle.osi_carrier.proofs.Vocabulary.{list_any, append-nil, map-append, all_given, given_one_by_one, one_by_one, Standing, unit_of, with_tsdu, link_of, open_link, lengths_error, sent_on, sent_all, pumps_all, pumped, written_by, written_for, pumps, Rows, value_at, put, stage_of, link_in, linked, State, packets, EndReason, Open}
 use Rattle.osi_carrier.proofs.Apart.{put_here}
 use Rattle.osi_carrier.proofs.ByStage.{open_is}
 use Rattle.osi_carrier.proofs.Places.{put_same}

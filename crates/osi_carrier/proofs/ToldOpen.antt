@@ -1,26 +1,8 @@
 -- The events tell which connections are open.
 use Rattle.std.proofs.Common.{◌≡◌, ◌≢◌, ℕ, ◌+◌, ◌≤◌, ◌==◌, Bool, true, false, ◌&&◌, ◌||◌, not, List, [], ◌∷◌, ◌++◌, take, Option, Some, None, Result, Ok, Err, is_some, refl, sym, ap, subst, ◌∙◌, arith, append_assoc, if◌then◌else◌}
 use Rattle.std.proofs.Common.{eq-eqb}
-use Rattle.std.proofs.lemmas.Bool.{eqb-true}
-use Rattle.std.proofs.lemmas.List.{append-nil}
-use Rattle.osi_tpdu.specs.Packet.{units_of}
-use Rattle.osi_tpdu.specs.Value.{Value, Connect, request, confirm, disconnect, disconnected, data0, data2, acknowledge, error}
-use Rattle.osi_tpdu.specs.declared.faults.TpduFault.{TpduFault}
-use Rattle.osi_class.specs.Link.{Standing, taken}
-use Rattle.osi_class.specs.Negotiation.{Selection, accept, refuse, selected_by}
-use Rattle.osi_class.specs.declared.faults.LinkFault.{LinkFault}
-use Rattle.osi_class.specs.declared.terms.Class.{Class}
-use Rattle.osi_class.specs.declared.terms.Class.TheVariants.{Zero, Two}
-use Rattle.osi_carrier.specs.Calls.{asks, link_of, open_link, sent_on, sent, closes, closed_on, closed_with}
-use Rattle.osi_carrier.specs.Happenings.{Happening, opened, refused, tsdu, closed, faulted}
-use Rattle.osi_carrier.specs.Negotiation.{confirmed}
-use Rattle.osi_carrier.specs.Orderly.{RiseFrom, AreUpTo, IsOrderly}
-use Rattle.osi_carrier.specs.Packets.{acts_by, after_packet}
-use Rattle.osi_carrier.specs.React.{denies, answers, is_full, has_peer, answers_request, to_unknown, opens, to_asked, tells_of, taking, breaks, leaves, to_linked, to_closing, to_connection, to_reference, before_class, to_only, in_zero, in_two, in_class, react, react_by, reacts}
-use Rattle.osi_carrier.specs.Rows.{Rows, value_at, put, without}
-use Rattle.osi_carrier.specs.State.{Connection, asked, linked, closing, State, ends}
 use Rattle.osi_carrier.specs.Told.{is_open, open_after, TellsOpen}
-use Rattle.osi_carrier.specs.declared.ends.EndReason.{EndReason}
+use Rattle.osi_carrier.proofs.Vocabulary.{eqb-true, append-nil, units_of, Value, Connect, request, confirm, disconnect, disconnected, data0, data2, acknowledge, error, TpduFault, Standing, taken, Selection, accept, refuse, selected_by, LinkFault, Class, Zero, Two, asks, link_of, open_link, sent_on, sent, closes, closed_on, closed_with, Happening, opened, refused, tsdu, closed, faulted, confirmed, RiseFrom, AreUpTo, IsOrderly, acts_by, after_packet, denies, answers, is_full, has_peer, answers_request, to_unknown, opens, to_asked, tells_of, taking, breaks, leaves, to_linked, to_closing, to_connection, to_reference, before_class, to_only, in_zero, in_two, in_class, react, react_by, reacts, Rows, value_at, put, without, Connection, asked, linked, closing, State, ends, EndReason}
 use Rattle.osi_carrier.proofs.AtReferences.{put_other, without_other, push_other}
 use Rattle.osi_carrier.proofs.Effects.{orderly_unit}
 use Rattle.osi_carrier.proofs.Reacts.{none_of, reacts_over}

@@ -73,12 +73,10 @@ impl Switch {
         {
             Step::Took(None) => Ok(()),
             Step::Took(Some(whole)) => {
-                let Ok(()) = self.events.reserve() else {
+                let Ok(()) = self.events.push(Event::Tsdu(Ref(reference), whole)) else {
                     self.outgoing.truncate(before);
                     return Err(AllocError);
                 };
-                self.events
-                    .push_reserved(Event::Tsdu(Ref(reference), whole));
                 Ok(())
             }
             Step::Broke(fault) => self.fail_link(place, reference, peer, fault),

@@ -1,5 +1,4 @@
-use Rattle.osi_between.specs.Between.{fresh_both, fresh_between}
-use Rattle.osi_between.specs.Terms.{terms_of}
+use Rattle.osi_between.proofs.Vocabulary.{fresh_both, fresh_between, terms_of}
 use Rattle.osi_between.proofs.Journeys.{all_stay}
 use Rattle.osi_between.proofs.Tellings.{told_from, told_fresh}
 use Rattle.osi_between.proofs.Terms.{begins}

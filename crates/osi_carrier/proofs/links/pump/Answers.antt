@@ -1,7 +1,5 @@
 use Rattle.std.proofs.Common.{ℕ, ◌<◌, length, take, ap, subst, ◌∙◌, arith}
-use Rattle.osi_class.specs.AnyLink.{any_standing}
-use Rattle.osi_class.specs.Link.{next, given, Gives}
-use Rattle.osi_carrier.specs.Pump.{written_by}
+use Rattle.osi_carrier.proofs.Vocabulary.{any_standing, next, given, Gives, written_by}
 use Rattle.osi_carrier.proofs.Pumping.{pumping_next, pumping_full, pumping_room, pumping_short}
 use Rattle.osi_carrier.proofs.Growing.{some_written}
 use Rattle.osi_carrier.proofs.links.pump.Goals as goal

@@ -1,8 +1,5 @@
 use Rattle.std.proofs.Common.{◌≤◌, length}
-use Rattle.osi_class.specs.AnyLink.{any_standing}
-use Rattle.osi_class.specs.Giving.{left_to_give}
-use Rattle.osi_carrier.specs.Pump.{written_by}
-use Rattle.osi_carrier.specs.State.{packets}
+use Rattle.osi_carrier.proofs.Vocabulary.{any_standing, left_to_give, written_by, packets}
 use Rattle.osi_carrier.proofs.Pumping.{IsPumping}
 use Rattle.osi_carrier.proofs.links.pump.Given as goal
 

@@ -1,9 +1,5 @@
 use Rattle.std.proofs.Common.{◌<◌, ◌≤◌, length, map, ap, sym, subst, ◌∙◌, arith}
-use Rattle.osi_class.specs.AnyLink.{any_standing}
-use Rattle.osi_class.specs.Giving.{all_given}
-use Rattle.osi_class.specs.Link.{Standing, with_tsdus}
-use Rattle.osi_carrier.specs.Pump.{written_by}
-use Rattle.osi_carrier.specs.State.{packets}
+use Rattle.osi_carrier.proofs.Vocabulary.{any_standing, all_given, Standing, with_tsdus, written_by, packets}
 use Rattle.osi_carrier.proofs.Pumping.{packets_most}
 use Rattle.osi_carrier.proofs.links.send_all_on.Goals as goal
 

@@ -1,9 +1,5 @@
 use Rattle.std.proofs.Common.{◌≡◌, ◌≤◌, Some, [], ◌∷◌, ◌++◌, length, ap, subst, ◌∙◌, arith}
-use Rattle.std.proofs.lemmas.List.{drop_all}
-use Rattle.osi_class.specs.AnyLink.{any_standing}
-use Rattle.osi_class.specs.Giving.{octets_of, with_rest}
-use Rattle.osi_class.specs.Link.{given, next, unit_of, with_tsdu}
-use Rattle.osi_carrier.specs.State.{packets}
+use Rattle.osi_carrier.proofs.Vocabulary.{drop_all, any_standing, octets_of, with_rest, given, next, unit_of, with_tsdu, packets}
 use Rattle.osi_carrier.proofs.Pumping.{whole_link, whole_written}
 use Rattle.osi_carrier.proofs.Units.{given_size, header_most}
 use Rattle.osi_carrier.proofs.links.send_whole.Goals as goal

@@ -1,8 +1,5 @@
 use Rattle.std.proofs.Common.{◌≡◌, ◌<◌, ℕ, List, [], length, drop, sym, ap, subst, ◌∙◌, arith}
-use Rattle.std.proofs.lemmas.Bool.{eqb-true, eqb-false}
-use Rattle.osi_class.specs.AnyLink.{any_standing}
-use Rattle.osi_class.specs.Giving.{octets_of}
-use Rattle.osi_class.specs.Link.{given, with_tsdu}
+use Rattle.osi_carrier.proofs.Vocabulary.{eqb-true, eqb-false, any_standing, octets_of, given, with_tsdu}
 use Rattle.osi_carrier.proofs.Parts.{IsParting, parting_first, part_goes, part_room, empty_list, parting_next, parting_last}
 use Rattle.osi_carrier.proofs.links.write_parts.Goals as goal
 

@@ -1,6 +1,5 @@
 use Rattle.std.proofs.Common.{length}
-use Rattle.osi_class.specs.AnyLink.{any_standing}
-use Rattle.osi_class.specs.Link.{with_tsdu}
+use Rattle.osi_carrier.proofs.Vocabulary.{any_standing, with_tsdu}
 use Rattle.osi_carrier.proofs.Parts.{IsParting}
 use Rattle.osi_carrier.proofs.links.write_parts.Given as goal
 

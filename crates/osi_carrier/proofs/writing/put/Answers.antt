@@ -1,6 +1,5 @@
 use Rattle.std.proofs.Common.{◌<◌, Err, inl, inr, length, ap, ◌∙◌, arith}
-use Rattle.osi_tpdu.specs.View.{value}
-use Rattle.osi_tpdu.specs.Writing.{written}
+use Rattle.osi_carrier.proofs.Vocabulary.{value, written}
 use Rattle.osi_carrier.proofs.Units.{written_least, written_most}
 use Rattle.osi_carrier.proofs.writing.put.Goals as goal
 

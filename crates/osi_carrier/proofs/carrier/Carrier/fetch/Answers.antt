@@ -1,8 +1,6 @@
 use Rattle.std.proofs.Common.{◌+◌, length, sym, ap, ◌∙◌, subst}
-use Rattle.osi_tpkt.specs.Held.{Held}
-use Rattle.osi_carrier.specs.Fetching.{PacketActs}
-use Rattle.osi_carrier.specs.Packets.{Carrying}
 use Rattle.osi_carrier.specs.contracts.carrier.Carrier.{the_view}
+use Rattle.osi_carrier.proofs.Vocabulary.{Held, PacketActs, Carrying}
 use Rattle.osi_carrier.proofs.Fetched.{passed_packet}
 use Rattle.osi_carrier.proofs.carrier.Carrier.fetch.Goals as goal
 

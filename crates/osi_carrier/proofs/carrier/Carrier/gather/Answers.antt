@@ -1,8 +1,6 @@
 use Rattle.std.proofs.Common.{◌≡◌, [], subst, sym, ap}
-use Rattle.osi_tpkt.specs.Held.{Held}
-use Rattle.osi_carrier.specs.Fetching.{EndsOver, PacketActs, IsNoFront}
-use Rattle.osi_carrier.specs.Packets.{Carrying}
 use Rattle.osi_carrier.specs.contracts.carrier.Carrier.{the_view}
+use Rattle.osi_carrier.proofs.Vocabulary.{Held, EndsOver, PacketActs, IsNoFront, Carrying}
 use Rattle.osi_carrier.proofs.Fetched.{ended_over, fetched_packet, same_fault}
 use Rattle.osi_carrier.proofs.carrier.Carrier.gather.Goals as goal
 

@@ -1,6 +1,5 @@
 use Rattle.std.proofs.Common.{◌≡◌, None, ap, sym, ◌∙◌}
-use Rattle.osi_carrier.specs.Calls.{link_of}
-use Rattle.osi_carrier.specs.Rows.{place_of}
+use Rattle.osi_carrier.proofs.Vocabulary.{link_of, place_of}
 use Rattle.osi_carrier.proofs.ByStage.{nowhere}
 use Rattle.osi_carrier.proofs.rows.Connections.open_at.Goals as goal
 

@@ -1,9 +1,7 @@
 use Rattle.std.proofs.Common.{ap, sym, ◌∙◌}
-use Rattle.std.specs.List.{remove}
-use Rattle.osi_carrier.specs.State.{asked}
+use Rattle.osi_carrier.proofs.Vocabulary.{remove, asked, place_of}
 use Rattle.osi_carrier.proofs.Places.{placed}
 use Rattle.osi_carrier.proofs.Order.{without_kept}
-use Rattle.osi_carrier.specs.Rows.{place_of}
 use Rattle.osi_carrier.proofs.rows.Connections.remove.Goals as goal
 
 pub returns : goal.returns

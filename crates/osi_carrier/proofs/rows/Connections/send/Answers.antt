@@ -1,17 +1,7 @@
 use Rattle.std.proofs.Common.{◌≡◌, ℕ, List, ◌++◌, get_or, Option, Some, Result, Ok, Err, OnOk, refl, ap, sym, arith, subst, ◌∙◌}
-use Rattle.std.specs.Cow.{cow_slice_items}
-use Rattle.osi_class.specs.AnyLink.{any_standing}
-use Rattle.osi_class.specs.Link.{Standing, next, with_tsdu}
 use Rattle.osi_class.specs.declared.either.AnyLink.{AnyLink}
-use Rattle.osi_carrier.specs.Calls.{WaitsAlone}
-use Rattle.osi_carrier.specs.Live.{connection, IsPumped}
-use Rattle.osi_carrier.specs.Pump.{pumped, written_by}
-use Rattle.osi_carrier.specs.Rows.{value_at}
-use Rattle.osi_carrier.specs.Stages.{stage_of, link_in}
-use Rattle.osi_carrier.specs.State.{Connection, linked, packets}
-use Rattle.osi_carrier.specs.declared.rows.Phase.{Phase}
 use Rattle.osi_carrier.specs.declared.rows.Phase.TheVariants.{Asked, Linked, Closing}
-use Rattle.osi_carrier.specs.declared.stages.Stage.TheVariants.{Open}
+use Rattle.osi_carrier.proofs.Vocabulary.{cow_slice_items, any_standing, Standing, next, with_tsdu, WaitsAlone, connection, IsPumped, pumped, written_by, value_at, stage_of, link_in, Connection, linked, packets, Phase, Open}
 use Rattle.osi_carrier.proofs.Order.{set_kept}
 use Rattle.osi_carrier.proofs.Places.{here_is, put_row}
 use Rattle.osi_carrier.proofs.rows.Connections.send.Goals as goal

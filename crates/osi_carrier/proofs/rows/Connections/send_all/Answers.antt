@@ -1,10 +1,5 @@
 use Rattle.std.proofs.Common.{◌≡◌, ◌++◌, Option, OnOk, map, get_or, ap, sym, subst, ◌∙◌}
-use Rattle.std.specs.Cow.{cow_slice_items}
-use Rattle.osi_class.specs.Giving.{one_by_one}
-use Rattle.osi_carrier.specs.Pump.{written_for}
-use Rattle.osi_carrier.specs.Rows.{value_at}
-use Rattle.osi_carrier.specs.Stages.{stage_of, link_in}
-use Rattle.osi_carrier.specs.State.{Connection, linked, packets}
+use Rattle.osi_carrier.proofs.Vocabulary.{cow_slice_items, one_by_one, written_for, value_at, stage_of, link_in, Connection, linked, packets}
 use Rattle.osi_carrier.proofs.Places.{here_is, stepped_rows}
 use Rattle.osi_carrier.proofs.Order.{set_kept}
 use Rattle.osi_carrier.proofs.rows.Connections.send_all.Goals as goal

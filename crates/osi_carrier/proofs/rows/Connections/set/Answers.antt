@@ -1,6 +1,5 @@
 use Rattle.std.proofs.Common.{ℕ, get_or, set, ap, sym, ◌∙◌}
-use Rattle.osi_carrier.specs.Live.{connection}
-use Rattle.osi_carrier.specs.State.{Connection}
+use Rattle.osi_carrier.proofs.Vocabulary.{connection, Connection}
 use Rattle.osi_carrier.proofs.Places.{placed}
 use Rattle.osi_carrier.proofs.Order.{set_kept}
 use Rattle.osi_carrier.proofs.rows.Connections.set.Goals as goal

@@ -1,10 +1,5 @@
 use Rattle.std.proofs.Common.{◌≡◌, ◌++◌, true, Option, IfOk, OnOk, OnErr, get_or, ap, sym, subst, ◌∙◌}
-use Rattle.osi_tpdu.specs.View.{value}
-use Rattle.osi_class.specs.Link.{taken}
-use Rattle.osi_carrier.specs.Stages.{stage_of, link_in}
-use Rattle.osi_carrier.specs.State.{Connection, linked, packets}
-use Rattle.osi_carrier.specs.Steps.{StepsTo, link_after, link_grows, units_after}
-use Rattle.osi_carrier.specs.Rows.{value_at}
+use Rattle.osi_carrier.proofs.Vocabulary.{value, taken, stage_of, link_in, Connection, linked, packets, StepsTo, link_after, link_grows, units_after, value_at}
 use Rattle.osi_carrier.proofs.Places.{here_is, stepped_rows}
 use Rattle.osi_carrier.proofs.Order.{set_kept}
 use Rattle.osi_carrier.proofs.rows.Connections.step.Goals as goal

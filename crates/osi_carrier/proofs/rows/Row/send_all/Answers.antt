@@ -1,6 +1,5 @@
 use Rattle.std.proofs.Common.{subst}
-use Rattle.osi_carrier.specs.Live.{connection, IsPumped}
-use Rattle.osi_carrier.specs.declared.rows.Phase.{Phase}
+use Rattle.osi_carrier.proofs.Vocabulary.{connection, IsPumped, Phase}
 use Rattle.osi_carrier.proofs.rows.Row.send_all.Goals as goal
 
 pub send_all_on-requires : goal.send_all_on-requires

@@ -1,12 +1,5 @@
 use Rattle.std.proofs.Common.{◌≡◌, ℕ, true, Some, option_map, ap, sym, subst, ◌∙◌}
-use Rattle.osi_tpdu.specs.View.{value}
-use Rattle.osi_class.specs.AnyLink.{any_standing}
-use Rattle.osi_class.specs.Link.{Standing, needs_memory, taken}
-use Rattle.osi_carrier.specs.Live.{connection}
-use Rattle.osi_carrier.specs.Stages.{link_in}
-use Rattle.osi_carrier.specs.State.{Connection}
-use Rattle.osi_carrier.specs.Steps.{link_grows}
-use Rattle.osi_carrier.specs.declared.rows.Phase.{Phase}
+use Rattle.osi_carrier.proofs.Vocabulary.{value, any_standing, Standing, needs_memory, taken, connection, link_in, Connection, link_grows, Phase}
 use Rattle.osi_carrier.proofs.Growing.{taken_grows, pump_grows, want_taken}
 use Rattle.osi_carrier.proofs.rows.Row.step.Goals as goal
 

@@ -1,6 +1,5 @@
 use Rattle.std.proofs.Common.{None, ap, sym, ◌∙◌}
-use Rattle.osi_carrier.specs.Rows.{place_of, without}
-use Rattle.osi_carrier.specs.State.{TsapIds}
+use Rattle.osi_carrier.proofs.Vocabulary.{place_of, without, TsapIds}
 use Rattle.osi_carrier.proofs.Places.{placed}
 use Rattle.osi_carrier.proofs.selectors.Names.remove.Goals as goal
 

@@ -1,9 +1,5 @@
 use Rattle.std.proofs.Common.{◌<◌, length, sym, ap, ◌∙◌, arith}
-use Rattle.osi_tpdu.specs.View.{request_content}
-use Rattle.osi_class.specs.Negotiation.{selection, selected_by}
-use Rattle.osi_carrier.specs.React.{has_peer, is_full}
-use Rattle.osi_carrier.specs.State.{State}
-use Rattle.osi_carrier.specs.contracts.switch.Switch.{the_view}
+use Rattle.osi_carrier.proofs.Vocabulary.{request_content, selection, selected_by, has_peer, is_full, State, the_view}
 use Rattle.osi_carrier.proofs.Selecting.{has_room, is_answered}
 use Rattle.osi_carrier.proofs.switch.Switch.answer_request.Goals as goal
 

@@ -1,7 +1,5 @@
 use Rattle.std.proofs.Common.{ap, sym, ◌∙◌}
-use Rattle.osi_carrier.specs.Calls.{link_of, close_error}
-use Rattle.osi_carrier.specs.Rows.{value_at}
-use Rattle.osi_carrier.specs.State.{State}
+use Rattle.osi_carrier.proofs.Vocabulary.{link_of, close_error, value_at, State}
 use Rattle.osi_carrier.proofs.ByStage.{not_open}
 use Rattle.osi_carrier.proofs.switch.Switch.close.Goals as goal
 

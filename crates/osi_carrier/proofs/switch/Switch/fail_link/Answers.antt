@@ -1,14 +1,7 @@
 use Rattle.std.proofs.Common.{◌≡◌, ◌++◌, ◌∷◌, [], Some, true, map, subst}
 use Rattle.std.proofs.Common.{rules}
-use Rattle.osi_class.specs.declared.terms.Class.TheVariants.{Two}
-use Rattle.osi_tpdu.specs.Value.{disconnect}
-use Rattle.osi_carrier.specs.Growth.{grows}
-use Rattle.osi_carrier.specs.Happenings.{happening, faulted}
-use Rattle.osi_carrier.specs.React.{breaks}
-use Rattle.osi_carrier.specs.Rows.{put}
-use Rattle.osi_carrier.specs.State.{State, closing, packets}
-use Rattle.osi_carrier.specs.contracts.switch.Switch.{the_view}
 use Rattle.osi_carrier.specs.declared.events.Event.TheVariants.{Faulted}
+use Rattle.osi_carrier.proofs.Vocabulary.{Two, disconnect, grows, happening, faulted, breaks, put, State, closing, packets, the_view}
 use Rattle.osi_carrier.proofs.Breaking.{changed, told, breaks_two}
 use Rattle.osi_carrier.proofs.Growing.{breaks_grows, on_want}
 use Rattle.osi_carrier.proofs.switch.Switch.fail_link.Goals as goal

@@ -1,8 +1,5 @@
 use Rattle.std.proofs.Common.{ap, sym, ◌∙◌}
-use Rattle.std.specs.Cow.{cow_slice_items}
-use Rattle.osi_carrier.specs.Calls.{link_of, send_error}
-use Rattle.osi_carrier.specs.Rows.{value_at}
-use Rattle.osi_carrier.specs.State.{State}
+use Rattle.osi_carrier.proofs.Vocabulary.{cow_slice_items, link_of, send_error, value_at, State}
 use Rattle.osi_carrier.proofs.ByStage.{not_open}
 use Rattle.osi_carrier.proofs.switch.Switch.send.Goals as goal
 

@@ -1,9 +1,5 @@
 use Rattle.std.proofs.Common.{◌≡◌, OnOk, map, ap, sym, subst, ◌∙◌}
-use Rattle.std.specs.Cow.{cow_slice_items}
-use Rattle.osi_carrier.specs.Calls.{link_of, send_all_error}
-use Rattle.osi_carrier.specs.Rows.{value_at}
-use Rattle.osi_carrier.specs.Stages.{stage_of}
-use Rattle.osi_carrier.specs.State.{State}
+use Rattle.osi_carrier.proofs.Vocabulary.{cow_slice_items, link_of, send_all_error, value_at, stage_of, State}
 use Rattle.osi_carrier.proofs.ByStage.{not_open}
 use Rattle.osi_carrier.proofs.Reacts.{none_of}
 use Rattle.osi_carrier.proofs.SentAll.{sent_open}

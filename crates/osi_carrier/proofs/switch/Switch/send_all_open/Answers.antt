@@ -1,7 +1,5 @@
 use Rattle.std.proofs.Common.{true, false, length, map, ap, sym, ◌∙◌}
-use Rattle.std.proofs.lemmas.Bool.{eqb-true}
-use Rattle.std.specs.Cow.{cow_slice_items}
-use Rattle.osi_carrier.specs.Calls.{lengths_error}
+use Rattle.osi_carrier.proofs.Vocabulary.{eqb-true, cow_slice_items, lengths_error}
 use Rattle.osi_carrier.proofs.SentAll.{error_of_items, sends_none, no_items}
 use Rattle.osi_carrier.proofs.switch.Switch.send_all_open.Goals as goal
 

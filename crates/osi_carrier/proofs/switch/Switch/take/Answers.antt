@@ -1,15 +1,7 @@
 use Rattle.std.proofs.Common.{◌≡◌, true, OnOk, OnErr, refl, ap, subst, ◌∙◌}
-use Rattle.osi_tpdu.specs.View.{value}
-use Rattle.osi_class.specs.Link.{taken}
-use Rattle.osi_carrier.specs.Growth.{grows}
-use Rattle.osi_carrier.specs.React.{taking}
-use Rattle.osi_carrier.specs.Rows.{value_at, place_of}
-use Rattle.osi_carrier.specs.Stages.{link_in, stage_of}
-use Rattle.osi_carrier.specs.State.{State}
-use Rattle.osi_carrier.specs.Steps.{StepsTo}
-use Rattle.osi_carrier.specs.contracts.switch.Switch.{the_view}
 use Rattle.osi_carrier.specs.declared.links.Step.{Step}
 use Rattle.osi_carrier.specs.declared.links.Step.TheVariants.{Took}
+use Rattle.osi_carrier.proofs.Vocabulary.{value, taken, grows, taking, value_at, place_of, link_in, stage_of, State, StepsTo, the_view}
 use Rattle.osi_carrier.proofs.Breaking.{broke_rows, broke_octets, broke_taking, changed}
 use Rattle.osi_carrier.proofs.Growing.{taking_grows, took_grows, broke_grows, on_want}
 use Rattle.osi_carrier.proofs.switch.Switch.take.Goals as goal

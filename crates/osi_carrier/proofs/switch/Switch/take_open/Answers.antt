@@ -1,9 +1,5 @@
 use Rattle.std.proofs.Common.{◌≡◌, true, ap, sym, subst, ◌∙◌}
-use Rattle.osi_tpdu.specs.View.{value}
-use Rattle.osi_carrier.specs.Growth.{grows}
-use Rattle.osi_carrier.specs.Rows.{value_at}
-use Rattle.osi_carrier.specs.Stages.{stage_of}
-use Rattle.osi_carrier.specs.State.{State}
+use Rattle.osi_carrier.proofs.Vocabulary.{value, grows, value_at, stage_of, State}
 use Rattle.osi_carrier.proofs.Reacts.{one_starved, one_taken}
 use Rattle.osi_carrier.proofs.switch.Switch.take_open.Goals as goal
 

@@ -1,7 +1,5 @@
 use Rattle.std.proofs.Common.{ap, sym, ◌∙◌, is_some}
-use Rattle.osi_tpdu.specs.Units.{units_left}
-use Rattle.osi_tpdu.specs.View.{value}
-use Rattle.osi_carrier.specs.State.{State}
+use Rattle.osi_carrier.proofs.Vocabulary.{units_left, value, State}
 use Rattle.osi_carrier.proofs.Reacts.{along_over, along_next, along_starved, none_of}
 use Rattle.osi_carrier.proofs.switch.Switch.take_units.Goals as goal
 

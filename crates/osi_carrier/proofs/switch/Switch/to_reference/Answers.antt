@@ -1,9 +1,5 @@
 use Rattle.std.proofs.Common.{◌≡◌, true, Option, OnOk, OnErr, ap, sym, subst, ◌∙◌}
-use Rattle.osi_tpdu.specs.View.{value}
-use Rattle.osi_carrier.specs.Growth.{grows}
-use Rattle.osi_carrier.specs.React.{to_connection}
-use Rattle.osi_carrier.specs.Rows.{value_at}
-use Rattle.osi_carrier.specs.State.{Connection, State}
+use Rattle.osi_carrier.proofs.Vocabulary.{value, grows, to_connection, value_at, Connection, State}
 use Rattle.osi_carrier.proofs.ByStage.{nowhere}
 use Rattle.osi_carrier.proofs.switch.Switch.to_reference.Goals as goal
 

@@ -1,8 +1,5 @@
 use Rattle.std.proofs.Common.{◌≡◌, true, sym, ap, subst}
-use Rattle.osi_tpdu.specs.Value.{Value}
-use Rattle.osi_tpdu.specs.View.{value}
-use Rattle.osi_carrier.specs.Growth.{grows}
-use Rattle.osi_carrier.specs.React.{to_unknown}
+use Rattle.osi_carrier.proofs.Vocabulary.{Value, value, grows, to_unknown}
 use Rattle.osi_carrier.proofs.Growing.{unknown_grows, on_want}
 use Rattle.osi_carrier.proofs.switch.Switch.to_unknown.Goals as goal
 
