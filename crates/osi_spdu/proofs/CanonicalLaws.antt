@@ -49,9 +49,6 @@ wish_small wishes.Asker = omega arith
 wish_small wishes.Answerer = omega arith
 wish_small wishes.Choice = omega arith
 
-not_from : (b : Bool) → b ≡ false → not b ≡ true
-not_from b e = ap not e
-
 setting_good : (a b c d : ℕ) → a < 3 → b < 3 → c < 3 → d < 3 → is_setting (a + 4 * b + 16 * c + 64 * d) ≡ true
 setting_good a b c d ha hb hc hd =
     let n = a + 4 * b + 16 * c + 64 * d in
@@ -73,24 +70,17 @@ sync_again Open = refl
 resync_again : (r : resyncs.ResyncType) → canonical ResyncType (resync_octet r ∷ []) ≡ Some (resync_octet r ∷ [])
 unfolding canonical
 resync_again Restart = refl
-resync_again Abandon = refl
-resync_again Set = refl
+resync_again _ = refl
 
 enclosure_again : (e : enclosures.Enclosure) → canonical Enclosure (enclosure_octet e ∷ []) ≡ Some (enclosure_octet e ∷ [])
 unfolding canonical
 enclosure_again First = refl
-enclosure_again Middle = refl
-enclosure_again Last = refl
-enclosure_again Whole = refl
+enclosure_again _ = refl
 
 slot_canonical : (p : Params) (c : Code) (v : List ℕ) → slots_of p c ≡ Some v → canonical c v ≡ Some v
 unfolding slots_of cells_of place_of canonical
 slot_canonical p ConnectionIdentifier v e = presence p.connection_identifier v ConnectionIdentifier refl e
 slot_canonical p ConnectAcceptItem v e = presence p.connect_accept_item v ConnectAcceptItem refl e
-slot_canonical p CalledReference v e = refl
-slot_canonical p CallingReference v e = refl
-slot_canonical p CommonReference v e = refl
-slot_canonical p AdditionalReference v e = refl
 slot_canonical p SyncType v e = made (λ s. sync_octet s ∷ []) p.sync_type v SyncType sync_again e
 slot_canonical p TokenItem v e = made token_octets p.token_item v TokenItem (λ t. ap {B = Option (List ℕ)} (λ b. Some (b ∷ [])) (token_bits_again t.0)) e
 slot_canonical p TransportDisconnect v e = made (λ b. b ∷ []) p.transport_disconnect v TransportDisconnect (λ b. refl) e
@@ -105,17 +95,14 @@ slot_canonical p TokenSetting v e = made setting_octets p.token_setting v TokenS
     (setting_good (wish_number s.data_token) (wish_number s.minor) (wish_number s.major) (wish_number s.release) (wish_small s.data_token) (wish_small s.minor) (wish_small s.major) (wish_small s.release))) e
 slot_canonical p ResyncType v e = made (λ r. resync_octet r ∷ []) p.resync_type v ResyncType resync_again e
 slot_canonical p Number v e = made (λ s. digits_of s.number) p.number v Number (λ s. ap (option_map digits_of) (numeral_digits s.number s.small)) e
-slot_canonical p Reflect v e = refl
 slot_canonical p Reason v e = made (λ r. r.code ∷ r.data_octets.now) p.reason v Reason (λ r. ap (λ (b : Bool). cond b (Some (r.code ∷ r.data_octets.now)) None) (lt-ltb 0 (length (r.code ∷ r.data_octets.now)) (omega arith))) e
 slot_canonical p CallingSelector v e = made (λ s. s.octets.now) p.calling_selector v CallingSelector (λ s. ap (λ (b : Bool). cond b (Some s.octets.now) None) (le-leb (length s.octets.now) 16 s.short)) e
 slot_canonical p CalledSelector v e = made (λ s. s.octets.now) p.called_selector v CalledSelector (λ s. ap (λ (b : Bool). cond b (Some s.octets.now) None) (le-leb (length s.octets.now) 16 s.short)) e
-slot_canonical p UserData v e = refl
-slot_canonical p ExtendedUserData v e = refl
+slot_canonical p _ v e = refl
 
 octets_some : (o : Option (List ℕ)) (v : List ℕ) → some_octets o ≡ Some v → o ≡ Some v
-octets_some None v e = absurd cc
-octets_some (Some []) v e = absurd cc
 octets_some (Some (b ∷ octets)) v e = e
+octets_some _ v e = absurd cc
 
 octets_there : (o : Option (List ℕ)) → some_octets o ≡ Some [] → ⊥
 octets_there None e = cc
@@ -167,14 +154,12 @@ follow_none Two e = absurd cc
 
 category_two : (category : Category) → may_stand true category ≡ true → category ≡ Two
 unfolding may_stand
-category_two Zero e = absurd cc
-category_two One e = absurd cc
 category_two Two e = refl
+category_two _ e = absurd cc
 
 category_zero : (category : Category) → is_zero category ≡ true → category ≡ Zero
 category_zero Zero e = refl
-category_zero One e = absurd cc
-category_zero Two e = absurd cc
+category_zero _ e = absurd cc
 
 ends_all : (kind : Kind) (units : Units) → units ≡ [] → EndsTsdu kind units
 ends_all DataTransfer units e = e
@@ -218,8 +203,7 @@ behind_formed b = behind_from b.next b.room b.at b.rest.now b.stands b.left b.fe
 
 may_follow : (category : Category) (units : Units) → category ≡ Zero → length units ≤ 16 → MayFollow category units
 may_follow Zero units e few = few
-may_follow One units e few = absurd cc
-may_follow Two units e few = absurd cc
+may_follow _ units e few = absurd cc
 
 stand_together : (first : Kind) (next : Option Spdu) (others : Units) → is_joined first (option_map (λ s. s.kind) next) ≡ true → length (units_from next others) ≤ 16 → MayFollow (category_of first) (units_from next others)
 unfolding is_joined

@@ -33,14 +33,8 @@ significant_end xs i lt h = ends (drop i xs) refl
         rw not_zero refl
 
 pub pow_small : (i : ℕ) → i ≤ 6 → 10 ^ i ≤ 1000000
-pow_small zero h = omega arith
-pow_small (suc zero) h = omega arith
-pow_small (suc (suc zero)) h = omega arith
-pow_small (suc (suc (suc zero))) h = omega arith
-pow_small (suc (suc (suc (suc zero)))) h = omega arith
-pow_small (suc (suc (suc (suc (suc zero))))) h = omega arith
-pow_small (suc (suc (suc (suc (suc (suc zero)))))) h = omega arith
 pow_small (suc (suc (suc (suc (suc (suc (suc i))))))) h = absurd (omega arith)
+pow_small _ h = omega arith
 
 -- ---- reading digits
 
@@ -69,17 +63,6 @@ reading_step digits i number d lt is low high r =
       small = (let s = r.small in omega arith);
     }
 
-pub reading_bad : (digits : List ℕ) (i number d : ℕ) → i < length digits → d ≡ get_or digits i 0 → (d < 48) ⊎ (57 < d) → IsReading digits i number → numeral digits ≡ None
-reading_bad digits i number d lt is out r =
-    let here : drop i digits ≡ d ∷ drop (i + 1) digits = drop_more digits i 0 lt ∙ ap (λ (x : ℕ). x ∷ drop (i + 1) digits) (sym is) in
-    let bad : is_digit d ≡ false = elim out [
-      | inl l ↦ and_left (leb 48 d) (ltb d 58) (lt-leb 48 d l)
-      | inr g ↦ and_right (leb 48 d) (ltb d 58) (le-ltb d 58 (omega arith))
-    ] in
-    let all : list_all is_digit digits ≡ false = sym r.good ∙ ap (list_all is_digit) here ∙ rw bad refl in
-    let none : is_numeral digits ≡ false = and_right (ltb 0 (length digits) && leb (length digits) 6) (list_all is_digit digits) all in
-    rw none refl
-
 pub reading_end : (digits : List ℕ) (number : ℕ) → 0 < length digits → length digits ≤ 6 → IsReading digits (length digits) number → numeral digits ≡ Some number
 unfolding decimal_from
 reading_end digits number some few r =
@@ -93,13 +76,12 @@ reading_end digits number some few r =
 
 significant_same : (n : ℕ) (xs : List ℕ) → decimal (significant xs) ≡ decimal xs
 unfolding significant decimal_from
-significant_same n [] = refl
-significant_same n (d ∷ []) = refl
 significant_same n (d ∷ e ∷ xs) =
     elim (cases_Bool (eqb d 48)) [
       | inl t ↦ rw t (significant_same n (e ∷ xs) ∙ ap (λ (m : ℕ). decimal_from m (e ∷ xs)) (let q = eqb-true d 48 t in (let z : 0 ≡ 10 * 0 + (d - 48) = omega arith in z)))
       | inr f ↦ rw f refl
     ]
+significant_same n _ = refl
 
 significant_all : (xs : List ℕ) → list_all is_digit xs ≡ true → list_all is_digit (significant xs) ≡ true
 unfolding significant

@@ -44,9 +44,8 @@ counted_bad at used n octets f e =
 
 long_bad : (at : ℕ) (octets : List ℕ) (f : SpduFault) → long_at at octets ≡ Err f → f ≡ LengthPastEnd at
 unfolding long_at
-long_bad at [] f e = sym (fault_is Measured (LengthPastEnd at) f e)
-long_bad at (high ∷ []) f e = sym (fault_is Measured (LengthPastEnd at) f e)
 long_bad at (high ∷ low ∷ octets) f e = counted_bad at 3 (256 * high + low) octets f e
+long_bad at _ f e = sym (fault_is Measured (LengthPastEnd at) f e)
 
 pub measured_bad : (at : ℕ) (octets : List ℕ) (f : SpduFault) → measured_at at octets ≡ Err f → f ≡ LengthPastEnd at
 unfolding measured_at

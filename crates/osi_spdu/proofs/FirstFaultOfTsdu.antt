@@ -207,9 +207,8 @@ behind_only (suc room) at (unit ∷ units) front rest f s are plain few some fit
 
 after_stands : (category : Category) (at : ℕ) (rest : List ℕ) (f : SpduFault) → IsFaultAfter category at rest f → may_stand false category ≡ true
 unfolding may_stand
-after_stands Zero at rest f h = refl
-after_stands One at rest f h = refl
 after_stands Two at rest f h = absurd h
+after_stands _ at rest f h = refl
 
 after_only : (category : Category) (p : Placed) (front : List ℕ) (f : SpduFault) → IsOctets p.rest → p.end ≡ length front → IsFaultAfter category (length front) p.rest f → continued category p ≡ Err f
 after_only Zero p front f fits ends h =

@@ -102,9 +102,6 @@ spelled_cost code false v h =
 
 -- ---- parts together
 
-sole_none : (known : Known) (c : Code) → Sole [] (known c) → known c ≡ None
-sole_none known c h = h
-
 joins_is : (m o : Option (List ℕ)) → Joins m None o → o ≡ m
 joins_is None o j = j
 joins_is (Some v) o j = j.1
@@ -290,22 +287,7 @@ unit_add_at kind x y o c (Some w) (Some v) ex ey j kx ky hc =
 codes_single : (kind : Kind) → list_all (once (λ c e. is_same e c) (codes_of kind)) every_code ≡ true
 unfolding number_of codes_of
 codes_single GiveTokens = refl
-codes_single PleaseTokens = refl
-codes_single DataTransfer = refl
-codes_single NotFinished = refl
-codes_single Finish = refl
-codes_single Disconnect = refl
-codes_single Refuse = refl
-codes_single Connect = refl
-codes_single Accept = refl
-codes_single Abort = refl
-codes_single AbortAccept = refl
-codes_single ResynchronizeAck = refl
-codes_single MajorSyncPoint = refl
-codes_single MajorSyncAck = refl
-codes_single MinorSyncPoint = refl
-codes_single MinorSyncAck = refl
-codes_single Resynchronize = refl
+codes_single _ = refl
 
 code_single : (kind : Kind) (s : Code) → once (λ c e. is_same e c) (codes_of kind) s ≡ true
 code_single kind s = every_passes (once (λ c e. is_same e c) (codes_of kind)) s (codes_single kind)

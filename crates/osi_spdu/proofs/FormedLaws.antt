@@ -163,13 +163,12 @@ owned kind raw body v d s e =
 -- ---- an enclosure that is there
 
 octet_same : (good : ℕ → Bool) (value v : List ℕ) → octet_if good as_it_is value ≡ Some v → value ≡ v
-octet_same good [] v e = absurd cc
 octet_same good (b ∷ []) v e = by (good b) e
   where
     by : (t : Bool) → cond t (Some (b ∷ [])) None ≡ Some v → b ∷ [] ≡ v
     by true h = cc
     by false h = absurd cc
-octet_same good (b ∷ c ∷ rest) v e = absurd cc
+octet_same good _ v e = absurd cc
 
 enclosed_value : (kind : Kind) (value v : List ℕ) → canonical_in kind Enclosure value ≡ Some v → is_enclosed kind (Some v) ≡ true
 unfolding canonical_in may_enclose canonical number_of

@@ -22,13 +22,6 @@ front_whole units n octets h =
     let all : n ≡ length octets = omega (arith, ap length h.followed, length-drop n octets) in
     (all, subst (λ (o : List ℕ). SpellsTsdu units o) (take_all n octets (omega arith)) h.spelled)
 
-pub whole_front : (units : Units) (octets : List ℕ) → SpellsTsdu units octets → AtFront units (length octets) octets
-whole_front units octets s = record {
-  within = omega arith;
-  spelled = subst (λ (o : List ℕ). SpellsTsdu units o) (sym (take_all (length octets) octets (omega arith))) s;
-  followed = drop_all (length octets) octets (omega arith);
-}
-
 pub grammar_one : (v w : Units) (m n : ℕ) (octets : List ℕ) → IsOctets octets → AtFront v m octets → AtFront w n octets → (v ≡ w) × (m ≡ n)
 grammar_one v w m n octets fits a b =
     let p = front_whole v m octets a in

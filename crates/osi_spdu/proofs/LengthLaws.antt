@@ -38,8 +38,6 @@ counted_ok at used n octets m e =
 
 long_ok : (at : ℕ) (octets : List ℕ) (m : Measured) → IsOctets octets → long_at at octets ≡ Ok m → IsMeasured m (255 ∷ octets)
 unfolding long_at
-long_ok at [] m fits e = absurd cc
-long_ok at (high ∷ []) m fits e = absurd cc
 long_ok at (high ∷ low ∷ octets) m fits e =
     let n = 256 * high + low in
     let c = counted_ok at 3 n octets m e in
@@ -58,6 +56,7 @@ long_ok at (high ∷ low ∷ octets) m fits e =
       rest_octets = octets-drop n octets rest;
       shorter = omega (arith, length-drop n octets);
     })
+long_ok at _ m fits e = absurd cc
 
 short_ok : (at n : ℕ) (octets : List ℕ) (m : Measured) → n < 255 → IsOctets octets → counted_at at 1 n octets ≡ Ok m → IsMeasured m (n ∷ octets)
 short_ok at n octets m lt rest e =

@@ -50,9 +50,8 @@ counted_rest at used n octets m e =
 
 long_rest : (at : ℕ) (octets : List ℕ) (m : Measured) → long_at at octets ≡ Ok m → length m.rest ≤ length octets
 unfolding long_at
-long_rest at [] m e = absurd cc
-long_rest at (high ∷ []) m e = absurd cc
 long_rest at (high ∷ low ∷ octets) m e = (let r = counted_rest at 3 (256 * high + low) octets m e in omega arith)
+long_rest at _ m e = absurd cc
 
 measured_rest : (at : ℕ) (octets : List ℕ) (m : Measured) → measured_at at octets ≡ Ok m → length m.rest < length octets
 unfolding measured_at

@@ -21,9 +21,8 @@ use Rattle.osi_spdu.proofs.Shorter.{significant_len}
 -- ---- values of few octets
 
 one_small : (good : ℕ → Bool) (form : ℕ → ℕ) (v w : List ℕ) → octet_if good form v ≡ Some w → length v ≤ 16
-one_small good form [] w e = absurd cc
 one_small good form (b ∷ []) w e = omega arith
-one_small good form (b ∷ c ∷ v) w e = absurd cc
+one_small good form _ w e = absurd cc
 
 kept_small : (good : Bool) (v w : List ℕ) → (good ≡ true → length v ≤ 16) → kept_if good v ≡ Some w → length v ≤ 16
 kept_small true v w h e = h refl
@@ -146,22 +145,7 @@ part_weight kind known c = by (known c)
 unit_weight : (kind : Kind) (known : Known) → total (λ c. weight known c + total (weight known) (members_of kind c)) (codes_of kind) ≤ total (weight known) every_code
 unfolding codes_of members_of
 unit_weight GiveTokens known = omega arith
-unit_weight PleaseTokens known = omega arith
-unit_weight DataTransfer known = omega arith
-unit_weight NotFinished known = omega arith
-unit_weight Finish known = omega arith
-unit_weight Disconnect known = omega arith
-unit_weight Refuse known = omega arith
-unit_weight Connect known = omega arith
-unit_weight Accept known = omega arith
-unit_weight Abort known = omega arith
-unit_weight AbortAccept known = omega arith
-unit_weight ResynchronizeAck known = omega arith
-unit_weight MajorSyncPoint known = omega arith
-unit_weight MajorSyncAck known = omega arith
-unit_weight MinorSyncPoint known = omega arith
-unit_weight MinorSyncAck known = omega arith
-unit_weight Resynchronize known = omega arith
+unit_weight _ known = omega arith
 
 all_weight : (known : Known) → IsCanonical known → total (weight known) every_code ≤ 400 + free_len known
 unfolding free_len

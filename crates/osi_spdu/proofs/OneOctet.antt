@@ -6,9 +6,8 @@ use Rattle.osi_spdu.specs.Values.{octet_if, is_setting, token_bits}
 use Rattle.osi_spdu.specs.Fields.{setting_octets}
 
 pub octet_if_one : (good : ℕ → Bool) (form : ℕ → ℕ) (v : List ℕ) → 1 ≤ length v → length v ≤ 1 → octet_if good form v ≡ cond (good (get_or v 0 0)) (Some (form (get_or v 0 0) ∷ [])) None
-octet_if_one good form [] low high = absurd (omega arith)
 octet_if_one good form (b ∷ []) low high = refl
-octet_if_one good form (b ∷ c ∷ v) low high = absurd (omega arith)
+octet_if_one good form _ low high = absurd (omega arith)
 
 -- a setting that was read is written as it was
 pub setting_read : (o : Option TokenSetting) (b : ℕ) → MatchOption o (is_setting b ≡ false) (λ s. (is_setting b ≡ true) × (setting_octets s ≡ b ∷ []))

@@ -18,29 +18,7 @@ use Rattle.osi_spdu.proofs.LengthLaws.{chosen}
 each_there : (c : Code) → among every_code c ≡ true
 unfolding number_of
 each_there ConnectionIdentifier = refl
-each_there ConnectAcceptItem = refl
-each_there CalledReference = refl
-each_there CallingReference = refl
-each_there CommonReference = refl
-each_there AdditionalReference = refl
-each_there SyncType = refl
-each_there TokenItem = refl
-each_there TransportDisconnect = refl
-each_there ProtocolOptions = refl
-each_there UserRequirements = refl
-each_there TsduMaximumSize = refl
-each_there Version = refl
-each_there InitialNumber = refl
-each_there Enclosure = refl
-each_there TokenSetting = refl
-each_there ResyncType = refl
-each_there Number = refl
-each_there Reflect = refl
-each_there Reason = refl
-each_there CallingSelector = refl
-each_there CalledSelector = refl
-each_there UserData = refl
-each_there ExtendedUserData = refl
+each_there _ = refl
 
 pub all_pass : (p : Code → Bool) (codes : List Code) (c : Code) → list_all p codes ≡ true → among codes c ≡ true → p c ≡ true
 all_pass p [] c all there = absurd cc
@@ -106,22 +84,7 @@ once owner (c ∷ codes) d = cond (owner c d) (not (list_any (λ e. owner e d) c
 codes_once : (kind : Kind) → list_all (once (owns kind) (codes_of kind)) every_code ≡ true
 unfolding number_of codes_of members_of
 codes_once GiveTokens = refl
-codes_once PleaseTokens = refl
-codes_once DataTransfer = refl
-codes_once NotFinished = refl
-codes_once Finish = refl
-codes_once Disconnect = refl
-codes_once Refuse = refl
-codes_once Connect = refl
-codes_once Accept = refl
-codes_once Abort = refl
-codes_once AbortAccept = refl
-codes_once ResynchronizeAck = refl
-codes_once MajorSyncPoint = refl
-codes_once MajorSyncAck = refl
-codes_once MinorSyncPoint = refl
-codes_once MinorSyncAck = refl
-codes_once Resynchronize = refl
+codes_once _ = refl
 
 pub code_once : (kind : Kind) (d : Code) → once (owns kind) (codes_of kind) d ≡ true
 code_once kind d = every_passes (once (owns kind) (codes_of kind)) d (codes_once kind)

@@ -21,29 +21,7 @@ at_place n = slice_get every_code n
 placed_back : (c : Code) → at_place (place_of c) ≡ Some c
 unfolding at_place place_of
 placed_back ConnectionIdentifier = refl
-placed_back ConnectAcceptItem = refl
-placed_back CalledReference = refl
-placed_back CallingReference = refl
-placed_back CommonReference = refl
-placed_back AdditionalReference = refl
-placed_back SyncType = refl
-placed_back TokenItem = refl
-placed_back TransportDisconnect = refl
-placed_back ProtocolOptions = refl
-placed_back UserRequirements = refl
-placed_back TsduMaximumSize = refl
-placed_back Version = refl
-placed_back InitialNumber = refl
-placed_back Enclosure = refl
-placed_back TokenSetting = refl
-placed_back ResyncType = refl
-placed_back Number = refl
-placed_back Reflect = refl
-placed_back Reason = refl
-placed_back CallingSelector = refl
-placed_back CalledSelector = refl
-placed_back UserData = refl
-placed_back ExtendedUserData = refl
+placed_back _ = refl
 
 place_one : (c d : Code) → place_of c ≡ place_of d → c ≡ d
 place_one c d e = (let h : Some c ≡ Some d = sym (placed_back c) ∙ ap at_place e ∙ placed_back d in cc)
@@ -51,29 +29,7 @@ place_one c d e = (let h : Some c ≡ Some d = sym (placed_back c) ∙ ap at_pla
 slot_within : (c : Code) → ltb (place_of (slot_of c)) 23 ≡ true
 unfolding place_of slot_of
 slot_within ConnectionIdentifier = refl
-slot_within ConnectAcceptItem = refl
-slot_within CalledReference = refl
-slot_within CallingReference = refl
-slot_within CommonReference = refl
-slot_within AdditionalReference = refl
-slot_within SyncType = refl
-slot_within TokenItem = refl
-slot_within TransportDisconnect = refl
-slot_within ProtocolOptions = refl
-slot_within UserRequirements = refl
-slot_within TsduMaximumSize = refl
-slot_within Version = refl
-slot_within InitialNumber = refl
-slot_within Enclosure = refl
-slot_within TokenSetting = refl
-slot_within ResyncType = refl
-slot_within Number = refl
-slot_within Reflect = refl
-slot_within Reason = refl
-slot_within CallingSelector = refl
-slot_within CalledSelector = refl
-slot_within UserData = refl
-slot_within ExtendedUserData = refl
+slot_within _ = refl
 
 cells_len : (p : Params) → length (cells_of p) ≡ 23
 unfolding cells_of
@@ -207,15 +163,9 @@ settled_known p q same tokens octets = λ i c. (one c) i
     one CalledSelector = ap (λ (r : Params). known_of r CalledSelector) same
     one ExtendedUserData = ap (λ (r : Params). known_of r ExtendedUserData) same
 
-pub some_len : (o : Option (List ℕ)) → count_of (some_octets o) ≡ count_of o
-some_len None = refl
-some_len (Some []) = refl
-some_len (Some (b ∷ v)) = refl
-
 pub some_there : (o : Option (List ℕ)) → has_octets (some_octets o) ≡ true
-some_there None = refl
-some_there (Some []) = refl
 some_there (Some (b ∷ v)) = lt-ltb 0 (length (b ∷ v)) (omega arith)
+some_there _ = refl
 
 -- a token item without other bits
 pub tokens_same : (t u : TokenSet) → u.0 ≡ token_bits t.0 → (token_octets u ≡ token_octets t) × (tokens_alone (Some u) ≡ true)

@@ -11,13 +11,12 @@ use Rattle.osi_spdu.specs.Values.{significant, six_digits, digits_of, decimal_fr
 -- ---- a value is written in no more octets than it was read in
 
 one_shorter : (good : ℕ → Bool) (form : ℕ → ℕ) (value v : List ℕ) → octet_if good form value ≡ Some v → length v ≤ length value
-one_shorter good form [] v e = absurd cc
 one_shorter good form (b ∷ []) v e = by (good b) e
   where
     by : (t : Bool) → cond t (Some (form b ∷ [])) None ≡ Some v → length v ≤ 1
     by true h = (let same : form b ∷ [] ≡ v = cc in omega (arith, ap length same))
     by false h = absurd cc
-one_shorter good form (b ∷ c ∷ rest) v e = absurd cc
+one_shorter good form _ v e = absurd cc
 
 kept_shorter : (good : Bool) (value v : List ℕ) → kept_if good value ≡ Some v → length v ≤ length value
 kept_shorter true value v e = (let same : value ≡ v = cc in omega (arith, ap length same))
@@ -29,20 +28,15 @@ some_shorter value v e = (let same : value ≡ v = cc in omega (arith, ap length
 none_shorter : (value v : List ℕ) → (let o : Option (List ℕ) = Some [] in o ≡ Some v) → length v ≤ length value
 none_shorter value v e = (let same : [] ≡ v = cc in omega (arith, ap length same))
 
-significant_zero : (xs : List ℕ) (d : ℕ) → significant (48 ∷ d ∷ xs) ≡ significant (d ∷ xs)
-unfolding significant
-significant_zero xs d = refl
-
 pub significant_len : (xs : List ℕ) → length (significant xs) ≤ length xs
 unfolding significant
-significant_len [] = omega arith
-significant_len (d ∷ []) = omega arith
 significant_len (d ∷ e ∷ xs) =
     let r = significant_len (e ∷ xs) in
     elim (cases_Bool (eqb d 48)) [
       | inl t ↦ rw t (omega arith)
       | inr f ↦ rw f (omega arith)
     ]
+significant_len _ = omega arith
 
 -- a zero in front is not written
 drop_zero : (d e : ℕ) (xs : List ℕ) (n : ℕ) → d ≡ 48 → length (significant (e ∷ xs)) ≤ n → length (significant (d ∷ e ∷ xs)) ≤ n
@@ -105,10 +99,6 @@ pub canonical_shorter : (c : Code) (value v : List ℕ) → canonical c value �
 unfolding canonical
 canonical_shorter ConnectionIdentifier value v e = none_shorter value v e
 canonical_shorter ConnectAcceptItem value v e = none_shorter value v e
-canonical_shorter CalledReference value v e = some_shorter value v e
-canonical_shorter CallingReference value v e = some_shorter value v e
-canonical_shorter CommonReference value v e = some_shorter value v e
-canonical_shorter AdditionalReference value v e = some_shorter value v e
 canonical_shorter SyncType value v e = one_shorter any_octet (λ b. b % 2) value v e
 canonical_shorter TokenItem value v e = one_shorter any_octet token_bits value v e
 canonical_shorter TransportDisconnect value v e = one_shorter any_octet as_it_is value v e
@@ -121,12 +111,10 @@ canonical_shorter Enclosure value v e = one_shorter (λ b. ltb b 4) as_it_is val
 canonical_shorter TokenSetting value v e = one_shorter is_setting as_it_is value v e
 canonical_shorter ResyncType value v e = one_shorter (λ b. ltb b 3) as_it_is value v e
 canonical_shorter Number value v e = numeral_shorter value v e
-canonical_shorter Reflect value v e = some_shorter value v e
 canonical_shorter Reason value v e = kept_shorter (ltb 0 (length value)) value v e
 canonical_shorter CallingSelector value v e = kept_shorter (leb (length value) 16) value v e
 canonical_shorter CalledSelector value v e = kept_shorter (leb (length value) 16) value v e
-canonical_shorter UserData value v e = some_shorter value v e
-canonical_shorter ExtendedUserData value v e = some_shorter value v e
+canonical_shorter _ value v e = some_shorter value v e
 
 -- what a unit of some kind takes as the value of a code is one
 pub canonical_from : (kind : Kind) (c : Code) (value v : List ℕ) → canonical_in kind c value ≡ Some v → canonical c value ≡ Some v

@@ -44,29 +44,7 @@ named n = find (λ c. eqb (number_of c) n) every_code
 pub named_back : (c : Code) → named (number_of c) ≡ Some c
 unfolding number_of
 named_back ConnectionIdentifier = refl
-named_back ConnectAcceptItem = refl
-named_back CalledReference = refl
-named_back CallingReference = refl
-named_back CommonReference = refl
-named_back AdditionalReference = refl
-named_back SyncType = refl
-named_back TokenItem = refl
-named_back TransportDisconnect = refl
-named_back ProtocolOptions = refl
-named_back UserRequirements = refl
-named_back TsduMaximumSize = refl
-named_back Version = refl
-named_back InitialNumber = refl
-named_back Enclosure = refl
-named_back TokenSetting = refl
-named_back ResyncType = refl
-named_back Number = refl
-named_back Reflect = refl
-named_back Reason = refl
-named_back CallingSelector = refl
-named_back CalledSelector = refl
-named_back UserData = refl
-named_back ExtendedUserData = refl
+named_back _ = refl
 
 some_is : (c d : Code) → (let o : Option Code = Some c in o ≡ Some d) → c ≡ d
 some_is c d e = cc

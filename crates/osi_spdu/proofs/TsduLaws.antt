@@ -36,24 +36,6 @@ pub tsdu_goes : (octets : List ℕ) (p : Placed) → unit_at false 0 octets ≡ 
 unfolding tsdu_at
 tsdu_goes octets p e = rw e refl
 
-continued_zero : (category : Category) (p : Placed) (units : Units) → category ≡ Zero → behind_at 16 p.end p.rest ≡ Ok units → continued category p ≡ Ok (contents_of p [] ∷ units)
-continued_zero Zero p units e h = rw h refl
-continued_zero One p units e h = absurd cc
-continued_zero Two p units e h = absurd cc
-
-pub tsdu_behind : (octets : List ℕ) (p : Placed) (r : Result Behind SpduFault) → unit_at false 0 octets ≡ Ok p → category_of p.kind ≡ Zero → Gives units_behind r (behind_at 16 p.end p.rest)
-    → IfOk r (λ b. tsdu_at octets ≡ Ok (contents_of p [] ∷ units_behind b))
-tsdu_behind octets p (Ok b) e zero_kind h = tsdu_goes octets p e ∙ continued_zero (category_of p.kind) p (units_behind b) zero_kind h
-tsdu_behind octets p (Err f) e zero_kind h = tt
-
-pub tsdu_behind_bad : (octets : List ℕ) (p : Placed) (f : SpduFault) → unit_at false 0 octets ≡ Ok p → category_of p.kind ≡ Zero → behind_at 16 p.end p.rest ≡ Err f → tsdu_at octets ≡ Err f
-tsdu_behind_bad octets p f e zero_kind h = tsdu_goes octets p e ∙ bad (category_of p.kind) zero_kind
-  where
-    bad : (category : Category) → category ≡ Zero → continued category p ≡ Err f
-    bad Zero same = rw h refl
-    bad One same = absurd cc
-    bad Two same = absurd cc
-
 ended_none : (at : ℕ) (octets : List ℕ) (unit : Contents) → length octets ≡ 0 → ended at octets unit ≡ Ok (unit ∷ [])
 ended_none at [] unit e = refl
 ended_none at (b ∷ octets) unit e = absurd (omega arith)
@@ -64,13 +46,11 @@ ended_some at (b ∷ octets) unit h = refl
 
 pub continued_alone : (category : Category) (p : Placed) → (category ≡ Zero → ⊥) → length p.rest ≡ 0 → continued category p ≡ Ok (contents_of p [] ∷ [])
 continued_alone Zero p other e = absurd (other refl)
-continued_alone One p other e = ended_none p.end p.rest (contents_of p []) e
-continued_alone Two p other e = ended_none p.end p.rest (contents_of p []) e
+continued_alone _ p other e = ended_none p.end p.rest (contents_of p []) e
 
 pub continued_trailing : (category : Category) (p : Placed) → (category ≡ Zero → ⊥) → (length p.rest ≡ 0 → ⊥) → continued category p ≡ Err (TrailingOctets p.end)
 continued_trailing Zero p other h = absurd (other refl)
-continued_trailing One p other h = ended_some p.end p.rest (contents_of p []) h
-continued_trailing Two p other h = ended_some p.end p.rest (contents_of p []) h
+continued_trailing _ p other h = ended_some p.end p.rest (contents_of p []) h
 
 -- ---- the laws, at what a reader returned
 

@@ -40,9 +40,8 @@ si_named second si kind e = eqb-true (si_of kind) si (found_passes (λ k. eqb (s
 pub named_back : (second : Bool) (kind : Kind) → may_stand second (category_of kind) ≡ true → kind_named second (si_of kind) ≡ Some kind
 unfolding kind_named si_of may_stand category_of
 named_back true GiveTokens e = absurd cc
-named_back true _ e = refl
 named_back false DataTransfer e = absurd cc
-named_back false _ e = refl
+named_back _ _ e = refl
 
 placed_ok : (second : Bool) (at : ℕ) (o : Option Kind) (kind : Kind) → placed_kind second at o ≡ Ok kind → (o ≡ Some kind) × (may_stand second (category_of kind) ≡ true)
 placed_ok second at None kind e = absurd cc
@@ -147,9 +146,8 @@ unit_only second at unit front rest s stands =
 
 pub second_stands : (category : Category) → may_stand true category ≡ true → category ≡ Two
 unfolding may_stand
-second_stands Zero e = absurd cc
-second_stands One e = absurd cc
 second_stands Two e = refl
+second_stands _ e = absurd cc
 
 pub two_second : (category : Category) → category ≡ Two → may_stand true category ≡ true
 unfolding may_stand
@@ -325,8 +323,7 @@ ended_ok at (b ∷ octets) unit units e = absurd cc
 pub not_second : (category : Category) → may_stand false category ≡ true → category ≡ Two → ⊥
 unfolding may_stand
 not_second Zero e h = absurd cc
-not_second One e h = absurd cc
-not_second Two e h = absurd cc
+not_second _ e h = absurd cc
 
 -- a first unit with those behind it
 first_found : (octets : List ℕ) (p : Placed) (behind : Units) → IsOctets octets → IsUnitAt false octets p → MayFollow (category_of p.kind) behind → AreBehind behind → AreUnits behind p.rest
@@ -357,9 +354,8 @@ tsdu_found octets units fits e =
 
 first_stands : (category : Category) (behind : Units) → MayFollow category behind → may_stand false category ≡ true
 unfolding may_stand
-first_stands Zero behind h = refl
-first_stands One behind h = refl
 first_stands Two behind h = absurd h
+first_stands _ behind h = refl
 
 first_plain : (kind : Kind) → may_stand false (category_of kind) ≡ true → takes_rest kind ≡ false
 unfolding may_stand category_of

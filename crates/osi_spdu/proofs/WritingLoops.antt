@@ -17,9 +17,6 @@ piece_len f codes i c lt = ap length (piece_next f codes i c lt) ∙ length-appe
 pub record IsCounting (f : Code → List ℕ) (codes : List Code) (i len : ℕ) : Type 0 where
   pub counted : len + length (flat_map f (drop i codes)) ≡ length (flat_map f codes)
 
-pub counting_next : (f : Code → List ℕ) (codes : List Code) (i len : ℕ) (c : Code) → i < length codes → IsCounting f codes i len → IsCounting f codes (i + 1) (len + length (f (get_or codes i c)))
-counting_next f codes i len c lt so_far = (let p = piece_len f codes i c lt in let s = so_far.counted in record { counted = omega arith })
-
 pub counting_end : (f : Code → List ℕ) (codes : List Code) (i len : ℕ) → length codes ≤ i → IsCounting f codes i len → len ≡ length (flat_map f codes)
 counting_end f codes i len le so_far = (let e = ap length (pieces_end f codes i le) in let s = so_far.counted in omega arith)
 
@@ -30,26 +27,6 @@ pub record IsPutting (f : Code → List ℕ) (codes : List Code) (i : ℕ) (item
 
 pub putting_start : (f : Code → List ℕ) (codes : List Code) (items : List ℕ) (spare : ℕ) → IsPutting f codes 0 items spare items spare
 putting_start f codes items spare = record { put = refl; left = refl }
-
-pub putting_next : (f : Code → List ℕ) (codes : List Code) (i : ℕ) (items more before : List ℕ) (spare less room : ℕ) (c : Code) → i < length codes
-    → more ≡ items ++ f (get_or codes i c) → less + length (f (get_or codes i c)) ≡ spare
-    → IsPutting f codes i items spare before room → IsPutting f codes (i + 1) more less before room
-putting_next f codes i items more before spare less room c lt e h so_far = record {
-  put =
-      ap (λ (x : List ℕ). x ++ flat_map f (drop (i + 1) codes)) e
-      ∙ append_assoc items (f (get_or codes i c)) (flat_map f (drop (i + 1) codes))
-      ∙ ap (λ (x : List ℕ). items ++ x) (sym (piece_next f codes i c lt)) ∙ so_far.put;
-  left = (let p = piece_len f codes i c lt in let s = so_far.left in omega arith);
-}
-
--- the next piece has room, and is no longer than all
-pub putting_fits : (f : Code → List ℕ) (codes : List Code) (i : ℕ) (items before : List ℕ) (spare room limit : ℕ) (c : Code) → i < length codes
-    → length (flat_map f codes) ≤ room → length (flat_map f codes) < limit → length (flat_map f (drop i codes)) ≤ length (flat_map f codes)
-    → IsPutting f codes i items spare before room → (length (f (get_or codes i c)) ≤ spare) × (length (f (get_or codes i c)) < limit)
-putting_fits f codes i items before spare room limit c lt fits small less so_far =
-    let p = piece_len f codes i c lt in
-    let s = so_far.left in
-    (omega arith, omega arith)
 
 pub tail_less : (f : Code → List ℕ) (codes : List Code) (i : ℕ) → length (flat_map f (drop i codes)) ≤ length (flat_map f codes)
 tail_less f codes zero = omega arith

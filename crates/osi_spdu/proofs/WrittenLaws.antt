@@ -332,9 +332,8 @@ all_some known [] e = tt
 all_some known (c ∷ codes) e = (let a = and_parts (is_some (known c)) (list_all (λ d. is_some (known d)) codes) e in (a.0, all_some known codes a.1))
 
 settled_option : (o : Option (List ℕ)) → (o ≡ Some [] → ⊥) → some_octets o ≡ o
-settled_option None h = refl
 settled_option (Some []) h = absurd (h refl)
-settled_option (Some (b ∷ octets)) h = refl
+settled_option _ h = refl
 
 settled_same : (known : Known) → IsCanonical known → settled known ≡ known
 settled_same known is = λ i c. (one c) i
