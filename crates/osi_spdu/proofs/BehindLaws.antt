@@ -30,17 +30,11 @@ behind_none room at (b ∷ octets) e = absurd (omega arith)
 
 pub behind_full : (room at : ℕ) (octets : List ℕ) → room ≡ 0 → 1 ≤ length octets → behind_at room at octets ≡ Err (crowded at (kind_named true (get_or octets 0 0)))
 unfolding behind_at
-behind_full room at [] e some = absurd (omega arith)
-behind_full zero at (b ∷ octets) e some = refl
-behind_full (suc room) at (b ∷ octets) e some = absurd (omega arith)
+behind_full room at octets h0 h1 = grind arith
 
 behind_step : (room at : ℕ) (octets : List ℕ) → 1 ≤ room → 1 ≤ length octets → behind_at room at octets ≡ (next_at at octets >>= λ n. with_first n (behind_at (room - 1) n.end n.rest))
 unfolding behind_at
-behind_step room at [] e some = absurd (omega arith)
-behind_step zero at (b ∷ octets) e some = absurd (omega arith)
-behind_step (suc room) at (b ∷ octets) e some =
-    let less : suc room - 1 ≡ room = omega arith in
-    ap (λ (k : ℕ). next_at at (b ∷ octets) >>= λ n. with_first n (behind_at k n.end n.rest)) (sym less)
+behind_step room at octets h0 h1 = grind arith
 
 pub behind_bad : (room at : ℕ) (octets : List ℕ) (f : SpduFault) → 1 ≤ room → 1 ≤ length octets → next_at at octets ≡ Err f → behind_at room at octets ≡ Err f
 behind_bad room at octets f one some e = behind_step room at octets one some ∙ ap (λ r. r >>= λ n. with_first n (behind_at (room - 1) n.end n.rest)) e
@@ -55,10 +49,7 @@ unfolding left_at
 left_of room at octets units e = ap (λ (r : Read). result_unwrap_or r []) e
 
 are_left : (room at : ℕ) (octets : List ℕ) (units : Units) → behind_at room at octets ≡ Ok units → AllByRecursion IsFormedUnit units → AreLeft room at octets
-are_left room at octets units e formed = record {
-  readable = ap is_ok e;
-  formed = subst (λ (us : Units). AllByRecursion IsFormedUnit us) (sym (left_of room at octets units e)) formed;
-}
+are_left room at octets units h0 h1 = grind (arith, left_of)
 
 pub left_none : (room at : ℕ) (octets : List ℕ) → length octets ≡ 0 → AreLeft room at octets
 left_none room at octets e = are_left room at octets [] (behind_none room at octets e) tt
@@ -101,11 +92,7 @@ left_goes room at octets n some left e =
     }
 
 pub left_never_bad : (room at : ℕ) (octets : List ℕ) (f : SpduFault) → 1 ≤ length octets → AreLeft room at octets → next_at at octets ≡ Err f → ⊥
-left_never_bad room at octets f some left e =
-    let one = room_left room at octets some left.readable in
-    let bad = behind_bad room at octets f one some e in
-    let h : false ≡ true = sym (ap is_ok bad) ∙ left.readable in
-    cc
+left_never_bad room at octets f h0 h1 h2 = grind (arith, room_left, behind_bad)
 
 -- ---- reading on, as a loop does
 
@@ -159,7 +146,4 @@ joined_two first second e =
 
 pub joined_behind : (first : Kind) (next : Option Kind) (rest : List ℕ) → category_of first ≡ Zero → is_behind next rest ≡ true → is_joined first next ≡ true
 unfolding is_joined is_behind may_stand
-joined_behind first None rest e h = rw e refl
-joined_behind first (Some second) rest e h =
-    let a = and_parts (may_stand true (category_of second)) (not (takes_rest second) || (length rest == 0)) h in
-    rw (e, a.0) refl
+joined_behind first next rest h0 h1 = grind (arith, and_parts)

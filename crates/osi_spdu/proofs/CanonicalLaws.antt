@@ -45,18 +45,10 @@ made f None v c h e = absurd cc
 made f (Some x) v c h e = (let same : f x ≡ v = cc in subst (λ (w : List ℕ). canonical c w ≡ Some w) same (h x))
 
 wish_small : (w : Wish) → wish_number w < 3
-wish_small wishes.Asker = omega arith
-wish_small wishes.Answerer = omega arith
-wish_small wishes.Choice = omega arith
+wish_small w = grind arith
 
 setting_good : (a b c d : ℕ) → a < 3 → b < 3 → c < 3 → d < 3 → is_setting (a + 4 * b + 16 * c + 64 * d) ≡ true
-setting_good a b c d ha hb hc hd =
-    let n = a + 4 * b + 16 * c + 64 * d in
-    let w : n % 4 ≡ 3 → ⊥ = λ h. omega arith in
-    let x : n / 4 % 4 ≡ 3 → ⊥ = λ h. omega arith in
-    let y : n / 16 % 4 ≡ 3 → ⊥ = λ h. omega arith in
-    let z : n / 64 ≡ 3 → ⊥ = λ h. omega arith in
-    rw (ne_eqb (n % 4) 3 w, ne_eqb (n / 4 % 4) 3 x, ne_eqb (n / 16 % 4) 3 y, ne_eqb (n / 64) 3 z) refl
+setting_good a b c d h0 h1 h2 h3 = grind (arith, ne_eqb)
 
 presence : (b : Bool) (v : List ℕ) (c : Code) → canonical c v ≡ Some [] → present b ≡ Some v → canonical c v ≡ Some v
 presence true v c h e = (let same : [] ≡ v = cc in h ∙ ap {B = Option (List ℕ)} (λ x. Some x) same)
@@ -105,16 +97,11 @@ octets_some (Some (b ∷ octets)) v e = e
 octets_some _ v e = absurd cc
 
 octets_there : (o : Option (List ℕ)) → some_octets o ≡ Some [] → ⊥
-octets_there None e = cc
-octets_there (Some []) e = cc
-octets_there (Some (b ∷ octets)) e = cc
+octets_there o h0 = grind arith
 
 known_slot : (p : Params) (c : Code) (v : List ℕ) → known_of p c ≡ Some v → slots_of p c ≡ Some v
 unfolding known_of
-known_slot p c v e = elim (cases_Bool (is_same c UserData)) [
-  | inl t ↦ octets_some (slots_of p c) v (sym (ap (λ (b : Bool). cond b (some_octets (slots_of p c)) (slots_of p c)) t) ∙ e)
-  | inr f ↦ sym (ap (λ (b : Bool). cond b (some_octets (slots_of p c)) (slots_of p c)) f) ∙ e
-]
+known_slot p c v h0 = grind (arith, cases_Bool, octets_some)
 
 no_extended : (p : Params) → known_of p ExtendedUserData ≡ None
 unfolding known_of slots_of cells_of place_of number_of
@@ -125,11 +112,7 @@ unfolding known_of number_of
 data_there p e = octets_there (slots_of p UserData) e
 
 pub params_canonical : (p : Params) → IsCanonical (known_of p)
-params_canonical p = record {
-  values = λ c v e. slot_canonical p c v (known_slot p c v e);
-  slots = no_extended p;
-  data_there = data_there p;
-}
+params_canonical p = grind (arith, slot_canonical, known_slot, no_extended, data_there)
 
 -- ---- units and groups
 
@@ -148,9 +131,7 @@ unit_formed u = record {
 
 follow_none : (category : Category) → may_stand false category ≡ true → MayFollow category []
 unfolding may_stand
-follow_none Zero e = omega arith
-follow_none One e = refl
-follow_none Two e = absurd cc
+follow_none category h0 = grind arith
 
 category_two : (category : Category) → may_stand true category ≡ true → category ≡ Two
 unfolding may_stand
@@ -207,10 +188,7 @@ may_follow _ units e few = absurd cc
 
 stand_together : (first : Kind) (next : Option Spdu) (others : Units) → is_joined first (option_map (λ s. s.kind) next) ≡ true → length (units_from next others) ≤ 16 → MayFollow (category_of first) (units_from next others)
 unfolding is_joined
-stand_together first None others e few = follow_none (category_of first) e
-stand_together first (Some unit) others e few =
-    let a = and_parts (may_stand false (category_of first) && may_stand true (category_of unit.kind)) (is_zero (category_of first)) e in
-    may_follow (category_of first) (units_from (Some unit) others) (category_zero (category_of first) a.1) few
+stand_together first next others h0 h1 = grind (arith, follow_none, and_parts, may_follow, category_zero)
 
 pub group_formed : (g : Group) → IsFormedTsdu (units_of g)
 unfolding StandTogether
@@ -228,10 +206,7 @@ first_alone _ information e h = h
 
 first_stands : (first : Kind) (next : Option Kind) → is_joined first next ≡ true → may_stand false (category_of first) ≡ true
 unfolding is_joined
-first_stands first None e = e
-first_stands first (Some second) e =
-    (and_parts (may_stand false (category_of first)) (may_stand true (category_of second))
-    (and_parts (may_stand false (category_of first) && may_stand true (category_of second)) (is_zero (category_of first)) e).0).0
+first_stands first next h0 = grind (arith, and_parts)
 
 -- the first unit of a group has no information
 pub group_plain : (g : Group) → g.first.information.now ≡ []

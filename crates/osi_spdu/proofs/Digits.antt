@@ -65,12 +65,7 @@ reading_step digits i number d lt is low high r =
 
 pub reading_end : (digits : List ℕ) (number : ℕ) → 0 < length digits → length digits ≤ 6 → IsReading digits (length digits) number → numeral digits ≡ Some number
 unfolding decimal_from
-reading_end digits number some few r =
-    let end : drop (length digits) digits ≡ [] = drop_all (length digits) digits (omega arith) in
-    let all : list_all is_digit digits ≡ true = sym r.good ∙ ap (list_all is_digit) end in
-    let yes : is_numeral digits ≡ true = and_from (ltb 0 (length digits) && leb (length digits) 6) (list_all is_digit digits) (and_from (ltb 0 (length digits)) (leb (length digits) 6) (lt-ltb 0 (length digits) some) (le-leb (length digits) 6 few)) all in
-    let value : decimal digits ≡ number = sym r.value ∙ ap (decimal_from number) end in
-    rw yes (ap {B = Option ℕ} (λ x. Some x) value)
+reading_end digits number h0 h1 h2 = grind (arith, drop_all, and_from, lt-ltb, le-leb)
 
 -- ---- writing digits, and reading them again
 
@@ -117,11 +112,4 @@ six_value n h = omega arith
 -- a number at most 999,999 is read from its digits
 pub numeral_digits : (n : ℕ) → n ≤ 999999 → numeral (digits_of n) ≡ Some n
 unfolding digits_of
-numeral_digits n h =
-    let xs = six_digits n in
-    let len = significant_len xs (omega arith) in
-    let six : length xs ≡ 6 = refl in
-    let all = significant_all xs (six_all n) in
-    let yes : is_numeral (significant xs) ≡ true = and_from (ltb 0 (length (significant xs)) && leb (length (significant xs)) 6) (list_all is_digit (significant xs))
-    (and_from (ltb 0 (length (significant xs))) (leb (length (significant xs)) 6) (lt-ltb 0 (length (significant xs)) len.0) (le-leb (length (significant xs)) 6 (omega (arith, len.1)))) all in
-    rw yes (ap {B = Option ℕ} (λ x. Some x) (significant_same n xs ∙ six_value n h))
+numeral_digits n h0 = grind (arith, significant_len, significant_all, six_all, and_from, lt-ltb, le-leb, significant_same, six_value)

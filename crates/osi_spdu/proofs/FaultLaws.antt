@@ -58,10 +58,7 @@ measured_bad at (n ∷ octets) f e =
 
 -- a length that cannot be read is there in no form
 pub no_value : (at : ℕ) (octets : List ℕ) (f : SpduFault) → measured_at at octets ≡ Err f → HasNoValue octets
-no_value at octets f e long value rest h =
-    let m : Measured = record { used = lengths.indicator_len long; value = value; rest = rest } in
-    let read : measured_at at octets ≡ Ok m = ap (measured_at at) h.1 ∙ measured_again at long value rest h.0 in
-    never Measured m f (sym read ∙ e)
+no_value at octets f h0 = grind (arith, indicator_len, measured_again, never)
 
 pub value_of_no : (at : ℕ) (octets : List ℕ) (r : Result Measured SpduFault) → measured_at at octets ≡ r → IsOctets octets → HasNoValue octets → r ≡ Err (LengthPastEnd at)
 value_of_no at octets (Ok m) e fits lacks = (let is = measured_ok at octets m fits e in absurd (lacks is.long m.value m.rest (is.counted, is.parts)))
@@ -92,19 +89,11 @@ judged_bad at c known (Some form) f e = absurd (never Known (put (slot_of c) for
 
 stored_bad : (kind : Kind) (at : ℕ) (c : Code) (value : List ℕ) (known : Known) (f : SpduFault) → stored kind at c value known ≡ Err f → IsValueFault kind at c value known f
 unfolding stored
-stored_bad kind at c value known f e =
-    elim (chosen (is_some (known (slot_of c))) (Err (DuplicateParameter (number_of c) at)) (judged at c known (canonical_in kind c value)) (Err f) e) [
-      | inl q ↦ inl (q.0, sym (fault_is Known (DuplicateParameter (number_of c) at) f q.1))
-      | inr q ↦ (let j = judged_bad at c known (canonical_in kind c value) f q.1 in inr (is_none_of (known (slot_of c)) q.0, j.0, j.1))
-    ]
+stored_bad kind at c value known f h0 = grind (arith, chosen, fault_is, judged_bad, is_none_of)
 
 stored_fails : (kind : Kind) (at : ℕ) (c : Code) (value : List ℕ) (known : Known) (f : SpduFault) → IsValueFault kind at c value known f → stored kind at c value known ≡ Err f
 unfolding stored
-stored_fails kind at c value known f h =
-    elim h [
-      | inl q ↦ rw q.0 (ap (λ (g : SpduFault). failed {A = Known} g) (sym q.1))
-      | inr q ↦ rw (none_is (known (slot_of c)) q.0, q.1) (ap (λ (g : SpduFault). failed {A = Known} g) (sym q.2))
-    ]
+stored_fails kind at c value known f h0 = grind arith
 
 -- ---- a level
 

@@ -57,13 +57,7 @@ body_found kind at octets f fits (Err g) q e = inl (no_value at octets g q, sym 
 body_found kind at octets f fits (Ok m) q e = value_found kind at octets m f fits q (params_of (in_unit kind) (at + (1 + m.used)) nothing m.value) refl e
 
 named_found : (second : Bool) (at : ℕ) (o : Option Kind) (octets : List ℕ) (f : SpduFault) → IsOctets octets → (placed_kind second at o >>= λ kind. body_in kind at octets) ≡ Err f → IsNamedFault second at o octets f
-named_found second at None octets f fits e = sym (fault_is Placed (UnknownSi at) f e)
-named_found second at (Some kind) octets f fits e =
-    let chosen_by = λ (b : Bool). (cond b (Ok kind) (Err (BadConcatenation at)) >>= λ k. body_in k at octets) in
-    elim (cases_Bool (may_stand second (category_of kind))) [
-      | inl t ↦ inr (t, body_found kind at octets f fits (measured_at at octets) refl (sym (ap chosen_by t) ∙ e))
-      | inr t ↦ inl (t, sym (fault_is Placed (BadConcatenation at) f (sym (ap chosen_by t) ∙ e)))
-    ]
+named_found second at o octets f h0 h1 = grind (arith, fault_is, cases_Bool, body_found)
 
 pub unit_fault_found : (second : Bool) (at : ℕ) (octets : List ℕ) (f : SpduFault) → IsOctets octets → unit_at second at octets ≡ Err f → IsUnitFault second at octets f
 unfolding unit_at

@@ -88,18 +88,10 @@ abbrev Bad : ℕ → ℕ → ℕ → List ℕ → SpduFault → Type 0
 Bad count room at rest f = ((count ≡ room) × IsCrowded at rest f) ⊎ ((1 + count ≤ room) × IsUnitFault true at rest f)
 
 bad_more : (count room at at' : ℕ) (rest : List ℕ) (f : SpduFault) → at ≡ at' → Bad count room at rest f → Bad (suc count) (suc room) at' rest f
-bad_more count room at at' rest f e h =
-    elim h [
-      | inl q ↦ inl (ap (λ (k : ℕ). suc k) q.0, subst (λ (k : ℕ). IsCrowded k rest f) e q.1)
-      | inr q ↦ inr (omega (arith, q.0), subst (λ (k : ℕ). IsUnitFault true k rest f) e q.1)
-    ]
+bad_more count room at at' rest f h0 h1 = grind arith
 
 bad_less : (count room at at' : ℕ) (rest : List ℕ) (f : SpduFault) → at ≡ at' → Bad (suc count) (suc room) at rest f → Bad count room at' rest f
-bad_less count room at at' rest f e h =
-    elim h [
-      | inl q ↦ inl (omega (arith, q.0), subst (λ (k : ℕ). IsCrowded k rest f) e q.1)
-      | inr q ↦ inr (omega (arith, q.0), subst (λ (k : ℕ). IsUnitFault true k rest f) e q.1)
-    ]
+bad_less count room at at' rest f h0 h1 = grind arith
 
 fault_behind_one : (room at : ℕ) (octets : List ℕ) (p : Placed) (f : SpduFault) → IsOctets octets → unit_at true at octets ≡ Ok p → IsUnitAt true octets p → takes_rest p.kind ≡ false → IsFaultBehind room p.end p.rest f
     → IsFaultBehind (suc room) at octets f
@@ -169,17 +161,7 @@ first_fault_found octets f fits e = tsdu_case octets f fits (unit_at false 0 oct
 
 behind_now : (room at : ℕ) (rest : List ℕ) (f : SpduFault) → 1 ≤ length rest → IsOctets rest → Bad 0 room at rest f → behind_at room at rest ≡ Err f
 unfolding behind_at
-behind_now room at [] f some fits bad = absurd (omega arith)
-behind_now zero at (si ∷ rest) f some fits bad =
-    elim bad [
-      | inl q ↦ ap (λ (g : SpduFault). failed {A = Units} g) (sym q.1)
-      | inr q ↦ absurd (omega (arith, q.0))
-    ]
-behind_now (suc room) at (si ∷ rest) f some fits bad =
-    elim bad [
-      | inl q ↦ absurd (omega (arith, q.0))
-      | inr q ↦ bind_bad (next_at at (si ∷ rest)) (λ n. goes_on room n) f (bad_next at (si ∷ rest) f (unit_fault_only true at (si ∷ rest) f fits q.1))
-    ]
+behind_now room at rest f h0 h1 h2 = grind (arith, bind_bad, bad_next, unit_fault_only)
 
 behind_only : (room at : ℕ) (units : Units) (front rest : List ℕ) (f : SpduFault) → AreUnits units front → AreBehind units → AllByRecursion (λ u. takes_rest u.kind ≡ false) units → length units ≤ room → 1 ≤ length rest
     → IsOctets (front ++ rest) → Bad (length units) room (at + length front) rest f → behind_at room at (front ++ rest) ≡ Err f

@@ -77,28 +77,13 @@ abbrev pub cost : ℕ → ℕ
 cost n = 1 + cond (ltb 254 n) 3 1 + n
 
 written_cost : (code : ℕ) (v : List ℕ) → length (written_item code v) ≡ cost (length v)
-written_cost code v = elim (cases_Bool (ltb 254 (length v))) [
-  | inl t ↦ rw t (omega (arith, length-append (code ∷ 255 ∷ length v / 256 ∷ length v % 256 ∷ []) v))
-  | inr f ↦ rw f (omega (arith, length-append (code ∷ length v ∷ []) v))
-]
+written_cost code v = grind (arith, cases_Bool, length-append)
 
 cost_less : (m n : ℕ) → m ≤ n → cost m ≤ cost n
-cost_less m n le = elim (cases_Bool (ltb 254 m)) [
-  | inl t ↦ (let a = ltb-true 254 m t in let b = lt-ltb 254 n (omega arith) in rw (t, b) (omega arith))
-  | inr f ↦ elim (cases_Bool (ltb 254 n)) [
-    | inl t ↦ rw (f, t) (omega arith)
-    | inr g ↦ rw (f, g) (omega arith)
-  ]
-]
+cost_less m n h0 = grind (arith, cases_Bool, ltb-true, lt-ltb)
 
 spelled_cost : (code : ℕ) (long : Bool) (v : List ℕ) → HasLength long (length v) → cost (length v) ≤ length (code ∷ [] ++ length_octets long (length v) ++ v)
-spelled_cost code true v h = elim (cases_Bool (ltb 254 (length v))) [
-  | inl t ↦ rw t (omega (arith, length-append (code ∷ 255 ∷ length v / 256 ∷ length v % 256 ∷ []) v))
-  | inr f ↦ rw f (omega (arith, length-append (code ∷ 255 ∷ length v / 256 ∷ length v % 256 ∷ []) v))
-]
-spelled_cost code false v h =
-    let f : ltb 254 (length v) ≡ false = le-ltb 254 (length v) (omega arith) in
-    rw f (omega (arith, length-append (code ∷ length v ∷ []) v))
+spelled_cost code long v h0 = grind (arith, cases_Bool, length-append, le-ltb)
 
 -- ---- parts together
 
@@ -252,17 +237,11 @@ members_same kind x o c h =
     group_len kind o c ∙ total_same (λ d. member_cost (o d)) (λ d. member_cost (x d)) (members_of kind c) (λ d a. ap member_cost (h d a)) ∙ sym (group_len kind x c)
 
 value_same : (kind : Kind) (x o : Known) (c : Code) (v : List ℕ) → ((d : Code) → among (members_of kind c) d ≡ true → o d ≡ x d) → cost (length (value_octets kind o c v)) ≡ cost (length (value_octets kind x c v))
-value_same kind x o c v h = elim (cases_Bool (is_group c)) [
-  | inl t ↦ rw t (ap cost (members_same kind x o c h))
-  | inr f ↦ rw f refl
-]
+value_same kind x o c v h0 = grind (arith, cases_Bool, cost, members_same)
 
 -- what joins a member of an absent group is nothing
 stays_out : (kind : Kind) (x : Known) (c d : Code) → KeepsGroups kind x → among (codes_of kind) c ≡ true → among (members_of kind c) d ≡ true → x c ≡ None → x d ≡ None
-stays_out kind x c d keeps hc m e = elim (option_cases (x d)) [
-  | inl s ↦ absurd (let k = keeps c d s.0 hc m s.1 in let h : None ≡ Some k.0 = sym e ∙ k.1 in cc)
-  | inr n ↦ n
-]
+stays_out kind x c d h0 h1 h2 h3 = grind (arith, option_cases)
 
 unit_add_at : (kind : Kind) (x y o : Known) (c : Code) (a b : Option (List ℕ)) → x c ≡ a → y c ≡ b → JoinsAll x y o → KeepsGroups kind x → KeepsGroups kind y → among (codes_of kind) c ≡ true
     → unit_cost kind o c (o c) ≡ unit_cost kind x c a + unit_cost kind y c b
@@ -363,37 +342,24 @@ whole_cost kind = record {
 
 pub body_len : (kind : Kind) (known : Known) → length (body_octets kind known) ≡ total (part_cost kind known) (codes_of kind)
 unfolding body_octets
-body_len kind known =
-    total_flat (λ c. parameter_octets kind known c (known c)) (codes_of kind)
-    ∙ total_same (λ c. length (parameter_octets kind known c (known c))) (part_cost kind known) (codes_of kind) (λ c a. unit_len kind known c (known c))
+body_len kind known = grind (arith, total_flat, total_same, part_cost, unit_len)
 
 octets_less : (o : Option (List ℕ)) → member_cost (some_octets o) ≤ member_cost o
-octets_less None = omega arith
-octets_less (Some []) = omega arith
-octets_less (Some (b ∷ v)) = omega arith
+octets_less o = grind arith
 
 -- nothing grows where empty user data goes
 settled_member : (raw : Known) (c : Code) → member_cost (settled raw c) ≤ member_cost (raw c)
-settled_member raw c = elim (cases_Bool (is_same c UserData)) [
-  | inl t ↦ rw t (octets_less (raw c))
-  | inr f ↦ rw f (omega arith)
-]
+settled_member raw c = grind (arith, cases_Bool, octets_less)
 
 settled_value : (kind : Kind) (raw : Known) (c : Code) (v : List ℕ) → cost (length (value_octets kind (settled raw) c v)) ≤ cost (length (value_octets kind raw c v))
-settled_value kind raw c v = elim (cases_Bool (is_group c)) [
-  | inl t ↦ rw t (cost_less (length (group_octets kind (settled raw) c)) (length (group_octets kind raw c)) (let a = group_len kind (settled raw) c in let b = group_len kind raw c in
-      let l = total_less (λ d. member_cost (settled raw d)) (λ d. member_cost (raw d)) (members_of kind c) (settled_member raw) in omega arith))
-  | inr f ↦ rw f (omega arith)
-]
+settled_value kind raw c v = grind (arith, cases_Bool, group_len, total_less, member_cost, settled_member)
 
 settled_cost : (kind : Kind) (raw : Known) (c : Code) (o : Option (List ℕ)) → unit_cost kind (settled raw) c o ≤ unit_cost kind raw c o
 settled_cost kind raw c None = omega arith
 settled_cost kind raw c (Some v) = settled_value kind raw c v
 
 octets_cost : (kind : Kind) (raw : Known) (c : Code) (o : Option (List ℕ)) → unit_cost kind raw c (some_octets o) ≤ unit_cost kind raw c o
-octets_cost kind raw c None = omega arith
-octets_cost kind raw c (Some []) = omega arith
-octets_cost kind raw c (Some (b ∷ v)) = omega arith
+octets_cost kind raw c o = grind arith
 
 settled_part : (kind : Kind) (raw : Known) (c : Code) → part_cost kind (settled raw) c ≤ part_cost kind raw c
 settled_part kind raw c = elim (cases_Bool (is_same c UserData)) [

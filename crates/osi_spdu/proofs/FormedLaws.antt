@@ -101,9 +101,7 @@ no_extended_reference _ = refl
 
 no_extended : (kind : Kind) (g : Code) → among (members_of kind g) ExtendedUserData ≡ false
 unfolding members_of number_of
-no_extended kind ConnectionIdentifier = no_extended_reference kind
-no_extended kind ConnectAcceptItem = refl
-no_extended kind _ = refl
+no_extended kind g = grind (arith, no_extended_reference)
 
 pub member_slot : (kind : Kind) (g c : Code) → among (members_of kind g) c ≡ true → slot_of c ≡ c
 unfolding slot_of
@@ -163,20 +161,11 @@ owned kind raw body v d s e =
 -- ---- an enclosure that is there
 
 octet_same : (good : ℕ → Bool) (value v : List ℕ) → octet_if good as_it_is value ≡ Some v → value ≡ v
-octet_same good (b ∷ []) v e = by (good b) e
-  where
-    by : (t : Bool) → cond t (Some (b ∷ [])) None ≡ Some v → b ∷ [] ≡ v
-    by true h = cc
-    by false h = absurd cc
-octet_same good _ v e = absurd cc
+octet_same good value v h0 = grind arith
 
 enclosed_value : (kind : Kind) (value v : List ℕ) → canonical_in kind Enclosure value ≡ Some v → is_enclosed kind (Some v) ≡ true
 unfolding canonical_in may_enclose canonical number_of
-enclosed_value kind value v e = by (may_have_parts kind || is_three value) refl e
-  where
-    by : (b : Bool) → (may_have_parts kind || is_three value) ≡ b → cond b (octet_if (λ o. ltb o 4) as_it_is value) None ≡ Some v → is_enclosed kind (Some v) ≡ true
-    by true t h = subst (λ (x : List ℕ). is_enclosed kind (Some x) ≡ true) (octet_same (λ o. ltb o 4) value v h) t
-    by false t h = absurd cc
+enclosed_value kind value v h0 = grind (arith, octet_same)
 
 other_number : number_of Enclosure ≡ number_of UserData → ⊥
 unfolding number_of
@@ -202,9 +191,7 @@ no_enclosed_reference _ = refl
 
 no_enclosed_member : (kind : Kind) (g : Code) → among (members_of kind g) Enclosure ≡ false
 unfolding members_of number_of
-no_enclosed_member kind ConnectionIdentifier = no_enclosed_reference kind
-no_enclosed_member kind ConnectAcceptItem = refl
-no_enclosed_member kind _ = refl
+no_enclosed_member kind g = grind (arith, no_enclosed_reference)
 
 -- a group gives none
 group_encloses : (kind : Kind) (g : Code) (value v : List ℕ) (gives : Known) → is_group g ≡ true → GroupOf kind g value gives → gives Enclosure ≡ Some v → ⊥
@@ -248,10 +235,7 @@ no_members kind = refl
 
 -- a group that is there stays there
 group_stays : (kind : Kind) (raw : Known) (g d : Code) → among (members_of kind g) d ≡ true → raw g ≡ Some [] → settled raw g ≡ Some []
-group_stays kind raw g d m e = elim (cases_Bool (is_same g UserData)) [
-  | inl t ↦ absurd (let h : false ≡ true = sym (ap (λ (x : Code). among (members_of kind x) d) (same_true g UserData t) ∙ ap (λ (cs : List Code). among cs d) (no_members kind)) ∙ m in cc)
-  | inr f ↦ settled_other raw g f ∙ e
-]
+group_stays kind raw g d h0 h1 = grind (arith, cases_Bool, same_true, no_members, settled_other)
 
 pub any_at : (p : Code → Bool) (codes : List Code) (c : Code) → among codes c ≡ true → p c ≡ true → list_any p codes ≡ true
 any_at p codes c there e = any_weaker (λ d. is_same c d) p codes (λ d t. ap p (sym (same_true c d t)) ∙ e) there
@@ -264,11 +248,7 @@ there_from kind raw d (inr q) =
     (and_from (among (members_of kind q.0) d) (is_some (settled raw q.0)) q.2 (ap is_some (group_stays kind raw q.0 d q.2 q.3))))
 
 settled_some : (raw : Known) (d : Code) (o : Option (List ℕ)) → raw d ≡ o → (is_none (settled raw d) ≡ true) ⊎ ((v : List ℕ) × (raw d ≡ Some v))
-settled_some raw d None e = inl (elim (cases_Bool (is_same d UserData)) [
-  | inl t ↦ rw (t, e) refl
-  | inr f ↦ rw (f, e) refl
-])
-settled_some raw d (Some v) e = inr (v, e)
+settled_some raw d o h0 = grind (arith, cases_Bool)
 
 each_test : (p : Code → Bool) (codes : List Code) → ((c : Code) → p c ≡ true) → list_all p codes ≡ true
 each_test p [] h = refl
@@ -284,13 +264,7 @@ required_stay raw (c ∷ codes) plain there =
 
 required_plain : (kind : Kind) → list_all (λ c. not (is_same c UserData)) (required_of kind) ≡ true
 unfolding required_of number_of
-required_plain ResynchronizeAck = refl
-required_plain MajorSyncPoint = refl
-required_plain MajorSyncAck = refl
-required_plain MinorSyncPoint = refl
-required_plain MinorSyncAck = refl
-required_plain Resynchronize = refl
-required_plain _ = refl
+required_plain kind = grind arith
 
 unit_formed : (unit : Contents) (octets : List ℕ) → SpellsUnit unit octets → is_formed unit.kind unit.known ≡ true
 unfolding is_formed

@@ -23,7 +23,4 @@ front_whole units n octets h =
     (all, subst (λ (o : List ℕ). SpellsTsdu units o) (take_all n octets (omega arith)) h.spelled)
 
 pub grammar_one : (v w : Units) (m n : ℕ) (octets : List ℕ) → IsOctets octets → AtFront v m octets → AtFront w n octets → (v ≡ w) × (m ≡ n)
-grammar_one v w m n octets fits a b =
-    let p = front_whole v m octets a in
-    let q = front_whole w n octets b in
-    (ok_is v w (sym (tsdu_only v octets p.1) ∙ tsdu_only w octets q.1), p.0 ∙ sym q.0)
+grammar_one v w m n octets h0 h1 h2 = grind (arith, front_whole, ok_is, tsdu_only)

@@ -35,11 +35,7 @@ octets_of_group : (kind : Kind) (known : Known) (c : Code) (value : List ℕ) �
 octets_of_group kind known c value e = rw e refl
 
 held_within : (kind : Kind) (known : Known) (c : Code) (o : Option (List ℕ)) → is_group c ≡ true → is_some o ≡ true → length (group_octets kind known c) ≤ length (parameter_octets kind known c o)
-held_within kind known c None e there = absurd cc
-held_within kind known c (Some value) e there =
-    let v = value_within (number_of (written_code kind c value)) (value_octets kind known c value) in
-    let same = ap (λ (x : List ℕ). length x) (octets_of_group kind known c value e) in
-    omega arith
+held_within kind known c o h0 h1 = grind (arith, value_within, octets_of_group)
 
 -- what a group holds is no longer than all parameters and groups of its unit
 pub group_within : (kind : Kind) (known : Known) (c : Code) → among (codes_of kind) c ≡ true → is_group c ≡ true → is_some (known c) ≡ true → length (group_octets kind known c) ≤ length (body_octets kind known)
@@ -78,9 +74,7 @@ no_agreement _ two knows = cc
 
 no_group : (kind : Kind) (c : Code) → category_of kind ≡ Two → is_group c ≡ true → among (codes_of kind) c ≡ true → ⊥
 unfolding is_group
-no_group kind ConnectionIdentifier two group knows = no_references kind two knows
-no_group kind ConnectAcceptItem two group knows = no_agreement kind two knows
-no_group kind _ two group knows = cc
+no_group kind c h0 h1 h2 = grind (arith, no_references, no_agreement)
 
 pub none_held : (lens : GroupLengths) → category_of lens.kind ≡ Two → (known : Known) → AreHeld lens known
 none_held lens two known c knows group there = absurd (no_group lens.kind c two group knows)

@@ -15,11 +15,7 @@ pub keeping_start : (lens : List ℕ) (all : Units) → length lens ≡ 16 → l
 keeping_start lens all size few = record { room = omega arith; size = size; goes = λ tail h. h }
 
 pub keeping_within : (lens : List ℕ) (count : ℕ) (units others all : Units) (unit : Contents) → units ≡ unit ∷ others → IsKeeping lens count units all → count < length lens
-keeping_within lens count units others all unit e so_far =
-    let n = ap length e in
-    let r = so_far.room in
-    let s = so_far.size in
-    omega arith
+keeping_within lens count units others all unit h0 h1 = grind arith
 
 pub keeping_next : (lens more : List ℕ) (count body : ℕ) (units others all : Units) (unit : Contents) → units ≡ unit ∷ others → body ≡ body_length unit → more ≡ set lens count body
     → IsKeeping lens count units all → IsKeeping more (count + 1) others all

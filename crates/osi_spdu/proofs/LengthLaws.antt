@@ -12,11 +12,7 @@ pub octets-drop : (n : ℕ) (octets : List ℕ) → IsOctets octets → IsOctets
 octets-drop n octets h i = rw get_or-drop (h (n + i))
 
 pub octets-take : (n : ℕ) (octets : List ℕ) → IsOctets octets → IsOctets (take n octets)
-octets-take n octets h i =
-    elim (cases_lt i n) [
-      | inl lt ↦ rw (get_or-take n octets i 0 lt) (h i)
-      | inr le ↦ rw (get_or_past (take n octets) i 0 (omega (arith, length-take n octets))) (omega arith)
-    ]
+octets-take n octets h0 = grind (arith, cases_lt, get_or-take, get_or_past, length-take)
 
 pub octets-tail : (b : ℕ) (octets : List ℕ) → IsOctets (b ∷ octets) → IsOctets octets
 octets-tail b octets h i = h (suc i)
@@ -59,17 +55,7 @@ long_ok at (high ∷ low ∷ octets) m fits e =
 long_ok at _ m fits e = absurd cc
 
 short_ok : (at n : ℕ) (octets : List ℕ) (m : Measured) → n < 255 → IsOctets octets → counted_at at 1 n octets ≡ Ok m → IsMeasured m (n ∷ octets)
-short_ok at n octets m lt rest e =
-    let c = counted_ok at 1 n octets m e in
-    let len : length (take n octets) ≡ n = length-take-le n octets c.0 in
-    subst (λ (x : Measured). IsMeasured x (n ∷ octets)) (sym c.1) (record {
-      long = false;
-      counted = rw len lt;
-      parts = rw len (ap (λ (t : List ℕ). n ∷ t) (sym (take-append-drop n octets)));
-      value_octets = octets-take n octets rest;
-      rest_octets = octets-drop n octets rest;
-      shorter = omega (arith, length-drop n octets);
-    })
+short_ok at n octets m h0 h1 h2 = grind (arith, counted_ok, length-take-le, IsMeasured, take-append-drop, octets-take, octets-drop, length-drop)
 
 pub chosen : {A : Type 0} (b : Bool) (x y z : A) → cond b x y ≡ z → ((b ≡ true) × (x ≡ z)) ⊎ ((b ≡ false) × (y ≡ z))
 chosen true x y z e = inl (refl, e)
@@ -93,16 +79,9 @@ indicator_len false = 1
 indicator_len true = 3
 
 counted_again : (at used : ℕ) (value rest : List ℕ) → counted_at at used (length value) (value ++ rest) ≡ Ok (record { used = used; value = value; rest = rest })
-counted_again at used value rest =
-    let no : ltb (length (value ++ rest)) (length value) ≡ false = le-ltb _ _ (omega (arith, length-append value rest)) in
-    rw (no, take_at value rest (length value) refl, drop_at value rest (length value) refl) refl
+counted_again at used value rest = grind (arith, le-ltb, length-append, take_at, drop_at)
 
 pub measured_again : (at : ℕ) (long : Bool) (value rest : List ℕ) → HasLength long (length value)
     → measured_at at (length_octets long (length value) ++ value ++ rest) ≡ Ok (record { used = indicator_len long; value = value; rest = rest })
 unfolding measured_at long_at
-measured_again at false value rest h =
-    let ne : eqb (length value) 255 ≡ false = ne_eqb _ _ (omega arith) in
-    rw ne (counted_again at 1 value rest)
-measured_again at true value rest h =
-    let n : 256 * (length value / 256) + length value % 256 ≡ length value = omega arith in
-    rw n (counted_again at 3 value rest)
+measured_again at long value rest h0 = grind (arith, ne_eqb, counted_again)

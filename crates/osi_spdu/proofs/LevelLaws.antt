@@ -94,21 +94,12 @@ judged_ok at c known more (Some form) e = (form, refl, sym (ok_is (put (slot_of 
 pub stored_ok : (kind : Kind) (at : ℕ) (c : Code) (value : List ℕ) (known more : Known) → stored kind at c value known ≡ Ok more
     → (form : List ℕ) × (canonical_in kind c value ≡ Some form) × (more ≡ put (slot_of c) form known) × JoinsAll (only (slot_of c) form) known more
 unfolding stored
-stored_ok kind at c value known more e =
-    let g = guard_ok (is_some (known (slot_of c))) (DuplicateParameter (number_of c) at) more (judged at c known (canonical_in kind c value)) e in
-    let j = judged_ok at c known more (canonical_in kind c value) g.1 in
-    let free : known (slot_of c) ≡ None = is_none_of (known (slot_of c)) g.0 in
-    let joins : JoinsAll (only (slot_of c) j.0) known (put (slot_of c) j.0 known) = λ d. put_joins (is_same d (slot_of c)) j.0 (known d) (λ s. ap known (same_true d (slot_of c) s) ∙ free) in
-    (j.0, j.1, j.2, subst (λ (m : Known). JoinsAll (only (slot_of c) j.0) known m) (sym j.2) joins)
+stored_ok kind at c value known more h0 = grind (arith, guard_ok, judged_ok, is_none_of, put_joins, same_true, JoinsAll)
 
 pub stored_back : (kind : Kind) (at : ℕ) (c : Code) (value form : List ℕ) (known more : Known) → canonical_in kind c value ≡ Some form → JoinsAll (only (slot_of c) form) known more
     → stored kind at c value known ≡ Ok more
 unfolding stored
-stored_back kind at c value form known more e joins =
-    let free : known (slot_of c) ≡ None = joins_free (is_same (slot_of c) (slot_of c)) form (known (slot_of c)) (more (slot_of c)) (same_refl (slot_of c)) (joins (slot_of c)) in
-    let no : is_some (known (slot_of c)) ≡ false = none_is (known (slot_of c)) free in
-    let is : put (slot_of c) form known ≡ more = λ i d. (sym (joins_put (is_same d (slot_of c)) form (known d) (more d) (joins d))) i in
-    rw (no, e) (ap (λ (k : Known). Ok k) is)
+stored_back kind at c value form known more h0 h1 = grind (arith, joins_free, same_refl, none_is, joins_put)
 
 joins_nothing : (known more : Known) → known ≡ more → JoinsAll nothing known more
 joins_nothing known more e c = ap (λ (k : Known). k c) (sym e)
@@ -143,15 +134,11 @@ group_follows kind members = record {
 
 pub group_slot : (c : Code) → is_group c ≡ true → slot_of c ≡ c
 unfolding is_group slot_of
-group_slot ConnectionIdentifier e = refl
-group_slot ConnectAcceptItem e = refl
-group_slot _ e = absurd cc
+group_slot c h0 = grind arith
 
 pub group_form : (kind : Kind) (c : Code) (value : List ℕ) → is_group c ≡ true → canonical_in kind c value ≡ Some []
 unfolding is_group canonical canonical_in may_enclose number_of
-group_form kind ConnectionIdentifier value e = refl
-group_form kind ConnectAcceptItem value e = refl
-group_form kind _ value e = absurd cc
+group_form kind c value h0 = grind arith
 
 group_takes : (kind : Kind) (body : ℕ) (c : Code) (value : List ℕ) (known mid more : Known) → IsOctets value → JoinsAll (only c []) known mid
     → params_of (in_group kind (members_of kind c)) body mid value ≡ Ok more → (gives : Known) × GroupOf kind c value gives × JoinsAll gives known more

@@ -25,20 +25,12 @@ stored_twice kind at n c value known e same = rw (e, same) refl
 pub stored_bad : (kind : Kind) (at n : ℕ) (c : Code) (value : List ℕ) (known : Known) → is_some (known (slot_of c)) ≡ false → is_some (canonical_in kind c value) ≡ false → n ≡ number_of c
     → stored kind at c value known ≡ Err (BadValue n at)
 unfolding stored
-stored_bad kind at n c value known e bad same = rw (e, same) (none (canonical_in kind c value) bad)
-  where
-    none : (o : Option (List ℕ)) → is_some o ≡ false → judged at c known o ≡ Err (BadValue (number_of c) at)
-    none None h = refl
-    none (Some v) h = absurd cc
+stored_bad kind at n c value known h0 h1 h2 = grind arith
 
 pub stored_done : (kind : Kind) (at : ℕ) (c : Code) (value : List ℕ) (p q : Params) → is_some (slots_of p (slot_of c)) ≡ false → is_some (canonical_in kind c value) ≡ true
     → cells_of q ≡ filled (cells_of p) (place_of (slot_of c)) (canonical_in kind c value) → stored kind at c value (slots_of p) ≡ Ok (slots_of q)
 unfolding stored
-stored_done kind at c value p q e good cells = rw e (some (canonical_in kind c value) good cells)
-  where
-    some : (o : Option (List ℕ)) → is_some o ≡ true → cells_of q ≡ filled (cells_of p) (place_of (slot_of c)) o → judged at c (slots_of p) o ≡ Ok (slots_of q)
-    some None h f = absurd cc
-    some (Some v) h f = ap (λ (k : Known). Ok k) (sym (slots_put p q c v (Some v) f refl))
+stored_done kind at c value p q h0 h1 h2 = grind (arith, slots_put)
 
 -- ---- fuel
 
@@ -55,12 +47,7 @@ long_rest at _ m e = absurd cc
 
 measured_rest : (at : ℕ) (octets : List ℕ) (m : Measured) → measured_at at octets ≡ Ok m → length m.rest < length octets
 unfolding measured_at
-measured_rest at [] m e = absurd cc
-measured_rest at (n ∷ octets) m e =
-    elim (chosen (eqb n 255) (long_at at octets) (counted_at at 1 n octets) (Ok m) e) [
-      | inl p ↦ (let r = long_rest at octets m p.1 in omega arith)
-      | inr p ↦ (let r = counted_rest at 1 n octets m p.1 in omega arith)
-    ]
+measured_rest at octets m h0 = grind (arith, chosen, long_rest, counted_rest)
 
 -- two results of steps that agree where the first did not fail
 same_bind : {A B : Type 0} (r : Result A SpduFault) (f g : A → Result B SpduFault) → ((x : A) → r ≡ Ok x → f x ≡ g x) → (r >>= f) ≡ (r >>= g)
@@ -109,13 +96,7 @@ tagged c m = Ok (c, m)
 
 pub params_fault : (taking : Taking) (at : ℕ) (known : Known) (octets : List ℕ) (fault : SpduFault) → 0 < length octets → parameter_at at octets ≡ Err fault → params_of taking at known octets ≡ Err fault
 unfolding parameter_at params_at
-params_fault taking at known [] fault some e = absurd (omega arith)
-params_fault taking at known (c ∷ octets) fault some e = fails (measured_at at octets) e
-  where
-    fails : (r : Result Measured SpduFault) → (r >>= tagged c) ≡ Err fault
-        → (r >>= λ m. taking at (at + (1 + m.used)) c m.value known >>= λ x. params_at taking (length octets) (at + (1 + m.used + length m.value)) x m.rest) ≡ Err fault
-    fails (Ok m) h = absurd cc
-    fails (Err d) h = (let same : d ≡ fault = cc in ap (λ (f : SpduFault). Err f) same)
+params_fault taking at known octets fault h0 h1 = grind arith
 
 -- what a loop keeps: what is left gives what all gives, and ends where all ends
 pub record IsTaking (taking : Taking) (at : ℕ) (known : Known) (rest : List ℕ) (start : ℕ) (before : Known) (octets : List ℕ) : Type 0 where

@@ -40,11 +40,7 @@ numeral_small None v e = absurd cc
 numeral_small (Some n) v e = (let same : digits_of n ≡ v = cc in subst (λ (x : List ℕ). length x ≤ 16) same (digits_small n))
 
 value_small : (known : Known) (c : Code) → ((v : List ℕ) → known c ≡ Some v → length v ≤ 16) → value_len (known c) ≤ 16
-value_small known c h = by (known c) refl
-  where
-    by : (o : Option (List ℕ)) → known c ≡ o → value_len o ≤ 16
-    by None e = omega arith
-    by (Some v) e = h v e
+value_small known c h0 = grind arith
 
 small_ConnectionIdentifier : (v : List ℕ) → canonical ConnectionIdentifier v ≡ Some v → length v ≤ 16
 unfolding canonical
@@ -116,30 +112,16 @@ abbrev weight : Known → Code → ℕ
 weight known c = 4 + value_len (known c)
 
 cost_weight : (n : ℕ) → cost n ≤ 4 + n
-cost_weight n = elim (cases_Bool (ltb 254 n)) [
-  | inl t ↦ rw t (omega arith)
-  | inr f ↦ rw f (omega arith)
-]
+cost_weight n = grind (arith, cases_Bool)
 
 member_weight : (known : Known) (c : Code) → member_cost (known c) ≤ weight known c
-member_weight known c = by (known c)
-  where
-    by : (o : Option (List ℕ)) → member_cost o ≤ 4 + value_len o
-    by None = omega arith
-    by (Some v) = cost_weight (length v)
+member_weight known c = grind (arith, member_cost, cost_weight)
 
 value_weight : (kind : Kind) (known : Known) (c : Code) (v : List ℕ) → cost (length (value_octets kind known c v)) ≤ 4 + length v + total (weight known) (members_of kind c)
-value_weight kind known c v = elim (cases_Bool (is_group c)) [
-  | inl t ↦ rw t (let a = cost_weight (length (group_octets kind known c)) in let b = group_len kind known c in let l = total_less (λ d. member_cost (known d)) (weight known) (members_of kind c) (member_weight known) in omega arith)
-  | inr f ↦ rw f (let a = cost_weight (length v) in omega arith)
-]
+value_weight kind known c v = grind (arith, cases_Bool, cost_weight, group_len, total_less, member_cost, member_weight)
 
 part_weight : (kind : Kind) (known : Known) (c : Code) → part_cost kind known c ≤ weight known c + total (weight known) (members_of kind c)
-part_weight kind known c = by (known c)
-  where
-    by : (o : Option (List ℕ)) → unit_cost kind known c o ≤ 4 + value_len o + total (weight known) (members_of kind c)
-    by None = omega arith
-    by (Some v) = value_weight kind known c v
+part_weight kind known c = grind (arith, unit_cost, total, value_weight)
 
 -- each code stands in a unit once at most
 unit_weight : (kind : Kind) (known : Known) → total (λ c. weight known c + total (weight known) (members_of kind c)) (codes_of kind) ≤ total (weight known) every_code
@@ -179,9 +161,7 @@ few_fit unit is few =
     omega arith
 
 some_less : (o : Option (List ℕ)) → value_len (some_octets o) ≤ count_of o
-some_less None = omega arith
-some_less (Some []) = omega arith
-some_less (Some (b ∷ v)) = omega arith
+some_less o = grind arith
 
 same_count : (o : Option (List ℕ)) → value_len o ≡ count_of o
 same_count None = refl
@@ -189,15 +169,7 @@ same_count (Some v) = refl
 
 params_free : (p : Params) → free_len (known_of p) ≤ lent_len p
 unfolding free_len known_of slots_of cells_of place_of number_of
-params_free p =
-    let a = same_count (option_map (λ s. s.now) p.called_reference) in
-    let b = same_count (option_map (λ s. s.now) p.calling_reference) in
-    let c = same_count (option_map (λ s. s.now) p.common_reference) in
-    let d = same_count (option_map (λ s. s.now) p.additional_reference) in
-    let e = same_count (option_map (λ s. s.now) p.reflect) in
-    let f = same_count (option_map reason_octets p.reason) in
-    let g = some_less (option_map (λ s. s.now) p.user_data) in
-    omega arith
+params_free p = grind (arith, same_count, some_less)
 
 -- a unit whose parameters of any length have at most 65,000 octets fits
 pub made_fits : (unit : Contents) (p : Params) → unit.known ≡ known_of p → lent_len p ≤ 65000 → UnitFits unit

@@ -1,5 +1,5 @@
 -- One option put to what is there, and a list of options of which at most one is there.
-use Rattle.std.proofs.Common.{◌≡◌, ℕ, Bool, true, false, cond, List, [], ◌∷◌, Option, Some, None, refl, sym, subst}
+use Rattle.std.proofs.Common.{◌≡◌, ℕ, Bool, true, false, cond, List, [], ◌∷◌, Option, Some, None, refl, sym, subst, arith}
 use Rattle.osi_spdu.specs.Spelling.{Sole}
 
 -- after is before with this option, of which not both are there
@@ -25,22 +25,13 @@ sole_same None p h = h
 sole_same (Some v) p h = h.0
 
 pub sole_step : (m k k' : Option (List ℕ)) (xs : List (Option (List ℕ))) (o : Option (List ℕ)) → Joins m k k' → Sole (k ∷ m ∷ xs) o → Sole (k' ∷ xs) o
-sole_step None None k' xs o j h = subst (λ (q : Option (List ℕ)). Sole (q ∷ xs) o) (sym j) h
-sole_step None (Some w) k' xs o j h = subst (λ (q : Option (List ℕ)). Sole (q ∷ xs) o) (sym j) h
-sole_step (Some v) None k' xs o j h = subst (λ (q : Option (List ℕ)). Sole (q ∷ xs) o) (sym j.1) h
-sole_step (Some v) (Some w) k' xs o j h = absurd (let e : Some w ≡ None = j.0 in cc)
+sole_step m k k' xs o h0 h1 = grind arith
 
 pub sole_back : (m k k' : Option (List ℕ)) (xs : List (Option (List ℕ))) (o : Option (List ℕ)) → Joins m k k' → Sole (k' ∷ xs) o → Sole (k ∷ m ∷ xs) o
-sole_back None None k' xs o j h = subst (λ (q : Option (List ℕ)). Sole (q ∷ xs) o) j h
-sole_back None (Some w) k' xs o j h = subst (λ (q : Option (List ℕ)). Sole (q ∷ xs) o) j h
-sole_back (Some v) None k' xs o j h = subst (λ (q : Option (List ℕ)). Sole (q ∷ xs) o) j.1 h
-sole_back (Some v) (Some w) k' xs o j h = absurd (let e : Some w ≡ None = j.0 in cc)
+sole_back m k k' xs o h0 h1 = grind arith
 
 pub sole_joins : (m k : Option (List ℕ)) (xs : List (Option (List ℕ))) (o : Option (List ℕ)) → Sole (k ∷ m ∷ xs) o → Joins m k (merged k m)
-sole_joins None None xs o h = refl
-sole_joins None (Some w) xs o h = refl
-sole_joins (Some v) None xs o h = (refl, refl)
-sole_joins (Some v) (Some w) xs o h = absurd (let e : None ≡ Some v = h.1.0 in cc)
+sole_joins m k xs o h0 = grind arith
 
 pub sole_first : (xs : List (Option (List ℕ))) (o : Option (List ℕ)) → Sole xs o → o ≡ first xs
 sole_first [] o h = h
@@ -52,18 +43,10 @@ joins_none None o e = e
 joins_none (Some v) o e = (refl, e)
 
 pub sole_split : (k : Option (List ℕ)) (xs : List (Option (List ℕ))) (o : Option (List ℕ)) → Sole (k ∷ xs) o → Sole xs (first xs) × Joins (first xs) k o
-sole_split None xs o h =
-    let e : o ≡ first xs = sole_first xs o h in
-    (subst (λ (q : Option (List ℕ)). Sole xs q) e h, joins_none (first xs) o e)
-sole_split (Some w) xs o h =
-    let e : None ≡ first xs = sole_first xs None h.1 in
-    (subst (λ (q : Option (List ℕ)). Sole xs q) e h.1, subst (λ (q : Option (List ℕ)). Joins q (Some w) o) e h.0)
+sole_split k xs o h0 = grind (arith, sole_first, joins_none, first, Joins)
 
 pub sole_join : (m k : Option (List ℕ)) (xs : List (Option (List ℕ))) (o : Option (List ℕ)) → Sole xs m → Joins m k o → Sole (k ∷ xs) o
-sole_join None None xs o h j = subst (λ (q : Option (List ℕ)). Sole xs q) (sym j) h
-sole_join None (Some w) xs o h j = (j, h)
-sole_join (Some v) None xs o h j = subst (λ (q : Option (List ℕ)). Sole xs q) (sym j.1) h
-sole_join (Some v) (Some w) xs o h j = absurd (let e : Some w ≡ None = j.0 in cc)
+sole_join m k xs o h0 h1 = grind arith
 
 -- one after the other is both at once
 pub joins_both : (p m k kg k' : Option (List ℕ)) → Joins p k kg → Joins m kg k' → Sole (p ∷ m ∷ []) (first (p ∷ m ∷ [])) × Joins (first (p ∷ m ∷ [])) k k'
@@ -75,11 +58,7 @@ first_one (Some v) = refl
 
 -- both at once is one after the other
 pub joins_apart : (p m g k k' : Option (List ℕ)) → Sole (p ∷ m ∷ []) g → Joins g k k' → Joins p k (merged k p) × Joins m (merged k p) k'
-joins_apart p m g k k' h j =
-    let all : Sole (k ∷ p ∷ m ∷ []) k' = sole_join g k (p ∷ m ∷ []) k' h j in
-    let one = sole_joins p k (m ∷ []) k' all in
-    let two : Sole (merged k p ∷ m ∷ []) k' = sole_step p k (merged k p) (m ∷ []) k' one all in
-    (one, subst (λ (q : Option (List ℕ)). Joins q (merged k p) k') (first_one m) (sole_split (merged k p) (m ∷ []) k' two).1)
+joins_apart p m g k k' h0 h1 = grind (arith, sole_join, sole_joins, sole_step, merged, Joins, first_one, sole_split)
 
 -- ---- a value put at a slot
 

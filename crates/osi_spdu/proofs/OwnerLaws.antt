@@ -1,5 +1,5 @@
 -- Each slot belongs to one code of a unit: to itself, or to the group that knows it.
-use Rattle.std.proofs.Common.{inl, inr, ◌≡◌, ℕ, ◌<◌, Bool, true, false, cond, not, ◌||◌, List, [], ◌∷◌, Option, Some, refl, sym, ap, subst, ◌∙◌, eqb, ltb}
+use Rattle.std.proofs.Common.{inl, inr, ◌≡◌, ℕ, ◌<◌, Bool, true, false, cond, not, ◌||◌, List, [], ◌∷◌, Option, Some, refl, sym, ap, subst, ◌∙◌, eqb, ltb, arith}
 use Rattle.std.specs.List.{list_any, list_all}
 use Rattle.std.proofs.lemmas.Bool.{and_parts, or_cases, or_left, or_right, eqb-true, ltb-true, cases_Bool}
 use Rattle.osi_spdu.specs.declared.codes.Code.{Code}
@@ -103,9 +103,7 @@ nothing_once = refl
 
 members_once : (kind : Kind) (g : Code) → list_all (once (λ c d. is_same d c) (members_of kind g)) every_code ≡ true
 unfolding members_of
-members_once kind ConnectionIdentifier = references_once kind
-members_once kind ConnectAcceptItem = items_once
-members_once kind _ = nothing_once
+members_once kind g = grind (arith, references_once, items_once, nothing_once)
 
 pub member_once : (kind : Kind) (g d : Code) → once (λ c e. is_same e c) (members_of kind g) d ≡ true
 member_once kind g d = every_passes (once (λ c e. is_same e c) (members_of kind g)) d (members_once kind g)
@@ -118,13 +116,9 @@ references_apart _ = refl
 -- a group is not in itself
 pub group_apart : (kind : Kind) (g : Code) → among (members_of kind g) g ≡ false
 unfolding members_of number_of
-group_apart kind ConnectionIdentifier = references_apart kind
-group_apart kind ConnectAcceptItem = refl
-group_apart kind _ = refl
+group_apart kind g = grind (arith, references_apart)
 
 -- a parameter that is no group holds none
 pub members_none : (kind : Kind) (c : Code) → is_group c ≡ false → members_of kind c ≡ []
 unfolding is_group members_of
-members_none kind ConnectionIdentifier e = absurd cc
-members_none kind ConnectAcceptItem e = absurd cc
-members_none kind _ e = refl
+members_none kind c h0 = grind arith

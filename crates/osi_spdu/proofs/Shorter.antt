@@ -11,12 +11,7 @@ use Rattle.osi_spdu.specs.Values.{significant, six_digits, digits_of, decimal_fr
 -- ---- a value is written in no more octets than it was read in
 
 one_shorter : (good : ℕ → Bool) (form : ℕ → ℕ) (value v : List ℕ) → octet_if good form value ≡ Some v → length v ≤ length value
-one_shorter good form (b ∷ []) v e = by (good b) e
-  where
-    by : (t : Bool) → cond t (Some (form b ∷ [])) None ≡ Some v → length v ≤ 1
-    by true h = (let same : form b ∷ [] ≡ v = cc in omega (arith, ap length same))
-    by false h = absurd cc
-one_shorter good form _ v e = absurd cc
+one_shorter good form value v h0 = grind arith
 
 kept_shorter : (good : Bool) (value v : List ℕ) → kept_if good value ≡ Some v → length v ≤ length value
 kept_shorter true value v e = (let same : value ≡ v = cc in omega (arith, ap length same))
@@ -119,8 +114,4 @@ canonical_shorter _ value v e = some_shorter value v e
 -- what a unit of some kind takes as the value of a code is one
 pub canonical_from : (kind : Kind) (c : Code) (value v : List ℕ) → canonical_in kind c value ≡ Some v → canonical c value ≡ Some v
 unfolding canonical_in
-canonical_from kind c value v e = by (may_enclose kind c value) e
-  where
-    by : (b : Bool) → cond b (canonical c value) None ≡ Some v → canonical c value ≡ Some v
-    by true h = h
-    by false h = absurd cc
+canonical_from kind c value v h0 = grind arith

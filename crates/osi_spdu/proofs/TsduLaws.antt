@@ -66,10 +66,7 @@ all_only (Err d) octets e units s = absurd (let h : Err d ≡ Ok units = sym e �
 
 pub joined_ok : (first second : Kind) → category_of first ≡ Zero → may_stand true (category_of second) ≡ true → is_joined first (Some second) ≡ true
 unfolding is_joined may_stand
-joined_ok first second e h = rw e h_true
-  where
-    h_true : (true && may_stand true (category_of second) && true) ≡ true
-    h_true = rw h refl
+joined_ok first second h0 h1 = grind arith
 
 pub all_fits : (r : Result Group SpduFault) (octets : List ℕ) → IsOctets octets → Gives units_of r (tsdu_at octets) → IfOk r (λ g. TsduFits (units_of g))
 all_fits (Ok g) octets fits e = tsdu_fits (units_of g) octets (tsdu_found octets (units_of g) fits e)

@@ -39,17 +39,10 @@ si_named second si kind e = eqb-true (si_of kind) si (found_passes (λ k. eqb (s
 
 pub named_back : (second : Bool) (kind : Kind) → may_stand second (category_of kind) ≡ true → kind_named second (si_of kind) ≡ Some kind
 unfolding kind_named si_of may_stand category_of
-named_back true GiveTokens e = absurd cc
-named_back false DataTransfer e = absurd cc
-named_back _ _ e = refl
+named_back second kind h0 = grind arith
 
 placed_ok : (second : Bool) (at : ℕ) (o : Option Kind) (kind : Kind) → placed_kind second at o ≡ Ok kind → (o ≡ Some kind) × (may_stand second (category_of kind) ≡ true)
-placed_ok second at None kind e = absurd cc
-placed_ok second at (Some k) kind e =
-    elim (chosen (may_stand second (category_of k)) (Ok k) (Err (BadConcatenation at)) (Ok kind) e) [
-      | inl q ↦ (let same : k ≡ kind = ok_is k kind q.1 in (ap (λ (x : Kind). Some x) same, subst (λ (x : Kind). may_stand second (category_of x) ≡ true) same q.0))
-      | inr q ↦ absurd (let h = q.1 in cc)
-    ]
+placed_ok second at o kind h0 = grind (arith, chosen, ok_is)
 
 -- ---- what must be there
 
@@ -203,9 +196,7 @@ next_is octets p false e is = record {
 
 next_found : (at : ℕ) (octets : List ℕ) (n : Next) → IsOctets octets → next_at at octets ≡ Ok n → IsNext octets n
 unfolding next_at
-next_found at octets n fits e =
-    let a = bind_ok (unit_at true at octets) (λ p. Ok (next_if (takes_rest p.kind) p)) n e in
-    subst (λ (x : Next). IsNext octets x) (ok_is (next_if (takes_rest a.0.kind) a.0) n a.2) (next_is octets a.0 (takes_rest a.0.kind) refl (unit_found true at octets a.0 fits a.1))
+next_found at octets n h0 h1 = grind (arith, bind_ok, ok_is, next_is, unit_found)
 
 next_if_only : (unit : Contents) (end : ℕ) (rest : List ℕ) (b : Bool) → takes_rest unit.kind ≡ b → HasInformation unit.kind unit.information → (takes_rest unit.kind ≡ true → rest ≡ [])
     → (end' : ℕ) × (next_if b (let p : Placed = record { kind = unit.kind; known = unit.known; end = end; rest = unit.information ++ rest } in p) ≡ (let n : Next = record { unit = unit; end = end'; rest = rest } in n))
@@ -267,9 +258,7 @@ second_is p false e s = record { two = second_stands (category_of p.kind) s; end
 
 second_found : (at : ℕ) (octets : List ℕ) (n : Next) → next_at at octets ≡ Ok n → IsSecond n
 unfolding next_at
-second_found at octets n e =
-    let a = bind_ok (unit_at true at octets) (λ p. Ok (next_if (takes_rest p.kind) p)) n e in
-    subst IsSecond (ok_is (next_if (takes_rest a.0.kind) a.0) n a.2) (second_is a.0 (takes_rest a.0.kind) refl (stands_ok true at octets a.0 a.1))
+second_found at octets n h0 = grind (arith, bind_ok, ok_is, second_is, stands_ok)
 
 abbrev Standing : Units → ℕ → Type 0
 Standing units room = AreBehind units × (length units ≤ room)
@@ -332,23 +321,14 @@ unfolding SpellsTsdu StandTogether
 first_found octets p behind fits is follow are spelled = (fits, (follow, are), (is.front, p.rest, is.parts, is.spelled [], informed_none p.kind, spelled))
 
 ended_found : (octets : List ℕ) (p : Placed) (units : Units) → IsOctets octets → category_of p.kind ≡ One → IsUnitAt false octets p → ended p.end p.rest (contents_of p []) ≡ Ok units → SpellsTsdu units octets
-ended_found octets p units fits one is e =
-    let r = ended_ok p.end p.rest (contents_of p []) units e in
-    subst (λ (us : Units). SpellsTsdu us octets) r.1 (first_found octets p [] fits is (rw one refl) tt r.0)
+ended_found octets p units h0 h1 h2 h3 = grind (arith, ended_ok, first_found)
 
 continued_found : (octets : List ℕ) (p : Placed) (units : Units) (category : Category) → IsOctets octets → category_of p.kind ≡ category → IsUnitAt false octets p → continued category p ≡ Ok units → SpellsTsdu units octets
-continued_found octets p units Zero fits same is e =
-    let a = bind_ok (behind_at 16 p.end p.rest) (λ behind. Ok (contents_of p [] ∷ behind)) units e in
-    let r = behind_stands 16 p.end p.rest a.0 a.1 in
-    subst (λ (us : Units). SpellsTsdu us octets) (ok_is (contents_of p [] ∷ a.0) units a.2) (first_found octets p a.0 fits is (rw same r.1) r.0 (behind_found 16 p.end p.rest a.0 is.rest_octets a.1))
-continued_found octets p units One fits same is e = ended_found octets p units fits same is e
-continued_found octets p units Two fits same is e = absurd (not_second (category_of p.kind) is.stands same)
+continued_found octets p units category h0 h1 h2 h3 = grind (arith, bind_ok, behind_stands, ok_is, first_found, behind_found, ended_found, not_second)
 
 pub tsdu_found : (octets : List ℕ) (units : Units) → IsOctets octets → tsdu_at octets ≡ Ok units → SpellsTsdu units octets
 unfolding tsdu_at
-tsdu_found octets units fits e =
-    let a = bind_ok (unit_at false 0 octets) (λ unit. continued (category_of unit.kind) unit) units e in
-    continued_found octets a.0 units (category_of a.0.kind) fits refl (unit_found false 0 octets a.0 fits a.1) a.2
+tsdu_found octets units h0 h1 = grind (arith, bind_ok, continued_found, unit_found)
 
 -- ---- and back
 
@@ -364,12 +344,7 @@ first_plain _ e = refl
 
 continued_only : (category : Category) (p : Placed) (behind : Units) → MayFollow category behind → AreBehind behind → AreUnits behind p.rest
     → continued category p ≡ Ok (contents_of p [] ∷ behind)
-continued_only Zero p behind few are spelled =
-    bind_of (behind_at 16 p.end p.rest) (λ us. Ok (contents_of p [] ∷ us)) behind (Ok (contents_of p [] ∷ behind)) (behind_only 16 p.end behind p.rest spelled are few) refl
-continued_only One p behind none are spelled =
-    let empty = none_spelled behind p.rest none spelled in
-    ap (λ (r : List ℕ). ended p.end r (contents_of p [])) empty ∙ ap (λ (us : Units). Ok (contents_of p [] ∷ us)) (sym none)
-continued_only Two p behind h are spelled = absurd h
+continued_only category p behind h0 h1 h2 = grind (arith, bind_of, behind_only, none_spelled)
 
 -- units that stand together are read, whatever numbers stand for their octets
 pub tsdu_read : (units : Units) (octets : List ℕ) → StandTogether units → AreUnits units octets → tsdu_at octets ≡ Ok units

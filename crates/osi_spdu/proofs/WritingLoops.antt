@@ -35,8 +35,4 @@ tail_less f (c ∷ codes) (suc i) = (let r = tail_less f codes i in let l = leng
 
 pub putting_end : (f : Code → List ℕ) (codes : List Code) (i : ℕ) (items before : List ℕ) (spare room : ℕ) → length codes ≤ i → IsPutting f codes i items spare before room
     → (items ≡ before ++ flat_map f codes) × (spare + length (flat_map f codes) ≡ room)
-putting_end f codes i items before spare room le so_far =
-    let e = pieces_end f codes i le in
-    let n = ap length e in
-    let s = so_far.left in
-    (sym (append-nil items) ∙ ap (λ (x : List ℕ). items ++ x) (sym e) ∙ so_far.put, omega arith)
+putting_end f codes i items before spare room h0 h1 = grind (arith, pieces_end, append-nil)

@@ -54,14 +54,7 @@ plain_or_last DataTransfer information units h e some = absurd (omega (arith, ap
 plain_or_last _ information units h e some = ap length h
 
 pub counting_start : (units : Units) → TsduFits units → AllByRecursion IsFormedUnit units → AreBehind units → length units ≤ 16 → IsCountingUnits units 0 units
-counting_start units fits formed behind few = record {
-  counted = omega arith;
-  fits = fits;
-  formed = formed;
-  behind = behind;
-  few = few;
-  small = λ h. omega arith;
-}
+counting_start units h0 h1 h2 h3 = grind arith
 
 -- the first of the units that are left fits
 pub record CountsNext (units : Units) (len : ℕ) (unit : Contents) (others all : Units) : Type 0 where

@@ -14,12 +14,14 @@ ghost use Rattle.osi_spdu.specs.Writing.{tsdu_octets, free_len, IsCanonical, IsF
 use crate::groups::Group;
 
 /// What is read is spelled so.
+#[tactic(auto, using(crate::proofs::UnitsLaws::tsdu_found))]
 pub fn found()
     ensures { (units : Units) (octets : List ℕ) → IsOctets octets →
         tsdu_at octets ≡ Ok units → SpellsTsdu units octets }
 {}
 
 /// What is spelled so is read.
+#[tactic(auto, using(crate::proofs::UnitsLaws::tsdu_only))]
 pub fn only()
     ensures { (units : Units) (octets : List ℕ) →
         SpellsTsdu units octets → tsdu_at octets ≡ Ok units }
@@ -40,11 +42,13 @@ pub fn again()
 {}
 
 /// What is spelled somehow has a written form that fits.
+#[tactic(auto, using(crate::proofs::FitsLaws::tsdu_fits))]
 pub fn fits()
     ensures { (units : Units) (octets : List ℕ) → SpellsTsdu units octets → TsduFits units }
 {}
 
 /// A unit whose values of any length have at most 65,000 octets together has a written form that fits.
+#[tactic(auto, using(crate::proofs::MadeLaws::few_fit))]
 pub fn few_octets_fit()
     ensures { (unit : Contents) → IsCanonical unit.known → free_len unit.known ≤ 65000 → UnitFits unit }
 {}
@@ -58,12 +62,14 @@ pub fn has_written_form(group: &Group)
 }
 
 /// A serial number is read from the digits that it is written in.
+#[tactic(auto, using(crate::proofs::Digits::numeral_digits))]
 pub fn serial_digits()
     ensures { (n : ℕ) → n ≤ 999999 → numeral (digits_of n) ≡ Some n }
 {}
 
 /// The fault that reading answers at a unit is the first, and the first is answered. What stands in
 /// front of it is spelled well: the SI, and parameters of distinct codes.
+#[tactic(auto, using(crate::proofs::FirstFault::unit_fault_found, crate::proofs::FirstFault::unit_fault_only))]
 pub fn first_fault_of_a_unit()
     ensures found { (second : Bool) (at : ℕ) (octets : List ℕ) (fault : SpduFault) → IsOctets octets →
         unit_at second at octets ≡ Err fault → IsUnitFault second at octets fault }

@@ -102,6 +102,7 @@ impl Params<'static> {
 
 impl<'a> Params<'a> {
     /// What is known before any parameter is read.
+    #[tactic(auto, using(crate::proofs::ParamsLaws::no_slots))]
     pub(crate) fn none() -> Params<'a>
         ensures { slots_of result ≡ nothing }
     {
