@@ -29,9 +29,9 @@ use Rattle.osi_message.specs.Meanings.{Meaning, CN, AC, RF, DT, GT, PT, MIP, MIA
 use Rattle.osi_message.specs.Numbered.{IsSmall, IsNumbered}
 use Rattle.osi_message.specs.Sendable.{IsAddress, IsAddressed}
 use Rattle.osi_message.specs.Written.{put_some, with_data, terms, numbered, sync_type, unit_with, unit_of, is_second, user_data_of, alone_units, behind_tokens, spelled, connect_unit}
-use Rattle.osi_message.proofs.ReadingLaws.{pairs_again}
+use Rattle.osi_message.proofs.ReadingLaws.{pairs_again, wish_small}
 use Rattle.osi_message.proofs.SendingLaws.{HaveDigits}
-use Rattle.osi_message.proofs.WritingLaws.{octet_kept}
+use Rattle.osi_message.proofs.TokenLaws.{octet_kept}
 
 -- a unit whose free values have few octets has a written form
 abbrev pub HaveRoom : Type 0
@@ -78,11 +78,7 @@ data_there (b ∷ octets) e = cc
 
 with_user_data : (octets : List ℕ) (known : Known) → IsCanonical known → IsCanonical (with_data octets known)
 unfolding number_of
-with_user_data octets known is = record {
-  values = λ c v e. data_values (is_same c UserData) c octets v known refl (is.values c v) e;
-  slots = is.slots;
-  data_there = λ e. data_there octets e;
-}
+with_user_data octets known h0 = grind (arith, data_values, data_there)
 
 -- ---- the values
 
@@ -97,13 +93,7 @@ serial_good digits (Some n) small v e = one_good InitialNumber (digits_of n) (ap
 
 not_three : (w : Wish) → (wish_number w == 3) ≡ false
 not_three Asker = refl
-not_three Answerer = refl
-not_three Choice = refl
-
-wish_small : (w : Wish) → wish_number w ≤ 2
-wish_small Asker = omega arith
-wish_small Answerer = omega arith
-wish_small Choice = omega arith
+not_three _ = refl
 
 setting_good : (s : TokenSetting) → canonical code.TokenSetting (setting_octets s) ≡ Some (setting_octets s)
 unfolding canonical
@@ -118,17 +108,12 @@ setting_good s =
 
 sizes_good : (sizes : TsduMaximumSize) → IsGood code.TsduMaximumSize (option_map size_octets (written_sizes sizes))
 unfolding canonical
-sizes_good sizes = by ((sizes.from_asker == 0) && (sizes.from_answerer == 0))
-  where
-    by : (b : Bool) → IsGood code.TsduMaximumSize (option_map size_octets (if b then None else Some sizes))
-    by true v e = absurd cc
-    by false v e = one_good code.TsduMaximumSize (size_octets sizes) refl v e
+sizes_good sizes = grind (arith, one_good)
 
 resync_good : (kind : ResyncType) → canonical code.ResyncType (resync_octet kind ∷ []) ≡ Some (resync_octet kind ∷ [])
 unfolding canonical
 resync_good Restart = refl
-resync_good Abandon = refl
-resync_good Set = refl
+resync_good _ = refl
 
 token_good : (tokens : Tokens) → canonical TokenItem (token_octet tokens ∷ []) ≡ Some (token_octet tokens ∷ [])
 unfolding canonical
@@ -208,7 +193,6 @@ unfolding unit_of
 unit_good digits (CN version_2 requirements serial wishes calling called sizes octets) small to = connect_good digits requirements serial wishes calling called sizes octets small to.0 to.1
 unit_good digits (AC version_2 requirements serial sides sizes octets) small to = with_user_data octets _ (terms_good digits serial sides requirements sizes small)
 unit_good digits (RF reason octets) small to = refuse_good reason octets
-unit_good digits (DT octets) small to = no_value
 unit_good digits (GT tokens) small to = tokens_good tokens
 unit_good digits (PT tokens octets) small to = with_user_data octets _ (tokens_good tokens)
 unit_good digits (MIP confirm n octets) small to = with_user_data octets _ (sync_good confirm _ (numbered_good digits n small))
@@ -221,7 +205,7 @@ unit_good digits (FN octets) small to = with_user_data octets _ no_value
 unit_good digits (DN octets) small to = with_user_data octets _ no_value
 unit_good digits (NF octets) small to = with_user_data octets _ no_value
 unit_good digits (AB bits octets) small to = with_user_data octets _ (abort_good bits)
-unit_good digits AA small to = no_value
+unit_good digits _ small to = no_value
 
 -- ---- a unit has what it must have, and nothing that it does not know
 
@@ -230,30 +214,10 @@ unfolding is_formed codes_of members_of required_of number_of
 minor_formed true n octets = refl
 minor_formed false n octets = refl
 
-connect_formed : (requirements : ℕ) (serial : Option ℕ) (wishes : TokenSetting) (calling called : Option (List ℕ)) (sizes : TsduMaximumSize) (octets : List ℕ)
-    → is_formed Connect (connect_unit requirements serial wishes calling called sizes octets).known ≡ true
-unfolding is_formed codes_of members_of required_of number_of
-connect_formed requirements serial wishes calling called sizes octets = refl
-
 unit_formed : (m : Meaning) → is_formed (unit_of m).kind (unit_of m).known ≡ true
 unfolding unit_of is_formed codes_of members_of required_of number_of
-unit_formed (CN version_2 requirements serial wishes calling called sizes octets) = refl
-unit_formed (AC version_2 requirements serial sides sizes octets) = refl
-unit_formed (RF reason octets) = refl
-unit_formed (DT octets) = refl
-unit_formed (GT tokens) = refl
-unit_formed (PT tokens octets) = refl
 unit_formed (MIP confirm n octets) = minor_formed confirm n octets
-unit_formed (MIA n octets) = refl
-unit_formed (MAP n octets) = refl
-unit_formed (MAA n octets) = refl
-unit_formed (RS kind n wishes octets) = refl
-unit_formed (RA n sides octets) = refl
-unit_formed (FN octets) = refl
-unit_formed (DN octets) = refl
-unit_formed (NF octets) = refl
-unit_formed (AB bits octets) = refl
-unit_formed AA = refl
+unit_formed _ = refl
 
 unit_informed : (m : Meaning) → HasInformation (unit_of m).kind (unit_of m).information
 unfolding unit_of
@@ -278,18 +242,10 @@ unfolding free_len number_of
 minor_len true n octets = let d = data_len octets in omega arith
 minor_len false n octets = let d = data_len octets in omega arith
 
-connect_len : (requirements : ℕ) (serial : Option ℕ) (wishes : TokenSetting) (calling called : Option (List ℕ)) (sizes : TsduMaximumSize) (octets : List ℕ)
-    → free_len (connect_unit requirements serial wishes calling called sizes octets).known ≤ length octets
-unfolding free_len number_of
-connect_len requirements serial wishes calling called sizes octets = let d = data_len octets in omega arith
-
 unit_len : (m : Meaning) → free_len (unit_of m).known ≤ 1 + length (user_data_of m)
 unfolding unit_of user_data_of free_len number_of
 unit_len (CN version_2 requirements serial wishes calling called sizes octets) = let d = data_len octets in omega arith
 unit_len (AC version_2 requirements serial sides sizes octets) = let d = data_len octets in omega arith
-unit_len (RF reason octets) = omega arith
-unit_len (DT octets) = omega arith
-unit_len (GT tokens) = omega arith
 unit_len (PT tokens octets) = let d = data_len octets in omega arith
 unit_len (MIP confirm n octets) = let d = minor_len confirm n octets in omega arith
 unit_len (MIA n octets) = let d = data_len octets in omega arith
@@ -301,7 +257,7 @@ unit_len (FN octets) = let d = data_len octets in omega arith
 unit_len (DN octets) = let d = data_len octets in omega arith
 unit_len (NF octets) = let d = data_len octets in omega arith
 unit_len (AB bits octets) = let d = data_len octets in omega arith
-unit_len AA = omega arith
+unit_len _ = omega arith
 
 fits : HaveRoom → HaveDigits → (m : Meaning) → IsNumbered m → IsAddressed m → length (user_data_of m) < 65000 → UnitFits (unit_of m)
 fits room digits m small to few = room (unit_of m) (unit_good digits m small to) (let l = unit_len m in omega arith)
@@ -314,25 +270,11 @@ no_tokens_fit room = room (unit_with GiveTokens nothing) no_value (omega arith)
 
 second_place : (m : Meaning) → is_second m ≡ true → category_of (unit_of m).kind ≡ Two
 unfolding is_second unit_of category_of
-second_place (DT octets) s = refl
-second_place (MIP confirm n octets) s = refl
-second_place (MIA n octets) s = refl
-second_place (MAP n octets) s = refl
-second_place (MAA n octets) s = refl
-second_place (RS kind n wishes octets) s = refl
-second_place (RA n sides octets) s = refl
-second_place _ s = absurd cc
+second_place m h0 = grind arith
 
 first_place : (m : Meaning) → is_second m ≡ false → may_stand false (category_of (unit_of m).kind) ≡ true
 unfolding is_second unit_of category_of may_stand
-first_place (DT octets) s = absurd cc
-first_place (MIP confirm n octets) s = absurd cc
-first_place (MIA n octets) s = absurd cc
-first_place (MAP n octets) s = absurd cc
-first_place (MAA n octets) s = absurd cc
-first_place (RS kind n wishes octets) s = absurd cc
-first_place (RA n sides octets) s = absurd cc
-first_place _ s = refl
+first_place m h0 = grind arith
 
 ends_none : (kind : Kind) → EndsTsdu kind []
 ends_none DataTransfer = refl
@@ -340,9 +282,7 @@ ends_none _ = tt
 
 follows_none : (category : Category) → may_stand false category ≡ true → MayFollow category []
 unfolding may_stand
-follows_none Zero e = omega arith
-follows_none One e = refl
-follows_none Two e = absurd cc
+follows_none category h0 = grind arith
 
 pub behind_formed : (unit : Contents) → category_of unit.kind ≡ Two → IsFormedUnit unit → IsFormedTsdu (behind_tokens unit)
 unfolding StandTogether category_of

@@ -33,7 +33,8 @@ use Rattle.osi_message.specs.Sendable.{IsSendable}
 use Rattle.osi_message.specs.Written.{put_some, with_data, terms, numbered, sync_type, unit_with, unit_of, is_second, alone_units, behind_tokens, spelled, written}
 use Rattle.osi_message.proofs.FittingLaws.{HaveRoom, spelled_fits}
 use Rattle.osi_message.proofs.SendingLaws.{HaveDigits}
-use Rattle.osi_message.proofs.WritingLaws.{octet_kept}
+use Rattle.osi_message.proofs.TokenLaws.{octet_kept}
+use Rattle.osi_message.proofs.ReadingLaws.{wish_small}
 
 -- ---- an item
 
@@ -141,10 +142,7 @@ unfolding AreKnown
 one_known slot value known h is c v e = known_by (is_same c slot) (Some value) (known c) v h (is c v) e
 
 data_by : (b : Bool) (o : Option (List ℕ)) (v : List ℕ) → (o ≡ Some v → IsOctets v) → cond b (some_octets o) o ≡ Some v → IsOctets v
-data_by true None v is e = absurd cc
-data_by true (Some []) v is e = absurd cc
-data_by true (Some (x ∷ octets)) v is e = is e
-data_by false o v is e = is e
+data_by b o v h0 h1 = grind arith
 
 data_known : (octets : List ℕ) (known : Known) → IsOctets octets → AreKnown known → AreKnown (with_data octets known)
 unfolding AreKnown
@@ -162,9 +160,8 @@ either false xs ys h k = k
 
 significant_are : (digits : List ℕ) → IsOctets digits → IsOctets (significant digits)
 unfolding significant
-significant_are [] h = h
-significant_are (d ∷ []) h = h
 significant_are (d ∷ e ∷ digits) h = either (d == 48) (significant (e ∷ digits)) (d ∷ e ∷ digits) (significant_are (e ∷ digits) (λ i. h (suc i))) h
+significant_are _ h = h
 
 digit_small : (n : ℕ) → n % 10 + 48 < 256
 digit_small n = omega arith
@@ -187,18 +184,7 @@ serial_is None = tt
 serial_is (Some n) = digits_are n
 
 sizes_are : (sizes : TsduMaximumSize) → sizes.from_asker < 65536 → sizes.from_answerer < 65536 → IfSome (option_map size_octets (written_sizes sizes)) IsOctets
-sizes_are sizes asker answerer = by ((sizes.from_asker == 0) && (sizes.from_answerer == 0))
-  where
-    by : (b : Bool) → IfSome (option_map size_octets (if b then None else Some sizes)) IsOctets
-    by true = tt
-    by false =
-        octets_cons (sizes.from_asker / 256) (sizes.from_asker % 256 ∷ two_octets sizes.from_answerer) (omega arith)
-        (octets_cons (sizes.from_asker % 256) (two_octets sizes.from_answerer) (omega arith) (two_are sizes.from_answerer answerer))
-
-wish_small : (w : Wish) → wish_number w ≤ 2
-wish_small Asker = omega arith
-wish_small Answerer = omega arith
-wish_small Choice = omega arith
+sizes_are sizes h0 h1 = grind (arith, octets_cons, two_are)
 
 setting_is : (s : TokenSetting) → IsOctets (setting_octets s)
 setting_is s =
@@ -209,9 +195,7 @@ setting_is s =
     octet_is _ (omega arith)
 
 resync_is : (kind : ResyncType) → IsOctets (resync_octet kind ∷ [])
-resync_is Restart = octet_is 0 (omega arith)
-resync_is Abandon = octet_is 1 (omega arith)
-resync_is Set = octet_is 2 (omega arith)
+resync_is kind = grind (arith, octet_is)
 
 numbered_known : (n : ℕ) → AreKnown (numbered n)
 numbered_known n = one_known Number (digits_of n) nothing (digits_are n) none_known
@@ -255,7 +239,6 @@ unit_known (CN version_2 requirements serial wishes calling called sizes octets)
 unit_known (AC version_2 requirements serial sides sizes octets) h = data_known octets _ h.3 (terms_known serial sides requirements sizes h.0 h.1 h.2)
 unit_known (RF reason octets) h =
     one_known TransportDisconnect (1 ∷ []) _ (octet_is 1 (omega arith)) (one_known Reason (reason ∷ octets) nothing (octets_cons reason octets h.0 h.1) none_known)
-unit_known (DT octets) h = none_known
 unit_known (GT tokens) h = tokens_known tokens
 unit_known (PT tokens octets) h = data_known octets _ h (tokens_known tokens)
 unit_known (MIP confirm n octets) h = data_known octets _ h (sync_known confirm _ (numbered_known n))
@@ -269,7 +252,7 @@ unit_known (FN octets) h = data_known octets _ h none_known
 unit_known (DN octets) h = data_known octets _ h none_known
 unit_known (NF octets) h = data_known octets _ h none_known
 unit_known (AB bits octets) h = data_known octets _ h.1 (leave_known bits nothing h.0 none_known)
-unit_known AA h = none_known
+unit_known _ h = none_known
 
 unit_information : (m : Meaning) → IsInOctets m → IsOctets (unit_of m).information
 unfolding unit_of

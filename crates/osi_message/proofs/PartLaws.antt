@@ -28,8 +28,7 @@ part_unit place octets = record { kind = DataTransfer; known = put Enclosure (en
 enclosure_good : (place : Place) → canonical Enclosure (enclosure_of place ∷ []) ≡ Some (enclosure_of place ∷ [])
 unfolding canonical
 enclosure_good First = refl
-enclosure_good Middle = refl
-enclosure_good Last = refl
+enclosure_good _ = refl
 
 part_good : (place : Place) → IsCanonical (put Enclosure (enclosure_of place ∷ []) nothing)
 unfolding number_of
@@ -56,8 +55,7 @@ part_written place octets = ap (part_octets place) (append-nil octets)
 part_says : (place : Place) (octets : List ℕ) → word (part_unit place octets) ≡ part place octets
 unfolding word number_of
 part_says First octets = refl
-part_says Middle octets = refl
-part_says Last octets = refl
+part_says _ octets = refl
 
 tokens_say : word (unit_with GiveTokens nothing) ≡ says (GT no_token)
 unfolding word meaning

@@ -99,10 +99,6 @@ parting_goes_on size all rest piece behind old new some long f r t h =
     (append_assoc old (part_octets Middle (take size rest) ∷ []) (octets_of (rest_parts size (drop size rest)))
     ∙ ap (λ (w : Words). old ++ octets_of w) (sym (rest_step size rest some long)) ∙ h)))
 
-pub parting_ends : (size : ℕ) (all rest : List ℕ) (tsdus : List (List ℕ)) → length rest ≤ size → IsParting size all rest tsdus
-    → tsdus ++ part_octets Last rest ∷ [] ≡ octets_of (parts_of (all_pieces size all))
-parting_ends size all rest tsdus short h = ap (λ (w : Words). tsdus ++ octets_of w) (sym (rest_end size rest short)) ∙ h
-
 -- what has something put behind it is not empty
 pub some_put : {A : Type 0} (f : A → List ℕ) (new : List A) (old : List (List ℕ)) (tsdu : List ℕ) → map f new ≡ old ++ tsdu ∷ [] → 0 < length new
 some_put f [] old tsdu e = let n = ap length e in let m = length-append old (tsdu ∷ []) in absurd (omega arith)

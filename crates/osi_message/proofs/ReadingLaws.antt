@@ -26,13 +26,11 @@ named_again t =
 
 wish_again : (w : Wish) → wish_named (wish_number w) ≡ w
 wish_again Asker = refl
-wish_again Answerer = refl
-wish_again Choice = refl
+wish_again _ = refl
 
-wish_small : (w : Wish) → wish_number w ≤ 2
+pub wish_small : (w : Wish) → wish_number w ≤ 2
 wish_small Asker = omega arith
-wish_small Answerer = omega arith
-wish_small Choice = omega arith
+wish_small _ = omega arith
 
 -- four pairs of bits are read as the wishes that they stand for
 pub pairs_again : (a b c d : ℕ) → a ≤ 2 → b ≤ 2 → c ≤ 2 → d ≤ 2 →
@@ -59,12 +57,4 @@ sizes_again s =
 
 -- where nothing is written, both are 0
 pub written_again : (s : TsduMaximumSize) → sizes_in (option_map size_octets (written_sizes s)) ≡ s
-written_again s = by ((s.from_asker == 0) && (s.from_answerer == 0)) refl
-  where
-    by : (b : Bool) → ((s.from_asker == 0) && (s.from_answerer == 0)) ≡ b → sizes_in (option_map size_octets (if b then None else Some s)) ≡ s
-    by true e =
-        let p = and_parts (s.from_asker == 0) (s.from_answerer == 0) e in
-        let a = sym (eqb-true s.from_asker 0 p.0) in
-        let b = sym (eqb-true s.from_answerer 0 p.1) in
-        λ i. record { from_asker = a i; from_answerer = b i }
-    by false e = sizes_again s
+written_again s = grind (arith, and_parts, eqb-true, sizes_again)

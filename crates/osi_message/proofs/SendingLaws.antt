@@ -38,8 +38,7 @@ number_again digits n small = ap (λ (o : Option ℕ). unwrap_or o 0) (digits n 
 
 resync_again : (kind : ResyncType) → resync_named (resync_octet kind) ≡ kind
 resync_again Restart = refl
-resync_again Abandon = refl
-resync_again Set = refl
+resync_again _ = refl
 
 -- a CN with its selectors
 connect_again : HaveDigits → (requirements : ℕ) (serial : Option ℕ) (wishes : TokenSetting) (calling called : Option (List ℕ)) (sizes : TsduMaximumSize) (octets : List ℕ)
@@ -64,8 +63,6 @@ meaning_again digits (AC version_2 requirements serial sides sizes octets) v sma
     let r = two_again requirements in let n = serial_again digits serial small in
     let w = setting_again sides in let z = written_again sizes in let d = data_again octets in let t = sym v in
     λ i. AC (t i) (r i) (n i) (w i) (z i) (d i)
-meaning_again digits (RF reason octets) v small = refl
-meaning_again digits (DT octets) v small = refl
 meaning_again digits (GT tokens) v small = ap GT (named_octet tokens)
 meaning_again digits (PT tokens octets) v small = let t = named_octet tokens in let d = data_again octets in λ i. PT (t i) (d i)
 meaning_again digits (MIP confirm n octets) v small = minor_again digits confirm n octets small
@@ -82,7 +79,7 @@ meaning_again digits (FN octets) v small = ap FN (data_again octets)
 meaning_again digits (DN octets) v small = ap DN (data_again octets)
 meaning_again digits (NF octets) v small = ap NF (data_again octets)
 meaning_again digits (AB bits octets) v small = ap (AB bits) (data_again octets)
-meaning_again digits AA v small = refl
+meaning_again digits _ v small = refl
 
 said_with_place : (b : Bool) (m : Meaning) → meaning (unit_of m) ≡ m
     → word (unit_of m) ≡ says (meaning (unit_of m))
@@ -95,22 +92,7 @@ said_with_place false m e w = ap (λ (u : Word). u ∷ []) (w ∙ ap says e)
 says_it : (m : Meaning) → word (unit_of m) ≡ says (meaning (unit_of m))
 unfolding word unit_of
 says_it (CN version_2 requirements serial wishes calling called sizes octets) = refl
-says_it (AC version_2 requirements serial sides sizes octets) = refl
-says_it (RF reason octets) = refl
-says_it (DT octets) = refl
-says_it (GT tokens) = refl
-says_it (PT tokens octets) = refl
-says_it (MIP confirm n octets) = refl
-says_it (MIA n octets) = refl
-says_it (MAP n octets) = refl
-says_it (MAA n octets) = refl
-says_it (RS kind n wishes octets) = refl
-says_it (RA n sides octets) = refl
-says_it (FN octets) = refl
-says_it (DN octets) = refl
-says_it (NF octets) = refl
-says_it (AB bits octets) = refl
-says_it AA = refl
+says_it _ = refl
 
 -- what is said by the units of a meaning
 pub said_again : HaveDigits → (m : Meaning) → is_of_version_2 m ≡ true → IsNumbered m → said_by_units (spelled m) ≡ words_of m

@@ -104,9 +104,8 @@ flat (x ∷ xs) = x ++ flat xs
 
 later_joined : (os : List (List ℕ)) → joined (later_parts os) ≡ flat os
 unfolding flat
-later_joined [] = refl
-later_joined (x ∷ []) = refl
 later_joined (x ∷ y ∷ os) = ap (λ r. x ++ r) (later_joined (y ∷ os))
+later_joined _ = refl
 
 parts_joined : (os : List (List ℕ)) → joined (parts_of os) ≡ flat os
 unfolding flat

@@ -1,5 +1,5 @@
 -- The parameters that a unit is made with are those of its meaning.
-use Rattle.std.proofs.Common.{◌≡◌, ◌∙◌, ap, ℕ, ◌+◌, Bool, true, false, List, [], ◌∷◌, Option, Some, None, refl, option_map}
+use Rattle.std.proofs.Common.{◌≡◌, ◌∙◌, ap, ℕ, ◌+◌, Bool, true, false, List, [], ◌∷◌, Option, Some, None, refl, option_map, arith}
 use Rattle.std.specs.Borrow.{Bor}
 use Rattle.std.specs.Int.RustNames.{bit_and}
 use Rattle.osi_spdu.specs.declared.codes.Code.{Code}
@@ -21,7 +21,8 @@ use Rattle.osi_spdu.specs.Sizes.{written_sizes}
 use Rattle.osi_spdu.specs.Known.{nothing, put}
 use Rattle.osi_spdu.specs.Params.{place_of, cells_of, slots_of, known_of, no_params}
 use Rattle.osi_message.specs.declared.tokens.Tokens.{Tokens}
-use Rattle.osi_message.specs.Tokens.{data_token, minor, major, release, bit_if, token_octet}
+use Rattle.osi_message.specs.Tokens.{token_octet}
+use Rattle.osi_message.proofs.TokenLaws.{octet_kept}
 use Rattle.osi_message.specs.Written.{put_some, with_data, terms, numbered}
 
 same_serial : (serial : Option Serial) → option_map (λ s. digits_of s.number) serial ≡ option_map digits_of (option_map (λ s. s.number) serial)
@@ -37,132 +38,61 @@ selector_octets selector = option_map (λ s. s.octets.now) selector
 pub connect_known : (serial : Option Serial) (setting : TokenSetting) (requirements : Requirements) (calling called : Option Selector) (sizes : TsduMaximumSize) (octets : Bor (List ℕ)) →
     known_of (record no_params { connect_accept_item = true; protocol_options = Some 1; version = Some 2; initial_number = serial; token_setting = Some setting; user_requirements = Some requirements; tsdu_maximum_size = written_sizes sizes; calling_selector = calling; called_selector = called; user_data = Some octets }) ≡ with_data octets.now (put_some CallingSelector (selector_octets calling) (put_some CalledSelector (selector_octets called) (terms (serial_number serial) setting (unit_bits requirements) sizes)))
 unfolding known_of slots_of cells_of place_of number_of
-connect_known serial setting requirements calling called sizes octets = λ i c. same c i
-  where
-    same : (c : Code) → known_of (record no_params { connect_accept_item = true; protocol_options = Some 1; version = Some 2; initial_number = serial; token_setting = Some setting; user_requirements = Some requirements; tsdu_maximum_size = written_sizes sizes; calling_selector = calling; called_selector = called; user_data = Some octets }) c ≡ (with_data octets.now (put_some CallingSelector (selector_octets calling) (put_some CalledSelector (selector_octets called) (terms (serial_number serial) setting (unit_bits requirements) sizes)))) c
-    same InitialNumber = same_serial serial
-    same _ = refl
+connect_known serial setting requirements calling called sizes octets = grind (arith, same_serial)
 
 pub accept_known : (serial : Option Serial) (setting : TokenSetting) (requirements : Requirements) (sizes : TsduMaximumSize) (octets : Bor (List ℕ)) →
     known_of (record no_params { connect_accept_item = true; protocol_options = Some 1; version = Some 2; initial_number = serial; token_setting = Some setting; user_requirements = Some requirements; tsdu_maximum_size = written_sizes sizes; user_data = Some octets }) ≡ with_data octets.now (terms (serial_number serial) setting (unit_bits requirements) sizes)
 unfolding known_of slots_of cells_of place_of number_of
-accept_known serial setting requirements sizes octets = λ i c. same c i
-  where
-    same : (c : Code) → known_of (record no_params { connect_accept_item = true; protocol_options = Some 1; version = Some 2; initial_number = serial; token_setting = Some setting; user_requirements = Some requirements; tsdu_maximum_size = written_sizes sizes; user_data = Some octets }) c ≡ (with_data octets.now (terms (serial_number serial) setting (unit_bits requirements) sizes)) c
-    same InitialNumber = same_serial serial
-    same _ = refl
+accept_known serial setting requirements sizes octets = grind (arith, same_serial)
 
 pub refuse_known : (why : Reason) →
     known_of (record no_params { transport_disconnect = Some 1; reason = Some why }) ≡ put TransportDisconnect (1 ∷ []) (put code.Reason (why.code ∷ why.data_octets.now) nothing)
 unfolding known_of slots_of cells_of place_of number_of
-refuse_known why = λ i c. same c i
-  where
-    same : (c : Code) → known_of (record no_params { transport_disconnect = Some 1; reason = Some why }) c ≡ (put TransportDisconnect (1 ∷ []) (put code.Reason (why.code ∷ why.data_octets.now) nothing)) c
-    same UserData = refl
-    same _ = refl
+refuse_known why = grind arith
 
 pub data_known : (octets : Bor (List ℕ)) →
     known_of (record no_params { user_data = Some octets }) ≡ with_data octets.now nothing
 unfolding known_of slots_of cells_of place_of number_of
-data_known octets = λ i c. same c i
-  where
-    same : (c : Code) → known_of (record no_params { user_data = Some octets }) c ≡ (with_data octets.now nothing) c
-    same UserData = refl
-    same _ = refl
+data_known octets = grind arith
 
 pub abort_known : (bits : ℕ) (octets : Bor (List ℕ)) →
     known_of (record no_params { transport_disconnect = Some bits; user_data = Some octets }) ≡ with_data octets.now (put TransportDisconnect (bits ∷ []) nothing)
 unfolding known_of slots_of cells_of place_of number_of
-abort_known bits octets = λ i c. same c i
-  where
-    same : (c : Code) → known_of (record no_params { transport_disconnect = Some bits; user_data = Some octets }) c ≡ (with_data octets.now (put TransportDisconnect (bits ∷ []) nothing)) c
-    same UserData = refl
-    same _ = refl
+abort_known bits octets = grind arith
 
 pub please_known : (tokens : TokenSet) (octets : Bor (List ℕ)) →
     known_of (record no_params { token_item = Some tokens; user_data = Some octets }) ≡ with_data octets.now (put TokenItem (bit_and (bits_of tokens) 85 ∷ []) nothing)
 unfolding known_of slots_of cells_of place_of number_of
-please_known tokens octets = λ i c. same c i
-  where
-    same : (c : Code) → known_of (record no_params { token_item = Some tokens; user_data = Some octets }) c ≡ (with_data octets.now (put TokenItem (bit_and (bits_of tokens) 85 ∷ []) nothing)) c
-    same UserData = refl
-    same _ = refl
+please_known tokens octets = grind arith
 
 pub give_known : (tokens : TokenSet) →
     known_of (record no_params { token_item = Some tokens }) ≡ put TokenItem (bit_and (bits_of tokens) 85 ∷ []) nothing
 unfolding known_of slots_of cells_of place_of number_of
-give_known tokens = λ i c. same c i
-  where
-    same : (c : Code) → known_of (record no_params { token_item = Some tokens }) c ≡ (put TokenItem (bit_and (bits_of tokens) 85 ∷ []) nothing) c
-    same UserData = refl
-    same _ = refl
+give_known tokens = grind arith
 
 pub none_known : known_of no_params ≡ nothing
 unfolding known_of slots_of cells_of place_of number_of
-none_known = λ i c. same c i
-  where
-    same : (c : Code) → known_of no_params c ≡ None
-    same UserData = refl
-    same _ = refl
+none_known = grind arith
 
 pub number_known : (n : Serial) (octets : Bor (List ℕ)) →
     known_of (record no_params { number = Some n; user_data = Some octets }) ≡ with_data octets.now (numbered n.number)
 unfolding known_of slots_of cells_of place_of number_of
-number_known n octets = λ i c. same c i
-  where
-    same : (c : Code) → known_of (record no_params { number = Some n; user_data = Some octets }) c ≡ (with_data octets.now (numbered n.number)) c
-    same UserData = refl
-    same _ = refl
+number_known n octets = grind arith
 
 pub open_known : (n : Serial) (octets : Bor (List ℕ)) →
     known_of (record no_params { sync_type = Some Open; number = Some n; user_data = Some octets }) ≡ with_data octets.now (put SyncType (1 ∷ []) (numbered n.number))
 unfolding known_of slots_of cells_of place_of number_of
-open_known n octets = λ i c. same c i
-  where
-    same : (c : Code) → known_of (record no_params { sync_type = Some Open; number = Some n; user_data = Some octets }) c ≡ (with_data octets.now (put SyncType (1 ∷ []) (numbered n.number))) c
-    same UserData = refl
-    same _ = refl
+open_known n octets = grind arith
 
 pub restart_known : (setting : TokenSetting) (kind : ResyncType) (n : Serial) (octets : Bor (List ℕ)) →
     known_of (record no_params { token_setting = Some setting; resync_type = Some kind; number = Some n; user_data = Some octets }) ≡ with_data octets.now (put code.TokenSetting (setting_octets setting) (put code.ResyncType (resync_octet kind ∷ []) (numbered n.number)))
 unfolding known_of slots_of cells_of place_of number_of
-restart_known setting kind n octets = λ i c. same c i
-  where
-    same : (c : Code) → known_of (record no_params { token_setting = Some setting; resync_type = Some kind; number = Some n; user_data = Some octets }) c ≡ (with_data octets.now (put code.TokenSetting (setting_octets setting) (put code.ResyncType (resync_octet kind ∷ []) (numbered n.number)))) c
-    same UserData = refl
-    same _ = refl
+restart_known setting kind n octets = grind arith
 
 pub restart_ack_known : (setting : TokenSetting) (n : Serial) (octets : Bor (List ℕ)) →
     known_of (record no_params { token_setting = Some setting; number = Some n; user_data = Some octets }) ≡ with_data octets.now (put code.TokenSetting (setting_octets setting) (numbered n.number))
 unfolding known_of slots_of cells_of place_of number_of
-restart_ack_known setting n octets = λ i c. same c i
-  where
-    same : (c : Code) → known_of (record no_params { token_setting = Some setting; number = Some n; user_data = Some octets }) c ≡ (with_data octets.now (put code.TokenSetting (setting_octets setting) (numbered n.number))) c
-    same UserData = refl
-    same _ = refl
-
--- a token octet has no bit that names no token
-bits_kept : (a b c d : Bool) → let n : ℕ = bit_if a data_token + bit_if b minor + bit_if c major + bit_if d release in bit_and n 85 ≡ n
-bits_kept true true true true = refl
-bits_kept true true true false = refl
-bits_kept true true false true = refl
-bits_kept true true false false = refl
-bits_kept true false true true = refl
-bits_kept true false true false = refl
-bits_kept true false false true = refl
-bits_kept true false false false = refl
-bits_kept false true true true = refl
-bits_kept false true true false = refl
-bits_kept false true false true = refl
-bits_kept false true false false = refl
-bits_kept false false true true = refl
-bits_kept false false true false = refl
-bits_kept false false false true = refl
-bits_kept false false false false = refl
-
-pub octet_kept : (t : Tokens) → bit_and (token_octet t) 85 ≡ token_octet t
-unfolding token_octet
-octet_kept t = bits_kept t.data_token t.minor t.major t.release
+restart_ack_known setting n octets = grind arith
 
 -- a set of tokens that has their octet is written so
 pub set_kept : (set : TokenSet) (t : Tokens) → (bits_of set) ≡ token_octet t → bit_and (bits_of set) 85 ≡ token_octet t

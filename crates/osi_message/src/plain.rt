@@ -63,21 +63,6 @@ fn digit(number: u32) -> u8
     (number % 10) as u8 + 48
 }
 
-/// The octets of a TSDU with a DT.
-#[inline(always)]
-#[tactic(auto, using(crate::proofs::PlainLaws::data_written))]
-pub(crate) fn data(alloc: Global, user_data: &[u8]) -> Result<Vec<u8>, AllocError>
-    ensures { IfOk result (λ v. v.items ≡ written (DT user_data.now)) }
-{
-    let mut octets = Vec::with_capacity(alloc, 4 + user_data.len())?;
-    octets.push_reserved(0x01);
-    octets.push_reserved(0x00);
-    octets.push_reserved(0x01);
-    octets.push_reserved(0x00);
-    octets.extend_from_slice(user_data)?;
-    Ok(octets)
-}
-
 /// The octets of a TSDU with a unit of this SI and this number.
 #[tactic(auto, using(crate::proofs::PlainLaws::digits_1, crate::proofs::PlainLaws::digits_2, crate::proofs::PlainLaws::digits_3, crate::proofs::PlainLaws::digits_4, crate::proofs::PlainLaws::digits_5, crate::proofs::PlainLaws::digits_6))]
 fn point(alloc: Global, si: u8, number: Serial) -> Result<Vec<u8>, AllocError>
@@ -195,24 +180,6 @@ fn number_of(tsdu: &[u8], si: u8) -> Option<Serial>
     Some(serial)
 }
 
-/// The user data of a DT, behind a GT that names no token.
-#[tactic(auto, using(crate::proofs::PlainLaws::data_parts))]
-fn data_of(tsdu: &[u8]) -> Option<&[u8]>
-    ensures { IfSome result (λ d. tsdu.now ≡ data_octets d.now) }
-{
-    if tsdu.len() < 4 {
-        return None;
-    }
-    let (head, user_data) = tsdu.split_at(4);
-    let [gt, empty, unit, none] = head else {
-        return None;
-    };
-    if *gt != 1 || *empty != 0 || *unit != 1 || *none != 0 {
-        return None;
-    }
-    Some(user_data)
-}
-
 /// Which part these octets stand in front of.
 fn place_in_front(head: &[u8]) -> Option<Place>
     ensures { IfSome result (λ p. head.now ≡ part_head p) }
@@ -250,7 +217,7 @@ fn plain_unit(tsdu: &[u8]) -> Option<PlainUnit<'_>>
     }
     match tsdu[2] {
         1 => {
-            let Some(user_data) = data_of(tsdu) else {
+            let Some(user_data) = PlainUnit::data(tsdu) else {
                 return part_of(tsdu);
             };
             Some(PlainUnit::Data { user_data })
@@ -280,14 +247,25 @@ impl<'a> PlainUnit<'a> {
         Some(unit)
     }
 
-    /// The user data of whole data, where the octets of a TSDU are its written form: what
-    /// [`PlainUnit::read`] finds there.
+    /// The user data of whole data, where the octets of a TSDU are its written form, behind a GT that
+    /// names no token: what [`PlainUnit::read`] finds there.
     #[inline(always)]
+    #[tactic(auto, using(crate::proofs::PlainLaws::data_parts))]
     pub fn data(tsdu: &'a [u8]) -> Option<&'a [u8]>
-        ensures { IfSome result (λ d. said_at tsdu.now ≡ Ok (says (GT no_token) ∷ says (DT d.now) ∷ [])) }
+        ensures written { IfSome result (λ d. tsdu.now ≡ data_octets d.now) }
+        ensures said { IfSome result (λ d. said_at tsdu.now ≡ Ok (says (GT no_token) ∷ says (DT d.now) ∷ [])) }
     {
         laws::what_is_sent_is_read();
-        let user_data = data_of(tsdu)?;
+        if tsdu.len() < 4 {
+            return None;
+        }
+        let (head, user_data) = tsdu.split_at(4);
+        let [gt, empty, unit, none] = head else {
+            return None;
+        };
+        if *gt != 1 || *empty != 0 || *unit != 1 || *none != 0 {
+            return None;
+        }
         Some(user_data)
     }
 

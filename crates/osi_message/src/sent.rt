@@ -106,10 +106,7 @@ impl Sent {
         ensures { IfOk result (λ s. s ≡ in_one (meant_by message.now)) }
     {
         match *message {
-            Message::Data { user_data } => {
-                let octets = plain::data(alloc, user_data)?;
-                Ok(Sent::one(octets))
-            }
+            Message::Data { user_data } => Sent::whole(alloc, user_data),
             Message::MinorPoint {
                 confirm: true,
                 number,
@@ -136,36 +133,36 @@ impl Sent {
         limit == 0 || 4 + user_data.len() <= limit as usize
     }
 
+    /// Data, in one TSDU: written straight into a buffer of its length, behind a GT that names no token.
+    #[inline(always)]
+    #[tactic(auto, using(crate::proofs::PlainLaws::data_written))]
+    pub fn whole(alloc: Global, user_data: &[u8]) -> Result<Sent, AllocError>
+        ensures { IfOk result (λ s. s ≡ in_one (DT user_data.now)) }
+    {
+        let mut octets = Vec::with_capacity(alloc, 4 + user_data.len())?;
+        octets.push_reserved(0x01);
+        octets.push_reserved(0x00);
+        octets.push_reserved(0x01);
+        octets.push_reserved(0x00);
+        octets.extend_from_slice(user_data)?;
+        Ok(Sent {
+            tsdus: Tsdus::One(octets),
+        })
+    }
+
     /// Data (X.225 section 6.3.5, segmenting), where a TSDU has at most so many octets, 0 for no limit:
     /// whole where its TSDU is within the limit, else in parts, of which all but the last are as long
     /// as the limit. All of them are written, or none.
-    #[inline(always)]
     #[tactic(auto, using(crate::proofs::SentLaws::sent_whole))]
     pub fn data(alloc: Global, limit: u16, user_data: &[u8]) -> Result<Sent, AllocError>
         requires { is_size limit ≡ true }
         ensures { IfOk result (λ s. s ≡ tsdus_of limit (DT user_data.now)) }
     {
-        if limit != 0 {
-            return Sent::within_limit(alloc, limit, user_data);
+        if !Sent::is_whole(limit, user_data) {
+            return Sent::in_parts(alloc, limit, user_data);
         }
-        let octets = plain::data(alloc, user_data)?;
-        Ok(Sent::one(octets))
-    }
-
-    /// The same where there is a limit. It stands out of line, so that data without one is written where
-    /// it is called for.
-    #[cold]
-    #[inline(never)]
-    #[tactic(auto, using(crate::proofs::SentLaws::sent_whole))]
-    fn within_limit(alloc: Global, limit: u16, user_data: &[u8]) -> Result<Sent, AllocError>
-        requires { is_size limit ≡ true }
-        ensures { IfOk result (λ s. s ≡ tsdus_of limit (DT user_data.now)) }
-    {
-        if Sent::is_whole(limit, user_data) {
-            let octets = plain::data(alloc, user_data)?;
-            return Ok(Sent::one(octets));
-        }
-        Sent::in_parts(alloc, limit, user_data)
+        let sent = Sent::whole(alloc, user_data)?;
+        Ok(sent)
     }
 
     /// Data that is longer than the limit, in parts. It stands out of line: else the room for them would

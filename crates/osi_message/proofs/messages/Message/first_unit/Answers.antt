@@ -26,13 +26,7 @@ unreachable-requires c = by c.args.self refl
     by (message.NotFinished o) e = c.in_default.not-NotFinished o e
     by (message.Abort b o) e = c.in_default.not-Abort b o e
     by message.AbortAccept e = c.in_default.not-AbortAccept e
-    by (message.Data o) e = (let h = not_so (message.Data o) e in cc)
-    by (message.MinorPoint a n o) e = (let h = not_so (message.MinorPoint a n o) e in cc)
-    by (message.MinorAck n o) e = (let h = not_so (message.MinorAck n o) e in cc)
-    by (message.MajorPoint n o) e = (let h = not_so (message.MajorPoint n o) e in cc)
-    by (message.MajorAck n o) e = (let h = not_so (message.MajorAck n o) e in cc)
-    by (message.Restart k n w o) e = (let h = not_so (message.Restart k n w o) e in cc)
-    by (message.RestartAck n s o) e = (let h = not_so (message.RestartAck n s o) e in cc)
+    by m e = (let h = not_so m e in cc)
 
 pub returns-clause-units : goal.returns-clause-units
 unfolding unit_of

@@ -22,16 +22,7 @@ unreachable-requires c = by c.args.self refl
     by (message.MajorAck n o) e = c.in_default.not-MajorAck n o e
     by (message.Restart k n w o) e = c.in_default.not-Restart k n w o e
     by (message.RestartAck n s o) e = c.in_default.not-RestartAck n s o e
-    by (message.Connect v r s w a b z o) e = (let h = not_so (message.Connect v r s w a b z o) e in cc)
-    by (message.Accept v r s w z o) e = (let h = not_so (message.Accept v r s w z o) e in cc)
-    by (message.Refuse r o) e = (let h = not_so (message.Refuse r o) e in cc)
-    by (message.Give t) e = (let h = not_so (message.Give t) e in cc)
-    by (message.Please t o) e = (let h = not_so (message.Please t o) e in cc)
-    by (message.Finish o) e = (let h = not_so (message.Finish o) e in cc)
-    by (message.Disconnect o) e = (let h = not_so (message.Disconnect o) e in cc)
-    by (message.NotFinished o) e = (let h = not_so (message.NotFinished o) e in cc)
-    by (message.Abort b o) e = (let h = not_so (message.Abort b o) e in cc)
-    by message.AbortAccept e = (let h = not_so message.AbortAccept e in cc)
+    by m e = (let h = not_so m e in cc)
 
 pub returns-in-Data-clause-units : goal.returns-in-Data-clause-units
 unfolding unit_of

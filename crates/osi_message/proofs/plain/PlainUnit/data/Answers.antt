@@ -1,5 +1,10 @@
-use Rattle.osi_message.proofs.PlainLaws.{data_said}
+use Rattle.std.proofs.Common.{◌≡◌, arith}
+use Rattle.std.proofs.lemmas.Grind.{common_steps}
+use Rattle.osi_message.specs.Plain.{data_octets}
+use Rattle.osi_message.proofs.PlainLaws.{data_parts, data_said}
 use Rattle.osi_message.proofs.plain.PlainUnit.data.Goals as goal
 
-pub returns : goal.returns
-returns c = data_said c.what_is_sent_is_read.ensures.read c.what_is_sent_is_read.ensures.said c.in_ok-user_data.user_data.now c.args.tsdu.now c.in_ok-user_data.ensures
+pub returns-clause-said : goal.returns-clause-said
+returns-clause-said c =
+    let e : c.args.tsdu.now ≡ data_octets c.split_at.result.1.now = grind (arith, common_steps, data_parts) in
+    data_said c.what_is_sent_is_read.ensures.read c.what_is_sent_is_read.ensures.said c.split_at.result.1.now c.args.tsdu.now e
