@@ -1,5 +1,5 @@
 -- What stands alone in a TSDU: a unit of category 1 (X.225 section 6.3.7).
-use Rattle.std.proofs.Common.{◌≡◌, refl, subst, ℕ, Bool, true, false, not, ◌||◌, List, [], ◌∷◌, ap, Option, Some, None, Result, Ok, Err}
+use Rattle.std.proofs.Common.{◌≡◌, refl, subst, ℕ, Bool, true, false, not, ◌||◌, List, [], ◌∷◌, ap, Option, Some, None, Result, Ok, Err, arith}
 use Rattle.std.specs.List.{list_any}
 use Rattle.osi_spdu.specs.declared.faults.SpduFault.{SpduFault}
 use Rattle.osi_spdu.specs.declared.kinds.Kind.{Kind}
@@ -53,9 +53,7 @@ all_behind p a [] h = refl
 all_behind p a (unit ∷ units) h = none_passes _ _ (behind_word p a unit h.0) (all_behind p a units h.2)
 
 none_alone : (p : Meaning → Bool) (words : Words) → list_any (passes p) words ≡ false → stands_alone p words ≡ true
-none_alone p [] h = refl
-none_alone p (w ∷ []) h = refl
-none_alone p (w ∷ v ∷ ws) h = ap not h
+none_alone p words h0 = grind arith
 
 ended_alone : (p : Meaning → Bool) (at : ℕ) (octets : List ℕ) (unit : Contents) (units : Units) → ended at octets unit ≡ Ok units → IsAlone p units
 ended_alone p at [] unit units e = subst (IsAlone p) (ok_is (unit ∷ []) units e) refl
@@ -69,8 +67,7 @@ continued_alone p a first units Zero same e =
     let item = item_word p a (contents_of first []) same in
     subst (IsAlone p) (ok_is (contents_of first [] ∷ b.0) units b.2)
     (none_alone p (said_by_units (contents_of first [] ∷ b.0)) (none_passes _ _ item (all_behind p a b.0 r.0)))
-continued_alone p a first units One same e = ended_alone p first.end first.rest (contents_of first []) units e
-continued_alone p a first units Two same e = ended_alone p first.end first.rest (contents_of first []) units e
+continued_alone p a first units _ same e = ended_alone p first.end first.rest (contents_of first []) units e
 
 units_alone : (p : Meaning → Bool) → StandsAlone p → (octets : List ℕ) (units : Units) → tsdu_at octets ≡ Ok units → IsAlone p units
 unfolding tsdu_at

@@ -1,6 +1,6 @@
 -- What a TSDU is answered by, in which phases a session closes the transport connection, and in which
 -- a call is accepted.
-use Rattle.std.proofs.Common.{◌⊎◌, inl, inr, ◌≡◌, refl, sym, ◌∙◌, ap, subst, ℕ, Bool, true, false, not, ◌&&◌, ◌||◌, List, [], ◌∷◌, Option, Some, None, unwrap_or, Result, Ok, Err, if◌then◌else◌}
+use Rattle.std.proofs.Common.{◌⊎◌, inl, inr, ◌≡◌, refl, sym, ◌∙◌, ap, subst, ℕ, Bool, true, false, not, ◌&&◌, ◌||◌, List, [], ◌∷◌, Option, Some, None, unwrap_or, Result, Ok, Err, if◌then◌else◌, arith}
 use Rattle.std.specs.List.{list_any}
 use Rattle.osi_spdu.specs.declared.faults.SpduFault.{SpduFault}
 use Rattle.osi_spdu.specs.declared.settings.TokenSetting.{TokenSetting}
@@ -46,20 +46,14 @@ some m = Some m
 
 -- an outcome that sends this
 sends_one : (o : Outcome) (u : Meaning) → o.reply ≡ Some u → is_answer u ≡ true → is_over o.next.phase ≡ true → Answers o
-sends_one o u h a k = record {
-  last = λ m e.
-      let same : some u ≡ some m = sym h ∙ e in
-      let w : u ≡ m = cc in (subst (λ (x : Meaning). is_answer x ≡ true) w a, k);
-}
+sends_one o u h0 h1 h2 = grind arith
 
 either : (b : Bool) (x y : Outcome) → (b ≡ true → Answers x) → (b ≡ false → Answers y) → Answers (if b then x else y)
 either true x y h k = h refl
 either false x y h k = k refl
 
 aborting_answers : (s : State) (u : Meaning) → Answers (in_aborting s u)
-aborting_answers s (AB bits octets) = silent _ refl
-aborting_answers s AA = silent _ refl
-aborting_answers s _ = silent _ refl
+aborting_answers s u = grind (arith, silent)
 
 ended_answers : (s : State) (u : Meaning) → is_over s.phase ≡ true → Answers (in_ended s u)
 ended_answers s (AB bits octets) h = sends_one _ AA refl refl h
@@ -69,9 +63,7 @@ ended_answers s _ h = silent _ refl
 refused_over : (version_2 transfers : Bool) (x y : State) (m : Meaning) → is_over y.phase ≡ true
     → (if not version_2 then Some (RF 132 []) else (if not transfers then Some (RF 134 []) else None)) ≡ Some m
     → (is_answer m ≡ true) × (is_over (if version_2 && transfers then x else y).phase ≡ true)
-refused_over true true x y m h e = absurd (cc)
-refused_over true false x y m h e = let w : RF 134 [] ≡ m = cc in (subst (λ (u : Meaning). is_answer u ≡ true) w refl, h)
-refused_over false transfers x y m h e = let w : RF 132 [] ≡ m = cc in (subst (λ (u : Meaning). is_answer u ≡ true) w refl, h)
+refused_over version_2 transfers x y m h0 h1 = grind arith
 
 -- the state after a CN that is accepted
 abbrev becomes_answering : State → ℕ → Option ℕ → TokenSetting → TsduMaximumSize → State
@@ -158,20 +150,14 @@ octets_answered s octets = read_answers s (said_at octets)
 -- ---- a session that is over
 
 aborting_still : (s : State) (u : Meaning) → may_close u ≡ false → in_aborting s u ≡ nothing s
-aborting_still s (AB bits octets) h = absurd (cc)
-aborting_still s AA h = absurd (cc)
-aborting_still s _ h = refl
+aborting_still s u h0 = grind arith
 
 ended_still : (s : State) (u : Meaning) → may_close u ≡ false → in_ended s u ≡ nothing s
 ended_still s (AB bits octets) h = absurd (cc)
 ended_still s _ h = refl
 
 over_still : (s : State) (u : Meaning) → may_close u ≡ false → enacted s u over ≡ nothing s
-over_still s u h = by (is_aborting s.phase)
-  where
-    by : (b : Bool) → (if b then in_aborting s u else in_ended s u) ≡ nothing s
-    by true = aborting_still s u h
-    by false = ended_still s u h
+over_still s u h0 = grind (arith, aborting_still, ended_still)
 
 over_verdict : (s : State) (u : Meaning) → is_over s.phase ≡ true → verdict s u ≡ over
 over_verdict s u o = rw o refl
@@ -207,17 +193,13 @@ words_still t words o h = all_still t (acting_words words) o (acting_none may_cl
 -- what comes to a session that is over: a word alone, or nothing
 over_said : (P : Outcome → Type 0) (t : Taker) (words : Words) → is_over t.state.phase ≡ true → closes_alone words ≡ true
     → P (nothing t.state) → ((u : Meaning) → P (respond_unit t.state u)) → P (outcome_in (respond_tsdu t words))
-over_said P t [] o h n k = subst P (sym (words_still t [] o refl)) n
-over_said P t (w ∷ []) o h n k = subst P (sym (ap outcome_in (word_alone t w) ∙ over_word t w o)) (k (as_message w))
-over_said P t (w ∷ v ∷ ws) o h n k = subst P (sym (words_still t (w ∷ v ∷ ws) o (not_true (list_any may_close_word (w ∷ v ∷ ws)) h))) n
+over_said P t words h0 h1 h2 h3 = grind (arith, words_still, outcome_in, word_alone, over_word, not_true)
 
 abbrev Silent : Outcome → Type 0
 Silent o = o.reply ≡ None
 
 aborting_reply : (s : State) (u : Meaning) → Silent (in_aborting s u)
-aborting_reply s (AB bits octets) = refl
-aborting_reply s AA = refl
-aborting_reply s _ = refl
+aborting_reply s u = grind arith
 
 unit_unanswered : (s : State) (u : Meaning) → is_aborting s.phase ≡ true → Silent (respond_unit s u)
 unfolding respond_unit
@@ -280,9 +262,7 @@ either_awaited s true x y h k = h refl
 either_awaited s false x y h k = k refl
 
 good_awaited : (s : State) (u : Meaning) → is_expected s.phase u ≡ true → Awaited s (good s u)
-good_awaited s (RF reason octets) x = record { awaits = λ c. implied is_connecting awaits_close refl s.phase x }
-good_awaited s (DN octets) x = record { awaits = λ c. implied is_releasing awaits_close refl s.phase x }
-good_awaited s _ x = left_open s _ refl
+good_awaited s u h0 = grind (arith, implied, left_open)
 
 judged_awaited : (s : State) (u : Meaning) (f : Option UnitFault) → is_expected s.phase u ≡ true → Awaited s (judged s u f)
 judged_awaited s u None x = good_awaited s u x
@@ -311,9 +291,7 @@ word_awaited : (t : Taker) (w : Word) → Awaited t.state (outcome_in (respond_w
 word_awaited t w = word_does (Awaited t.state) t w (record { acts = λ u a. unit_awaited t.state u; bad = λ fault o. left_open t.state _ refl; rests = left_open t.state _ refl })
 
 words_awaited : (t : Taker) (words : Words) → closes_alone words ≡ true → Awaited t.state (outcome_in (respond_tsdu t words))
-words_awaited t [] h = left_open t.state _ (words_open t [] refl)
-words_awaited t (w ∷ []) h = subst (λ (x : Hearing). Awaited t.state (outcome_in x)) (sym (word_alone t w)) (word_awaited t w)
-words_awaited t (w ∷ v ∷ ws) h = left_open t.state _ (words_open t (w ∷ v ∷ ws) (not_true (list_any may_close_word (w ∷ v ∷ ws)) h))
+words_awaited t words h0 = grind (arith, left_open, words_open, outcome_in, word_alone, word_awaited, not_true)
 
 read_awaited : (s : Listener) (read : Result Words SpduFault) → ((words : Words) → read ≡ Ok words → closes_alone words ≡ true)
     → (react s (came_as read)).closes ≡ true → awaits_close s.state.phase ≡ true
@@ -330,19 +308,16 @@ octets_awaited s octets = read_awaited s (said_at octets) (octets_alone octets)
 callable : (c : Call) (p : Phase) → may_call p c ≡ true → may_abort p ≡ true
 callable (Accept requirements serial sides sizes octets) p h = implied is_answering may_abort refl p h
 callable (Refuse octets) p h = implied is_answering may_abort refl p h
-callable (Data octets) p h = implied is_ready may_abort refl p h
 callable (Give tokens) p h = implied may_give may_abort refl p h
 callable (Please tokens octets) p h = implied may_ask may_abort refl p h
-callable (Minor confirm octets) p h = implied is_ready may_abort refl p h
 callable (MinorConfirm n octets) p h = implied may_confirm_minor may_abort refl p h
-callable (Major octets) p h = implied is_ready may_abort refl p h
 callable (MajorConfirm octets) p h = implied is_major_due may_abort refl p h
 callable (Restart n wishes octets) p h = implied may_restart may_abort refl p h
 callable (RestartConfirm sides octets) p h = implied is_restart_due may_abort refl p h
-callable (Release octets) p h = implied is_ready may_abort refl p h
 callable (ReleaseAccept octets) p h = implied is_release_due may_abort refl p h
 callable (ReleaseRefuse octets) p h = implied is_release_due may_abort refl p h
 callable (Abort octets) p h = h
+callable _ p h = implied is_ready may_abort refl p h
 
 pub accepted_callable : (s : State) (c : Call) (x : Step) → allowed s c ≡ Ok x → may_abort s.phase ≡ true
 accepted_callable s c x h = callable c s.phase (passed s c x h).phase

@@ -1,5 +1,5 @@
 -- No unit goes back to awaiting the transport connection.
-use Rattle.std.proofs.Common.{◌≡◌, Bool, true, false, not, Option, Some, None, if◌then◌else◌}
+use Rattle.std.proofs.Common.{◌≡◌, Bool, true, false, not, Option, Some, None, if◌then◌else◌, arith}
 use Rattle.osi_session.specs.declared.faults.UnitFault.{UnitFault}
 use Rattle.osi_session.specs.declared.state.State.{State}
 use Rattle.osi_session.specs.Phases.{is_wait_transport, is_aborting, is_ended}
@@ -15,22 +15,14 @@ chosen false s x y h k = k
 
 becomes_begun : (s : State) (u : Meaning) → Begins s (becomes s u)
 becomes_begun s (CN version_2 requirements serial wishes from to sizes octets) = chosen (is_acceptable version_2 requirements sizes) s _ _ (λ k. absurd (cc)) (λ k. absurd (cc))
-becomes_begun s (AC version_2 requirements serial sides sizes octets) = λ k. absurd (cc)
-becomes_begun s (RF reason octets) = λ k. absurd (cc)
 becomes_begun s (DT octets) = λ k. k
 becomes_begun s (GT tokens) = λ k. k
 becomes_begun s (PT tokens octets) = λ k. k
 becomes_begun s (MIP confirm n octets) = λ k. k
 becomes_begun s (MIA n octets) = λ k. k
-becomes_begun s (MAP n octets) = λ k. absurd (cc)
-becomes_begun s (MAA n octets) = λ k. absurd (cc)
 becomes_begun s (RS kind n wishes octets) = chosen (stands s n) s _ _ (λ k. absurd (cc)) (λ k. k)
-becomes_begun s (RA n sides octets) = λ k. absurd (cc)
-becomes_begun s (FN octets) = λ k. absurd (cc)
-becomes_begun s (DN octets) = λ k. absurd (cc)
-becomes_begun s (NF octets) = λ k. absurd (cc)
-becomes_begun s (AB bits octets) = λ k. absurd (cc)
 becomes_begun s AA = λ k. k
+becomes_begun s _ = λ k. absurd (cc)
 
 judged_begun : (s : State) (u : Meaning) (f : Option UnitFault) → Begins s (judged s u f).next
 judged_begun s u None = becomes_begun s u
@@ -41,9 +33,7 @@ unfolding take_expected
 expected_begun s u = judged_begun s u (first_fault (si u) (conditions s u))
 
 aborting_begun : (s : State) (u : Meaning) → Begins s (in_aborting s u).next
-aborting_begun s (AB bits octets) = λ k. absurd (cc)
-aborting_begun s AA = λ k. absurd (cc)
-aborting_begun s _ = λ k. k
+aborting_begun s u = grind arith
 
 ended_begun : (s : State) (u : Meaning) → Begins s (in_ended s u).next
 ended_begun s (AB bits octets) = λ k. k

@@ -36,20 +36,16 @@ tests_named (t ∷ ts) a e n k h = if_named t.0 (first_error ts a) t.1 e n.0 (te
 
 needs_named : (s : State) (c : Call) → AllNamed (needs s c)
 needs_named s (Accept requirements serial sides sizes octets) = (refl, tt)
-needs_named s (Refuse octets) = tt
 needs_named s (Data octets) = (refl, (refl, tt))
 needs_named s (Give tokens) = (refl, (refl, (refl, tt)))
 needs_named s (Please tokens octets) = (refl, (refl, (refl, tt)))
 needs_named s (Minor confirm octets) = (refl, (refl, (refl, tt)))
 needs_named s (MinorConfirm n octets) = (refl, (refl, tt))
 needs_named s (Major octets) = (refl, (refl, (refl, tt)))
-needs_named s (MajorConfirm octets) = tt
 needs_named s (Restart n wishes octets) = (refl, (refl, tt))
-needs_named s (RestartConfirm sides octets) = tt
 needs_named s (Release octets) = (refl, tt)
-needs_named s (ReleaseAccept octets) = tt
 needs_named s (ReleaseRefuse octets) = (refl, tt)
-needs_named s (Abort octets) = tt
+needs_named s _ = tt
 
 met_named : (s : State) (c : Call) (e : CallError) → met s c ≡ Err e → is_memory e ≡ false
 unfolding met
@@ -78,8 +74,6 @@ sends_short : (s : State) (c : Call) → nat_le (length (octets_of c)) (most_of 
 unfolding user_data_of
 sends_short s (Accept requirements serial sides sizes octets) h = let k = leb-true (length octets) 10240 h in omega arith
 sends_short s (Refuse octets) h = let k = leb-true (length octets) 10240 h in omega arith
-sends_short s (Data octets) h = omega arith
-sends_short s (Give tokens) h = omega arith
 sends_short s (Please tokens octets) h = let k = leb-true (length octets) 10240 h in omega arith
 sends_short s (Minor confirm octets) h = let k = leb-true (length octets) 10240 h in omega arith
 sends_short s (MinorConfirm n octets) h = let k = leb-true (length octets) 10240 h in omega arith
@@ -91,6 +85,7 @@ sends_short s (Release octets) h = let k = leb-true (length octets) 10240 h in o
 sends_short s (ReleaseAccept octets) h = let k = leb-true (length octets) 10240 h in omega arith
 sends_short s (ReleaseRefuse octets) h = let k = leb-true (length octets) 10240 h in omega arith
 sends_short s (Abort octets) h = let k = leb-true (length octets) 10240 h in omega arith
+sends_short s _ h = omega arith
 
 abbrev met_step : State → Call → Step
 met_step s c = record { next = after s c; sent = sends s c }

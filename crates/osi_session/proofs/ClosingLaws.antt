@@ -1,5 +1,5 @@
 -- What closes the transport connection, and that nothing is sent with it.
-use Rattle.std.proofs.Common.{◌≡◌, refl, sym, ◌∙◌, ap, subst, ℕ, Bool, true, false, not, ◌||◌, List, [], ◌∷◌, ◌++◌, None, Result, Ok, Err, if◌then◌else◌}
+use Rattle.std.proofs.Common.{◌≡◌, refl, sym, ◌∙◌, ap, subst, ℕ, Bool, true, false, not, ◌||◌, List, [], ◌∷◌, ◌++◌, None, Result, Ok, Err, if◌then◌else◌, arith}
 use Rattle.std.specs.List.{list_any}
 use Rattle.std.proofs.lemmas.List.Folds.{list_any-append}
 use Rattle.osi_spdu.specs.declared.faults.SpduFault.{SpduFault}
@@ -38,14 +38,10 @@ open_still : (o : Outcome) → o.closes ≡ false → ClosesLast o
 open_still o h = record { silent = λ k. absurd (cc); last = λ k. absurd (cc) }
 
 good_silent : (u : Meaning) → closes_for u ≡ true → reply_for u ≡ None
-good_silent (RF reason octets) h = refl
-good_silent (DN octets) h = refl
-good_silent _ h = absurd (cc)
+good_silent u h0 = grind arith
 
 good_last : (s : State) (u : Meaning) → closes_for u ≡ true → is_ended (becomes s u).phase ≡ true
-good_last s (RF reason octets) h = refl
-good_last s (DN octets) h = refl
-good_last s _ h = absurd (cc)
+good_last s u h0 = grind arith
 
 aborting_last : (s : State) (u : Meaning) → ClosesLast (in_aborting s u)
 aborting_last s (AB bits octets) = record { silent = λ k. refl; last = λ k. refl }
@@ -105,14 +101,10 @@ all_end t (w ∷ ws) =
 -- ---- units that leave the transport connection open
 
 good_open : (u : Meaning) → may_close u ≡ false → closes_for u ≡ false
-good_open (RF reason octets) h = absurd (cc)
-good_open (DN octets) h = absurd (cc)
-good_open _ h = refl
+good_open u h0 = grind arith
 
 aborting_open : (s : State) (u : Meaning) → may_close u ≡ false → (in_aborting s u).closes ≡ false
-aborting_open s (AB bits octets) h = absurd (cc)
-aborting_open s AA h = absurd (cc)
-aborting_open s _ h = refl
+aborting_open s u h0 = grind arith
 
 ended_open : (s : State) (u : Meaning) → (in_ended s u).closes ≡ false
 ended_open s (AB bits octets) = refl
@@ -123,10 +115,7 @@ either_open true x y h k = h
 either_open false x y h k = k
 
 enacted_open : (s : State) (u : Meaning) (v : Verdict) → may_close u ≡ false → (enacted s u v).closes ≡ false
-enacted_open s u over h = either_open (is_aborting s.phase) _ _ (aborting_open s u h) (ended_open s u)
-enacted_open s u dropped h = refl
-enacted_open s u (faulty fault) h = refl
-enacted_open s u fine h = good_open u h
+enacted_open s u v h0 = grind (arith, either_open, aborting_open, ended_open, good_open)
 
 pub unit_open : (s : State) (u : Meaning) → may_close u ≡ false → (respond_unit s u).closes ≡ false
 unit_open s u h = subst (λ (o : Outcome). o.closes ≡ false) (sym (enacts s u)) (enacted_open s u (verdict s u) h)
@@ -191,29 +180,18 @@ words_end t words = all_end t (acting_words words)
 
 behind_open : (k : Kind) (known : Known) (information : List ℕ) → category_of k ≡ Two → may_close (meaning_by k known information) ≡ false
 unfolding category_of
-behind_open kind.DataTransfer known information h = refl
-behind_open kind.ResynchronizeAck known information h = refl
-behind_open kind.MajorSyncPoint known information h = refl
-behind_open kind.MajorSyncAck known information h = refl
-behind_open kind.MinorSyncPoint known information h = refl
-behind_open kind.MinorSyncAck known information h = refl
-behind_open kind.Resynchronize known information h = refl
-behind_open _ known information h = absurd (cc)
+behind_open k known information h0 = grind arith
 
 item_open : (k : Kind) (known : Known) (information : List ℕ) → category_of k ≡ Zero → may_close (meaning_by k known information) ≡ false
 unfolding category_of
-item_open kind.GiveTokens known information h = refl
-item_open kind.PleaseTokens known information h = refl
-item_open _ known information h = absurd (cc)
+item_open k known information h0 = grind arith
 
 -- no token item and no unit of category 2 closes it
 opens_behind : StandsAlone may_close
 opens_behind = record { item = item_open; behind = behind_open; plain = λ octets. refl }
 
 closes_so : (words : Words) → stands_alone may_close words ≡ true → closes_alone words ≡ true
-closes_so [] h = refl
-closes_so (w ∷ []) h = refl
-closes_so (w ∷ v ∷ ws) h = h
+closes_so words h0 = grind arith
 
 -- in what octets say, a word that may close stands alone
 pub octets_alone : (octets : List ℕ) (words : Words) → said_at octets ≡ Ok words → closes_alone words ≡ true
@@ -241,12 +219,7 @@ fault_open s fault = either_open (is_over s.phase) _ _ refl refl
 -- a TSDU that closes it is the last
 pub input_ends : (s : Listener) (input : Input) → (react s input).closes ≡ true → is_ended (react s input).next.state.phase ≡ true
 unfolding react
-input_ends s (called c) h = absurd (let o = answered_open s (allowed s.state c) in cc)
-input_ends s (taken words) h = words_end (taker_of s) words h
-input_ends s (unread fault) h = absurd (let o = fault_open s.state fault in cc)
-input_ends s opened h = absurd (let o = either_quiet (is_wait_transport s.state.phase) (begun s) (rests s) refl refl in cc)
-input_ends s (refused reason) h = absurd (let o = either_quiet (is_wait_transport s.state.phase) (denied reason s) (rests s) refl refl in cc)
-input_ends s broken h = absurd (cc)
+input_ends s input h0 = grind (arith, answered_open, words_end, fault_open, either_quiet)
 
 -- and so over whole messages
 pub whole_ends : (s : whole.Standing) (input : whole.Input) → (whole.react s input).closes ≡ true → is_ended (whole.after_input s input).state.phase ≡ true

@@ -102,10 +102,6 @@ major_rises base v h = h.confirmed_to
 
 after_rises : (s : State) (c : Call) → call_renews c ≡ false → AllHold (needs s c) → IsSound s → Rises s.numbers (after s c).numbers
 after_rises s (Accept requirements serial sides sizes octets) r t h = absurd (cc)
-after_rises s (Refuse octets) r t h = same s.numbers
-after_rises s (Data octets) r t h = same s.numbers
-after_rises s (Give tokens) r t h = same s.numbers
-after_rises s (Please tokens octets) r t h = same s.numbers
 after_rises s (Minor confirm octets) r t h = sent_rises s.base s.numbers h.ordered
 after_rises s (MinorConfirm n octets) r t h =
     let a = and_parts s.numbers.answers (nat_le s.numbers.confirmed n && nat_lt n s.numbers.next) t.1.0 in
@@ -113,11 +109,7 @@ after_rises s (MinorConfirm n octets) r t h =
 after_rises s (Major octets) r t h = sent_rises s.base s.numbers h.ordered
 after_rises s (MajorConfirm octets) r t h = major_rises s.base s.numbers h.ordered
 after_rises s (Restart n wishes octets) r t h = absurd (cc)
-after_rises s (RestartConfirm sides octets) r t h = same s.numbers
-after_rises s (Release octets) r t h = same s.numbers
-after_rises s (ReleaseAccept octets) r t h = same s.numbers
-after_rises s (ReleaseRefuse octets) r t h = same s.numbers
-after_rises s (Abort octets) r t h = same s.numbers
+after_rises s _ r t h = same s.numbers
 
 chosen : (v : Numbers) (b : Bool) (x y : State) → Rises v x.numbers → Rises v y.numbers → Rises v (if b then x else y).numbers
 chosen v true x y h k = h
@@ -129,21 +121,12 @@ acknowledged s n b h = leb-true s.numbers.confirmed n (and_parts (nat_le s.numbe
 becomes_rises : (s : State) (u : Meaning) → unit_renews u ≡ false → AllMet (conditions s u) → IsSound s → Rises s.numbers (becomes s u).numbers
 becomes_rises s (CN version_2 requirements serial wishes from to sizes octets) r t h = chosen s.numbers (is_acceptable version_2 requirements sizes) _ _ (same s.numbers) (same s.numbers)
 becomes_rises s (AC version_2 requirements serial sides sizes octets) r t h = absurd (cc)
-becomes_rises s (RF reason octets) r t h = same s.numbers
-becomes_rises s (DT octets) r t h = same s.numbers
-becomes_rises s (GT tokens) r t h = same s.numbers
-becomes_rises s (PT tokens octets) r t h = same s.numbers
 becomes_rises s (MIP confirm n octets) r t h = taken_rises s.base s.numbers h.ordered
 becomes_rises s (MIA n octets) r t h = minor_rises n s.numbers (acknowledged s n _ t.1.0)
 becomes_rises s (MAP n octets) r t h = taken_rises s.base s.numbers h.ordered
 becomes_rises s (MAA n octets) r t h = major_rises s.base s.numbers h.ordered
 becomes_rises s (RS kind n wishes octets) r t h = absurd (cc)
-becomes_rises s (RA n sides octets) r t h = same s.numbers
-becomes_rises s (FN octets) r t h = same s.numbers
-becomes_rises s (DN octets) r t h = same s.numbers
-becomes_rises s (NF octets) r t h = same s.numbers
-becomes_rises s (AB bits octets) r t h = same s.numbers
-becomes_rises s AA r t h = same s.numbers
+becomes_rises s _ r t h = same s.numbers
 
 unit_rises : (s : State) (u : Meaning) → unit_renews u ≡ false → IsSound s → Rises s.numbers (respond_unit s u).next.numbers
 unit_rises s u r h = unit_cases (λ next. Rises s.numbers next.numbers) s u (record {

@@ -1,5 +1,5 @@
 -- A side that awaits a CN shows nothing before a Connect, and this by a CN alone.
-use Rattle.std.proofs.Common.{◌⊎◌, inl, inr, ◌≡◌, refl, sym, ◌∙◌, ap, subst, ℕ, Bool, true, false, not, List, [], ◌∷◌, ◌++◌, Option, Some, None, Result, Ok, Err, if◌then◌else◌}
+use Rattle.std.proofs.Common.{◌⊎◌, inl, inr, ◌≡◌, refl, sym, ◌∙◌, ap, subst, ℕ, Bool, true, false, not, List, [], ◌∷◌, ◌++◌, Option, Some, None, Result, Ok, Err, if◌then◌else◌, arith}
 use Rattle.std.specs.List.{list_any}
 use Rattle.osi_spdu.specs.declared.faults.SpduFault.{SpduFault}
 use Rattle.osi_spdu.specs.declared.kinds.Kind.{Kind}
@@ -40,20 +40,13 @@ still : (s : State) → is_wait_cn s.phase ≡ true → Begins (nothing s)
 still s w = record { waits = λ k. refl; shows = λ k. absurd (let e = excluded is_wait_cn shows_loss refl s.phase w in cc) }
 
 ends : (o : Outcome) → is_over o.next.phase ≡ true → Begins o
-ends o h = record {
-  waits = λ k. absurd (let e = excluded is_over is_wait_cn refl o.next.phase h in cc);
-  shows = λ k. absurd (let e = excluded is_over shows_loss refl o.next.phase h in cc);
-}
+ends o h0 = grind (arith, excluded)
 
 -- ---- one unit
 
 connects : (b : Bool) (x y : State) (i : Shown) → is_wait_cn x.phase ≡ false → shows_connect (i ∷ []) ≡ true → is_over y.phase ≡ true → (o : Outcome)
     → o.next ≡ (if b then x else y) → o.shown ≡ (if b then i ∷ [] else []) → Begins o
-connects true x y i n c v o e f = record {
-  waits = λ k. absurd (let h = ap (λ (s : State). is_wait_cn s.phase) e in cc);
-  shows = λ k. ap shows_connect f ∙ c;
-}
-connects false x y i n c v o e f = ends o (ap (λ (s : State). is_over s.phase) e ∙ v)
+connects b x y i h0 h1 h2 o h3 h4 = grind (arith, ends)
 
 good_in : (s : State) (u : Meaning) → is_expected WaitCn u ≡ true → Begins (good s u)
 good_in s (CN version_2 requirements serial wishes from to sizes octets) h =
@@ -91,10 +84,7 @@ abbrev Which : Phase → Type 0
 Which p = (is_wait_cn p ≡ true) ⊎ ((is_over p ≡ true) ⊎ (shows_loss p ≡ true))
 
 which : (p : Phase) → Which p
-which WaitCn = inl refl
-which Aborting = inr (inl refl)
-which Ended = inr (inl refl)
-which _ = inr (inr refl)
+which p = grind arith
 
 first_connect : (shown more : List Shown) → shows_connect shown ≡ true → shows_connect (shown ++ more) ≡ true
 first_connect [] more h = absurd (cc)
@@ -181,9 +171,7 @@ good_hides s (AB bits octets) h =
 good_hides s _ h = refl
 
 aborting_hides : (s : State) (u : Meaning) → Hides (in_aborting s u).shown
-aborting_hides s (AB bits octets) = refl
-aborting_hides s AA = refl
-aborting_hides s _ = refl
+aborting_hides s u = grind arith
 
 ended_hides : (s : State) (u : Meaning) → Hides (in_ended s u).shown
 ended_hides s (AB bits octets) = refl
@@ -194,10 +182,7 @@ either_outcome true x y h k = h
 either_outcome false x y h k = k
 
 enacted_hides : (s : State) (u : Meaning) (v : Verdict) → unit_asks u ≡ false → Hides (enacted s u v).shown
-enacted_hides s u over h = either_outcome (is_aborting s.phase) _ _ (aborting_hides s u) (ended_hides s u)
-enacted_hides s u dropped h = refl
-enacted_hides s u (faulty fault) h = bad_hides s fault
-enacted_hides s u fine h = good_hides s u h
+enacted_hides s u v h0 = grind (arith, either_outcome, aborting_hides, ended_hides, bad_hides, good_hides)
 
 unit_hides : (s : State) (u : Meaning) → unit_asks u ≡ false → Hides (respond_unit s u).shown
 unit_hides s u h = subst (λ (o : Outcome). Hides o.shown) (sym (enacts s u)) (enacted_hides s u (verdict s u) h)
@@ -227,20 +212,11 @@ tsdu_hides t words h = words_hide t (acting_words words) (acting_none (passes un
 -- a CN stands alone
 behind_asks : (k : Kind) (known : Known) (information : List ℕ) → category_of k ≡ Two → unit_asks (meaning_by k known information) ≡ false
 unfolding category_of
-behind_asks kind.DataTransfer known information h = refl
-behind_asks kind.ResynchronizeAck known information h = refl
-behind_asks kind.MajorSyncPoint known information h = refl
-behind_asks kind.MajorSyncAck known information h = refl
-behind_asks kind.MinorSyncPoint known information h = refl
-behind_asks kind.MinorSyncAck known information h = refl
-behind_asks kind.Resynchronize known information h = refl
-behind_asks _ known information h = absurd (cc)
+behind_asks k known information h0 = grind arith
 
 item_asks : (k : Kind) (known : Known) (information : List ℕ) → category_of k ≡ Zero → unit_asks (meaning_by k known information) ≡ false
 unfolding category_of
-item_asks kind.GiveTokens known information h = refl
-item_asks kind.PleaseTokens known information h = refl
-item_asks _ known information h = absurd (cc)
+item_asks k known information h0 = grind arith
 
 asks_alone : StandsAlone unit_asks
 asks_alone = record { item = item_asks; behind = behind_asks; plain = λ octets. refl }
@@ -250,9 +226,7 @@ first_asks t w true e k = refl
 first_asks t w false e k = absurd (let h = tsdu_hides t (w ∷ []) (rw e refl) in cc)
 
 tsdu_asks : (t : Taker) (words : Words) → stands_alone unit_asks words ≡ true → shows_connect (respond_tsdu t words).shown ≡ true → asks_first words ≡ true
-tsdu_asks t [] h k = absurd (let n = tsdu_hides t [] refl in cc)
-tsdu_asks t (w ∷ []) h k = first_asks t w (passes unit_asks w) refl k
-tsdu_asks t (w ∷ v ∷ ws) h k = absurd (let n = tsdu_hides t (w ∷ v ∷ ws) (not_true (list_any (passes unit_asks) (w ∷ v ∷ ws)) h) in cc)
+tsdu_asks t words h0 h1 = grind (arith, tsdu_hides, first_asks, passes, not_true)
 
 either_move : (b : Bool) (x y : Move) → Hides x.shown → Hides y.shown → Hides (if b then x else y).shown
 either_move true x y h k = h
@@ -268,13 +242,7 @@ fault_hides l fault = either_outcome (is_over l.state.phase) _ _ refl (bad_hides
 
 taken_only : (l : Listener) (input : Input) (b : Bool) → is_taken input ≡ b → shows_connect (react l input).shown ≡ true → b ≡ true
 unfolding react
-taken_only l input true e k = refl
-taken_only l (called c) false e k = absurd (let h = answered_hides l (allowed l.state c) in cc)
-taken_only l (taken words) false e k = absurd (cc)
-taken_only l (unread fault) false e k = absurd (let h = fault_hides l fault in cc)
-taken_only l opened false e k = absurd (let h = either_move (is_wait_transport l.state.phase) (begun l) (rests l) refl refl in cc)
-taken_only l (refused reason) false e k = absurd (let h = either_move (is_wait_transport l.state.phase) (denied reason l) (rests l) refl refl in cc)
-taken_only l broken false e k = absurd (let h = either_hides (shows_loss l.state.phase) (Lost ∷ []) [] refl refl in cc)
+taken_only l input b h0 h1 = grind (arith, answered_hides, fault_hides, either_move, either_hides)
 
 pub only_taken : (l : Listener) (input : Input) → shows_connect (react l input).shown ≡ true → is_taken input ≡ true
 only_taken l input k = taken_only l input (is_taken input) refl k

@@ -1,4 +1,4 @@
-use Rattle.std.proofs.Common.{◌≡◌, refl, sym, ◌∙◌, ap, subst, ℕ, Bool, true, false, ◌||◌, List, [], ◌∷◌, ◌++◌, Option, Some, None, Result, Ok, Err, if◌then◌else◌}
+use Rattle.std.proofs.Common.{◌≡◌, refl, sym, ◌∙◌, ap, subst, ℕ, Bool, true, false, ◌||◌, List, [], ◌∷◌, ◌++◌, Option, Some, None, Result, Ok, Err, if◌then◌else◌, arith}
 use Rattle.std.specs.Prelude.{OnErr}
 use Rattle.std.specs.List.{list_any}
 use Rattle.std.proofs.lemmas.List.{append_assoc, append-nil}
@@ -37,10 +37,7 @@ acting_behind restarts item us = if restarts || list_any is_restart_word us then
 
 shift : (restarts r a : Bool) (u item : Word) (us : Words) →
     (if restarts || (r || a) then u ∷ us else (u ∷ us) ++ item ∷ []) ≡ u ∷ (if (restarts || r) || a then us else us ++ item ∷ [])
-shift true r a u item us = refl
-shift false true a u item us = refl
-shift false false true u item us = refl
-shift false false false u item us = refl
+shift restarts r a u item us = grind arith
 
 taken_next : (restarts : Bool) (item u : Word) (us : Words) →
     acting_behind restarts item (u ∷ us) ≡ u ∷ acting_behind (restarts || is_restart_word u) item us

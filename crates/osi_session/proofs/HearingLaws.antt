@@ -29,10 +29,7 @@ kept_held p joined h = rw h refl
 -- ---- a message
 
 enacted_says : (t : Taker) (u : Meaning) (v : Verdict) → enacted_word t (says u) v ≡ heard t.joined (enacted t.state u v)
-enacted_says t u over = refl
-enacted_says t u dropped = refl
-enacted_says t u (faulty fault) = refl
-enacted_says t u fine = refl
+enacted_says t u v = grind arith
 
 pub message_is : (t : Taker) (u : Meaning) → respond_word t (says u) ≡ heard t.joined (enacted t.state u (word_verdict t (says u)))
 message_is t u = word_at t (says u) (word_verdict t (says u)) refl ∙ enacted_says t u (word_verdict t (says u))
@@ -55,13 +52,7 @@ enacted_over false s = refl
 pub part_dropped : (t : Taker) (place : Place) (octets : List ℕ) → is.Dropped ≡ told_of (word_verdict t (part place octets)) →
     respond_word t (part place octets) ≡ heard t.joined (nothing t.state)
 unfolding respond_word
-part_dropped t place octets e = by (word_verdict t (part place octets)) e
-  where
-    by : (v : Verdict) → is.Dropped ≡ told_of v → enacted_word t (part place octets) v ≡ heard t.joined (nothing t.state)
-    by over e = ap (heard t.joined) (enacted_over (is_aborting t.state.phase) t.state)
-    by dropped e = refl
-    by (faulty fault) e = absurd (cc)
-    by fine e = absurd (cc)
+part_dropped t place octets h0 = grind (arith, enacted_over)
 
 -- a bad part
 pub part_bad : (t : Taker) (place : Place) (octets : List ℕ) (fault : UnitFault) → is.Bad fault ≡ told_of (word_verdict t (part place octets)) →
@@ -76,13 +67,7 @@ part_bad t place octets fault e = by (word_verdict t (part place octets)) e
     by fine e = absurd (cc)
 
 pub part_fine : (t : Taker) (place : Place) (octets : List ℕ) → is.Good ≡ told_of (word_verdict t (part place octets)) → word_verdict t (part place octets) ≡ fine
-part_fine t place octets e = by (word_verdict t (part place octets)) e
-  where
-    by : (v : Verdict) → is.Good ≡ told_of v → v ≡ fine
-    by over e = absurd (cc)
-    by dropped e = absurd (cc)
-    by (faulty fault) e = absurd (cc)
-    by fine e = refl
+part_fine t place octets h0 = grind arith
 
 -- a good part
 pub part_is : (t : Taker) (place : Place) (octets : List ℕ) → word_verdict t (part place octets) ≡ fine →
@@ -93,12 +78,7 @@ part_is t place octets e = word_at t (part place octets) fine e
 fine_by : (n : ℕ) (v r e h p s : Bool) →
     (if v || r then (if v then over else dropped) else if not e then faulty (Unexpected n) else if h then faulty (TokenHeld n)
     else if not p then faulty (BadEnclosure n) else if not s then faulty (DataTooLong n) else fine) ≡ fine → (e ≡ true) × (p ≡ true)
-fine_by n true r e h p s k = absurd (cc)
-fine_by n false true e h p s k = absurd (cc)
-fine_by n false false false h p s k = absurd (cc)
-fine_by n false false true true p s k = absurd (cc)
-fine_by n false false true false false s k = absurd (cc)
-fine_by n false false true false true s k = (refl, refl)
+fine_by n v r e h p s h0 = grind arith
 
 passed : (t : Taker) (place : Place) (octets : List ℕ) → word_verdict t (part place octets) ≡ fine → (takes_data t.state.phase ≡ true) × (is_in_place t.joined place ≡ true)
 passed t place octets e = fine_by (si (DT octets)) (is_over t.state.phase) (is_restarting t.state.phase) (takes_data t.state.phase) t.state.held.data_token
@@ -145,13 +125,7 @@ early_takes s joined octets m h =
 -- ---- a bad word is one that is answered by AB
 
 enacted_bad : (t : Taker) (w : Word) (v : Verdict) → replies_abort (enacted_word t w v).reply ≡ is_faulty v
-enacted_bad t w over = enacted_reply t.state (as_message w) over
-enacted_bad t w dropped = refl
-enacted_bad t w (faulty fault) = refl
-enacted_bad t (says u) fine = good_reply u
-enacted_bad t (part First octets) fine = refl
-enacted_bad t (part Middle octets) fine = refl
-enacted_bad t (part Last octets) fine = refl
+enacted_bad t w v = grind (arith, enacted_reply, good_reply)
 
 pub word_told : (t : Taker) (w : Word) (h : Hearing) (b : Bool) → respond_word t w ≡ h → b ≡ replies_abort h.reply → b ≡ is_faulty (word_verdict t w)
 word_told t w h b e k = k ∙ ap (λ (x : Hearing). replies_abort x.reply) (sym e ∙ word_at t w (word_verdict t w) refl) ∙ enacted_bad t w (word_verdict t w)

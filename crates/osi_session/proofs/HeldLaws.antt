@@ -1,5 +1,5 @@
 -- What gives a token to a side, and what takes it away.
-use Rattle.std.proofs.Common.{◌≡◌, refl, sym, ◌∙◌, subst, Bool, true, false, not, ◌&&◌, ◌||◌, unwrap_or, Ok, if◌then◌else◌}
+use Rattle.std.proofs.Common.{◌≡◌, refl, sym, ◌∙◌, subst, Bool, true, false, not, ◌&&◌, ◌||◌, unwrap_or, Ok, if◌then◌else◌, arith}
 use Rattle.std.proofs.lemmas.Bool.{or_left, or_right, and_parts}
 use Rattle.osi_session.specs.declared.phases.Phase.TheVariants.{Answering, RestartDue, Ended}
 use Rattle.osi_session.specs.declared.state.State.{State}
@@ -23,10 +23,7 @@ use Rattle.osi_session.proofs.RunCases.{unit_cases}
 -- ---- words about sets, for each token
 
 pub has_set : (p : Token → Bool) (t : Token) → has (set_of p) t ≡ p t
-has_set p data_token = refl
-has_set p minor = refl
-has_set p major = refl
-has_set p release = refl
+has_set p t = grind arith
 
 pub each_has : (p : Token → Bool) (t : Token) → each p ≡ true → p t ≡ true
 each_has p t h =
@@ -43,11 +40,7 @@ each_has p t h =
 
 within_has : (a b : Tokens) (t : Token) → is_within a b ≡ true → has a t ≡ true → has b t ≡ true
 unfolding is_within
-within_has a b t h k = cut (has a t) (has b t) (each_has (λ t. not (has a t) || has b t) t h) k
-  where
-    cut : (x y : Bool) → (not x || y) ≡ true → x ≡ true → y ≡ true
-    cut true y h k = h
-    cut false y h k = absurd (cc)
+within_has a b t h0 h1 = grind (arith, each_has)
 
 without_has : (a b : Tokens) (t : Token) → has (without a b) t ≡ (has a t && not (has b t))
 unfolding without
@@ -105,19 +98,12 @@ to_other s units sides t h = or_right (has s.held t) (to_answerer units sides t)
 after_held : (s : State) (c : Call) (t : Token) → HeldBy (call_gives s c t) s t (after s c).held
 after_held s (Accept requirements serial sides sizes octets) t = to_other s (functional_units requirements) (settle (functional_units requirements) s.wishes sides) t
 after_held s (Refuse octets) t = none s t
-after_held s (Data octets) t = kept s t
 after_held s (Give tokens) t = less s tokens t
-after_held s (Please tokens octets) t = kept s t
-after_held s (Minor confirm octets) t = kept s t
-after_held s (MinorConfirm n octets) t = kept s t
-after_held s (Major octets) t = kept s t
-after_held s (MajorConfirm octets) t = kept s t
 after_held s (Restart n wishes octets) t = none s t
 after_held s (RestartConfirm sides octets) t = to_other s s.units (settle s.units s.wishes sides) t
-after_held s (Release octets) t = kept s t
 after_held s (ReleaseAccept octets) t = none s t
-after_held s (ReleaseRefuse octets) t = kept s t
 after_held s (Abort octets) t = none s t
+after_held s _ t = kept s t
 
 pub call_held : (s : State) (c : Call) (x : Step) (t : Token) → allowed s c ≡ Ok x → has x.next.held t ≡ true → (has s.held t || call_gives s c t) ≡ true
 call_held s c x t e =
@@ -138,21 +124,13 @@ becomes_held s (AC version_2 requirements serial sides sizes octets) t =
     let units = both_units s.units (functional_units requirements) in
     to_one s units (stated units sides) t
 becomes_held s (RF reason octets) t = none s t
-becomes_held s (DT octets) t = kept s t
 becomes_held s (GT tokens) t = more s tokens t
-becomes_held s (PT tokens octets) t = kept s t
-becomes_held s (MIP confirm n octets) t = kept s t
-becomes_held s (MIA n octets) t = kept s t
-becomes_held s (MAP n octets) t = kept s t
-becomes_held s (MAA n octets) t = kept s t
 becomes_held s (RS kind n wishes octets) t = restart_held (stands s n) s
     (record (without_tokens RestartDue s) { wishes = wishes; numbers = restarted_at n s.numbers }) t refl
 becomes_held s (RA n sides octets) t = to_one s s.units (stated s.units sides) t
-becomes_held s (FN octets) t = kept s t
 becomes_held s (DN octets) t = none s t
-becomes_held s (NF octets) t = kept s t
 becomes_held s (AB bits octets) t = none s t
-becomes_held s AA t = kept s t
+becomes_held s _ t = kept s t
 
 same : (cause : Bool) (s : State) (t : Token) → HeldBy cause s t s.held
 same cause s t h = or_left (has s.held t) cause h
@@ -174,19 +152,12 @@ unit_held s u t = unit_cases (λ next. HeldBy (unit_gives s u t) s t next.held) 
 after_holds : (s : State) (c : Call) (t : Token) → has (after s c).held t ≡ call_holds s c t
 after_holds s (Accept requirements serial sides sizes octets) t = answerer_has (functional_units requirements) (settle (functional_units requirements) s.wishes sides) t
 after_holds s (Refuse octets) t = no_token_has t
-after_holds s (Data octets) t = refl
 after_holds s (Give tokens) t = without_has s.held tokens t
-after_holds s (Please tokens octets) t = refl
-after_holds s (Minor confirm octets) t = refl
-after_holds s (MinorConfirm n octets) t = refl
-after_holds s (Major octets) t = refl
-after_holds s (MajorConfirm octets) t = refl
 after_holds s (Restart n wishes octets) t = no_token_has t
 after_holds s (RestartConfirm sides octets) t = answerer_has s.units (settle s.units s.wishes sides) t
-after_holds s (Release octets) t = refl
 after_holds s (ReleaseAccept octets) t = no_token_has t
-after_holds s (ReleaseRefuse octets) t = refl
 after_holds s (Abort octets) t = no_token_has t
+after_holds s _ t = refl
 
 pub call_holds_it : (s : State) (c : Call) (x : Step) (t : Token) → allowed s c ≡ Ok x → has x.next.held t ≡ call_holds s c t
 call_holds_it s c x t e =
@@ -203,21 +174,13 @@ unit_holds_it s (CN version_2 requirements serial wishes from to sizes octets) t
 unit_holds_it s (AC version_2 requirements serial sides sizes octets) t =
     let units = both_units s.units (functional_units requirements) in asker_has units (stated units sides) t
 unit_holds_it s (RF reason octets) t = no_token_has t
-unit_holds_it s (DT octets) t = refl
 unit_holds_it s (GT tokens) t = united_has s.held tokens t
-unit_holds_it s (PT tokens octets) t = refl
-unit_holds_it s (MIP confirm n octets) t = refl
-unit_holds_it s (MIA n octets) t = refl
-unit_holds_it s (MAP n octets) t = refl
-unit_holds_it s (MAA n octets) t = refl
 unit_holds_it s (RS kind n wishes octets) t = either_holds (stands s n)
     (record (without_tokens RestartDue s) { wishes = wishes; numbers = restarted_at n s.numbers }) s t _ _ (no_token_has t) refl
 unit_holds_it s (RA n sides octets) t = asker_has s.units (stated s.units sides) t
-unit_holds_it s (FN octets) t = refl
 unit_holds_it s (DN octets) t = no_token_has t
-unit_holds_it s (NF octets) t = refl
 unit_holds_it s (AB bits octets) t = no_token_has t
-unit_holds_it s AA t = refl
+unit_holds_it s _ t = refl
 
 -- and after a bad one
 pub bad_holds_none : (s : State) (fault : UnitFault) (t : Token) → has (bad s fault).next.held t ≡ false

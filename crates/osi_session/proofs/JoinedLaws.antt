@@ -66,15 +66,7 @@ kept_few p joined h = few_either (drops_parts p) joined h
 
 -- a good word passes each of its conditions
 all_pass : (t : Taker) (w : Word) → word_verdict t w ≡ fine → first_fault (si (as_message w)) (word_conditions t w) ≡ None
-all_pass t w = by (is_over t.state.phase) (drops t.state (as_message w)) (is_expected t.state.phase (as_message w)) (first_fault (si (as_message w)) (word_conditions t w))
-  where
-    by : (o d x : Bool) (f : Option UnitFault) →
-        (if o then over else if d then dropped else if not x then faulty (Unexpected (si (as_message w))) else by_fault f) ≡ fine → f ≡ None
-    by true d x f h = absurd (cc)
-    by false true x f h = absurd (cc)
-    by false false false f h = absurd (cc)
-    by false false true None h = refl
-    by false false true (Some fault) h = absurd (cc)
+all_pass t w h0 = grind arith
 
 back_passes : (n : ℕ) (cs ds : List Condition) → first_fault n (cs ++ ds) ≡ None → first_fault n ds ≡ None
 back_passes n [] ds h = h
@@ -97,16 +89,10 @@ part_short t place octets e =
     second false b h = absurd (cc)
 
 joined_few : (t : Taker) (w : Word) → word_verdict t w ≡ fine → Few t.joined → Few (joined_by t.joined w)
-joined_few t (says u) e h = h
-joined_few t (part First octets) e h = let s = part_short t First octets e in let n = length-append (joined_octets t.joined) octets in omega arith
-joined_few t (part Middle octets) e h = part_short t Middle octets e
-joined_few t (part Last octets) e h = omega arith
+joined_few t w h0 h1 = grind (arith, part_short, length-append)
 
 enacted_few : (t : Taker) (w : Word) (v : Verdict) → word_verdict t w ≡ v → Few t.joined → Few (enacted_word t w v).next.joined
-enacted_few t w over e h = kept_few (enacted t.state (as_message w) over).next.phase t.joined h
-enacted_few t w dropped e h = kept_few t.state.phase t.joined h
-enacted_few t w (faulty fault) e h = kept_few (bad t.state fault).next.phase t.joined h
-enacted_few t w fine e h = kept_few (good_word t w).next.phase (joined_by t.joined w) (joined_few t w e h)
+enacted_few t w v h0 h1 = grind (arith, kept_few, joined_few)
 
 word_few : (t : Taker) (w : Word) → Few t.joined → Few (respond_word t w).next.joined
 unfolding respond_word
@@ -137,12 +123,7 @@ awaited_kept false m n h k = k
 
 pub input_kept : (l : Listener) (input : Input) → IsKept l → IsKept (after_input l input)
 unfolding react
-input_kept l (called c) h = answer_kept l (allowed l.state c) h
-input_kept l (taken words) h = record { phase = words_in_phase (taker_of l) words h.phase; few = words_few (taker_of l) words h.few }
-input_kept l (unread fault) h = record { phase = kept_twice (respond_fault l.state fault).next.phase l.joined; few = kept_few (respond_fault l.state fault).next.phase l.joined h.few }
-input_kept l opened h = awaited_kept (is_wait_transport l.state.phase) (begun l) (rests l) (record { phase = kept_twice Connecting l.joined; few = kept_few Connecting l.joined h.few }) h
-input_kept l (refused reason) h = awaited_kept (is_wait_transport l.state.phase) (denied reason l) (rests l) (stepped l (without_tokens Ended l.state) h) h
-input_kept l broken h = record { phase = kept_twice Ended l.joined; few = kept_few Ended l.joined h.few }
+input_kept l input h0 = grind (arith, answer_kept, words_in_phase, words_few, kept_twice, kept_few, awaited_kept, stepped)
 
 pub inputs_kept : (l : Listener) (inputs : List Input) → IsKept l → IsKept (after_inputs l inputs)
 inputs_kept l [] h = h
@@ -150,9 +131,7 @@ inputs_kept l (input ∷ inputs) h = inputs_kept (after_input l input) inputs (i
 
 -- something is joined only where tokens may be held
 held_by : (b : Bool) (joined : Option (List ℕ)) → (if◌then◌else◌ {A = Option (List ℕ)} (not b) None joined) ≡ joined → is_some joined ≡ true → b ≡ true
-held_by true joined k h = refl
-held_by false None k h = absurd (cc)
-held_by false (Some octets) k h = absurd (cc)
+held_by b joined h0 h1 = grind arith
 
 pub joined_holds : (l : Listener) → IsKept l → is_some l.joined ≡ true → may_hold l.state.phase ≡ true
 joined_holds l k h = held_by (may_hold l.state.phase) l.joined k.phase h

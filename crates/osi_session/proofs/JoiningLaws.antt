@@ -1,5 +1,5 @@
 -- What is joined of an unfinished SSDU, and what becomes of a word.
-use Rattle.std.proofs.Common.{◌≡◌, ◌∙◌, refl, sym, ap, subst, ℕ, ◌+◌, Bool, true, false, not, ◌&&◌, ◌||◌, if◌then◌else◌, nat_le, List, [], ◌∷◌, ◌++◌, length, Option, Some, None, is_none, Result}
+use Rattle.std.proofs.Common.{◌≡◌, ◌∙◌, refl, sym, ap, subst, ℕ, ◌+◌, Bool, true, false, not, ◌&&◌, ◌||◌, if◌then◌else◌, nat_le, List, [], ◌∷◌, ◌++◌, length, Option, Some, None, is_none, Result, arith}
 use Rattle.std.proofs.lemmas.List.{length-append}
 use Rattle.osi_session.specs.declared.state.State.{State}
 use Rattle.osi_session.specs.declared.faults.UnitFault.{UnitFault}
@@ -39,13 +39,7 @@ part_by : (n : ℕ) (v r e h p s : Bool) →
     else by_fault (if not h then (if p then (if s then None else Some (DataTooLong n)) else Some (BadEnclosure n)) else Some (TokenHeld n)))
     ≡ (if v || r then (if v then over else dropped) else if not e then faulty (Unexpected n) else if h then faulty (TokenHeld n)
     else if not p then faulty (BadEnclosure n) else if not s then faulty (DataTooLong n) else fine)
-part_by n true r e h p s = refl
-part_by n false true e h p s = refl
-part_by n false false false h p s = refl
-part_by n false false true true p s = refl
-part_by n false false true false false s = refl
-part_by n false false true false true false = refl
-part_by n false false true false true true = refl
+part_by n v r e h p s = grind arith
 
 pub part_verdict : (t : Taker) (place : Place) (octets : List ℕ) → word_verdict t (part place octets) ≡
     (if is_over t.state.phase || is_restarting t.state.phase then (if is_over t.state.phase then over else dropped)
@@ -72,10 +66,7 @@ misplaced_by : (v d e : Bool) (f g : UnitFault) (p q : Verdict) → q ≡ (if is
     (if v then over else if d then dropped else if not e then faulty f else q)
     ≡ (if (v || d) || is_faulty (if v then over else if d then dropped else if not e then faulty f else p)
     then (if v then over else if d then dropped else if not e then faulty f else p) else faulty g)
-misplaced_by true d e f g p q h = refl
-misplaced_by false true e f g p q h = refl
-misplaced_by false false false f g p q h = refl
-misplaced_by false false true f g p q h = h
+misplaced_by v d e f g p q h0 = grind arith
 
 -- its own fault comes first
 pub misplaced_verdict : (t : Taker) (u : Meaning) → (is_none t.joined || not (begins_anew u)) ≡ false →
@@ -102,11 +93,7 @@ bad_loud s f = and_false (is_nil (bad s f).shown)
 
 pub misplaced_loud : (s : State) (u : Meaning) (d : Bool) (f : UnitFault) → is_silent (respond_unit s u) ≡ false →
     is_silent (enacted s u (if d || is_faulty (verdict s u) then verdict s u else faulty f)) ≡ false
-misplaced_loud s u d f h = by (d || is_faulty (verdict s u))
-  where
-    by : (x : Bool) → is_silent (enacted s u (if x then verdict s u else faulty f)) ≡ false
-    by true = subst (λ (o : Outcome). is_silent o ≡ false) (enacts s u) h
-    by false = bad_loud s f
+misplaced_loud s u d f h0 = grind (arith, enacts, bad_loud)
 
 -- ---- what a message does, by its verdict among words
 

@@ -1,6 +1,6 @@
 -- What the taker of parts has joined, whatever its user calls between them: their octets, or nothing where it
 -- discards data. Nothing is asked of its functional units here: that the data is no fault is known from elsewhere.
-use Rattle.std.proofs.Common.{◌≡◌, refl, sym, ◌∙◌, ap, subst, ℕ, ◌≤◌, Bool, true, false, not, ◌||◌, ◌⊎◌, if◌then◌else◌, List, [], ◌++◌, length, Option, Some, None, Ok, inl, inr}
+use Rattle.std.proofs.Common.{◌≡◌, refl, sym, ◌∙◌, ap, subst, ℕ, ◌≤◌, Bool, true, false, not, ◌||◌, ◌⊎◌, if◌then◌else◌, List, [], ◌++◌, length, Option, Some, None, Ok, inl, inr, arith}
 use Rattle.std.proofs.lemmas.Bool.{cases_Bool, le-leb}
 use Rattle.osi_session.specs.declared.state.State.{State}
 use Rattle.osi_session.specs.declared.phases.Phase.{Phase}
@@ -25,11 +25,6 @@ use Rattle.osi_session.proofs.WordLaws.{word_at, kept_none, kept_some, kept_gone
 after_discards : (s : State) (c : Call) → may_call s.phase c ≡ true → discards s.phase ≡ true → discards (after s c).phase ≡ true
 after_discards s (Accept requirements serial sides sizes octets) m d = absurd (let z = excluded discards is_answering refl s.phase d in cc)
 after_discards s (Refuse octets) m d = refl
-after_discards s (Data octets) m d = d
-after_discards s (Give tokens) m d = d
-after_discards s (Please tokens octets) m d = d
-after_discards s (Minor confirm octets) m d = d
-after_discards s (MinorConfirm k octets) m d = d
 after_discards s (Major octets) m d = absurd (let z = excluded discards is_ready refl s.phase d in cc)
 after_discards s (MajorConfirm octets) m d = absurd (let z = excluded discards is_major_due refl s.phase d in cc)
 after_discards s (Restart k wishes octets) m d = refl
@@ -38,6 +33,7 @@ after_discards s (Release octets) m d = absurd (let z = excluded discards is_rea
 after_discards s (ReleaseAccept octets) m d = refl
 after_discards s (ReleaseRefuse octets) m d = absurd (let z = excluded discards is_release_due refl s.phase d in cc)
 after_discards s (Abort octets) m d = refl
+after_discards s _ m d = d
 
 pub goes_on_discarding : (s : State) (c : Call) (x : Step) → allowed s c ≡ Ok x → discards s.phase ≡ true → discards x.next.phase ≡ true
 goes_on_discarding s c x h d = let p = passed s c x h in subst (λ (y : Step). discards y.next.phase ≡ true) (sym p.gives) (after_discards s c p.phase d)
@@ -47,21 +43,12 @@ abbrev keeps_or_discards : Phase → Bool
 keeps_or_discards p = may_hold p || discards p
 
 after_keeps : (s : State) (c : Call) → may_call s.phase c ≡ true → keeps_or_discards (after s c).phase ≡ true
-after_keeps s (Accept requirements serial sides sizes octets) m = refl
-after_keeps s (Refuse octets) m = refl
 after_keeps s (Data octets) m = implied is_ready keeps_or_discards refl s.phase m
 after_keeps s (Give tokens) m = implied may_give keeps_or_discards refl s.phase m
 after_keeps s (Please tokens octets) m = implied may_ask keeps_or_discards refl s.phase m
 after_keeps s (Minor confirm octets) m = implied is_ready keeps_or_discards refl s.phase m
 after_keeps s (MinorConfirm k octets) m = implied may_confirm_minor keeps_or_discards refl s.phase m
-after_keeps s (Major octets) m = refl
-after_keeps s (MajorConfirm octets) m = refl
-after_keeps s (Restart k wishes octets) m = refl
-after_keeps s (RestartConfirm sides octets) m = refl
-after_keeps s (Release octets) m = refl
-after_keeps s (ReleaseAccept octets) m = refl
-after_keeps s (ReleaseRefuse octets) m = refl
-after_keeps s (Abort octets) m = refl
+after_keeps s _ m = refl
 
 by_phase : (holds gone : Bool) (joined begun : Option (List ℕ)) → (holds || gone) ≡ true → joined ≡ begun →
     ((if◌then◌else◌ {A = Option (List ℕ)} (not holds) None joined) ≡ begun) ⊎ (((if◌then◌else◌ {A = Option (List ℕ)} (not holds) None joined) ≡ None) × (gone ≡ true))
@@ -82,11 +69,7 @@ pub gone_is : (p : Phase) (joined : Option (List ℕ)) → discards p ≡ true �
 gone_is p joined d k = sym k ∙ kept_gone p joined (implied discards drops_parts refl p d)
 
 neither : (p : Phase) → discards p ≡ false → (is_restarting p ≡ false) × (is_over p ≡ false)
-neither p d = by (is_restarting p) (is_over p) d
-  where
-    by : (x y : Bool) → (x || y) ≡ false → (x ≡ false) × (y ≡ false)
-    by false y h = (refl, h)
-    by true y h = absurd (cc)
+neither p h0 = grind arith
 
 -- the taker discards data, or expects it and has joined what was begun
 which_way : (s : State) (joined begun : Option (List ℕ)) (o : List ℕ) → IsKeptIn s.phase joined → IsNoFault s o → IsJoinedAs s joined begun →

@@ -1,3 +1,4 @@
+pub mod Accepted
 mod StateLaws
 pub mod Begun
 pub mod CallLaws
@@ -30,7 +31,6 @@ pub mod JoiningLaws
 pub mod RoomLaws
 pub mod FollowLaws
 pub mod SessionMoves
-pub mod DataLaws
 pub mod PointLaws
 pub mod HearingLaws
 pub mod WordLaws

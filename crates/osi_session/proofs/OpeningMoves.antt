@@ -1,5 +1,5 @@
 -- What leads to a phase in which tokens may be held.
-use Rattle.std.proofs.Common.{inl, inr, ◌≡◌, refl, sym, subst, Bool, true, false, ◌||◌, List, [], ◌∷◌, if◌then◌else◌}
+use Rattle.std.proofs.Common.{inl, inr, ◌≡◌, refl, sym, subst, Bool, true, false, ◌||◌, List, [], ◌∷◌, if◌then◌else◌, arith}
 use Rattle.std.specs.List.{list_any}
 use Rattle.std.proofs.lemmas.Bool.{cases_Bool, or_left, or_right}
 use Rattle.osi_session.specs.declared.phases.Phase.{Phase}
@@ -37,11 +37,6 @@ chosen cause false p x y h k = k
 after_opens : (s : State) (c : Call) → may_call s.phase c ≡ true → OpenedBy (call_opens c) s.phase (after s c).phase
 after_opens s (Accept requirements serial sides sizes octets) p = λ h k. refl
 after_opens s (Refuse octets) p = λ h k. absurd (cc)
-after_opens s (Data octets) p = same _ s.phase
-after_opens s (Give tokens) p = same _ s.phase
-after_opens s (Please tokens octets) p = same _ s.phase
-after_opens s (Minor confirm octets) p = same _ s.phase
-after_opens s (MinorConfirm n octets) p = same _ s.phase
 after_opens s (Major octets) p = open_before _ s.phase MajorAsked (implied is_ready may_hold refl s.phase p)
 after_opens s (MajorConfirm octets) p = open_before _ s.phase Ready (implied is_major_due may_hold refl s.phase p)
 after_opens s (Restart n wishes octets) p = λ h k. absurd (cc)
@@ -50,6 +45,7 @@ after_opens s (Release octets) p = open_before _ s.phase Releasing (implied is_r
 after_opens s (ReleaseAccept octets) p = λ h k. absurd (cc)
 after_opens s (ReleaseRefuse octets) p = open_before _ s.phase Ready (implied is_release_due may_hold refl s.phase p)
 after_opens s (Abort octets) p = λ h k. absurd (cc)
+after_opens s _ p = same _ s.phase
 
 call_opened : (s : Listener) (c : Call) → OpenedBy (call_opens c) s.state.phase (after_input s (called c)).state.phase
 call_opened s c = call_cases (λ next. OpenedBy (call_opens c) s.state.phase next.phase) s c (same _ s.state.phase)
@@ -59,11 +55,6 @@ becomes_opens : (s : State) (u : Meaning) → is_expected s.phase u ≡ true →
 becomes_opens s (CN version_2 requirements serial wishes from to sizes octets) p = chosen _ (is_acceptable version_2 requirements sizes) s.phase _ _ (λ h k. absurd (cc)) (λ h k. absurd (cc))
 becomes_opens s (AC version_2 requirements serial sides sizes octets) p = λ h k. refl
 becomes_opens s (RF reason octets) p = λ h k. absurd (cc)
-becomes_opens s (DT octets) p = same _ s.phase
-becomes_opens s (GT tokens) p = same _ s.phase
-becomes_opens s (PT tokens octets) p = same _ s.phase
-becomes_opens s (MIP confirm n octets) p = same _ s.phase
-becomes_opens s (MIA n octets) p = same _ s.phase
 becomes_opens s (MAP n octets) p = open_before _ s.phase MajorDue (implied is_ready may_hold refl s.phase p)
 becomes_opens s (MAA n octets) p = open_before _ s.phase Ready (implied is_major_asked may_hold refl s.phase p)
 becomes_opens s (RS kind n wishes octets) p = chosen _ (stands s n) s.phase _ _ (λ h k. absurd (cc)) (same _ s.phase)
@@ -72,7 +63,7 @@ becomes_opens s (FN octets) p = open_before _ s.phase ReleaseDue (implied is_rea
 becomes_opens s (DN octets) p = λ h k. absurd (cc)
 becomes_opens s (NF octets) p = open_before _ s.phase Ready (implied is_releasing may_hold refl s.phase p)
 becomes_opens s (AB bits octets) p = λ h k. absurd (cc)
-becomes_opens s AA p = same _ s.phase
+becomes_opens s _ p = same _ s.phase
 
 unit_opened : (s : State) (u : Meaning) → OpenedBy (unit_opens u) s.phase (respond_unit s u).next.phase
 unit_opened s u = unit_cases (λ next. OpenedBy (unit_opens u) s.phase next.phase) s u (record {
@@ -84,10 +75,7 @@ unit_opened s u = unit_cases (λ next. OpenedBy (unit_opens u) s.phase next.phas
 
 -- two units, one after the other
 both_opened : (a b : Bool) (p mid q : Phase) → OpenedBy a p mid → OpenedBy b mid q → OpenedBy (a || b) p q
-both_opened a b p mid q f g h k = elim (cases_Bool (may_hold mid)) [
-  | inl t ↦ or_left a b (f h t)
-  | inr t ↦ or_right a b (g t k)
-]
+both_opened a b p mid q h0 h1 = grind (arith, cases_Bool, or_left, or_right)
 
 weaker : (a b : Bool) (p q : Phase) → OpenedBy a p q → OpenedBy (a || b) p q
 weaker a b p q f h k = or_left a b (f h k)

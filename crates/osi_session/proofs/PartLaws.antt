@@ -1,5 +1,5 @@
 -- A part where data is expected, and where it is discarded.
-use Rattle.std.proofs.Common.{◌≡◌, refl, sym, ◌∙◌, ap, ℕ, Bool, true, false, not, ◌||◌, ◌⊎◌, if◌then◌else◌, nat_le, List, ◌++◌, length, Option, Some, None, inl, inr}
+use Rattle.std.proofs.Common.{◌≡◌, refl, sym, ◌∙◌, ap, ℕ, Bool, true, false, not, ◌||◌, ◌⊎◌, if◌then◌else◌, nat_le, List, ◌++◌, length, Option, Some, None, inl, inr, arith}
 use Rattle.osi_session.specs.declared.state.State.{State}
 use Rattle.osi_session.specs.declared.faults.UnitFault.TheVariants.{Unexpected, TokenHeld}
 use Rattle.osi_session.specs.Phases.{is_restarting, is_over, is_aborting, takes_data}
@@ -33,9 +33,7 @@ data_fine s o e =
     let x = e.phase in let t = e.token in rw (v, r, x, t) refl
 
 when_expected : (o : List ℕ) (x h : Bool) → is_faulty (if not x then faulty (Unexpected (si (DT o))) else by_fault (if not h then None else Some (TokenHeld (si (DT o))))) ≡ false → (x ≡ true) × (h ≡ false)
-when_expected o true false e = (refl, refl)
-when_expected o true true e = absurd (cc)
-when_expected o false h e = absurd (cc)
+when_expected o x h h0 = grind arith
 
 at_phase : (s : State) (o : List ℕ) → is_over s.phase ≡ false → is_restarting s.phase ≡ false →
     verdict s (DT o) ≡ (if not (takes_data s.phase) then faulty (Unexpected (si (DT o))) else by_fault (if not s.held.data_token then None else Some (TokenHeld (si (DT o)))))
@@ -66,20 +64,10 @@ data_dropped : (s : State) (o : List ℕ) → is_restarting s.phase ≡ true →
 data_dropped s o h = let v = excluded is_restarting is_over refl s.phase h in word_at (record { state = s; joined = None }) (says (DT o)) dropped (rw (v, h) refl)
 
 which : (s : State) → discards s.phase ≡ true → (is_restarting s.phase ≡ true) ⊎ (is_over s.phase ≡ true)
-which s d = by (is_restarting s.phase) refl d
-  where
-    by : (b : Bool) → is_restarting s.phase ≡ b → (b || is_over s.phase) ≡ true → (is_restarting s.phase ≡ true) ⊎ (is_over s.phase ≡ true)
-    by true e h = inl e
-    by false e h = inr h
+which s h0 = grind arith
 
 pub part_discarded : (s : State) (place : Place) (o : List ℕ) → discards s.phase ≡ true → respond_word (record { state = s; joined = None }) (part place o) ≡ heard None (nothing s)
-part_discarded s place o d = elim (which s d) [
-  | inl h ↦ part_dropped s place o h
-  | inr h ↦ part_over s place o h
-]
+part_discarded s place o h0 = grind (arith, which, part_dropped, part_over)
 
 pub data_discarded : (s : State) (o : List ℕ) → discards s.phase ≡ true → respond_word (record { state = s; joined = None }) (says (DT o)) ≡ heard None (nothing s)
-data_discarded s o d = elim (which s d) [
-  | inl h ↦ data_dropped s o h
-  | inr h ↦ data_over s o h
-]
+data_discarded s o h0 = grind (arith, which, data_dropped, data_over)

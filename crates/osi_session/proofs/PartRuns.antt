@@ -43,11 +43,7 @@ Leaves s = Awaits s ⊎ (discards s.phase ≡ true)
 
 not_held : (s : State) → has_right s token.data_token ≡ true → s.held.data_token ≡ false → s.units.half_duplex ≡ false
 unfolding available
-not_held s h e = by s.units.half_duplex (let w : (not s.units.half_duplex || s.held.data_token) ≡ true = h in w)
-  where
-    by : (b : Bool) → (not b || s.held.data_token) ≡ true → b ≡ false
-    by false k = refl
-    by true k = cc
+not_held s h0 h1 = grind arith
 
 -- without half-duplex there is no major point
 no_major : (u : FunctionalUnits) → IsOfProfile u → u.half_duplex ≡ false → u.major ≡ false
@@ -62,7 +58,6 @@ given_away held tokens h = rw h refl
 
 after_leaves : (s : State) (c : Call) → may_call s.phase c ≡ true → AllHold (needs s c) → Awaits s → Leaves (after s c)
 after_leaves s (Accept requirements serial sides sizes octets) m n a = absurd (let z = excluded takes_data is_answering refl s.phase a.expects.phase in cc)
-after_leaves s (Refuse octets) m n a = inr refl
 after_leaves s (Data octets) m n a = inl a
 after_leaves s (Give tokens) m n a = still s _ refl a.expects.phase (given_away s.held tokens a.expects.token) a.profile
 after_leaves s (Please tokens octets) m n a = inl a
@@ -72,12 +67,10 @@ after_leaves s (Major octets) m n a =
     absurd (let r = and_parts (has_right s token.data_token) (has_right s token.minor && has_right s token.major) n.1.0 in
     let none = no_major s.units a.profile (not_held s r.0 a.expects.token) in let some : s.units.major ≡ true = n.0 in cc)
 after_leaves s (MajorConfirm octets) m n a = absurd (let z = excluded takes_data is_major_due refl s.phase a.expects.phase in cc)
-after_leaves s (Restart k wishes octets) m n a = inr refl
 after_leaves s (RestartConfirm sides octets) m n a = absurd (let z = excluded takes_data is_restart_due refl s.phase a.expects.phase in cc)
 after_leaves s (Release octets) m n a = still s _ refl refl a.expects.token a.profile
-after_leaves s (ReleaseAccept octets) m n a = inr refl
 after_leaves s (ReleaseRefuse octets) m n a = absurd (let z = excluded takes_data is_release_due refl s.phase a.expects.phase in cc)
-after_leaves s (Abort octets) m n a = inr refl
+after_leaves s _ m n a = inr refl
 
 leaves : (s : State) (c : Call) (x : Step) → allowed s c ≡ Ok x → Awaits s → Leaves x.next
 leaves s c x h a = let p = passed s c x h in subst (λ (y : Step). Leaves y.next) (sym p.gives) (after_leaves s c p.phase p.needed a)
@@ -191,12 +184,7 @@ whole_moves s waiting o = taken_is (at s waiting None) (words_of (DT o)) (respon
 
 last_word : (s : State) (joined : Option (List ℕ)) (front last : List ℕ) → Stands s joined (Some front) → length (front ++ last) ≤ most_data →
     respond_word (record { state = s; joined = joined }) (part Last last) ≡ respond_word (record { state = s; joined = None }) (says (DT (front ++ last)))
-last_word s joined front last st short = elim st [
-  | inl a ↦ subst (λ (k : Option (List ℕ)). respond_word (record { state = s; joined = k }) (part Last last) ≡ respond_word (record { state = s; joined = None }) (says (DT (front ++ last))))
-      (sym a.1) (last_joined s front last short a.0.expects)
-  | inr d ↦ subst (λ (k : Option (List ℕ)). respond_word (record { state = s; joined = k }) (part Last last) ≡ respond_word (record { state = s; joined = None }) (says (DT (front ++ last))))
-      (sym d.1) (last_discarded s front last d.0)
-]
+last_word s joined front last h0 h1 = grind (arith, last_joined, expects, last_discarded)
 
 last_moves : (s : State) (waiting : Option Meaning) (joined : Option (List ℕ)) (front last : List ℕ) → Stands s joined (Some front) → length (front ++ last) ≤ most_data →
     react (at s waiting joined) (part_comes Last last) ≡ react (at s waiting None) (whole_comes (front ++ last))
@@ -216,8 +204,7 @@ grows [] b front h = let e : b ≡ front = some_is b front h in let l = ap lengt
 grows (calls c ∷ acts) b front h = grows acts b front h
 grows (comes Middle o ∷ acts) b front h =
     let g = grows acts (b ++ o) front h in let l = length-append b o in omega arith
-grows (comes First o ∷ acts) b front h = absurd h
-grows (comes Last o ∷ acts) b front h = absurd h
+grows _ b front h = absurd h
 
 runs : (s : State) (waiting : Option Meaning) (joined begun : Option (List ℕ)) (acts : List Act) (front last : List ℕ) → Stands s joined begun → AreParts begun acts front → length (front ++ last) ≤ most_data →
     react (after_inputs (at s waiting joined) (map act_in_words acts)) (part_comes Last last)
@@ -248,13 +235,7 @@ runs s waiting joined (Some b) (comes Last o ∷ acts) front last st h short = a
 -- ---- at the first part
 
 starts : (s : State) (o : List ℕ) → IsNoFault s o → HasProfile s → Stands s None None
-starts s o fit f = elim (cases_Bool (is_over s.phase)) [
-  | inl v ↦ inr (implied is_over discards refl s.phase v, refl)
-  | inr v ↦ elim (cases_Bool (is_restarting s.phase)) [
-    | inl r ↦ inr (implied is_restarting discards refl s.phase r, refl)
-    | inr r ↦ (let e = expects s o v r fit in inl (record { expects = e; profile = f (implied takes_data has_profile refl s.phase e.phase) }, refl))
-  ]
-]
+starts s o h0 h1 = grind (arith, cases_Bool, implied, expects)
 
 abbrev Same : List Act → List ℕ → List ℕ → Listener → Type 0
 Same acts front last l = react (after_inputs l (map act_in_words acts)) (part_comes Last last) ≡ react (after_inputs l (calls_in acts)) (whole_comes (front ++ last))

@@ -52,19 +52,16 @@ all_pass (t ∷ ts) a h = rw h.0 (all_pass ts a h.1)
 over_calls : (c : Call) (p : Phase) → may_call p c ≡ true → is_over p ≡ false
 over_calls (Accept requirements serial sides sizes octets) p h = excluded is_answering is_over refl p h
 over_calls (Refuse octets) p h = excluded is_answering is_over refl p h
-over_calls (Data octets) p h = excluded is_ready is_over refl p h
 over_calls (Give tokens) p h = excluded may_give is_over refl p h
 over_calls (Please tokens octets) p h = excluded may_ask is_over refl p h
-over_calls (Minor confirm octets) p h = excluded is_ready is_over refl p h
 over_calls (MinorConfirm n octets) p h = excluded may_confirm_minor is_over refl p h
-over_calls (Major octets) p h = excluded is_ready is_over refl p h
 over_calls (MajorConfirm octets) p h = excluded is_major_due is_over refl p h
 over_calls (Restart n wishes octets) p h = excluded may_restart is_over refl p h
 over_calls (RestartConfirm sides octets) p h = excluded is_restart_due is_over refl p h
-over_calls (Release octets) p h = excluded is_ready is_over refl p h
 over_calls (ReleaseAccept octets) p h = excluded is_release_due is_over refl p h
 over_calls (ReleaseRefuse octets) p h = excluded is_release_due is_over refl p h
 over_calls (Abort octets) p h = excluded may_abort is_over refl p h
+over_calls _ p h = excluded is_ready is_over refl p h
 
 -- a call that passes every test is accepted
 pub accepted : (s : State) (c : Call) (x : Step) → Passed s c x → allowed s c ≡ Ok x

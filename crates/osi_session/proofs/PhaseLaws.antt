@@ -1,5 +1,5 @@
 -- What is true of each phase.
-use Rattle.std.proofs.Common.{◌≡◌, refl, Bool, true, false, not, ◌||◌}
+use Rattle.std.proofs.Common.{◌≡◌, refl, Bool, true, false, not, ◌||◌, arith}
 use Rattle.std.proofs.lemmas.Bool.{and_parts}
 use Rattle.osi_session.specs.declared.phases.Phase.{Phase}
 use Rattle.osi_session.specs.declared.phases.Phase.TheVariants.{WaitTransport, WaitCn, Connecting, Answering, Ready, MajorAsked, MajorDue, Releasing, ReleaseDue, Restarting, RestartDue, Aborting, Ended}
@@ -48,9 +48,7 @@ pub implied : (f g : Phase → Bool) → every_phase (λ p. not (f p) || g p) �
 implied f g h p k = cut_or (f p) (g p) (every_is (λ p. not (f p) || g p) h p) k
 
 cut_not : (a b : Bool) → (not a || not b) ≡ true → a ≡ true → b ≡ false
-cut_not true false h k = refl
-cut_not true true h k = absurd (cc)
-cut_not false b h k = absurd (cc)
+cut_not a b h0 h1 = grind arith
 
 -- two tests of which no phase passes both
 pub excluded : (f g : Phase → Bool) → every_phase (λ p. not (f p) || not (g p)) ≡ true → (p : Phase) → f p ≡ true → g p ≡ false

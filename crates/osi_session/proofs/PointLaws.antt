@@ -1,7 +1,7 @@
--- Minor points and confirmations: those that come where they are expected, and those that are sent.
+-- Data, minor points and confirmations: those that come where they are expected, and points that are sent.
 use Rattle.std.proofs.Common.{◌≡◌, ◌∙◌, ap, ℕ, ◌≤◌, ◌==◌, nat_le, nat_lt, Bool, List, [], ◌∷◌, Option, Some, None, is_some, Result, Ok, true, false, refl, sym, subst, length}
 use Rattle.osi_spdu.specs.declared.faults.SpduFault.{SpduFault}
-use Rattle.osi_message.specs.Meanings.{Meaning, MIP, MIA, GT}
+use Rattle.osi_message.specs.Meanings.{Meaning, DT, MIP, MIA, GT}
 use Rattle.osi_message.specs.Parting.{tsdus_of}
 use Rattle.osi_message.specs.Reading.{said_at}
 use Rattle.osi_message.specs.Tokens.{no_token}
@@ -9,7 +9,7 @@ use Rattle.osi_message.specs.Words.{Words, says}
 use Rattle.osi_session.specs.declared.indications.Indication.{Indication}
 use Rattle.osi_session.specs.declared.numbers.Numbers.{Numbers}
 use Rattle.osi_session.specs.declared.phases.Phase.{Phase}
-use Rattle.osi_session.specs.declared.phases.Phase.TheVariants.{Ready}
+use Rattle.osi_session.specs.declared.phases.Phase.TheVariants.{Ready, Releasing}
 use Rattle.osi_session.specs.declared.state.State.{State}
 use Rattle.osi_session.specs.declared.plans.PlannedPoint.{PlannedPoint}
 use Rattle.osi_session.specs.Allowed.{Step, allowed}
@@ -17,17 +17,27 @@ use Rattle.osi_session.specs.Calls.{Call, HasSerial}
 use Rattle.osi_session.specs.Joining.{Taker, heard, joined_octets, kept_in, respond_came}
 use Rattle.osi_session.specs.Listening.{Listener, called, react, came_as, taker_of}
 use Rattle.osi_session.specs.Numbers.{point_taken, minor_confirmed}
-use Rattle.osi_session.specs.Phases.{is_ready}
+use Rattle.osi_session.specs.Phases.{is_ready, takes_data}
 use Rattle.osi_session.specs.Respond.{respond_unit, shows, take_expected}
 use Rattle.osi_session.specs.Points.{in_numbers, only_shows, PlansPoint}
 use Rattle.osi_session.specs.Sizes.{limit_of}
-use Rattle.osi_session.specs.Shown.{Shown, Minor, MinorConfirmed, shown_by}
+use Rattle.osi_session.specs.Shown.{Shown, Data, Minor, MinorConfirmed, shown_by}
 use Rattle.osi_session.specs.Sound.{IsSound}
 use Rattle.osi_session.proofs.MoveLaws.{came_is, call_leaves, call_passes, call_sends}
 use Rattle.osi_session.proofs.SendableLaws.{call_sendable}
 use Rattle.osi_session.proofs.SessionMoves.{holds, leaves_as, leaves_octets, stays_in}
 use Rattle.osi_session.proofs.SoundCalls.{call_sound}
 use Rattle.osi_session.proofs.WordLaws.{kept_none, plain_word, word_behind}
+
+data_in : (s : State) (octets : List ℕ) (p : Phase) → s.phase ≡ p → takes_data p ≡ true → s.held.data_token ≡ false → respond_unit s (DT octets) ≡ shows s (Data octets)
+unfolding respond_unit take_expected
+data_in s octets Ready e h k = rw (e, k) refl
+data_in s octets Releasing e h k = rw (e, k) refl
+data_in s octets _ e h k = absurd (cc)
+
+-- data that is expected is shown, and changes nothing
+pub data_is_shown : (s : State) (octets : List ℕ) → takes_data s.phase ≡ true → s.held.data_token ≡ false → respond_unit s (DT octets) ≡ shows s (Data octets)
+data_is_shown s octets h k = data_in s octets s.phase refl h k
 
 point_in : (s : State) (n : ℕ) (p : Phase) → s.phase ≡ p → is_ready p ≡ true → s.units.minor ≡ true → s.held.data_token ≡ false → s.held.minor ≡ false
     → (n == s.numbers.next) ≡ true → respond_unit s (MIP true n []) ≡ shows (record s { numbers = point_taken s.numbers }) (Minor n true [])

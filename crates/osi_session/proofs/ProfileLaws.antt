@@ -53,12 +53,7 @@ profile_of bits h = by (bits == 2) refl h
 -- ---- the units of an AC, in those that were asked for
 
 both_duplex : (half duplex b d : Bool) → duplex ≡ not half → ((half && b) || (duplex && d)) ≡ true → (duplex && d) ≡ not (half && b)
-both_duplex true true b d e h = absurd (cc)
-both_duplex true false true d e h = refl
-both_duplex true false false d e h = absurd (cc)
-both_duplex false true b true e h = refl
-both_duplex false true b false e h = absurd (cc)
-both_duplex false false b d e h = absurd (cc)
+both_duplex half duplex b d h0 h1 = grind arith
 
 first_of : (a b : Bool) → (a && b) ≡ true → a ≡ true
 first_of true b h = refl
@@ -69,12 +64,7 @@ none_of a b h = rw h refl
 
 pub both_profile : (a b : FunctionalUnits) → IsOfProfile a → has_data (both_units a b) ≡ true → IsOfProfile (both_units a b)
 unfolding both_units has_data
-both_profile a b p h = record {
-  duplex = both_duplex a.half_duplex a.duplex b.half_duplex b.duplex p.duplex h;
-  alone = λ d.
-      let q = p.alone (first_of a.duplex b.duplex d) in
-      (none_of a.minor b.minor q.0, none_of a.major b.major q.1, none_of a.resynchronize b.resynchronize q.2, none_of a.negotiated_release b.negotiated_release q.3);
-}
+both_profile a b h0 h1 = grind (arith, both_duplex, first_of, none_of)
 
 -- ---- what each input leaves
 
@@ -86,11 +76,6 @@ after_profile : (s : State) (c : Call) → may_call s.phase c ≡ true → AllHo
 after_profile s (Accept requirements serial sides sizes octets) m n h = λ k.
     profile_of requirements (and_parts (units_within (functional_units requirements) s.units) (is_profile requirements) n.0).1
 after_profile s (Refuse octets) m n h = λ k. absurd (cc)
-after_profile s (Data octets) m n h = h
-after_profile s (Give tokens) m n h = h
-after_profile s (Please tokens octets) m n h = h
-after_profile s (Minor confirm octets) m n h = h
-after_profile s (MinorConfirm k octets) m n h = h
 after_profile s (Major octets) m n h = λ k. h (implied is_ready has_profile refl s.phase m)
 after_profile s (MajorConfirm octets) m n h = λ k. h (implied is_major_due has_profile refl s.phase m)
 after_profile s (Restart k wishes octets) m n h = λ k. h (implied may_restart has_profile refl s.phase m)
@@ -99,6 +84,7 @@ after_profile s (Release octets) m n h = λ k. h (implied is_ready has_profile r
 after_profile s (ReleaseAccept octets) m n h = λ k. absurd (cc)
 after_profile s (ReleaseRefuse octets) m n h = λ k. h (implied is_release_due has_profile refl s.phase m)
 after_profile s (Abort octets) m n h = λ k. absurd (cc)
+after_profile s _ m n h = h
 
 call_profile : (s : State) (c : Call) (x : Step) → allowed s c ≡ Ok x → HasProfile s → HasProfile x.next
 call_profile s c x e h =
@@ -113,11 +99,6 @@ becomes_profile s (AC version_2 requirements serial sides sizes octets) x m h = 
     let b = and_parts (has_data (both_units s.units (functional_units requirements))) (are_sizes sizes) a.1 in
     both_profile s.units (functional_units requirements) (h (implied is_connecting has_profile refl s.phase x)) b.0
 becomes_profile s (RF reason octets) x m h = λ k. absurd (cc)
-becomes_profile s (DT octets) x m h = h
-becomes_profile s (GT tokens) x m h = h
-becomes_profile s (PT tokens octets) x m h = h
-becomes_profile s (MIP confirm n octets) x m h = h
-becomes_profile s (MIA n octets) x m h = h
 becomes_profile s (MAP n octets) x m h = λ k. h (implied is_ready has_profile refl s.phase x)
 becomes_profile s (MAA n octets) x m h = λ k. h (implied is_major_asked has_profile refl s.phase x)
 becomes_profile s (RS kind n wishes octets) x m h = chosen (stands s n) _ _ (λ k. h (implied takes_restart has_profile refl s.phase x)) h
@@ -126,7 +107,7 @@ becomes_profile s (FN octets) x m h = λ k. h (implied is_ready has_profile refl
 becomes_profile s (DN octets) x m h = λ k. absurd (cc)
 becomes_profile s (NF octets) x m h = λ k. h (implied is_releasing has_profile refl s.phase x)
 becomes_profile s (AB bits octets) x m h = λ k. absurd (cc)
-becomes_profile s AA x m h = h
+becomes_profile s _ x m h = h
 
 unit_profile : (s : State) (u : Meaning) → HasProfile s → HasProfile (respond_unit s u).next
 unit_profile s u h = unit_cases HasProfile s u (record {

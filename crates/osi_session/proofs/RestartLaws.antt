@@ -120,14 +120,4 @@ agreed c o wishes asked octets others x = elim (cases_order c.numbers.next o.num
 pub one_answers : (c o : State) (wishes asked : TokenSetting) (octets others : List ℕ) → AreCrossed c o →
     ((is_restart_due (after_restart c o.numbers.next asked others).phase ≡ true) × (is_restarting (after_restart o c.numbers.next wishes octets).phase ≡ true))
     ⊎ ((is_restarting (after_restart c o.numbers.next asked others).phase ≡ true) × (is_restart_due (after_restart o c.numbers.next wishes octets).phase ≡ true))
-one_answers c o wishes asked octets others x = elim (cases_order c.numbers.next o.numbers.next) [
-  | inl e ↦
-      let h = of_equal c o x e in
-      inr ((yields_next c o.numbers.next asked others x.asked x.other_number h.1).1, (stands_next o c.numbers.next wishes octets x.other_asked x.number h.0).1)
-  | inr (inl lt) ↦
-      let h = of_lower c o x.asked x.other_asked lt in
-      inr ((yields_next c o.numbers.next asked others x.asked x.other_number h.1).1, (stands_next o c.numbers.next wishes octets x.other_asked x.number h.0).1)
-  | inr (inr gt) ↦
-      let h = of_lower o c x.other_asked x.asked gt in
-      inl ((stands_next c o.numbers.next asked others x.asked x.other_number h.0).1, (yields_next o c.numbers.next wishes octets x.other_asked x.number h.1).1)
-]
+one_answers c o wishes asked octets others h0 = grind (arith, cases_order, of_equal, yields_next, stands_next, of_lower)

@@ -70,9 +70,7 @@ takes_behind j a b g h = by_takes (quiet (heard_then a b)) (size j) (size b.next
 
 connect_quiet : (v d : Bool) (s a b : State) (i : Shown) (r t : Meaning) →
     (is_nil (if v && d then i ∷ [] else []) && is_none (if not v then Some r else (if not d then Some t else None))) ≡ true → (if v && d then a else b) ≡ s
-connect_quiet true true s a b i r t h = absurd (cc)
-connect_quiet true false s a b i r t h = absurd (cc)
-connect_quiet false d s a b i r t h = absurd (cc)
+connect_quiet v d s a b i r t h0 = grind arith
 
 restart_quiet : (b : Bool) (s a : State) (i : Shown) → (is_nil (if b then i ∷ [] else []) && true) ≡ true → (if b then a else s) ≡ s
 restart_quiet true s a i h = absurd (cc)
@@ -85,22 +83,12 @@ not_both false h = cc
 quiet_good : (s : State) (u : Meaning) → is_silent (good s u) ≡ true → becomes s u ≡ s
 quiet_good s (CN version_2 requirements serial wishes from to sizes octets) h =
     connect_quiet version_2 (has_data (functional_units requirements) && are_sizes sizes) s _ _ _ _ _ h
-quiet_good s (AC version_2 requirements serial sides sizes octets) h = absurd (cc)
-quiet_good s (RF reason octets) h = absurd (cc)
 quiet_good s (DT octets) h = refl
-quiet_good s (GT tokens) h = absurd (cc)
 quiet_good s (PT tokens octets) h = refl
-quiet_good s (MIP confirm n octets) h = absurd (cc)
-quiet_good s (MIA n octets) h = absurd (cc)
-quiet_good s (MAP n octets) h = absurd (cc)
-quiet_good s (MAA n octets) h = absurd (cc)
 quiet_good s (RS kind n wishes octets) h = restart_quiet (stands s n) s _ _ h
-quiet_good s (RA n sides octets) h = absurd (cc)
-quiet_good s (FN octets) h = absurd (cc)
-quiet_good s (DN octets) h = absurd (cc)
-quiet_good s (NF octets) h = absurd (cc)
 quiet_good s (AB bits octets) h = absurd (not_both _ h)
 quiet_good s AA h = refl
+quiet_good s _ h = absurd (cc)
 
 -- ---- a quiet word joins no less
 
@@ -133,11 +121,7 @@ fine_grows t (part Middle octets) k e = λ q. early_grows t (part Middle octets)
 fine_grows t (part Last octets) k e = subst (Grows t.joined) (sym (last_is t octets e)) (λ q. absurd (cc))
 
 over_by : (b d x : Bool) (n : UnitFault) (f : Option UnitFault) → (if b then over else if d then dropped else if not x then faulty n else by_fault f) ≡ over → b ≡ true
-over_by true d x n f h = refl
-over_by false true x n f h = absurd (cc)
-over_by false false false n f h = absurd (cc)
-over_by false false true n None h = absurd (cc)
-over_by false false true n (Some fault) h = absurd (cc)
+over_by b d x n f h0 = grind arith
 
 loud_or : (s : State) (fault : UnitFault) → is_silent (bad s fault) ≡ true → ⊥
 loud_or s fault h = let k = bad_loud s fault in cc
@@ -151,10 +135,7 @@ live_grows t w (faulty fault) k o e = subst (Grows t.joined) (sym (word_at t w (
 live_grows t w fine k o e = fine_grows t w k e
 
 word_grows : (t : Taker) (w : Word) → InPhase t → Grows t.joined (respond_word t w)
-word_grows t w k = elim (cases_Bool (is_over t.state.phase)) [
-  | inl o ↦ let z = gone_size t k o in λ q. omega arith
-  | inr o ↦ live_grows t w (word_verdict t w) k o refl
-]
+word_grows t w h0 = grind (arith, cases_Bool, gone_size, live_grows)
 
 pub word_in_phase : (t : Taker) (w : Word) → InPhase (respond_word t w).next
 word_in_phase t w = ap (λ (r : Taker). r.joined) (word_kept t w)

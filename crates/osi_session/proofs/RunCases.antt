@@ -1,5 +1,5 @@
 -- The outcomes of each event.
-use Rattle.std.proofs.Common.{◌≡◌, refl, ℕ, Bool, true, false, not, Option, Some, None, Ok, Err, if◌then◌else◌}
+use Rattle.std.proofs.Common.{◌≡◌, refl, ℕ, Bool, true, false, not, Option, Some, None, Ok, Err, if◌then◌else◌, arith}
 use Rattle.osi_spdu.specs.declared.faults.SpduFault.{SpduFault}
 use Rattle.osi_session.specs.declared.phases.Phase.TheVariants.{Connecting, Aborting, Ended}
 use Rattle.osi_session.specs.declared.faults.UnitFault.{UnitFault}
@@ -46,9 +46,7 @@ unfolding take_expected
 expected_cases P s u h k = judged_cases P s u (first_fault (si u) (conditions s u)) h (λ e. k (all_met (si u) (conditions s u) e))
 
 aborting_cases : (P : State → Type 0) (s : State) (u : Meaning) → P s → P (without_tokens Ended s) → P (in_aborting s u).next
-aborting_cases P s (AB bits octets) h k = k
-aborting_cases P s AA h k = k
-aborting_cases P s _ h k = h
+aborting_cases P s u h0 h1 = grind arith
 
 ended_cases : (P : State → Type 0) (s : State) (u : Meaning) → P s → P (in_ended s u).next
 ended_cases P s (AB bits octets) h = h

@@ -75,14 +75,7 @@ pub awaiting_fresh : IsFresh awaiting
 awaiting_fresh = record { phase = refl; held = refl; base = refl; numbers = refl; first = omega arith; sizes = refl }
 
 pub asking_fresh : (o : Opening) → IsFresh (asking o)
-asking_fresh o = record {
-  phase = refl;
-  held = refl;
-  base = refl;
-  numbers = refl;
-  first = first_small (has_points (functional_units (unit_bits o.requirements))) o.serial.number o.serial.small;
-  sizes = user_sizes o.sizes;
-}
+asking_fresh o = grind (arith, first_small, user_sizes)
 
 pub fresh_sound : (s : State) → IsFresh s → IsSound s
 fresh_sound s h =

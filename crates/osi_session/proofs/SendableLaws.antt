@@ -31,37 +31,11 @@ use Rattle.osi_session.proofs.SizeLaws.{answered_are, user_sizes}
 
 sends_version : (s : State) (c : Call) → is_of_version_2 (sends s c) ≡ true
 sends_version s (Accept requirements serial sides sizes octets) = refl
-sends_version s (Refuse octets) = refl
-sends_version s (Data octets) = refl
-sends_version s (Give tokens) = refl
-sends_version s (Please tokens octets) = refl
-sends_version s (Minor confirm octets) = refl
-sends_version s (MinorConfirm n octets) = refl
-sends_version s (Major octets) = refl
-sends_version s (MajorConfirm octets) = refl
-sends_version s (Restart n wishes octets) = refl
-sends_version s (RestartConfirm sides octets) = refl
-sends_version s (Release octets) = refl
-sends_version s (ReleaseAccept octets) = refl
-sends_version s (ReleaseRefuse octets) = refl
-sends_version s (Abort octets) = refl
+sends_version s _ = refl
 
 sends_addressed : (s : State) (c : Call) → IsAddressed (sends s c)
 sends_addressed s (Accept requirements serial sides sizes octets) = tt
-sends_addressed s (Refuse octets) = tt
-sends_addressed s (Data octets) = tt
-sends_addressed s (Give tokens) = tt
-sends_addressed s (Please tokens octets) = tt
-sends_addressed s (Minor confirm octets) = tt
-sends_addressed s (MinorConfirm n octets) = tt
-sends_addressed s (Major octets) = tt
-sends_addressed s (MajorConfirm octets) = tt
-sends_addressed s (Restart n wishes octets) = tt
-sends_addressed s (RestartConfirm sides octets) = tt
-sends_addressed s (Release octets) = tt
-sends_addressed s (ReleaseAccept octets) = tt
-sends_addressed s (ReleaseRefuse octets) = tt
-sends_addressed s (Abort octets) = tt
+sends_addressed s _ = tt
 
 serial_small : (b : Bool) (serial : ℕ) → serial < 1000000 → IsSmall (if b then Some serial else None)
 serial_small true serial h = omega arith
@@ -69,10 +43,6 @@ serial_small false serial h = tt
 
 sends_numbered : (s : State) (c : Call) → HasSerial c → may_call s.phase c ≡ true → AllHold (needs s c) → IsSound s → IsNumbered (sends s c)
 sends_numbered s (Accept requirements serial sides sizes octets) small p t h = serial_small (has_points (functional_units requirements)) serial small.0
-sends_numbered s (Refuse octets) small p t h = tt
-sends_numbered s (Data octets) small p t h = tt
-sends_numbered s (Give tokens) small p t h = tt
-sends_numbered s (Please tokens octets) small p t h = tt
 sends_numbered s (Minor confirm octets) small p t h = leb-true s.numbers.next last_number t.1.1.0
 sends_numbered s (MinorConfirm n octets) small p t h =
     let a = and_parts s.numbers.answers (nat_le s.numbers.confirmed n && nat_lt n s.numbers.next) t.1.0 in
@@ -82,27 +52,11 @@ sends_numbered s (Major octets) small p t h = leb-true s.numbers.next last_numbe
 sends_numbered s (MajorConfirm octets) small p t h = let last = h.ordered.last in omega arith
 sends_numbered s (Restart n wishes octets) small p t h = leb-true n last_number (and_parts _ _ (and_parts _ _ t.1.0).1).0
 sends_numbered s (RestartConfirm sides octets) small p t h = let last = h.restart p in omega arith
-sends_numbered s (Release octets) small p t h = tt
-sends_numbered s (ReleaseAccept octets) small p t h = tt
-sends_numbered s (ReleaseRefuse octets) small p t h = tt
-sends_numbered s (Abort octets) small p t h = tt
+sends_numbered s _ small p t h = tt
 
 sends_sized : (s : State) (c : Call) → HasSerial c → IsSound s → is_sized (sends s c) ≡ true
 sends_sized s (Accept requirements serial sides sizes octets) small h = answered_are s.sizes sizes h.sizes small.1
-sends_sized s (Refuse octets) small h = refl
-sends_sized s (Data octets) small h = refl
-sends_sized s (Give tokens) small h = refl
-sends_sized s (Please tokens octets) small h = refl
-sends_sized s (Minor confirm octets) small h = refl
-sends_sized s (MinorConfirm n octets) small h = refl
-sends_sized s (Major octets) small h = refl
-sends_sized s (MajorConfirm octets) small h = refl
-sends_sized s (Restart n wishes octets) small h = refl
-sends_sized s (RestartConfirm sides octets) small h = refl
-sends_sized s (Release octets) small h = refl
-sends_sized s (ReleaseAccept octets) small h = refl
-sends_sized s (ReleaseRefuse octets) small h = refl
-sends_sized s (Abort octets) small h = refl
+sends_sized s _ small h = refl
 
 -- what an accepted call sends can be sent
 pub sent_sendable : (s : State) (c : Call) (x : Step) → IsSound s → HasSerial c → allowed s c ≡ Ok x → IsSendable x.sent
@@ -127,13 +81,7 @@ address (Some s) = s.short
 
 pub asked_sendable : (o : Opening) → length o.user_data.now < 65000 → IsSendable (asked_for o)
 unfolding user_data_of
-asked_sendable o few = record {
-  version = refl;
-  numbered = serial_small (has_points (functional_units (unit_bits o.requirements))) o.serial.number (let s = o.serial.small in omega arith);
-  sized = user_sizes o.sizes;
-  addressed = (address o.calling_selector, address o.called_selector);
-  short = few;
-}
+asked_sendable o h0 = grind (arith, serial_small, user_sizes, address)
 
 -- ---- answers to a TSDU
 
@@ -176,9 +124,7 @@ unfolding take_expected
 expected_replies s u = judged_replies s u (first_fault (si u) (conditions s u))
 
 aborting_replies : (s : State) (u : Meaning) → Replies (in_aborting s u)
-aborting_replies s (AB bits octets) = tt
-aborting_replies s AA = tt
-aborting_replies s _ = tt
+aborting_replies s u = grind arith
 
 ended_replies : (s : State) (u : Meaning) → Replies (in_ended s u)
 ended_replies s (AB bits octets) = accept_sendable

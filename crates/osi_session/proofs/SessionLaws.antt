@@ -42,24 +42,10 @@ request_sound s r x h sound = call_sound s (called_by r) x (request_small r) h s
 pub request_begun : (s : State) (r : Request) (x : Step) → allowed s (called_by r) ≡ Ok x → is_wait_transport x.next.phase ≡ false
 request_begun s r x h = call_begun s (called_by r) x h
 
-pub group_sound : (t : Taker) (units : Units) (h : Hearing) → respond_tsdu t (said_by_units units) ≡ h → IsSound t.state → IsSound h.next.state
-group_sound t units h e sound = subst (λ (x : Hearing). IsSound x.next.state) e (words_sound t (said_by_units units) (units_numbered units) sound)
-
-pub group_begun : (t : Taker) (words : Words) (h : Hearing) → respond_tsdu t words ≡ h
-    → is_wait_transport h.next.state.phase ≡ true → is_wait_transport t.state.phase ≡ true
-group_begun t words h e = subst (λ (x : Hearing). is_wait_transport x.next.state.phase ≡ true → is_wait_transport t.state.phase ≡ true) e (words_begun t words)
-
 -- before any point
 pub at_first : (s : State) → s.base ≡ 0 → s.numbers ≡ from_base 0 → s.proposed < 1000000 → in_major s.phase ≡ false → is_restart_due s.phase ≡ false
     → s.held ≡ no_token → are_sizes s.sizes ≡ true → IsSound s
-at_first s b n p m r t z = record {
-  ordered = subst (λ (v : Numbers). AreOrdered s.base v) (sym n) (subst (λ (x : ℕ). AreOrdered x (from_base 0)) (sym b) (from_ordered 0 (omega arith)));
-  first = p;
-  major = λ k. absurd (cc);
-  restart = λ k. absurd (cc);
-  tokens = λ k. t;
-  sizes = z;
-}
+at_first s h0 h1 h2 h3 h4 h5 h6 = grind (arith, from_ordered)
 
 pub awaiting_sound : IsSound awaiting
 awaiting_sound = at_first awaiting refl refl (omega arith) refl refl refl refl

@@ -109,6 +109,21 @@ room_of_value want l s j e f h =
     subst (λ (k : Option (List ℕ)). takes_room k (want (record { state = l.state; joined = k })) ≡ true) f
     (subst (λ (x : State). takes_room j (want (record { state = x; joined = j })) ≡ true) e h)
 
+-- the same, by what stands in memory
+pub heard_by : (want : Taker → Hearing) (l : Listener) (s : State) (w : Option Meaning) (j k : Option (List ℕ)) (r : Reactions) → (let v : Listener = record { state = s; waiting = w; joined = j } in v ≡ l) → k ≡ j
+    → hearing_of_all k r ≡ want (record { state = s; joined = k }) → hearing_of_all l.joined r ≡ want (taker_of l)
+heard_by want l s w j k r view same heard = of_value want l s k r (ap (λ (x : Listener). x.state) view) (same ∙ ap (λ (x : Listener). x.joined) view) heard
+
+pub room_by : (want : Taker → Hearing) (l : Listener) (s : State) (w : Option Meaning) (j k : Option (List ℕ)) → (let v : Listener = record { state = s; waiting = w; joined = j } in v ≡ l) → k ≡ j
+    → takes_room k (want (record { state = s; joined = k })) ≡ true → takes_memory l (moved l (want (taker_of l))) ≡ true
+room_by want l s w j k view same room = room_of_value want l s k (ap (λ (x : Listener). x.state) view) (same ∙ ap (λ (x : Listener). x.joined) view) room
+
+pub leaves_by : (want : Taker → Hearing) (l : Listener) (s : State) (w : Option Meaning) (j k : Option (List ℕ)) (r : Reactions) → (let v : Listener = record { state = s; waiting = w; joined = j } in v ≡ l) → k ≡ j
+    → hearing_of_all k r ≡ want (record { state = s; joined = k }) → IsSound s → kept_in s.phase j ≡ j → length (joined_octets j) ≤ 1048572 → (Holds l → Leaves l (want (taker_of l)))
+    → Leaves l (hearing_of_all l.joined r)
+leaves_by want l s w j k r view same heard sound kept few leaves =
+    leaves_as l (hearing_of_all l.joined r) (want (taker_of l)) (heard_by want l s w j k r view same heard) (leaves (holds l s w j view sound kept few))
+
 pub value_of : (want : Taker → Hearing) (l : Listener) (s : State) (j : Option (List ℕ)) (h : Hearing) → s ≡ l.state → j ≡ l.joined
     → want (record { state = s; joined = j }) ≡ h → want (taker_of l) ≡ h
 value_of want l s j h e f k = let p : _ ≡ _ = (λ i. want (record { state = e i; joined = f i })) in sym p ∙ k

@@ -27,37 +27,19 @@ either_shows false n x y h k = k
 
 good_shows : (s : State) (u : Meaning) → AtMost 1 (shown_for s u)
 good_shows s (CN version_2 requirements serial wishes from to sizes octets) = either (is_acceptable version_2 requirements sizes) 1 _ _ (omega arith) (omega arith)
-good_shows s (AC version_2 requirements serial sides sizes octets) = omega arith
-good_shows s (RF reason octets) = omega arith
-good_shows s (DT octets) = omega arith
-good_shows s (GT tokens) = omega arith
-good_shows s (PT tokens octets) = omega arith
-good_shows s (MIP confirm n octets) = omega arith
-good_shows s (MIA n octets) = omega arith
-good_shows s (MAP n octets) = omega arith
-good_shows s (MAA n octets) = omega arith
 good_shows s (RS kind n wishes octets) = either (stands s n) 1 _ _ (omega arith) (omega arith)
-good_shows s (RA n sides octets) = omega arith
-good_shows s (FN octets) = omega arith
-good_shows s (DN octets) = omega arith
-good_shows s (NF octets) = omega arith
 good_shows s (AB bits octets) = either (is_wait_cn s.phase) 1 _ _ (omega arith) (omega arith)
-good_shows s AA = omega arith
+good_shows s _ = omega arith
 
 aborting_shows : (s : State) (u : Meaning) → AtMost 1 (in_aborting s u).shown
-aborting_shows s (AB bits octets) = omega arith
-aborting_shows s AA = omega arith
-aborting_shows s _ = omega arith
+aborting_shows s u = grind arith
 
 ended_shows : (s : State) (u : Meaning) → AtMost 1 (in_ended s u).shown
 ended_shows s (AB bits octets) = omega arith
 ended_shows s _ = omega arith
 
 enacted_shows : (s : State) (u : Meaning) (v : Verdict) → AtMost 1 (enacted s u v).shown
-enacted_shows s u over = either_shows (is_aborting s.phase) 1 _ _ (aborting_shows s u) (ended_shows s u)
-enacted_shows s u dropped = omega arith
-enacted_shows s u (faulty fault) = either (is_wait_cn s.phase) 1 _ _ (omega arith) (omega arith)
-enacted_shows s u fine = good_shows s u
+enacted_shows s u v = grind (arith, either_shows, aborting_shows, ended_shows, either, good_shows)
 
 -- a unit shows at most one thing
 pub unit_shows : (s : State) (u : Meaning) → length (respond_unit s u).shown ≤ 1
@@ -94,15 +76,3 @@ acting_len (first ∷ words) =
 -- and a TSDU at most one for each word
 pub words_show : (t : Taker) (words : Words) → length (respond_tsdu t words).shown ≤ length words
 words_show t words = let a = all_show t (acting_words words) in let b = acting_len words in omega arith
-
-says_len : (said : Said) → length (map says said) ≡ length said
-says_len [] = refl
-says_len (m ∷ said) = ap (λ n. suc n) (says_len said)
-
--- so also over whole messages
-pub tsdu_shows : (s : State) (said : Said) → length (respond s said).shown ≤ length said
-tsdu_shows s said =
-    let same = ap (λ (h : Hearing). length h.shown) (plain_tsdu s said) in
-    let some = words_show (record { state = s; joined = None }) (map says said) in
-    let long = says_len said in
-    omega arith

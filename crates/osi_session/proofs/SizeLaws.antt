@@ -71,10 +71,7 @@ under : (limit len : ℕ) → 0 < limit → ((limit == 0) || nat_le len limit) �
 under limit len h k = grind arith
 
 fits_under : (s : State) (c : Call) (m : Meaning) → is_bounded c ≡ true → fits_limit s c m ≡ true → 0 < limit_of s → length (written m) ≤ limit_of s
-fits_under s (Accept requirements serial sides sizes octets) m b f h = absurd (cc)
-fits_under s (Refuse octets) m b f h = absurd (cc)
-fits_under s (Data octets) m b f h = absurd (cc)
-fits_under s _ m b f h = under (limit_of s) (length (written m)) h f
+fits_under s c m h0 h1 h2 = grind (arith, under)
 
 pub sent_under : (s : State) (c : Call) (x : Step) → allowed s c ≡ Ok x → is_bounded c ≡ true → 0 < limit_of s → length (written x.sent) ≤ limit_of s
 sent_under s c x e b h =

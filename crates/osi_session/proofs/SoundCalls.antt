@@ -24,50 +24,22 @@ use Rattle.osi_session.proofs.SoundNumbers.{from_ordered, sent_ordered, minor_or
 
 -- a phase in which no token is held, no point is outstanding and no restart is due
 pub bare : (p : Phase) (s : State) → in_major p ≡ false → is_restart_due p ≡ false → IsSound s → IsSound (without_tokens p s)
-bare p s m r h = record {
-  ordered = h.ordered;
-  first = h.first;
-  major = λ k. absurd (cc);
-  restart = λ k. absurd (cc);
-  tokens = λ k. refl;
-  sizes = h.sizes;
-}
+bare p s h0 h1 h2 = grind arith
 
 -- a phase in which tokens may be held
 pub holding_phase : (p : Phase) (s : State) → in_major p ≡ false → is_restart_due p ≡ false → may_hold p ≡ true
     → IsSound s → IsSound (record s { phase = p })
-holding_phase p s m r t h = record {
-  ordered = h.ordered;
-  first = h.first;
-  major = λ k. absurd (cc);
-  restart = λ k. absurd (cc);
-  tokens = λ k. absurd (cc);
-  sizes = h.sizes;
-}
+holding_phase p s h0 h1 h2 h3 = grind arith
 
 -- the numbers move in a phase in which no restart is due
 pub moved : (v : Numbers) (s : State) → AreOrdered s.base v → (in_major s.phase ≡ true → s.base < v.next) → is_restart_due s.phase ≡ false
     → IsSound s → IsSound (record s { numbers = v })
-moved v s o m r h = record {
-  ordered = o;
-  first = h.first;
-  major = m;
-  restart = λ k. absurd (cc);
-  tokens = h.tokens;
-  sizes = h.sizes;
-}
+moved v s h0 h1 h2 h3 = grind arith
 
 -- a connection that is opened
 pub opened : (units : FunctionalUnits) (held : Tokens) (base : ℕ) (sizes : TsduMaximumSize) (s : State) → base ≤ 1000000 → are_sizes sizes ≡ true
     → IsSound s → IsSound (opened_with units held base sizes s)
-opened units held base sizes s small z h = record {
-  ordered = from_ordered base small;
-  first = h.first;
-  major = λ k. absurd (cc);
-  restart = λ k. absurd (cc);
-  tokens = λ k. absurd (cc);
-  sizes = z;
-}
+opened units held base sizes s h0 h1 h2 = grind (arith, from_ordered)
 
 base_small : (b : Bool) (serial : ℕ) → serial < 1000000 → (if b then serial else 0) ≤ 1000000
 base_small true serial h = omega arith
@@ -120,7 +92,6 @@ major_same s h k = h.major k
 pub after_sound : (s : State) (c : Call) → HasSerial c → may_call s.phase c ≡ true → AllHold (needs s c) → IsSound s → IsSound (after s c)
 after_sound s (Accept requirements serial sides sizes octets) small p t h =
     opened _ _ _ _ s (base_small (has_points (functional_units requirements)) serial small.0) (answered_are s.sizes sizes h.sizes small.1) h
-after_sound s (Refuse octets) small p t h = bare Ended s refl refl h
 after_sound s (Data octets) small p t h = h
 after_sound s (Give tokens) small p t h =
     record {
@@ -149,27 +120,18 @@ after_sound s (Restart n wishes octets) small p t h = restart_moved s n _ t.1.0 
 after_sound s (RestartConfirm sides octets) small p t h =
     record { ordered = h.ordered; first = h.first; major = λ k. absurd (cc); restart = λ k. absurd (cc); tokens = λ k. absurd (cc); sizes = h.sizes }
 after_sound s (Release octets) small p t h = holding_phase Releasing s refl refl refl h
-after_sound s (ReleaseAccept octets) small p t h = bare Ended s refl refl h
 after_sound s (ReleaseRefuse octets) small p t h = holding_phase Ready s refl refl refl h
 after_sound s (Abort octets) small p t h = bare Aborting s refl refl h
+after_sound s _ small p t h = bare Ended s refl refl h
 
 -- no call is allowed while the transport connection is awaited, and none goes back to that
 pub after_begun : (s : State) (c : Call) → may_call s.phase c ≡ true → is_wait_transport (after s c).phase ≡ false
-after_begun s (Accept requirements serial sides sizes octets) p = refl
-after_begun s (Refuse octets) p = refl
 after_begun s (Data octets) p = excluded is_ready is_wait_transport refl s.phase p
 after_begun s (Give tokens) p = excluded may_give is_wait_transport refl s.phase p
 after_begun s (Please tokens octets) p = excluded may_ask is_wait_transport refl s.phase p
 after_begun s (Minor confirm octets) p = excluded is_ready is_wait_transport refl s.phase p
 after_begun s (MinorConfirm n octets) p = excluded may_confirm_minor is_wait_transport refl s.phase p
-after_begun s (Major octets) p = refl
-after_begun s (MajorConfirm octets) p = refl
-after_begun s (Restart n wishes octets) p = refl
-after_begun s (RestartConfirm sides octets) p = refl
-after_begun s (Release octets) p = refl
-after_begun s (ReleaseAccept octets) p = refl
-after_begun s (ReleaseRefuse octets) p = refl
-after_begun s (Abort octets) p = refl
+after_begun s _ p = refl
 
 -- an accepted call keeps what is true at all times
 pub call_sound : (s : State) (c : Call) (x : Step) → HasSerial c → allowed s c ≡ Ok x → IsSound s → IsSound x.next

@@ -16,13 +16,7 @@ lower_to : (n m : ℕ) → lower n m ≤ n
 lower_to n m = grind arith
 
 pub from_ordered : (base : ℕ) → base ≤ 1000000 → AreOrdered base (from_base base)
-from_ordered base h = record {
-  confirmed_from = omega arith;
-  confirmed_to = omega arith;
-  lowest_from = omega arith;
-  lowest_to = omega arith;
-  last = h;
-}
+from_ordered base h0 = grind arith
 
 pub sent_ordered : (base : ℕ) (v : Numbers) → AreOrdered base v → v.next < 1000000 → AreOrdered base (point_sent v)
 unfolding point_sent
@@ -74,10 +68,4 @@ major_ordered base v h =
 
 pub restart_ordered : (base n : ℕ) (v : Numbers) → AreOrdered base v → base ≤ n → n < 1000000 → AreOrdered base (restarted_at n v)
 unfolding restarted_at
-restart_ordered base n v h k l = record {
-  confirmed_from = chosen_from (nat_lt n v.confirmed) base n v.confirmed k h.confirmed_from;
-  confirmed_to = lower_to n v.confirmed;
-  lowest_from = chosen_from (nat_lt n v.lowest) base n v.lowest k h.lowest_from;
-  lowest_to = lower_to n v.lowest;
-  last = omega arith;
-}
+restart_ordered base n v h0 h1 h2 = grind (arith, chosen_from, lower_to)

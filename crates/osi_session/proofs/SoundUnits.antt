@@ -39,9 +39,7 @@ third : (a b c : Bool) → (a && (b && c)) ≡ true → c ≡ true
 third a b c h = (and_parts b c (and_parts a (b && c) h).1).1
 
 base_small : (b : Bool) (serial : Option ℕ) (proposed : ℕ) → IsSmall serial → proposed < 1000000 → (if b then unwrap_or serial proposed else 0) ≤ 1000000
-base_small true None proposed h k = omega arith
-base_small true (Some n) proposed h k = omega arith
-base_small false serial proposed h k = omega arith
+base_small b serial proposed h0 h1 = grind arith
 
 first_small : (serial : Option ℕ) → IsSmall serial → unwrap_or serial 0 < 1000000
 first_small None h = omega arith
@@ -64,14 +62,7 @@ minor_moved s n c p h =
 restart_moved : (s : State) (n : ℕ) (w : TokenSetting) → s.base ≤ n → n ≤ 999999 → IsSound s
     → IsSound (record (without_tokens RestartDue s) { wishes = w; numbers = restarted_at n s.numbers })
 unfolding restarted_at
-restart_moved s n w from small h = record {
-  ordered = restart_ordered s.base n s.numbers h.ordered from (omega arith);
-  first = h.first;
-  major = λ k. absurd (cc);
-  restart = λ k. omega arith;
-  tokens = λ k. refl;
-  sizes = h.sizes;
-}
+restart_moved s n w h0 h1 h2 = grind (arith, restart_ordered)
 
 major_moved : (s : State) → s.numbers.next < 1000000 → IsSound s
     → IsSound (record s { phase = MajorDue; numbers = point_taken s.numbers })
@@ -111,7 +102,6 @@ becomes_sound s (AC version_2 requirements serial sides sizes octets) small p t 
     let units = both_units s.units (functional_units requirements) in
     opened _ _ _ _ s (base_small (has_points units) serial s.proposed small h.first)
     (smaller_are s.sizes sizes h.sizes (third version_2 (has_data units) (are_sizes sizes) t.0)) h
-becomes_sound s (RF reason octets) small p t h = bare Ended s refl refl h
 becomes_sound s (DT octets) small p t h = h
 becomes_sound s (GT tokens) small p t h =
     record {
@@ -137,10 +127,9 @@ becomes_sound s (RS kind n wishes octets) small p t h =
 becomes_sound s (RA n sides octets) small p t h =
     record { ordered = h.ordered; first = h.first; major = λ k. absurd (cc); restart = λ k. absurd (cc); tokens = λ k. absurd (cc); sizes = h.sizes }
 becomes_sound s (FN octets) small p t h = holding_phase ReleaseDue s refl refl refl h
-becomes_sound s (DN octets) small p t h = bare Ended s refl refl h
 becomes_sound s (NF octets) small p t h = holding_phase Ready s refl refl refl h
-becomes_sound s (AB bits octets) small p t h = bare Ended s refl refl h
 becomes_sound s AA small p t h = h
+becomes_sound s _ small p t h = bare Ended s refl refl h
 
 judged_sound : (s : State) (u : Meaning) (f : Option UnitFault) → (f ≡ None → IsSound (becomes s u)) → IsSound s → IsSound (judged s u f).next
 judged_sound s u None k h = k refl
@@ -152,9 +141,7 @@ expected_sound s u small p h =
     judged_sound s u (first_fault (si u) (conditions s u)) (λ e. becomes_sound s u small p (all_met (si u) (conditions s u) e) h) h
 
 aborting_sound : (s : State) (u : Meaning) → IsSound s → IsSound (in_aborting s u).next
-aborting_sound s (AB bits octets) h = bare Ended s refl refl h
-aborting_sound s AA h = bare Ended s refl refl h
-aborting_sound s _ h = h
+aborting_sound s u h0 = grind (arith, bare)
 
 ended_sound : (s : State) (u : Meaning) → IsSound s → IsSound (in_ended s u).next
 ended_sound s (AB bits octets) h = h

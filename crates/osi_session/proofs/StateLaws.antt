@@ -1,5 +1,5 @@
 -- Two states of which each part is the same are one.
-use Rattle.std.proofs.Common.{◌≡◌, ◌≢◌, ◌∙◌, ◌==◌, ◌&&◌, ℕ, refl, sym, ap, Bool, true, false, MatchBool, if◌then◌else◌}
+use Rattle.std.proofs.Common.{◌≡◌, ◌≢◌, ◌∙◌, ◌==◌, ◌&&◌, ℕ, refl, sym, ap, Bool, true, false, MatchBool, if◌then◌else◌, arith}
 use Rattle.std.proofs.lemmas.Bool.{and_parts, and_from, eqb-true, eq-eqb}
 use Rattle.osi_spdu.specs.declared.settings.Wish.{Wish}
 use Rattle.osi_spdu.specs.declared.settings.Wish.TheVariants.{Asker, Answerer, Choice}
@@ -14,30 +14,17 @@ use Rattle.osi_session.specs.declared.state.State.{State}
 use Rattle.osi_session.specs.Same.{same_bit, same_wish, place_of, same_setting, same_tokens, same_units, same_numbers, same_sizes, same_state}
 
 bit_is : (a b : Bool) → same_bit a b ≡ true → a ≡ b
-bit_is true true e = refl
-bit_is true false e = absurd cc
-bit_is false true e = absurd cc
-bit_is false false e = refl
+bit_is a b h0 = grind arith
 
 bit_refl : (a : Bool) → same_bit a a ≡ true
 bit_refl true = refl
 bit_refl false = refl
 
 wish_is : (a b : Wish) → same_wish a b ≡ true → a ≡ b
-wish_is Asker Asker e = refl
-wish_is Asker Answerer e = absurd cc
-wish_is Asker Choice e = absurd cc
-wish_is Answerer Asker e = absurd cc
-wish_is Answerer Answerer e = refl
-wish_is Answerer Choice e = absurd cc
-wish_is Choice Asker e = absurd cc
-wish_is Choice Answerer e = absurd cc
-wish_is Choice Choice e = refl
+wish_is a b h0 = grind arith
 
 wish_refl : (a : Wish) → same_wish a a ≡ true
-wish_refl Asker = refl
-wish_refl Answerer = refl
-wish_refl Choice = refl
+wish_refl a = grind arith
 
 phase_at : ℕ → Phase
 phase_at n = if n == 0 then WaitTransport else if n == 1 then WaitCn else if n == 2 then Connecting else if n == 3 then Answering else if n == 4 then Ready else if n == 5 then MajorAsked else if n == 6 then MajorDue else if n == 7 then Releasing else if n == 8 then ReleaseDue else if n == 9 then Restarting else if n == 10 then RestartDue else if n == 11 then Aborting else Ended
@@ -45,18 +32,7 @@ phase_at n = if n == 0 then WaitTransport else if n == 1 then WaitCn else if n =
 there : (p : Phase) → phase_at (place_of p) ≡ p
 unfolding phase_at
 there WaitTransport = refl
-there WaitCn = refl
-there Connecting = refl
-there Answering = refl
-there Ready = refl
-there MajorAsked = refl
-there MajorDue = refl
-there Releasing = refl
-there ReleaseDue = refl
-there Restarting = refl
-there RestartDue = refl
-there Aborting = refl
-there Ended = refl
+there _ = refl
 
 phase_is : (a b : Phase) → (place_of a == place_of b) ≡ true → a ≡ b
 phase_is a b e = sym (there a) ∙ ap phase_at (eqb-true (place_of a) (place_of b) e) ∙ there b
@@ -146,8 +122,4 @@ same_state_refl a =
 
 -- the test tells
 pub told : (a b : State) → MatchBool (same_state a b) (a ≡ b) (a ≢ b)
-told a b = by (same_state a b) refl
-  where
-    by : (r : Bool) → same_state a b ≡ r → MatchBool r (a ≡ b) (a ≢ b)
-    by true e = same_state_is a b e
-    by false e = λ h. absurd (let t = same_state_refl a in let f : same_state a a ≡ false = ap (same_state a) h ∙ e in cc)
+told a b = grind (arith, same_state_is, same_state_refl)

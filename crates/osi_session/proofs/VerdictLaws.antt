@@ -1,5 +1,5 @@
 -- What becomes of a unit, and of a token item that names no token.
-use Rattle.std.proofs.Common.{inl, inr, ◌≡◌, refl, sym, ◌∙◌, ap, subst, Bool, true, false, not, ◌&&◌, ◌||◌, List, [], ◌∷◌, ◌++◌, Option, Some, None, if◌then◌else◌}
+use Rattle.std.proofs.Common.{inl, inr, ◌≡◌, refl, sym, ◌∙◌, ap, subst, Bool, true, false, not, ◌&&◌, ◌||◌, List, [], ◌∷◌, ◌++◌, Option, Some, None, if◌then◌else◌, arith}
 use Rattle.std.proofs.lemmas.Bool.{cases_Bool}
 use Rattle.std.proofs.lemmas.List.{append-nil}
 use Rattle.osi_session.specs.declared.phases.Phase.TheVariants.{Aborting}
@@ -22,16 +22,10 @@ use Rattle.osi_session.proofs.PhaseLaws.{implied, every_is}
 live : (s : State) (u : Meaning) (d x : Bool) (f : Option UnitFault) →
     (if d then nothing s else if not x then bad s (Unexpected (si u)) else judged s u f)
     ≡ enacted s u (if d then dropped else if not x then faulty (Unexpected (si u)) else by_fault f)
-live s u true x f = refl
-live s u false false f = refl
-live s u false true None = refl
-live s u false true (Some fault) = refl
+live s u d x f = grind arith
 
 neither : (a e o : Bool) → (not o || (a || e)) ≡ true → a ≡ false → e ≡ false → o ≡ false
-neither a e false w h k = refl
-neither true e true w h k = absurd (cc)
-neither false true true w h k = absurd (cc)
-neither false false true w h k = absurd (cc)
+neither a e o h0 h1 h2 = grind arith
 
 pub not_over : (s : State) → is_aborting s.phase ≡ false → is_ended s.phase ≡ false → is_over s.phase ≡ false
 not_over s a e = neither _ _ _ (every_is (λ p. not (is_over p) || (is_aborting p || is_ended p)) refl s.phase) a e
@@ -39,13 +33,7 @@ not_over s a e = neither _ _ _ (every_is (λ p. not (is_over p) || (is_aborting 
 -- the table of units enacts the verdict
 pub enacts : (s : State) (u : Meaning) → respond_unit s u ≡ enacted s u (verdict s u)
 unfolding respond_unit take_expected
-enacts s u = elim (cases_Bool (is_aborting s.phase)) [
-  | inl a ↦ let o = implied is_aborting is_over refl s.phase a in rw (a, o, a) refl
-  | inr a ↦ elim (cases_Bool (is_ended s.phase)) [
-    | inl e ↦ let o = implied is_ended is_over refl s.phase e in rw (a, e, o, a) refl
-    | inr e ↦ let o = not_over s a e in rw (a, e, o) (live s u (drops s u) (is_expected s.phase u) (first_fault (si u) (conditions s u)))
-  ]
-]
+enacts s u = grind (arith, cases_Bool, implied, not_over, live)
 
 all_passed : (s : State) (u : Meaning) (cs : List Condition) → AllMet cs → first_fault (si u) cs ≡ None
 all_passed s u [] h = refl
@@ -58,15 +46,11 @@ good_is_fine s u o d h = let f = all_passed s u (conditions s u) h.met in let x 
 -- ---- a token item that names no token
 
 same_of : (a e : Bool) (o : Outcome) → (if a then o else if e then o else o) ≡ o
-same_of true e o = refl
-same_of false true o = refl
-same_of false false o = refl
+same_of a e o = grind arith
 
 pub no_effect : (s : State) (u : Meaning) → has_no_effect u ≡ true → respond_unit s u ≡ nothing s
 unfolding respond_unit
-no_effect s (GT tokens) h = rw h (same_of (is_aborting s.phase) (is_ended s.phase) (nothing s))
-no_effect s (PT tokens octets) h = rw h (same_of (is_aborting s.phase) (is_ended s.phase) (nothing s))
-no_effect s _ h = absurd (cc)
+no_effect s u h0 = grind (arith, same_of)
 
 reply_none : (r : Option Meaning) → first_reply r None ≡ r
 reply_none None = refl
@@ -86,11 +70,7 @@ and_nothing o =
 -- a unit by itself
 pub one : (s : State) (u : Meaning) → respond_all s (u ∷ []) ≡ respond_unit s u
 unfolding respond_all
-one s u = by (is_faulty (verdict s u))
-  where
-    by : (b : Bool) → (if b then respond_unit s u else and_then (respond_unit s u) (nothing (respond_unit s u).next)) ≡ respond_unit s u
-    by true = refl
-    by false = and_nothing (respond_unit s u)
+one s u = grind (arith, and_nothing)
 
 same_rest : (b : Bool) (o p q : Outcome) → p ≡ q → (if b then o else and_then o p) ≡ (if b then o else and_then o q)
 same_rest true o p q h = refl
@@ -124,25 +104,16 @@ said_alone s u = one s u
 
 -- what is said of a unit does what the unit does
 pub of_said : (s : State) (u : Meaning) → respond s (said_of u) ≡ respond_unit s u
-of_said s u = by (is_second u)
-  where
-    by : (b : Bool) → respond s (if b then behind (GT no_token) u else alone u) ≡ respond_unit s u
-    by true = in_front s (GT no_token) u empty_item
-    by false = said_alone s u
+of_said s u = grind (arith, in_front, empty_item, said_alone)
 
 -- ---- at most one unit behind a token item
 
 faulty_is : (v : Verdict) → is_faulty v ≡ true → (f : UnitFault) × (v ≡ faulty f)
-faulty_is over h = absurd (cc)
-faulty_is dropped h = absurd (cc)
-faulty_is (faulty f) h = (f, refl)
-faulty_is fine h = absurd (cc)
+faulty_is v h0 = grind arith
 
 after_abort : (s : State) (item : Meaning) → is_token_item item ≡ true → respond_unit (without_tokens Aborting s) item ≡ nothing (without_tokens Aborting s)
 unfolding respond_unit
-after_abort s (GT tokens) h = refl
-after_abort s (PT tokens octets) h = refl
-after_abort s _ h = absurd (cc)
+after_abort s item h0 = grind arith
 
 after_bad : (s : State) (u item : Meaning) → is_token_item item ≡ true → is_faulty (verdict s u) ≡ true
     → and_then (respond_unit s u) (respond_unit (respond_unit s u).next item) ≡ respond_unit s u
@@ -155,13 +126,7 @@ after_bad s u item t h =
 pub two : (s : State) (u item : Meaning) → is_token_item item ≡ true
     → respond_all s (u ∷ item ∷ []) ≡ and_then (respond_unit s u) (respond_unit (respond_unit s u).next item)
 unfolding respond_all
-two s u item t = by (is_faulty (verdict s u)) refl
-  where
-    by : (b : Bool) → is_faulty (verdict s u) ≡ b
-        → (if b then respond_unit s u else and_then (respond_unit s u) (respond_all (respond_unit s u).next (item ∷ [])))
-        ≡ and_then (respond_unit s u) (respond_unit (respond_unit s u).next item)
-    by true h = sym (after_bad s u item t h)
-    by false h = ap (and_then (respond_unit s u)) (one (respond_unit s u).next item)
+two s u item h0 = grind (arith, after_bad, one)
 
 choice : (b : Bool) (s : State) (x y : List Meaning) (o p : Outcome) → respond_all s x ≡ o → respond_all s y ≡ p
     → respond_all s (if b || false then x else y) ≡ (if b then o else p)
@@ -187,9 +152,7 @@ good_reply (AB bits octets) = refl
 good_reply _ = refl
 
 aborting_reply : (s : State) (u : Meaning) → replies_abort (in_aborting s u).reply ≡ false
-aborting_reply s (AB bits octets) = refl
-aborting_reply s AA = refl
-aborting_reply s _ = refl
+aborting_reply s u = grind arith
 
 ended_reply : (s : State) (u : Meaning) → replies_abort (in_ended s u).reply ≡ false
 ended_reply s (AB bits octets) = refl
@@ -200,10 +163,7 @@ over_reply true x y h k = h
 over_reply false x y h k = k
 
 pub enacted_reply : (s : State) (u : Meaning) (v : Verdict) → replies_abort (enacted s u v).reply ≡ is_faulty v
-enacted_reply s u over = over_reply (is_aborting s.phase) _ _ (aborting_reply s u) (ended_reply s u)
-enacted_reply s u dropped = refl
-enacted_reply s u (faulty f) = refl
-enacted_reply s u fine = good_reply u
+enacted_reply s u v = grind (arith, over_reply, aborting_reply, ended_reply, good_reply)
 
 pub bad_is_aborted : (s : State) (u : Meaning) → replies_abort (respond_unit s u).reply ≡ is_faulty (verdict s u)
 bad_is_aborted s u = ap (λ (o : Outcome). replies_abort o.reply) (enacts s u) ∙ enacted_reply s u (verdict s u)

@@ -1,5 +1,5 @@
 -- Where nothing is joined, messages do what they do by the table of units; and what a TSDU of one word does.
-use Rattle.std.proofs.Common.{◌≡◌, refl, sym, ◌∙◌, ap, ℕ, Bool, true, false, not, ◌||◌, if◌then◌else◌, List, [], ◌∷◌, ◌++◌, map, Option, Some, None, Ok, Err, inl, inr}
+use Rattle.std.proofs.Common.{◌≡◌, refl, sym, ◌∙◌, ap, ℕ, Bool, true, false, not, ◌||◌, if◌then◌else◌, List, [], ◌∷◌, ◌++◌, map, Option, Some, None, Ok, Err, inl, inr, arith}
 use Rattle.std.specs.List.{list_any}
 use Rattle.std.proofs.lemmas.Bool.{cases_Bool}
 use Rattle.std.proofs.lemmas.List.{append-nil}
@@ -57,10 +57,7 @@ plain_verdict s u =
     (passes_true (si u) (conditions s u) BadEnclosure)
 
 plain_enacted : (s : State) (u : Meaning) (v : Verdict) → enacted_word (record { state = s; joined = None }) (says u) v ≡ heard None (enacted s u v)
-plain_enacted s u over = refl
-plain_enacted s u dropped = refl
-plain_enacted s u (faulty f) = refl
-plain_enacted s u fine = refl
+plain_enacted s u v = grind arith
 
 pub plain_word : (s : State) (u : Meaning) → respond_word (record { state = s; joined = None }) (says u) ≡ heard None (respond_unit s u)
 unfolding respond_word
@@ -136,12 +133,7 @@ either_joins l false m n k h = λ i. record { next = record { state = l.state; w
 pub others : (l : Listener) (input : whole.Input) → kept_in l.state.phase l.joined ≡ l.joined → is_apart input ≡ true →
     react l (in_words input) ≡ joins l.joined (whole.react (standing_of l) input)
 unfolding react whole.react
-others l (whole.called c) k h = answer_joins l (allowed l.state c) k
-others l (whole.taken said) k h = absurd (cc)
-others l (whole.unread fault) k h = refl
-others l whole.opened k h = either_joins l (is_wait_transport l.state.phase) (begun l) (whole.begun (standing_of l)) k refl
-others l (whole.refused reason) k h = either_joins l (is_wait_transport l.state.phase) (denied reason l) (whole.denied reason (standing_of l)) k refl
-others l whole.broken k h = refl
+others l input h0 h1 = grind (arith, answer_joins, either_joins)
 
 messages_move : (s : whole.Standing) (said : Said) → react (listening s) (taken (map says said)) ≡ joins None (whole.react s (whole.taken said))
 unfolding react whole.react
@@ -173,10 +165,7 @@ run_as_whole s (input ∷ inputs) =
 
 enacted_kept : (t : Taker) (w : Word) (v : Verdict) →
     record { state = (enacted_word t w v).next.state; joined = kept_in (enacted_word t w v).next.state.phase (enacted_word t w v).next.joined } ≡ (enacted_word t w v).next
-enacted_kept t w over = let k = kept_twice (enacted t.state (as_message w) over).next.phase t.joined in λ i. record { state = (enacted t.state (as_message w) over).next; joined = k i }
-enacted_kept t w dropped = let k = kept_twice t.state.phase t.joined in λ i. record { state = t.state; joined = k i }
-enacted_kept t w (faulty fault) = let k = kept_twice (bad t.state fault).next.phase t.joined in λ i. record { state = (bad t.state fault).next; joined = k i }
-enacted_kept t w fine = let k = kept_twice (good_word t w).next.phase (joined_by t.joined w) in λ i. record { state = (good_word t w).next; joined = k i }
+enacted_kept t w v = grind (arith, kept_twice)
 
 -- what a word leaves is kept
 pub word_kept : (t : Taker) (w : Word) →
@@ -209,11 +198,7 @@ then_quiet h next k =
 
 pub one_word : (t : Taker) (w : Word) → respond_words t (w ∷ []) ≡ respond_word t w
 unfolding respond_words
-one_word t w = by (is_faulty (word_verdict t w))
-  where
-    by : (b : Bool) → (if b then respond_word t w else heard_then (respond_word t w) (idle (respond_word t w).next)) ≡ respond_word t w
-    by true = refl
-    by false = then_quiet (respond_word t w) (respond_word t w).next refl
+one_word t w = grind (arith, then_quiet)
 
 two_words : (t : Taker) (w : Word) → respond_words t (w ∷ says (GT no_token) ∷ []) ≡ respond_word t w
 unfolding respond_words
@@ -240,8 +225,4 @@ word_behind t w = either_words (is_restart_word w || false) t (w ∷ []) (w ∷ 
 
 -- what is said of a message does what it does as a word
 pub words_of_message : (t : Taker) (m : Meaning) → respond_tsdu t (words_of m) ≡ respond_word t (says m)
-words_of_message t m = by (is_second m)
-  where
-    by : (b : Bool) → respond_tsdu t (map says (if b then behind (GT no_token) m else alone m)) ≡ respond_word t (says m)
-    by true = word_behind t (says m)
-    by false = word_alone t (says m)
+words_of_message t m = grind (arith, word_behind, word_alone)

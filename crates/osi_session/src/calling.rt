@@ -2,11 +2,10 @@
 
 ghost use Rattle.osi_spdu.specs.Fields.{bits_of, unit_bits};
 ghost use Rattle.osi_spdu.specs.Sizes.{named_by};
-ghost use Rattle.std.specs.Prelude.{◌≡◌, ◌<◌, ◌≤◌, ◌&&◌, true, length, nat_le, nat_lt, Ok, Err, IfOk, OnOk, IfErr, IsTrue};
+ghost use Rattle.std.specs.Prelude.{◌≡◌, ◌<◌, ◌≤◌, ◌&&◌, true, length, nat_le, nat_lt, Ok, Err, IfOk, OnOk, IfErr};
 ghost use Rattle.osi_session.specs.Allowed.{allowed, met, needs, may_call, octets_of, most_of, has_right, point_needs, is_restartable};
 ghost use Rattle.osi_session.specs.Calls.{called_by, Accept, Refuse, Data, Give, Please, Minor, MinorConfirm, Major, MajorConfirm, Restart, RestartConfirm, Release, ReleaseAccept, ReleaseRefuse, Abort};
 ghost use Rattle.osi_message.specs.Meanings.{meant_by, DT, MIP, MIA};
-ghost use Rattle.osi_session.specs.Sizes.{limit_of};
 ghost use Rattle.osi_session.specs.Sound.{IsSound};
 ghost use Rattle.osi_session.specs.State.{without_tokens};
 ghost use Rattle.osi_session.specs.Steps.{Answers, Finds, step_of};
@@ -20,7 +19,7 @@ use crate::phases::Phase;
 use crate::requests::Request;
 use crate::selected::{FunctionalUnits, is_profile};
 use crate::sides::{Sides, offered};
-use crate::sizes::{answered_sizes, fits_ack, fits_limit, fits_point, limit_of};
+use crate::sizes::{answered_sizes, fits_ack, fits_limit, fits_point};
 use crate::state::State;
 use osi_message::{Message, Tokens};
 use osi_spdu::{Requirements, ResyncType, Serial, TokenSet, TokenSetting, TsduSizes};
@@ -170,8 +169,9 @@ fn accept<'a>(
 }
 
 /// Data needs the data token, if there is one, and at least one octet.
-fn check_data(state: &State, user_data: &[u8]) -> Result<(), CallError>
-    ensures { Finds result (needs state.now (Data user_data.now)) }
+#[tactic(auto, unfolding(crate::specs::Allowed::met))]
+fn data<'a>(state: &State, user_data: &'a [u8]) -> Result<Step<'a>, CallError>
+    ensures { Answers result (met state.now (Data user_data.entry.now)) }
 {
     if !state.rights().data_token {
         return Err(CallError::TokenNotHeld);
@@ -179,14 +179,6 @@ fn check_data(state: &State, user_data: &[u8]) -> Result<(), CallError>
     if user_data.is_empty() {
         return Err(CallError::Empty);
     }
-    Ok(())
-}
-
-#[tactic(auto, unfolding(crate::specs::Allowed::met))]
-fn data<'a>(state: &State, user_data: &'a [u8]) -> Result<Step<'a>, CallError>
-    ensures { Answers result (met state.now (Data user_data.entry.now)) }
-{
-    check_data(state, user_data)?;
     Ok(Step {
         next: *state,
         sent: Message::Data { user_data },
@@ -562,20 +554,16 @@ pub(crate) fn allow_data(state: &State, user_data: &[u8]) -> Result<(), CallErro
     if !state.phase.is_ready() {
         return Err(CallError::BadState);
     }
-    check_data(state, user_data)?;
+    if !state.rights().data_token {
+        return Err(CallError::TokenNotHeld);
+    }
+    if user_data.is_empty() {
+        return Err(CallError::Empty);
+    }
     if user_data.len() > MOST_DATA {
         return Err(CallError::TooLong);
     }
     Ok(())
-}
-
-/// Whether data may be sent, and no size was agreed that bounds its TSDU.
-#[inline(always)]
-pub(crate) fn is_straight(state: &State, user_data: &[u8]) -> bool
-    ensures allowed { IsTrue result → allowed state.now (Data user_data.now) ≡ Ok (record { next = state.now; sent = DT user_data.now }) }
-    ensures unbounded { IsTrue result → limit_of state.now ≡ 0 }
-{
-    allow_data(state, user_data).is_ok() && limit_of(state) == 0
 }
 
 /// A minor point that may be sent or confirmed, and the numbers after it.

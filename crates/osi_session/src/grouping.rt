@@ -1,12 +1,12 @@
 //! What the units of a TSDU do, one after the other.
 
-ghost use Rattle.std.specs.Prelude.{◌≡◌, ℕ, ◌||◌, ◌++◌, List, [], true, false, Option, None, option_copied, IfOk, IfSome, OnOk, OnErr};
+ghost use Rattle.std.specs.Prelude.{◌≡◌, ℕ, ◌||◌, ◌++◌, List, [], true, false, Option, None, option_copied, IfOk, OnOk, OnErr};
 ghost use Rattle.osi_message.specs.Meanings.{DT};
 ghost use Rattle.osi_message.specs.Reading.{said_by_units, said_at};
 ghost use Rattle.osi_spdu.specs.Groups.{units_of};
 ghost use Rattle.osi_session.specs.Joining.{heard, heard_then, idle, kept_in, word_verdict, respond_word, respond_tsdu, respond_came};
 ghost use Rattle.osi_session.specs.Respond.{is_nil, is_faulty, respond_unit, respond_fault, shows};
-ghost use Rattle.osi_session.specs.Shown.{Data, shown_by};
+ghost use Rattle.osi_session.specs.Shown.{Data};
 ghost use Rattle.osi_session.specs.Steps.{all_shown, hearing_of, hearing_of_all, joined_after, outcome_of, outcome_of_all, shown_list, takes_room, word_by};
 
 use crate::faults::UnitFault;
@@ -15,7 +15,7 @@ use crate::indications::Indication;
 use crate::reactions::{Reaction, Reply};
 use crate::state::State;
 use crate::words::Word;
-use osi_message::{Octets, PlainUnit};
+use osi_message::Octets;
 use osi_spdu::{Group, SpduFault, read_tsdu};
 use std::alloc::{AllocError, Global};
 
@@ -194,39 +194,9 @@ pub(crate) fn take_read(
 
 /// Whether data that comes now is shown, and changes nothing: the phase expects it, and the peer has
 /// the data token.
-#[tactic(auto, using(crate::proofs::DataLaws::data_is_shown))]
-fn expects_data(state: &State) -> bool
+#[tactic(auto, using(crate::proofs::PointLaws::data_is_shown))]
+pub(crate) fn expects_data(state: &State) -> bool
     ensures { (octets : List ℕ) → result ≡ true → respond_unit state.now (DT octets) ≡ shows state.now (Data octets) }
 {
     state.phase.takes_data() && !state.held.data_token
-}
-
-/// The indication of a TSDU with whole data that is expected, where nothing is unfinished; none of any
-/// other.
-#[inline(always)]
-#[tactic(auto, using(crate::proofs::DataLaws::data_comes, crate::proofs::DataLaws::data_takes))]
-pub(crate) fn expected_data(
-    alloc: Global,
-    state: &State,
-    is_unfinished: bool,
-    tsdu: &[u8],
-) -> Result<Option<Indication>, AllocError>
-    ensures shown { IfOk result (λ shown. IfSome shown (λ i. (is_unfinished ≡ false)
-        × (respond_came (record { state = state.now; joined = None }) (said_at tsdu.now) ≡ heard None (shows state.now (shown_by i))))) }
-    ensures err { OnErr result ((is_unfinished ≡ false)
-        × (takes_room None (respond_came (record { state = state.now; joined = None }) (said_at tsdu.now)) ≡ true)) }
-{
-    let Some(user_data) = PlainUnit::data(tsdu) else {
-        return Ok(None);
-    };
-    if is_unfinished {
-        return Ok(None);
-    }
-    if !expects_data(state) {
-        return Ok(None);
-    }
-    match Octets::copy(alloc, user_data) {
-        Ok(user_data) => Ok(Some(Indication::Data { user_data })),
-        Err(error) => Err(error),
-    }
 }

@@ -59,6 +59,7 @@ pub fn what_is_sent_can_be_sent()
 /// Where nothing is joined, messages do what the tables of whole messages say: one word, words one after
 /// the other, a TSDU, and each input of a session, over every list of them. All else than the words of a
 /// TSDU does the same also where something is joined, which is kept or dropped by the phase that is left.
+#[tactic(auto, using(crate::proofs::WordLaws::plain_word, crate::proofs::WordLaws::plain_words, crate::proofs::WordLaws::plain_tsdu, crate::proofs::WordLaws::moves_as_whole, crate::proofs::WordLaws::run_as_whole, crate::proofs::WordLaws::others))]
 pub fn messages_do_what_they_did()
     ensures word { (s : State) (u : Meaning) → respond_word (record { state = s; joined = None }) (says u) ≡ heard None (respond_unit s u) }
     ensures words { (s : State) (us : List Meaning) → respond_words (record { state = s; joined = None }) (map says us) ≡ heard None (respond_all s us) }
@@ -72,6 +73,7 @@ pub fn messages_do_what_they_did()
 /// The move of each input: what the tables give for a call, for the words of a TSDU and for one that is
 /// none; the transport connection is there, or there is none, while it is awaited, and no other time;
 /// and it is lost.
+#[tactic(auto, using(crate::proofs::MoveLaws::of_call, crate::proofs::MoveLaws::of_words, crate::proofs::MoveLaws::of_fault, crate::proofs::MoveLaws::of_opened, crate::proofs::MoveLaws::of_refused, crate::proofs::MoveLaws::of_broken, crate::proofs::MoveLaws::not_opened, crate::proofs::MoveLaws::not_refused))]
 pub fn what_each_input_does()
     ensures called { (l : Listener) (c : Call) → react l (called c) ≡ call_move l (allowed l.state c) }
     ensures taken { (l : Listener) (words : Words) → react l (taken words) ≡ moved l (respond_tsdu (taker_of l) words) }
@@ -104,6 +106,7 @@ pub fn what_is_sent_is_taken()
 /// What closes the transport connection sends nothing, and leaves a session that has ended, which
 /// awaited it. That is a TSDU with RF, DN, AB or AA, in which this unit stands alone: behind a DN an
 /// AB would still be answered, but no octets say that. A call leaves the transport connection open.
+#[tactic(auto, using(crate::proofs::ClosingLaws::unit_silent, crate::proofs::ClosingLaws::words_silent, crate::proofs::ClosingLaws::octets_alone, crate::proofs::ClosingLaws::octets_silent, crate::proofs::ClosingLaws::call_open, crate::proofs::ClosingLaws::whole_ends, crate::proofs::ClosingLaws::input_ends, crate::proofs::AnswerLaws::octets_awaited))]
 pub fn what_closes_sends_nothing()
     ensures unit { (s : State) (u : Meaning) → (respond_unit s u).closes ≡ true → (respond_unit s u).reply ≡ None }
     ensures said { (t : Taker) (words : Words) → closes_alone words ≡ true → (respond_tsdu t words).closes ≡ true → (respond_tsdu t words).reply ≡ None }
@@ -132,6 +135,7 @@ pub fn what_answers_is_over()
 /// while a CN is awaited, not where the session is aborted or has ended. Whatever happens, a session
 /// does not go back to awaiting the transport connection; and what happens before it is there leaves
 /// it awaited, or is the end.
+#[tactic(auto, using(crate::proofs::AnswerLaws::accepted_callable, crate::proofs::AnswerLaws::callable_open, crate::proofs::RunLaws::input_begun, crate::proofs::AnswerLaws::input_waits))]
 pub fn where_a_call_is_accepted()
     ensures phase { (s : State) (c : Call) (x : Step) → allowed s c ≡ Ok x → may_abort s.phase ≡ true }
     ensures live { (p : Phase) → may_abort p ≡ true → (is_wait_transport p ≡ false) × (is_wait_cn p ≡ false) × (is_over p ≡ false) }
@@ -143,6 +147,7 @@ pub fn where_a_call_is_accepted()
 /// What the user of a called side is shown first is a `Connect`: where he would now be shown the loss of the
 /// transport connection, and would not have been before, he was. It is shown by a CN alone, which stands alone
 /// in its TSDU (X.225 section 6.3.7).
+#[tactic(auto, using(crate::proofs::ConnectLaws::shown_first, crate::proofs::ConnectLaws::only_taken, crate::proofs::ConnectLaws::octets_ask))]
 pub fn what_a_user_is_shown_first()
     ensures first { (l : Listener) (input : Input) → shows_loss l.state.phase ≡ false → shows_loss (after_input l input).state.phase ≡ true →
         shows_connect (react l input).shown ≡ true }
@@ -152,6 +157,7 @@ pub fn what_a_user_is_shown_first()
 
 /// What becomes of a unit: the table of units enacts its verdict. A unit that is not discarded, that
 /// the phase expects and that meets its conditions is good.
+#[tactic(auto, using(crate::proofs::VerdictLaws::enacts, crate::proofs::VerdictLaws::good_is_fine))]
 pub fn what_becomes_of_a_unit()
     ensures enacted { (s : State) (u : Meaning) → respond_unit s u ≡ enacted s u (verdict s u) }
     ensures good { (s : State) (u : Meaning) → is_over s.phase ≡ false → drops s u ≡ false → IsGood s u → verdict s u ≡ fine }
@@ -159,6 +165,7 @@ pub fn what_becomes_of_a_unit()
 
 /// A token item that names no token changes nothing, in a TSDU of its own or in front of units; so
 /// what is said of a unit does what the unit does.
+#[tactic(auto, using(crate::proofs::VerdictLaws::no_effect, crate::proofs::VerdictLaws::in_front_of_all, crate::proofs::VerdictLaws::in_front, crate::proofs::VerdictLaws::of_said))]
 pub fn an_empty_token_item_changes_nothing()
     ensures item { (s : State) (item : Meaning) → has_no_effect item ≡ true → respond_unit s item ≡ nothing s }
     ensures units { (s : State) (item : Meaning) (units : List Meaning) → has_no_effect item ≡ true →
@@ -169,6 +176,7 @@ pub fn an_empty_token_item_changes_nothing()
 
 /// A TSDU of one unit does what the unit does. Of two units the token item acts after the other, and
 /// in front of an RS it does not act.
+#[tactic(auto, using(crate::proofs::VerdictLaws::said_alone, crate::proofs::VerdictLaws::item_and_unit))]
 pub fn what_two_units_do()
     ensures alone { (s : State) (u : Meaning) → respond s (alone u) ≡ respond_unit s u }
     ensures behind { (s : State) (item u : Meaning) → is_token_item item ≡ true → respond s (behind item u) ≡
@@ -176,6 +184,7 @@ pub fn what_two_units_do()
 {}
 
 /// A TSDU shows at most one thing for each of its words.
+#[tactic(auto, using(crate::proofs::ShownLaws::words_show))]
 pub fn what_a_tsdu_shows()
     ensures { (t : Taker) (words : Words) → length (respond_tsdu t words).shown ≤ length words }
 {}
@@ -183,6 +192,7 @@ pub fn what_a_tsdu_shows()
 /// An accepted call passed each test of its row, in its phase, with user data that is short enough and
 /// a TSDU within the size of its direction, and gives what the row says; and a call that passes each
 /// test is accepted.
+#[tactic(auto, using(crate::proofs::Passed::passed, crate::proofs::Passed::accepted))]
 pub fn what_an_accepted_call_passed()
     ensures passed { (s : State) (c : Call) (x : Step) → allowed s c ≡ Ok x → Passed s c x }
     ensures accepted { (s : State) (c : Call) (x : Step) → Passed s c x → allowed s c ≡ Ok x }
@@ -192,6 +202,7 @@ pub fn what_an_accepted_call_passed()
 /// and 0 where it has 0, at most the CN's, and at most what the answerer gives where that is not 0. Who
 /// takes it comes to what it names, so that both sides go on with the same sizes. An accepted call but
 /// data, Accept and Refuse sends a TSDU within the size of its direction, if there is one.
+#[tactic(auto, using(crate::proofs::SizeLaws::answered_named, crate::proofs::SizeLaws::answered_asked, crate::proofs::SizeLaws::answered_given, crate::proofs::SizeLaws::sizes_agreed, crate::proofs::SizeLaws::sent_under))]
 pub fn what_sizes_are_agreed()
     ensures named { (a b : ℕ) → 0 < a → 0 < answered a b }
     ensures asked { (a b : ℕ) → answered a b ≤ a }
@@ -219,6 +230,7 @@ pub fn what_a_call_sends()
 
 /// The numbers in a call, and in the units of a TSDU, are those that a point may have, and the sizes
 /// of a call those that a user may give.
+#[tactic(auto, using(crate::proofs::SessionLaws::request_small, osi_message::proofs::NumberLaws::units_numbered))]
 pub fn what_happens_has_numbers()
     ensures request { (request : Request) → HasNumbersInWords (called (called_by request)) }
     ensures units { (units : Units) → HasNumbersInWords (taken (said_by_units units)) }
@@ -229,6 +241,7 @@ pub fn what_happens_has_numbers()
 /// 1,000,000; a major point that is outstanding has a number, and so has a restart that is to be
 /// answered; tokens are held only in Ready, MajorAsked, MajorDue, Releasing and ReleaseDue; and each
 /// size is 0, or 64 to 65,535. So over whole messages, and over words.
+#[tactic(auto, using(crate::proofs::RunLaws::awaiting_fresh, crate::proofs::RunLaws::asking_fresh, crate::proofs::RunLaws::fresh_sound, crate::proofs::RunLaws::whole_sound, crate::proofs::RunLaws::inputs_sound))]
 pub fn numbers_stay_in_order()
     ensures called { IsFresh awaiting }
     ensures caller { (o : Opening) → IsFresh (asking o) }
@@ -241,6 +254,7 @@ pub fn numbers_stay_in_order()
 
 /// Whatever happens, a session that is aborted or ended stays so, and one that is ended stays ended;
 /// and one whose transport connection is lost has ended.
+#[tactic(auto, using(crate::proofs::RunLaws::stays_over, crate::proofs::RunLaws::stays_ended, crate::proofs::RunLaws::lost_ended))]
 pub fn an_ended_session_stays_ended()
     ensures over { (l : Listener) (inputs : List Input) → is_over l.state.phase ≡ true → is_over (after_inputs l inputs).state.phase ≡ true }
     ensures ended { (l : Listener) (inputs : List Input) → is_ended l.state.phase ≡ true → is_ended (after_inputs l inputs).state.phase ≡ true }
@@ -249,6 +263,7 @@ pub fn an_ended_session_stays_ended()
 
 /// Tokens come to be held only where a connection is opened: by a call of Accept or RestartConfirm, or
 /// by a TSDU with an AC or an RA. The same over whatever happens.
+#[tactic(auto, using(crate::proofs::OpeningMoves::input_opened, crate::proofs::OpeningMoves::some_opened))]
 pub fn what_opens_a_connection()
     ensures input { (l : Listener) (input : Input) → may_hold l.state.phase ≡ false →
         may_hold (after_input l input).state.phase ≡ true → opens_connection input ≡ true }
@@ -270,6 +285,7 @@ pub fn a_token_is_not_given_and_kept()
 
 /// Exactly which tokens are held after an accepted call, after a good unit, and after a bad one; and sets
 /// without a common token have octets without a common bit.
+#[tactic(auto, using(crate::proofs::HeldLaws::call_holds_it, crate::proofs::HeldLaws::unit_holds_it, crate::proofs::HeldLaws::bad_holds_none, crate::proofs::TokenSets::disjoint_octets))]
 pub fn what_is_held()
     ensures call { (s : State) (c : Call) (x : Step) (t : Token) → allowed s c ≡ Ok x → has x.next.held t ≡ call_holds s c t }
     ensures good { (s : State) (u : Meaning) (t : Token) → has (becomes s u).held t ≡ unit_holds s u t }
@@ -310,6 +326,7 @@ pub fn a_restart_that_crosses_another()
 /// and an MIA that is shown. V(A) does not fall over any list of inputs in which no connection is
 /// opened by Accept or AC and no restart is asked for or taken; and an RS that does not stand changes
 /// no number.
+#[tactic(auto, using(crate::proofs::ConfirmedLaws::call_confirms, crate::proofs::ConfirmedLaws::unit_confirms, crate::proofs::ConfirmedLaws::never_falls, crate::proofs::ConfirmedLaws::yielded))]
 pub fn what_is_confirmed_stays_confirmed()
     ensures call { (s : State) (n : ℕ) (octets : List ℕ) (x : Step) → allowed s (MinorConfirm n octets) ≡ Ok x →
         (s.numbers.confirmed ≤ n) × (x.next.numbers.confirmed ≡ n + 1) }
@@ -362,6 +379,7 @@ pub fn parts_are_the_whole()
 
 /// The functional units that a caller asks for, and those that are agreed on, are half-duplex with any of the
 /// others, or duplex alone: over every list of inputs, of a called side and of a caller that opened.
+#[tactic(auto, using(crate::proofs::ProfileLaws::awaiting_profile, crate::proofs::ProfileLaws::asking_profile, crate::proofs::ProfileLaws::inputs_profile))]
 pub fn units_are_a_profile()
     ensures called { HasProfile awaiting }
     ensures caller { (o : Opening) → is_profile (unit_bits o.requirements) ≡ true → HasProfile (asking o) }

@@ -10,9 +10,9 @@ ghost use Rattle.osi_message.specs.Parting.{in_one, tsdus_sent};
 ghost use Rattle.osi_message.specs.Written.{user_data_of};
 ghost use Rattle.osi_session.specs.Sizes.{limit_of};
 
-use crate::calling::{MOST_USER_DATA, allow_data, decide, is_straight};
+use crate::calling::{MOST_USER_DATA, allow_data, decide};
 use crate::faults::CallError;
-use crate::grouping::{Reactions, expected_data, take_all, take_read, unread};
+use crate::grouping::{Reactions, expects_data, take_all, take_read, unread};
 use crate::hearing::{Heard, Joined, take_says};
 use crate::indications::Indication;
 use crate::joining::{PartVerdict, join, joined_octets, judge_part, shown_behind};
@@ -273,12 +273,12 @@ impl Session {
         ensures sendable { OnOk result (CanBeSent (react self.now (called (Data user_data.now))).reply) }
         ensures refused { IfErr result (λ e. Refused e (react self.now (called (Data user_data.now))).error) }
     {
-        if !is_straight(&self.state, user_data) {
+        if allow_data(&self.state, user_data).is_err() || limit_of(&self.state) != 0 {
             // A value of its own, as in `call`.
             let answer = self.call_bounded_data(user_data);
             return answer;
         }
-        match Sent::data(self.alloc, 0, user_data) {
+        match Sent::whole(self.alloc, user_data) {
             Ok(sent) => Ok(sent),
             Err(_) => Err(CallError::OutOfMemory),
         }
@@ -354,9 +354,14 @@ impl Session {
         ensures err { OnErr result (self.new ≡ self.old) }
         ensures memory { OnErr result (takes_memory self.old (react self.old (came tsdu.now)) ≡ true) }
     {
-        match expected_data(self.alloc, &self.state, self.joined.is_some(), tsdu) {
-            Ok(Some(indication)) => Ok(Some(indication)),
-            Ok(None) => Ok(self.take_point(tsdu)),
+        let Some(user_data) = PlainUnit::data(tsdu) else {
+            return Ok(self.take_point(tsdu));
+        };
+        if self.joined.is_some() || !expects_data(&self.state) {
+            return Ok(None);
+        }
+        match Octets::copy(self.alloc, user_data) {
+            Ok(user_data) => Ok(Some(Indication::Data { user_data })),
             Err(error) => Err(error),
         }
     }

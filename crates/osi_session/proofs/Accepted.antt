@@ -1,0 +1,34 @@
+-- What a session does with a call that its table accepts.
+use Rattle.std.proofs.Common.{◌≡◌, ◌∙◌, subst, ℕ, None, Ok, ap}
+use Rattle.osi_message.specs.Meanings.{Meaning}
+use Rattle.osi_message.specs.Parting.{tsdus_of, tsdus_sent}
+use Rattle.osi_session.specs.Allowed.{Step, allowed}
+use Rattle.osi_session.specs.Calls.{Call, HasSerial}
+use Rattle.osi_session.specs.Joining.{kept_in}
+use Rattle.osi_session.specs.Listening.{called, Listener, in_state, react}
+use Rattle.osi_session.specs.Sessions.{CanBeSent}
+use Rattle.osi_session.specs.Sizes.{limit_of}
+use Rattle.osi_session.specs.Sound.{IsSound}
+use Rattle.osi_session.proofs.MoveLaws.{call_leaves, call_sends, call_passes}
+use Rattle.osi_session.proofs.SendableLaws.{call_sendable}
+use Rattle.osi_session.proofs.SessionMoves.{stays}
+
+pub record Accepts (limit : ℕ) (l : Listener) (c : Call) (x : Step) : Type 0 where
+  pub leaves : in_state l x.next ≡ (react l (called c)).next
+  pub sends : tsdus_of limit x.sent ≡ tsdus_sent (limit_of l.state) (react l (called c)).reply
+  pub sendable : CanBeSent (react l (called c)).reply
+  pub passes : (react l (called c)).error ≡ None
+
+-- by what stands in memory
+pub accepts : (limit : ℕ) (v l : Listener) (c : Call) (x : Step) → limit ≡ limit_of v.state → v ≡ l → IsSound v.state → HasSerial c → allowed v.state c ≡ Ok x → Accepts limit l c x
+accepts limit v l c x e view sound small h = subst (λ (s : Listener). Accepts limit s c x) view (record {
+  leaves = call_leaves v c x h;
+  sends = ap (λ (n : ℕ). tsdus_of n x.sent) e ∙ call_sends v c x h;
+  sendable = call_sendable v c x sound small h;
+  passes = call_passes v c x h;
+})
+
+-- a call that changes no state changes nothing
+pub rests_by : (v l : Listener) (c : Call) (m : Meaning) → v ≡ l → kept_in v.state.phase v.joined ≡ v.joined → allowed v.state c ≡ Ok (record { next = v.state; sent = m })
+    → l ≡ (react l (called c)).next
+rests_by v l c m view kept h = subst (λ (s : Listener). s ≡ (react s (called c)).next) view (stays v kept ∙ call_leaves v c (record { next = v.state; sent = m }) h)
