@@ -8,6 +8,7 @@ use Rattle.osi_carrier.specs.State.{Connection, asked, TsapIds}
 use Rattle.osi_carrier.proofs.Apart.{push_here, put_here, beyond}
 use Rattle.osi_carrier.proofs.AtReferences.{put_other}
 use Rattle.osi_carrier.proofs.Naming.{known_is}
+use Rattle.osi_carrier.proofs.Reacts.{none_of}
 use Rattle.osi_session.specs.Listening.{Input, Listener, react}
 use Rattle.osi_stack.specs.Addresses.{addressed, selectors_in, addresses_at, asked_addresses}
 use Rattle.osi_stack.specs.Calls.{calls_with, connects}
@@ -29,16 +30,12 @@ addressed_by r e c ids line s live tsaps here is =
     ∙ ap (λ (o : Option Line). addressed (Some ids) (selectors_in o)) here
     ∙ ap (addressed (Some ids)) is
 
-none_by : {X : Type 0} (o : Option X) → is_some o ≡ false → o ≡ None
-none_by None e = refl
-none_by (Some x) e = cc
-
 pub asked_known : (c : Connect) (e : End) → Soundness e → AreNamed e.carrier → addresses_at (e.carrier.given + 1) (connects c e) ≡ Some (asked_addresses c)
 asked_known c e s named =
     let n = e.carrier.given + 1 in
     let new = asks (option_map tsap_octets c.calling_tsap) (option_map tsap_octets c.called_tsap) e.carrier in
     let gone : value_at n e.carrier.live ≡ None = beyond n e.carrier.given e.carrier.live s.orderly.up_to (omega arith) in
-    let unnamed : value_at n e.carrier.tsaps ≡ None = none_by (value_at n e.carrier.tsaps) (known_is n e.carrier named ∙ ap is_some gone) in
+    let unnamed : value_at n e.carrier.tsaps ≡ None = none_of (value_at n e.carrier.tsaps) (known_is n e.carrier named ∙ ap is_some gone) in
     let ids : TsapIds = record { calling = option_map tsap_octets c.calling_tsap; called = option_map tsap_octets c.called_tsap } in
     let line = fresh_line (calls_with c) in
     let live : value_at n new.live ≡ Some asked = push_here n asked e.carrier.live gone in

@@ -1,5 +1,5 @@
 -- What is seen of two ends that came to the same.
-use Rattle.std.proofs.Common.{◌≡◌, ℕ, ◌==◌, Bool, true, false, not, List, [], ◌∷◌, length, Option, Some, None, is_some, refl, sym, ap, ◌∙◌, if◌then◌else◌}
+use Rattle.std.proofs.Common.{option_map, ◌≡◌, ℕ, ◌==◌, Bool, true, false, not, List, [], ◌∷◌, length, Option, Some, None, is_some, refl, sym, ap, ◌∙◌, if◌then◌else◌}
 use Rattle.osi_session.specs.Sizes.{limit_of}
 use Rattle.std.specs.List.{flat_map}
 use Rattle.osi_carrier.specs.Calls.{kept_in}
@@ -16,15 +16,26 @@ use Rattle.osi_stack.specs.Runs.{quieted, hushed, put_back, Call, told_of, carri
 use Rattle.osi_stack.specs.State.{Line, End, Holding, session_in, session_at, joined_in}
 use Rattle.osi_stack.proofs.Keeps.{joined_quiet, kept_same}
 
+-- a line for which nothing waits
+abbrev pub hush : Line → Line
+hush line = record line { waiting = [] }
+
+value_by : (r q : ℕ) (line : Line) (lines : Rows Line) (b : Bool) → (q == r) ≡ b → value_at r (quieted lines) ≡ option_map hush (value_at r lines) →
+    value_at r (quieted ((q, line) ∷ lines)) ≡ option_map hush (value_at r ((q, line) ∷ lines))
+value_by r q line lines true e more = rw e refl
+value_by r q line lines false e more = rw e more
+
+pub quieted_value : (r : ℕ) (lines : Rows Line) → value_at r (quieted lines) ≡ option_map hush (value_at r lines)
+quieted_value r [] = refl
+quieted_value r ((q, line) ∷ lines) = value_by r q line lines (q == r) refl (quieted_value r lines)
+
 -- what waits is no matter to a session
-quieted_by : (r q : ℕ) (line : Line) (lines : Rows Line) (b : Bool) → (q == r) ≡ b → session_in (value_at r (quieted lines)) ≡ session_in (value_at r lines) →
-    session_in (value_at r (quieted ((q, line) ∷ lines))) ≡ session_in (value_at r ((q, line) ∷ lines))
-quieted_by r q line lines true e more = rw e refl
-quieted_by r q line lines false e more = rw e more
+hushed_in : (o : Option Line) → session_in (option_map hush o) ≡ session_in o
+hushed_in None = refl
+hushed_in (Some line) = refl
 
 pub quieted_at : (r : ℕ) (lines : Rows Line) → session_in (value_at r (quieted lines)) ≡ session_in (value_at r lines)
-quieted_at r [] = refl
-quieted_at r ((q, line) ∷ lines) = quieted_by r q line lines (q == r) refl (quieted_at r lines)
+quieted_at r lines = ap session_in (quieted_value r lines) ∙ hushed_in (value_at r lines)
 
 session_hushed : (r : ℕ) (e : End) → session_at r (hushed e) ≡ session_at r e
 session_hushed r e = ap (λ (o : Option Listener). if is_some (value_at r e.carrier.live) then o else None) (quieted_at r e.lines)

@@ -2,6 +2,7 @@
 use Rattle.std.proofs.Common.{◌≡◌, ℕ, Bool, true, false, not, ◌||◌, List, Option, Some, None, is_some, Ok, Err, refl, sym, ap, subst, ◌∙◌, inl, inr, if◌then◌else◌}
 use Rattle.std.specs.List.{AllByRecursion}
 use Rattle.std.specs.Prelude.{IfSome}
+use Rattle.std.proofs.lemmas.Bool.{or_right}
 use Rattle.osi_carrier.specs.Calls.{open_link, send_all_error}
 use Rattle.osi_carrier.specs.Rows.{value_at}
 use Rattle.osi_class.specs.Link.{Standing as Link}
@@ -55,10 +56,6 @@ sound_session law s h = subst (λ (x : Listener). IsSoundState x.state) h.is (la
 open_by : (o : Option (ℕ × Link)) (tsdus : List (List ℕ)) → is_some o ≡ true → AreShort tsdus → send_refusal (send_all_error tsdus o) ≡ None
 open_by None tsdus h short = cc
 open_by (Some link) tsdus h short = ap send_refusal (lengths_fit tsdus short)
-
-or_right : (a b : Bool) → b ≡ true → (a || b) ≡ true
-or_right true b h = refl
-or_right false b h = h
 
 answer_by : Below → (r : ℕ) (call : Call) (e : End) (s : Listener) (a : Answer) → allowed s.state call ≡ a → HasSerial call → e.carrier.ended ≡ None → Soundness e →
     kept_at r e.lines ≡ Some s → CameAbout s → move_refusal r (limit_of s.state) (react s (called call)) e.carrier ≡ (react s (called call)).error

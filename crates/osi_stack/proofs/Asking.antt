@@ -9,7 +9,7 @@ use Rattle.osi_stack.specs.Rounds.{WaitForLive}
 use Rattle.osi_stack.specs.Runs.{quieted}
 use Rattle.osi_stack.specs.State.{Line, line_waits, is_used, used_lines, fresh_line}
 use Rattle.osi_stack.proofs.FirstShown.{quiet_line}
-use Rattle.osi_stack.proofs.Linking.{used_by, joined_lines}
+use Rattle.osi_stack.proofs.Linking.{used_by, joined_lines, mono_or}
 
 -- the same line, for which nothing waits
 abbrev hush : Line → Line
@@ -31,15 +31,10 @@ live_push : (r q : ℕ) (c : Connection) (live : Rows Connection) → is_some (v
 live_push r q c [] here = cc
 live_push r q c ((p, d) ∷ live) here = push_by r p q c d live (p == r) refl here (live_push r q c live)
 
-or_more : (a b w : Bool) → (a ≡ true → b ≡ true) → (a || w) ≡ true → (b || w) ≡ true
-or_more true b w imp h = ap (λ x. x || w) (imp refl)
-or_more false true w imp h = refl
-or_more false false w imp h = h
-
 pub wait_push : (q : ℕ) (c : Connection) (live : Rows Connection) (lines : Rows Line) → WaitForLive live lines → WaitForLive (live ++ (q, c) ∷ []) lines
 wait_push q c live [] all = tt
 wait_push q c live ((r, line) ∷ lines) all =
-    (or_more (is_some (value_at r live)) (is_some (value_at r (live ++ (q, c) ∷ []))) (not (line_waits line)) (live_push r q c live) all.0, wait_push q c live lines all.1)
+    (mono_or (is_some (value_at r live)) (is_some (value_at r (live ++ (q, c) ∷ []))) (not (line_waits line)) (live_push r q c live) all.0, wait_push q c live lines all.1)
 
 -- ---- the lines that are kept
 

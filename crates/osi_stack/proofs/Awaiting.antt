@@ -1,47 +1,44 @@
 -- Each session that waits for its transport connection has one that was asked for.
-use Rattle.std.proofs.Common.{◌≡◌, ◌≢◌, ℕ, ◌+◌, ◌==◌, Bool, true, false, ◌||◌, List, [], ◌∷◌, ◌++◌, length, Option, Some, None, is_some, refl, sym, ap, subst, ◌∙◌, inl, inr, ◌⊎◌, arith, if◌then◌else◌}
+use Rattle.std.proofs.Common.{◌≡◌, ◌≢◌, ℕ, ◌+◌, ◌==◌, Bool, true, false, ◌||◌, List, ◌∷◌, ◌++◌, length, Option, Some, None, is_some, refl, sym, ap, subst, ◌∙◌, inl, inr, ◌⊎◌, arith, if◌then◌else◌, []}
 use Rattle.std.proofs.lemmas.Bool.{eqb-true, eq-eqb}
-use Rattle.osi_tpkt.specs.Stream.{ArePackets}
 use Rattle.osi_tpkt.specs.declared.cutting.Fed.{Fed}
 use Rattle.osi_class.specs.Link.{Standing as Link}
 use Rattle.osi_class.specs.declared.terms.Class.{Class}
-use Rattle.osi_class.specs.declared.terms.Class.TheVariants.{Zero, Two}
+use Rattle.osi_class.specs.declared.terms.Class.TheVariants.{Zero}
 use Rattle.osi_class.specs.declared.terms.Local.{Local}
 use Rattle.osi_carrier.proofs.Apart.{beyond, push_here}
 use Rattle.osi_carrier.proofs.AtReferences.{put_other, push_other}
-use Rattle.osi_carrier.specs.Calls.{open_link, link_of, sent, sent_all, sent_on, send_all_error, closes, closed_on}
+use Rattle.osi_carrier.specs.Calls.{open_link, link_of, sent_on, closes, closed_on}
 use Rattle.osi_carrier.specs.Happenings.{Happening}
 use Rattle.osi_carrier.specs.Happenings as told
 use Rattle.osi_carrier.specs.Orderly.{IsOrderly, told_of}
 use Rattle.osi_carrier.specs.Packets as carriers
 use Rattle.osi_carrier.specs.Rows.{value_at}
 use Rattle.osi_carrier.specs.State.{Connection, asked, closing, State as Carrier}
-use Rattle.osi_carrier.specs.declared.ends.EndReason.{EndReason}
-use Rattle.osi_carrier.specs.declared.ends.EndReason.TheVariants.{Broken, NoMemory}
-use Rattle.osi_carrier.specs.declared.faults.SendError.{SendError}
+use Rattle.osi_carrier.specs.declared.ends.EndReason.TheVariants.{Broken}
 use Rattle.osi_session.specs.Calls.{Call}
 use Rattle.osi_session.specs.Listening.{Input, Listener, called, opened, refused, broken, came, begun, denied, rests, react}
 use Rattle.osi_session.specs.Phases.{is_wait_transport}
 use Rattle.osi_session.specs.Sessions.{awaits}
 use Rattle.osi_stack.specs.Calls.{connects, calls_with, breaks, carried, without_first}
-use Rattle.osi_stack.specs.Feeding.{TakesPackets, Goes, Feeds}
-use Rattle.osi_stack.specs.Hearing.{opens, hears, hears_next, hears_times, hears_all, with_events, with_carrier, after_packet, ends, Starves}
+use Rattle.osi_stack.specs.Feeding.{Feeds}
+use Rattle.osi_stack.specs.Hearing.{opens, hears, hears_next, hears_times, hears_all, with_events, with_carrier, after_packet, ends}
 use Rattle.osi_stack.specs.Links.{AreApart, HasAsked, Soundness, IsSound}
 use Rattle.osi_stack.specs.Messages.{kept_at}
-use Rattle.osi_stack.specs.Moving.{carrier_by, by_line, to_session}
+use Rattle.osi_stack.specs.Moving.{to_session}
 use Rattle.osi_stack.specs.State.{Line, End, Holding, IsAttended, fresh_end, waits}
-use Rattle.osi_stack.specs.Transport.{sent_unless, answers_by}
 use Rattle.osi_stack.specs.declared.connecting.Connect.{Connect}
-use Rattle.osi_stack.proofs.Rooms.{found_how}
-use Rattle.osi_stack.proofs.Answered.{answered, answered_other, stays_packet}
-use Rattle.osi_stack.proofs.Comings.{attended_then}
-use Rattle.osi_stack.proofs.Events.{concluded_carrier, starved_over}
+use Rattle.osi_stack.proofs.Answered.{answered, answered_other, answered_behind}
+use Rattle.osi_stack.proofs.Events.{concluded_carrier}
 use Rattle.osi_stack.proofs.Keeping.{session_keeps}
-use Rattle.osi_stack.proofs.Lifting.{both, packet_is}
+use Rattle.osi_stack.proofs.Lifting.{both, packet_is, never}
 use Rattle.osi_stack.proofs.Linking.{SessionLaws, HasMoved, Hearing, session_hears, first_is, rest_is, times_last, hears_apart, used_at, apart_push, joined_lines}
 use Rattle.osi_stack.proofs.Made.{kept_joined}
 use Rattle.osi_stack.proofs.Moves.{kept_first}
-use Rattle.osi_stack.proofs.Soundness.{concludes_lasting, lasting_of, packet_sound}
+use Rattle.osi_stack.proofs.Ordering.{packet_along}
+use Rattle.osi_stack.proofs.Soundness.{concludes_lasting, hale_kept, IsHale}
+use Rattle.osi_stack.proofs.Stepwise.{session_carried, broken_end}
+use Rattle.osi_stack.proofs.Throughout.{feeds_beside, over_beside}
 
 -- what waits for its transport connection did so before
 abbrev pub StillWaits : Type 0
@@ -58,43 +55,28 @@ unlinked false (Some connection) link here e = (let no : link_of (Some asked) �
 other_link : (r q : ℕ) (c : Carrier) (link : ℕ × Link) → value_at r c.live ≡ Some asked → open_link q c ≡ Some link → r ≢ q
 other_link r q c link here e = λ same. unlinked (is_some c.ended) (value_at q c.live) link (ap (λ n. value_at n c.live) (sym same) ∙ here) e
 
-asked_sent : (r q : ℕ) (tsdu : List ℕ) (o : Option (ℕ × Link)) (c : Carrier) → open_link q c ≡ o → value_at r c.live ≡ Some asked → value_at r (sent_on q tsdu o c).live ≡ Some asked
-asked_sent r q tsdu None c e here = here
-asked_sent r q tsdu (Some (peer, link)) c e here = put_other r q _ c.live (other_link r q c (peer, link) here e) ∙ here
+asked_sent : (r q : ℕ) (tsdu : List ℕ) (o : Option (ℕ × Link)) (c : Carrier) → open_link q c ≡ o → (c.ended ≡ None → value_at r c.live ≡ Some asked) → (sent_on q tsdu o c).ended ≡ None →
+    value_at r (sent_on q tsdu o c).live ≡ Some asked
+asked_sent r q tsdu None c e here over = here over
+asked_sent r q tsdu (Some (peer, link)) c e here over = put_other r q _ c.live (other_link r q c (peer, link) (here over) e) ∙ here over
 
-asked_all : (r q : ℕ) (tsdus : List (List ℕ)) (c : Carrier) → value_at r c.live ≡ Some asked → value_at r (sent_all q tsdus c).live ≡ Some asked
-asked_all r q [] c here = here
-asked_all r q (tsdu ∷ tsdus) c here = asked_all r q tsdus (sent q tsdu c) (asked_sent r q tsdu (open_link q c) c refl here)
+asked_closes : (r q peer : ℕ) (class : Option Class) (c : Carrier) → (c.ended ≡ None → r ≢ q) → (c.ended ≡ None → value_at r c.live ≡ Some asked) → (closes q peer 128 class c).ended ≡ None →
+    value_at r (closes q peer 128 class c).live ≡ Some asked
+asked_closes r q peer (Some Zero) c ne here over = cc
+asked_closes r q peer _ c ne here over = put_other r q (closing peer) c.live (ne over) ∙ here over
 
-asked_unless : (r q : ℕ) (tsdus : List (List ℕ)) (error : Option SendError) (c : Carrier) → value_at r c.live ≡ Some asked → value_at r (sent_unless error q tsdus c).live ≡ Some asked
-asked_unless r q tsdus None c here = asked_all r q tsdus c here
-asked_unless r q tsdus (Some error) c here = here
+asked_closed : (r q : ℕ) (o : Option (ℕ × Link)) (c : Carrier) → open_link q c ≡ o → (c.ended ≡ None → value_at r c.live ≡ Some asked) → (closed_on q 128 o c).ended ≡ None →
+    value_at r (closed_on q 128 o c).live ≡ Some asked
+asked_closed r q None c e here over = here over
+asked_closed r q (Some (peer, link)) c e here over = asked_closes r q peer c.class c (λ lasts. other_link r q c (peer, link) (here lasts) e) here over
 
-asked_closes : (r q peer : ℕ) (class : Option Class) (c : Carrier) → r ≢ q → (closes q peer 128 class c).ended ≡ None → value_at r c.live ≡ Some asked → value_at r (closes q peer 128 class c).live ≡ Some asked
-asked_closes r q peer None c ne over here = put_other r q (closing peer) c.live ne ∙ here
-asked_closes r q peer (Some Two) c ne over here = put_other r q (closing peer) c.live ne ∙ here
-asked_closes r q peer (Some Zero) c ne over here = cc
-
-asked_closed : (r q : ℕ) (o : Option (ℕ × Link)) (c : Carrier) → open_link q c ≡ o → (closed_on q 128 o c).ended ≡ None → value_at r c.live ≡ Some asked → value_at r (closed_on q 128 o c).live ≡ Some asked
-asked_closed r q None c e over here = here
-asked_closed r q (Some (peer, link)) c e over here = asked_closes r q peer c.class c (other_link r q c (peer, link) here e) over here
-
-asked_answers : (r q : ℕ) (closing : Bool) (tsdus : List (List ℕ)) (c : Carrier) → (answers_by closing q tsdus c).ended ≡ None → value_at r c.live ≡ Some asked →
-    value_at r (answers_by closing q tsdus c).live ≡ Some asked
-asked_answers r q true tsdus c over here = asked_closed r q (open_link q c) c refl over here
-asked_answers r q false tsdus c over here = asked_unless r q tsdus (send_all_error tsdus (open_link q c)) c here
-
-asked_carrier : (r q : ℕ) (o : Option Listener) (input : Input) (c : Carrier) → (carrier_by q o input c).ended ≡ None → value_at r c.live ≡ Some asked → value_at r (carrier_by q o input c).live ≡ Some asked
-asked_carrier r q None input c over here = here
-asked_carrier r q (Some s) input c over here = asked_answers r q (react s input).closes _ c over here
-
-asked_line : (r q : ℕ) (o : Option Line) (input : Input) (e : End) → (by_line q o input e).carrier.ended ≡ None → value_at r e.carrier.live ≡ Some asked →
-    value_at r (by_line q o input e).carrier.live ≡ Some asked
-asked_line r q None input e over here = here
-asked_line r q (Some line) input e over here = asked_carrier r q line.session input e.carrier over here
-
+-- one that was asked for stays so while the carrier lasts
 asked_session : (r q : ℕ) (input : Input) (e : End) → (to_session q input e).carrier.ended ≡ None → value_at r e.carrier.live ≡ Some asked → value_at r (to_session q input e).carrier.live ≡ Some asked
-asked_session r q input e over here = asked_line r q (value_at q e.lines) input e over here
+asked_session r q input e over here =
+    session_carried (λ c. c.ended ≡ None → value_at r c.live ≡ Some asked) (record {
+      sends = λ q tsdu c here. asked_sent r q tsdu (open_link q c) c refl here;
+      closes = λ q c here. asked_closed r q (open_link q c) c refl here;
+    }) q input e (λ lasts. here) over
 
 -- ---- while events wait
 
@@ -193,15 +175,13 @@ times_asked law (event ∷ rest) e h apart over all =
 
 -- ---- a packet
 
-answered_not : {A : Type 0} (r : ℕ) (events : List Happening) → answered r events ≡ true → answered r events ≡ false → A
-answered_not r events h k = both (answered r events) h k
-
 packet_told : (packet : List ℕ) (e : End) → IsOrderly e.carrier → e.carrier.ended ≡ None → (carriers.after_packet e.carrier packet).ended ≡ None → HasAsked e →
     AllAsked (carriers.after_packet e.carrier packet).events (with_carrier (carriers.after_packet e.carrier packet) e)
 packet_told packet e o lasts over has =
-    λ r s is n h. elim (stays_packet r packet e.carrier o (has lasts r s is n) over) [
+    let along = packet_along packet e.carrier o in
+    λ r s is n h. elim (along.stays r (has lasts r s is n) over) [
       | inl here ↦ here
-      | inr told ↦ answered_not r (carriers.after_packet e.carrier packet).events told h
+      | inr told ↦ both (answered r (carriers.after_packet e.carrier packet).events) (ap (answered r) along.events ∙ answered_behind r e.carrier.events along.told told) h
     ]
 
 pub packet_asked : StillWaits → (packet : List ℕ) (e : End) → e.carrier.ended ≡ None → Soundness e → HasAsked e → HasAsked (after_packet e packet)
@@ -247,51 +227,14 @@ pub carried_asked : (octets : ℕ) (e : End) → HasAsked e → HasAsked (carrie
 carried_asked octets e has = has
 
 over_asked : (e : End) → is_some e.carrier.ended ≡ true → HasAsked e
-over_asked e over lasts = let no : is_some e.carrier.ended ≡ false = ap is_some lasts in both (is_some e.carrier.ended) over no
-
-breaks_by : (b : Bool) (e : End) → HasAsked e → HasAsked (if b then e else ends Broken e)
-breaks_by true e has = has
-breaks_by false e has = over_asked (ends Broken e) refl
+over_asked e over lasts = never e over lasts
 
 pub breaks_asked : (e : End) → HasAsked e → HasAsked (breaks e)
-breaks_asked e has = breaks_by (is_some e.carrier.ended) e has
+breaks_asked e has = broken_end HasAsked (λ x h. over_asked (ends Broken x) refl) e has
 
 -- ---- feeding
 
-packets_asked : SessionLaws → StillWaits → (units : List (List ℕ)) (old new : End) → TakesPackets old units new → IsAttended old → IsSound old → HasAsked old → HasAsked new
-packets_asked laws law [] old new h attended sound has = subst HasAsked (sym h) has
-packets_asked laws law (u ∷ units) old new h attended sound has =
-    let lasts = lasting_of old.carrier.ended (waits old.lines) h.0 in
-    packets_asked laws law units (after_packet old u) new h.1 (attended_then (with_carrier (carriers.after_packet old.carrier u) old) (after_packet old u) (packet_is old u))
-    (packet_sound laws u old lasts (attended lasts) sound) (packet_asked law u old lasts (sound lasts) has)
-
-starved_asked : (e new : End) (packet : List ℕ) → Starves e packet new → HasAsked new
-starved_asked e new packet (inl h) = λ lasts.
-    let mid = with_carrier h.0 e in
-    let heard : (hears_all mid).carrier.ended ≡ None = sym (ap (λ (x : Carrier). x.ended) (concluded_carrier (hears_all mid))) ∙ ap (λ (x : End). x.carrier.ended) (sym h.2) ∙ lasts in
-    let told : h.0.ended ≡ None = times_last (length h.0.events) mid heard in
-    let over : is_some h.0.ended ≡ true = ap (λ (c : Carrier). is_some c.ended) h.1.2.ended in
-    let no : is_some h.0.ended ≡ false = ap is_some told in
-    both (is_some h.0.ended) over no
-starved_asked e new packet (inr h) =
-    over_asked new (ap (λ (x : End). is_some x.carrier.ended) h.2.starved ∙ starved_over (with_events h.2.more (hears_times h.2.heard (with_carrier h.0 e))))
-
-none_found : (e new : End) (rest : List ℕ) → (new ≡ ends NoMemory e) ⊎ ((packet : List ℕ) × ArePackets (packet ∷ []) rest [] × Starves e packet new) → HasAsked new
-none_found e new rest (inl is) = over_asked new (ap (λ (x : End). is_some x.carrier.ended) is)
-none_found e new rest (inr p) = starved_asked e new p.0 p.2
-
-goes_asked : SessionLaws → StillWaits → (old new : Holding) (piece : List ℕ) (used : ℕ) → Goes old piece used new → IsAttended old.end → IsSound old.end → HasAsked old.end → HasAsked new.end
-goes_asked laws law old new piece used (inl (inl h)) attended sound has = packets_asked laws law h.units old.end new.end h.taken attended sound has
-goes_asked laws law old new piece used (inl (inr h)) attended sound has = packets_asked laws law h.units old.end new.end h.taken attended sound has
-goes_asked laws law old new piece used (inr (inl h)) attended sound has = over_asked new.end (ap (λ (x : End). is_some x.carrier.ended) h.ended)
-goes_asked laws law old new piece used (inr (inr h)) attended sound has = none_found h.before new.end h.rest (found_how old piece used new h)
-
-feeds_by : SessionLaws → StillWaits → (old new : Holding) (piece : List ℕ) (fed : Fed) (o : Option EndReason) (b : Bool) → old.end.carrier.ended ≡ o → waits old.end.lines ≡ b →
-    Feeds old piece fed new → IsAttended old.end → IsSound old.end → HasAsked old.end → HasAsked new.end
-feeds_by laws law old new piece fed (Some reason) b is waiting h attended sound has = subst (λ (x : Holding). HasAsked x.end) (sym (h.over (ap is_some is)).1) has
-feeds_by laws law old new piece fed None true is waiting h attended sound has = subst (λ (x : Holding). HasAsked x.end) (sym (h.waiting is waiting).1) has
-feeds_by laws law old new piece fed None false is waiting h attended sound has =
-    goes_asked laws law old new piece fed.used (h.goes (ap (λ (o : Option EndReason). is_some o || waits old.end.lines) is ∙ waiting)) attended sound has
-
 pub feeds_asked : SessionLaws → StillWaits → (old new : Holding) (piece : List ℕ) (fed : Fed) → Feeds old piece fed new → IsAttended old.end → IsSound old.end → HasAsked old.end → HasAsked new.end
-feeds_asked laws law old new piece fed h attended sound has = feeds_by laws law old new piece fed old.end.carrier.ended (waits old.end.lines) refl refl h attended sound has
+feeds_asked laws law old new piece fed h attended sound has =
+    feeds_beside IsHale HasAsked (hale_kept laws) (over_beside IsHale HasAsked (λ packet e lasts hale has. packet_asked law packet e lasts (hale.1 lasts) has) over_asked)
+    old new piece fed h (attended, sound) has

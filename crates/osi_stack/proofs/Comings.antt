@@ -1,5 +1,5 @@
 -- Octets that the other end wrote are read as the units that it wrote.
-use Rattle.std.proofs.Common.{◌≡◌, ℕ, ◌+◌, ◌-◌, ◌≤◌, Bool, true, false, ◌||◌, not, is_some, List, [], ◌∷◌, ◌++◌, length, map, take, drop, Option, None, Some, Result, Ok, refl, sym, ap, subst, ◌∙◌, inl, inr, ◌⊎◌, arith, if◌then◌else◌}
+use Rattle.std.proofs.Common.{◌≡◌, ℕ, ◌+◌, ◌-◌, ◌≤◌, Bool, true, false, ◌||◌, not, is_some, List, ◌∷◌, ◌++◌, length, map, take, drop, Option, None, Result, Ok, refl, sym, ap, subst, ◌∙◌, inl, inr, ◌⊎◌, arith, if◌then◌else◌, []}
 use Rattle.std.specs.List.{AllByRecursion}
 use Rattle.std.proofs.lemmas.List.{length-take-le, take-take}
 use Rattle.osi_tpkt.specs.Stream.{ArePackets, offset_of}
@@ -22,7 +22,8 @@ use Rattle.osi_stack.specs.Hearing.{attends, after_packet, with_carrier, with_ev
 use Rattle.osi_stack.specs.State.{End, Holding, IsAttended, waits}
 use Rattle.osi_stack.proofs.Events.{all_quiet, never_starved, concluded_attended, starved_over as ended_then}
 use Rattle.osi_stack.proofs.Keeping.{hears_keep}
-use Rattle.osi_stack.proofs.Lifting.{packet_is}
+use Rattle.osi_stack.proofs.Lifting.{packet_is, lasting_of, never}
+use Rattle.osi_stack.proofs.Throughout.{IsKept, packets_kept, over_kept}
 
 -- ---- one unit
 
@@ -44,11 +45,7 @@ front_taken s t units coming r behind f h = units_taken f.done s t f.sendable (s
 -- ---- what is attended stays so along packets
 
 no_events : (e : End) → stops e ≡ false → IsAttended e → e.carrier.events ≡ []
-no_events e quiet attended = attended (none_by e.carrier.ended (waits e.lines) quiet)
-  where
-    none_by : (o : Option EndReason) (b : Bool) → (is_some o || b) ≡ false → o ≡ None
-    none_by None b h = refl
-    none_by (Some reason) b h = cc
+no_events e quiet attended = attended (lasting_of e.carrier.ended (waits e.lines) quiet)
 
 -- ---- a unit for which there was no memory
 
@@ -88,16 +85,10 @@ packet_starved e new packet coming r t none f h =
     ] f.are f.parts f.sendable
 
 -- it has ended then
-starved_over : (e : End) (left : List Value) (new : End) → Starved e left new → new.carrier.ended ≡ None → ⊥
-starved_over e left new (inl is) lasts =
-    let over : is_some new.carrier.ended ≡ true = ap (λ (x : End). is_some x.carrier.ended) is in
-    let none : is_some new.carrier.ended ≡ false = ap is_some lasts in
-    cc
+starved_over : {A : Type 0} (e : End) (left : List Value) (new : End) → Starved e left new → new.carrier.ended ≡ None → A
+starved_over e left new (inl is) lasts = never new (ap (λ (x : End). is_some x.carrier.ended) is) lasts
 starved_over e left new (inr h) lasts =
-    let at = with_events h.starved.more (hears_times h.starved.heard (carries_out h.unit e)) in
-    let over : is_some new.carrier.ended ≡ true = ap (λ (x : End). is_some x.carrier.ended) h.starved.starved ∙ ended_then at in
-    let none : is_some new.carrier.ended ≡ false = ap is_some lasts in
-    cc
+    never new (ap (λ (x : End). is_some x.carrier.ended) h.starved.starved ∙ ended_then (with_events h.starved.more (hears_times h.starved.heard (carries_out h.unit e)))) lasts
 
 -- ---- attended along packets
 
@@ -111,10 +102,9 @@ all_heard (x ∷ xs) e h =
 pub attended_then : (e new : End) → new ≡ attends e → IsAttended new
 attended_then e new h = concluded_attended (hears_all e) new h (all_heard e.carrier.events e refl)
 
-pub attended_along : (units : List (List ℕ)) (old new : End) → TakesPackets old units new → IsAttended old → IsAttended new
-attended_along [] old new h attended = subst IsAttended (sym h) attended
-attended_along (u ∷ units) old new h attended =
-    attended_along units (after_packet old u) new h.1 (attended_then (with_carrier (carriers.after_packet old.carrier u) old) (after_packet old u) (packet_is old u))
+pub attended_kept : IsKept IsAttended
+attended_kept =
+    over_kept IsAttended (λ packet e lasts attended. attended_then (with_carrier (carriers.after_packet e.carrier packet) e) (after_packet e packet) (packet_is e packet)) (λ e over lasts. never e over lasts)
 
 -- ---- feeding
 
@@ -173,7 +163,7 @@ finds_none old new outgoing coming k used less c attended h =
     let within : n ≤ k = (let bound = h.bound in let size = length-take-le k outgoing less in omega arith) in
     let f = reads_part old.held.octets outgoing coming n h.units h.rest c
     (subst (λ l. ArePackets h.units (old.held.octets ++ l) h.rest) (take-take n k outgoing within) h.packets) in
-    let none = no_events h.before h.quiet (attended_along h.units old.end h.before h.taken attended) in
+    let none = no_events h.before h.quiet (packets_kept IsAttended attended_kept h.units old.end h.before h.taken attended) in
     let starved : Starved h.before f.left new.end =
     elim h.how [
       | inl none ↦ inl none.ended
@@ -187,7 +177,7 @@ finds_none old new outgoing coming k used less c attended h =
       reached = h.before;
       taken = front_taken old.end h.before h.units coming h.rest (drop n outgoing) f h.taken;
       how = inr starved;
-      coming_then = λ lasts. absurd (starved_over h.before f.left new.end starved lasts);
+      coming_then = λ lasts. starved_over h.before f.left new.end starved lasts;
     }
 
 goes_some : (old new : Holding) (outgoing : List ℕ) (coming : List Value) (k used : ℕ) → k ≤ length outgoing → AreComing old.held.octets outgoing coming → IsAttended old.end →

@@ -1,20 +1,16 @@
 -- An empty piece changes nothing.
-use Rattle.std.proofs.Common.{◌≡◌, ℕ, ◌==◌, true, false, List, [], ◌∷◌, length, is_some, refl, sym, ap, subst, ◌∙◌, inl, inr, arith}
+use Rattle.std.proofs.Common.{◌≡◌, ℕ, ◌==◌, true, false, List, ◌∷◌, length, is_some, refl, sym, ap, subst, ◌∙◌, inl, inr, arith, []}
 use Rattle.std.proofs.lemmas.Bool.{eqb-true}
 use Rattle.std.proofs.lemmas.List.{append-nil}
 use Rattle.osi_tpkt.specs.declared.cutting.Fed.{Fed}
 use Rattle.osi_carrier.specs.Packets.{Carrying}
 use Rattle.osi_carrier.specs.Packets as carriers
-use Rattle.osi_carrier.specs.Rows.{Rows}
 use Rattle.osi_carrier.specs.State.{State as Carrier}
 use Rattle.osi_stack.specs.Feeding.{stops, RunsDry, Goes}
-use Rattle.osi_stack.specs.State.{Line, Holding, IsAttended, waits}
+use Rattle.osi_stack.specs.State.{Holding, IsAttended, holding, waits}
+use Rattle.osi_stack.proofs.Events.{carrying_of}
 use Rattle.osi_stack.proofs.Lifting.{both, or_first}
 use Rattle.osi_stack.proofs.Pieces.{quiet_end}
-
--- a carrier on which nothing waits
-abbrev carrying_of : Holding → Carrying
-carrying_of h = record { state = h.end.carrier; held = h.held }
 
 -- the carrier stays as it is, and has not ended
 ended_not : {A : Type 0} (old told before : Carrier) → is_some old.ended ≡ false → told ≡ old → is_some told.ended ≡ true → A
@@ -68,13 +64,9 @@ nothing_of [] e = refl
 nothing_of (x ∷ l) e = let none = eqb-true (length (x ∷ l)) 0 e in absurd (omega arith)
 
 -- an end whose carrier is fed nothing
-pub idle_goes : (old : Holding) (lines : Rows Line) (piece : List ℕ) (fed : Fed) (before told : Carrying) → (length piece == 0) ≡ true → stops old.end ≡ false → IsAttended old.end →
-    carriers.Feeds before piece fed told → (piece ≡ [] → (fed.used ≡ 0) × (told ≡ before)) → record { end = record { carrier = before.state; lines = lines }; held = before.held } ≡ old →
-    IsIdle old piece fed.used (record { end = record { carrier = told.state; lines = lines }; held = told.held })
-idle_goes old lines piece fed before told e quiet attended feeds empty view =
+pub idle_goes : (old : Holding) (piece : List ℕ) (fed : Fed) (told : Carrying) → (length piece == 0) ≡ true → stops old.end ≡ false → IsAttended old.end →
+    carriers.Feeds (carrying_of old) piece fed told → (piece ≡ [] → (fed.used ≡ 0) × (told ≡ carrying_of old)) → IsIdle old piece fed.used (holding told old.end.lines)
+idle_goes old piece fed told e quiet attended feeds empty =
     let none = nothing_of piece e in
     let is = empty none in
-    let carrying : before ≡ carrying_of old = ap (λ (x : Holding). carrying_of x) view in
-    idle_is old (record { end = record { carrier = told.state; lines = lines }; held = told.held }) piece fed told none quiet attended
-    (subst (λ (x : Carrying). carriers.Feeds x piece fed told) carrying feeds) is.0 (is.1 ∙ carrying)
-    (ap (λ (x : Carrying). record { end = record { carrier = x.state; lines = lines }; held = x.held }) is.1 ∙ view)
+    idle_is old (holding told old.end.lines) piece fed told none quiet attended feeds is.0 is.1 (ap (λ (x : Carrying). holding x old.end.lines) is.1)

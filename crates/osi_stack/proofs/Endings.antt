@@ -1,6 +1,6 @@
 -- How a list of calls ends an end for which there is memory: behind a packet, or at a fault of the stream. Two
 -- lists with the same octets end it alike.
-use Rattle.std.proofs.Common.{◌≡◌, ℕ, ◌+◌, ◌-◌, ◌<◌, ◌^◌, ◌||◌, Bool, true, false, List, [], ◌∷◌, ◌++◌, length, take, Option, Some, None, is_some, refl, sym, ap, subst, ◌∙◌, ◌⊎◌, inl, inr, arith, append_assoc, length-append}
+use Rattle.std.proofs.Common.{◌≡◌, ℕ, ◌+◌, ◌-◌, ◌<◌, ◌^◌, ◌||◌, Bool, true, false, List, ◌∷◌, ◌++◌, length, take, Option, Some, None, is_some, refl, sym, ap, subst, ◌∙◌, ◌⊎◌, inl, inr, arith, append_assoc, length-append, []}
 use Rattle.std.proofs.lemmas.List.{append-nil, take_all}
 use Rattle.std.specs.List.{flat_map}
 use Rattle.osi_tpkt.proofs.Fronts.{one_fault}
@@ -25,9 +25,9 @@ use Rattle.osi_stack.specs.Runs.Call.{feeding, telling, carrying}
 use Rattle.osi_stack.specs.State.{End, Holding, waits}
 use Rattle.osi_stack.proofs.Accounts.{made, after_more, account_quiet, account_told, account_joined, account_packet, packets_apart, packets_done, with_joined}
 use Rattle.osi_stack.proofs.Lasting.{Lasts, account_over, in_front, packets_within, no_packets_end, no_fault_ends, reads_lasts}
-use Rattle.osi_stack.proofs.Lifting.{both, or_first, or_second}
+use Rattle.osi_stack.proofs.Lifting.{both, or_first, or_second, never}
 use Rattle.osi_stack.proofs.Pieces.{none_of}
-use Rattle.osi_stack.proofs.Runs.{never, ReadsOne, reads_one}
+use Rattle.osi_stack.proofs.Runs.{ReadsOne, reads_one}
 
 -- ---- how it ends
 

@@ -1,16 +1,19 @@
 -- The events that wait, heard one after the other.
-use Rattle.std.proofs.Common.{◌≡◌, ℕ, ◌+◌, ◌<◌, ◌==◌, zero, suc, Bool, true, false, not, List, [], ◌∷◌, length, Option, Some, None, is_some, refl, sym, ap, subst, ◌∙◌, arith, if◌then◌else◌}
-use Rattle.std.proofs.lemmas.Bool.{eqb-true}
-use Rattle.osi_carrier.specs.Calls.{ended_by}
+use Rattle.std.proofs.Common.{◌≡◌, ℕ, ◌+◌, ◌<◌, ◌==◌, zero, suc, Bool, true, false, not, List, ◌∷◌, length, Option, Some, None, is_some, refl, sym, ap, subst, ◌∙◌, inl, inr, arith, if◌then◌else◌, []}
+use Rattle.std.proofs.lemmas.Bool.{eqb-true, not-false}
+use Rattle.osi_tpkt.specs.declared.cutting.Fed.{Fed}
+use Rattle.osi_carrier.specs.Calls.{ended_by, Tells}
 use Rattle.osi_carrier.specs.Happenings.{Happening}
-use Rattle.osi_carrier.specs.Packets.{is_spoilt}
+use Rattle.osi_carrier.specs.Packets.{Carrying, is_spoilt}
+use Rattle.osi_carrier.specs.Packets as carriers
+use Rattle.osi_carrier.specs.Rows.{Rows}
 use Rattle.osi_carrier.specs.State.{State as Carrier}
 use Rattle.osi_carrier.specs.declared.ends.EndReason.{EndReason}
 use Rattle.osi_carrier.specs.declared.ends.EndReason.TheVariants.{NoMemory}
-use Rattle.osi_stack.specs.Fetching.{Interrupted, LeftOff}
+use Rattle.osi_stack.specs.Fetching.{Interrupted, LeftOff, Fetches}
 use Rattle.osi_stack.specs.Hearing.{hears, hears_first, hears_next, hears_times, hears_all, with_events, with_carrier, all_lost, concludes, starves, RunsOut}
 use Rattle.osi_stack.specs.Needs.{needs_memory}
-use Rattle.osi_stack.specs.State.{End, Holding, IsAttended}
+use Rattle.osi_stack.specs.State.{Line, End, Holding, IsAttended, holding}
 use Rattle.osi_stack.proofs.Found.{same_end}
 use Rattle.osi_stack.proofs.Keeping.{hears_keep}
 
@@ -30,6 +33,10 @@ taken_is now event mid h = record {
   first = ap (λ (c : Carrier). c.events) h;
   rest = ap (λ (c : Carrier). with_carrier (record c { events = mid.events }) now) h;
 }
+
+-- the carrier of an end, and the packet under way
+abbrev pub carrying_of : Holding → Carrying
+carrying_of h = record { state = h.end.carrier; held = h.held }
 
 -- so many events were heard
 pub record HasHeard (old now : Holding) : Type 0 where
@@ -105,13 +112,9 @@ starved_is old mid left = record {
 
 -- ---- no event waits
 
-not_false : (b : Bool) → not b ≡ false → b ≡ true
-not_false true h = refl
-not_false false h = cc
-
 pub no_events : (events : List Happening) → not (length events == 0) ≡ false → events ≡ []
 no_events [] h = refl
-no_events (x ∷ l) h = let none : suc (length l) ≡ 0 = eqb-true (length (x ∷ l)) 0 (not_false (length (x ∷ l) == 0) h) in absurd (omega arith)
+no_events (x ∷ l) h = let none : suc (length l) ≡ 0 = eqb-true (length (x ∷ l)) 0 (not-false (length (x ∷ l) == 0) h) in absurd (omega arith)
 
 pub times_quiet : (n : ℕ) (e : End) → e.carrier.events ≡ [] → hears_times n e ≡ e
 times_quiet zero e none = refl
@@ -163,3 +166,41 @@ concluded_carrier e = concluded_by (is_some e.carrier.ended) e
 
 pub concluded_attended : (e new : End) → new ≡ concludes e → e.carrier.events ≡ [] → IsAttended new
 concluded_attended e new h none over = ap (λ (x : End). x.carrier.events) h ∙ ap (λ (c : Carrier). c.events) (concluded_carrier e) ∙ none
+
+-- ---- one look at the stream
+
+concluded_lines : (b : Bool) (e : End) (lines : Rows Line) → is_some e.carrier.ended ≡ b → lines ≡ (if b then all_lost e.lines else e.lines) → record e { lines = lines } ≡ concludes e
+concluded_lines true e lines is h = ap (λ (l : Rows Line). record e { lines = l }) h ∙ sym (ap (λ (c : Bool). if c then record e { lines = all_lost e.lines } else e) is)
+concluded_lines false e lines is h = ap (λ (l : Rows Line). record e { lines = l }) h ∙ sym (ap (λ (c : Bool). if c then record e { lines = all_lost e.lines } else e) is)
+
+-- the carrier took packets, and its events were heard
+pub fetched : (old : Holding) (octets : List ℕ) (fed : Fed) (told : Carrying) (heard : Holding) (carrier : Carrying) (lines : Rows Line) (b : Bool) →
+    carriers.Feeds (carrying_of old) octets fed told → HasHeard (holding told old.end.lines) heard → Tells None heard.end.carrier carrier.state → carrier.held ≡ heard.held →
+    is_some carrier.state.ended ≡ b → lines ≡ (if b then all_lost heard.end.lines else heard.end.lines) → Fetches old octets fed.used (holding carrier lines)
+fetched old octets fed told heard carrier lines b feeds so_far none held over left =
+    let is : (holding carrier lines).end ≡ concludes heard.end =
+    ap (λ (c : Carrier). record { carrier = c; lines = lines }) none.1
+    ∙ concluded_lines b heard.end lines (ap (λ (c : Carrier). is_some c.ended) (sym none.1) ∙ over) left in
+    record {
+      fed = fed;
+      told = told;
+      feeds = feeds;
+      held = held ∙ so_far.held;
+      heard = inl (is ∙ ap concludes (heard_all (holding told old.end.lines) heard so_far none.0), refl);
+      attended = concluded_attended heard.end (holding carrier lines).end is none.0;
+    }
+
+-- the same where there was no memory for what one of them does
+pub fetched_not : (old : Holding) (octets : List ℕ) (fed : Fed) (told : Carrying) (heard new : Holding) → carriers.Feeds (carrying_of old) octets fed told →
+    LeftOff (with_carrier told.state old.end) heard.end → heard.held ≡ told.held → new ≡ record heard { end = starves heard.end } → Fetches old octets (length octets) new
+fetched_not old octets fed told heard new feeds left held is = record {
+  fed = fed;
+  told = told;
+  feeds = feeds;
+  held = ap (λ (h : Holding). h.held) is ∙ held;
+  heard = inr (
+    subst (RunsOut (with_carrier told.state old.end)) (sym (ap (λ (h : Holding). h.end) is)) (starved_is (with_carrier told.state old.end) heard.end left),
+    refl,
+  );
+  attended = starved_attended heard.end new.end (ap (λ (h : Holding). h.end) is);
+}

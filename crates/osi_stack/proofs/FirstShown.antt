@@ -1,25 +1,22 @@
 -- The first connection for which an indication waits.
-use Rattle.std.proofs.Common.{◌≡◌, ℕ, ◌+◌, ◌<◌, ◌≤◌, ◌==◌, Bool, zero, suc, true, false, not, List, [], ◌∷◌, length, get_or, set, Option, Some, None, refl, sym, ap, ◌∙◌, arith}
+use Rattle.std.proofs.Common.{◌≡◌, ℕ, ◌+◌, ◌<◌, ◌≤◌, ◌==◌, Bool, zero, suc, true, false, not, List, [], ◌∷◌, length, map, get_or, set, Option, Some, None, refl, sym, ap, ◌∙◌, arith}
 use Rattle.std.specs.List.{position, position_or_len}
-use Rattle.std.proofs.lemmas.Bool.{eqb-true}
+use Rattle.std.proofs.lemmas.Bool.{eqb-true, not-false}
 use Rattle.std.proofs.lemmas.Bool.{eqb-true}
 use Rattle.std.proofs.lemmas.Grind.{common_steps}
 use Rattle.std.proofs.lemmas.List.Quantifiers.{position-Some}
 use Rattle.osi_carrier.specs.Rows.{Rows}
-use Rattle.osi_session.specs.Shown.{Shown}
+use Rattle.osi_session.specs.Shown.{Shown, shown_by}
+use Rattle.osi_session.specs.declared.indications.Indication.{Indication}
 use Rattle.osi_stack.specs.Calls.{first_by, first_shown, rest_by, without_first, TellsOf}
 use Rattle.osi_stack.specs.State.{Line, line_waits, waits}
 use Rattle.osi_stack.proofs.Lifting.{or_first, or_second}
 
 -- ---- nothing waits
 
-not_false : (b : Bool) → not b ≡ false → b ≡ true
-not_false true h = refl
-not_false false h = cc
-
 quiet_list : (w : List Shown) → not (length w == 0) ≡ false → w ≡ []
 quiet_list [] h = refl
-quiet_list (x ∷ w) h = let none : suc (length w) ≡ 0 = eqb-true (length (x ∷ w)) 0 (not_false (length (x ∷ w) == 0) h) in absurd (omega arith)
+quiet_list (x ∷ w) h = let none : suc (length w) ≡ 0 = eqb-true (length (x ∷ w)) 0 (not-false (length (x ∷ w) == 0) h) in absurd (omega arith)
 
 pub quiet_line : (l : Line) → line_waits l ≡ false → l.waiting ≡ []
 quiet_line l e = quiet_list l.waiting e
@@ -93,9 +90,10 @@ first_is rows i d e =
 
 -- ---- it is told
 
--- a line that waits tells something
-pub told_some : (row new : ℕ × Line) → line_waits row.1 ≡ true → TellsOf None row new → ⊥
-told_some row new waits h = let none : line_waits row.1 ≡ false = ap (λ (w : List Shown). not (length w == 0)) h.0 in cc
+-- a line that waits has something to tell
+pub never_popped : {A : Type 0} (items : List Indication) (n : ℕ) → n ≡ length items → n ≡ 0 → not (length (map shown_by items) == 0) ≡ true → A
+never_popped [] n len none waits = cc
+never_popped (x ∷ items) n len none waits = absurd (omega arith)
 
 pub record IsTold (rows items : Rows Line) (i : ℕ) (row new : ℕ × Line) (shown : Shown) : Type 0 where
   pub first : first_shown rows ≡ Some (row.0, shown)

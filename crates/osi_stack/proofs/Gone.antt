@@ -1,34 +1,33 @@
 -- Once the carrier has ended no session is left.
-use Rattle.std.proofs.Common.{◌≡◌, ℕ, ◌||◌, Bool, true, false, List, [], ◌∷◌, Option, Some, None, is_some, IsSome, refl, sym, ap, subst, ◌∙◌, inl, inr, ◌⊎◌, if◌then◌else◌}
+use Rattle.std.proofs.Common.{◌≡◌, ℕ, ◌||◌, Bool, true, false, List, ◌∷◌, Option, Some, None, is_some, IsSome, refl, sym, ap, subst, ◌∙◌, inl, inr, ◌⊎◌, if◌then◌else◌, []}
 use Rattle.osi_message.specs.Parting.{tsdus_sent}
 use Rattle.osi_session.specs.Sizes.{limit_of}
-use Rattle.osi_tpkt.specs.Stream.{ArePackets}
 use Rattle.osi_tpkt.specs.declared.cutting.Fed.{Fed}
-use Rattle.osi_carrier.specs.Calls.{open_link, sent, sent_on, may_connect, sent_all, send_all_error}
+use Rattle.osi_carrier.specs.Calls.{open_link, sent_on, may_connect, send_all_error}
 use Rattle.osi_carrier.specs.Packets as carriers
 use Rattle.osi_carrier.specs.Rows.{value_at, put}
 use Rattle.osi_carrier.specs.State.{State as Carrier}
 use Rattle.osi_carrier.specs.declared.ends.EndReason.{EndReason}
-use Rattle.osi_carrier.specs.declared.ends.EndReason.TheVariants.{Broken, NoMemory}
-use Rattle.osi_carrier.specs.declared.faults.SendError.{SendError}
 use Rattle.osi_carrier.proofs.Effects.{free_of}
 use Rattle.osi_carrier.proofs.Places.{put_same}
 use Rattle.osi_class.specs.Link.{Standing as Link}
 use Rattle.osi_session.specs.Calls.{Call}
 use Rattle.osi_session.specs.Listening.{Input, Listener, called, react}
 use Rattle.osi_stack.specs.Calls.{connects, connect_error, terms_error, breaks, without_first}
-use Rattle.osi_stack.specs.Feeding.{TakesPackets, Goes, Feeds}
-use Rattle.osi_stack.specs.Hearing.{with_events, with_carrier, hears_all, hears_times, concludes, attends, after_packet, ends, all_lost, Starves}
+use Rattle.osi_stack.specs.Feeding.{Feeds}
+use Rattle.osi_stack.specs.Hearing.{with_events, with_carrier, hears_all, hears_times, attends, after_packet, ends, all_lost, Starves}
 use Rattle.osi_stack.specs.Messages.{kept_at}
 use Rattle.osi_stack.specs.Moving.{line_by, carrier_by, by_line, to_session}
 use Rattle.osi_stack.specs.Settled.{IsGone}
-use Rattle.osi_stack.specs.State.{Line, End, Holding, session_in, waits}
-use Rattle.osi_stack.specs.Transport.{sent_unless, answers_by}
+use Rattle.osi_stack.specs.State.{Line, End, Holding, session_in}
+use Rattle.osi_stack.specs.Transport.{answers_by}
 use Rattle.osi_stack.specs.declared.connecting.Connect.{Connect}
-use Rattle.osi_stack.proofs.Rooms.{found_how}
 use Rattle.osi_stack.proofs.Lifting.{packet_is}
 use Rattle.osi_stack.proofs.Moves.{are_lost, kept_first}
 use Rattle.osi_stack.proofs.Soundness.{open_none}
+use Rattle.osi_stack.proofs.Stepwise.{unless_sent}
+use Rattle.osi_stack.proofs.Throughout.{IsKept, feeds_kept, breaks_kept}
+use Rattle.osi_carrier.proofs.Reacts.{none_of}
 
 -- what lasts loses no session
 pub lasting_gone : (e : End) → e.carrier.ended ≡ None → IsGone e
@@ -40,29 +39,18 @@ lost_gone e new is over r = ap (kept_at r) is ∙ (are_lost e.lines).none r
 
 -- ---- calls
 
-unended : (o : Option EndReason) → is_some o ≡ false → o ≡ None
-unended None h = refl
-unended (Some reason) h = cc
-
 pub connect_gone : (c : Connect) (e : End) → connect_error c e ≡ None → IsGone (connects c e)
-connect_gone c e allowed = lasting_gone (connects c e) (unended e.carrier.ended (free_of e.carrier (open_none (may_connect e.carrier) (terms_error c) allowed)).lasts)
+connect_gone c e allowed = lasting_gone (connects c e) (none_of e.carrier.ended (free_of e.carrier (open_none (may_connect e.carrier) (terms_error c) allowed)).lasts)
 
 sent_lasts_by : (r : ℕ) (tsdu : List ℕ) (o : Option (ℕ × Link)) (c : Carrier) → (sent_on r tsdu o c).ended ≡ c.ended
 sent_lasts_by r tsdu None c = refl
 sent_lasts_by r tsdu (Some (peer, link)) c = refl
 
-all_last : (r : ℕ) (tsdus : List (List ℕ)) (c : Carrier) → (sent_all r tsdus c).ended ≡ c.ended
-all_last r [] c = refl
-all_last r (tsdu ∷ tsdus) c = all_last r tsdus (sent r tsdu c) ∙ sent_lasts_by r tsdu (open_link r c) c
-
-hands_lasts : (o : Option SendError) (r : ℕ) (tsdus : List (List ℕ)) (c : Carrier) → (sent_unless o r tsdus c).ended ≡ c.ended
-hands_lasts None r tsdus c = all_last r tsdus c
-hands_lasts (Some error) r tsdus c = refl
-
 -- what a call sends does not end the carrier
 answers_last : (closes : Bool) (r : ℕ) (tsdus : List (List ℕ)) (c : Carrier) → closes ≡ false → (answers_by closes r tsdus c).ended ≡ c.ended
 answers_last true r tsdus c still = cc
-answers_last false r tsdus c still = hands_lasts (send_all_error tsdus (open_link r c)) r tsdus c
+answers_last false r tsdus c still =
+    unless_sent (λ x. x.ended ≡ c.ended) (λ q tsdu x same. sent_lasts_by q tsdu (open_link q x) x ∙ same) (send_all_error tsdus (open_link r c)) r tsdus c refl
 
 carrier_lasts : ((s : Listener) (call : Call) → (react s (called call)).closes ≡ false) → (r : ℕ) (o : Option Listener) (call : Call) (c : Carrier) →
     (carrier_by r o (called call) c).ended ≡ c.ended
@@ -92,53 +80,29 @@ call_gone law r call e gone over q =
 pub first_gone : (e : End) → IsGone e → IsGone (record e { lines = without_first e.lines })
 first_gone e gone over r = kept_first r e.lines ∙ gone over r
 
-breaks_by : (b : Bool) (e : End) → IsGone e → IsGone (if b then e else ends Broken e)
-breaks_by true e gone = gone
-breaks_by false e gone = lost_gone e (ends Broken e) refl
-
-pub breaks_gone : (e : End) → IsGone e → IsGone (breaks e)
-breaks_gone e gone = breaks_by (is_some e.carrier.ended) e gone
-
 -- ---- packets
 
 concludes_by : (o : Option EndReason) (e : End) → e.carrier.ended ≡ o → IsGone (if is_some o then record e { lines = all_lost e.lines } else e)
 concludes_by None e is = lasting_gone e is
 concludes_by (Some reason) e is = lost_gone e (record e { lines = all_lost e.lines }) refl
 
-concluded_gone : (e : End) → IsGone (concludes e)
-concluded_gone e = concludes_by e.carrier.ended e refl
-
 then_gone : (e new : End) → new ≡ attends e → IsGone new
-then_gone e new is = subst IsGone (sym is) (concluded_gone (hears_all e))
-
-along_gone : (units : List (List ℕ)) (old new : End) → TakesPackets old units new → IsGone old → IsGone new
-along_gone [] old new h gone = subst IsGone (sym h) gone
-along_gone (u ∷ units) old new h gone =
-    along_gone units (after_packet old u) new h.1 (then_gone (with_carrier (carriers.after_packet old.carrier u) old) (after_packet old u) (packet_is old u))
-
--- ---- feeding
+then_gone e new is = subst IsGone (sym is) (concludes_by (hears_all e).carrier.ended (hears_all e) refl)
 
 starved_gone : (e new : End) (packet : List ℕ) → Starves e packet new → IsGone new
 starved_gone e new packet (inl h) = then_gone (with_carrier h.0 e) new h.2
 starved_gone e new packet (inr h) =
     lost_gone (with_events h.2.more (hears_times h.2.heard (with_carrier h.0 e))) new (ap (λ (x : End). x.lines) h.2.starved)
 
-none_found : (e new : End) (rest : List ℕ) → (new ≡ ends NoMemory e) ⊎ ((packet : List ℕ) × ArePackets (packet ∷ []) rest [] × Starves e packet new) → IsGone new
-none_found e new rest (inl is) = lost_gone e new (ap (λ (x : End). x.lines) is)
-none_found e new rest (inr p) = starved_gone e new p.0 p.2
+gone_kept : IsKept IsGone
+gone_kept = record {
+  each = λ packet e lasts gone. then_gone (with_carrier (carriers.after_packet e.carrier packet) e) (after_packet e packet) (packet_is e packet);
+  over = λ reason e gone. lost_gone e (ends reason e) refl;
+  starved = λ packet e new lasts h gone. starved_gone e new packet h;
+}
 
-goes_gone : (old new : Holding) (piece : List ℕ) (used : ℕ) → Goes old piece used new → IsGone old.end → IsGone new.end
-goes_gone old new piece used (inl (inl h)) gone = along_gone h.units old.end new.end h.taken gone
-goes_gone old new piece used (inl (inr h)) gone = along_gone h.units old.end new.end h.taken gone
-goes_gone old new piece used (inr (inl h)) gone = lost_gone h.before new.end (ap (λ (x : End). x.lines) h.ended)
-goes_gone old new piece used (inr (inr h)) gone = none_found h.before new.end h.rest (found_how old piece used new h)
-
-feeds_by : (old new : Holding) (piece : List ℕ) (fed : Fed) (o : Option EndReason) (b : Bool) → old.end.carrier.ended ≡ o → waits old.end.lines ≡ b → Feeds old piece fed new →
-    IsGone old.end → IsGone new.end
-feeds_by old new piece fed (Some reason) b is waiting h gone = subst (λ (x : Holding). IsGone x.end) (sym (h.over (ap is_some is)).1) gone
-feeds_by old new piece fed None true is waiting h gone = subst (λ (x : Holding). IsGone x.end) (sym (h.waiting is waiting).1) gone
-feeds_by old new piece fed None false is waiting h gone =
-    goes_gone old new piece fed.used (h.goes (ap (λ (o : Option EndReason). is_some o || waits old.end.lines) is ∙ waiting)) gone
+pub breaks_gone : (e : End) → IsGone e → IsGone (breaks e)
+breaks_gone e gone = breaks_kept IsGone gone_kept e gone
 
 pub feeds_gone : (old new : Holding) (piece : List ℕ) (fed : Fed) → Feeds old piece fed new → IsGone old.end → IsGone new.end
-feeds_gone old new piece fed h gone = feeds_by old new piece fed old.end.carrier.ended (waits old.end.lines) refl refl h gone
+feeds_gone old new piece fed h gone = feeds_kept IsGone gone_kept old new piece fed h gone

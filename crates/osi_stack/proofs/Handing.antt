@@ -2,6 +2,7 @@
 use Rattle.std.proofs.Common.{◌≡◌, ◌∙◌, refl, sym, ap, ℕ, ◌≤◌, Bool, true, false, ◌||◌, List, [], ◌∷◌, length, map, nat_lt, Option, Some, None, option_map, unwrap_or, Ok, Err, Result, arith, if◌then◌else◌}
 use Rattle.std.specs.List.{list_any}
 use Rattle.std.proofs.lemmas.Bool.Decides.{nat_tests}
+use Rattle.std.proofs.Math.Bool.{or-false}
 use Rattle.osi_carrier.specs.Calls.{send_error, send_all_error, lengths_error, open_link, sent, sent_on, sent_all}
 use Rattle.osi_carrier.specs.State.{State as Carrier}
 use Rattle.osi_carrier.specs.declared.faults.SendError.{SendError}
@@ -23,13 +24,9 @@ use Rattle.osi_stack.specs.declared.told.Told.TheVariants.{Opened, Refused, Tsdu
 
 -- ---- one, and none
 
-or_false : (b : Bool) → (b || false) ≡ b
-or_false true = refl
-or_false false = refl
-
 pub one_error : (tsdu : List ℕ) (o : Option (ℕ × Link)) → send_all_error (tsdu ∷ []) o ≡ send_error tsdu o
 one_error tsdu None = refl
-one_error tsdu (Some link) = ap (λ (b : Bool). if◌then◌else◌ {A = Option SendError} b (Some TooLong) None) (or_false (nat_lt 1048576 (length tsdu)))
+one_error tsdu (Some link) = ap (λ (b : Bool). if◌then◌else◌ {A = Option SendError} b (Some TooLong) None) (or-false (nat_lt 1048576 (length tsdu)))
 
 none_by : (r : ℕ) (c : Carrier) (o : Option (ℕ × Link)) → sent_unless (send_all_error [] o) r [] c ≡ c
 none_by r c None = refl
@@ -95,10 +92,8 @@ pub came_unbounded : (s : Listener) (octets : List ℕ) → limit_for s (came oc
 came_unbounded s octets = unbounded s (said_at octets)
 
 pub told_unbounded : (s : Listener) (told : Told) → limit_for s (told_input told) ≡ 0
-told_unbounded s Opened = refl
-told_unbounded s (Refused reason) = refl
 told_unbounded s (Tsdu octets) = came_unbounded s octets.now
-told_unbounded s Lost = refl
+told_unbounded s _ = refl
 
 -- what is handed over of a session that hears something
 pub answer_heard : (s : Listener) (told : Told) (r : ℕ) (reply : Option (List (List ℕ))) (closes : Bool) (move : Move) (c : Carrier) → reply ≡ option_map in_one move.reply → closes ≡ move.closes →

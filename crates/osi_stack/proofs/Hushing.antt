@@ -11,23 +11,11 @@ use Rattle.osi_stack.specs.Moving.{line_by, by_line, to_session}
 use Rattle.osi_stack.specs.Runs.{quieted, hushed, put_back, account_of}
 use Rattle.osi_stack.specs.State.{Line, End}
 use Rattle.osi_stack.proofs.Accounts.{made}
-use Rattle.osi_stack.proofs.Alike.{call_hushed}
-use Rattle.osi_stack.proofs.InFront.{apart_session}
+use Rattle.osi_stack.proofs.Alike.{call_hushed, hush, quieted_value}
 use Rattle.osi_stack.proofs.Moves.{says_is}
+use Rattle.osi_stack.proofs.InFront.{apart_session}
 
 -- ---- the end but for what waits
-
-abbrev hush : Line → Line
-hush line = record line { waiting = [] }
-
-value_by : (r q : ℕ) (line : Line) (lines : Rows Line) (b : Bool) → (q == r) ≡ b → value_at r (quieted lines) ≡ option_map hush (value_at r lines) →
-    value_at r (quieted ((q, line) ∷ lines)) ≡ option_map hush (value_at r ((q, line) ∷ lines))
-value_by r q line lines true e more = rw e refl
-value_by r q line lines false e more = rw e more
-
-quieted_value : (r : ℕ) (lines : Rows Line) → value_at r (quieted lines) ≡ option_map hush (value_at r lines)
-quieted_value r [] = refl
-quieted_value r ((q, line) ∷ lines) = value_by r q line lines (q == r) refl (quieted_value r lines)
 
 quieted_twice : (lines : Rows Line) → quieted lines ≡ quieted (quieted lines)
 quieted_twice [] = refl

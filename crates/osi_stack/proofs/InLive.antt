@@ -1,6 +1,6 @@
 -- Two accounts that are the same but for lines of connections that are gone stay so, whatever comes.
 use Rattle.std.proofs.Common.{◌≡◌, ℕ, ◌==◌, Bool, true, false, ◌||◌, List, [], ◌∷◌, ◌++◌, Option, Some, None, is_some, refl, sym, ap, ◌∙◌, if◌then◌else◌}
-use Rattle.std.proofs.lemmas.Bool.{eqb-true, eq-eqb}
+use Rattle.std.proofs.lemmas.Bool.{eqb-true, eq-eqb, or_right}
 use Rattle.osi_carrier.proofs.Effects.{orderly_same}
 use Rattle.osi_carrier.specs.Calls.{link_of}
 use Rattle.osi_carrier.specs.Orderly.{AreUpTo}
@@ -8,6 +8,7 @@ use Rattle.osi_carrier.specs.Packets as carriers
 use Rattle.osi_carrier.specs.Rows.{Rows, value_at}
 use Rattle.osi_carrier.specs.State.{Connection, asked, State as Carrier}
 use Rattle.osi_carrier.specs.Told.{is_open}
+use Rattle.osi_carrier.proofs.Reacts.{none_of}
 use Rattle.osi_session.proofs.PhaseLaws.{implied}
 use Rattle.osi_session.specs.Listening.{Listener, broken, react}
 use Rattle.osi_session.specs.Phases.{is_wait_transport, may_abort, shows_loss}
@@ -60,10 +61,6 @@ some_quieted : (r : ℕ) (lines : Rows Line) → is_some (value_at r (quieted li
 some_quieted r [] = refl
 some_quieted r ((q, y) ∷ lines) = none_by r q y lines (q == r) refl (some_quieted r lines)
 
-none_of : {X : Type 0} (o : Option X) → is_some o ≡ false → o ≡ None
-none_of None e = refl
-none_of (Some x) e = cc
-
 quieted_apart : (lines : Rows Line) → AreApart lines → AreApart (quieted lines)
 quieted_apart [] apart = tt
 quieted_apart ((q, y) ∷ lines) apart = (none_of (value_at q (quieted lines)) (some_quieted q lines ∙ ap is_some apart.0), quieted_apart lines apart.1)
@@ -113,13 +110,9 @@ quiet_loss : (s : Listener) → shows_loss s.state.phase ≡ false → (react s 
 unfolding react
 quiet_loss s h = unshown (shows_loss s.state.phase) h
 
-or_either : (a b : Bool) → (a || b) ≡ true → a ≡ false → b ≡ true
+pub or_either : (a b : Bool) → (a || b) ≡ true → a ≡ false → b ≡ true
 or_either false b h e = h
 or_either true b h e = cc
-
-or_last : (a b : Bool) → b ≡ true → (a || b) ≡ true
-or_last true b h = refl
-or_last false b h = h
 
 link_live : (over : Bool) (o : Option Connection) → o ≡ None → is_some (if over then None else link_of o) ≡ false
 link_live true o none = refl
@@ -132,7 +125,7 @@ gone_quiet : (e : End) (r : ℕ) (s : Listener) → e.carrier.ended ≡ None →
     shows_loss s.state.phase ≡ c → c ≡ false
 gone_quiet e r s lasts f kept none b false m shows = refl
 gone_quiet e r s lasts f kept none true true m shows =
-    let open_is : is_open r e.carrier ≡ true = (f.sound lasts).links lasts r s kept (or_last _ (may_abort s.state.phase) m) in
+    let open_is : is_open r e.carrier ≡ true = (f.sound lasts).links lasts r s kept (or_right _ (may_abort s.state.phase) m) in
     both (is_open r e.carrier) open_is (gone_closed r e.carrier none)
 gone_quiet e r s lasts f kept none false true m shows =
     let waits : is_wait_transport s.state.phase ≡ true =

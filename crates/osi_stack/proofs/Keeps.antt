@@ -78,39 +78,6 @@ joined_quiet live ((r, line) ∷ lines) =
     let two = sum_by-cons (λ row. joined_live live row) (r, line) lines in
     omega arith
 
-unused_by : (live : Rows Connection) (row : ℕ × Line) (b : Bool) → is_some (value_at row.0 live) ≡ b → is_used live row ≡ false → joined_live live row ≡ 0
-unused_by live row true e unused = let no : true ≡ false = rw e at unused in cc
-unused_by live row false e unused = ap (λ (b : Bool). if◌then◌else◌ {A = ℕ} b (joined_of row.1.session) 0) e
-
-used_joined_by : (live : Rows Connection) (row : ℕ × Line) (lines : Rows Line) (u : Bool) → is_used live row ≡ u → joined_in live (used_lines live lines) ≡ joined_in live lines →
-    joined_in live (used_lines live (row ∷ lines)) ≡ joined_in live (row ∷ lines)
-used_joined_by live row lines true used more =
-    let one = sum_by-cons (λ row. joined_live live row) row (used_lines live lines) in
-    let two = sum_by-cons (λ row. joined_live live row) row lines in
-    let three = ap (joined_in live) (used_by live row lines true used) in
-    omega arith
-used_joined_by live row lines false used more =
-    let none = unused_by live row (is_some (value_at row.0 live)) refl used in
-    let two = sum_by-cons (λ row. joined_live live row) row lines in
-    let three = ap (joined_in live) (used_by live row lines false used) in
-    omega arith
-
--- lines that are of no use have joined nothing
-pub used_joined : (live : Rows Connection) (lines : Rows Line) → joined_in live (used_lines live lines) ≡ joined_in live lines
-used_joined live [] = refl
-used_joined live (row ∷ lines) = used_joined_by live row lines (is_used live row) refl (used_joined live lines)
-
--- a new line counts whatever waits for the others
-pub joined_joins : (live : Rows Connection) (q : ℕ) (s : Listener) (lines : Rows Line) →
-    joined_in live (used_lines live (joined_lines q s lines)) ≡ joined_in live (used_lines live (joined_lines q s (quieted lines)))
-joined_joins live q s lines =
-    let one = used_joined live (joined_lines q s lines) in
-    let two = sum_by_push (λ row. joined_live live row) lines (q, fresh_line s) in
-    let three = used_joined live (joined_lines q s (quieted lines)) in
-    let four = sum_by_push (λ row. joined_live live row) (quieted lines) (q, fresh_line s) in
-    let five = joined_quiet live lines in
-    omega arith
-
 -- ---- two ends
 
 -- what two ends keep of which this much is the same

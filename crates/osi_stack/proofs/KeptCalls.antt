@@ -1,7 +1,9 @@
 -- A session whose connection is not live answers a call as if it were not there.
-use Rattle.std.proofs.Common.{◌≡◌, ℕ, Bool, true, false, not, Option, Some, None, Result, Ok, Err, is_some, IsSome, refl, sym, ap, ◌∙◌, if◌then◌else◌}
-use Rattle.std.specs.Prelude.{OnOk}
-use Rattle.osi_carrier.specs.Rows.{value_at}
+use Rattle.std.proofs.Common.{◌≡◌, ℕ, Bool, true, false, not, Option, Some, None, Result, Ok, Err, is_some, IsSome, refl, sym, ap, subst, ◌∙◌, if◌then◌else◌}
+use Rattle.std.specs.Prelude.{OnOk, OnErr, IfErr}
+use Rattle.osi_tpkt.specs.Held.{Held}
+use Rattle.osi_carrier.specs.Packets.{Carrying}
+use Rattle.osi_carrier.specs.Rows.{Rows, value_at}
 use Rattle.osi_carrier.specs.State.{Connection, State as Carrier}
 use Rattle.osi_carrier.specs.Told.{is_open}
 use Rattle.osi_carrier.specs.declared.ends.EndReason.{EndReason}
@@ -16,28 +18,19 @@ use Rattle.osi_session.specs.declared.faults.CallError.TheVariants as error
 use Rattle.osi_session.specs.declared.phases.Phase.{Phase}
 use Rattle.osi_session.specs.declared.phases.Phase.TheVariants.{WaitTransport, WaitCn, Connecting, Answering, Ready, MajorAsked, MajorDue, Releasing, ReleaseDue, Restarting, RestartDue, Aborting, Ended}
 use Rattle.osi_session.specs.declared.state.State.{State}
-use Rattle.osi_stack.specs.Calls.{has_given, move_refusal, session_refusal, session_error, call_error, table_error, kept_call_error, kept_table_error}
+use Rattle.osi_stack.specs.Calls.{has_given, move_refusal, session_refusal, session_error, call_error, table_error, Refuses, by_rule}
 use Rattle.osi_stack.specs.Links.{needs_link}
 use Rattle.osi_stack.specs.Messages.{kept_at}
 use Rattle.osi_stack.specs.Settled.{IsSettled}
-use Rattle.osi_stack.specs.State.{End, session_in, session_at}
+use Rattle.osi_stack.specs.State.{Line, End, Holding, holding, session_in, session_at}
+use Rattle.osi_stack.proofs.Settling.{answered_by_table}
 
 -- ---- a session that is over
 
 over_phase : (p : Phase) → needs_link p ≡ false → is_wait_transport p ≡ false → is_over p ≡ true
-over_phase WaitTransport h k = cc
-over_phase WaitCn h k = cc
-over_phase Connecting h k = cc
-over_phase Answering h k = cc
-over_phase Ready h k = cc
-over_phase MajorAsked h k = cc
-over_phase MajorDue h k = cc
-over_phase Releasing h k = cc
-over_phase ReleaseDue h k = cc
-over_phase Restarting h k = cc
-over_phase RestartDue h k = cc
 over_phase Aborting h k = refl
 over_phase Ended h k = refl
+over_phase _ h k = cc
 
 refused_over : (s : State) (call : Call) → is_over s.phase ≡ true → allowed s call ≡ Err error.Ended
 unfolding allowed
@@ -97,19 +90,47 @@ alike_by r call e (Some connection) at settled =
       error = sym (ap (λ (x : Option Listener). session_error x call) same);
     }
 
-pub same_refusal : (r : ℕ) (call : Call) (e : End) → IsSettled e → kept_call_error r call e ≡ call_error r call e
-same_refusal r call e settled =
-    ap (λ (o : Option CallError). if◌then◌else◌ {A = Option CallError} (not (has_given r e.carrier)) (Some error.NoSuchConnection) o)
-    (alike_by r call e (value_at r e.carrier.live) refl settled).refusal
-
-pub same_error : (r : ℕ) (call : Call) (e : End) → IsSettled e → kept_table_error r call e ≡ table_error r call e
-same_error r call e settled =
-    ap (λ (o : Option CallError). if◌then◌else◌ {A = Option CallError} (not (has_given r e.carrier)) (Some error.NoSuchConnection) o)
-    (alike_by r call e (value_at r e.carrier.live) refl settled).error
-
 -- ---- what was accepted
 
-pub lasts_by : {A F : Type 0} (result : Result A F) (over : Option EndReason) (refusal : Option CallError) → (IsSome over → IsSome refusal) → OnOk result (refusal ≡ None) → OnOk result (over ≡ None)
+lasts_by : {A F : Type 0} (result : Result A F) (over : Option EndReason) (refusal : Option CallError) → (IsSome over → IsSome refusal) → OnOk result (refusal ≡ None) → OnOk result (over ≡ None)
 lasts_by (Ok x) None refusal h none = refl
 lasts_by (Ok x) (Some reason) refusal h none = let some : is_some refusal ≡ true = h refl in let is = ap is_some none in cc
 lasts_by (Err e) over refusal h none = tt
+
+-- what a stack answers a call of this reference
+pub record IsAnswered {A : Type 0} (result : Result A CallError) (r : ℕ) (call : Call) (e : End) : Type 0 where
+  pub allowed : OnOk result (call_error r call e ≡ None)
+  pub refused : IfErr result (λ f. Refuses f (table_error r call e) (call_error r call e))
+  pub table : OnOk result (table_error r call e ≡ None)
+  pub answered : IfErr result (λ f. by_rule f ≡ table_error r call e)
+  pub over : OnOk result (e.carrier.ended ≡ None)
+
+-- it is what the session answers that is there
+pub answered_there : {A : Type 0} (result : Result A CallError) (r : ℕ) (call : Call) (e : End) → has_given r e.carrier ≡ true → IsSettled e → call_error r call e ≡ table_error r call e →
+    (IsSome e.carrier.ended → IsSome (call_error r call e)) → OnOk result (session_refusal r (kept_at r e.lines) call e.carrier ≡ None) →
+    IfErr result (λ f. Refuses f (session_error (kept_at r e.lines) call) (session_refusal r (kept_at r e.lines) call e.carrier)) → IsAnswered result r call e
+answered_there result r call e given settled law over ok err =
+    let alike = alike_by r call e (value_at r e.carrier.live) refl settled in
+    let unless : Option CallError → Bool → Option CallError = λ o b. if not b then Some error.NoSuchConnection else o in
+    let all : session_refusal r (kept_at r e.lines) call e.carrier ≡ call_error r call e = alike.refusal ∙ ap (unless (session_refusal r (session_at r e) call e.carrier)) (sym given) in
+    let first : session_error (kept_at r e.lines) call ≡ table_error r call e = alike.error ∙ ap (unless (session_error (session_at r e) call)) (sym given) in
+    let allowed = subst (λ (o : Option CallError). OnOk result (o ≡ None)) all ok in
+    let refused = subst (λ (o : Option CallError). IfErr result (λ f. Refuses f o (call_error r call e))) first
+    (subst (λ (o : Option CallError). IfErr result (λ f. Refuses f (session_error (kept_at r e.lines) call) o)) all err) in
+    record {
+      allowed = allowed;
+      refused = refused;
+      table = subst (λ (o : Option CallError). OnOk result (o ≡ None)) law allowed;
+      answered = answered_by_table result (table_error r call e) (call_error r call e) law refused;
+      over = lasts_by result e.carrier.ended (call_error r call e) over allowed;
+    }
+
+-- ---- what became of the end
+
+pub called_ok : {A F : Type 0} (result : Result A F) (old new : Holding) (next : End) → OnOk result (new.end ≡ next) → new.held ≡ old.held → OnOk result (new ≡ record old { end = next })
+called_ok (Ok x) old new next is held = ap (λ (e : End). record new { end = e }) is ∙ ap (λ (h : Held). record { end = next; held = h }) held
+called_ok (Err e) old new next is held = tt
+
+pub called_err : {A F : Type 0} (result : Result A F) (old new : Carrying) (lines left : Rows Line) → OnErr result ((left ≡ lines) × (new ≡ old)) → OnErr result (holding new left ≡ holding old lines)
+called_err (Ok x) old new lines left same = tt
+called_err (Err e) old new lines left same = ap (holding new) same.0 ∙ ap (λ (c : Carrying). holding c lines) same.1

@@ -1,5 +1,5 @@
 -- Where one list of pieces does not end an end, no other with the same octets does.
-use Rattle.std.proofs.Common.{◌≡◌, ℕ, ◌||◌, Bool, true, false, List, [], ◌∷◌, ◌++◌, take, Option, Some, None, is_some, refl, sym, ap, subst, ◌∙◌, ◌⊎◌, inl, inr, arith, append_assoc}
+use Rattle.std.proofs.Common.{◌≡◌, ℕ, ◌||◌, Bool, true, false, List, ◌∷◌, ◌++◌, take, Option, Some, None, is_some, refl, sym, ap, subst, ◌∙◌, ◌⊎◌, inl, inr, arith, append_assoc, []}
 use Rattle.std.proofs.lemmas.List.{append-nil, take_all}
 use Rattle.std.specs.List.{flat_map}
 use Rattle.osi_tpkt.specs.Packet.{IsPartial, IsFaultOf}
@@ -16,10 +16,10 @@ use Rattle.osi_stack.specs.Runs.{Account, account_of, with_packet, with_packets,
 use Rattle.osi_stack.specs.Runs.Call.{feeding, telling, carrying}
 use Rattle.osi_stack.specs.State.{End, Holding, waits}
 use Rattle.osi_stack.proofs.Accounts.{account_packet, packets_apart, packets_done, with_joined}
-use Rattle.osi_stack.proofs.Lifting.{or_first, packets_append}
+use Rattle.osi_stack.proofs.Lifting.{or_first, packets_append, never}
 use Rattle.osi_stack.proofs.Overs.{packet_over, starved_full}
 use Rattle.osi_stack.proofs.Pieces.{none_of}
-use Rattle.osi_stack.proofs.Runs.{never, calls_read, reads_one, ReadsOne}
+use Rattle.osi_stack.proofs.Runs.{calls_read, reads_one, ReadsOne}
 
 -- ---- an end stays
 

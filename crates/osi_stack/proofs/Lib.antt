@@ -4,12 +4,15 @@ pub mod Losing
 pub mod FirstShown
 pub mod Calling
 pub mod NewConnection
+pub mod Stepwise
 pub mod Keeping
 pub mod Events
 pub mod Lifting
 pub mod Rooms
 pub mod Pieces
 pub mod Comings
+pub mod Overs
+pub mod Throughout
 pub mod Moves
 pub mod Selecting
 pub mod Addressing
@@ -38,7 +41,6 @@ pub mod Handing
 pub mod Needing
 pub mod Joinings
 pub mod Accounts
-pub mod Overs
 pub mod Runs
 pub mod Lasting
 pub mod Endings

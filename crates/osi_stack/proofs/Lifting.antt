@@ -1,9 +1,10 @@
 -- What packets that tell nothing do to an end, and what the last of them does.
-use Rattle.std.proofs.Common.{◌≡◌, ℕ, ◌||◌, Bool, true, false, List, [], ◌∷◌, ◌++◌, is_some, refl, sym, ap, subst, ◌∙◌, if◌then◌else◌}
+use Rattle.std.proofs.Common.{◌≡◌, ℕ, ◌||◌, Bool, true, false, List, ◌∷◌, ◌++◌, Option, Some, None, is_some, refl, sym, ap, subst, ◌∙◌, if◌then◌else◌, []}
 use Rattle.osi_tpkt.specs.Stream.{ArePackets}
 use Rattle.osi_carrier.specs.Packets as carriers
 use Rattle.osi_carrier.specs.Rows.{Rows}
 use Rattle.osi_carrier.specs.State.{State as Carrier}
+use Rattle.osi_carrier.specs.declared.ends.EndReason.{EndReason}
 use Rattle.osi_stack.specs.Feeding.{stops, TakesPackets}
 use Rattle.osi_stack.specs.Hearing.{attends, after_packet, with_carrier, all_lost, concludes}
 use Rattle.osi_stack.specs.State.{Line, End, waits}
@@ -12,6 +13,14 @@ use Rattle.osi_stack.proofs.Events.{no_events, all_quiet}
 pub both : {A : Type 0} (b : Bool) → b ≡ true → b ≡ false → A
 both true h k = cc
 both false h k = cc
+
+-- it lasts, and it has ended
+pub never : {A : Type 0} (e : End) → is_some e.carrier.ended ≡ true → e.carrier.ended ≡ None → A
+never e over lasts = both (is_some e.carrier.ended) over (ap is_some lasts)
+
+pub lasting_of : (o : Option EndReason) (b : Bool) → (is_some o || b) ≡ false → o ≡ None
+lasting_of None b h = refl
+lasting_of (Some reason) b h = cc
 
 -- ---- nothing is told
 

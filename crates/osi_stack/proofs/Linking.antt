@@ -1,6 +1,7 @@
 -- Sessions keep transport connections that are open, whatever is heard.
-use Rattle.std.proofs.Common.{◌≡◌, ◌≢◌, ℕ, zero, suc, ◌==◌, Bool, true, false, not, ◌&&◌, ◌||◌, List, [], ◌∷◌, ◌++◌, length, Option, Some, None, is_some, IsSome, option_map, Result, Ok, Err, refl, sym, ap, subst, ◌∙◌, inl, inr, ◌⊎◌, if◌then◌else◌}
-use Rattle.std.proofs.lemmas.Bool.{eqb-true, eq-eqb}
+use Rattle.std.proofs.Common.{◌≡◌, ◌≢◌, ℕ, zero, suc, ◌==◌, Bool, true, false, not, ◌&&◌, ◌||◌, List, ◌∷◌, ◌++◌, length, Option, Some, None, is_some, IsSome, option_map, Result, Ok, Err, refl, sym, ap, subst, ◌∙◌, inl, inr, ◌⊎◌, if◌then◌else◌, []}
+use Rattle.std.proofs.lemmas.Bool.{ne_eqb, eqb-true, eq-eqb, or_right}
+use Rattle.std.proofs.Math.Bool.{or-false, and-true}
 use Rattle.osi_carrier.specs.Calls.{open_link, link_of, sent, sent_on, closes, closed_on, closed_with, sent_all, send_all_error}
 use Rattle.osi_carrier.specs.Happenings.{Happening}
 use Rattle.osi_carrier.specs.Happenings as told
@@ -15,7 +16,7 @@ use Rattle.osi_carrier.specs.Orderly.{told_of}
 use Rattle.osi_carrier.proofs.ToldOpen.{sent_opens, closed_opens}
 use Rattle.osi_class.specs.Link.{Standing as Link}
 use Rattle.osi_class.specs.declared.terms.Class.{Class}
-use Rattle.osi_class.specs.declared.terms.Class.TheVariants.{Zero, Two}
+use Rattle.osi_class.specs.declared.terms.Class.TheVariants.{Zero}
 use Rattle.osi_session.specs.Listening.{Input, Listener, opened, refused, broken, came, came_as, react}
 use Rattle.osi_message.specs.Reading.{said_at}
 use Rattle.osi_message.specs.Words.{Words}
@@ -32,7 +33,10 @@ use Rattle.osi_stack.specs.State.{Line, End, session_in, line_waits, is_used, us
 use Rattle.osi_stack.specs.Transport.{sent_unless, answers_by}
 use Rattle.osi_stack.proofs.Keeping.{hears_keep}
 use Rattle.osi_stack.proofs.Lifting.{both}
-use Rattle.osi_stack.proofs.Moves.{lost_at}
+use Rattle.osi_stack.proofs.Moves.{lost_at, at_row, used_keep}
+pub use Rattle.osi_stack.proofs.Moves.{used_by}
+use Rattle.osi_stack.proofs.Stepwise.{event_heard, events_heard, Hears}
+use Rattle.osi_stack.specs.Inputs.{input_of}
 
 -- what the tables of sessions say
 pub record SessionLaws : Type 0 where
@@ -99,9 +103,8 @@ live_of_link false (Some connection) link e = refl
 
 closes_stays : (q peer : ℕ) (class : Option Class) (c : Carrier) → (closes q peer 128 class c).ended ≡ None → (r : ℕ) → IsSome (value_at r c.live) →
     IsSome (value_at r (closes q peer 128 class c).live)
-closes_stays q peer None c over r some = put_some r q (closing peer) c.live some
-closes_stays q peer (Some Two) c over r some = put_some r q (closing peer) c.live some
 closes_stays q peer (Some Zero) c over r some = cc
+closes_stays q peer _ c over r some = put_some r q (closing peer) c.live some
 
 closed_stays_by : (q : ℕ) (o : Option (ℕ × Link)) (c : Carrier) → (closed_on q 128 o c).ended ≡ None → (r : ℕ) → IsSome (value_at r c.live) →
     IsSome (value_at r (closed_on q 128 o c).live)
@@ -113,20 +116,12 @@ closing_by : (q : ℕ) (o : Option (ℕ × Link)) (c : Carrier) → open_link q 
 closing_by q None c e over = inl refl
 closing_by q (Some link) c e over = inr (closed_stays_by q (Some link) c over q (live_of_link (is_some c.ended) (value_at q c.live) link e))
 
-and_true : (b : Bool) → (b && true) ≡ b
-and_true true = refl
-and_true false = refl
-
 pub unlike : (q r : ℕ) → r ≢ q → (q == r) ≡ false
-unlike q r ne = unlike_by (q == r) refl
-  where
-    unlike_by : (b : Bool) → (q == r) ≡ b → b ≡ false
-    unlike_by true e = absurd (ne (sym (eqb-true q r e)))
-    unlike_by false e = refl
+unlike q r ne = ne_eqb q r (λ same. ne (sym same))
 
 closed_answered : (q : ℕ) (c : Carrier) → Answered q true c (closed_with q 128 c)
 closed_answered q c = record {
-  others = λ over r ne. closed_opens q r 128 c over ∙ ap (λ b. is_open r c && not b) (unlike q r ne) ∙ and_true (is_open r c);
+  others = λ over r ne. closed_opens q r 128 c over ∙ ap (λ b. is_open r c && not b) (unlike q r ne) ∙ and-true (is_open r c);
   stays = λ over r some. closed_stays_by q (open_link q c) c over r some;
   here = λ e. cc;
   closing_here = λ e over. closing_by q (open_link q c) c refl over;
@@ -138,13 +133,9 @@ answered_by q false tsdus c = hands_by q tsdus c (send_all_error tsdus (open_lin
 
 -- ---- the events that are still to be heard
 
-or_true : (a b : Bool) → b ≡ true → (a || b) ≡ true
-or_true true b h = refl
-or_true false b h = h
-
-mono_or : (a b x : Bool) → (a ≡ true → b ≡ true) → (a || x) ≡ true → (b || x) ≡ true
+pub mono_or : (a b x : Bool) → (a ≡ true → b ≡ true) → (a || x) ≡ true → (b || x) ≡ true
 mono_or true b x imp h = ap (λ y. y || x) (imp refl)
-mono_or false b x imp h = or_true b x h
+mono_or false b x imp h = or_right b x h
 
 mono_and : (a b x : Bool) → (a ≡ true → b ≡ true) → (a && x) ≡ true → (b && x) ≡ true
 mono_and true b x imp h = ap (λ y. y && x) (imp refl) ∙ h
@@ -179,16 +170,12 @@ pub record IsLinked (r : ℕ) (o : Option Listener) (events : List Happening) (c
   pub fresh : (open_after r false events ≡ true → is_open r c ≡ true) ⊎ HasClosed r o c
 
 -- an event for another connection
-or_false : (b : Bool) → (b || false) ≡ b
-or_false true = refl
-or_false false = refl
-
 event_other : (event : Happening) (r : ℕ) (b : Bool) (rest : List Happening) → r ≢ told_of event → open_after r b (event ∷ rest) ≡ open_after r b rest
-event_other (told.opened q) r b rest ne = ap (λ x. open_after r (b || x) rest) (unlike q r ne) ∙ ap (λ x. open_after r x rest) (or_false b)
+event_other (told.opened q) r b rest ne = ap (λ x. open_after r (b || x) rest) (unlike q r ne) ∙ ap (λ x. open_after r x rest) (or-false b)
 event_other (told.refused q reason) r b rest ne = refl
 event_other (told.tsdu q octets) r b rest ne = refl
-event_other (told.closed q reason) r b rest ne = ap (λ x. open_after r (b && not x) rest) (unlike q r ne) ∙ ap (λ x. open_after r x rest) (and_true b)
-event_other (told.faulted q fault) r b rest ne = ap (λ x. open_after r (b && not x) rest) (unlike q r ne) ∙ ap (λ x. open_after r x rest) (and_true b)
+event_other (told.closed q reason) r b rest ne = ap (λ x. open_after r (b && not x) rest) (unlike q r ne) ∙ ap (λ x. open_after r x rest) (and-true b)
+event_other (told.faulted q fault) r b rest ne = ap (λ x. open_after r (b && not x) rest) (unlike q r ne) ∙ ap (λ x. open_after r x rest) (and-true b)
 
 other_linked : (event : Happening) (rest : List Happening) (r : ℕ) (o : Option Listener) (c d : Carrier) → r ≢ told_of event → is_open r d ≡ is_open r c →
     (IsSome (value_at r c.live) → IsSome (value_at r d.live)) → IsLinked r o (event ∷ rest) c → IsLinked r o rest d
@@ -342,13 +329,6 @@ apart_push r x ((q, y) ∷ rows) none apart = apart_push_by r q x y rows (q == r
 
 -- ---- lines that are of use
 
-pub used_by : (live : Rows Connection) (row : ℕ × Line) (lines : Rows Line) (b : Bool) → is_used live row ≡ b →
-    used_lines live (row ∷ lines) ≡ (if b then row ∷ used_lines live lines else used_lines live lines)
-used_by live row lines b e = ap (λ (c : Bool). if◌then◌else◌ {A = Rows Line} c (row ∷ used_lines live lines) (used_lines live lines)) e
-
-at_row : (q p : ℕ) (y : Line) (rows : Rows Line) (b : Bool) → (p == q) ≡ b → value_at q ((p, y) ∷ rows) ≡ (if b then Some y else value_at q rows)
-at_row q p y rows b e = ap (λ (c : Bool). if◌then◌else◌ {A = Option Line} c (Some y) (value_at q rows)) e
-
 gone_by : (o : Option Connection) (b : Bool) → (is_some o || b) ≡ false → o ≡ None
 gone_by None b h = refl
 gone_by (Some c) b h = cc
@@ -397,15 +377,11 @@ used_none r live lines apart none = elim (used_at r live lines apart) [
   | inr gone ↦ gone.0
 ]
 
-apart_used_by : (p : ℕ) (y : Line) (live : Rows Connection) (lines : Rows Line) (u : Bool) → is_used live (p, y) ≡ u → value_at p lines ≡ None → AreApart lines → AreApart (used_lines live lines) →
-    AreApart (used_lines live ((p, y) ∷ lines))
-apart_used_by p y live lines true used alone apart more =
-    subst AreApart (sym (used_by live (p, y) lines true used)) (used_none p live lines apart alone, more)
-apart_used_by p y live lines false used alone apart more = subst AreApart (sym (used_by live (p, y) lines false used)) more
-
 pub apart_used : (live : Rows Connection) (lines : Rows Line) → AreApart lines → AreApart (used_lines live lines)
 apart_used live [] apart = tt
-apart_used live ((p, y) ∷ lines) apart = apart_used_by p y live lines (is_used live (p, y)) refl apart.0 apart.1 (apart_used live lines apart.1)
+apart_used live ((p, y) ∷ lines) apart =
+    let more = apart_used live lines apart.1 in
+    used_keep AreApart live (p, y) lines more (λ used. (used_none p live lines apart.1 apart.0, more))
 
 pub apart_joins : (r : ℕ) (s : Listener) (e : End) → value_at r e.lines ≡ None → AreApart e.lines → AreApart (joins r s e).lines
 apart_joins r s e none apart = apart_used e.carrier.live _ (apart_push r (fresh_line s) e.lines none apart)
@@ -512,16 +488,14 @@ line_apart q input e (Some line) apart = apart_put q (line_by line line.session 
 pub session_apart : (q : ℕ) (input : Input) (e : End) → AreApart e.lines → AreApart (to_session q input e).lines
 session_apart q input e apart = line_apart q input e (value_at q e.lines) apart
 
-opened_apart : (q : ℕ) (e : End) (o : Option Line) → value_at q e.lines ≡ o → AreApart e.lines → AreApart (opens q o e).lines
-opened_apart q e None here apart = apart_joins q awaits e here apart
-opened_apart q e (Some line) here apart = session_apart q opened e apart
+heard_apart : Hears (λ x. AreApart x.lines)
+heard_apart = record {
+  begins = λ r e none apart. apart_joins r awaits e none apart;
+  moves = λ event e apart. session_apart (told_of event) (input_of event) e apart;
+}
 
 pub hears_apart : (event : Happening) (e : End) → AreApart e.lines → AreApart (hears event e).lines
-hears_apart (told.opened q) e apart = opened_apart q e (value_at q e.lines) refl apart
-hears_apart (told.refused q reason) e apart = session_apart q _ e apart
-hears_apart (told.tsdu q octets) e apart = session_apart q _ e apart
-hears_apart (told.closed q reason) e apart = session_apart q _ e apart
-hears_apart (told.faulted q fault) e apart = session_apart q _ e apart
+hears_apart event e apart = event_heard (λ x. AreApart x.lines) heard_apart event e apart
 
 -- ---- all events
 
@@ -540,12 +514,7 @@ times_last zero e h = h
 times_last (suc n) e h = first_lasts e.carrier.events e (times_last n (hears_next e) h)
 
 pub times_apart : (n : ℕ) (e : End) → AreApart e.lines → AreApart (hears_times n e).lines
-times_apart zero e apart = apart
-times_apart (suc n) e apart = times_apart n (hears_next e) (next_apart e.carrier.events e apart)
-  where
-    next_apart : (l : List Happening) (e : End) → AreApart e.lines → AreApart (hears_first l e).lines
-    next_apart [] e apart = apart
-    next_apart (event ∷ rest) e apart = hears_apart event (with_events rest e) apart
+times_apart n e apart = events_heard (λ x. AreApart x.lines) (λ events x apart. apart) heard_apart n e apart
 
 -- what a carrier has still to tell is no matter
 untold_linked : (rest : List Happening) (r : ℕ) (o : Option Listener) (events : List Happening) (c : Carrier) → IsLinked r o events c → IsLinked r o events (record c { events = rest })

@@ -9,6 +9,7 @@ use Rattle.osi_carrier.specs.Calls.{kept_in}
 use Rattle.osi_carrier.specs.Rows.{Rows, value_at}
 use Rattle.osi_carrier.specs.State.{Connection}
 use Rattle.osi_carrier.specs.declared.ends.EndReason.TheVariants.{Broken}
+use Rattle.osi_carrier.proofs.Reacts.{none_of}
 use Rattle.osi_session.specs.Calls.{Call as SessionCall}
 use Rattle.osi_session.specs.Listening.{Listener}
 use Rattle.osi_session.specs.Shown.{Shown}
@@ -25,7 +26,6 @@ use Rattle.osi_stack.proofs.Breaking.{lost_told}
 use Rattle.osi_stack.proofs.Endings.{stays_along}
 use Rattle.osi_stack.proofs.InLive.{IsFit, gone_shows}
 use Rattle.osi_stack.proofs.Keeps.{joined_quiet, kept_same}
-use Rattle.osi_stack.proofs.Pieces.{none_of}
 use Rattle.osi_stack.proofs.Pruning.{only_at, only_row}
 
 -- ---- what is seen of one
@@ -116,10 +116,6 @@ lost_none : (e : End) (r : ℕ) (o : Option Listener) → e.carrier.ended ≡ No
 lost_none e r None lasts f is none = refl
 lost_none e r (Some s) lasts f is none = gone_shows e r s lasts f is none
 
-nothing_of : {X : Type 0} (o : Option X) → is_some o ≡ false → o ≡ None
-nothing_of None e = refl
-nothing_of (Some x) e = cc
-
 -- that of a live connection
 kept_view : (r : ℕ) (o : List ℕ) (e : End) → is_some (value_at r e.carrier.live) ≡ true → kept_at r (put_back o (hushed (pruned e))).lines ≡ kept_at r e.lines
 kept_view r o e here = quieted_at r (live_lines e.carrier.live e.lines) ∙ ap session_in (only_at (λ q. is_some (value_at q e.carrier.live)) r e.lines here)
@@ -131,8 +127,8 @@ lost_by r o p a b true e same lasts still f g =
     ap shown_at_loss (sym (kept_view r o a e) ∙ ap (λ (x : End). kept_at r x.lines) same ∙ kept_view r p b there)
 lost_by r o p a b false e same lasts still f g =
     let there : is_some (value_at r b.carrier.live) ≡ false = ap (λ (x : End). is_some (value_at r x.carrier.live)) (sym same) ∙ e in
-    lost_none a r (kept_at r a.lines) lasts f refl (nothing_of (value_at r a.carrier.live) e)
-    ∙ sym (lost_none b r (kept_at r b.lines) still g refl (nothing_of (value_at r b.carrier.live) there))
+    lost_none a r (kept_at r a.lines) lasts f refl (none_of (value_at r a.carrier.live) e)
+    ∙ sym (lost_none b r (kept_at r b.lines) still g refl (none_of (value_at r b.carrier.live) there))
 
 pub settled_fit : (e : End) → IsSettled e → IsFit e
 settled_fit e s = record { attended = s.attended; sound = s.sound; asks = s.asks }

@@ -1,5 +1,5 @@
 -- Each session of an end is what its own inputs made of what it began as.
-use Rattle.std.proofs.Common.{◌≡◌, ◌≢◌, ℕ, ◌+◌, ◌<◌, ◌≤◌, ◌==◌, zero, suc, Bool, true, false, ◌||◌, List, [], ◌∷◌, ◌++◌, length, take, Option, Some, None, is_some, IsSome, refl, sym, ap, subst, ◌∙◌, inl, inr, ◌⊎◌, arith, append_assoc, option_map, if◌then◌else◌}
+use Rattle.std.proofs.Common.{◌≡◌, ◌≢◌, ℕ, ◌+◌, ◌<◌, ◌≤◌, ◌==◌, Bool, true, false, ◌||◌, List, ◌∷◌, ◌++◌, length, take, Option, Some, None, is_some, IsSome, refl, sym, ap, subst, ◌∙◌, inl, inr, ◌⊎◌, arith, append_assoc, option_map, if◌then◌else◌, []}
 use Rattle.std.proofs.lemmas.Bool.{eqb-true, eq-eqb}
 use Rattle.std.proofs.lemmas.List.{append-nil}
 use Rattle.std.specs.List.{AllByRecursion}
@@ -13,7 +13,7 @@ use Rattle.osi_carrier.proofs.Apart.{beyond, push_here}
 use Rattle.osi_carrier.proofs.AtReferences.{push_other}
 use Rattle.osi_carrier.proofs.Effects.{orderly_same}
 use Rattle.osi_carrier.proofs.Pieces.{OneCut}
-use Rattle.osi_carrier.specs.Calls.{asks}
+use Rattle.osi_carrier.specs.Calls.{asks, open_link}
 use Rattle.osi_carrier.specs.Happenings.{Happening, opened, refused, tsdu, closed, faulted}
 use Rattle.osi_carrier.specs.Orderly.{told_of, RiseFrom}
 use Rattle.osi_carrier.specs.Packets as carriers
@@ -26,11 +26,11 @@ use Rattle.osi_session.specs.Listening.{Input, Listener, called, opened as linke
 use Rattle.osi_session.specs.Sessions.{awaits}
 use Rattle.osi_stack.specs.Calls.{calls_with, connects, breaks, call_error, connect_error, without_first}
 use Rattle.osi_stack.specs.Feeding.{TakesPackets, Goes, Feeds}
-use Rattle.osi_stack.specs.Hearing.{opens, hears, hears_first, hears_next, hears_times, hears_all, with_events, with_carrier, after_packet, ends}
+use Rattle.osi_stack.specs.Hearing.{opens, hears, hears_next, hears_times, hears_all, with_events, with_carrier, after_packet, ends}
 use Rattle.osi_stack.specs.Inputs.{input_of, inputs_told, Past, no_past, then_came, inputs_of, begun_as, made_at, AreMadeBy, told_along, past_called, IsAccepted, Step, serving, using, Steps, StepsAlong}
 use Rattle.osi_stack.specs.Links.{AreApart, Soundness, IsSound}
 use Rattle.osi_stack.specs.Messages.{kept_at}
-use Rattle.osi_stack.specs.Moving.{by_line, to_session}
+use Rattle.osi_stack.specs.Moving.{to_session}
 use Rattle.osi_stack.specs.Ordered.{IsOrdered}
 use Rattle.osi_stack.specs.Rounds.{UserCall, user_does}
 use Rattle.osi_stack.specs.Rounds.UserCall.{connecting, calling, breaking}
@@ -41,13 +41,14 @@ use Rattle.osi_stack.specs.declared.connecting.Connect.{Connect}
 use Rattle.osi_stack.proofs.Attending.{session_attended, connect_attended, feeds_attended}
 use Rattle.osi_stack.proofs.Comings.{attended_then}
 use Rattle.osi_stack.proofs.Events.{concluded_carrier}
-use Rattle.osi_stack.proofs.Lifting.{both, packet_is}
+use Rattle.osi_stack.proofs.Lifting.{both, packet_is, lasting_of, never}
 use Rattle.osi_stack.proofs.Linking.{SessionLaws, HasMoved, session_hears, hears_apart, used_at, apart_push, joined_lines, unlike, first_is, rest_is, Stays}
 use Rattle.osi_stack.proofs.Moves.{kept_first, says_is}
 use Rattle.osi_stack.proofs.Opened.{opened_in, NoneAwaited, IsGiven, Comes, OpensAlong}
 use Rattle.osi_stack.proofs.Ordering.{HaveLines, have_still, have_rest, one_heard, awaited_lines, packet_along, packet_ordered, connect_ordered, call_ordered, feeds_ordered, first_ordered, fresh_ordered}
-use Rattle.osi_stack.proofs.Runs.{call_lasts, reads_dry, reads_stopped, ReadsOne, never, none_ended}
-use Rattle.osi_stack.proofs.Soundness.{carrier_leaves, lasting_of, concludes_lasting, packet_sound, connect_sound, call_sound, feeds_sound, first_sound, fresh_sound, up_at}
+use Rattle.osi_stack.proofs.Runs.{call_lasts, reads_dry, reads_stopped, ReadsOne, none_ended}
+use Rattle.osi_stack.proofs.Soundness.{concludes_lasting, packet_sound, connect_sound, call_sound, feeds_sound, first_sound, fresh_sound, up_at, sent_given, closed_given}
+use Rattle.osi_stack.proofs.Stepwise.{Carries, session_carried, events_heard}
 
 -- ---- inputs
 
@@ -259,28 +260,18 @@ heard_by false e c past side none s o a k =
 
 -- ---- the references that were given stay
 
-line_given : (r : ℕ) (o : Option Line) (input : Input) (e : End) → (by_line r o input e).carrier.given ≡ e.carrier.given
-line_given r None input e = refl
-line_given r (Some line) input e = (carrier_leaves r line.session input e.carrier).given
-
-opens_given : (r : ℕ) (o : Option Line) (e : End) → (opens r o e).carrier.given ≡ e.carrier.given
-opens_given r None e = refl
-opens_given r (Some line) e = line_given r (value_at r e.lines) linked_up e
-
-hears_given : (event : Happening) (e : End) → (hears event e).carrier.given ≡ e.carrier.given
-hears_given (opened r) e = opens_given r (value_at r e.lines) e
-hears_given (refused r reason) e = line_given r (value_at r e.lines) _ e
-hears_given (tsdu r octets) e = line_given r (value_at r e.lines) _ e
-hears_given (closed r reason) e = line_given r (value_at r e.lines) _ e
-hears_given (faulted r fault) e = line_given r (value_at r e.lines) _ e
-
-first_given : (l : List Happening) (e : End) → (hears_first l e).carrier.given ≡ e.carrier.given
-first_given [] e = refl
-first_given (event ∷ rest) e = hears_given event (with_events rest e)
+session_given : (c : Carrier) → Carries (λ x. x.given ≡ c.given)
+session_given c = record {
+  sends = λ r tsdu x same. sent_given r tsdu (open_link r x) x ∙ same;
+  closes = λ r x same. closed_given r 128 (open_link r x) x ∙ same;
+}
 
 times_given : (n : ℕ) (e : End) → (hears_times n e).carrier.given ≡ e.carrier.given
-times_given zero e = refl
-times_given (suc n) e = times_given n (hears_next e) ∙ first_given e.carrier.events e
+times_given n e =
+    events_heard (λ x. x.carrier.given ≡ e.carrier.given) (λ events x same. same) (record {
+      begins = λ r x none same. same;
+      moves = λ event x same. session_carried (λ k. k.given ≡ e.carrier.given) (session_given e.carrier) (told_of event) (input_of event) x same;
+    }) n e refl
 
 -- ---- packets
 
@@ -456,7 +447,7 @@ call_known : (r : ℕ) (call : SessionCall) (e : End) (past : Past) → call_err
 call_known r call e past allowed s k =
     let says = says_is r call e allowed in
     let up = up_at r e.carrier.given e.carrier.live s.orderly.up_to (live_by (value_at r e.carrier.live) (session_in (value_at r e.lines)) says.acts.session says.live) in
-    subst (λ n. IsKnown n (past_called (calling r call) e past) (to_session r (called call) e).lines) (sym (line_given r (value_at r e.lines) (called call) e))
+    subst (λ n. IsKnown n (past_called (calling r call) e past) (to_session r (called call) e).lines) (sym (session_carried (λ k. k.given ≡ e.carrier.given) (session_given e.carrier) r (called call) e refl))
     (given_known e.carrier.given r (called call) e past up k)
 
 -- ---- steps

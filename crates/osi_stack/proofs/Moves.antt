@@ -195,12 +195,22 @@ pub first_of_all : (lines : Rows Line) → IsFirstOf (first_shown lines) (all_wa
 first_of_all [] = (refl, refl)
 first_of_all ((r, line) ∷ lines) = shown_first r line line.waiting lines refl (first_of_all lines)
 
+first_keep_by : (Q : Rows Line → Type 0) (r : ℕ) (line : Line) (waiting : List Shown) (lines : Rows Line) → Q ((r, line) ∷ without_first lines) →
+    ((left : List Shown) → Q ((r, record line { waiting = left }) ∷ lines)) → Q (rest_by r line waiting lines (without_first lines))
+first_keep_by Q r line [] lines behind here = behind
+first_keep_by Q r line (shown ∷ waiting) lines behind here = here waiting
+
+-- what is true where the first that waits is told behind a line, and where it is told there
+pub first_keep : (Q : Rows Line → Type 0) (r : ℕ) (line : Line) (lines : Rows Line) → Q ((r, line) ∷ without_first lines) →
+    ((left : List Shown) → Q ((r, record line { waiting = left }) ∷ lines)) → Q (without_first ((r, line) ∷ lines))
+first_keep Q r line lines behind here = first_keep_by Q r line line.waiting lines behind here
+
 kept_first_by : (q r : ℕ) (line : Line) (waiting : List Shown) (lines : Rows Line) (b : Bool) → (r == q) ≡ b → kept_at q (without_first lines) ≡ kept_at q lines →
     kept_at q (rest_by r line waiting lines (without_first lines)) ≡ kept_at q ((r, line) ∷ lines)
-kept_first_by q r line [] lines true e more = rw e refl
 kept_first_by q r line [] lines false e more = rw e more
-kept_first_by q r line (shown ∷ waiting) lines true e more = rw e refl
 kept_first_by q r line (shown ∷ waiting) lines false e more = rw e refl
+kept_first_by q r line [] lines true e more = rw e refl
+kept_first_by q r line (shown ∷ waiting) lines true e more = rw e refl
 
 -- the sessions are as they were
 pub kept_first : (q : ℕ) (lines : Rows Line) → kept_at q (without_first lines) ≡ kept_at q lines
@@ -292,12 +302,22 @@ says_is r call e h =
 
 -- ---- a new line
 
-used_by : (live : Rows Connection) (row : ℕ × Line) (lines : Rows Line) (b : Bool) → is_used live row ≡ b →
+pub used_by : (live : Rows Connection) (row : ℕ × Line) (lines : Rows Line) (b : Bool) → is_used live row ≡ b →
     used_lines live (row ∷ lines) ≡ (if b then row ∷ used_lines live lines else used_lines live lines)
 used_by live row lines b e = ap (λ (c : Bool). if◌then◌else◌ {A = Rows Line} c (row ∷ used_lines live lines) (used_lines live lines)) e
 
-at_row : (q p : ℕ) (y : Line) (rows : Rows Line) (b : Bool) → (p == q) ≡ b → value_at q ((p, y) ∷ rows) ≡ (if b then Some y else value_at q rows)
+pub at_row : (q p : ℕ) (y : Line) (rows : Rows Line) (b : Bool) → (p == q) ≡ b → value_at q ((p, y) ∷ rows) ≡ (if b then Some y else value_at q rows)
 at_row q p y rows b e = ap (λ (c : Bool). if◌then◌else◌ {A = Option Line} c (Some y) (value_at q rows)) e
+
+used_keep_by : (Q : Rows Line → Type 0) (live : Rows Connection) (row : ℕ × Line) (lines : Rows Line) (b : Bool) → is_used live row ≡ b → Q (used_lines live lines) →
+    (b ≡ true → Q (row ∷ used_lines live lines)) → Q (used_lines live (row ∷ lines))
+used_keep_by Q live row lines true e gone stays = subst Q (sym (used_by live row lines true e)) (stays refl)
+used_keep_by Q live row lines false e gone stays = subst Q (sym (used_by live row lines false e)) gone
+
+-- what is true where a line is dropped, and where it stays
+pub used_keep : (Q : Rows Line → Type 0) (live : Rows Connection) (row : ℕ × Line) (lines : Rows Line) → Q (used_lines live lines) →
+    (is_used live row ≡ true → Q (row ∷ used_lines live lines)) → Q (used_lines live (row ∷ lines))
+used_keep Q live row lines gone stays = used_keep_by Q live row lines (is_used live row) refl gone stays
 
 -- lines of live connections stay
 used_live_by : (q p : ℕ) (y : Line) (live : Rows Connection) (lines : Rows Line) (b u : Bool) → (p == q) ≡ b → is_used live (p, y) ≡ u → is_some (value_at q live) ≡ true →

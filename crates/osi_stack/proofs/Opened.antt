@@ -1,6 +1,7 @@
--- Which connections units open: those that were asked for, and at a called end new ones.
+-- Which connections units open: those that were asked for, and at a called end new ones. One that was asked for is
+-- so until its user is told that it is agreed to, or denied.
 use Rattle.std.proofs.Common.{◌≡◌, ◌≢◌, ℕ, ◌+◌, ◌<◌, ◌≤◌, ◌==◌, Bool, true, false, List, [], ◌∷◌, ◌++◌, take, nat_le, Option, Some, None, Result, Ok, Err, is_some, IsSome, refl, sym, ap, subst, ◌∙◌, inl, inr, ◌⊎◌, arith, append_assoc, if◌then◌else◌}
-use Rattle.std.proofs.lemmas.Bool.{eqb-true, eq-eqb}
+use Rattle.std.proofs.lemmas.Bool.{eqb-true, eq-eqb, or_left}
 use Rattle.std.proofs.lemmas.Bool.Decides.{nat_tests}
 use Rattle.std.proofs.lemmas.List.{append-nil}
 use Rattle.std.specs.List.{AllByRecursion}
@@ -17,10 +18,13 @@ use Rattle.osi_carrier.specs.React.{denies, answers, is_full, has_peer, answers_
 use Rattle.osi_carrier.specs.Rows.{Rows, value_at, put, without}
 use Rattle.osi_carrier.specs.State.{Connection, asked, linked, closing, State, drops, ends}
 use Rattle.osi_carrier.specs.declared.ends.EndReason.{EndReason}
-use Rattle.osi_carrier.proofs.Apart.{put_here, without_here}
-use Rattle.osi_carrier.proofs.AtReferences.{put_other, without_other, put_none}
+use Rattle.osi_carrier.proofs.Apart.{put_here, without_here, beyond}
+use Rattle.osi_carrier.proofs.AtReferences.{put_other, without_other, put_none, push_other}
 use Rattle.osi_carrier.proofs.Effects.{stays_gone, orderly_unit}
+use Rattle.osi_carrier.proofs.Reacts.{react_over}
+use Rattle.osi_stack.proofs.Answered.{answered, answered_front, answered_behind}
 use Rattle.osi_stack.proofs.Soundness.{units_rise, up_at}
+use Rattle.osi_stack.proofs.Lifting.{both}
 
 -- ---- connections that await a CC
 
@@ -117,78 +121,94 @@ record Unopened (old new : State) (told : List Happening) : Type 0 where
   about : AllByRecursion (λ event. IsSome (value_at (told_of event) old.live)) told
   given : new.given ≡ old.given
 
+-- one that was asked for is so still, or that is answered, while the carrier lasts
+abbrev pub StaysAsked : State → State → List Happening → Type 0
+StaysAsked old new told = (q : ℕ) → value_at q old.live ≡ Some asked → new.ended ≡ None → (value_at q new.live ≡ Some asked) ⊎ (answered q told ≡ true)
+
 record Opens (old new : State) : Type 0 where
   told : List Happening
   events : new.events ≡ old.events ++ told
   how : Unopened old new told ⊎ (Agreed old new told ⊎ Accepted old new told)
   side : new.is_caller ≡ old.is_caller
   awaited : AwaitedBefore old.live new.live
+  stays : StaysAsked old new told
 
-silent : (old new : State) → new.events ≡ old.events → new.given ≡ old.given → new.is_caller ≡ old.is_caller → AwaitedBefore old.live new.live → Opens old new
-silent old new same given side awaited = record {
+silent : (old new : State) → new.events ≡ old.events → new.given ≡ old.given → new.is_caller ≡ old.is_caller → AwaitedBefore old.live new.live → StaysAsked old new [] → Opens old new
+silent old new same given side awaited stays = record {
   told = [];
   events = same ∙ sym (append-nil old.events);
   how = inl (record { is = refl; about = tt; given = given });
   side = side;
   awaited = awaited;
+  stays = stays;
 }
 
 telling : (old new : State) (event : Happening) → opened_in (event ∷ []) ≡ [] → IsSome (value_at (told_of event) old.live) → new.events ≡ old.events ++ event ∷ [] → new.given ≡ old.given → new.is_caller ≡ old.is_caller →
-    AwaitedBefore old.live new.live → Opens old new
-telling old new event none here same given side awaited = record {
+    AwaitedBefore old.live new.live → StaysAsked old new (event ∷ []) → Opens old new
+telling old new event none here same given side awaited stays = record {
   told = event ∷ [];
   events = same;
   how = inl (record { is = none; about = (here, tt); given = given });
   side = side;
   awaited = awaited;
+  stays = stays;
 }
 
 opens_none : (s : State) → Opens s s
-opens_none s = silent s s refl refl refl (λ q h. h)
+opens_none s = silent s s refl refl refl (λ q h. h) (λ q h over. inl h)
 
 opens_end : (reason : EndReason) (s : State) → Opens s (ends reason s)
-opens_end reason s = silent s (ends reason s) refl refl refl (λ q h. cc)
+opens_end reason s = silent s (ends reason s) refl refl refl (λ q h. cc) (λ q h over. cc)
 
 opens_denies : (reason peer : ℕ) (s : State) → Opens s (denies reason peer s)
-opens_denies reason peer s = silent s (denies reason peer s) refl refl refl (λ q h. h)
+opens_denies reason peer s = silent s (denies reason peer s) refl refl refl (λ q h. h) (λ q h over. inl h)
 
 -- ---- a CR
 
-opens_accepts : (class : Class) (size : Option ℕ) (c : Connect) (s : State) → s.is_caller ≡ false → Opens s (answers c (accept class size) None s)
-opens_accepts Zero size c s called = record {
+-- a CR is for no connection that is there
+stays_pushed : (c : Connection) (s : State) → IsOrderly s → (q : ℕ) → value_at q s.live ≡ Some asked → value_at q (s.live ++ (s.given + 1, c) ∷ []) ≡ Some asked
+stays_pushed c s o q h =
+    let ne : q ≢ s.given + 1 = (λ same.
+    let no : None ≡ Some asked = sym (beyond (s.given + 1) s.given s.live o.up_to (omega arith)) ∙ ap (λ n. value_at n s.live) (sym same) ∙ h in cc) in
+    push_other q (s.given + 1) c s.live ne ∙ h
+
+opens_accepts : (class : Class) (size : Option ℕ) (c : Connect) (s : State) → IsOrderly s → s.is_caller ≡ false → Opens s (answers c (accept class size) None s)
+opens_accepts Zero size c s o called = record {
   told = opened (s.given + 1) ∷ [];
   events = refl;
   how = inr (inr (record { event = refl; is = refl; given = refl; called = called }));
   side = refl;
   awaited = awaited_push (s.given + 1) _ s.live (linked_not_asked _ _);
+  stays = λ q h over. inl (stays_pushed _ s o q h);
 }
-opens_accepts Two size c s called = record {
+opens_accepts Two size c s o called = record {
   told = opened (s.given + 1) ∷ [];
   events = refl;
   how = inr (inr (record { event = refl; is = refl; given = refl; called = called }));
   side = refl;
   awaited = awaited_push (s.given + 1) _ s.live (linked_not_asked _ _);
+  stays = λ q h over. inl (stays_pushed _ s o q h);
 }
 
-opens_answers : (c : Connect) (selection : Selection) (held : Option Class) (s : State) → s.is_caller ≡ false → Opens s (answers c selection held s)
-opens_answers c (refuse reason) held s called = opens_denies reason c.source s
-opens_answers c (accept Two size) held s called = opens_accepts Two size c s called
-opens_answers c (accept Zero size) None s called = opens_accepts Zero size c s called
-opens_answers c (accept Zero size) (Some class) s called = opens_denies 136 c.source s
+opens_answers : (c : Connect) (selection : Selection) (held : Option Class) (s : State) → IsOrderly s → s.is_caller ≡ false → Opens s (answers c selection held s)
+opens_answers c (refuse reason) held s o called = opens_denies reason c.source s
+opens_answers c (accept Two size) held s o called = opens_accepts Two size c s o called
+opens_answers c (accept Zero size) None s o called = opens_accepts Zero size c s o called
+opens_answers c (accept Zero size) (Some class) s o called = opens_denies 136 c.source s
 
-answers_by : (c : Connect) (s : State) (in_use full : Bool) → s.is_caller ≡ false →
+answers_by : (c : Connect) (s : State) (in_use full : Bool) → IsOrderly s → s.is_caller ≡ false →
     Opens s (if in_use then denies 131 c.source s else (if full then denies 1 c.source s else answers c (selected_by c s.local) s.class s))
-answers_by c s true full called = opens_denies 131 c.source s
-answers_by c s false true called = opens_denies 1 c.source s
-answers_by c s false false called = opens_answers c (selected_by c s.local) s.class s called
+answers_by c s true full o called = opens_denies 131 c.source s
+answers_by c s false true o called = opens_denies 1 c.source s
+answers_by c s false false o called = opens_answers c (selected_by c s.local) s.class s o called
 
-opens_request : (c : Connect) (s : State) → s.is_caller ≡ false → Opens s (answers_request c s)
-opens_request c s called = answers_by c s (has_peer c.source s.live) (is_full s) called
+opens_request : (c : Connect) (s : State) → IsOrderly s → s.is_caller ≡ false → Opens s (answers_request c s)
+opens_request c s o called = answers_by c s (has_peer c.source s.live) (is_full s) o called
 
 -- ---- a unit for a connection
 
 opens_unknown : (unit : Value) (s : State) → Opens s (to_unknown unit s)
-opens_unknown (disconnect destination source reason user) s = silent s (to_unknown (disconnect destination source reason user) s) refl refl refl (λ q h. h)
+opens_unknown (disconnect destination source reason user) s = silent s (to_unknown (disconnect destination source reason user) s) refl refl refl (λ q h. h) (λ q h over. inl h)
 opens_unknown (disconnected destination source) s = opens_none s
 opens_unknown (request c) s = opens_end _ s
 opens_unknown (confirm destination c) s = opens_end _ s
@@ -196,6 +216,12 @@ opens_unknown (data0 end user) s = opens_end _ s
 opens_unknown (data2 destination number end user) s = opens_end _ s
 opens_unknown (acknowledge credit destination number) s = opens_end _ s
 opens_unknown (error destination cause) s = opens_end _ s
+
+-- the answer for one, by whether it is this one
+stays_by : (q r : ℕ) (event : Happening) (new : Rows Connection) (b : Bool) → (r == q) ≡ b → ((r == q) ≡ true → answered q (event ∷ []) ≡ true) → (q ≢ r → value_at q new ≡ Some asked) →
+    (value_at q new ≡ Some asked) ⊎ (answered q (event ∷ []) ≡ true)
+stays_by q r event new true e here other = inr (here e)
+stays_by q r event new false e here other = inl (other (λ same. both (r == q) (eq-eqb r q (sym same)) e))
 
 opens_confirm : (r : ℕ) (c : Connect) (class : Option Class) (s : State) → value_at r s.live ≡ Some asked → Opens s (opens r c class s)
 opens_confirm r c None s here = opens_end _ s
@@ -205,134 +231,153 @@ opens_confirm r c (Some class) s here = record {
   how = inr (inl (record { reference = r; event = refl; is = refl; here = here; given = refl }));
   side = refl;
   awaited = awaited_put r _ s.live (linked_not_asked _ _);
+  stays = λ q h over. stays_by q r (opened r) _ (r == q) refl (or_left (r == q) false) (λ ne. put_other q r _ s.live ne ∙ h);
 }
 
-opens_asked : (r : ℕ) (unit : Value) (s : State) → RiseFrom 0 s.live → value_at r s.live ≡ Some asked → Opens s (to_asked r unit s)
-opens_asked r (confirm destination c) s rise here = opens_confirm r c (confirmed c s.local s.class) s here
-opens_asked r (disconnect destination source reason user) s rise here =
-    telling s (to_asked r (disconnect destination source reason user) s) (refused r reason) refl (ap is_some here) refl refl refl (awaited_without r s.live rise)
-opens_asked r (error destination cause) s rise here = telling s (to_asked r (error destination cause) s) (refused r 0) refl (ap is_some here) refl refl refl (awaited_without r s.live rise)
-opens_asked r (request c) s rise here = opens_unknown (request c) s
-opens_asked r (disconnected destination source) s rise here = opens_unknown (disconnected destination source) s
-opens_asked r (data0 end user) s rise here = opens_unknown (data0 end user) s
-opens_asked r (data2 destination number end user) s rise here = opens_unknown (data2 destination number end user) s
-opens_asked r (acknowledge credit destination number) s rise here = opens_unknown (acknowledge credit destination number) s
+opens_asked : (r : ℕ) (unit : Value) (s : State) → IsOrderly s → value_at r s.live ≡ Some asked → Opens s (to_asked r unit s)
+opens_asked r (confirm destination c) s o here = opens_confirm r c (confirmed c s.local s.class) s here
+opens_asked r (disconnect destination source reason user) s o here =
+    telling s (to_asked r (disconnect destination source reason user) s) (refused r reason) refl (ap is_some here) refl refl refl (awaited_without r s.live o.rise)
+    (λ q h over. stays_by q r (refused r reason) _ (r == q) refl (or_left (r == q) false) (λ ne. without_other q r s.live ne ∙ h))
+opens_asked r (error destination cause) s o here =
+    telling s (to_asked r (error destination cause) s) (refused r 0) refl (ap is_some here) refl refl refl (awaited_without r s.live o.rise)
+    (λ q h over. stays_by q r (refused r 0) _ (r == q) refl (or_left (r == q) false) (λ ne. without_other q r s.live ne ∙ h))
+opens_asked r (request c) s o here = opens_unknown (request c) s
+opens_asked r (disconnected destination source) s o here = opens_unknown (disconnected destination source) s
+opens_asked r (data0 end user) s o here = opens_unknown (data0 end user) s
+opens_asked r (data2 destination number end user) s o here = opens_unknown (data2 destination number end user) s
+opens_asked r (acknowledge credit destination number) s o here = opens_unknown (acknowledge credit destination number) s
 
-opens_settles : (r : ℕ) (whole : List (List ℕ)) (c : Connection) (s t : State) → IsSome (value_at r s.live) → (c ≡ asked → ⊥) → t.given ≡ s.given → t.is_caller ≡ s.is_caller → t.live ≡ put r c s.live →
+-- a connection that is there, and was not asked for
+record IsThere (r : ℕ) (s : State) : Type 0 where
+  here : IsSome (value_at r s.live)
+  apart : (q : ℕ) → value_at q s.live ≡ Some asked → q ≢ r
+
+there : (r : ℕ) (c : Connection) (s : State) → value_at r s.live ≡ Some c → (c ≡ asked → ⊥) → IsThere r s
+there r c s here other = record {
+  here = ap is_some here;
+  apart = λ q h same. (let two : Some c ≡ Some asked = sym here ∙ ap (λ n. value_at n s.live) (sym same) ∙ h in let one : c ≡ asked = cc in other one);
+}
+
+opens_settles : (r : ℕ) (whole : List (List ℕ)) (c : Connection) (s t : State) → IsThere r s → (c ≡ asked → ⊥) → t.given ≡ s.given → t.is_caller ≡ s.is_caller → t.live ≡ put r c s.live →
     t.events ≡ s.events → Opens s (tells_of r (take 1 whole) t)
 opens_settles r [] c s t here other given side live events =
     silent s (tells_of r [] t) (append-nil t.events ∙ events) given side (subst (AwaitedBefore s.live) (sym live) (awaited_put r c s.live other))
+    (λ q h over. inl (ap (value_at q) live ∙ put_other q r c s.live (here.apart q h) ∙ h))
 opens_settles r (first ∷ more) c s t here other given side live events =
-    telling s (tells_of r (first ∷ []) t) (tsdu r first) refl here (ap (λ l. l ++ tsdu r first ∷ []) events) given side (subst (AwaitedBefore s.live) (sym live) (awaited_put r c s.live other))
+    telling s (tells_of r (first ∷ []) t) (tsdu r first) refl here.here (ap (λ l. l ++ tsdu r first ∷ []) events) given side (subst (AwaitedBefore s.live) (sym live) (awaited_put r c s.live other))
+    (λ q h over. inl (ap (value_at q) live ∙ put_other q r c s.live (here.apart q h) ∙ h))
 
-opens_breaks : (r peer : ℕ) (fault : LinkFault) (held : Option Class) (s : State) → IsSome (value_at r s.live) → Opens s (breaks r peer fault held s)
-opens_breaks r peer fault None s here = opens_end _ s
-opens_breaks r peer fault (Some Zero) s here = opens_end _ s
+opens_breaks : (r peer : ℕ) (fault : LinkFault) (held : Option Class) (s : State) → IsThere r s → Opens s (breaks r peer fault held s)
 opens_breaks r peer fault (Some Two) s here =
-    telling s (breaks r peer fault (Some Two) s) (faulted r fault) refl here refl refl refl (awaited_put r (closing peer) s.live (closing_not_asked peer))
+    telling s (breaks r peer fault (Some Two) s) (faulted r fault) refl here.here refl refl refl (awaited_put r (closing peer) s.live (closing_not_asked peer))
+    (λ q h over. inl (put_other q r (closing peer) s.live (here.apart q h) ∙ h))
+opens_breaks r peer fault _ s here = opens_end _ s
 
-opens_taking : (r peer : ℕ) (result : Result Standing LinkFault) (s : State) → IsSome (value_at r s.live) → Opens s (taking r peer result s)
+opens_taking : (r peer : ℕ) (result : Result Standing LinkFault) (s : State) → IsThere r s → Opens s (taking r peer result s)
 opens_taking r peer (Ok link) s here = opens_settles r link.ends.joining.whole _ s _ here (linked_not_asked _ _) refl refl refl refl
 opens_taking r peer (Err fault) s here = opens_breaks r peer fault s.class s here
 
-opens_leaves : (r peer reason : ℕ) (held : Option Class) (s : State) → RiseFrom 0 s.live → IsSome (value_at r s.live) → Opens s (leaves r peer reason held s)
-opens_leaves r peer reason None s rise here = telling s (leaves r peer reason None s) (closed r reason) refl here refl refl refl (λ q h. cc)
-opens_leaves r peer reason (Some Zero) s rise here = telling s (leaves r peer reason (Some Zero) s) (closed r reason) refl here refl refl refl (λ q h. cc)
-opens_leaves r peer reason (Some Two) s rise here = telling s (leaves r peer reason (Some Two) s) (closed r reason) refl here refl refl refl (awaited_without r s.live rise)
+opens_leaves : (r peer reason : ℕ) (held : Option Class) (s : State) → IsOrderly s → IsThere r s → Opens s (leaves r peer reason held s)
+opens_leaves r peer reason None s o here = telling s (leaves r peer reason None s) (closed r reason) refl here.here refl refl refl (λ q h. cc) (λ q h over. cc)
+opens_leaves r peer reason (Some Zero) s o here = telling s (leaves r peer reason (Some Zero) s) (closed r reason) refl here.here refl refl refl (λ q h. cc) (λ q h over. cc)
+opens_leaves r peer reason (Some Two) s o here =
+    telling s (leaves r peer reason (Some Two) s) (closed r reason) refl here.here refl refl refl (awaited_without r s.live o.rise)
+    (λ q h over. inl (without_other q r s.live (here.apart q h) ∙ h))
 
-opens_linked : (r peer : ℕ) (link : Standing) (unit : Value) (s : State) → RiseFrom 0 s.live → IsSome (value_at r s.live) → Opens s (to_linked r peer link unit s)
-opens_linked r peer link (disconnect destination source reason user) s rise here = opens_leaves r peer reason s.class s rise here
-opens_linked r peer link (request c) s rise here = opens_taking r peer (taken link (request c)) s here
-opens_linked r peer link (confirm destination c) s rise here = opens_taking r peer (taken link (confirm destination c)) s here
-opens_linked r peer link (disconnected destination source) s rise here = opens_taking r peer (taken link (disconnected destination source)) s here
-opens_linked r peer link (data0 end user) s rise here = opens_taking r peer (taken link (data0 end user)) s here
-opens_linked r peer link (data2 destination number end user) s rise here = opens_taking r peer (taken link (data2 destination number end user)) s here
-opens_linked r peer link (acknowledge credit destination number) s rise here = opens_taking r peer (taken link (acknowledge credit destination number)) s here
-opens_linked r peer link (error destination cause) s rise here = opens_taking r peer (taken link (error destination cause)) s here
+opens_linked : (r peer : ℕ) (link : Standing) (unit : Value) (s : State) → IsOrderly s → IsThere r s → Opens s (to_linked r peer link unit s)
+opens_linked r peer link (disconnect destination source reason user) s o here = opens_leaves r peer reason s.class s o here
+opens_linked r peer link (request c) s o here = opens_taking r peer (taken link (request c)) s here
+opens_linked r peer link (confirm destination c) s o here = opens_taking r peer (taken link (confirm destination c)) s here
+opens_linked r peer link (disconnected destination source) s o here = opens_taking r peer (taken link (disconnected destination source)) s here
+opens_linked r peer link (data0 end user) s o here = opens_taking r peer (taken link (data0 end user)) s here
+opens_linked r peer link (data2 destination number end user) s o here = opens_taking r peer (taken link (data2 destination number end user)) s here
+opens_linked r peer link (acknowledge credit destination number) s o here = opens_taking r peer (taken link (acknowledge credit destination number)) s here
+opens_linked r peer link (error destination cause) s o here = opens_taking r peer (taken link (error destination cause)) s here
 
-opens_dropped : (r : ℕ) (s : State) → RiseFrom 0 s.live → Opens s (drops r s)
-opens_dropped r s rise = silent s (drops r s) refl refl refl (awaited_without r s.live rise)
+opens_dropped : (r : ℕ) (s : State) → IsOrderly s → IsThere r s → Opens s (drops r s)
+opens_dropped r s o here = silent s (drops r s) refl refl refl (awaited_without r s.live o.rise) (λ q h over. inl (without_other q r s.live (here.apart q h) ∙ h))
 
-opens_closing : (r : ℕ) (unit : Value) (s : State) → RiseFrom 0 s.live → Opens s (to_closing r unit s)
-opens_closing r (disconnected destination source) s rise = opens_dropped r s rise
-opens_closing r (disconnect destination source reason user) s rise = opens_dropped r s rise
-opens_closing r (request c) s rise = opens_none s
-opens_closing r (confirm destination c) s rise = opens_none s
-opens_closing r (data0 end user) s rise = opens_none s
-opens_closing r (data2 destination number end user) s rise = opens_none s
-opens_closing r (acknowledge credit destination number) s rise = opens_none s
-opens_closing r (error destination cause) s rise = opens_none s
+opens_closing : (r : ℕ) (unit : Value) (s : State) → IsOrderly s → IsThere r s → Opens s (to_closing r unit s)
+opens_closing r (disconnected destination source) s o here = opens_dropped r s o here
+opens_closing r (disconnect destination source reason user) s o here = opens_dropped r s o here
+opens_closing r (request c) s o here = opens_none s
+opens_closing r (confirm destination c) s o here = opens_none s
+opens_closing r (data0 end user) s o here = opens_none s
+opens_closing r (data2 destination number end user) s o here = opens_none s
+opens_closing r (acknowledge credit destination number) s o here = opens_none s
+opens_closing r (error destination cause) s o here = opens_none s
 
-opens_connection : (r : ℕ) (o : Option Connection) (unit : Value) (s : State) → RiseFrom 0 s.live → value_at r s.live ≡ o → Opens s (to_connection r o unit s)
-opens_connection r None unit s rise here = opens_unknown unit s
-opens_connection r (Some asked) unit s rise here = opens_asked r unit s rise here
-opens_connection r (Some (linked peer link)) unit s rise here = opens_linked r peer link unit s rise (ap is_some here)
-opens_connection r (Some (closing peer)) unit s rise here = opens_closing r unit s rise
+opens_connection : (r : ℕ) (o : Option Connection) (unit : Value) (s : State) → IsOrderly s → value_at r s.live ≡ o → Opens s (to_connection r o unit s)
+opens_connection r None unit s o here = opens_unknown unit s
+opens_connection r (Some asked) unit s o here = opens_asked r unit s o here
+opens_connection r (Some (linked peer link)) unit s o here = opens_linked r peer link unit s o (there r (linked peer link) s here (linked_not_asked peer link))
+opens_connection r (Some (closing peer)) unit s o here = opens_closing r unit s o (there r (closing peer) s here (closing_not_asked peer))
 
-opens_reference : (r : ℕ) (unit : Value) (s : State) → RiseFrom 0 s.live → Opens s (to_reference r unit s)
-opens_reference r unit s rise = opens_connection r (value_at r s.live) unit s rise refl
+opens_reference : (r : ℕ) (unit : Value) (s : State) → IsOrderly s → Opens s (to_reference r unit s)
+opens_reference r unit s o = opens_connection r (value_at r s.live) unit s o refl
 
 -- ---- by class
 
-opens_before : (b : Bool) (unit : Value) (s : State) → RiseFrom 0 s.live → s.is_caller ≡ b → Opens s (before_class b unit s)
-opens_before true (confirm destination c) s rise e = opens_reference destination (confirm destination c) s rise
-opens_before true (disconnect destination source reason user) s rise e = opens_reference destination (disconnect destination source reason user) s rise
-opens_before true (error destination cause) s rise e = opens_reference destination (error destination cause) s rise
-opens_before true (request c) s rise e = opens_end _ s
-opens_before true (disconnected destination source) s rise e = opens_end _ s
-opens_before true (data0 end user) s rise e = opens_end _ s
-opens_before true (data2 destination number end user) s rise e = opens_end _ s
-opens_before true (acknowledge credit destination number) s rise e = opens_end _ s
-opens_before false (request c) s rise e = opens_request c s e
-opens_before false (confirm destination c) s rise e = opens_end _ s
-opens_before false (disconnect destination source reason user) s rise e = opens_end _ s
-opens_before false (disconnected destination source) s rise e = opens_end _ s
-opens_before false (data0 end user) s rise e = opens_end _ s
-opens_before false (data2 destination number end user) s rise e = opens_end _ s
-opens_before false (acknowledge credit destination number) s rise e = opens_end _ s
-opens_before false (error destination cause) s rise e = opens_end _ s
+opens_before : (b : Bool) (unit : Value) (s : State) → IsOrderly s → s.is_caller ≡ b → Opens s (before_class b unit s)
+opens_before true (confirm destination c) s o e = opens_reference destination (confirm destination c) s o
+opens_before true (disconnect destination source reason user) s o e = opens_reference destination (disconnect destination source reason user) s o
+opens_before true (error destination cause) s o e = opens_reference destination (error destination cause) s o
+opens_before true (request c) s o e = opens_end _ s
+opens_before true (data0 end user) s o e = opens_end _ s
+opens_before true (data2 destination number end user) s o e = opens_end _ s
+opens_before true (acknowledge credit destination number) s o e = opens_end _ s
+opens_before false (request c) s o e = opens_request c s o e
+opens_before false (confirm destination c) s o e = opens_end _ s
+opens_before false (disconnect destination source reason user) s o e = opens_end _ s
+opens_before false (data0 end user) s o e = opens_end _ s
+opens_before false (data2 destination number end user) s o e = opens_end _ s
+opens_before false (acknowledge credit destination number) s o e = opens_end _ s
+opens_before false (error destination cause) s o e = opens_end _ s
+opens_before true (disconnected destination source) s o e = opens_end _ s
+opens_before false (disconnected destination source) s o e = opens_end _ s
 
 first_here : (r : ℕ) (x : Connection) (rows : Rows Connection) → value_at r ((r, x) ∷ rows) ≡ Some x
 first_here r x rows = let e = eq-eqb r r refl in rw e refl
 
-only_by : (live : Rows Connection) (unit : Value) (s : State) → RiseFrom 0 s.live → s.live ≡ live → Opens s (to_only live unit s)
-only_by [] unit s rise is = opens_none s
-only_by ((r, connection) ∷ rows) unit s rise is = opens_connection r (Some connection) unit s rise (ap (value_at r) is ∙ first_here r connection rows)
+only_by : (live : Rows Connection) (unit : Value) (s : State) → IsOrderly s → s.live ≡ live → Opens s (to_only live unit s)
+only_by [] unit s o is = opens_none s
+only_by ((r, connection) ∷ rows) unit s o is = opens_connection r (Some connection) unit s o (ap (value_at r) is ∙ first_here r connection rows)
 
-opens_zero : (b : Bool) (unit : Value) (s : State) → RiseFrom 0 s.live → Opens s (in_zero b unit s)
-opens_zero true (request c) s rise = opens_end _ s
-opens_zero true (confirm destination c) s rise = only_by s.live (confirm destination c) s rise refl
-opens_zero true (disconnect destination source reason user) s rise = only_by s.live (disconnect destination source reason user) s rise refl
-opens_zero true (disconnected destination source) s rise = only_by s.live (disconnected destination source) s rise refl
-opens_zero true (data0 end user) s rise = only_by s.live (data0 end user) s rise refl
-opens_zero true (data2 destination number end user) s rise = only_by s.live (data2 destination number end user) s rise refl
-opens_zero true (acknowledge credit destination number) s rise = only_by s.live (acknowledge credit destination number) s rise refl
-opens_zero true (error destination cause) s rise = only_by s.live (error destination cause) s rise refl
-opens_zero false unit s rise = only_by s.live unit s rise refl
+opens_zero : (b : Bool) (unit : Value) (s : State) → IsOrderly s → Opens s (in_zero b unit s)
+opens_zero true (request c) s o = opens_end _ s
+opens_zero true (confirm destination c) s o = only_by s.live (confirm destination c) s o refl
+opens_zero true (disconnect destination source reason user) s o = only_by s.live (disconnect destination source reason user) s o refl
+opens_zero true (disconnected destination source) s o = only_by s.live (disconnected destination source) s o refl
+opens_zero true (data0 end user) s o = only_by s.live (data0 end user) s o refl
+opens_zero true (data2 destination number end user) s o = only_by s.live (data2 destination number end user) s o refl
+opens_zero true (acknowledge credit destination number) s o = only_by s.live (acknowledge credit destination number) s o refl
+opens_zero true (error destination cause) s o = only_by s.live (error destination cause) s o refl
+opens_zero false unit s o = only_by s.live unit s o refl
 
-opens_two : (b : Bool) (unit : Value) (s : State) → RiseFrom 0 s.live → s.is_caller ≡ b → Opens s (in_two b unit s)
-opens_two true (request c) s rise e = opens_end _ s
-opens_two false (request c) s rise e = opens_request c s e
-opens_two b (confirm destination c) s rise e = opens_reference destination (confirm destination c) s rise
-opens_two b (disconnect destination source reason user) s rise e = opens_reference destination (disconnect destination source reason user) s rise
-opens_two b (disconnected destination source) s rise e = opens_reference destination (disconnected destination source) s rise
-opens_two b (data0 end user) s rise e = opens_end _ s
-opens_two b (data2 destination number end user) s rise e = opens_reference destination (data2 destination number end user) s rise
-opens_two b (acknowledge credit destination number) s rise e = opens_reference destination (acknowledge credit destination number) s rise
-opens_two b (error destination cause) s rise e = opens_reference destination (error destination cause) s rise
+opens_two : (b : Bool) (unit : Value) (s : State) → IsOrderly s → s.is_caller ≡ b → Opens s (in_two b unit s)
+opens_two true (request c) s o e = opens_end _ s
+opens_two false (request c) s o e = opens_request c s o e
+opens_two b (confirm destination c) s o e = opens_reference destination (confirm destination c) s o
+opens_two b (disconnect destination source reason user) s o e = opens_reference destination (disconnect destination source reason user) s o
+opens_two b (disconnected destination source) s o e = opens_reference destination (disconnected destination source) s o
+opens_two b (data0 end user) s o e = opens_end _ s
+opens_two b (data2 destination number end user) s o e = opens_reference destination (data2 destination number end user) s o
+opens_two b (acknowledge credit destination number) s o e = opens_reference destination (acknowledge credit destination number) s o
+opens_two b (error destination cause) s o e = opens_reference destination (error destination cause) s o
 
-opens_class : (held : Option Class) (unit : Value) (s : State) → RiseFrom 0 s.live → Opens s (in_class held unit s)
-opens_class None unit s rise = opens_before s.is_caller unit s rise refl
-opens_class (Some Zero) unit s rise = opens_zero s.is_caller unit s rise
-opens_class (Some Two) unit s rise = opens_two s.is_caller unit s rise refl
+opens_class : (held : Option Class) (unit : Value) (s : State) → IsOrderly s → Opens s (in_class held unit s)
+opens_class None unit s o = opens_before s.is_caller unit s o refl
+opens_class (Some Zero) unit s o = opens_zero s.is_caller unit s o
+opens_class (Some Two) unit s o = opens_two s.is_caller unit s o refl
 
-opens_by : (over : Bool) (unit : Value) (s : State) → RiseFrom 0 s.live → Opens s (react_by over unit s)
-opens_by true unit s rise = opens_none s
-opens_by false unit s rise = opens_class s.class unit s rise
+opens_by : (over : Bool) (unit : Value) (s : State) → IsOrderly s → Opens s (react_by over unit s)
+opens_by true unit s o = opens_none s
+opens_by false unit s o = opens_class s.class unit s o
 
-opens_unit : (unit : Value) (s : State) → RiseFrom 0 s.live → Opens s (react unit s)
+opens_unit : (unit : Value) (s : State) → IsOrderly s → Opens s (react unit s)
 unfolding react
-opens_unit unit s rise = opens_by (is_some s.ended) unit s rise
+opens_unit unit s o = opens_by (is_some s.ended) unit s o
 
 -- ---- units one after the other
 
@@ -421,15 +466,13 @@ pub record OpensAlong (old new : State) : Type 0 where
   pub comes : old.is_caller ≡ false → NoneAwaited old.live → Comes old.given told new.given
   pub rises : old.given ≤ new.given
   pub gone : (q : ℕ) → q ≤ old.given → value_at q old.live ≡ None → value_at q new.live ≡ None
-
-true_false : {A : Type 0} (b : Bool) → b ≡ true → b ≡ false → A
-true_false true h k = cc
-true_false false h k = cc
+  pub stays : StaysAsked old new told
+  pub lasts : new.ended ≡ None → old.ended ≡ None
 
 caller_by : (old new : State) (told : List Happening) → Unopened old new told ⊎ (Agreed old new told ⊎ Accepted old new told) → old.is_caller ≡ true → AreAwaited old.live (opened_in told)
 caller_by old new told (inl h) caller = subst (AreAwaited old.live) (sym h.is) tt
 caller_by old new told (inr (inl h)) caller = subst (AreAwaited old.live) (sym h.is) (h.here, tt)
-caller_by old new told (inr (inr h)) caller = true_false old.is_caller caller h.called
+caller_by old new told (inr (inr h)) caller = both old.is_caller caller h.called
 
 called_by : (old new : State) (told : List Happening) → Unopened old new told ⊎ (Agreed old new told ⊎ Accepted old new told) → NoneAwaited old.live →
     Rises old.given (opened_in told) new.given
@@ -451,7 +494,7 @@ known_by : (old new : State) (told : List Happening) → IsOrderly old → Unope
 known_by old new told o (inl h) caller = (h.given, given_here old o told h.about)
 known_by old new told o (inr (inl h)) caller =
     (h.given, subst (AllByRecursion (IsGiven old.given)) (sym h.event) (up_at h.reference old.given old.live o.up_to (ap is_some h.here), tt))
-known_by old new told o (inr (inr h)) caller = true_false old.is_caller caller h.called
+known_by old new told o (inr (inr h)) caller = both old.is_caller caller h.called
 
 comes_by : (old new : State) (told : List Happening) → IsOrderly old → Unopened old new told ⊎ (Agreed old new told ⊎ Accepted old new told) → NoneAwaited old.live →
     Comes old.given told new.given
@@ -460,9 +503,13 @@ comes_by old new told o (inr (inl h)) none = absurd (none h.reference h.here)
 comes_by old new told o (inr (inr h)) none =
     subst (λ (l : List Happening). Comes old.given l new.given) (sym h.event) ((omega arith), h.given)
 
+unit_lasts : (unit : Value) (s : State) (over : Option EndReason) → s.ended ≡ over → (react unit s).ended ≡ None → s.ended ≡ None
+unit_lasts unit s None is lasts = is
+unit_lasts unit s (Some reason) is lasts = ap (λ (t : State). t.ended) (sym (react_over unit s (ap is_some is))) ∙ lasts
+
 along_unit : (unit : Value) (s : State) → IsOrderly s → OpensAlong s (react unit s)
 along_unit unit s orderly =
-    let o = opens_unit unit s orderly.rise in
+    let o = opens_unit unit s orderly in
     record {
       told = o.told;
       events = o.events;
@@ -475,6 +522,8 @@ along_unit unit s orderly =
       comes = λ called none. comes_by s (react unit s) o.told orderly o.how none;
       rises = units_rise (unit ∷ []) s;
       gone = λ q up none. stays_gone unit s q up none;
+      stays = o.stays;
+      lasts = unit_lasts unit s s.ended refl;
     }
 
 -- one that is there later was there, or is new
@@ -500,6 +549,15 @@ known_join old mid new a b caller =
     let second = b.known (a.side ∙ caller) in
     (second.0 ∙ first.0, all_join (IsGiven old.given) a.told b.told first.1 (subst (λ n. AllByRecursion (IsGiven n) b.told) first.0 second.1))
 
+stays_join : (old mid new : State) (a : OpensAlong old mid) (b : OpensAlong mid new) → StaysAsked old new (a.told ++ b.told)
+stays_join old mid new a b q h over = elim (a.stays q h (b.lasts over)) [
+  | inr told ↦ inr (answered_front q a.told b.told told)
+  | inl here ↦ elim (b.stays q here over) [
+    | inl still ↦ inl still
+    | inr told ↦ inr (answered_behind q a.told b.told told)
+  ]
+]
+
 along_join : (old mid new : State) → OpensAlong old mid → OpensAlong mid new → OpensAlong old new
 along_join old mid new a b = record {
   told = a.told ++ b.told;
@@ -515,6 +573,8 @@ along_join old mid new a b = record {
   comes = λ called none. comes_join old.given a.told mid.given b.told new.given (a.comes called none) (b.comes (a.side ∙ called) (λ q h. none q (a.awaited q h)));
   rises = let first = a.rises in let second = b.rises in omega arith;
   gone = gone_join old mid new a b;
+  stays = stays_join old mid new a b;
+  lasts = λ over. a.lasts (b.lasts over);
 }
 
 along_none : (s : State) → OpensAlong s s
@@ -530,6 +590,8 @@ along_none s = record {
   comes = λ called none. refl;
   rises = omega arith;
   gone = λ q up none. none;
+  stays = λ q h over. inl h;
+  lasts = λ over. over;
 }
 
 pub along_units : (units : List Value) (s : State) → IsOrderly s → OpensAlong s (reacts units s)
@@ -550,6 +612,8 @@ along_end old mid reason a = record {
   comes = a.comes;
   rises = a.rises;
   gone = λ q up none. refl;
+  stays = λ q h over. cc;
+  lasts = λ over. cc;
 }
 
 pub along_over : (s : State) (reason : EndReason) → OpensAlong s (ends reason s)

@@ -1,6 +1,6 @@
 -- Once the carrier has ended no session changes it, and it stays ended for the same reason.
-use Rattle.std.proofs.Common.{◌≡◌, ℕ, zero, suc, Bool, true, false, List, [], ◌∷◌, length, Option, Some, None, is_some, refl, sym, ap, ◌∙◌, ◌⊎◌, inl, inr, if◌then◌else◌}
-use Rattle.osi_carrier.specs.Calls.{open_link, link_of, closed_on, send_all_error}
+use Rattle.std.proofs.Common.{◌≡◌, ℕ, zero, suc, Bool, true, List, ◌∷◌, length, Option, Some, None, is_some, refl, sym, ap, ◌∙◌, ◌⊎◌, inl, inr, if◌then◌else◌, []}
+use Rattle.osi_carrier.specs.Calls.{open_link, link_of, closed_on, closed_with, sent, sent_on}
 use Rattle.osi_carrier.specs.Happenings.{Happening}
 use Rattle.osi_carrier.specs.Happenings as told
 use Rattle.osi_carrier.specs.Packets as carriers
@@ -11,14 +11,14 @@ use Rattle.osi_carrier.specs.declared.ends.EndReason.{EndReason}
 use Rattle.osi_carrier.specs.declared.ends.EndReason.TheVariants.{NoMemory}
 use Rattle.osi_carrier.proofs.Reading.{acts_cases}
 use Rattle.osi_class.specs.Link.{Standing as Link}
-use Rattle.osi_session.specs.Listening.{Input, Listener, opened, react}
-use Rattle.osi_stack.specs.Hearing.{opens, hears, hears_first, hears_next, hears_times, hears_all, with_events, with_carrier, attends, after_packet, starves, RunsOut, Starves}
-use Rattle.osi_stack.specs.Moving.{carrier_by, by_line}
-use Rattle.osi_stack.specs.State.{Line, End}
-use Rattle.osi_stack.specs.Transport.{sent_unless, answers_by}
+use Rattle.osi_stack.specs.Hearing.{hears_first, hears_next, hears_times, hears_all, with_events, with_carrier, attends, after_packet, starves, RunsOut, Starves}
+use Rattle.osi_stack.specs.State.{End}
 use Rattle.osi_stack.proofs.Events.{times_quiet, concluded_carrier}
 use Rattle.osi_stack.proofs.Lifting.{packet_is}
 use Rattle.osi_stack.proofs.Linking.{rest_is, times_last}
+use Rattle.osi_stack.proofs.Stepwise.{Carries, session_carried, event_heard, Hears}
+use Rattle.osi_carrier.specs.Orderly.{told_of}
+use Rattle.osi_stack.specs.Inputs.{input_of}
 
 -- ---- what sessions do
 
@@ -26,34 +26,27 @@ use Rattle.osi_stack.proofs.Linking.{rest_is, times_last}
 none_open : (r : ℕ) (c : Carrier) → is_some c.ended ≡ true → open_link r c ≡ None
 none_open r c over = ap (λ (b : Bool). if b then None else link_of (value_at r c.live)) over
 
-answers_over : (closing : Bool) (r : ℕ) (tsdus : List (List ℕ)) (c : Carrier) → is_some c.ended ≡ true → answers_by closing r tsdus c ≡ c
-answers_over true r tsdus c over = ap (λ (o : Option (ℕ × Link)). closed_on r 128 o c) (none_open r c over)
-answers_over false r tsdus c over = ap (λ (o : Option (ℕ × Link)). sent_unless (send_all_error tsdus o) r tsdus c) (none_open r c over)
+-- what it sends and closes is nothing
+nothing_over : (c : Carrier) → is_some c.ended ≡ true → Carries (λ x. x ≡ c)
+nothing_over c over = record {
+  sends = λ r tsdu x same. ap (λ (k : Carrier). sent r tsdu k) same ∙ ap (λ (o : Option (ℕ × Link)). sent_on r tsdu o c) (none_open r c over);
+  closes = λ r x same. ap (λ (k : Carrier). closed_with r 128 k) same ∙ ap (λ (o : Option (ℕ × Link)). closed_on r 128 o c) (none_open r c over);
+}
 
-carrier_over : (r : ℕ) (session : Option Listener) (input : Input) (c : Carrier) → is_some c.ended ≡ true → carrier_by r session input c ≡ c
-carrier_over r None input c over = refl
-carrier_over r (Some session) input c over = answers_over (react session input).closes r _ c over
-
-line_over : (r : ℕ) (line : Option Line) (input : Input) (e : End) → is_some e.carrier.ended ≡ true → (by_line r line input e).carrier ≡ e.carrier
-line_over r None input e over = refl
-line_over r (Some line) input e over = carrier_over r line.session input e.carrier over
-
-opens_over : (r : ℕ) (line : Option Line) (e : End) → is_some e.carrier.ended ≡ true → (opens r line e).carrier ≡ e.carrier
-opens_over r None e over = refl
-opens_over r (Some line) e over = line_over r (value_at r e.lines) opened e over
-
-hears_over : (event : Happening) (e : End) → is_some e.carrier.ended ≡ true → (hears event e).carrier ≡ e.carrier
-hears_over (told.opened r) e over = opens_over r (value_at r e.lines) e over
-hears_over (told.refused r reason) e over = line_over r (value_at r e.lines) _ e over
-hears_over (told.tsdu r octets) e over = line_over r (value_at r e.lines) _ e over
-hears_over (told.closed r reason) e over = line_over r (value_at r e.lines) _ e over
-hears_over (told.faulted r fault) e over = line_over r (value_at r e.lines) _ e over
+-- no event changes the carrier
+hears_over : (c : Carrier) → is_some c.ended ≡ true → Hears (λ x. x.carrier ≡ c)
+hears_over c over = record {
+  begins = λ r x none same. same;
+  moves = λ event x same. session_carried (λ k. k ≡ c) (nothing_over c over) (told_of event) (input_of event) x same;
+}
 
 -- ---- all events
 
 first_over : (events : List Happening) (e : End) → is_some e.carrier.ended ≡ true → (hears_first events e).carrier.ended ≡ e.carrier.ended
 first_over [] e over = refl
-first_over (event ∷ events) e over = ap (λ (c : Carrier). c.ended) (hears_over event (with_events events e) over)
+first_over (event ∷ events) e over =
+    let mid = with_events events e in
+    ap (λ (c : Carrier). c.ended) (event_heard (λ x. x.carrier ≡ mid.carrier) (hears_over mid.carrier over) event mid refl)
 
 pub times_over : (n : ℕ) (e : End) → is_some e.carrier.ended ≡ true → (hears_times n e).carrier.ended ≡ e.carrier.ended
 times_over zero e over = refl

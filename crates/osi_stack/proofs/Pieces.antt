@@ -2,6 +2,7 @@
 use Rattle.std.proofs.Common.{◌≡◌, ℕ, zero, suc, ◌+◌, ◌-◌, ◌<◌, ◌≤◌, ◌||◌, ◌==◌, not, true, false, Bool, List, [], ◌∷◌, ◌++◌, length, take, drop, Option, Some, None, Result, Ok, Err, is_some, refl, sym, ap, subst, ◌∙◌, inl, inr, ◌⊎◌, arith, length-append, length-drop, append_assoc, if◌then◌else◌}
 use Rattle.std.proofs.lemmas.List.{append-nil, take-append-drop, take_at}
 use Rattle.std.proofs.Math.Seq.{drop-append_seam}
+use Rattle.std.proofs.lemmas.Bool.{or_right, or_left}
 use Rattle.osi_tpkt.specs.Packet.{IsPartial, IsFaultOf}
 use Rattle.osi_tpkt.specs.Stream.{ArePackets, offset_of}
 use Rattle.osi_tpkt.specs.declared.faults.TpktFault.{TpktFault}
@@ -435,19 +436,11 @@ behind_stops old piece rest used uses new b stopped e = record {
   room = b.room;
 }
 
-or_true : (a b : Bool) → b ≡ true → (a || b) ≡ true
-or_true true b e = refl
-or_true false b e = e
-
-or_left : (a b : Bool) → a ≡ true → (a || b) ≡ true
-or_left true b e = refl
-or_left false b e = cc
-
 waits_by : (old : Holding) (piece rest : List ℕ) (used : ℕ) (new : Holding) → waits new.end.lines ≡ true → Look old piece rest used new →
     Goes old piece (length piece - length (drop used rest)) new
 waits_by old piece rest used new waiting (inl (inl dry)) = both (waits new.end.lines) waiting (quiet_waits new.end dry.runs.quiet)
 waits_by old piece rest used new waiting (inl (inr b)) =
-    inl (inr (behind_stops old piece rest used (length piece - length (drop used rest)) new b (or_true (is_some new.end.carrier.ended) (waits new.end.lines) waiting)
+    inl (inr (behind_stops old piece rest used (length piece - length (drop used rest)) new b (or_right (is_some new.end.carrier.ended) (waits new.end.lines) waiting)
     (uses_waiting (is_spoilt new.end.carrier.ended) (waits new.end.lines) piece b.front rest used b.within waiting b.cut b.bound b.uses)))
 waits_by old piece rest used new waiting (inr f) =
     let none = all_used rest used f.all in

@@ -17,7 +17,9 @@ use Rattle.osi_stack.specs.Messages.{shown_of, all_waiting}
 use Rattle.osi_stack.specs.Moving.{line_by, carrier_by, by_line, to_session}
 use Rattle.osi_stack.specs.State.{Line, End, is_used, used_lines, joins, fresh_line}
 use Rattle.osi_stack.proofs.Lifting.{both, packet_is}
-use Rattle.osi_stack.proofs.Linking.{used_by, rest_is, joined_lines}
+use Rattle.osi_stack.proofs.Linking.{rest_is, joined_lines}
+use Rattle.osi_stack.proofs.Stepwise.{concluded_end}
+use Rattle.osi_stack.proofs.Moves.{used_by, used_keep}
 
 -- one line in front
 abbrev row : ℕ → Line → Rows Line → Rows Line
@@ -188,14 +190,11 @@ module _ (K : ℕ → Bool) where
   still_put r x [] here still = tt
   still_put r x ((q, y) ∷ lines) here still = still_put_by r q x y lines (q == r) refl here still (still_put r x lines here still.1)
 
-  still_used_by : (live : Rows Connection) (q : ℕ) (y : Line) (lines : Rows Line) (b : Bool) → is_used live (q, y) ≡ b → AreStill ((q, y) ∷ lines) → AreStill (used_lines live lines) →
-      AreStill (used_lines live ((q, y) ∷ lines))
-  still_used_by live q y lines true e still more = subst AreStill (sym (used_by live (q, y) lines true e)) (still.0, more)
-  still_used_by live q y lines false e still more = subst AreStill (sym (used_by live (q, y) lines false e)) more
-
   pub still_used : (live : Rows Connection) (lines : Rows Line) → AreStill lines → AreStill (used_lines live lines)
   still_used live [] still = tt
-  still_used live ((q, y) ∷ lines) still = still_used_by live q y lines (is_used live (q, y)) refl still (still_used live lines still.1)
+  still_used live (row ∷ lines) still =
+      let more = still_used live lines still.1 in
+      used_keep AreStill live row lines more (λ used. (still.0, more))
 
   still_push : (r : ℕ) (s : Listener) (lines : Rows Line) → K r ≡ true → AreStill lines → AreStill (joined_lines r s lines)
   still_push r s [] here still = ((λ none. both (K r) here none), tt)
@@ -231,15 +230,11 @@ module _ (K : ℕ → Bool) where
   still_times zero e all still = still
   still_times (suc n) e all still = still_times n (hears_next e) (next_of e all) (still_first e.carrier.events e all still)
 
-  still_concludes : (over : Bool) (e : End) → AreStill e.lines → AreStill (if over then record e { lines = all_lost e.lines } else e).lines
-  still_concludes true e still = still_lost e.lines still
-  still_concludes false e still = still
-
   pub still_packet : (e : End) (unit : List ℕ) → AreOf (carriers.after_packet e.carrier unit).events → AreStill e.lines → AreStill (after_packet e unit).lines
   still_packet e unit all still =
       let mid = with_carrier (carriers.after_packet e.carrier unit) e in
       subst (λ (x : End). AreStill x.lines) (sym (packet_is e unit))
-      (still_concludes (is_some (hears_all mid).carrier.ended) (hears_all mid) (still_times (length mid.carrier.events) mid all still))
+      (concluded_end (λ x. AreStill x.lines) (λ x still. still_lost x.lines still) (hears_all mid) (still_times (length mid.carrier.events) mid all still))
 
   -- what a packet shows is the same where the others are dropped
   pub told_packet : (e : End) (unit : List ℕ) → AreOf (carriers.after_packet e.carrier unit).events → AreStill e.lines →

@@ -1,10 +1,11 @@
 -- What happens to an end happens to live connections and to new ones alone: it is the same without the lines of
 -- connections that are gone.
-use Rattle.std.proofs.Common.{◌≡◌, ℕ, zero, suc, ◌<◌, ◌≤◌, Bool, true, false, ◌||◌, nat_lt, List, [], ◌∷◌, ◌++◌, length, Option, Some, None, is_some, refl, sym, ap, subst, ◌∙◌, inl, inr, arith}
+use Rattle.std.proofs.Common.{◌≡◌, ℕ, ◌<◌, ◌≤◌, Bool, true, false, ◌||◌, nat_lt, List, [], ◌∷◌, ◌++◌, length, Option, None, is_some, refl, sym, ap, subst, ◌∙◌, inl, inr, arith}
 use Rattle.std.proofs.lemmas.Bool.Decides.{nat_tests}
 use Rattle.std.specs.List.{AllByRecursion}
+use Rattle.std.proofs.lemmas.Bool.{or_right}
+use Rattle.std.proofs.Math.Bool.{or-false}
 use Rattle.osi_carrier.proofs.Effects.{sent_gone, closed_gone}
-use Rattle.osi_carrier.specs.Calls.{open_link, sent, sent_all, send_all_error}
 use Rattle.osi_carrier.specs.Happenings.{Happening}
 use Rattle.osi_carrier.specs.Happenings as told
 use Rattle.osi_carrier.specs.Orderly.{AreUpTo, IsOrderly, told_of}
@@ -12,18 +13,19 @@ use Rattle.osi_carrier.specs.Packets as carriers
 use Rattle.osi_carrier.specs.Rows.{Rows, value_at}
 use Rattle.osi_carrier.specs.State.{Connection, State as Carrier}
 use Rattle.osi_carrier.specs.declared.ends.EndReason.{EndReason}
-use Rattle.osi_carrier.specs.declared.faults.SendError.{SendError}
-use Rattle.osi_session.specs.Listening.{Input, Listener, opened, react}
-use Rattle.osi_stack.specs.Hearing.{opens, hears, hears_first, hears_next, hears_times, hears_all, with_events, with_carrier, after_packet, ends}
+use Rattle.osi_carrier.proofs.Reacts.{none_of}
+use Rattle.osi_session.specs.Listening.{Input}
+use Rattle.osi_stack.specs.Hearing.{hears_times, hears_all, with_carrier, after_packet, ends}
 use Rattle.osi_stack.specs.Messages.{all_waiting}
-use Rattle.osi_stack.specs.Moving.{carrier_by, by_line, to_session}
+use Rattle.osi_stack.specs.Moving.{to_session}
 use Rattle.osi_stack.specs.Runs.{live_lines, pruned}
 use Rattle.osi_stack.specs.State.{Line, End}
-use Rattle.osi_stack.specs.Transport.{sent_unless, answers_by}
 use Rattle.osi_stack.proofs.Events.{concluded_carrier}
 use Rattle.osi_stack.proofs.Lifting.{both, or_first, or_second, packet_is}
 use Rattle.osi_stack.proofs.Opened.{IsOf}
 use Rattle.osi_stack.proofs.Ordering.{packet_along}
+use Rattle.osi_stack.proofs.Stepwise.{Carries, session_carried, events_heard}
+use Rattle.osi_stack.specs.Inputs.{input_of}
 use Rattle.osi_stack.proofs.Pruning.{only, only_end, only_row, only_session, only_packet, only_lost, only_told, AreOf, AreStill, still_session, still_packet, still_lost}
 
 -- ---- which connections are reached
@@ -35,33 +37,21 @@ is_live c r = is_some (value_at r c.live)
 abbrev pub reached : Carrier → ℕ → Bool
 reached c r = is_live c r || nat_lt c.given r
 
-or_true : (a b : Bool) → b ≡ true → (a || b) ≡ true
-or_true true b h = refl
-or_true false b h = h
-
-or_false : (b : Bool) → (b || false) ≡ b
-or_false true = refl
-or_false false = refl
-
 pub reached_live : (c : Carrier) (r : ℕ) → is_live c r ≡ true → reached c r ≡ true
 reached_live c r h = ap (λ (b : Bool). b || nat_lt c.given r) h
 
 pub reached_new : (c : Carrier) (r : ℕ) → c.given < r → reached c r ≡ true
-reached_new c r above = or_true (is_live c r) (nat_lt c.given r) (let new : nat_lt c.given r ≡ true = grind (arith, nat_tests) in new)
+reached_new c r above = or_right (is_live c r) (nat_lt c.given r) (let new : nat_lt c.given r ≡ true = grind (arith, nat_tests) in new)
 
 -- one that is gone
 pub record IsGone (c : Carrier) (r : ℕ) : Type 0 where
   pub none : value_at r c.live ≡ None
   pub given : r ≤ c.given
 
-gone_of : {X : Type 0} (o : Option X) → is_some o ≡ false → o ≡ None
-gone_of None e = refl
-gone_of (Some x) e = cc
-
 pub unreached : (c : Carrier) (r : ℕ) → reached c r ≡ false → IsGone c r
 unreached c r h =
     let low : nat_lt c.given r ≡ false = or_second (is_live c r) (nat_lt c.given r) h in
-    record { none = gone_of (value_at r c.live) (or_first (is_live c r) (nat_lt c.given r) h); given = grind (arith, nat_tests) }
+    record { none = none_of (value_at r c.live) (or_first (is_live c r) (nat_lt c.given r) h); given = grind (arith, nat_tests) }
 
 reached_of : (c : Carrier) (event : Happening) → IsOf c event → reached c (told_of event) ≡ true
 reached_of c event (inl here) = reached_live c (told_of event) here
@@ -79,47 +69,15 @@ packet_reaches c unit orderly none =
 
 -- ---- a connection that is gone stays so
 
-gone_all : (r : ℕ) (tsdus : List (List ℕ)) (c : Carrier) (q : ℕ) → value_at q c.live ≡ None → value_at q (sent_all r tsdus c).live ≡ None
-gone_all r [] c q none = none
-gone_all r (tsdu ∷ tsdus) c q none = gone_all r tsdus (sent r tsdu c) q (sent_gone r q tsdu c none)
-
-gone_unless : (error : Option SendError) (r : ℕ) (tsdus : List (List ℕ)) (c : Carrier) (q : ℕ) → value_at q c.live ≡ None → value_at q (sent_unless error r tsdus c).live ≡ None
-gone_unless None r tsdus c q none = gone_all r tsdus c q none
-gone_unless (Some error) r tsdus c q none = none
-
-gone_answers : (closing : Bool) (r : ℕ) (tsdus : List (List ℕ)) (c : Carrier) (q : ℕ) → value_at q c.live ≡ None → value_at q (answers_by closing r tsdus c).live ≡ None
-gone_answers true r tsdus c q none = closed_gone r q 128 c none
-gone_answers false r tsdus c q none = gone_unless (send_all_error tsdus (open_link r c)) r tsdus c q none
-
-gone_carrier : (r : ℕ) (session : Option Listener) (input : Input) (c : Carrier) (q : ℕ) → value_at q c.live ≡ None → value_at q (carrier_by r session input c).live ≡ None
-gone_carrier r None input c q none = none
-gone_carrier r (Some session) input c q none = gone_answers (react session input).closes r _ c q none
-
-gone_line : (r : ℕ) (line : Option Line) (input : Input) (e : End) (q : ℕ) → value_at q e.carrier.live ≡ None → value_at q (by_line r line input e).carrier.live ≡ None
-gone_line r None input e q none = none
-gone_line r (Some line) input e q none = gone_carrier r line.session input e.carrier q none
-
-gone_session : (r : ℕ) (input : Input) (e : End) (q : ℕ) → value_at q e.carrier.live ≡ None → value_at q (to_session r input e).carrier.live ≡ None
-gone_session r input e q none = gone_line r (value_at r e.lines) input e q none
-
-gone_opens : (r : ℕ) (line : Option Line) (e : End) (q : ℕ) → value_at q e.carrier.live ≡ None → value_at q (opens r line e).carrier.live ≡ None
-gone_opens r None e q none = none
-gone_opens r (Some line) e q none = gone_session r opened e q none
-
-gone_hears : (event : Happening) (e : End) (q : ℕ) → value_at q e.carrier.live ≡ None → value_at q (hears event e).carrier.live ≡ None
-gone_hears (told.opened r) e q none = gone_opens r (value_at r e.lines) e q none
-gone_hears (told.refused r reason) e q none = gone_session r _ e q none
-gone_hears (told.tsdu r octets) e q none = gone_session r _ e q none
-gone_hears (told.closed r reason) e q none = gone_session r _ e q none
-gone_hears (told.faulted r fault) e q none = gone_session r _ e q none
-
-gone_first : (events : List Happening) (e : End) (q : ℕ) → value_at q e.carrier.live ≡ None → value_at q (hears_first events e).carrier.live ≡ None
-gone_first [] e q none = none
-gone_first (event ∷ events) e q none = gone_hears event (with_events events e) q none
+sessions_keep : (q : ℕ) → Carries (λ c. value_at q c.live ≡ None)
+sessions_keep q = record { sends = λ r tsdu c none. sent_gone r q tsdu c none; closes = λ r c none. closed_gone r q 128 c none }
 
 gone_times : (n : ℕ) (e : End) (q : ℕ) → value_at q e.carrier.live ≡ None → value_at q (hears_times n e).carrier.live ≡ None
-gone_times zero e q none = none
-gone_times (suc n) e q none = gone_times n (hears_next e) q (gone_first e.carrier.events e q none)
+gone_times n e q none =
+    events_heard (λ x. value_at q x.carrier.live ≡ None) (λ events x none. none) (record {
+      begins = λ r x new none. none;
+      moves = λ event x none. session_carried (λ c. value_at q c.live ≡ None) (sessions_keep q) (told_of event) (input_of event) x none;
+    }) n e none
 
 gone_packet : (e : End) (unit : List ℕ) (q : ℕ) → IsOrderly e.carrier → IsGone e.carrier q → value_at q (after_packet e unit).carrier.live ≡ None
 gone_packet e unit q orderly gone =
@@ -143,7 +101,7 @@ packet_within e unit orderly q here =
 
 pub session_within : (r : ℕ) (input : Input) (e : End) → Within (is_live (to_session r input e).carrier) (reached e.carrier)
 session_within r input e q here =
-    within_by (value_at q (to_session r input e).carrier.live) (reached e.carrier q) (λ no. gone_session r input e q (unreached e.carrier q no).none) here
+    within_by (value_at q (to_session r input e).carrier.live) (reached e.carrier q) (λ no. session_carried (λ c. value_at q c.live ≡ None) (sessions_keep q) r input e (unreached e.carrier q no).none) here
 
 -- ---- lines of fewer references
 
@@ -167,7 +125,7 @@ same_row K L q y lines false e f more = only_row K q y lines false e ∙ more �
 reached_known : (c : Carrier) (q : ℕ) → q ≤ c.given → reached c q ≡ is_live c q
 reached_known c q low =
     let old : nat_lt c.given q ≡ false = grind (arith, nat_tests) in
-    ap (λ (b : Bool). is_live c q || b) old ∙ or_false (is_live c q)
+    ap (λ (b : Bool). is_live c q || b) old ∙ or-false (is_live c q)
 
 -- where no line is new
 pub known_live : (c : Carrier) (lines : Rows Line) → AreUpTo c.given lines → only (reached c) lines ≡ live_lines c.live lines

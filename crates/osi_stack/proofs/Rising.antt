@@ -1,5 +1,5 @@
 -- The lines of an end stand in the order in which their references were given.
-use Rattle.std.proofs.Common.{◌≡◌, ℕ, ◌+◌, ◌<◌, Bool, zero, suc, true, false, take, List, [], ◌∷◌, ◌++◌, Option, Some, None, is_some, option_map, refl, sym, subst, arith, if◌then◌else◌}
+use Rattle.std.proofs.Common.{◌≡◌, ℕ, ◌+◌, ◌<◌, zero, suc, take, [], ◌∷◌, ◌++◌, Option, Some, None, option_map, refl, sym, subst, arith, if◌then◌else◌}
 use Rattle.osi_tpdu.specs.Value.{Value}
 use Rattle.osi_tpdu.specs.Limits.{tsap_octets}
 use Rattle.osi_carrier.specs.Calls.{asks}
@@ -9,16 +9,15 @@ use Rattle.osi_carrier.specs.State.{Connection}
 use Rattle.osi_carrier.proofs.AtReferences.{rise_lower, put_rise}
 use Rattle.osi_session.specs.Listening.{Input, Listener}
 use Rattle.osi_session.specs.Sessions.{awaits}
-use Rattle.osi_session.specs.Shown.{Shown}
-use Rattle.osi_stack.specs.Calls.{calls_with, connects, breaks, without_first, rest_by}
-use Rattle.osi_stack.specs.Hearing.{ends, all_lost}
+use Rattle.osi_stack.specs.Calls.{calls_with, connects, breaks, without_first}
+use Rattle.osi_stack.specs.Hearing.{all_lost}
 use Rattle.osi_stack.specs.Links.{Soundness}
 use Rattle.osi_stack.specs.Messages.{Effect, begins, happens, rests, Hears, Arrives, told_all}
 use Rattle.osi_stack.specs.Moving.{line_by, by_line, to_session}
-use Rattle.osi_stack.specs.State.{Line, End, is_used, used_lines, joins, fresh_line}
+use Rattle.osi_stack.specs.State.{Line, End, used_lines, joins, fresh_line}
 use Rattle.osi_stack.specs.declared.connecting.Connect.{Connect}
-use Rattle.osi_carrier.specs.declared.ends.EndReason.TheVariants.{Broken}
-use Rattle.osi_stack.proofs.Linking.{used_by}
+use Rattle.osi_stack.proofs.Stepwise.{concluded_end, broken_end}
+use Rattle.osi_stack.proofs.Moves.{used_keep, first_keep}
 
 -- ---- rows
 
@@ -27,16 +26,13 @@ pub rise_push : (n g r : ℕ) (line : Line) (lines : Rows Line) → n < r → g 
 rise_push n g r line [] above over up rise = (above, tt)
 rise_push n g r line ((q, y) ∷ lines) above over up rise = (rise.0, rise_push q g r line lines (let low = up.0 in omega arith) over up.1 rise.1)
 
-rise_used_by : (n p : ℕ) (y : Line) (live : Rows Connection) (lines : Rows Line) (u : Bool) → is_used live (p, y) ≡ u → n < p → RiseFrom p (used_lines live lines) →
-    RiseFrom n (used_lines live ((p, y) ∷ lines))
-rise_used_by n p y live lines true used above more = subst (RiseFrom n) (sym (used_by live (p, y) lines true used)) (above, more)
-rise_used_by n p y live lines false used above more =
-    subst (RiseFrom n) (sym (used_by live (p, y) lines false used)) (rise_lower n p (used_lines live lines) (omega arith) more)
-
 -- some are dropped
 pub rise_used : (n : ℕ) (live : Rows Connection) (lines : Rows Line) → RiseFrom n lines → RiseFrom n (used_lines live lines)
 rise_used n live [] rise = tt
-rise_used n live ((p, y) ∷ lines) rise = rise_used_by n p y live lines (is_used live (p, y)) refl rise.0 (rise_used p live lines rise.1)
+rise_used n live ((p, y) ∷ lines) rise =
+    let above = rise.0 in
+    let more = rise_used p live lines rise.1 in
+    used_keep (RiseFrom n) live (p, y) lines (rise_lower n p (used_lines live lines) (omega arith) more) (λ used. (above, more))
 
 -- the first of them
 pub rise_take : (n k : ℕ) (lines : Rows Line) → RiseFrom n lines → RiseFrom n (take k lines)
@@ -48,14 +44,9 @@ pub rise_lost : (n : ℕ) (lines : Rows Line) → RiseFrom n lines → RiseFrom 
 rise_lost n [] rise = tt
 rise_lost n ((p, y) ∷ lines) rise = (rise.0, rise_lost p lines rise.1)
 
-rise_first_by : (n p : ℕ) (line : Line) (waiting : List Shown) (lines : Rows Line) → n < p → RiseFrom p lines → RiseFrom p (without_first lines) →
-    RiseFrom n (rest_by p line waiting lines (without_first lines))
-rise_first_by n p line [] lines above rise more = (above, more)
-rise_first_by n p line (shown ∷ waiting) lines above rise more = (above, rise)
-
 pub rise_first : (n : ℕ) (lines : Rows Line) → RiseFrom n lines → RiseFrom n (without_first lines)
 rise_first n [] rise = tt
-rise_first n ((p, y) ∷ lines) rise = rise_first_by n p y y.waiting lines rise.0 rise.1 (rise_first p lines rise.1)
+rise_first n ((p, y) ∷ lines) rise = first_keep (RiseFrom n) p y lines (rise.0, rise_first p lines rise.1) (λ left. rise)
 
 -- ---- what happens to an end
 
@@ -76,16 +67,8 @@ rise_connect c e sound rise =
     rise_joins e.carrier.given (e.carrier.given + 1) (calls_with c)
     (record e { carrier = asks (option_map tsap_octets c.calling_tsap) (option_map tsap_octets c.called_tsap) e.carrier }) (omega arith) sound.known rise
 
-rise_by : (b : Bool) (e : End) → RiseFrom 0 e.lines → RiseFrom 0 (if b then e else ends Broken e).lines
-rise_by true e rise = rise
-rise_by false e rise = rise_lost 0 e.lines rise
-
 pub rise_breaks : (e : End) → RiseFrom 0 e.lines → RiseFrom 0 (breaks e).lines
-rise_breaks e rise = rise_by (is_some e.carrier.ended) e rise
-
-rise_concludes_by : (b : Bool) (e : End) → RiseFrom 0 e.lines → RiseFrom 0 (if b then record e { lines = all_lost e.lines } else e).lines
-rise_concludes_by true e rise = rise_lost 0 e.lines rise
-rise_concludes_by false e rise = rise
+rise_breaks e rise = broken_end (λ x. RiseFrom 0 x.lines) (λ x rise. rise_lost 0 x.lines rise) e rise
 
 rise_hears : (r : ℕ) (effect : Effect) (e new : End) → Hears r effect e new → (g : ℕ) → AreUpTo g e.lines → (effect ≡ begins → g < r) → RiseFrom 0 e.lines → RiseFrom 0 new.lines
 rise_hears r begins e new h g up over rise = subst (λ (x : End). RiseFrom 0 x.lines) (sym h) (rise_joins g r awaits e (over refl) up rise)
@@ -97,4 +80,4 @@ pub rise_arrives : (r : ℕ) (effect : Effect) (v : Value) (e new : End) → Arr
     RiseFrom 0 e.lines → RiseFrom 0 new.lines
 rise_arrives r effect v e new a up over rise =
     subst (λ (x : End). RiseFrom 0 x.lines) (sym a.is)
-    (rise_concludes_by (is_some a.heard.carrier.ended) a.heard (rise_hears r effect (told_all v e) a.heard a.hears e.carrier.given up over rise))
+    (concluded_end (λ x. RiseFrom 0 x.lines) (λ x rise. rise_lost 0 x.lines rise) a.heard (rise_hears r effect (told_all v e) a.heard a.hears e.carrier.given up over rise))

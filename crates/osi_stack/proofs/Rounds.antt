@@ -1,5 +1,5 @@
 -- Two runs in step come to the same, whatever the pieces.
-use Rattle.std.proofs.Common.{◌≡◌, ℕ, ◌+◌, ◌-◌, ◌<◌, ◌^◌, Bool, true, false, List, [], ◌∷◌, ◌++◌, Option, Some, None, is_some, length, option_map, arith, refl, sym, ap, subst, ◌∙◌, append_assoc, if◌then◌else◌}
+use Rattle.std.proofs.Common.{◌≡◌, ℕ, ◌+◌, ◌-◌, ◌<◌, ◌^◌, Bool, true, false, List, ◌∷◌, ◌++◌, Option, Some, None, is_some, length, option_map, arith, refl, sym, ap, subst, ◌∙◌, append_assoc, if◌then◌else◌, []}
 use Rattle.std.proofs.lemmas.List.{append-nil}
 use Rattle.std.proofs.lemmas.List.Concat.{flat_map-append}
 use Rattle.std.specs.List.{flat_map}
@@ -29,10 +29,11 @@ use Rattle.osi_stack.proofs.Accounts.{made, after_more, account_quiet, account_j
 use Rattle.osi_stack.proofs.Asking.{wait_push, joins_alike}
 use Rattle.osi_stack.proofs.Endings.{faulted}
 use Rattle.osi_stack.proofs.Hushing.{account_calling}
-use Rattle.osi_stack.proofs.InFront.{apart_session}
 use Rattle.osi_stack.proofs.Lasting.{account_over}
 use Rattle.osi_stack.proofs.Pieces.{none_of}
-use Rattle.osi_stack.proofs.Runs.{never, calls_read}
+use Rattle.osi_stack.proofs.Runs.{calls_read}
+use Rattle.osi_stack.proofs.InFront.{apart_session}
+use Rattle.osi_stack.proofs.Lifting.{never}
 
 -- ---- accounts that are alike
 

@@ -1,33 +1,26 @@
 -- Over every run of calls an end comes to what the packets of the octets used make of it.
-use Rattle.std.proofs.Common.{◌≡◌, ℕ, ◌+◌, ◌-◌, ◌<◌, ◌^◌, ◌||◌, Bool, true, false, List, [], ◌∷◌, ◌++◌, length, take, Option, None, is_some, refl, sym, ap, subst, ◌∙◌, inl, inr, arith, append_assoc, length-append}
+use Rattle.std.proofs.Common.{◌≡◌, ℕ, ◌+◌, ◌-◌, ◌<◌, ◌^◌, ◌||◌, Bool, true, false, List, ◌∷◌, ◌++◌, length, take, Option, None, is_some, refl, sym, ap, subst, ◌∙◌, inl, inr, arith, append_assoc, length-append, []}
 use Rattle.std.proofs.lemmas.List.{append-nil, take_all}
 use Rattle.std.specs.List.{flat_map}
 use Rattle.osi_tpkt.specs.Held.{Held}
 use Rattle.osi_tpkt.specs.Packet.{IsPartial}
 use Rattle.osi_tpkt.specs.Stream.{ArePackets, offset_of}
 use Rattle.osi_tpkt.specs.declared.cutting.Fed.{Fed}
-use Rattle.osi_carrier.specs.State.{State as Carrier}
 use Rattle.osi_carrier.specs.declared.ends.EndReason.{EndReason}
 use Rattle.osi_carrier.proofs.Pieces.{OneCut, packets_joined}
 use Rattle.osi_carrier.proofs.Reading.{packets_leave}
 use Rattle.osi_session.specs.Shown.{Shown}
 use Rattle.osi_stack.specs.Feeding.{RunsDry, StopsBehind, FindsNoMemory, Goes, Feeds}
-use Rattle.osi_stack.specs.Hearing.{hears_times, with_events, with_carrier, Starves}
 use Rattle.osi_stack.specs.Runs.{Account, account_of, with_packets, Call, Calls, CallsAlong, used_in, told_in, carried_in, account_along, Reads, AreAlike}
 use Rattle.osi_stack.specs.Runs.Call.{feeding, telling, carrying}
 use Rattle.osi_stack.specs.State.{End, Holding, waits}
 use Rattle.osi_stack.proofs.Accounts.{after_more, account_told, account_joined, packets_apart, with_joined, packets_done}
 use Rattle.osi_stack.proofs.Comings.{uses_within}
-use Rattle.osi_stack.proofs.Events.{starved_over}
-use Rattle.osi_stack.proofs.Lifting.{both}
-use Rattle.osi_stack.proofs.Overs.{attends_over}
 use Rattle.osi_stack.proofs.Pieces.{none_of}
+use Rattle.osi_stack.proofs.Throughout.{starved_ended}
+use Rattle.osi_stack.proofs.Lifting.{never}
 
 -- ---- an end stays
-
--- it lasts, and it has ended
-pub never : {A : Type 0} (e : End) → is_some e.carrier.ended ≡ true → e.carrier.ended ≡ None → A
-never e over lasts = both (is_some e.carrier.ended) over (ap is_some lasts)
 
 feeds_lasts : (old : Holding) (piece : List ℕ) (fed : Fed) (new : Holding) (over : Bool) → is_some old.end.carrier.ended ≡ over → Feeds old piece fed new → new.end.carrier.ended ≡ None →
     old.end.carrier.ended ≡ None
@@ -97,13 +90,6 @@ reads_stopped nothing old piece fed new stop lasts =
     }
 
 -- where memory was wanted the end has ended
-pub starved_ended : (e new : End) (packet : List ℕ) → Starves e packet new → is_some new.carrier.ended ≡ true
-starved_ended e new packet (inl h) =
-    ap (λ (x : End). is_some x.carrier.ended) h.2 ∙ ap is_some (attends_over (with_carrier h.0 e) (ap (λ (c : Carrier). is_some c.ended) h.1.2.ended))
-    ∙ ap (λ (c : Carrier). is_some c.ended) h.1.2.ended
-starved_ended e new packet (inr h) =
-    ap (λ (x : End). is_some x.carrier.ended) h.2.starved ∙ starved_over (with_events h.2.more (hears_times h.2.heard (with_carrier h.0 e)))
-
 pub none_ended : (old : Holding) (piece : List ℕ) (used : ℕ) (new : Holding) → FindsNoMemory old piece used new → is_some new.end.carrier.ended ≡ true
 none_ended old piece used new h = elim (h.how) [
   | inl none ↦ ap (λ (x : End). is_some x.carrier.ended) none.ended

@@ -1,5 +1,5 @@
 -- What is true of every end between any two calls stays so.
-use Rattle.std.proofs.Common.{◌≡◌, ℕ, ◌≤◌, ◌<◌, Bool, true, false, ◌||◌, not, List, [], ◌∷◌, length, drop, Option, Some, None, Result, Ok, Err, arith, is_some, IsSome, option_map, refl, sym, ap, subst, ◌∙◌, inl, inr, ◌⊎◌, if◌then◌else◌}
+use Rattle.std.proofs.Common.{◌≡◌, ℕ, ◌≤◌, ◌<◌, Bool, true, false, ◌||◌, not, List, ◌∷◌, length, drop, Option, Some, None, Result, Ok, Err, arith, is_some, IsSome, option_map, refl, sym, ap, subst, ◌∙◌, inl, inr, ◌⊎◌, if◌then◌else◌, []}
 use Rattle.std.specs.Prelude.{OnOk, OnErr, IfErr, IfSome}
 use Rattle.osi_tpdu.specs.Limits.{tsap_octets}
 use Rattle.osi_tpdu.specs.Packet.{units_of}
@@ -8,7 +8,6 @@ use Rattle.osi_tpdu.specs.declared.faults.TpduFault.{TpduFault}
 use Rattle.osi_class.specs.declared.terms.Local.{Local}
 use Rattle.osi_spdu.specs.Known.{Units}
 use Rattle.osi_message.specs.Reading.{said_by_units}
-use Rattle.osi_tpkt.specs.Stream.{ArePackets}
 use Rattle.osi_tpkt.specs.declared.cutting.Fed.{Fed}
 use Rattle.osi_carrier.specs.Calls.{may_connect}
 use Rattle.osi_carrier.specs.Orderly.{IsOrderly}
@@ -33,19 +32,17 @@ use Rattle.osi_session.specs.Runs.{HasNumbersInWords}
 use Rattle.osi_session.specs.declared.faults.CallError.{CallError}
 use Rattle.osi_session.specs.declared.faults.CallError.TheVariants as error
 use Rattle.osi_stack.specs.Calls.{connects, connect_error, terms_error, after_open, opening_of, calls_with, breaks, carried, without_first, has_given, call_error, table_error, session_refusal, session_error, RefusesBy, Refuses, by_rule}
-use Rattle.osi_stack.specs.Feeding.{stops, TakesPackets, Goes, Feeds}
-use Rattle.osi_stack.specs.Hearing.{hears_all, hears_times, with_events, with_carrier, attends, after_packet, ends, starves, Starves}
-use Rattle.osi_stack.specs.Moving.{by_line, to_session}
+use Rattle.osi_stack.specs.Feeding.{stops, Goes, Feeds}
+use Rattle.osi_stack.specs.Hearing.{hears_all, hears_times, with_events, with_carrier, attends, after_packet, starves, Starves}
+use Rattle.osi_stack.specs.Moving.{to_session}
 use Rattle.osi_stack.specs.State.{Line, End, Holding, IsAttended, fresh_end, session_in, session_at, waits}
 use Rattle.osi_stack.specs.Folds.{CameAbout, IsProfiled, IsNamed, OfSessions}
 use Rattle.osi_stack.specs.Settled.{IsSettled}
 use Rattle.osi_stack.specs.declared.connecting.Connect.{Connect}
-use Rattle.osi_stack.proofs.Rooms.{found_how}
 use Rattle.osi_stack.proofs.Answering.{Below, answered_is}
 use Rattle.osi_stack.proofs.Awaiting.{StillWaits, fresh_asked, connect_asked, call_asked, feeds_asked, first_asked, carried_asked, breaks_asked}
 use Rattle.osi_stack.proofs.Attending.{session_attended, connect_attended, breaks_attended, feeds_attended}
 use Rattle.osi_stack.proofs.Folds.{at_line, session_all, connect_all, call_came, feeds_all, told_all, breaks_all, came_asking, came_true, profile_true}
-use Rattle.osi_stack.proofs.Comings.{attended_then}
 use Rattle.osi_stack.proofs.Events.{concluded_carrier}
 use Rattle.osi_stack.proofs.Gone.{lasting_gone, connect_gone, call_gone, first_gone, breaks_gone, feeds_gone}
 use Rattle.osi_stack.proofs.Knowing.{ShownFirst, call_named, named_stays}
@@ -53,28 +50,23 @@ use Rattle.osi_stack.proofs.Lifting.{both, or_first, or_second, packet_is}
 use Rattle.osi_stack.proofs.Linking.{SessionLaws}
 use Rattle.osi_stack.proofs.OfLines.{session_lines, feeds_lines, connect_lines, told_lines, breaks_lines}
 use Rattle.osi_stack.proofs.Ordering.{fresh_ordered, connect_ordered, call_ordered, feeds_ordered, first_ordered, carried_ordered, breaks_ordered}
-use Rattle.osi_stack.proofs.Soundness.{Fits, carrier_leaves, times_fits, up_more, units_rise, packet_rises, lasting_of, open_none, packet_sound, packets_sound, fresh_sound, connect_sound, call_sound, feeds_sound, first_sound, carried_sound, breaks_sound}
+use Rattle.osi_stack.proofs.Soundness.{Fits, times_fits, up_more, units_rise, packet_rises, open_none, fresh_sound, connect_sound, call_sound, feeds_sound, first_sound, carried_sound, breaks_sound, session_leaves, hale_kept, IsHale}
 use Rattle.osi_stack.specs.Links.{IsSound}
+use Rattle.osi_stack.proofs.Stepwise.{broken_end}
+use Rattle.osi_stack.proofs.Throughout.{IsKeptBeside, feeds_beside}
+use Rattle.osi_carrier.proofs.Reacts.{none_of}
 
 -- ---- calls
 
-line_orderly : (r : ℕ) (input : Input) (e : End) (o : Option Line) → IsOrderly e.carrier → IsOrderly (by_line r o input e).carrier
-line_orderly r input e None h = h
-line_orderly r input e (Some line) h = (carrier_leaves r line.session input e.carrier).orderly h
-
 pub session_orderly : (r : ℕ) (input : Input) (e : End) → IsOrderly e.carrier → IsOrderly (to_session r input e).carrier
-session_orderly r input e h = line_orderly r input e (value_at r e.lines) h
+session_orderly r input e h = (session_leaves r input e h).0
 
 pub connect_orderly : (c : Connect) (e : End) → connect_error c e ≡ None → IsOrderly e.carrier → IsOrderly (connects c e).carrier
 connect_orderly c e allowed h =
     orderly_asks (option_map tsap_octets c.calling_tsap) (option_map tsap_octets c.called_tsap) e.carrier (open_none (may_connect e.carrier) (terms_error c) allowed) h
 
-breaks_by : (b : Bool) (e : End) → IsOrderly e.carrier → IsOrderly (if b then e else ends Broken e).carrier
-breaks_by true e h = h
-breaks_by false e h = orderly_end Broken e.carrier h
-
 pub breaks_orderly : (e : End) → IsOrderly e.carrier → IsOrderly (breaks e).carrier
-breaks_orderly e h = breaks_by (is_some e.carrier.ended) e h
+breaks_orderly e h = broken_end (λ x. IsOrderly x.carrier) (λ x h. orderly_end Broken x.carrier h) e h
 
 -- ---- packets
 
@@ -92,13 +84,6 @@ packet_orderly packet e f =
 
 fits_of : (e : End) → e.carrier.ended ≡ None → IsSound e → Fits e
 fits_of e lasts sound = let s = sound lasts in record { orderly = s.orderly; known = s.known }
-
-packets_orderly : SessionLaws → (units : List (List ℕ)) (old new : End) → TakesPackets old units new → IsAttended old → IsSound old → IsOrderly old.carrier → IsOrderly new.carrier
-packets_orderly laws [] old new h attended sound o = subst (λ (x : End). IsOrderly x.carrier) (sym h) o
-packets_orderly laws (u ∷ units) old new h attended sound o =
-    let lasts = lasting_of old.carrier.ended (waits old.lines) h.0 in
-    packets_orderly laws units (after_packet old u) new h.1 (attended_then (with_carrier (carriers.after_packet old.carrier u) old) (after_packet old u) (packet_is old u))
-    (packet_sound laws u old lasts (attended lasts) sound) (packet_orderly u old (fits_of old lasts sound))
 
 -- ---- want of memory
 
@@ -137,37 +122,19 @@ starved_orderly e new packet (inr h) f =
     let fits = times_fits h.2.heard (with_carrier h.0 e) (grown_fits e h.0 (grows_by (units_of packet) e.carrier h.0 h.1 f.orderly) f) in
     subst (λ (x : End). IsOrderly x.carrier) (sym h.2.starved) (starves_orderly (with_events h.2.more mid) (orderly_same mid.carrier mid.carrier.outgoing h.2.more fits.orderly))
 
-none_found : (e new : End) (rest : List ℕ) → (new ≡ ends NoMemory e) ⊎ ((packet : List ℕ) × ArePackets (packet ∷ []) rest [] × Starves e packet new) → Fits e → IsOrderly new.carrier
-none_found e new rest (inl is) f = subst (λ (x : End). IsOrderly x.carrier) (sym is) (orderly_end NoMemory e.carrier f.orderly)
-none_found e new rest (inr p) f = starved_orderly e new p.0 p.2 f
-
 -- ---- feeding
 
--- packets of which none stopped
-before_fits : SessionLaws → (units : List (List ℕ)) (old before : End) → TakesPackets old units before → stops before ≡ false → IsAttended old → IsSound old → IsOrderly old.carrier → Fits before
-before_fits laws units old before h quiet attended sound o =
-    fits_of before (lasting_of before.carrier.ended (waits before.lines) quiet) (packets_sound laws units old before h attended sound)
-
-goes_orderly : SessionLaws → (old new : Holding) (piece : List ℕ) (used : ℕ) → Goes old piece used new → IsAttended old.end → IsSound old.end → IsOrderly old.end.carrier →
-    IsOrderly new.end.carrier
-goes_orderly laws old new piece used (inl (inl h)) attended sound o = packets_orderly laws h.units old.end new.end h.taken attended sound o
-goes_orderly laws old new piece used (inl (inr h)) attended sound o = packets_orderly laws h.units old.end new.end h.taken attended sound o
-goes_orderly laws old new piece used (inr (inl h)) attended sound o =
-    subst (λ (x : End). IsOrderly x.carrier) (sym h.ended) (orderly_end _ h.before.carrier (before_fits laws h.units old.end h.before h.taken h.quiet attended sound o).orderly)
-goes_orderly laws old new piece used (inr (inr h)) attended sound o =
-    none_found h.before new.end h.rest (found_how old piece used new h) (before_fits laws h.units old.end h.before h.taken h.quiet attended sound o)
-
-feeds_by : SessionLaws → (old new : Holding) (piece : List ℕ) (fed : Fed) (o : Option EndReason) (b : Bool) → old.end.carrier.ended ≡ o → waits old.end.lines ≡ b →
-    Feeds old piece fed new → IsAttended old.end → IsSound old.end → IsOrderly old.end.carrier → IsOrderly new.end.carrier
-feeds_by laws old new piece fed (Some reason) b is waiting h attended sound orderly =
-    subst (λ (x : Holding). IsOrderly x.end.carrier) (sym (h.over (ap is_some is)).1) orderly
-feeds_by laws old new piece fed None true is waiting h attended sound orderly = subst (λ (x : Holding). IsOrderly x.end.carrier) (sym (h.waiting is waiting).1) orderly
-feeds_by laws old new piece fed None false is waiting h attended sound orderly =
-    goes_orderly laws old new piece fed.used (h.goes (ap (λ (o : Option EndReason). is_some o || waits old.end.lines) is ∙ waiting)) attended sound orderly
+orderly_kept : IsKeptBeside IsHale (λ e. IsOrderly e.carrier)
+orderly_kept = record {
+  each = λ packet e lasts hale o. packet_orderly packet e (fits_of e lasts hale.1);
+  over = λ reason e hale o. orderly_end reason e.carrier o;
+  starved = λ packet e new lasts h hale o. starved_orderly e new packet h (fits_of e lasts hale.1);
+}
 
 pub feeds_orderly : SessionLaws → (old new : Holding) (piece : List ℕ) (fed : Fed) → Feeds old piece fed new → IsAttended old.end → IsSound old.end → IsOrderly old.end.carrier →
     IsOrderly new.end.carrier
-feeds_orderly laws old new piece fed h attended sound orderly = feeds_by laws old new piece fed old.end.carrier.ended (waits old.end.lines) refl refl h attended sound orderly
+feeds_orderly laws old new piece fed h attended sound orderly =
+    feeds_beside IsHale (λ e. IsOrderly e.carrier) (hale_kept laws) orderly_kept old new piece fed h (attended, sound) orderly
 
 -- ---- what is true of every end
 
@@ -341,14 +308,6 @@ pub answered_by_table : {A : Type 0} (result : Result A CallError) (first all : 
     IfErr result (λ e. by_rule e ≡ first)
 answered_by_table (Ok x) first all same h = tt
 answered_by_table (Err e) first all same h = refused_by (is_memory e) e first all same h
-
-unended : (o : Option EndReason) → is_some o ≡ false → o ≡ None
-unended None h = refl
-unended (Some reason) h = cc
-
-pub connects_while : {A F : Type 0} (result : Result A F) (c : Connect) (e : End) → OnOk result (connect_error c e ≡ None) → OnOk result (e.carrier.ended ≡ None)
-connects_while (Ok x) c e allowed = unended e.carrier.ended (free_of e.carrier (open_none (may_connect e.carrier) (terms_error c) allowed)).lasts
-connects_while (Err f) c e allowed = tt
 
 -- what is read is fed
 pub feeds_of : (old new : Holding) (piece : List ℕ) (used : ℕ) → stops old.end ≡ false → Goes old piece used new → used ≤ length piece → (0 < length piece → 0 < used) →

@@ -94,20 +94,7 @@ data_short octets h =
 call_by : SpduLaws → (s : State) (c : Call) → nat_le (length (octets_of c)) (most_of c) ≡ true → IsSendable (sends s c) → length (written (sends s c)) ≤ 1048576
 unfolding unit_of
 call_by law s (Data octets) size h = data_short octets size
-call_by law s (Accept requirements serial sides sizes octets) size h = sent_short law _ h refl
-call_by law s (Refuse octets) size h = sent_short law _ h refl
-call_by law s (Give tokens) size h = sent_short law _ h refl
-call_by law s (Please tokens octets) size h = sent_short law _ h refl
-call_by law s (Minor confirm octets) size h = sent_short law _ h refl
-call_by law s (MinorConfirm n octets) size h = sent_short law _ h refl
-call_by law s (Major octets) size h = sent_short law _ h refl
-call_by law s (MajorConfirm octets) size h = sent_short law _ h refl
-call_by law s (Restart n wishes octets) size h = sent_short law _ h refl
-call_by law s (RestartConfirm sides octets) size h = sent_short law _ h refl
-call_by law s (Release octets) size h = sent_short law _ h refl
-call_by law s (ReleaseAccept octets) size h = sent_short law _ h refl
-call_by law s (ReleaseRefuse octets) size h = sent_short law _ h refl
-call_by law s (Abort octets) size h = sent_short law _ h refl
+call_by law s _ size h = sent_short law _ h refl
 
 -- what an accepted call sends
 pub call_short : SpduLaws → (s : State) (c : Call) (x : Step) → Passed s c x → IsSendable x.sent → length (written x.sent) ≤ 1048576

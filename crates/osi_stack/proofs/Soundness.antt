@@ -1,5 +1,5 @@
 -- What is true of every end, whatever is called and fed.
-use Rattle.std.proofs.Common.{◌≡◌, ◌≢◌, ℕ, zero, suc, ◌+◌, ◌==◌, ◌<◌, ◌≤◌, Bool, true, false, ◌||◌, List, [], ◌∷◌, ◌++◌, length, drop, nat_le, Option, Some, None, is_some, IsSome, option_map, Result, Ok, Err, refl, sym, ap, subst, ◌∙◌, inl, inr, ◌⊎◌, arith, if◌then◌else◌}
+use Rattle.std.proofs.Common.{◌≡◌, ◌≢◌, ℕ, ◌+◌, ◌==◌, ◌<◌, ◌≤◌, Bool, true, false, ◌||◌, List, ◌∷◌, ◌++◌, length, drop, nat_le, Option, Some, None, is_some, IsSome, option_map, Result, Ok, Err, refl, sym, ap, subst, ◌∙◌, inl, inr, ◌⊎◌, arith, if◌then◌else◌, []}
 use Rattle.std.proofs.lemmas.Bool.{eqb-true, eq-eqb}
 use Rattle.std.proofs.lemmas.Bool.Decides.{nat_tests}
 use Rattle.osi_tpdu.specs.Packet.{units_of}
@@ -8,48 +8,46 @@ use Rattle.osi_tpdu.specs.declared.faults.TpduFault.{TpduFault}
 use Rattle.osi_class.specs.Link.{Standing as Link}
 use Rattle.osi_class.specs.declared.terms.Class.{Class}
 use Rattle.osi_class.specs.declared.terms.Class.TheVariants.{Zero, Two}
-use Rattle.osi_carrier.specs.Calls.{open_link, may_connect, asks, sent_on, closes, closed_on, sent, sent_all, send_all_error}
+use Rattle.osi_carrier.specs.Calls.{open_link, may_connect, asks, sent_on, closes, closed_on}
 use Rattle.osi_carrier.specs.Happenings.{Happening}
 use Rattle.osi_carrier.specs.Happenings as told
-use Rattle.osi_carrier.specs.Orderly.{AreUpTo, IsOrderly, connection_of}
+use Rattle.osi_carrier.specs.Orderly.{AreUpTo, IsOrderly, connection_of, told_of}
 use Rattle.osi_carrier.specs.Packets as carriers
 use Rattle.osi_carrier.specs.React.{react as carrier_react, reacts}
-use Rattle.osi_carrier.specs.Rows.{Rows, value_at, put}
+use Rattle.osi_carrier.specs.Rows.{Rows, value_at}
 use Rattle.osi_carrier.specs.State.{Connection, State as Carrier}
 use Rattle.osi_carrier.specs.Told.{is_open, open_after}
 use Rattle.osi_carrier.specs.declared.ends.EndReason.{EndReason}
 use Rattle.osi_carrier.specs.declared.faults.OpenError.{OpenError}
-use Rattle.osi_carrier.specs.declared.faults.SendError.{SendError}
 use Rattle.osi_carrier.proofs.Apart.{beyond, push_here}
 use Rattle.osi_carrier.proofs.AtReferences.{put_up, push_other}
 use Rattle.osi_carrier.proofs.Effects.{How, effect, orderly_packet, orderly_asks, orderly_sent, orderly_closed, orderly_same, orderly_fresh}
 use Rattle.osi_carrier.proofs.ToldOpen.{packet_opens, asks_opens}
 use Rattle.osi_session.specs.Calls.{Call}
-use Rattle.osi_session.specs.Listening.{Input, Listener, called, opened, react}
+use Rattle.osi_session.specs.Listening.{Input, Listener, called, opened}
 use Rattle.osi_session.specs.Sessions.{awaits}
-use Rattle.osi_stack.specs.Calls.{connects, connect_error, after_open, terms_error, calls_with, breaks, carried, without_first, rest_by}
-use Rattle.osi_stack.specs.Feeding.{TakesPackets, Goes, Feeds}
+use Rattle.osi_stack.specs.Calls.{connects, connect_error, after_open, terms_error, calls_with, breaks, carried, without_first}
+use Rattle.osi_stack.specs.Feeding.{Feeds}
 use Rattle.osi_stack.specs.declared.connecting.Connect.{Connect}
 use Rattle.osi_stack.specs.declared.connecting.ConnectError.{ConnectError}
-use Rattle.osi_session.specs.Shown.{Shown}
 use Rattle.osi_tpdu.specs.Limits.{tsap_octets}
-use Rattle.osi_tpkt.specs.Stream.{ArePackets}
 use Rattle.osi_tpkt.specs.declared.cutting.Fed.{Fed}
 use Rattle.osi_class.specs.declared.terms.Local.{Local}
-use Rattle.osi_carrier.specs.declared.ends.EndReason.TheVariants.{Broken, NoMemory}
-use Rattle.osi_stack.specs.Hearing.{opens, hears, hears_first, hears_next, hears_times, hears_all, with_events, with_carrier, after_packet, ends, all_lost, Starves}
+use Rattle.osi_carrier.specs.declared.ends.EndReason.TheVariants.{Broken}
+use Rattle.osi_stack.specs.Hearing.{hears_times, hears_all, with_carrier, after_packet, ends, all_lost}
 use Rattle.osi_stack.specs.Links.{needs_link, AreApart, HasLinks, Soundness, IsSound}
 use Rattle.osi_stack.specs.Messages.{kept_at}
-use Rattle.osi_stack.specs.Moving.{line_by, carrier_by, by_line, to_session}
-use Rattle.osi_stack.specs.State.{Line, End, Holding, IsAttended, fresh_end, session_in, waits, is_used, used_lines, joins, fresh_line}
-use Rattle.osi_stack.specs.Transport.{sent_unless, answers_by}
-use Rattle.osi_stack.proofs.Rooms.{found_how}
-use Rattle.osi_stack.proofs.Comings.{attended_then}
-use Rattle.osi_stack.proofs.Events.{concluded_carrier, starved_over}
-use Rattle.osi_stack.proofs.Moves.{kept_first}
+use Rattle.osi_stack.specs.Moving.{line_by, by_line, to_session}
+use Rattle.osi_stack.specs.State.{Line, End, Holding, IsAttended, fresh_end, session_in, used_lines, joins, fresh_line}
+use Rattle.osi_stack.proofs.Events.{concluded_carrier}
+use Rattle.osi_stack.proofs.Moves.{kept_first, used_keep, first_keep}
 use Rattle.osi_stack.proofs.Keeping.{session_keeps}
-use Rattle.osi_stack.proofs.Lifting.{both, packet_is}
-use Rattle.osi_stack.proofs.Linking.{SessionLaws, IsLinked, AllLinked, times_linked, times_apart, times_last, apart_joins, session_linked, session_hears, session_apart, used_by, used_at, Stays, apart_push, mono, joined_lines}
+use Rattle.osi_stack.proofs.Lifting.{both, packet_is, never}
+use Rattle.osi_stack.proofs.Linking.{SessionLaws, IsLinked, AllLinked, times_linked, times_apart, times_last, apart_joins, session_linked, session_hears, session_apart, used_at, Stays, apart_push, mono, joined_lines}
+use Rattle.osi_stack.proofs.Stepwise.{Carries, session_carried, events_heard}
+use Rattle.osi_stack.proofs.Throughout.{IsKept, feeds_kept, over_beside, both_kept}
+use Rattle.osi_stack.proofs.Comings.{attended_kept}
+use Rattle.osi_stack.specs.Inputs.{input_of}
 
 -- ---- how many references were given
 
@@ -91,11 +89,6 @@ up_at_by r n rows false e up some =
 pub up_at : (r n : ℕ) (rows : Rows Connection) → AreUpTo n rows → IsSome (value_at r rows) → r ≤ n
 up_at r n rows up some = up_at_by r n rows (nat_le r n) refl up some
 
-up_used_by : (n p : ℕ) (y : Line) (live : Rows Connection) (lines : Rows Line) (u : Bool) → is_used live (p, y) ≡ u → (u ≡ true → p ≤ n) → AreUpTo n (used_lines live lines) →
-    AreUpTo n (used_lines live ((p, y) ∷ lines))
-up_used_by n p y live lines true used here more = subst (λ (l : Rows Line). AreUpTo n l) (sym (used_by live (p, y) lines true used)) (here refl, more)
-up_used_by n p y live lines false used here more = subst (λ (l : Rows Line). AreUpTo n l) (sym (used_by live (p, y) lines false used)) more
-
 or_none : (b : Bool) → (b || false) ≡ true → b ≡ true
 or_none true h = refl
 or_none false h = cc
@@ -103,92 +96,62 @@ or_none false h = cc
 -- a new line is kept only where its connection is live
 up_joined : (n r : ℕ) (s : Listener) (live : Rows Connection) (lines : Rows Line) → AreUpTo n live → AreUpTo n lines → AreUpTo n (used_lines live (joined_lines r s lines))
 up_joined n r s live [] up known =
-    up_used_by n r (fresh_line s) live [] (is_used live (r, fresh_line s)) refl
-    (λ used. up_at r n live up (or_none (is_some (value_at r live)) used)) tt
+    used_keep (AreUpTo n) live (r, fresh_line s) [] tt (λ used. (up_at r n live up (or_none (is_some (value_at r live)) used), tt))
 up_joined n r s live ((p, y) ∷ lines) up known =
-    up_used_by n p y live (joined_lines r s lines) (is_used live (p, y)) refl (λ used. known.0) (up_joined n r s live lines up known.1)
+    let more = up_joined n r s live lines up known.1 in
+    used_keep (AreUpTo n) live (p, y) (joined_lines r s lines) more (λ used. (known.0, more))
 
 -- ---- what a session leaves of its carrier
 
-pub record Leaves (old new : Carrier) : Type 0 where
-  pub orderly : IsOrderly old → IsOrderly new
-  pub given : new.given ≡ old.given
-
-leaves_same : (c : Carrier) → Leaves c c
-leaves_same c = record { orderly = λ h. h; given = refl }
-
-sent_given : (r : ℕ) (tsdu : List ℕ) (o : Option (ℕ × Link)) (c : Carrier) → (sent_on r tsdu o c).given ≡ c.given
+pub sent_given : (r : ℕ) (tsdu : List ℕ) (o : Option (ℕ × Link)) (c : Carrier) → (sent_on r tsdu o c).given ≡ c.given
 sent_given r tsdu None c = refl
 sent_given r tsdu (Some link) c = refl
-
-then_leaves : (a b c : Carrier) → Leaves a b → Leaves b c → Leaves a c
-then_leaves a b c h k = record { orderly = λ e. k.orderly (h.orderly e); given = k.given ∙ h.given }
-
-all_leave : (r : ℕ) (tsdus : List (List ℕ)) (c : Carrier) → Leaves c (sent_all r tsdus c)
-all_leave r [] c = leaves_same c
-all_leave r (tsdu ∷ tsdus) c =
-    then_leaves c (sent r tsdu c) (sent_all r tsdus (sent r tsdu c)) (record { orderly = orderly_sent r tsdu c; given = sent_given r tsdu (open_link r c) c }) (all_leave r tsdus (sent r tsdu c))
-
-unless_leaves : (o : Option SendError) (r : ℕ) (tsdus : List (List ℕ)) (c : Carrier) → Leaves c (sent_unless o r tsdus c)
-unless_leaves None r tsdus c = all_leave r tsdus c
-unless_leaves (Some e) r tsdus c = leaves_same c
 
 closes_given : (r peer reason : ℕ) (class : Option Class) (c : Carrier) → (closes r peer reason class c).given ≡ c.given
 closes_given r peer reason None c = refl
 closes_given r peer reason (Some Two) c = refl
 closes_given r peer reason (Some Zero) c = refl
 
-closed_given : (r reason : ℕ) (o : Option (ℕ × Link)) (c : Carrier) → (closed_on r reason o c).given ≡ c.given
+pub closed_given : (r reason : ℕ) (o : Option (ℕ × Link)) (c : Carrier) → (closed_on r reason o c).given ≡ c.given
 closed_given r reason None c = refl
 closed_given r reason (Some (peer, link)) c = closes_given r peer reason c.class c
-
-answers_leave : (closing : Bool) (r : ℕ) (tsdus : List (List ℕ)) (c : Carrier) → Leaves c (answers_by closing r tsdus c)
-answers_leave true r tsdus c = record { orderly = orderly_closed r 128 c; given = closed_given r 128 (open_link r c) c }
-answers_leave false r tsdus c = unless_leaves (send_all_error tsdus (open_link r c)) r tsdus c
-
-pub carrier_leaves : (r : ℕ) (o : Option Listener) (input : Input) (c : Carrier) → Leaves c (carrier_by r o input c)
-carrier_leaves r None input c = leaves_same c
-carrier_leaves r (Some s) input c = answers_leave (react s input).closes r _ c
 
 -- the carrier is orderly, and lines have references that were given
 pub record Fits (e : End) : Type 0 where
   pub orderly : IsOrderly e.carrier
   pub known : AreUpTo e.carrier.given e.lines
 
-line_fits : (r : ℕ) (input : Input) (e : End) (o : Option Line) → Fits e → Fits (by_line r o input e)
-line_fits r input e None f = f
-line_fits r input e (Some line) f =
-    let l = carrier_leaves r line.session input e.carrier in
-    record {
-      orderly = l.orderly f.orderly;
-      known = subst (λ n. AreUpTo n (put r (line_by line line.session input) e.lines)) (sym l.given) (put_up e.carrier.given r (line_by line line.session input) e.lines f.known);
-    }
+-- what happens to a session keeps them
+sessions_fit : (g : ℕ) → Carries (λ c. IsOrderly c × (c.given ≡ g))
+sessions_fit g = record {
+  sends = λ r tsdu c p. (orderly_sent r tsdu c p.0, sent_given r tsdu (open_link r c) c ∙ p.1);
+  closes = λ r c p. (orderly_closed r 128 c p.0, closed_given r 128 (open_link r c) c ∙ p.1);
+}
+
+pub session_leaves : (r : ℕ) (input : Input) (e : End) → IsOrderly e.carrier → IsOrderly (to_session r input e).carrier × ((to_session r input e).carrier.given ≡ e.carrier.given)
+session_leaves r input e h = session_carried (λ c. IsOrderly c × (c.given ≡ e.carrier.given)) (sessions_fit e.carrier.given) r input e (h, refl)
+
+line_up : (n r : ℕ) (input : Input) (e : End) (o : Option Line) → AreUpTo n e.lines → AreUpTo n (by_line r o input e).lines
+line_up n r input e None up = up
+line_up n r input e (Some line) up = put_up n r (line_by line line.session input) e.lines up
+
+pub session_up : (n r : ℕ) (input : Input) (e : End) → AreUpTo n e.lines → AreUpTo n (to_session r input e).lines
+session_up n r input e up = line_up n r input e (value_at r e.lines) up
 
 pub session_fits : (r : ℕ) (input : Input) (e : End) → Fits e → Fits (to_session r input e)
-session_fits r input e f = line_fits r input e (value_at r e.lines) f
+session_fits r input e f =
+    let l = session_leaves r input e f.orderly in
+    record { orderly = l.0; known = subst (λ n. AreUpTo n (to_session r input e).lines) (sym l.1) (session_up e.carrier.given r input e f.known) }
 
 pub joins_fits : (r : ℕ) (s : Listener) (e : End) → Fits e → Fits (joins r s e)
 joins_fits r s e f = record { orderly = f.orderly; known = up_joined e.carrier.given r s e.carrier.live e.lines f.orderly.up_to f.known }
 
-opens_fits : (r : ℕ) (e : End) (o : Option Line) → Fits e → Fits (opens r o e)
-opens_fits r e None f = joins_fits r awaits e f
-opens_fits r e (Some line) f = session_fits r opened e f
-
-hears_fits : (event : Happening) (e : End) → Fits e → Fits (hears event e)
-hears_fits (told.opened q) e f = opens_fits q e (value_at q e.lines) f
-hears_fits (told.refused q reason) e f = session_fits q _ e f
-hears_fits (told.tsdu q octets) e f = session_fits q _ e f
-hears_fits (told.closed q reason) e f = session_fits q _ e f
-hears_fits (told.faulted q fault) e f = session_fits q _ e f
-
-first_fits : (l : List Happening) (e : End) → Fits e → Fits (hears_first l e)
-first_fits [] e f = f
-first_fits (event ∷ rest) e f =
-    hears_fits event (with_events rest e) (record { orderly = orderly_same e.carrier e.carrier.outgoing rest f.orderly; known = f.known })
-
 pub times_fits : (n : ℕ) (e : End) → Fits e → Fits (hears_times n e)
-times_fits zero e f = f
-times_fits (suc n) e f = times_fits n (hears_next e) (first_fits e.carrier.events e f)
+times_fits n e f =
+    events_heard Fits (λ events x f. record { orderly = orderly_same x.carrier x.carrier.outgoing events f.orderly; known = f.known }) (record {
+      begins = λ r x none f. joins_fits r awaits x f;
+      moves = λ event x f. session_fits (told_of event) (input_of event) x f;
+    }) n e f
 
 -- ---- links
 
@@ -317,33 +280,22 @@ connect_sound c e allowed sound over =
 
 -- ---- indications and octets that go
 
-first_up_by : (n r : ℕ) (line : Line) (waiting : List Shown) (lines : Rows Line) → r ≤ n → AreUpTo n lines → AreUpTo n (without_first lines) →
-    AreUpTo n (rest_by r line waiting lines (without_first lines))
-first_up_by n r line [] lines here up more = (here, more)
-first_up_by n r line (shown ∷ waiting) lines here up more = (here, up)
-
 first_up : (n : ℕ) (lines : Rows Line) → AreUpTo n lines → AreUpTo n (without_first lines)
 first_up n [] up = tt
-first_up n ((r, line) ∷ lines) up = first_up_by n r line line.waiting lines up.0 up.1 (first_up n lines up.1)
+first_up n ((r, line) ∷ lines) up = first_keep (AreUpTo n) r line lines (up.0, first_up n lines up.1) (λ left. up)
 
-first_gone_by : (q r : ℕ) (line : Line) (waiting : List Shown) (lines : Rows Line) (b : Bool) → (r == q) ≡ b → value_at q ((r, line) ∷ lines) ≡ None →
-    (value_at q lines ≡ None → value_at q (without_first lines) ≡ None) → value_at q (rest_by r line waiting lines (without_first lines)) ≡ None
-first_gone_by q r line waiting lines true e none more = let there : Some line ≡ None = rw e at none in cc
-first_gone_by q r line [] lines false e none more = rw e (more (rw e at none))
-first_gone_by q r line (shown ∷ waiting) lines false e none more = rw e (rw e at none)
+first_gone_by : (q r : ℕ) (line : Line) (lines : Rows Line) (b : Bool) → (r == q) ≡ b → value_at q ((r, line) ∷ lines) ≡ None →
+    (value_at q lines ≡ None → value_at q (without_first lines) ≡ None) → value_at q (without_first ((r, line) ∷ lines)) ≡ None
+first_gone_by q r line lines true e none more = let there : Some line ≡ None = rw e at none in cc
+first_gone_by q r line lines false e none more = first_keep (λ l. value_at q l ≡ None) r line lines (rw e (more (rw e at none))) (λ left. rw e (rw e at none))
 
 first_gone : (q : ℕ) (lines : Rows Line) → value_at q lines ≡ None → value_at q (without_first lines) ≡ None
 first_gone q [] none = refl
-first_gone q ((r, line) ∷ lines) none = first_gone_by q r line line.waiting lines (r == q) refl none (first_gone q lines)
-
-first_apart_by : (r : ℕ) (line : Line) (waiting : List Shown) (lines : Rows Line) → value_at r lines ≡ None → AreApart lines → AreApart (without_first lines) →
-    AreApart (rest_by r line waiting lines (without_first lines))
-first_apart_by r line [] lines alone apart more = (first_gone r lines alone, more)
-first_apart_by r line (shown ∷ waiting) lines alone apart more = (alone, apart)
+first_gone q ((r, line) ∷ lines) none = first_gone_by q r line lines (r == q) refl none (first_gone q lines)
 
 first_apart : (lines : Rows Line) → AreApart lines → AreApart (without_first lines)
 first_apart [] apart = tt
-first_apart ((r, line) ∷ lines) apart = first_apart_by r line line.waiting lines apart.0 apart.1 (first_apart lines apart.1)
+first_apart ((r, line) ∷ lines) apart = first_keep AreApart r line lines (first_gone r lines apart.0, first_apart lines apart.1) (λ left. apart)
 
 pub first_sound : (e : End) → IsSound e → IsSound (record e { lines = without_first e.lines })
 first_sound e sound over =
@@ -365,60 +317,24 @@ carried_sound octets e sound over =
       links = s.links;
     }
 
-ended_sound : (e : End) (reason : EndReason) → e.carrier.ended ≡ Some reason → IsSound e
-ended_sound e reason is over = let no : None ≡ Some reason = sym over ∙ is in cc
+over_sound : (e : End) → is_some e.carrier.ended ≡ true → IsSound e
+over_sound e over lasts = never e over lasts
 
-breaks_by : (o : Option EndReason) (e : End) → e.carrier.ended ≡ o → IsSound (if is_some o then e else ends Broken e)
-breaks_by None e is = ended_sound (ends Broken e) Broken refl
-breaks_by (Some reason) e is = ended_sound e reason is
+breaks_by : (b : Bool) (e : End) → is_some e.carrier.ended ≡ b → IsSound (if b then e else ends Broken e)
+breaks_by true e is = over_sound e is
+breaks_by false e is = over_sound (ends Broken e) refl
 
 pub breaks_sound : (e : End) → IsSound (breaks e)
-breaks_sound e = breaks_by e.carrier.ended e refl
+breaks_sound e = breaks_by (is_some e.carrier.ended) e refl
 
 -- ---- feeding
 
-pub lasting_of : (o : Option EndReason) (b : Bool) → (is_some o || b) ≡ false → o ≡ None
-lasting_of None b h = refl
-lasting_of (Some reason) b h = cc
+-- while it lasts, an end has heard all that its carrier told
+abbrev pub IsHale : End → Type 0
+IsHale e = IsAttended e × IsSound e
 
-pub packets_sound : SessionLaws → (units : List (List ℕ)) (old new : End) → TakesPackets old units new → IsAttended old → IsSound old → IsSound new
-packets_sound laws [] old new h attended sound = subst IsSound (sym h) sound
-packets_sound laws (u ∷ units) old new h attended sound =
-    let lasts = lasting_of old.carrier.ended (waits old.lines) h.0 in
-    packets_sound laws units (after_packet old u) new h.1 (attended_then (with_carrier (carriers.after_packet old.carrier u) old) (after_packet old u) (packet_is old u))
-    (packet_sound laws u old lasts (attended lasts) sound)
-
-never : (e : End) → is_some e.carrier.ended ≡ true → IsSound e
-never e over lasts = let no : is_some e.carrier.ended ≡ false = ap is_some lasts in both (is_some e.carrier.ended) over no
-
-starved_sound : (e new : End) (packet : List ℕ) → Starves e packet new → IsSound new
-starved_sound e new packet (inl h) = λ lasts.
-    let mid = with_carrier h.0 e in
-    let heard : (hears_all mid).carrier.ended ≡ None = sym (ap (λ (x : Carrier). x.ended) (concluded_carrier (hears_all mid))) ∙ ap (λ (x : End). x.carrier.ended) (sym h.2) ∙ lasts in
-    let told : h.0.ended ≡ None = times_last (length h.0.events) mid heard in
-    let over : is_some h.0.ended ≡ true = ap (λ (c : Carrier). is_some c.ended) h.1.2.ended in
-    let no : is_some h.0.ended ≡ false = ap is_some told in
-    both (is_some h.0.ended) over no
-starved_sound e new packet (inr h) =
-    never new (ap (λ (x : End). is_some x.carrier.ended) h.2.starved ∙ starved_over (with_events h.2.more (hears_times h.2.heard (with_carrier h.0 e))))
-
-none_found : (e new : End) (rest : List ℕ) → (new ≡ ends NoMemory e) ⊎ ((packet : List ℕ) × ArePackets (packet ∷ []) rest [] × Starves e packet new) → IsSound new
-none_found e new rest (inl is) = never new (ap (λ (x : End). is_some x.carrier.ended) is)
-none_found e new rest (inr p) = starved_sound e new p.0 p.2
-
-goes_sound : SessionLaws → (old new : Holding) (piece : List ℕ) (used : ℕ) → Goes old piece used new → IsAttended old.end → IsSound old.end → IsSound new.end
-goes_sound laws old new piece used (inl (inl h)) attended sound = packets_sound laws h.units old.end new.end h.taken attended sound
-goes_sound laws old new piece used (inl (inr h)) attended sound = packets_sound laws h.units old.end new.end h.taken attended sound
-goes_sound laws old new piece used (inr (inl h)) attended sound = never new.end (ap (λ (x : End). is_some x.carrier.ended) h.ended)
-goes_sound laws old new piece used (inr (inr h)) attended sound = none_found h.before new.end h.rest (found_how old piece used new h)
-
-feeds_by : SessionLaws → (old new : Holding) (piece : List ℕ) (fed : Fed) (o : Option EndReason) (b : Bool) → old.end.carrier.ended ≡ o → waits old.end.lines ≡ b →
-    Feeds old piece fed new → IsAttended old.end → IsSound old.end → IsSound new.end
-feeds_by laws old new piece fed (Some reason) b is waiting h attended sound =
-    subst (λ (x : Holding). IsSound x.end) (sym (h.over (ap is_some is)).1) sound
-feeds_by laws old new piece fed None true is waiting h attended sound = subst (λ (x : Holding). IsSound x.end) (sym (h.waiting is waiting).1) sound
-feeds_by laws old new piece fed None false is waiting h attended sound =
-    goes_sound laws old new piece fed.used (h.goes (ap (λ (o : Option EndReason). is_some o || waits old.end.lines) is ∙ waiting)) attended sound
+pub hale_kept : SessionLaws → IsKept IsHale
+hale_kept laws = both_kept IsAttended IsSound attended_kept (over_beside IsAttended IsSound (λ packet e lasts attended. packet_sound laws packet e lasts (attended lasts)) over_sound)
 
 pub feeds_sound : SessionLaws → (old new : Holding) (piece : List ℕ) (fed : Fed) → Feeds old piece fed new → IsAttended old.end → IsSound old.end → IsSound new.end
-feeds_sound laws old new piece fed h attended sound = feeds_by laws old new piece fed old.end.carrier.ended (waits old.end.lines) refl refl h attended sound
+feeds_sound laws old new piece fed h attended sound = (feeds_kept IsHale (hale_kept laws) old new piece fed h (attended, sound)).1

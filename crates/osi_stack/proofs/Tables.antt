@@ -7,6 +7,7 @@ use Rattle.osi_session.proofs.PhaseLaws.{implied, excluded}
 use Rattle.osi_stack.specs.Links.{needs_link}
 use Rattle.osi_stack.proofs.Lifting.{both}
 use Rattle.osi_stack.proofs.Linking.{SessionLaws}
+use Rattle.osi_stack.proofs.InLive.{or_either}
 
 -- ---- what happens to a session
 
@@ -24,10 +25,6 @@ pub record Published : Type 0 where
   pub closed : (s : Listener) (input : Input) → (react s input).closes ≡ true → is_ended (react s input).next.state.phase ≡ true
   pub waiting : (s : Listener) (input : Input) → (input ≡ opened → ⊥) → is_wait_transport s.state.phase ≡ true →
       (is_wait_transport (react s input).next.state.phase || is_over (react s input).next.state.phase) ≡ true
-
-or_either : (a b : Bool) → (a || b) ≡ true → a ≡ false → b ≡ true
-or_either false b h e = h
-or_either true b h e = cc
 
 -- a session that needs no connection yet, or none any more
 idle : (p : Phase) → needs_link p ≡ false → (is_wait_transport p || is_over p) ≡ true

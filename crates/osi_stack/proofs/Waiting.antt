@@ -137,3 +137,11 @@ pub heard_stays : {A E : Type 0} (result : Result A E) (row new : ℕ × Line) (
     OnErr result (new ≡ (row.0, loses row.1)) → line_waits row.1 ≡ true → line_waits new.1 ≡ true
 heard_stays (Ok a) row new input ok lost h = ap (λ (x : ℕ × Line). line_waits x.1) ok ∙ line_stays row.1 row.1.session input h
 heard_stays (Err e) row new input ok lost h = ap (λ (x : ℕ × Line). line_waits x.1) lost ∙ more_wait row.1.waiting (shown_at_loss row.1.session) h
+
+-- where it is not counted anew, it waited and waits, or it did not and does not
+pub still_quiet : (before after : Bool) → (before ≡ true → after ≡ true) → after ≡ false → before ≡ false
+still_quiet true after stays none = let some = stays refl in cc
+still_quiet false after stays none = refl
+
+pub still_counted : (n : ℕ) (before after : Bool) → before ≡ after → n + cond before 1 0 ≡ n + cond after 1 0
+still_counted n before after same = ap (λ (b : Bool). n + cond b 1 0) same

@@ -146,13 +146,6 @@ call_error r call e = if not (has_given r e.carrier) then Some error.NoSuchConne
 abbrev pub table_error : ℕ → Call → End → Option CallError
 table_error r call e = if not (has_given r e.carrier) then Some error.NoSuchConnection else session_error (session_at r e) call
 
--- what a session answers that is there, be its connection live or not
-abbrev pub kept_call_error : ℕ → Call → End → Option CallError
-kept_call_error r call e = if not (has_given r e.carrier) then Some error.NoSuchConnection else session_refusal r (session_in (value_at r e.lines)) call e.carrier
-
-abbrev pub kept_table_error : ℕ → Call → End → Option CallError
-kept_table_error r call e = if not (has_given r e.carrier) then Some error.NoSuchConnection else session_error (session_in (value_at r e.lines)) call
-
 -- an error as the rules give it: want of memory comes where they give none
 abbrev pub by_rule : CallError → Option CallError
 by_rule e = if is_memory e then None else Some e

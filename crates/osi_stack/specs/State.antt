@@ -4,6 +4,7 @@ use Rattle.std.specs.List.{list_any, count_by, filter, sum_by}
 use Rattle.osi_tpkt.specs.Held.{Held}
 use Rattle.osi_class.specs.declared.terms.Local.{Local}
 use Rattle.osi_carrier.specs.Calls.{fresh_state, kept_in}
+use Rattle.osi_carrier.specs.Packets.{Carrying}
 use Rattle.osi_carrier.specs.Rows.{Rows, value_at}
 use Rattle.osi_carrier.specs.State.{Connection, State as Carrier}
 use Rattle.osi_session.specs.Joining.{joined_octets}
@@ -28,6 +29,10 @@ pub record Holding : Type 0 where
   pub end : End
   -- the packet under way
   pub held : Held
+
+-- an end with this carrier and these lines
+abbrev pub holding : Carrying → Rows Line → Holding
+holding c lines = record { end = record { carrier = c.state; lines = lines }; held = c.held }
 
 -- nothing has happened
 abbrev pub fresh_end : Bool → Local → End

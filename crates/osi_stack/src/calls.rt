@@ -15,23 +15,6 @@ use crate::transport::{send_call, send_owned_call};
 use osi_carrier::Carrier;
 use osi_session::{CallError, PlannedPoint, Request, Session};
 
-/// Sends data, which leaves the session as it is. Each error changes nothing.
-fn make_data_call(
-    session: &Session,
-    carrier: &mut Carrier,
-    reference: u16,
-    user_data: &[u8],
-) -> Result<(), CallError>
-    ensures session { OnOk result (session.now ≡ (react session.now (called (Data user_data.now))).next) }
-    ensures carrier { OnOk result (carrier.new ≡ record carrier.old { state = answers reference (limit_of session.now.state) (react session.now (called (Data user_data.now))) carrier.old.state }) }
-    ensures allowed { OnOk result (move_refusal reference (limit_of session.now.state) (react session.now (called (Data user_data.now))) carrier.old.state ≡ None) }
-    ensures refused { IfErr result (λ e. Refuses e (react session.now (called (Data user_data.now))).error (move_refusal reference (limit_of session.now.state) (react session.now (called (Data user_data.now))) carrier.old.state)) }
-    ensures err { OnErr result (carrier.new ≡ carrier.old) }
-{
-    let sent = session.call_data(user_data)?;
-    send_owned_call(carrier, reference, sent)
-}
-
 /// Sends a point, and then the session has the numbers behind it. Each error changes nothing.
 fn send_point(
     session: &mut Session,
@@ -124,7 +107,8 @@ fn make_planned_call(
     Ok(())
 }
 
-/// Sends what a call of the user does, and then the session does it. Each error changes nothing.
+/// Sends what a call of the user does, and then the session does it: data leaves it as it is. Each error
+/// changes nothing.
 pub fn make_call(
     session: &mut Session,
     carrier: &mut Carrier,
@@ -138,7 +122,10 @@ pub fn make_call(
     ensures err { OnErr result ((session.new ≡ session.old) × (carrier.new ≡ carrier.old)) }
 {
     match request {
-        Request::Data { user_data } => make_data_call(session, carrier, reference, user_data),
+        Request::Data { user_data } => {
+            let sent = session.call_data(user_data)?;
+            send_owned_call(carrier, reference, sent)
+        }
         Request::Minor { confirm, user_data } => {
             make_minor_call(session, carrier, reference, confirm, user_data)
         }

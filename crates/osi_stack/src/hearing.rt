@@ -69,19 +69,6 @@ fn show(waiting: &mut VecDeque<Indication>, first: Indication, more: Vec<Indicat
     };
 }
 
-/// One indication waits more, and there is room for one behind it. Want of memory changes no indication.
-fn show_one(waiting: &mut VecDeque<Indication>, indication: Indication) -> Result<(), AllocError>
-    ensures items { OnOk result (map shown_by waiting.new.items ≡ map shown_by waiting.old.items ++ shown_by indication ∷ []) }
-    ensures room { OnOk result (deque_len waiting.new < deque_capacity waiting.new) }
-    ensures kept { OnErr result (waiting.new.items ≡ waiting.old.items) }
-    ensures len { OnErr result (deque_len waiting.new ≡ deque_len waiting.old) }
-    ensures capacity { OnErr result (deque_capacity waiting.old ≤ deque_capacity waiting.new) }
-{
-    waiting.reserve(2)?;
-    waiting.push_back_reserved(indication);
-    Ok(())
-}
-
 /// Whether a connection is asked for.
 fn is_connect(shown: &Indication) -> bool
     ensures { result ≡ is_connect (shown_by shown.now) }
@@ -129,44 +116,10 @@ fn hear_any(
     Ok(connects)
 }
 
-/// A session takes a TSDU. Data, points and confirmations that it expects are shown straight.
-fn hear_tsdu(
-    alloc: Global,
-    session: &mut Session,
-    waiting: &mut VecDeque<Indication>,
-    octets: &[u8],
-    carrier: &mut Carrier,
-    reference: u16,
-) -> Result<bool, AllocError>
-    requires { deque_len waiting.old < deque_capacity waiting.old }
-    ensures connects { IfOk result (λ b. b ≡ shows_connect (react session.old (came octets.now)).shown) }
-    ensures session { OnOk result (session.new ≡ (react session.old (came octets.now)).next) }
-    ensures shown { OnOk result (map shown_by waiting.new.items ≡ map shown_by waiting.old.items ++ (react session.old (came octets.now)).shown) }
-    ensures room { OnOk result (deque_len waiting.new < deque_capacity waiting.new) }
-    ensures carrier { OnOk result (carrier.new ≡ record carrier.old { state = answers reference (limit_for session.old (came octets.now)) (react session.old (came octets.now)) carrier.old.state }) }
-    ensures kept { OnErr result (waiting.new.items ≡ waiting.old.items) }
-    ensures len { OnErr result (deque_len waiting.new ≡ deque_len waiting.old) }
-    ensures capacity { OnErr result (deque_capacity waiting.old ≤ deque_capacity waiting.new) }
-    ensures err { OnErr result (carrier.new ≡ carrier.old) }
-    ensures needed { OnErr result (session_needs reference (Some session.old) (came octets.now) carrier.old.state ≡ true) }
-{
-    match session.take_expected(octets) {
-        Ok(Some(indication)) => {
-            let connects = is_connect(&indication);
-            show_one(waiting, indication)?;
-            Ok(connects)
-        }
-        Ok(None) => {
-            let told = Told::Tsdu(octets);
-            hear_any(alloc, session, waiting, told, carrier, reference)
-        }
-        Err(error) => Err(error),
-    }
-}
-
 /// A session hears what happens to it; says whether its user is shown that a connection is asked for.
 /// There is room for one indication, and behind it for one more. Memory is needed only where something is
 /// shown, sent or joined, or a DR is written; want of it leaves the indications that wait, and the carrier.
+/// Data, points and confirmations that it expects are shown straight.
 pub fn hear(
     alloc: Global,
     session: &mut Session,
@@ -187,8 +140,13 @@ pub fn hear(
     ensures err { OnErr result (carrier.new ≡ carrier.old) }
     ensures needed { OnErr result (session_needs reference (Some session.old) (told_input told.entry) carrier.old.state ≡ true) }
 {
-    match told {
-        Told::Tsdu(octets) => hear_tsdu(alloc, session, waiting, octets, carrier, reference),
-        _ => hear_any(alloc, session, waiting, told, carrier, reference),
+    if let Told::Tsdu(octets) = told {
+        if let Some(indication) = session.take_expected(octets)? {
+            let connects = is_connect(&indication);
+            waiting.reserve(2)?;
+            waiting.push_back_reserved(indication);
+            return Ok(connects);
+        }
     }
+    hear_any(alloc, session, waiting, told, carrier, reference)
 }

@@ -6,13 +6,15 @@
 mod addresses;
 mod calls;
 mod connecting;
+mod connects;
 mod hearing;
-mod hub;
 pub mod laws;
 mod lines;
 mod names;
+mod reading;
 mod selectors;
 mod stacks;
+mod telling;
 mod told;
 mod transport;
 

@@ -165,14 +165,6 @@ impl Line {
         }
     }
 
-    /// The oldest indication that waits.
-    fn next(&mut self) -> Option<Indication>
-        ensures tells { TellsOf (option_map shown_by result) self.old self.new }
-        ensures reference { self.new.0 ≡ self.old.0 }
-    {
-        self.waiting.pop_front()
-    }
-
     /// The session hears what happens to it. For want of memory it is lost as it was before.
     fn hear(
         &mut self,
@@ -262,28 +254,16 @@ impl Model for Lines {
     ghost invariant = { λ l. (l.waiting ≡ how_many_wait l.rows.items) × (l.rises ≡ true → RiseFrom 0 l.rows.items) };
 }
 
-/// The place of the only connection for which an indication waits, where it is that which heard last.
-#[inline]
-fn only_place(rows: &[Line], waiting: usize, heard: usize) -> Option<usize>
-    requires { waiting ≡ how_many_wait rows.now }
-    ensures { IfSome result (λ place. position (λ row. line_waits row.1) rows.now ≡ Some place) }
-{
-    if waiting == 1 && heard < rows.len() && rows[heard].waits() {
-        return Some(heard);
-    }
-    None
-}
-
 /// The place of the first connection for which an indication waits, where one waits for so many, and
-/// this one heard last.
+/// this one heard last: where it is the only one, that is mostly it.
 fn first_place(rows: &[Line], waiting: usize, heard: usize) -> Option<usize>
     requires { waiting ≡ how_many_wait rows.now }
     ensures { result ≡ position (λ row. line_waits row.1) rows.now }
 {
-    match only_place(rows, waiting, heard) {
-        Some(place) => Some(place),
-        None => rows.iter().position(|line| line.waits()),
+    if waiting == 1 && heard < rows.len() && rows[heard].waits() {
+        return Some(heard);
     }
+    rows.iter().position(|line| line.waits())
 }
 
 /// For how many connections an indication waits.
@@ -311,28 +291,6 @@ fn count_joined(rows: &[Line], carrier: &Carrier) -> usize
         octets += line.joined(carrier);
     }
     octets
-}
-
-/// For how many of so many lines an indication waits, where one heard something: what waited there waits
-/// on.
-fn count_heard(waiting: usize, lines: usize, before: bool, after: bool) -> usize
-    requires kept { before ≡ true → after ≡ true }
-    requires room { before ≡ false → waiting < lines }
-    ensures { result + cond before 1 0 ≡ waiting + cond after 1 0 }
-{
-    if after && !before {
-        waiting + 1
-    } else {
-        waiting
-    }
-}
-
-/// The same where one told its oldest indication, and now another waits there or none.
-fn count_told(waiting: usize, after: bool) -> usize
-    requires { 0 < waiting }
-    ensures { result + 1 ≡ waiting + cond after 1 0 }
-{
-    if after { waiting } else { waiting - 1 }
 }
 
 /// Drops those that are gone and for which nothing waits.
@@ -381,25 +339,19 @@ impl Lines {
         count_joined(self.rows.as_slice(), carrier)
     }
 
-    /// The place of a reference.
-    fn find(&self, reference: u16) -> Option<usize>
-        ensures { result ≡ place_of reference self.now }
-    {
-        place_in(self.rows.as_slice(), self.rises, reference)
-    }
-
     /// Whether a connection has this reference.
     pub fn has(&self, reference: u16) -> bool
         ensures { result ≡ is_some (value_at reference self.now) }
     {
-        self.find(reference).is_some()
+        place_in(self.rows.as_slice(), self.rises, reference).is_some()
     }
 
     /// The session of a reference.
     pub fn session(&self, reference: u16) -> Option<&Session>
         ensures { option_map (λ s. s.now) result ≡ session_in (value_at reference self.now) }
     {
-        let Some(place) = self.find(reference) else {
+        let place = place_in(self.rows.as_slice(), self.rises, reference);
+        let Some(place) = place else {
             return None;
         };
         self.rows[place].session()
@@ -409,7 +361,8 @@ impl Lines {
     pub fn selectors(&self, reference: u16) -> Option<SessionSelectors>
         ensures { option_map session_selectors result ≡ selectors_in (value_at reference self.now) }
     {
-        let Some(place) = self.find(reference) else {
+        let place = place_in(self.rows.as_slice(), self.rises, reference);
+        let Some(place) = place else {
             return None;
         };
         self.rows[place].selectors()
@@ -428,11 +381,12 @@ impl Lines {
         };
         let line = &mut self.rows[place];
         let reference = line.reference();
-        let Some(indication) = line.next() else {
+        let Some(indication) = line.waiting.pop_front() else {
             return None;
         };
-        let after = line.waits();
-        self.waiting = count_told(self.waiting, after);
+        if !line.waits() {
+            self.waiting -= 1;
+        }
         Some((Ref(reference), indication))
     }
 
@@ -452,15 +406,15 @@ impl Lines {
         ensures err { OnErr result (carrier.new ≡ carrier.old) }
         ensures needed { OnErr result (session_needs reference (session_in (value_at reference self.old)) (told_input told.entry) carrier.old.state ≡ true) }
     {
-        let Some(place) = self.find(reference) else {
+        let Some(place) = place_in(self.rows.as_slice(), self.rises, reference) else {
             return Ok(());
         };
-        let lines = self.rows.len();
         let line = &mut self.rows[place];
-        let before = line.waits();
+        let waited = line.waits();
         let result = line.hear(alloc, told, carrier);
-        let after = line.waits();
-        self.waiting = count_heard(self.waiting, lines, before, after);
+        if line.waits() && !waited {
+            self.waiting += 1;
+        }
         self.heard = place;
         result
     }
@@ -478,7 +432,8 @@ impl Lines {
         ensures refused { IfErr result (λ e. Refuses e (session_error (session_in (value_at reference self.old)) (called_by request.entry)) (session_refusal reference (session_in (value_at reference self.old)) (called_by request.entry) carrier.old.state)) }
         ensures err { OnErr result ((self.new ≡ self.old) × (carrier.new ≡ carrier.old)) }
     {
-        let Some(place) = self.find(reference) else {
+        let place = place_in(self.rows.as_slice(), self.rises, reference);
+        let Some(place) = place else {
             return Err(CallError::Ended);
         };
         let line = &mut self.rows[place];

@@ -2,14 +2,17 @@
 
 use crate::addresses::Addresses;
 use crate::connecting::{Connect, ConnectError};
-use crate::hub::Hub;
+use crate::connects::ask;
 use crate::laws::{
     a_call_of_a_settled_end_is_answered_by_its_session, an_end_is_settled_between_calls,
     what_waits_is_told_in_order,
 };
+use crate::lines::Lines;
+use crate::reading::read;
 use osi_carrier::{Carrier, EndReason, Ref};
 use osi_class::Local;
-use osi_session::{CallError, Indication, Phase, Request};
+use osi_message::Tokens;
+use osi_session::{CallError, Indication, Phase, Request, Session};
 use osi_spdu::TokenSet;
 use osi_tpkt::Fed;
 use std::alloc::Global;
@@ -19,7 +22,9 @@ use std::marker::Model;
 /// Each connection has a reference of this end.
 #[derive(Drop)]
 pub struct Stack {
-    hub: Hub,
+    alloc: Global,
+    carrier: Carrier,
+    lines: Lines,
 }
 
 impl Model for Stack {
@@ -28,10 +33,11 @@ impl Model for Stack {
     ghost Value = { Holding };
 
     ghost use Rattle.osi_stack.specs.Settled.{IsSettled};
+    ghost use Rattle.osi_stack.specs.State.{holding};
 
-    ghost view = { λ s. s.hub };
+    ghost view = { λ s. holding s.carrier s.lines };
 
-    ghost invariant = { λ s. IsSettled s.hub.end };
+    ghost invariant = { λ s. IsSettled (holding s.carrier s.lines).end };
 }
 
 impl Stack {
@@ -46,7 +52,7 @@ impl Stack {
     ghost use Rattle.osi_session.specs.Phases.{shows_loss};
     ghost use Rattle.osi_session.specs.Shown.{shown_by};
     ghost use Rattle.osi_stack.specs.Addresses.{addresses, addresses_at};
-    ghost use Rattle.osi_stack.specs.Calls.{connect_error, refusal, connects, call_error, table_error, Refuses, by_rule, held_by, phase_at, numbers_of, first_shown, without_first, carried, breaks};
+    ghost use Rattle.osi_stack.specs.Calls.{connect_error, refusal, connects, call_error, table_error, Refuses, by_rule, has_given, held_by, phase_at, numbers_of, first_shown, without_first, carried, breaks};
     ghost use Rattle.osi_stack.specs.Feeding.{Feeds};
     ghost use Rattle.osi_stack.specs.Moving.{to_session};
     ghost use Rattle.osi_stack.specs.Ordered.{TellsLowest};
@@ -58,7 +64,9 @@ impl Stack {
     {
         an_end_is_settled_between_calls();
         Stack {
-            hub: Hub::new(alloc, Carrier::caller(alloc, local)),
+            alloc,
+            carrier: Carrier::caller(alloc, local),
+            lines: Lines::new(alloc),
         }
     }
 
@@ -68,8 +76,27 @@ impl Stack {
     {
         an_end_is_settled_between_calls();
         Stack {
-            hub: Hub::new(alloc, Carrier::called(alloc, local)),
+            alloc,
+            carrier: Carrier::called(alloc, local),
+            lines: Lines::new(alloc),
         }
+    }
+
+    /// Whether this end gave a reference.
+    fn has_given(&self, reference: Ref) -> bool
+        ensures { result ≡ has_given reference.0 self.now.end.carrier }
+    {
+        reference.0 > 0 && reference.0 <= self.carrier.given()
+    }
+
+    /// The session of a live connection.
+    fn session(&self, reference: Ref) -> Option<&Session>
+        ensures { option_map (λ s. s.now) result ≡ session_at reference.0 self.now.end }
+    {
+        if !self.carrier.is_live(reference) {
+            return None;
+        }
+        self.lines.session(reference.0)
     }
 
     /// Asks for a connection: the next reference is given, a CR is written, and the CN follows once
@@ -83,7 +110,7 @@ impl Stack {
         ensures err { OnErr result (self.new ≡ self.old) }
     {
         an_end_is_settled_between_calls();
-        self.hub.connect(connect)
+        ask(self.alloc, &mut self.carrier, &mut self.lines, connect)
     }
 
     /// A call of the user of a connection (X.225 section 7), which the table of its session answers. Each
@@ -100,7 +127,10 @@ impl Stack {
     {
         an_end_is_settled_between_calls();
         a_call_of_a_settled_end_is_answered_by_its_session();
-        self.hub.call(reference, request)
+        if !self.has_given(reference) {
+            return Err(CallError::NoSuchConnection);
+        }
+        self.lines.call(reference.0, request, &mut self.carrier)
     }
 
     /// Feeds a piece of the stream that comes from the peer: its packets act one after the other, up
@@ -114,22 +144,22 @@ impl Stack {
         ensures empty { piece.now ≡ [] → (result.used ≡ 0) × (self.new ≡ self.old) }
     {
         an_end_is_settled_between_calls();
-        if self.hub.has_ended() {
+        if self.carrier.ended().is_some() {
             return Fed {
                 used: piece.len(),
-                whole: self.hub.waits(),
+                whole: self.lines.wait(),
             };
         }
-        if self.hub.waits() {
+        if self.lines.wait() {
             return Fed {
                 used: 0,
                 whole: true,
             };
         }
-        let used = self.hub.read(piece);
+        let used = read(self.alloc, &mut self.carrier, &mut self.lines, piece);
         Fed {
             used,
-            whole: self.hub.waits(),
+            whole: self.lines.wait(),
         }
     }
 
@@ -142,7 +172,7 @@ impl Stack {
     {
         an_end_is_settled_between_calls();
         what_waits_is_told_in_order();
-        self.hub.next_indication()
+        self.lines.next()
     }
 
     /// The tokens that this end holds; none for a connection that is gone or never was, and none once the
@@ -152,8 +182,12 @@ impl Stack {
         ensures set { named (bits_of result) ≡ held_by (session_at reference.0 self.now.end) }
         ensures over { IsSome self.now.end.carrier.ended → named (bits_of result) ≡ no_token }
     {
+        let _ = &self.lines;
         an_end_is_settled_between_calls();
-        self.hub.held(reference)
+        match self.session(reference) {
+            None => Tokens::NONE.set(),
+            Some(session) => session.held(),
+        }
     }
 
     /// Where a connection stands: none for a reference that was never given, and ended once the
@@ -161,7 +195,13 @@ impl Stack {
     pub fn phase(&self, reference: Ref) -> Option<Phase>
         ensures { result ≡ phase_at reference.0 self.now.end }
     {
-        self.hub.phase(reference)
+        if !self.has_given(reference) {
+            return None;
+        }
+        match self.session(reference) {
+            None => Some(Phase::Ended),
+            Some(session) => Some(session.phase()),
+        }
     }
 
     /// V(M), the number of the next synchronization point; 0 for a connection that is gone or never
@@ -169,14 +209,20 @@ impl Stack {
     pub fn next_serial(&self, reference: Ref) -> u32
         ensures { result ≡ (numbers_of (session_at reference.0 self.now.end)).next }
     {
-        self.hub.next_serial(reference)
+        match self.session(reference) {
+            None => 0,
+            Some(session) => session.next_serial(),
+        }
     }
 
     /// V(A), the lowest number that is not confirmed; 0 for a connection that is gone or never was.
     pub fn confirmed_below(&self, reference: Ref) -> u32
         ensures { result ≡ (numbers_of (session_at reference.0 self.now.end)).confirmed }
     {
-        self.hub.confirmed_below(reference)
+        match self.session(reference) {
+            None => 0,
+            Some(session) => session.confirmed_below(),
+        }
     }
 
     /// V(R), the lowest number at which this end may restart; 0 for a connection that is gone or
@@ -184,14 +230,17 @@ impl Stack {
     pub fn lowest_restart(&self, reference: Ref) -> u32
         ensures { result ≡ (numbers_of (session_at reference.0 self.now.end)).lowest }
     {
-        self.hub.lowest_restart(reference)
+        match self.session(reference) {
+            None => 0,
+            Some(session) => session.lowest_restart(),
+        }
     }
 
     /// The octets to be carried to the peer, the first of them first.
     pub fn outgoing(&self) -> &[u8]
         ensures { result.now ≡ self.now.end.carrier.outgoing }
     {
-        self.hub.outgoing()
+        self.carrier.outgoing()
     }
 
     /// The first octets of [`Stack::outgoing`] were carried: at most as many as there are.
@@ -200,7 +249,7 @@ impl Stack {
         ensures { self.new ≡ record self.old { end = carried octets self.old.end } }
     {
         an_end_is_settled_between_calls();
-        self.hub.taken(octets);
+        self.carrier.taken(octets);
     }
 
     /// The byte connection broke: all sessions are lost. Nothing changes where the end has ended.
@@ -208,14 +257,18 @@ impl Stack {
         ensures { self.new ≡ record self.old { end = breaks self.old.end } }
     {
         an_end_is_settled_between_calls();
-        self.hub.broken();
+        if self.ended().is_some() {
+            return;
+        }
+        self.carrier.broken();
+        self.lines.lose_all();
     }
 
     /// Why this end has ended; none before it has.
     pub fn ended(&self) -> Option<EndReason>
         ensures { result ≡ self.now.end.carrier.ended }
     {
-        self.hub.ended()
+        self.carrier.ended()
     }
 
     /// How many octets are held of what came: those of the packet under way, of the unfinished TSDUs of
@@ -226,7 +279,7 @@ impl Stack {
         ensures value { result ≡ kept_octets self.now }
         ensures at_most { result ≤ 65535 + 2097148 * length self.now.end.carrier.live }
     {
-        self.hub.kept()
+        self.carrier.kept() + self.lines.joined(&self.carrier)
     }
 
     /// The addresses of a live connection: those that were asked for here, or those that the peer's CR
@@ -239,7 +292,22 @@ impl Stack {
         ensures known { IfSome (phase_at reference.0 self.now.end) (λ p. shows_loss p ≡ true → IsSome result) }
     {
         an_end_is_settled_between_calls();
-        self.hub.addresses(reference)
+        let is_live = self.carrier.is_live(reference);
+        if !is_live {
+            return None;
+        }
+        let Some(tsaps) = self.carrier.tsaps(reference) else {
+            return None;
+        };
+        let Some(selectors) = self.lines.selectors(reference.0) else {
+            return None;
+        };
+        Some(Addresses {
+            calling_tsap: tsaps.calling,
+            called_tsap: tsaps.called,
+            calling_selector: selectors.calling,
+            called_selector: selectors.called,
+        })
     }
 
     /// How many octets of TSDUs were handed in at a connection and are not yet in [`Stack::outgoing`]:
@@ -248,7 +316,7 @@ impl Stack {
     pub fn unsent(&self, reference: Ref) -> usize
         ensures { result ≡ unsent_at (value_at reference.0 self.now.end.carrier.live) }
     {
-        self.hub.unsent(reference)
+        self.carrier.unsent(reference)
     }
 
     /// The octets of [`Stack::unsent`] of all connections together, or `usize::MAX` where they are more.
@@ -256,7 +324,7 @@ impl Stack {
     pub fn backlog(&self) -> usize
         ensures { result ≡ min (backlog_of self.now.end.carrier.live) (2 ^ 64 - 1) }
     {
-        self.hub.backlog()
+        self.carrier.backlog()
     }
 
     /// How many connections are live: those whose transport connection is asked for, open or closing. At
@@ -265,6 +333,6 @@ impl Stack {
         ensures value { result ≡ length self.now.end.carrier.live }
         ensures at_most { result ≤ 64 }
     {
-        self.hub.live()
+        self.carrier.live()
     }
 }

@@ -113,20 +113,6 @@ pub fn send_call(carrier: &mut Carrier, reference: u16, sent: &Sent) -> Result<(
     }
 }
 
-/// Sends a TSDU that is given away: what of it may not go yet is not copied.
-#[tactic(auto, using(crate::proofs::Handing::one_error))]
-fn send_one(carrier: &mut Carrier, reference: u16, tsdu: Vec<u8>) -> Result<(), CallError>
-    ensures ok { OnOk result (carrier.new ≡ record carrier.old { state = hands reference (tsdu.items ∷ []) carrier.old.state }) }
-    ensures allowed { OnOk result (send_refusal (send_all_error (tsdu.items ∷ []) (open_link reference carrier.old.state)) ≡ None) }
-    ensures refused { IfErr result (λ e. Refuses e None (send_refusal (send_all_error (tsdu.items ∷ []) (open_link reference carrier.old.state)))) }
-    ensures err { OnErr result (carrier.new ≡ carrier.old) }
-{
-    match carrier.send_owned(Ref(reference), tsdu) {
-        Ok(()) => Ok(()),
-        Err(error) => Err(call_error(error)),
-    }
-}
-
 /// Sends the parts of one Data, all of them or none. It stands out of line: else they would be dropped on
 /// the way of data that is whole, too.
 #[inline(never)]
@@ -142,7 +128,8 @@ fn send_parts(carrier: &mut Carrier, reference: u16, tsdus: Vec<Vec<u8>>) -> Res
     }
 }
 
-/// The same as [`send_call`] of what is given away.
+/// The same as [`send_call`] of what is given away: what of a TSDU may not go yet is not copied.
+#[tactic(auto, using(crate::proofs::Handing::one_error))]
 pub fn send_owned_call(carrier: &mut Carrier, reference: u16, sent: Sent) -> Result<(), CallError>
     ensures ok { OnOk result (carrier.new ≡ record carrier.old { state = hands reference sent carrier.old.state }) }
     ensures allowed { OnOk result (send_refusal (send_all_error sent (open_link reference carrier.old.state)) ≡ None) }
@@ -150,7 +137,10 @@ pub fn send_owned_call(carrier: &mut Carrier, reference: u16, sent: Sent) -> Res
     ensures err { OnErr result (carrier.new ≡ carrier.old) }
 {
     match sent.into_one() {
-        Ok(tsdu) => send_one(carrier, reference, tsdu),
+        Ok(tsdu) => match carrier.send_owned(Ref(reference), tsdu) {
+            Ok(()) => Ok(()),
+            Err(error) => Err(call_error(error)),
+        },
         Err(tsdus) => send_parts(carrier, reference, tsdus),
     }
 }

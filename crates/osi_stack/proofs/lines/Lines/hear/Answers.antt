@@ -1,59 +1,84 @@
-use Rattle.std.proofs.Common.{rules, length, ◌≡◌, Some, None, get_or, sym, ap, ◌∙◌}
+use Rattle.std.proofs.Common.{rules, length, ◌≡◌, ◌+◌, true, false, Some, None, get_or, set, refl, sym, ap, subst, arith, ◌∙◌}
+use Rattle.std.specs.Prelude.{OnOk, OnErr}
 use Rattle.osi_carrier.proofs.Places.{placed}
 use Rattle.osi_carrier.specs.Rows.{Rows, place_of}
+use Rattle.osi_stack.specs.Hearing.{all_lost}
+use Rattle.osi_stack.specs.Moving.{to_session}
 use Rattle.osi_stack.specs.State.{Line}
 use Rattle.osi_stack.specs.Telling.{told_input}
+use Rattle.osi_stack.specs.declared.lines.Lines.TheInside.{Inside}
 use Rattle.osi_stack.proofs.Found.{unheard, heard_rows}
 use Rattle.osi_stack.proofs.Losing.{stopped_rows}
 use Rattle.osi_stack.proofs.Needing.{needs_at}
-use Rattle.osi_stack.proofs.Waiting.{room_of, set_kept, heard_stays}
+use Rattle.osi_stack.proofs.Waiting.{AreKept, room_of, set_kept, heard_stays, still_quiet, still_counted}
+use Rattle.osi_stack.proofs.lines.Lines.hear.Goals.{then-waits+then-not-waited, else-waits, else-waits-via-then-waits+else-not-waited, else-waits-via-else-waits}
 use Rattle.osi_stack.proofs.lines.Lines.hear.Goals as goal
 
 pub returns-in_default-clause-ok : goal.returns-in_default-clause-ok
 returns-in_default-clause-ok c =
-    let none : place_of c.args.reference c.args.self.now ≡ None = sym c.find.ensures ∙ c.in_default.is in
+    let none : place_of c.args.reference c.args.self.now ≡ None = ap (λ (l : Rows Line). place_of c.args.reference l) (sym (c.as_slice.ensures.value ∙ c.self.view_is)) ∙ sym c.place_in.ensures ∙ c.in_default.is in
     unheard c.args.reference c.args.self.now (told_input c.args.told) c.args.carrier.now.state none
 
 pub returns-clause-ok : goal.returns-clause-ok
 returns-clause-ok c =
     let row = c.index_mut-line.result.now in
-    let some : place_of c.args.reference c.args.self.now ≡ Some c.in-Some.place = sym c.find.ensures ∙ c.in-Some.is in
+    let some : place_of c.args.reference c.args.self.now ≡ Some c.in-Some.place = ap (λ (l : Rows Line). place_of c.args.reference l) (sym (c.as_slice.ensures.value ∙ c.self.view_is)) ∙ sym c.place_in.ensures ∙ c.in-Some.is in
     let here = c.index_mut-line.ensures.value ∙ ap (λ (l : Rows Line). get_or l c.in-Some.place row) c.self.view_is in
-    heard_rows c.hear-result.result c.args.reference c.args.self.now c.self.inside.rows.items c.in-Some.place row c.hear-result.new.self c.args.carrier.now c.hear-result.new.carrier
-    (told_input c.args.told) some here c.self.view_is c.hear-result.ensures.ok c.hear-result.ensures.carrier
+    let eq : c.if-waits.self-inside.rows.items ≡ set c.self.inside.rows.items c.in-Some.place c.hear-result.new.self =
+    elim c.if-waits.branch [ then-waits+then-not-waited w ↦ ap (λ (x : Inside). x.rows.items) w.self-inside-is | else-waits w ↦ ap (λ (x : Inside). x.rows.items) w.self-inside-is ] in
+    subst (λ (l : Rows Line). OnOk c.hear-result.result (record { carrier = c.hear-result.new.carrier.state; lines = l } ≡ to_session c.args.reference (told_input c.args.told) (record { carrier = c.args.carrier.now.state; lines = c.args.self.now })))
+    (sym eq)
+    (heard_rows c.hear-result.result c.args.reference c.args.self.now c.self.inside.rows.items c.in-Some.place row c.hear-result.new.self c.args.carrier.now c.hear-result.new.carrier
+    (told_input c.args.told) some here c.self.view_is c.hear-result.ensures.ok c.hear-result.ensures.carrier)
 
 pub returns-clause-lost : goal.returns-clause-lost
 returns-clause-lost c =
     let row = c.index_mut-line.result.now in
-    let some : place_of c.args.reference c.args.self.now ≡ Some c.in-Some.place = sym c.find.ensures ∙ c.in-Some.is in
+    let some : place_of c.args.reference c.args.self.now ≡ Some c.in-Some.place = ap (λ (l : Rows Line). place_of c.args.reference l) (sym (c.as_slice.ensures.value ∙ c.self.view_is)) ∙ sym c.place_in.ensures ∙ c.in-Some.is in
     let here = c.index_mut-line.ensures.value ∙ ap (λ (l : Rows Line). get_or l c.in-Some.place row) c.self.view_is in
-    stopped_rows c.hear-result.result c.args.reference c.args.self.now c.self.inside.rows.items c.in-Some.place row c.hear-result.new.self some here c.self.view_is c.hear-result.ensures.lost
+    let eq : c.if-waits.self-inside.rows.items ≡ set c.self.inside.rows.items c.in-Some.place c.hear-result.new.self =
+    elim c.if-waits.branch [ then-waits+then-not-waited w ↦ ap (λ (x : Inside). x.rows.items) w.self-inside-is | else-waits w ↦ ap (λ (x : Inside). x.rows.items) w.self-inside-is ] in
+    subst (λ (l : Rows Line). OnErr c.hear-result.result (all_lost l ≡ all_lost c.args.self.now)) (sym eq)
+    (stopped_rows c.hear-result.result c.args.reference c.args.self.now c.self.inside.rows.items c.in-Some.place row c.hear-result.new.self some here c.self.view_is c.hear-result.ensures.lost)
 
 pub returns-clause-needed : goal.returns-clause-needed
 returns-clause-needed c =
     let row = c.index_mut-line.result.now in
-    let some : place_of c.args.reference c.args.self.now ≡ Some c.in-Some.place = sym c.find.ensures ∙ c.in-Some.is in
+    let some : place_of c.args.reference c.args.self.now ≡ Some c.in-Some.place = ap (λ (l : Rows Line). place_of c.args.reference l) (sym (c.as_slice.ensures.value ∙ c.self.view_is)) ∙ sym c.place_in.ensures ∙ c.in-Some.is in
     let here = c.index_mut-line.ensures.value ∙ ap (λ (l : Rows Line). get_or l c.in-Some.place row) c.self.view_is in
     needs_at c.hear-result.result c.args.reference c.args.self.now c.in-Some.place row (told_input c.args.told) c.args.carrier.now.state some here c.hear-result.ensures.needed
 
-pub count_heard-self-inside-requires-clause-kept : goal.count_heard-self-inside-requires-clause-kept
-count_heard-self-inside-requires-clause-kept c = λ h.
-    c.waits-after.ensures ∙ heard_stays c.hear-result.result c.index_mut-line.result.now c.hear-result.new.self (told_input c.args.told) c.hear-result.ensures.ok c.hear-result.ensures.lost
-    (sym c.waits-before.ensures ∙ h)
-
-pub count_heard-self-inside-requires-clause-room : goal.count_heard-self-inside-requires-clause-room
-count_heard-self-inside-requires-clause-room c = λ h.
+pub overflow_add-self : goal.overflow_add-self
+overflow_add-self c =
     let row = c.index_mut-line.result.now in
-    let some : place_of c.args.reference c.args.self.now ≡ Some c.in-Some.place = sym c.find.ensures ∙ c.in-Some.is in
+    let some : place_of c.args.reference c.args.self.now ≡ Some c.in-Some.place = ap (λ (l : Rows Line). place_of c.args.reference l) (sym (c.as_slice.ensures.value ∙ c.self.view_is)) ∙ sym c.place_in.ensures ∙ c.in-Some.is in
     let here = c.index_mut-line.ensures.value ∙ ap (λ (l : Rows Line). get_or l c.in-Some.place row) c.self.view_is in
-    let lines : c.len-lines.result ≡ length c.self.inside.rows.items = search rules in
-    room_of c.args.reference c.args.self.now c.self.inside.rows.items c.in-Some.place row c.self.inside.waiting c.len-lines.result some here c.self.view_is
-    c.self.invariant.0 lines (sym c.waits-before.ensures ∙ h)
+    let less = room_of c.args.reference c.args.self.now c.self.inside.rows.items c.in-Some.place row c.self.inside.waiting (length c.self.inside.rows.items) some here c.self.view_is
+    c.self.invariant.0 refl (sym c.waits-waited.ensures ∙ c.if-not-waited.true) in
+    let len = c.self.inside.rows.ok in
+    let small = c.self.inside.rows.small in
+    let counted = len.0 in
+    let held = len.1 in
+    omega arith
 
 pub invariant_of-self : goal.invariant_of-self
 invariant_of-self c =
     let row = c.index_mut-line.result.now in
-    let some : place_of c.args.reference c.self.inside.rows.items ≡ Some c.in-Some.place = ap (λ (l : Rows Line). place_of c.args.reference l) c.self.view_is ∙ sym c.find.ensures ∙ c.in-Some.is in
-    set_kept c.self.inside.waiting c.count_heard-self-inside.result c.self.inside.rises c.waits-before.result c.waits-after.result c.self.inside.rows.items c.in-Some.place row c.hear-result.new.self
-    c.self.invariant c.index_mut-line.ensures.value (placed c.args.reference c.self.inside.rows.items c.in-Some.place row some).within c.hear-result.ensures.reference c.waits-before.ensures
-    c.waits-after.ensures c.count_heard-self-inside.ensures
+    let some : place_of c.args.reference c.self.inside.rows.items ≡ Some c.in-Some.place = ap (λ (l : Rows Line). place_of c.args.reference l) (sym c.as_slice.ensures.value) ∙ sym c.place_in.ensures ∙ c.in-Some.is in
+    let within = (placed c.args.reference c.self.inside.rows.items c.in-Some.place row some).within in
+    let stays = (λ (h : c.waits-waited.result ≡ true). c.waits.ensures
+    ∙ heard_stays c.hear-result.result row c.hear-result.new.self (told_input c.args.told) c.hear-result.ensures.ok c.hear-result.ensures.lost (sym c.waits-waited.ensures ∙ h)) in
+    elim c.if-waits.branch [
+      | then-waits+then-not-waited w ↦ subst (λ (x : Inside). AreKept x.waiting x.rises x.rows.items) (sym w.self-inside-is)
+          (set_kept c.self.inside.waiting (c.self.inside.waiting + 1) c.self.inside.rises false true c.self.inside.rows.items c.in-Some.place row c.hear-result.new.self
+          c.self.invariant c.index_mut-line.ensures.value within c.hear-result.ensures.reference
+          (sym w.if-not-waited.true ∙ c.waits-waited.ensures) (sym w.if-waits.true ∙ c.waits.ensures) (omega arith))
+      | else-waits w ↦ subst (λ (x : Inside). AreKept x.waiting x.rises x.rows.items) (sym w.self-inside-is)
+          (set_kept c.self.inside.waiting c.self.inside.waiting c.self.inside.rises c.waits-waited.result c.waits.result c.self.inside.rows.items c.in-Some.place row c.hear-result.new.self
+          c.self.invariant c.index_mut-line.ensures.value within c.hear-result.ensures.reference
+          c.waits-waited.ensures c.waits.ensures
+          (elim w.else-waits.branch [
+            | else-waits-via-then-waits+else-not-waited v ↦ still_counted c.self.inside.waiting c.waits-waited.result c.waits.result (v.if-not-waited.false ∙ sym v.if-waits.true)
+            | else-waits-via-else-waits v ↦ still_counted c.self.inside.waiting c.waits-waited.result c.waits.result (still_quiet c.waits-waited.result c.waits.result stays v.if-waits.false ∙ sym v.if-waits.false)
+          ]))
+    ]

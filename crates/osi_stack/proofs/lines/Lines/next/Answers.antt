@@ -1,11 +1,13 @@
-use Rattle.std.proofs.Common.{ℕ, Option, Some, get_or, sym, ap, subst, option_map, position, true, ◌∙◌}
+use Rattle.std.proofs.Common.{◌-◌, ◌+◌, ℕ, [], List, true, false, cond, map, Some, get_or, refl, sym, ap, subst, option_map, position, arith, ◌∙◌, ◌≡◌}
 use Rattle.osi_session.specs.Shown.{shown_by}
 use Rattle.osi_session.specs.declared.indications.Indication.{Indication}
 use Rattle.osi_carrier.specs.Rows.{Rows}
 use Rattle.osi_stack.specs.Calls.{TellsOf}
+use Rattle.osi_stack.specs.Selectors.{session_selectors}
 use Rattle.osi_stack.specs.State.{Line, line_waits, how_many_wait}
-use Rattle.osi_stack.proofs.FirstShown.{none_waits, first_is, told_some, told_first}
+use Rattle.osi_stack.proofs.FirstShown.{none_waits, first_is, never_popped, told_first}
 use Rattle.osi_stack.proofs.Waiting.{none_counted, set_kept}
+use Rattle.osi_stack.proofs.lines.Lines.next.Goals.{then-not-waits, else-not-waits}
 use Rattle.osi_stack.proofs.lines.Lines.next.Goals as goal
 
 pub returns-in_default-clause-shown : goal.returns-in_default-clause-shown
@@ -18,40 +20,36 @@ returns-in_default-clause-rest c =
     let none = ap (position (λ (row : ℕ × Line). line_waits row.1)) (sym (c.as_slice.ensures.value ∙ c.self.view_is)) ∙ sym c.first_place.ensures ∙ c.in_default.is in
     sym (none_waits c.args.self.now none).rest
 
-pub returns-in_default-next-clause-shown : goal.returns-in_default-next-clause-shown
-returns-in_default-next-clause-shown c =
-    let row = c.index_mut-line.result.now in
-    let some = ap (position (λ (row : ℕ × Line). line_waits row.1)) (sym (c.as_slice.ensures.value ∙ c.self.view_is)) ∙ sym c.first_place.ensures ∙ c.in-Some.is in
-    let here = c.index_mut-line.ensures.value ∙ ap (λ (l : Rows Line). get_or l c.in-Some.place row) c.self.view_is in
-    let waits = ap (λ (x : ℕ × Line). line_waits x.1) here ∙ (first_is c.args.self.now c.in-Some.place row some).waits in
-    absurd (told_some row c.next.new.self waits
-    (subst (λ (o : Option Indication). TellsOf (option_map shown_by o) row c.next.new.self) c.in_default-next.is c.next.ensures.tells))
-
-pub returns-in_default-next-clause-rest : goal.returns-in_default-next-clause-rest
-returns-in_default-next-clause-rest c =
-    let row = c.index_mut-line.result.now in
-    let some = ap (position (λ (row : ℕ × Line). line_waits row.1)) (sym (c.as_slice.ensures.value ∙ c.self.view_is)) ∙ sym c.first_place.ensures ∙ c.in-Some.is in
-    let here = c.index_mut-line.ensures.value ∙ ap (λ (l : Rows Line). get_or l c.in-Some.place row) c.self.view_is in
-    let waits = ap (λ (x : ℕ × Line). line_waits x.1) here ∙ (first_is c.args.self.now c.in-Some.place row some).waits in
-    absurd (told_some row c.next.new.self waits
-    (subst (λ (o : Option Indication). TellsOf (option_map shown_by o) row c.next.new.self) c.in_default-next.is c.next.ensures.tells))
+pub returns-in_default-pop_front : goal.returns-in_default-pop_front
+returns-in_default-pop_front c =
+    let first = first_is c.self.inside.rows.items c.in-Some.place c.index_mut-line.result.now
+    (ap (position (λ (row : ℕ × Line). line_waits row.1)) (sym c.as_slice.ensures.value) ∙ sym c.first_place.ensures ∙ c.in-Some.is) in
+    never_popped c.line.inside.waiting.items c.line.inside.waiting.len c.line.inside.waiting.ok.0 c.in_default-pop_front.ensures.cases.0
+    (ap (λ (x : ℕ × Line). line_waits x.1) (c.line.view_is ∙ c.index_mut-line.ensures.value) ∙ first.waits)
 
 pub returns-clause-shown : goal.returns-clause-shown
 returns-clause-shown c =
     let row = c.index_mut-line.result.now in
+    let line : Line = record { session = c.line.inside.session; waiting = []; selectors = option_map session_selectors c.line.inside.selectors } in
+    let new : ℕ × Line = (c.line.inside.reference, record line { waiting = map shown_by c.pop_front.new.self.items }) in
     let some = ap (position (λ (row : ℕ × Line). line_waits row.1)) (sym (c.as_slice.ensures.value ∙ c.self.view_is)) ∙ sym c.first_place.ensures ∙ c.in-Some.is in
     let here = c.index_mut-line.ensures.value ∙ ap (λ (l : Rows Line). get_or l c.in-Some.place row) c.self.view_is in
-    let told = subst (λ (o : Option Indication). TellsOf (option_map shown_by o) row c.next.new.self) c.in-Some-next.is c.next.ensures.tells in
-    ap (λ n. Some (n, shown_by c.in-Some-next.indication)) c.reference-reference.ensures
-    ∙ sym (told_first c.args.self.now c.self.inside.rows.items c.in-Some.place row c.next.new.self (shown_by c.in-Some-next.indication) some here c.self.view_is told).first
+    let told = subst (λ (x : ℕ × Line). TellsOf (Some (shown_by c.in-Some-pop_front.indication)) x new) c.line.view_is
+    (ap (λ (l : List Indication). (c.line.inside.reference, record line { waiting = map shown_by l })) c.in-Some-pop_front.ensures.items) in
+    ap (λ n. Some (n, shown_by c.in-Some-pop_front.indication)) c.reference-reference.ensures
+    ∙ sym (told_first c.args.self.now c.self.inside.rows.items c.in-Some.place row new (shown_by c.in-Some-pop_front.indication) some here c.self.view_is told).first
 
 pub returns-clause-rest : goal.returns-clause-rest
 returns-clause-rest c =
     let row = c.index_mut-line.result.now in
+    let line : Line = record { session = c.line.inside.session; waiting = []; selectors = option_map session_selectors c.line.inside.selectors } in
+    let new : ℕ × Line = (c.line.inside.reference, record line { waiting = map shown_by c.pop_front.new.self.items }) in
     let some = ap (position (λ (row : ℕ × Line). line_waits row.1)) (sym (c.as_slice.ensures.value ∙ c.self.view_is)) ∙ sym c.first_place.ensures ∙ c.in-Some.is in
     let here = c.index_mut-line.ensures.value ∙ ap (λ (l : Rows Line). get_or l c.in-Some.place row) c.self.view_is in
-    let told = subst (λ (o : Option Indication). TellsOf (option_map shown_by o) row c.next.new.self) c.in-Some-next.is c.next.ensures.tells in
-    (told_first c.args.self.now c.self.inside.rows.items c.in-Some.place row c.next.new.self (shown_by c.in-Some-next.indication) some here c.self.view_is told).rest
+    let told = subst (λ (x : ℕ × Line). TellsOf (Some (shown_by c.in-Some-pop_front.indication)) x new) c.line.view_is
+    (ap (λ (l : List Indication). (c.line.inside.reference, record line { waiting = map shown_by l })) c.in-Some-pop_front.ensures.items) in
+    let rest = (told_first c.args.self.now c.self.inside.rows.items c.in-Some.place row new (shown_by c.in-Some-pop_front.indication) some here c.self.view_is told).rest in
+    elim c.if-not-waits.branch [ then-not-waits w ↦ w.self-is ∙ rest | else-not-waits w ↦ w.self-is ∙ rest ]
 
 pub returns-then-self-eq0-clause-shown : goal.returns-then-self-eq0-clause-shown
 returns-then-self-eq0-clause-shown c =
@@ -61,11 +59,21 @@ pub returns-then-self-eq0-clause-rest : goal.returns-then-self-eq0-clause-rest
 returns-then-self-eq0-clause-rest c =
     sym (none_counted c.self.inside.waiting c.args.self.now (c.self.invariant.0 ∙ ap how_many_wait c.self.view_is) c.if-self-eq0.true).rest
 
-pub invariant_of-self-2 : goal.invariant_of-self-2
-invariant_of-self-2 c =
+pub invariant_of-self-then-not-waits : goal.invariant_of-self-then-not-waits
+invariant_of-self-then-not-waits c =
     let row = c.index_mut-line.result.now in
     let first = first_is c.self.inside.rows.items c.in-Some.place row
     (ap (position (λ (row : ℕ × Line). line_waits row.1)) (sym c.as_slice.ensures.value) ∙ sym c.first_place.ensures ∙ c.in-Some.is) in
-    set_kept c.self.inside.waiting c.count_told-self-inside.result c.self.inside.rises true c.waits-after.result c.self.inside.rows.items c.in-Some.place row c.next.new.self
-    c.self.invariant c.index_mut-line.ensures.value first.within c.next.ensures.reference
-    (sym (ap (λ (x : ℕ × Line). line_waits x.1) c.index_mut-line.ensures.value ∙ first.waits)) c.waits-after.ensures c.count_told-self-inside.ensures
+    let some = c.if-self-eq0.false in
+    set_kept c.self.inside.waiting (c.self.inside.waiting - 1) c.self.inside.rises true false c.self.inside.rows.items c.in-Some.place row _
+    c.self.invariant c.index_mut-line.ensures.value first.within (ap (λ (x : ℕ × Line). x.0) c.line.view_is)
+    (sym (ap (λ (x : ℕ × Line). line_waits x.1) c.index_mut-line.ensures.value ∙ first.waits)) (sym c.if-not-waits.true ∙ c.waits.ensures) (omega arith)
+
+pub invariant_of-self-else-not-waits : goal.invariant_of-self-else-not-waits
+invariant_of-self-else-not-waits c =
+    let row = c.index_mut-line.result.now in
+    let first = first_is c.self.inside.rows.items c.in-Some.place row
+    (ap (position (λ (row : ℕ × Line). line_waits row.1)) (sym c.as_slice.ensures.value) ∙ sym c.first_place.ensures ∙ c.in-Some.is) in
+    set_kept c.self.inside.waiting c.self.inside.waiting c.self.inside.rises true true c.self.inside.rows.items c.in-Some.place row _
+    c.self.invariant c.index_mut-line.ensures.value first.within (ap (λ (x : ℕ × Line). x.0) c.line.view_is)
+    (sym (ap (λ (x : ℕ × Line). line_waits x.1) c.index_mut-line.ensures.value ∙ first.waits)) (sym c.if-not-waits.false ∙ c.waits.ensures) refl

@@ -1,9 +1,10 @@
 use Rattle.std.proofs.Common.{sym, subst}
+use Rattle.osi_carrier.specs.Rows.{Rows}
 use Rattle.osi_stack.specs.Settled.{IsSettled}
-use Rattle.osi_stack.specs.State.{Holding}
+use Rattle.osi_stack.specs.State.{Line, holding}
 use Rattle.osi_stack.proofs.stacks.Stack.next_indication.Goals as goal
 
 pub invariant_of-self : goal.invariant_of-self
 invariant_of-self c =
-    subst (λ (h : Holding). IsSettled h.end) (sym c.next_indication.ensures.rest)
-    (c.an_end_is_settled_between_calls.ensures.shown c.self.inside.hub.end c.self.invariant)
+    subst (λ (l : Rows Line). IsSettled (holding c.self.inside.carrier l).end) (sym c.next.ensures.rest)
+    (c.an_end_is_settled_between_calls.ensures.shown (holding c.self.inside.carrier c.self.inside.lines).end c.self.invariant)

@@ -1,9 +1,11 @@
-use Rattle.std.proofs.Common.{sym, subst}
+use Rattle.std.proofs.Common.{◌≡◌, sym, subst, rules}
+use Rattle.osi_stack.specs.Calls.{carried}
 use Rattle.osi_stack.specs.Settled.{IsSettled}
-use Rattle.osi_stack.specs.State.{Holding}
+use Rattle.osi_stack.specs.State.{Holding, holding}
 use Rattle.osi_stack.proofs.stacks.Stack.taken.Goals as goal
 
 pub invariant_of-self : goal.invariant_of-self
 invariant_of-self c =
-    subst (λ (h : Holding). IsSettled h.end) (sym c.taken.ensures)
-    (c.an_end_is_settled_between_calls.ensures.carried c.args.octets c.self.inside.hub.end c.self.invariant)
+    let old = holding c.self.inside.carrier c.self.inside.lines in
+    let is : (holding c.taken.new.self c.self.inside.lines).end ≡ carried c.args.octets old.end = search rules in
+    subst IsSettled (sym is) (c.an_end_is_settled_between_calls.ensures.carried c.args.octets old.end c.self.invariant)

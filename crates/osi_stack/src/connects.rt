@@ -4,12 +4,12 @@ ghost use Rattle.std.specs.Prelude.{◌≡◌, ◌+◌, true, false, None, Some,
 ghost use Rattle.osi_message.specs.Meanings.{selector_octets};
 ghost use Rattle.osi_stack.specs.Calls.{connect_error, refusal, connects, calls_with, terms_error, is_long_address};
 ghost use Rattle.osi_stack.specs.Selectors.{selectors_sent, session_selectors};
+ghost use Rattle.osi_stack.specs.State.{holding};
 
-use super::Hub;
 use crate::connecting::{Connect, ConnectError};
-use crate::lines::{Line, room};
+use crate::lines::{Line, Lines, room};
 use crate::names::SessionSelectors;
-use osi_carrier::{OpenError, Ref};
+use osi_carrier::{Carrier, OpenError, Ref};
 use osi_session::{CallError, Opening, Session, is_profile};
 use osi_spdu::Selector;
 use std::alloc::Global;
@@ -63,40 +63,40 @@ fn session_for(
     }
 }
 
-impl Hub {
-    /// Asks for a connection. All growths are made before anything changes.
-    pub fn connect(&mut self, connect: &Connect) -> Result<Ref, ConnectError>
-        ensures ok { OnOk result (self.new ≡ record self.old { end = connects connect.now self.old.end }) }
-        ensures reference { IfOk result (λ r. r.0 ≡ self.old.end.carrier.given + 1) }
-        ensures allowed { OnOk result (connect_error connect.now self.old.end ≡ None) }
-        ensures refused { IfErr result (λ e. refusal e ≡ connect_error connect.now self.old.end) }
-        ensures err { OnErr result (self.new ≡ self.old) }
-    {
-        if let Err(error) = self.carrier.may_connect() {
-            return Err(ConnectError::Open(error));
+/// Asks for a connection. All growths are made before anything changes.
+pub fn ask(
+    alloc: Global,
+    carrier: &mut Carrier,
+    lines: &mut Lines,
+    connect: &Connect,
+) -> Result<Ref, ConnectError>
+    ensures ok { OnOk result (holding carrier.new lines.new ≡ record (holding carrier.old lines.old) { end = connects connect.now (holding carrier.old lines.old).end }) }
+    ensures reference { IfOk result (λ r. r.0 ≡ carrier.old.state.given + 1) }
+    ensures allowed { OnOk result (connect_error connect.now (holding carrier.old lines.old).end ≡ None) }
+    ensures refused { IfErr result (λ e. refusal e ≡ connect_error connect.now (holding carrier.old lines.old).end) }
+    ensures err { OnErr result (holding carrier.new lines.new ≡ holding carrier.old lines.old) }
+{
+    if let Err(error) = carrier.may_connect() {
+        return Err(ConnectError::Open(error));
+    }
+    let (session, selectors) = session_for(alloc, connect)?;
+    let Ok(waiting) = room(alloc) else {
+        return Err(ConnectError::Open(OpenError::OutOfMemory));
+    };
+    let before = lines.len();
+    let reference = carrier.given() + 1;
+    let line = Line::new(reference, session, waiting, Some(selectors));
+    let Ok(()) = lines.push(line) else {
+        return Err(ConnectError::Open(OpenError::OutOfMemory));
+    };
+    match carrier.connect(connect.calling_tsap, connect.called_tsap) {
+        Ok(reference) => {
+            lines.sweep(carrier);
+            Ok(reference)
         }
-        let (session, selectors) = session_for(self.alloc, connect)?;
-        let Ok(waiting) = room(self.alloc) else {
-            return Err(ConnectError::Open(OpenError::OutOfMemory));
-        };
-        let before = self.lines.len();
-        let reference = self.carrier.given() + 1;
-        let line = Line::new(reference, session, waiting, Some(selectors));
-        let Ok(()) = self.lines.push(line) else {
-            return Err(ConnectError::Open(OpenError::OutOfMemory));
-        };
-        match self
-            .carrier
-            .connect(connect.calling_tsap, connect.called_tsap)
-        {
-            Ok(reference) => {
-                self.lines.sweep(&self.carrier);
-                Ok(reference)
-            }
-            Err(error) => {
-                self.lines.truncate(before);
-                Err(ConnectError::Open(error))
-            }
+        Err(error) => {
+            lines.truncate(before);
+            Err(ConnectError::Open(error))
         }
     }
 }

@@ -2,10 +2,10 @@ use Rattle.std.proofs.Common.{◌<◌, ℕ, length, arith, sym, ap, ◌∙◌}
 use Rattle.std.proofs.lemmas.Bool.Decides.{nat_tests}
 use Rattle.osi_stack.specs.State.{Line, line_waits}
 use Rattle.osi_stack.proofs.Waiting.{only_first}
-use Rattle.osi_stack.proofs.lines.only_place.Goals as goal
+use Rattle.osi_stack.proofs.lines.first_place.Goals as goal
 
 pub returns-then-waits : goal.returns-then-waits
 returns-then-waits c =
     let within : c.args.heard < length c.args.rows.now = grind (arith, nat_tests, c.if-heard-rows.true) in
-    only_first c.args.rows.now c.args.heard c.index-rows-heard.result (sym c.requires ∙ c.if-waiting-eq1.true) within
-    (ap (λ (x : ℕ × Line). line_waits x.1) (sym c.index-rows-heard.is) ∙ sym c.waits.ensures ∙ c.if-waits.true)
+    sym (only_first c.args.rows.now c.args.heard c.index-rows-heard.result (sym c.requires ∙ c.if-waiting-eq1.true) within
+    (ap (λ (x : ℕ × Line). line_waits x.1) (sym c.index-rows-heard.is) ∙ sym c.waits.ensures ∙ c.if-waits.true))

@@ -1,9 +1,10 @@
 use Rattle.std.proofs.Common.{length}
+use Rattle.osi_stack.specs.State.{holding}
 use Rattle.osi_stack.proofs.Pieces.{IsRead}
-use Rattle.osi_stack.proofs.hub.Hub.read.Given as goal
+use Rattle.osi_stack.proofs.reading.read.Given as goal
 
 abbrev pub invariant-packets : goal.invariant-packets
-invariant-packets l = IsRead l.fn.self l.fn.piece l.self l.rest
+invariant-packets l = IsRead (holding l.fn.carrier l.fn.lines) l.fn.piece (holding l.carrier l.lines) l.rest
 
 abbrev pub decreases-packets : goal.decreases-packets
 decreases-packets l = length l.rest

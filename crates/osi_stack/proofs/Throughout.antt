@@ -1,0 +1,97 @@
+-- What each packet keeps, and the end, feeding keeps.
+use Rattle.std.proofs.Common.{◌≡◌, ℕ, ◌||◌, Bool, true, false, List, ◌∷◌, Option, Some, None, is_some, refl, sym, ap, subst, ◌∙◌, inl, inr, ◌⊎◌, if◌then◌else◌, []}
+use Rattle.osi_tpkt.specs.Stream.{ArePackets}
+use Rattle.osi_tpkt.specs.declared.cutting.Fed.{Fed}
+use Rattle.osi_carrier.specs.State.{State as Carrier}
+use Rattle.osi_carrier.specs.declared.ends.EndReason.{EndReason}
+use Rattle.osi_carrier.specs.declared.ends.EndReason.TheVariants.{Broken, NoMemory}
+use Rattle.osi_stack.specs.Calls.{breaks}
+use Rattle.osi_stack.specs.Feeding.{TakesPackets, Goes, Feeds}
+use Rattle.osi_stack.specs.Hearing.{after_packet, ends, hears_times, with_carrier, with_events, Starves}
+use Rattle.osi_stack.specs.State.{End, Holding, waits}
+use Rattle.osi_stack.proofs.Rooms.{found_how}
+use Rattle.osi_stack.proofs.Events.{starved_over}
+use Rattle.osi_stack.proofs.Lifting.{lasting_of}
+use Rattle.osi_stack.proofs.Overs.{attends_over}
+use Rattle.osi_stack.proofs.Stepwise.{broken_end}
+
+-- where memory was wanted the end has ended
+pub starved_ended : (e new : End) (packet : List ℕ) → Starves e packet new → is_some new.carrier.ended ≡ true
+starved_ended e new packet (inl h) =
+    let over = ap (λ (c : Carrier). is_some c.ended) h.1.2.ended in
+    ap (λ (x : End). is_some x.carrier.ended) h.2 ∙ ap is_some (attends_over (with_carrier h.0 e) over) ∙ over
+starved_ended e new packet (inr h) =
+    ap (λ (x : End). is_some x.carrier.ended) h.2.starved ∙ starved_over (with_events h.2.more (hears_times h.2.heard (with_carrier h.0 e)))
+
+-- a packet, the end of the carrier, and want of memory
+pub record IsKept (P : End → Type 0) : Type 0 where
+  pub each : (packet : List ℕ) (e : End) → e.carrier.ended ≡ None → P e → P (after_packet e packet)
+  pub over : (reason : EndReason) (e : End) → P e → P (ends reason e)
+  pub starved : (packet : List ℕ) (e new : End) → e.carrier.ended ≡ None → Starves e packet new → P e → P new
+
+pub packets_kept : (P : End → Type 0) → IsKept P → (units : List (List ℕ)) (old new : End) → TakesPackets old units new → P old → P new
+packets_kept P law [] old new h p = subst P (sym h) p
+packets_kept P law (u ∷ units) old new h p =
+    packets_kept P law units (after_packet old u) new h.1 (law.each u old (lasting_of old.carrier.ended (waits old.lines) h.0) p)
+
+none_found : (P : End → Type 0) → IsKept P → (e new : End) (rest : List ℕ) → e.carrier.ended ≡ None →
+    (new ≡ ends NoMemory e) ⊎ ((packet : List ℕ) × ArePackets (packet ∷ []) rest [] × Starves e packet new) → P e → P new
+none_found P law e new rest lasts (inl is) p = subst P (sym is) (law.over NoMemory e p)
+none_found P law e new rest lasts (inr h) p = law.starved h.0 e new lasts h.2 p
+
+goes_kept : (P : End → Type 0) → IsKept P → (old new : Holding) (piece : List ℕ) (used : ℕ) → Goes old piece used new → P old.end → P new.end
+goes_kept P law old new piece used (inl (inl h)) p = packets_kept P law h.units old.end new.end h.taken p
+goes_kept P law old new piece used (inl (inr h)) p = packets_kept P law h.units old.end new.end h.taken p
+goes_kept P law old new piece used (inr (inl h)) p = subst P (sym h.ended) (law.over _ h.before (packets_kept P law h.units old.end h.before h.taken p))
+goes_kept P law old new piece used (inr (inr h)) p =
+    none_found P law h.before new.end h.rest (lasting_of h.before.carrier.ended (waits h.before.lines) h.quiet) (found_how old piece used new h)
+    (packets_kept P law h.units old.end h.before h.taken p)
+
+feeds_by : (P : End → Type 0) → IsKept P → (old new : Holding) (piece : List ℕ) (fed : Fed) (o : Option EndReason) (b : Bool) → old.end.carrier.ended ≡ o →
+    waits old.end.lines ≡ b → Feeds old piece fed new → P old.end → P new.end
+feeds_by P law old new piece fed (Some reason) b is waiting h p = subst (λ (x : Holding). P x.end) (sym (h.over (ap is_some is)).1) p
+feeds_by P law old new piece fed None true is waiting h p = subst (λ (x : Holding). P x.end) (sym (h.waiting is waiting).1) p
+feeds_by P law old new piece fed None false is waiting h p =
+    goes_kept P law old new piece fed.used (h.goes (ap (λ (o : Option EndReason). is_some o || waits old.end.lines) is ∙ waiting)) p
+
+pub feeds_kept : (P : End → Type 0) → IsKept P → (old new : Holding) (piece : List ℕ) (fed : Fed) → Feeds old piece fed new → P old.end → P new.end
+feeds_kept P law old new piece fed h p = feeds_by P law old new piece fed old.end.carrier.ended (waits old.end.lines) refl refl h p
+
+pub breaks_kept : (P : End → Type 0) → IsKept P → (e : End) → P e → P (breaks e)
+breaks_kept P law e p = broken_end P (law.over Broken) e p
+
+-- ---- what is true of each end that has ended
+
+pub over_kept : (P : End → Type 0) → ((packet : List ℕ) (e : End) → e.carrier.ended ≡ None → P e → P (after_packet e packet)) →
+    ((e : End) → is_some e.carrier.ended ≡ true → P e) → IsKept P
+over_kept P each over = record {
+  each = each;
+  over = λ reason e p. over (ends reason e) refl;
+  starved = λ packet e new lasts h p. over new (starved_ended e new packet h);
+}
+
+-- ---- beside what is kept already
+
+pub record IsKeptBeside (P Q : End → Type 0) : Type 0 where
+  pub each : (packet : List ℕ) (e : End) → e.carrier.ended ≡ None → P e → Q e → Q (after_packet e packet)
+  pub over : (reason : EndReason) (e : End) → P e → Q e → Q (ends reason e)
+  pub starved : (packet : List ℕ) (e new : End) → e.carrier.ended ≡ None → Starves e packet new → P e → Q e → Q new
+
+-- where it is true of each end that has ended
+pub over_beside : (P Q : End → Type 0) → ((packet : List ℕ) (e : End) → e.carrier.ended ≡ None → P e → Q e → Q (after_packet e packet)) →
+    ((e : End) → is_some e.carrier.ended ≡ true → Q e) → IsKeptBeside P Q
+over_beside P Q each over = record {
+  each = each;
+  over = λ reason e p q. over (ends reason e) refl;
+  starved = λ packet e new lasts h p q. over new (starved_ended e new packet h);
+}
+
+pub both_kept : (P Q : End → Type 0) → IsKept P → IsKeptBeside P Q → IsKept (λ e. P e × Q e)
+both_kept P Q law beside = record {
+  each = λ packet e lasts p. (law.each packet e lasts p.0, beside.each packet e lasts p.0 p.1);
+  over = λ reason e p. (law.over reason e p.0, beside.over reason e p.0 p.1);
+  starved = λ packet e new lasts h p. (law.starved packet e new lasts h p.0, beside.starved packet e new lasts h p.0 p.1);
+}
+
+pub feeds_beside : (P Q : End → Type 0) → IsKept P → IsKeptBeside P Q → (old new : Holding) (piece : List ℕ) (fed : Fed) → Feeds old piece fed new → P old.end → Q old.end → Q new.end
+feeds_beside P Q law beside old new piece fed h p q = (feeds_kept (λ e. P e × Q e) (both_kept P Q law beside) old new piece fed h (p, q)).1

@@ -1,0 +1,35 @@
+use Rattle.std.proofs.Common.{◌≡◌, None, refl, sym, ap, subst}
+use Rattle.std.specs.Prelude.{OnOk, IfErr}
+use Rattle.osi_session.specs.Calls.{Call, Data, called_by}
+use Rattle.osi_session.specs.Listening.{called, react}
+use Rattle.osi_session.specs.Sizes.{limit_of}
+use Rattle.osi_stack.specs.Calls.{move_refusal, Refuses}
+use Rattle.osi_stack.specs.Moving.{answers}
+use Rattle.osi_stack.proofs.Calling.{call_handed, call_allowed, call_refused}
+use Rattle.osi_stack.proofs.calls.make_call.Goals as goal
+
+pub returns-in_ok-sent-in-Data-clause-carrier : goal.returns-in_ok-sent-in-Data-clause-carrier
+returns-in_ok-sent-in-Data-clause-carrier c =
+    let s = c.args.session.now in
+    let limit = limit_of s.state in
+    subst (λ (k : Call). OnOk c.send_owned_call.result (c.send_owned_call.new.carrier ≡ record c.args.carrier.now { state = answers c.args.reference limit (react s (called k)) c.args.carrier.now.state }))
+    (sym (ap called_by c.in-Data.is))
+    (call_handed c.send_owned_call.result s (Data c.in-Data.user_data.now) c.in_ok-sent-in-Data.sent c.in_ok-sent-in-Data.sent c.args.reference limit c.args.carrier.now c.send_owned_call.new.carrier
+    c.in_ok-sent-in-Data.ensures.accepted c.in_ok-sent-in-Data.ensures.sent refl c.send_owned_call.ensures.ok)
+
+pub returns-in_ok-sent-in-Data-clause-allowed : goal.returns-in_ok-sent-in-Data-clause-allowed
+returns-in_ok-sent-in-Data-clause-allowed c =
+    let s = c.args.session.now in
+    let limit = limit_of s.state in
+    subst (λ (k : Call). OnOk c.send_owned_call.result (move_refusal c.args.reference limit (react s (called k)) c.args.carrier.now.state ≡ None)) (sym (ap called_by c.in-Data.is))
+    (call_allowed c.send_owned_call.result s (Data c.in-Data.user_data.now) c.in_ok-sent-in-Data.sent c.in_ok-sent-in-Data.sent c.args.reference limit c.args.carrier.now.state
+    c.in_ok-sent-in-Data.ensures.accepted c.in_ok-sent-in-Data.ensures.sent refl c.send_owned_call.ensures.allowed)
+
+pub returns-in_ok-sent-in-Data-clause-refused : goal.returns-in_ok-sent-in-Data-clause-refused
+returns-in_ok-sent-in-Data-clause-refused c =
+    let s = c.args.session.now in
+    let limit = limit_of s.state in
+    subst (λ (k : Call). IfErr c.send_owned_call.result (λ e. Refuses e (react s (called k)).error (move_refusal c.args.reference limit (react s (called k)) c.args.carrier.now.state)))
+    (sym (ap called_by c.in-Data.is))
+    (call_refused c.send_owned_call.result s (Data c.in-Data.user_data.now) c.in_ok-sent-in-Data.sent c.in_ok-sent-in-Data.sent c.args.reference limit c.args.carrier.now.state
+    c.in_ok-sent-in-Data.ensures.accepted c.in_ok-sent-in-Data.ensures.sent refl c.send_owned_call.ensures.refused)

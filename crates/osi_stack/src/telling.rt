@@ -1,0 +1,129 @@
+//! What the carrier tells, and what becomes of its sessions where there is no memory for that.
+
+ghost use Rattle.std.specs.Prelude.{◌≡◌, OnOk, OnErr, true};
+ghost use Rattle.osi_carrier.specs.Happenings.{happening};
+ghost use Rattle.osi_carrier.specs.Rows.{value_at};
+ghost use Rattle.osi_session.specs.Sessions.{awaits};
+ghost use Rattle.osi_stack.specs.Fetching.{Interrupted};
+ghost use Rattle.osi_stack.specs.Hearing.{opens, hears, starves};
+ghost use Rattle.osi_stack.specs.Moving.{to_session};
+ghost use Rattle.osi_stack.specs.Needs.{input_needs, opening_needs, needs_memory};
+ghost use Rattle.osi_stack.specs.State.{holding, joins};
+ghost use Rattle.osi_stack.specs.Telling.{told_input};
+
+use crate::lines::{Line, Lines, room};
+use crate::told::Told;
+use osi_carrier::{Carrier, Event, Ref};
+use osi_session::Session;
+use std::alloc::{AllocError, Global};
+
+/// A connection that was opened and not asked for has a new session.
+fn join(
+    alloc: Global,
+    carrier: &Carrier,
+    lines: &mut Lines,
+    reference: u16,
+) -> Result<(), AllocError>
+    ensures ok { OnOk result ((holding carrier.now lines.new).end ≡ joins reference awaits (holding carrier.now lines.old).end) }
+    ensures err { OnErr result (lines.new ≡ lines.old) }
+{
+    let waiting = room(alloc)?;
+    let session = Session::called(alloc);
+    lines.push(Line::new(reference, session, waiting, None))?;
+    lines.sweep(carrier);
+    Ok(())
+}
+
+/// The session of a reference hears what happens to it. For a TSDU [`hear`] does without this.
+fn tell(
+    alloc: Global,
+    carrier: &mut Carrier,
+    lines: &mut Lines,
+    reference: Ref,
+    told: Told<'_>,
+) -> Result<(), AllocError>
+    ensures ok { OnOk result ((holding carrier.new lines.new).end ≡ to_session reference.0 (told_input told.entry) (holding carrier.old lines.old).end) }
+    ensures held { carrier.new.held ≡ carrier.old.held }
+    ensures err { OnErr result (Interrupted (holding carrier.old lines.old).end (holding carrier.new lines.new).end) }
+    ensures needed { OnErr result (input_needs reference.0 (told_input told.entry) (holding carrier.old lines.old).end ≡ true) }
+{
+    lines.hear(alloc, reference.0, told, carrier)
+}
+
+/// A connection was opened.
+fn open(
+    alloc: Global,
+    carrier: &mut Carrier,
+    lines: &mut Lines,
+    reference: Ref,
+) -> Result<(), AllocError>
+    ensures ok { OnOk result ((holding carrier.new lines.new).end ≡ opens reference.0 (value_at reference.0 lines.old) (holding carrier.old lines.old).end) }
+    ensures held { carrier.new.held ≡ carrier.old.held }
+    ensures err { OnErr result (Interrupted (holding carrier.old lines.old).end (holding carrier.new lines.new).end) }
+    ensures needed { OnErr result (opening_needs reference.0 (holding carrier.old lines.old).end ≡ true) }
+{
+    if lines.has(reference.0) {
+        return tell(alloc, carrier, lines, reference, Told::Opened);
+    }
+    join(alloc, carrier, lines, reference.0)
+}
+
+/// What an event does. A TSDU goes straight to its session.
+#[inline(always)]
+pub fn hear(
+    alloc: Global,
+    carrier: &mut Carrier,
+    lines: &mut Lines,
+    event: Event,
+) -> Result<(), AllocError>
+    ensures ok { OnOk result ((holding carrier.new lines.new).end ≡ hears (happening event) (holding carrier.old lines.old).end) }
+    ensures held { carrier.new.held ≡ carrier.old.held }
+    ensures err { OnErr result (Interrupted (holding carrier.old lines.old).end (holding carrier.new lines.new).end) }
+    ensures needed { OnErr result (needs_memory (happening event) (holding carrier.old lines.old).end ≡ true) }
+{
+    match event {
+        Event::Tsdu(reference, octets) => {
+            let told = Told::Tsdu(octets.as_slice());
+            lines.hear(alloc, reference.0, told, carrier)
+        }
+        Event::Opened(_) | Event::Refused(..) | Event::Closed(..) | Event::Faulted(..) => {
+            hear_any(alloc, carrier, lines, event)
+        }
+    }
+}
+
+/// The same of any event. It stands out of line: a TSDU comes more often.
+#[inline(never)]
+fn hear_any(
+    alloc: Global,
+    carrier: &mut Carrier,
+    lines: &mut Lines,
+    event: Event,
+) -> Result<(), AllocError>
+    ensures ok { OnOk result ((holding carrier.new lines.new).end ≡ hears (happening event) (holding carrier.old lines.old).end) }
+    ensures held { carrier.new.held ≡ carrier.old.held }
+    ensures err { OnErr result (Interrupted (holding carrier.old lines.old).end (holding carrier.new lines.new).end) }
+    ensures needed { OnErr result (needs_memory (happening event) (holding carrier.old lines.old).end ≡ true) }
+{
+    match event {
+        Event::Opened(reference) => open(alloc, carrier, lines, reference),
+        Event::Refused(reference, reason) => {
+            tell(alloc, carrier, lines, reference, Told::Refused(reason))
+        }
+        Event::Tsdu(reference, octets) => {
+            let told = Told::Tsdu(octets.as_slice());
+            tell(alloc, carrier, lines, reference, told)
+        }
+        Event::Closed(reference, _) | Event::Faulted(reference, _) => {
+            tell(alloc, carrier, lines, reference, Told::Lost)
+        }
+    }
+}
+
+/// There was no memory for what the carrier told: it ends, and all sessions are lost.
+pub fn starve(carrier: &mut Carrier, lines: &mut Lines)
+    ensures { holding carrier.new lines.new ≡ record (holding carrier.old lines.old) { end = starves (holding carrier.old lines.old).end } }
+{
+    carrier.starved();
+    lines.lose_all();
+}
