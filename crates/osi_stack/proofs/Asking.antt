@@ -8,12 +8,9 @@ use Rattle.osi_stack.specs.Messages.{shown_of, all_waiting}
 use Rattle.osi_stack.specs.Rounds.{WaitForLive}
 use Rattle.osi_stack.specs.Runs.{quieted}
 use Rattle.osi_stack.specs.State.{Line, line_waits, is_used, used_lines, fresh_line}
+use Rattle.osi_stack.proofs.Alike.{hush}
 use Rattle.osi_stack.proofs.FirstShown.{quiet_line}
 use Rattle.osi_stack.proofs.Linking.{used_by, joined_lines, mono_or}
-
--- the same line, for which nothing waits
-abbrev hush : Line → Line
-hush line = record line { waiting = [] }
 
 or_not : (b w : Bool) → b ≡ false → (b || not w) ≡ true → w ≡ false
 or_not true w e h = cc

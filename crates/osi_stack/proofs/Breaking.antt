@@ -18,7 +18,7 @@ use Rattle.osi_stack.specs.State.{Line, End, Holding}
 use Rattle.osi_stack.proofs.Alike.{quieted_at}
 use Rattle.osi_stack.proofs.Linking.{apart_lost}
 use Rattle.osi_stack.proofs.Moves.{are_lost}
-use Rattle.osi_stack.proofs.Pieces.{none_of}
+use Rattle.osi_carrier.proofs.Reacts.{none_of}
 
 -- ---- what is told of one reference
 

@@ -26,7 +26,7 @@ use Rattle.osi_stack.specs.State.{End, Holding, waits}
 use Rattle.osi_stack.proofs.Accounts.{made, after_more, account_quiet, account_told, account_joined, account_packet, packets_apart, packets_done, with_joined}
 use Rattle.osi_stack.proofs.Lasting.{Lasts, account_over, in_front, packets_within, no_packets_end, no_fault_ends, reads_lasts}
 use Rattle.osi_stack.proofs.Lifting.{both, or_first, or_second, never}
-use Rattle.osi_stack.proofs.Pieces.{none_of}
+use Rattle.osi_carrier.proofs.Reacts.{none_of}
 use Rattle.osi_stack.proofs.Runs.{ReadsOne, reads_one}
 
 -- ---- how it ends

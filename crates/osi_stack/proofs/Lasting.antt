@@ -18,7 +18,7 @@ use Rattle.osi_stack.specs.State.{End, Holding, waits}
 use Rattle.osi_stack.proofs.Accounts.{account_packet, packets_apart, packets_done, with_joined}
 use Rattle.osi_stack.proofs.Lifting.{or_first, packets_append, never}
 use Rattle.osi_stack.proofs.Overs.{packet_over, starved_full}
-use Rattle.osi_stack.proofs.Pieces.{none_of}
+use Rattle.osi_carrier.proofs.Reacts.{none_of}
 use Rattle.osi_stack.proofs.Runs.{calls_read, reads_one, ReadsOne}
 
 -- ---- an end stays

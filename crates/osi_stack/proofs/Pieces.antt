@@ -9,6 +9,7 @@ use Rattle.osi_tpkt.specs.declared.faults.TpktFault.{TpktFault}
 use Rattle.osi_tpdu.specs.Packet.{units_of}
 use Rattle.osi_tpdu.specs.Value.{Value}
 use Rattle.osi_tpdu.specs.declared.faults.TpduFault.{TpduFault}
+use Rattle.osi_carrier.proofs.Reacts.{none_of}
 use Rattle.osi_carrier.proofs.Reading.{packets_more, packets_leave}
 use Rattle.osi_carrier.specs.Packets.{Carrying, HasToHold, is_spoilt, ActsBy, acts_by}
 use Rattle.osi_carrier.specs.Packets as carriers
@@ -58,10 +59,6 @@ read_first old piece quiet attended =
     }
 
 -- ---- a carrier on which nothing waits
-
-pub none_of : (o : Option EndReason) → is_some o ≡ false → o ≡ None
-none_of None e = refl
-none_of (Some reason) e = cc
 
 pub quiet_end : (e : End) → stops e ≡ false → IsAttended e → carriers.stops e.carrier ≡ false
 quiet_end e quiet attended =
@@ -436,32 +433,27 @@ behind_stops old piece rest used uses new b stopped e = record {
   room = b.room;
 }
 
-waits_by : (old : Holding) (piece rest : List ℕ) (used : ℕ) (new : Holding) → waits new.end.lines ≡ true → Look old piece rest used new →
-    Goes old piece (length piece - length (drop used rest)) new
-waits_by old piece rest used new waiting (inl (inl dry)) = both (waits new.end.lines) waiting (quiet_waits new.end dry.runs.quiet)
-waits_by old piece rest used new waiting (inl (inr b)) =
-    inl (inr (behind_stops old piece rest used (length piece - length (drop used rest)) new b (or_right (is_some new.end.carrier.ended) (waits new.end.lines) waiting)
-    (uses_waiting (is_spoilt new.end.carrier.ended) (waits new.end.lines) piece b.front rest used b.within waiting b.cut b.bound b.uses)))
-waits_by old piece rest used new waiting (inr f) =
-    let none = all_used rest used f.all in
-    let same : length piece ≡ length piece - length (drop used rest) = omega arith in
-    subst (λ n. Goes old piece n new) same f.goes
-
 pub read_waits : (old : Holding) (piece : List ℕ) (now : Holding) (rest : List ℕ) (used : ℕ) (new : Holding) → IsRead old piece now rest → Fetches now rest used new →
     waits new.end.lines ≡ true → Goes old piece (length piece - length (drop used rest)) new
-read_waits old piece now rest used new read fetch waiting = waits_by old piece rest used new waiting (looks old piece now rest used new read fetch)
-
-ended_by_look : (old : Holding) (piece rest : List ℕ) (used : ℕ) (new : Holding) → waits new.end.lines ≡ false → is_some new.end.carrier.ended ≡ true →
-    Look old piece rest used new → Goes old piece (length piece) new
-ended_by_look old piece rest used new none over (inl (inl dry)) = inl (inl dry.runs)
-ended_by_look old piece rest used new none over (inl (inr b)) =
-    inl (inr (behind_stops old piece rest used (length piece) new b (or_left (is_some new.end.carrier.ended) (waits new.end.lines) over)
-    (uses_ended (is_spoilt new.end.carrier.ended) (waits new.end.lines) (length piece) (length b.front) none)))
-ended_by_look old piece rest used new none over (inr f) = f.goes
+read_waits old piece now rest used new read fetch waiting = elim (looks old piece now rest used new read fetch) [
+  | inl (inl dry) ↦ both (waits new.end.lines) waiting (quiet_waits new.end dry.runs.quiet)
+  | inl (inr b) ↦ inl (inr (behind_stops old piece rest used (length piece - length (drop used rest)) new b (or_right (is_some new.end.carrier.ended) (waits new.end.lines) waiting)
+      (uses_waiting (is_spoilt new.end.carrier.ended) (waits new.end.lines) piece b.front rest used b.within waiting b.cut b.bound b.uses)))
+  | inr f ↦ (
+      let none = all_used rest used f.all in
+      let same : length piece ≡ length piece - length (drop used rest) = omega arith in
+      subst (λ n. Goes old piece n new) same f.goes
+      )
+]
 
 pub read_ended : (old : Holding) (piece : List ℕ) (now : Holding) (rest : List ℕ) (used : ℕ) (new : Holding) → IsRead old piece now rest → Fetches now rest used new →
     waits new.end.lines ≡ false → is_some new.end.carrier.ended ≡ true → Goes old piece (length piece) new
-read_ended old piece now rest used new read fetch none over = ended_by_look old piece rest used new none over (looks old piece now rest used new read fetch)
+read_ended old piece now rest used new read fetch none over = elim (looks old piece now rest used new read fetch) [
+  | inl (inl dry) ↦ inl (inl dry.runs)
+  | inl (inr b) ↦ inl (inr (behind_stops old piece rest used (length piece) new b (or_left (is_some new.end.carrier.ended) (waits new.end.lines) over)
+      (uses_ended (is_spoilt new.end.carrier.ended) (waits new.end.lines) (length piece) (length b.front) none)))
+  | inr f ↦ f.goes
+]
 
 -- it went on behind what told something
 uses_on : (b : Bool) (used all within : ℕ) → b ≡ false → used ≡ (if b then all else within) → used ≡ within
@@ -489,16 +481,13 @@ behind_on old piece rest used new none lasts attended b =
       first = inr b.held;
     }
 
-on_by : (old : Holding) (piece rest : List ℕ) (used : ℕ) (new : Holding) → waits new.end.lines ≡ false → is_some new.end.carrier.ended ≡ false → IsAttended new.end →
-    0 < length (drop used rest) → Look old piece rest used new → IsRead old piece new (drop used rest)
-on_by old piece rest used new none lasts attended some (inl (inl dry)) = let no = all_used rest used dry.all in absurd (omega arith)
-on_by old piece rest used new none lasts attended some (inl (inr b)) = behind_on old piece rest used new none lasts attended b
-on_by old piece rest used new none lasts attended some (inr f) = let no = all_used rest used f.all in absurd (omega arith)
-
 pub read_on : (old : Holding) (piece : List ℕ) (now : Holding) (rest : List ℕ) (used : ℕ) (new : Holding) → IsRead old piece now rest → Fetches now rest used new →
     waits new.end.lines ≡ false → is_some new.end.carrier.ended ≡ false → 0 < length (drop used rest) → IsRead old piece new (drop used rest)
-read_on old piece now rest used new read fetch none lasts some =
-    on_by old piece rest used new none lasts fetch.attended some (looks old piece now rest used new read fetch)
+read_on old piece now rest used new read fetch none lasts some = elim (looks old piece now rest used new read fetch) [
+  | inl (inl dry) ↦ (let no = all_used rest used dry.all in absurd (omega arith))
+  | inl (inr b) ↦ behind_on old piece rest used new none lasts fetch.attended b
+  | inr f ↦ (let no = all_used rest used f.all in absurd (omega arith))
+]
 
 -- all was read
 end_of_read : (old : Holding) (piece : List ℕ) (new : Holding) (rest : List ℕ) → IsPartial [] → new.held.octets ≡ [] → length rest ≡ 0 → (read : IsRead old piece new rest) →
@@ -520,16 +509,13 @@ end_of_read old piece new [] nothing held e read place =
     }
 end_of_read old piece new (x ∷ rest) nothing held e read place = absurd (omega arith)
 
-dry_by : (old : Holding) (piece rest : List ℕ) (used : ℕ) (new : Holding) → IsPartial [] → waits new.end.lines ≡ false → is_some new.end.carrier.ended ≡ false → IsAttended new.end →
-    length (drop used rest) ≡ 0 → Look old piece rest used new → Goes old piece (length piece) new
-dry_by old piece rest used new nothing none lasts attended e (inl (inl dry)) = inl (inl dry.runs)
-dry_by old piece rest used new nothing none lasts attended e (inl (inr b)) =
-    inl (inl (end_of_read old piece new (drop used rest) nothing b.held e (behind_on old piece rest used new none lasts attended b) b.place))
-dry_by old piece rest used new nothing none lasts attended e (inr f) = f.goes
-
 pub read_dry : (old : Holding) (piece : List ℕ) (now : Holding) (rest : List ℕ) (used : ℕ) (new : Holding) → IsPartial [] → IsRead old piece now rest → Fetches now rest used new →
     waits new.end.lines ≡ false → is_some new.end.carrier.ended ≡ false → length (drop used rest) ≡ 0 → Goes old piece (length piece) new
-read_dry old piece now rest used new nothing read fetch none lasts e = dry_by old piece rest used new nothing none lasts fetch.attended e (looks old piece now rest used new read fetch)
+read_dry old piece now rest used new nothing read fetch none lasts e = elim (looks old piece now rest used new read fetch) [
+  | inl (inl dry) ↦ inl (inl dry.runs)
+  | inl (inr b) ↦ inl (inl (end_of_read old piece new (drop used rest) nothing b.held e (behind_on old piece rest used new none lasts fetch.attended b) b.place))
+  | inr f ↦ f.goes
+]
 
 pub nonzero : (n : ℕ) → (n == 0) ≡ false → 0 < n
 nonzero zero e = cc

@@ -5,6 +5,7 @@ use Rattle.osi_tpkt.specs.Held.{Held}
 use Rattle.osi_tpkt.specs.Packet.{IsFaultOf}
 use Rattle.osi_tpkt.specs.Stream.{ArePackets}
 use Rattle.osi_tpkt.specs.declared.faults.TpktFault.{TpktFault}
+use Rattle.osi_carrier.proofs.Parts.{empty_list}
 use Rattle.osi_carrier.proofs.Reading.{packets_leave}
 use Rattle.osi_carrier.specs.Packets.{HasToHold}
 use Rattle.osi_carrier.specs.declared.ends.EndReason.TheVariants.{NoMemory}
@@ -27,17 +28,13 @@ pub packet_faultless : (u s more : List ℕ) → ArePackets (u ∷ []) s [] → 
 packet_faultless u s more p at fault bad =
     fault_no_packet at (s ++ more) fault bad u p.0 (p.1 ++ more) p.2 (ap (λ l. l ++ more) p.3 ∙ append_assoc p.0 p.1 more)
 
-empty_of : (l : List ℕ) → length l ≡ 0 → l ≡ []
-empty_of [] e = refl
-empty_of (x ∷ l) e = absurd (omega arith)
-
 none_left : (units : List (List ℕ)) (held : List ℕ) (within : ℕ) (rest left : List ℕ) → held ≡ [] → within ≡ 0 → ArePackets units (held ++ take within rest) left → left ≡ []
 none_left units held within rest left nothing none packets =
     let leaves = packets_leave units (held ++ take within rest) left packets in
     let sizes = length-append held (take within rest) in
     let first = ap length nothing in
     let seen : length (take within rest) ≡ 0 = ap (λ n. length (take n rest)) none in
-    empty_of left (omega arith)
+    empty_list left (omega arith)
 
 -- nothing was looked at so far, or nothing of a packet is held
 pub first_part : (units : List (List ℕ)) (front held : List ℕ) (within : ℕ) (rest left : List ℕ) → (front ≡ []) ⊎ (held ≡ []) → (within ≡ 0) ⊎ (left ≡ []) →

@@ -30,7 +30,7 @@ use Rattle.osi_stack.proofs.Asking.{wait_push, joins_alike}
 use Rattle.osi_stack.proofs.Endings.{faulted}
 use Rattle.osi_stack.proofs.Hushing.{account_calling}
 use Rattle.osi_stack.proofs.Lasting.{account_over}
-use Rattle.osi_stack.proofs.Pieces.{none_of}
+use Rattle.osi_carrier.proofs.Reacts.{none_of}
 use Rattle.osi_stack.proofs.Runs.{calls_read}
 use Rattle.osi_stack.proofs.InFront.{apart_session}
 use Rattle.osi_stack.proofs.Lifting.{never}

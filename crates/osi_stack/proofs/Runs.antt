@@ -16,7 +16,7 @@ use Rattle.osi_stack.specs.Runs.Call.{feeding, telling, carrying}
 use Rattle.osi_stack.specs.State.{End, Holding, waits}
 use Rattle.osi_stack.proofs.Accounts.{after_more, account_told, account_joined, packets_apart, with_joined, packets_done}
 use Rattle.osi_stack.proofs.Comings.{uses_within}
-use Rattle.osi_stack.proofs.Pieces.{none_of}
+use Rattle.osi_carrier.proofs.Reacts.{none_of}
 use Rattle.osi_stack.proofs.Throughout.{starved_ended}
 use Rattle.osi_stack.proofs.Lifting.{never}
 

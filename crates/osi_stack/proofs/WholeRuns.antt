@@ -12,7 +12,7 @@ use Rattle.osi_stack.specs.State.{End, Holding}
 use Rattle.osi_stack.proofs.Accounts.{after_more, account_joined, packets_apart, with_joined}
 use Rattle.osi_stack.proofs.Endings.{faulted, Ending, end_alike, ending_lasts, ending_apart, Outcome, outcome_along, stays_along, in_room}
 use Rattle.osi_stack.proofs.Lasting.{Lasts, reads_lasts}
-use Rattle.osi_stack.proofs.Pieces.{none_of}
+use Rattle.osi_carrier.proofs.Reacts.{none_of}
 use Rattle.osi_stack.proofs.Rounds.{Likeness, alike_at, packets_alike, Same, Are, SameAfter, used_alike, calls_alike, same_joined, same_alike, are_first, rounds_alike, exactly}
 
 -- accounts that are alike
