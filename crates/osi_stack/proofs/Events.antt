@@ -112,7 +112,7 @@ starved_is old mid left = record {
 
 -- ---- no event waits
 
-pub no_events : (events : List Happening) → not (length events == 0) ≡ false → events ≡ []
+pub no_events : {A : Type 0} (events : List A) → not (length events == 0) ≡ false → events ≡ []
 no_events [] h = refl
 no_events (x ∷ l) h = let none : suc (length l) ≡ 0 = eqb-true (length (x ∷ l)) 0 (not-false (length (x ∷ l) == 0) h) in absurd (omega arith)
 

@@ -10,16 +10,13 @@ use Rattle.osi_session.specs.Shown.{Shown, shown_by}
 use Rattle.osi_session.specs.declared.indications.Indication.{Indication}
 use Rattle.osi_stack.specs.Calls.{first_by, first_shown, rest_by, without_first, TellsOf}
 use Rattle.osi_stack.specs.State.{Line, line_waits, waits}
+use Rattle.osi_stack.proofs.Events.{no_events}
 use Rattle.osi_stack.proofs.Lifting.{or_first, or_second}
 
 -- ---- nothing waits
 
-quiet_list : (w : List Shown) → not (length w == 0) ≡ false → w ≡ []
-quiet_list [] h = refl
-quiet_list (x ∷ w) h = let none : suc (length w) ≡ 0 = eqb-true (length (x ∷ w)) 0 (not-false (length (x ∷ w) == 0) h) in absurd (omega arith)
-
 pub quiet_line : (l : Line) → line_waits l ≡ false → l.waiting ≡ []
-quiet_line l e = quiet_list l.waiting e
+quiet_line l e = no_events l.waiting e
 
 pub record IsNone (rows : Rows Line) : Type 0 where
   pub shown : first_shown rows ≡ None

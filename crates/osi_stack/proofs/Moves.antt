@@ -38,6 +38,7 @@ use Rattle.osi_stack.specs.State.{Line, End, session_in, session_at, line_waits,
 use Rattle.osi_stack.specs.Transport.{answers_by}
 use Rattle.osi_stack.proofs.Handing.{hands_none, handed, puts_words}
 use Rattle.osi_stack.proofs.Events.{all_quiet}
+use Rattle.osi_stack.proofs.FirstShown.{quiet_line}
 use Rattle.osi_stack.proofs.Lifting.{or_first, or_second}
 use Rattle.osi_session.specs.Allowed.{Answer, allowed}
 use Rattle.osi_session.specs.Calls.{Call}
@@ -222,12 +223,8 @@ pub none_waiting : (lines : Rows Line) → waits lines ≡ false → all_waiting
 none_waiting [] h = refl
 none_waiting ((r, line) ∷ lines) h =
     let here : line_waits line ≡ false = or_first (line_waits line) (waits lines) h in
-    let none = empty_of line.waiting here in
+    let none = quiet_line line here in
     ap (λ (w : List Shown). shown_of r w ++ all_waiting lines) none ∙ none_waiting lines (or_second (line_waits line) (waits lines) h)
-  where
-    empty_of : (w : List Shown) → not (length w == 0) ≡ false → w ≡ []
-    empty_of [] h = refl
-    empty_of (x ∷ w) h = let none : suc (length w) ≡ 0 = grind (arith, nat_tests) in absurd (omega arith)
 
 -- ---- a call
 

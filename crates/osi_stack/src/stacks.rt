@@ -182,6 +182,7 @@ impl Stack {
         ensures set { named (bits_of result) ≡ held_by (session_at reference.0 self.now.end) }
         ensures over { IsSome self.now.end.carrier.ended → named (bits_of result) ≡ no_token }
     {
+        // What is true of each end is known behind the first use of a field.
         let _ = &self.lines;
         an_end_is_settled_between_calls();
         match self.session(reference) {
