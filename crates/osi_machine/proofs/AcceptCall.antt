@@ -1,13 +1,6 @@
 -- The call of Accept keeps what is true of both sides.
 use Rattle.std.proofs.Common.{◌≡◌, refl, sym, ◌∙◌, ap, subst, ℕ, Bool, true, false, not, ◌&&◌, if◌then◌else◌, List, [], ◌∷◌, ◌++◌, Ok, arith}
-use Rattle.std.proofs.lemmas.Bool.{and_parts, and_from}
-use Rattle.osi_session.specs.Respond.{agreed_base}
-use Rattle.osi_machine.specs.Floor.{TokenSetting, TsduMaximumSize, State, FunctionalUnits, Sides, Meaning, AC, Tokens, Token, has, available, functional_units, both_units, units_within, has_data, is_profile, settle, setting_of, of_asker, of_answerer, stated, answers_wishes, base_for, serial_for, opened_with, is_answering, is_connecting, is_restarting, is_restart_due, may_hold, Accept, are_sizes, answered_sizes, becomes, drops, next}
-use Rattle.osi_machine.specs.Histories.{Item}
-use Rattle.osi_machine.specs.Owners.{turned_owners, settled_by}
-use Rattle.osi_machine.specs.Channels.{Fits, flush, heard, hears, heard_view, data_of}
-use Rattle.osi_machine.specs.Core.{Party, Core, answered}
-use Rattle.osi_machine.specs.Parties.{is_opening, IsFresh, AreConsistent}
+use Rattle.osi_machine.proofs.Vocabulary.{and_parts, and_from, agreed_base, TokenSetting, TsduMaximumSize, State, FunctionalUnits, Sides, Meaning, AC, Tokens, Token, has, available, functional_units, both_units, units_within, has_data, is_profile, settle, setting_of, of_asker, of_answerer, stated, answers_wishes, base_for, serial_for, opened_with, is_answering, is_connecting, is_restarting, is_restart_due, may_hold, Accept, are_sizes, answered_sizes, becomes, drops, next, Item, turned_owners, settled_by, Fits, flush, heard, hears, heard_view, data_of, Party, Core, answered, is_opening, IsFresh, AreConsistent}
 use Rattle.osi_machine.proofs.PhaseLaws.{implied, excluded, implied_two, if_first}
 use Rattle.osi_machine.proofs.Units.{next_acted}
 use Rattle.osi_machine.proofs.ChannelLaws.{fit_append, flush_append, heard_append, view_append, data_append}

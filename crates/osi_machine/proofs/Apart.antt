@@ -1,11 +1,7 @@
 -- A step of one connection changes no other.
 use Rattle.std.proofs.Common.{◌≡◌, refl, sym, ◌∙◌, ap, ℕ, Bool, true, false, if◌then◌else◌, List, [], ◌∷◌, map, Option, Some, None, is_some, arith}
 use Rattle.osi_session.specs.declared.faults.CallError.TheVariants as error
-use Rattle.osi_machine.specs.Floor.{Call}
-use Rattle.osi_machine.specs.Core.{Side, Left, Right}
-use Rattle.osi_machine.specs.Worlds.{Class, class_0, class_2, Message, World, Taking, message_taken, closed}
-use Rattle.osi_machine.specs.Machine.{Ending, closed_here, Machine, connection_at, seen_from, end_of, stays, noted, shown_at, call_in, side_of, marked_ended, closes_by, after_taking, without_first, learns, taken_in, delivered_to}
-use Rattle.osi_machine.specs.Runs.{AreApart}
+use Rattle.osi_machine.proofs.Vocabulary.{Call, Side, Left, Right, Class, class_0, class_2, Message, World, Taking, message_taken, closed, Ending, closed_here, Machine, connection_at, seen_from, end_of, stays, noted, shown_at, call_in, side_of, marked_ended, closes_by, after_taking, without_first, learns, taken_in, delivered_to, AreApart}
 use Rattle.osi_machine.proofs.Places.{with_other, there_still}
 use Rattle.osi_machine.proofs.PhaseLaws.{by_test}
 

@@ -1,22 +1,10 @@
 -- Data that is anywhere under way to a side is no fault there, once what is ahead of it is taken: of whatever its user
 -- calls in between, the connection of which nothing is lost makes the same.
 use Rattle.std.proofs.Common.{◌≡◌, refl, sym, ◌∙◌, ap, subst, ℕ, Bool, true, false, if◌then◌else◌, List, [], ◌∷◌, ◌++◌, map, Some, None, Ok, Err, ◌⊎◌, inl, inr, append_assoc, arith}
-use Rattle.std.proofs.lemmas.Bool.{cases_Bool}
-use Rattle.std.specs.List.{AllByRecursion, list_any}
 use Rattle.osi_session.specs.declared.faults.CallError.TheVariants as error
-use Rattle.osi_session.specs.Moves.{Input, called, taken, opened, refused as refused_input, broken, Standing, rests, begun, denied as denied_by, react, answered as answered_move}
-use Rattle.osi_session.specs.Respond.{verdict, is_faulty, respond_all, acting, and_then}
-use Rattle.osi_message.specs.Sendable.{said_of}
-use Rattle.osi_machine.specs.Floor.{State, Meaning, DT, Call, HasSerial, CallError, Granted, Answer, Outcome, allowed, is_over, is_wait_transport, respond_unit}
+use Rattle.osi_session.specs.Moves.{answered as answered_move}
 use Rattle.osi_machine.specs.Calm.{left_by, after_calls, after_message, IsCalm, StaysCalm, IsNoFaultBehind}
-use Rattle.osi_machine.specs.Channels.{AllFit}
-use Rattle.osi_machine.specs.Core.{Core, stays_in_core, answered, taking}
-use Rattle.osi_machine.specs.Worlds.{Message, unit, ask, agree, deny, bye, over, World, turned, session_of}
-use Rattle.osi_machine.specs.Machine.{Machine, connection_at}
-use Rattle.osi_machine.specs.Views.{Told}
-use Rattle.osi_machine.specs.Runs.{IsRun}
-use Rattle.osi_machine.specs.Tables.{Tables}
-use Rattle.osi_machine.specs.AsTables.{IsTableRun, AtEachSide}
+use Rattle.osi_machine.proofs.Vocabulary.{cases_Bool, AllByRecursion, list_any, Input, called, taken, opened, refused as refused_input, broken, Standing, rests, begun, denied as denied_by, react, verdict, is_faulty, respond_all, acting, and_then, said_of, State, Meaning, DT, Call, HasSerial, CallError, Granted, Answer, Outcome, allowed, is_over, is_wait_transport, respond_unit, AllFit, Core, stays_in_core, answered, taking, Message, unit, ask, agree, deny, bye, over, World, turned, session_of, Machine, connection_at, Told, IsRun, Tables, IsTableRun, AtEachSide}
 use Rattle.osi_machine.proofs.CoreLaws.{SessionLaws}
 use Rattle.osi_machine.proofs.Dispatch.{called_stands, taking_stands}
 use Rattle.osi_machine.proofs.MachineLaws.{stage_at}

@@ -1,8 +1,6 @@
 -- Channels: one more unit at the end, and what every unit on the way keeps.
 use Rattle.std.proofs.Common.{◌≡◌, refl, sym, ◌∙◌, ap, subst, ℕ, Bool, true, false, if◌then◌else◌, List, [], ◌∷◌, ◌++◌, append_assoc, arith}
-use Rattle.osi_machine.specs.Floor.{State, Meaning, is_restart_due, next}
-use Rattle.osi_machine.specs.Channels.{Fits, AllFit, flush, stops, heard, hears, view_next, heard_view, data_in, data_of}
-use Rattle.osi_machine.specs.Histories.{Item}
+use Rattle.osi_machine.proofs.Vocabulary.{State, Meaning, is_restart_due, next, Fits, AllFit, flush, stops, heard, hears, view_next, heard_view, data_in, data_of, Item}
 use Rattle.osi_machine.proofs.Units.{next_hears, due_next, due_stops, due_view, restart_due, chosen}
 use Rattle.osi_machine.proofs.PhaseLaws.{by_test}
 

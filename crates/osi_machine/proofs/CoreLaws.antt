@@ -1,12 +1,9 @@
 -- Every step of the core keeps what is true of each side by itself.
 use Rattle.std.proofs.Common.{◌≡◌, refl, sym, subst, ℕ, ◌<◌, Bool, true, false, if◌then◌else◌, List, [], ◌∷◌, ◌++◌, None, Ok, Err, arith}
-use Rattle.std.specs.List.{AllByRecursion}
-use Rattle.osi_session.specs.Allowed.{Passed, AllHold}
-use Rattle.osi_machine.specs.Floor.{State, Granted, Answer, Call, HasSerial, Meaning, Outcome, IsNumbered, IsSound, AreOrdered, allowed, respond_unit, alone, respond, after, Input, call_input, taken_input, Standing, call_move, after_inputs, react, HasNumbers, IsSendable, functional_units, has_points, from_base, may_call, needs, sends}
-use Rattle.osi_machine.specs.Core.{Party, Core, CoreStep, call_at, take_at, Side, Left, Right, Offer, CanBeOffered, turned, stays_in_core, party_called, answered, called, party_taking, taking, takes, at_side, core_step, core_run, offer_sent, core_start}
-use Rattle.osi_machine.specs.Parties.{IsConsistent, AreConsistent, IsNumberedStep}
+use Rattle.osi_machine.specs.Floor.{Input, Standing, react}
+use Rattle.osi_machine.specs.Core.{turned, called}
+use Rattle.osi_machine.proofs.Vocabulary.{AllByRecursion, Passed, AllHold, State, Granted, Answer, Call, HasSerial, Meaning, Outcome, IsNumbered, IsSound, AreOrdered, allowed, respond_unit, alone, respond, after, call_input, taken_input, call_move, after_inputs, HasNumbers, IsSendable, functional_units, has_points, from_base, may_call, needs, sends, Party, Core, CoreStep, call_at, take_at, Side, Left, Right, Offer, CanBeOffered, stays_in_core, party_called, answered, party_taking, taking, takes, at_side, core_step, core_run, offer_sent, core_start, IsConsistent, AreConsistent, IsNumberedStep, is_sized}
 use Rattle.osi_machine.proofs.Consistent.{Lines, lines_of, consistent, call_lines, taken_lines}
-use Rattle.osi_message.specs.Sendable.{is_sized}
 use Rattle.osi_machine.proofs.PhaseLaws.{by_test}
 
 -- what is proved of one session

@@ -1,12 +1,6 @@
 -- The call of Data keeps what is true of both sides.
 use Rattle.std.proofs.Common.{◌≡◌, refl, sym, ◌∙◌, ap, subst, ℕ, ◌+◌, Bool, true, false, not, ◌&&◌, if◌then◌else◌, List, [], ◌∷◌, ◌++◌, inl, inr, Ok, append_assoc}
-use Rattle.osi_machine.specs.Floor.{State, FunctionalUnits, DT, data_token, has, available, is_ready, may_hold, is_restarting, is_restart_due, has_right, Data, drops}
-use Rattle.osi_machine.specs.Histories.{Item, Octets, Point, cutat, AreNumberedFrom}
-use Rattle.osi_machine.specs.Owners.{Owners, turned_owners}
-use Rattle.osi_machine.specs.Taking.{seen}
-use Rattle.osi_machine.specs.Channels.{AllFit, flush, heard, hears, view_next, heard_view, data_of}
-use Rattle.osi_machine.specs.Core.{Party, Core, answered}
-use Rattle.osi_machine.specs.Parties.{is_opening, IsConsistent, AreConsistent}
+use Rattle.osi_machine.proofs.Vocabulary.{State, FunctionalUnits, DT, data_token, has, available, is_ready, may_hold, is_restarting, is_restart_due, has_right, Data, drops, Item, Octets, Point, cutat, AreNumberedFrom, Owners, turned_owners, seen, AllFit, flush, heard, hears, view_next, heard_view, data_of, Party, Core, answered, is_opening, IsConsistent, AreConsistent, and_from, not-true, and_right}
 use Rattle.osi_machine.proofs.PhaseLaws.{implied, excluded, implied_two, by_either}
 use Rattle.osi_machine.proofs.ChannelLaws.{fit_append, hears_kept, due_end, heard_flush, view_append, data_append}
 use Rattle.osi_machine.proofs.HistoryLaws.{cut_append}
@@ -14,7 +8,6 @@ use Rattle.osi_machine.proofs.Tokens.{Holds, nothing_to_see}
 use Rattle.osi_machine.proofs.Begun.{none_needs}
 use Rattle.osi_machine.proofs.Records.{flushed, hearing, matched, Half, Views, IsOfProfile, Pair, Stands}
 use Rattle.osi_machine.proofs.Idle.{IsIdle, flush_idle, heard_idle, sending, own_half, peer_half, own_counts, peer_counts, own_views, HasRight, right_of, end_units, data_fits, append_nil}
-use Rattle.std.proofs.lemmas.Bool.{and_from, not-true, and_right}
 
 idle : (octets : List ℕ) → IsIdle (DT octets)
 idle octets s = refl

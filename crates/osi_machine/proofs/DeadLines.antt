@@ -1,18 +1,12 @@
 -- A connection that its caller has left before it was agreed to: nothing comes of it any more.
 use Rattle.std.proofs.Common.{◌≡◌, refl, sym, ◌∙◌, ap, subst, ℕ, zero, suc, Bool, true, false, not, ◌||◌, if◌then◌else◌, List, [], ◌∷◌, take, ◌⊎◌, arith}
-use Rattle.std.specs.List.{list_any}
 use Rattle.osi_session.specs.declared.faults.CallError.TheVariants as error
-use Rattle.osi_session.specs.Shown.{Lost}
-use Rattle.osi_machine.specs.Floor.{State, Phase, Call, Answer, allowed, is_over, shows_loss}
-use Rattle.osi_machine.specs.Worlds.{Message, unit, ask, bye, over, Transport, not_yet, waiting, linked, closing, gone, World, turned, session_of, put, after_answer, Terms, accepts, denies, message_taken, ended_at, shown_at_end}
-use Rattle.osi_machine.specs.Machine.{is_waiting, without_first}
-use Rattle.osi_machine.specs.Views.{Told}
+use Rattle.osi_machine.proofs.Vocabulary.{list_any, Lost, State, Phase, Call, Answer, allowed, is_over, shows_loss, Message, unit, ask, bye, over, Transport, not_yet, waiting, linked, closing, gone, World, turned, session_of, put, after_answer, Terms, accepts, denies, message_taken, ended_at, shown_at_end, is_waiting, without_first, Told, or_parts, not-true}
 use Rattle.osi_machine.proofs.PhaseLaws.{implied, if_no}
 use Rattle.osi_machine.proofs.ProjectEnd.{is_unit}
 use Rattle.osi_machine.proofs.ProjectWorld.{refused}
 use Rattle.osi_machine.proofs.ProjectStart.{Way, asks, Opens, Refuses, is_early, refused_early}
 use Rattle.osi_machine.proofs.Lines.{cut_to}
-use Rattle.std.proofs.lemmas.Bool.{or_parts, not-true}
 
 pub record IsDead (w : World) : Type 0 where
   pub left : w.own.transport ≡ gone

@@ -1,11 +1,7 @@
 -- While no class is known each connection waits for its caller's first message, or is dead; and where a called
 -- end denies, no agreement is under way.
 use Rattle.std.proofs.Common.{◌≡◌, refl, sym, ◌∙◌, ap, subst, ℕ, Bool, true, false, List, [], ◌∷◌, take, Option, Some, None, Ok, Err, inl, inr, arith}
-use Rattle.std.specs.List.{list_any}
-use Rattle.osi_machine.specs.Floor.{Meaning, Call, Answer, allowed, respond_unit}
-use Rattle.osi_machine.specs.Worlds.{Message, unit, ask, agree, deny, bye, over, Transport, not_yet, waiting, linked, closing, gone, World, turned, session_of, put, replied, after_answer, Terms, denies, message_taken, closed, ended_at}
-use Rattle.osi_machine.specs.Machine.{without_first}
-use Rattle.osi_machine.specs.Views.{Told}
+use Rattle.osi_machine.proofs.Vocabulary.{list_any, Meaning, Call, Answer, allowed, respond_unit, Message, unit, ask, agree, deny, bye, over, Transport, not_yet, waiting, linked, closing, gone, World, turned, session_of, put, replied, after_answer, Terms, denies, message_taken, closed, ended_at, without_first, Told, or_parts}
 use Rattle.osi_machine.proofs.Idle.{append_nil}
 use Rattle.osi_machine.proofs.Lines.{cut_to}
 use Rattle.osi_machine.proofs.Projects.{is_begun, not_both}
@@ -14,7 +10,6 @@ use Rattle.osi_machine.proofs.ProjectStart.{Opens, Refuses, caller_refuses, call
 use Rattle.osi_machine.proofs.ProjectOpen.{called_takes}
 use Rattle.osi_machine.proofs.Whole.{Stage, turned_back}
 use Rattle.osi_machine.proofs.DeadLines.{IsEarly, opens_early, opens_quiet, dead_call, dead_called, dead_takes, dead_taken, dead_ends, dead_ended, dead_cut, put_none, take_none}
-use Rattle.std.proofs.lemmas.Bool.{or_parts}
 
 waits_opens : (b : Bool) (w : World) (t u : Told) → Stage b w t u → w.own.transport ≡ waiting → Opens w t u
 waits_opens b w t u (inl h) e = h

@@ -1,10 +1,7 @@
 -- A side that gives tokens away: what is under way to it goes on fitting, and leaves it the same but for
 -- those tokens.
 use Rattle.std.proofs.Common.{◌≡◌, refl, sym, ◌∙◌, ap, subst, Bool, true, false, not, ◌&&◌, ◌||◌, if◌then◌else◌, List, ◌⊎◌, inl, inr, arith}
-use Rattle.std.proofs.lemmas.Bool.{and_parts, or_left, and_from, not-true}
-use Rattle.osi_machine.specs.Floor.{State, Tokens, Meaning, CN, AC, DT, GT, PT, MIP, MIA, MAP, MAA, RS, RA, FN, NF, Token, data_token, minor, major, release, has, some, is_empty, is_within, is_disjoint, without, united, available, lacks, may_ask, is_wait_cn, is_connecting, is_releasing, is_restarting, is_restart_due, becomes, stands, drops, Good}
-use Rattle.osi_machine.specs.Histories.{Item}
-use Rattle.osi_machine.specs.Channels.{Fits, stops, view_next}
+use Rattle.osi_machine.proofs.Vocabulary.{and_parts, or_left, and_from, not-true, State, Tokens, Meaning, CN, AC, DT, GT, PT, MIP, MIA, MAP, MAA, RS, RA, FN, NF, Token, data_token, minor, major, release, has, some, is_empty, is_within, is_disjoint, without, united, available, lacks, may_ask, is_wait_cn, is_connecting, is_releasing, is_restarting, is_restart_due, becomes, stands, drops, Good, Item, Fits, stops, view_next}
 use Rattle.osi_machine.proofs.PhaseLaws.{excluded, cut_or}
 use Rattle.osi_machine.proofs.Units.{next_acted, restart_due, due_next}
 use Rattle.osi_machine.proofs.ChannelLaws.{Steps}

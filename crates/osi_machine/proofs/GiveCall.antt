@@ -1,11 +1,6 @@
 -- The call of Give keeps what is true of both sides.
 use Rattle.std.proofs.Common.{◌≡◌, refl, sym, ◌∙◌, ap, subst, ℕ, Bool, true, false, not, ◌&&◌, ◌||◌, if◌then◌else◌, List, [], ◌∷◌, ◌++◌, inl, inr, Ok, arith}
-use Rattle.osi_machine.specs.Floor.{State, FunctionalUnits, GT, Tokens, Token, has, available, is_empty, is_within, may_give, may_ask, may_hold, is_restarting, is_restart_due, Give, drops, next}
-use Rattle.osi_machine.specs.Histories.{Item, cutat}
-use Rattle.osi_machine.specs.Owners.{Owner, ToThem, turned_owner, turned_owners, is_own, is_to_own, is_absent, passed_to}
-use Rattle.osi_machine.specs.Channels.{Fits, flush, heard, hears, heard_view, data_of}
-use Rattle.osi_machine.specs.Core.{Party, Core, answered}
-use Rattle.osi_machine.specs.Parties.{is_opening, AreConsistent}
+use Rattle.osi_machine.proofs.Vocabulary.{State, FunctionalUnits, GT, Tokens, Token, has, available, is_empty, is_within, may_give, may_ask, may_hold, is_restarting, is_restart_due, Give, drops, next, Item, cutat, Owner, ToThem, turned_owner, turned_owners, is_own, is_to_own, is_absent, passed_to, Fits, flush, heard, hears, heard_view, data_of, Party, Core, answered, is_opening, AreConsistent, and_from}
 use Rattle.osi_machine.proofs.PhaseLaws.{implied, excluded, implied_two, by_either}
 use Rattle.osi_machine.proofs.Units.{next_cases, next_acted, next_dropped}
 use Rattle.osi_machine.proofs.ChannelLaws.{fit_append, flush_append, heard_flush, heard_append, data_append, Runs, alike, alike_view}
@@ -15,7 +10,6 @@ use Rattle.osi_machine.proofs.Idle.{end_units, other_lacks, append_nil, view_idl
 use Rattle.osi_machine.proofs.DataCall.{none_owed}
 use Rattle.osi_machine.proofs.Fewer.{less, Gives, Fewer, fewer_step, fewer_shows, but_held, within_has, disjoint_of}
 use Rattle.osi_machine.proofs.Retoken.{Like, like, itself, Tokens_of, retoken, recount}
-use Rattle.std.proofs.lemmas.Bool.{and_from}
 
 -- ---- a token that is given: held no longer, owned by neither, on its way
 

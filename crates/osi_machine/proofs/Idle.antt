@@ -1,19 +1,11 @@
 -- Calls that send a unit which changes no state: what is sent, and what both sides then are.
 use Rattle.std.proofs.Common.{◌≡◌, refl, sym, ◌∙◌, ap, subst, ℕ, Bool, true, false, not, ◌&&◌, ◌||◌, if◌then◌else◌, List, [], ◌∷◌, ◌++◌, ◌⊎◌, inl, inr, arith}
-use Rattle.std.specs.List.{list_any}
-use Rattle.osi_machine.specs.Floor.{State, FunctionalUnits, Meaning, DT, PT, Tokens, Token, data_token, has, available, has_right, is_within, is_ready, may_ask, may_hold, takes_data, takes_please, is_restarting, is_restart_due, becomes, drops, next}
-use Rattle.osi_machine.specs.Histories.{Item}
-use Rattle.osi_machine.specs.Owners.{Owners, Owner, Own, Absent, turned_owner, turned_owners, is_own, is_to_own, is_absent}
-use Rattle.osi_machine.specs.Taking.{seen}
-use Rattle.osi_machine.specs.Channels.{Fits, AllFit, flush, stops, heard, hears, view_next, heard_view}
-use Rattle.osi_machine.specs.Core.{Party}
-use Rattle.osi_machine.specs.Parties.{is_opening}
+use Rattle.osi_machine.proofs.Vocabulary.{list_any, State, FunctionalUnits, Meaning, DT, PT, Tokens, Token, data_token, has, available, has_right, is_within, is_ready, may_ask, may_hold, takes_data, takes_please, is_restarting, is_restart_due, becomes, drops, next, Item, Owners, Owner, Own, Absent, turned_owner, turned_owners, is_own, is_to_own, is_absent, seen, Fits, AllFit, flush, stops, heard, hears, view_next, heard_view, Party, is_opening, and_from, not_from_false}
 use Rattle.osi_machine.proofs.PhaseLaws.{implied, excluded, implied_two, if_first, by_either, by_test}
 use Rattle.osi_machine.proofs.Units.{next_cases, next_hears}
 use Rattle.osi_machine.proofs.ChannelLaws.{fit_append, flush_append, kept_heard, heard_flush, heard_append, heard_append_due, view_append, view_append_due}
 use Rattle.osi_machine.proofs.Begun.{flush_open, is_lively, ends_lively, is_talking, Talks, ends_talking}
 use Rattle.osi_machine.proofs.Records.{flushed, hearing, matched, Meeting, Half, Views, Counting, Counts, IsOfProfile}
-use Rattle.std.proofs.lemmas.Bool.{and_from, not_from_false}
 use Rattle.osi_machine.proofs.Deaf.{not_both}
 
 -- ---- a unit that changes no state

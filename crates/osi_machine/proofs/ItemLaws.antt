@@ -1,13 +1,6 @@
 -- Data or a point that is taken is the item of the history at the mark of the side that takes it.
 use Rattle.std.proofs.Common.{◌≡◌, sym, ◌∙◌, ap, subst, ℕ, Bool, true, false, ◌&&◌, List, [], ◌∷◌, ◌++◌, take, length, inl, inr, arith}
-use Rattle.osi_machine.specs.Floor.{State, Meaning, is_over}
-use Rattle.osi_machine.specs.Histories.{Item, Begins}
-use Rattle.osi_machine.specs.Taking.{is_acted_on}
-use Rattle.osi_machine.specs.Worlds.{Message, unit, World, turned, session_of}
-use Rattle.osi_machine.specs.Machine.{Machine}
-use Rattle.osi_machine.specs.Views.{Told}
-use Rattle.osi_machine.specs.Promises.{brings}
-use Rattle.osi_machine.specs.Runs.{IsRun, OfEach, TakesItsItem, TakeTheirItems}
+use Rattle.osi_machine.proofs.Vocabulary.{State, Meaning, is_over, Item, Begins, is_acted_on, Message, unit, World, turned, session_of, Machine, Told, brings, IsRun, OfEach, TakesItsItem, TakeTheirItems}
 use Rattle.osi_machine.proofs.CoreLaws.{SessionLaws}
 use Rattle.osi_machine.proofs.Promises.{none_brought, sees_the_history, takes_the_next_item}
 use Rattle.osi_machine.proofs.Projects.{stopped, IsLast, Carried, taken_view, session_is}

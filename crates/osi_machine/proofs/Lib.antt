@@ -77,4 +77,5 @@ pub mod Units
 pub mod ViewFold
 pub mod ViewLaws
 pub mod ViewRun
+mod Vocabulary
 pub mod Whole

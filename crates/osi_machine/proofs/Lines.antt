@@ -1,13 +1,6 @@
 -- What the moves of one connection keep is true of each connection of a machine, whatever its steps.
 use Rattle.std.proofs.Common.{◌≡◌, refl, sym, ◌∙◌, ap, subst, ℕ, zero, suc, ◌+◌, ◌==◌, ◌≤◌, Bool, true, false, ◌&&◌, if◌then◌else◌, List, [], ◌∷◌, ◌++◌, map, take, Option, Some, None, arith}
-use Rattle.std.proofs.lemmas.Bool.{ne_eqb, eq-eqb}
-use Rattle.std.specs.List.{slice_get}
-use Rattle.osi_session.specs.Shown.{Shown}
-use Rattle.osi_machine.specs.Floor.{CallError, Call, HasSerial, allowed, is_profile}
-use Rattle.osi_machine.specs.Core.{Offer, CanBeOffered, Side, Left, Right}
-use Rattle.osi_machine.specs.Worlds.{Message, World, turned, session_of, asked_with, after_answer, Taking, Terms, message_taken, closed, ended_at, shown_at_end}
-use Rattle.osi_machine.specs.Machine.{Entry, call_answered, shown_at, replaced, is_given, error_of, without_first}
-use Rattle.osi_machine.specs.Views.{Told, told_call, told_shown, told_by, is_side, record_of, untold, told_of}
+use Rattle.osi_machine.proofs.Vocabulary.{ne_eqb, eq-eqb, slice_get, Shown, CallError, Call, HasSerial, allowed, is_profile, Offer, CanBeOffered, Side, Left, Right, Message, World, turned, session_of, asked_with, after_answer, Taking, Terms, message_taken, closed, ended_at, shown_at_end, Entry, call_answered, shown_at, replaced, is_given, error_of, without_first, Told, told_call, told_shown, told_by, is_side, record_of, untold, told_of}
 use Rattle.osi_machine.proofs.ViewFold.{told_all}
 use Rattle.osi_machine.proofs.ViewRun.{record_append, told_append, other}
 

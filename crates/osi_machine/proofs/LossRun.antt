@@ -1,14 +1,8 @@
 -- After every list of steps, a side is shown a loss only where it was told of a break or found no memory.
 use Rattle.std.proofs.Common.{◌≡◌, refl, sym, ◌∙◌, ap, subst, ℕ, zero, suc, ◌+◌, Bool, true, false, not, ◌&&◌, ◌||◌, if◌then◌else◌, List, [], ◌∷◌, ◌++◌, map, Option, Some, None, is_some, inl, inr, ◌⊎◌, arith}
-use Rattle.std.specs.List.{AllByRecursion, list_any, slice_get}
 use Rattle.osi_session.specs.declared.faults.CallError.TheVariants as error
-use Rattle.osi_session.specs.Shown.{Shown, Lost}
-use Rattle.osi_machine.specs.Floor.{Call, allowed, shows_loss}
-use Rattle.osi_machine.specs.Core.{Offer, Side, Left, Right}
-use Rattle.osi_machine.specs.Worlds.{Class, class_0, class_2, Message, agree, Transport, waiting, World, turned, session_of, asked_with, after_answer, Taking, Terms, accepts, denies, message_taken, closed, ended_at, shown_at_end}
-use Rattle.osi_machine.specs.Machine.{Ending, closed_here, Refusal, Step, connects, calls, delivers, breaks, ends, Entry, connect_answered, call_answered, shown_at, ended, Machine, start, connection_at, replaced, with_connection, seen_from, end_of, stays, noted, is_given, is_waiting, is_known, is_class_0, transport_of, refusal, asked_in, error_of, call_in, side_of, ends_there, ended_worlds, shown_in_order, marked_ended, after_end, closes_by, after_taking, without_first, learns, taken_in, delivered_to, cut_channels, is_told, step, run, HasNumber}
-use Rattle.osi_machine.specs.Views.{Told, is_side}
-use Rattle.osi_machine.specs.Runs.{is_loss, loses, LosesByItsEnd, IsRun}
+use Rattle.osi_machine.specs.Machine.{ends_there}
+use Rattle.osi_machine.proofs.Vocabulary.{AllByRecursion, list_any, slice_get, Shown, Lost, Call, allowed, shows_loss, Offer, Side, Left, Right, Class, class_0, class_2, Message, agree, Transport, waiting, World, turned, session_of, asked_with, after_answer, Taking, Terms, accepts, denies, message_taken, closed, ended_at, shown_at_end, Ending, closed_here, Refusal, Step, connects, calls, delivers, breaks, ends, Entry, connect_answered, call_answered, shown_at, ended, Machine, start, connection_at, replaced, with_connection, seen_from, end_of, stays, noted, is_given, is_waiting, is_known, is_class_0, transport_of, refusal, asked_in, error_of, call_in, side_of, ended_worlds, shown_in_order, marked_ended, after_end, closes_by, after_taking, without_first, learns, taken_in, delivered_to, cut_channels, is_told, step, run, HasNumber, Told, is_side, is_loss, loses, LosesByItsEnd, IsRun, or_parts}
 use Rattle.osi_machine.proofs.CoreLaws.{SessionLaws}
 use Rattle.osi_machine.proofs.Projects.{stopped}
 use Rattle.osi_machine.proofs.Lines.{Lines, cut_to}
@@ -20,7 +14,6 @@ use Rattle.osi_machine.proofs.DeadLines.{IsDead, IsEarly, dead_call, dead_called
 use Rattle.osi_machine.proofs.EarlyLines.{NoAgree, is_agree, early_call, early_called, early_takes, early_taken, early_ends, early_ended, early_cut, none_back, none_call, none_takes, none_closed, none_ends, none_cut}
 use Rattle.osi_machine.proofs.LossShown.{is_lost, message_keeps}
 use Rattle.osi_machine.proofs.TableRuns.{StageOf, stage_of, stage_from}
-use Rattle.std.proofs.lemmas.Bool.{or_parts}
 use Rattle.osi_machine.proofs.Places.{all_more, all_replaced, all_with, some_same, all_got, all_at}
 use Rattle.osi_machine.proofs.PhaseLaws.{by_either, by_test}
 

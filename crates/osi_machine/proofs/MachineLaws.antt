@@ -1,16 +1,7 @@
 -- What the records of both sides tell after every list of steps of the machine.
 use Rattle.std.proofs.Common.{◌≡◌, refl, sym, ◌∙◌, ap, subst, ℕ, zero, suc, ◌+◌, ◌<◌, Bool, true, false, not, ◌&&◌, ◌||◌, List, [], ◌∷◌, ◌++◌, length, Option, Some, None, inl, inr, ◌⊎◌, arith}
-use Rattle.std.proofs.Math.Bool.{or_comm}
-use Rattle.std.specs.List.{slice_get}
-use Rattle.osi_machine.specs.Floor.{has, is_over, FunctionalUnits}
-use Rattle.osi_machine.specs.Histories.{Item, Point, PointKind, points, Begins, Agree}
-use Rattle.osi_machine.specs.Owners.{turned_owner, is_own}
-use Rattle.osi_machine.specs.Core.{Offer, Left, Right, Core, turned as turned_core}
-use Rattle.osi_machine.specs.Parties.{is_opening}
-use Rattle.osi_machine.specs.Worlds.{World, turned, session_of}
-use Rattle.osi_machine.specs.Machine.{Machine, Entry, connection_at}
-use Rattle.osi_machine.specs.Views.{Told, told_of}
-use Rattle.osi_machine.specs.Runs.{IsRun, OfEach, HasOneHolder, ShowNoFault, RecordsAgree, ShownAsAsked, ConfirmedThere, ConfirmedInBoth}
+use Rattle.osi_machine.specs.Core.{turned as turned_core}
+use Rattle.osi_machine.proofs.Vocabulary.{or_comm, slice_get, has, is_over, FunctionalUnits, Item, Point, PointKind, points, Begins, Agree, turned_owner, is_own, Offer, Left, Right, Core, is_opening, World, turned, session_of, Machine, Entry, connection_at, Told, told_of, IsRun, OfEach, HasOneHolder, ShowNoFault, RecordsAgree, ShownAsAsked, ConfirmedThere, ConfirmedInBoth}
 use Rattle.osi_machine.proofs.CoreLaws.{SessionLaws}
 use Rattle.osi_machine.proofs.Records.{Stands}
 use Rattle.osi_machine.proofs.Tokens.{has_set}

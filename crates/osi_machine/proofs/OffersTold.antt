@@ -1,10 +1,6 @@
 -- The journal tells what was asked for with each connection.
 use Rattle.std.proofs.Common.{◌≡◌, refl, ◌∙◌, ap, ℕ, ◌+◌, List, [], ◌∷◌, ◌++◌, map, None}
-use Rattle.osi_session.specs.Shown.{Shown}
-use Rattle.osi_machine.specs.Core.{Offer, Side}
-use Rattle.osi_machine.specs.Worlds.{World, shown_at_end}
-use Rattle.osi_machine.specs.Machine.{Entry, connect_answered, shown_at, Machine, seen_from, shown_in_order}
-use Rattle.osi_machine.specs.AsTables.{offers_in}
+use Rattle.osi_machine.proofs.Vocabulary.{Shown, Offer, Side, World, shown_at_end, Entry, connect_answered, shown_at, Machine, seen_from, shown_in_order, offers_in}
 use Rattle.osi_machine.proofs.Idle.{append_nil}
 
 abbrev pub offer_of : World → Offer

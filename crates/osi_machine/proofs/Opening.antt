@@ -1,11 +1,9 @@
 -- What is under way while a connection is being opened: nothing that acts.
 use Rattle.std.proofs.Common.{◌≡◌, refl, subst, true, false, if◌then◌else◌, List, [], ◌∷◌}
-use Rattle.osi_machine.specs.Floor.{State, Phase, Meaning, CN, AC, RF, DT, GT, PT, MIP, MIA, MAP, MAA, RS, RA, FN, DN, NF, AB, AA, is_wait_cn, is_connecting, is_answering, is_restarting, is_ready, is_major_asked, is_releasing, may_ask, takes_data, takes_please, takes_minor_ack, takes_restart, is_expected, is_acceptable, has_no_effect, passes_restarting, becomes, stands, drops, Good, next}
-use Rattle.osi_machine.specs.Channels.{is_plain, Fits, AllFit, flush}
+use Rattle.osi_machine.proofs.Vocabulary.{State, Phase, Meaning, CN, AC, RF, DT, GT, PT, MIP, MIA, MAP, MAA, RS, RA, FN, DN, NF, AB, AA, is_wait_cn, is_connecting, is_answering, is_restarting, is_ready, is_major_asked, is_releasing, may_ask, takes_data, takes_please, takes_minor_ack, takes_restart, is_expected, is_acceptable, has_no_effect, passes_restarting, becomes, stands, drops, Good, next, is_plain, Fits, AllFit, flush, both_ways}
 use Rattle.osi_machine.proofs.PhaseLaws.{excluded, by_test}
 use Rattle.osi_machine.proofs.Units.{next_dropped, next_acted, chosen}
 use Rattle.osi_machine.proofs.Deaf.{AllEmpty, dropped_empty}
-use Rattle.std.proofs.lemmas.Bool.{both_ways}
 
 -- a side that owes the answer to a CN expects nothing
 pub none_answering : (p : Phase) (u : Meaning) → is_answering p ≡ true → is_plain u ≡ true → is_expected p u ≡ false

@@ -1,10 +1,7 @@
 -- What stands at a reference, after one connection is another, after one more, an end and a break.
 use Rattle.std.proofs.Common.{◌≡◌, refl, ◌∙◌, ap, subst, ℕ, zero, suc, ◌+◌, ◌<◌, ◌≤◌, true, List, [], ◌∷◌, ◌++◌, length, Option, Some, None, is_some, arith}
-use Rattle.std.specs.List.{AllByRecursion, slice_get}
-use Rattle.osi_machine.specs.Core.{Side}
-use Rattle.osi_machine.specs.Machine.{connection_at, replaced, with_connection}
-use Rattle.osi_machine.specs.Tables.{Line, seen_from, ends_there, ended_lines, cut_channels}
-use Rattle.osi_machine.specs.AsTables.{cut_line}
+use Rattle.osi_machine.specs.Tables.{seen_from, cut_channels}
+use Rattle.osi_machine.proofs.Vocabulary.{AllByRecursion, slice_get, Side, connection_at, replaced, with_connection, Line, ends_there, ended_lines, cut_line}
 
 -- ---- one is another
 

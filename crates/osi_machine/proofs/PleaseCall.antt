@@ -1,12 +1,6 @@
 -- The call of Please keeps what is true of both sides.
 use Rattle.std.proofs.Common.{◌≡◌, refl, sym, ◌∙◌, ap, subst, ℕ, Bool, true, ◌&&◌, List, [], ◌∷◌, ◌++◌, Ok}
-use Rattle.std.specs.List.{list_any}
-use Rattle.osi_machine.specs.Floor.{State, Meaning, PT, Tokens, data_token, available, may_ask, is_within, is_restarting, Please}
-use Rattle.osi_machine.specs.Histories.{Item, cutat, AreNumberedFrom}
-use Rattle.osi_machine.specs.Owners.{turned_owners}
-use Rattle.osi_machine.specs.Channels.{AllFit, heard, hears, data_of, needs_token}
-use Rattle.osi_machine.specs.Core.{Party, Core, answered}
-use Rattle.osi_machine.specs.Parties.{AreConsistent}
+use Rattle.osi_machine.proofs.Vocabulary.{list_any, State, Meaning, PT, Tokens, data_token, available, may_ask, is_within, is_restarting, Please, Item, cutat, AreNumberedFrom, turned_owners, AllFit, heard, hears, data_of, needs_token, Party, Core, answered, AreConsistent}
 use Rattle.osi_machine.proofs.ChannelLaws.{fit_append, data_append}
 use Rattle.osi_machine.proofs.Records.{flushed, Views, Stands}
 use Rattle.osi_machine.proofs.Idle.{IsIdle, flush_idle, heard_idle, sending, own_half, peer_half, own_counts, peer_counts, please_fits, append_nil, view_idle, list_any_append}

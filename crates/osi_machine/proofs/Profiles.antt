@@ -1,11 +1,8 @@
 -- The units that an AC selects.
 use Rattle.std.proofs.Common.{◌≡◌, refl, sym, ◌∙◌, ap, subst, ℕ, ◌==◌, Bool, true, false, not, ◌&&◌, ◌||◌, if◌then◌else◌, arith}
-use Rattle.std.proofs.lemmas.Bool.{eqb-true, and_parts}
 use Rattle.std.proofs.lemmas.Nat.{and_assoc, and_le_r}
 use Rattle.std.specs.Int.RustNames.{bit_and}
-use Rattle.osi_message.specs.Reading.{names}
-use Rattle.osi_machine.specs.Floor.{FunctionalUnits, functional_units, both_units, units_within, has_data, has_points, is_profile, base_for, serial_for}
-use Rattle.osi_session.specs.Respond.{agreed_base}
+use Rattle.osi_machine.proofs.Vocabulary.{eqb-true, and_parts, names, FunctionalUnits, functional_units, both_units, units_within, has_data, has_points, is_profile, base_for, serial_for, agreed_base}
 use Rattle.osi_machine.proofs.Records.{IsOfProfile}
 use Rattle.osi_machine.proofs.PhaseLaws.{cut_or, by_test}
 

@@ -1,14 +1,6 @@
 -- A call at a whole connection, and in the core.
 use Rattle.std.proofs.Common.{◌≡◌, refl, sym, ◌∙◌, ap, subst, ℕ, ◌+◌, ◌≤◌, Bool, true, false, not, ◌||◌, if◌then◌else◌, List, [], ◌∷◌, ◌++◌, append_assoc, map, length, ◌⊎◌, inl, inr, Ok, arith}
-use Rattle.std.proofs.lemmas.List.{length-append, map-append}
-use Rattle.std.specs.List.{list_any}
-use Rattle.osi_session.specs.Allowed.{Passed}
-use Rattle.osi_machine.specs.Floor.{State, Meaning, Token, is_over, Call, Restart, Granted, allowed, after, sends, may_call, Numbers}
-use Rattle.osi_machine.specs.Histories.{Item, cutat}
-use Rattle.osi_machine.specs.Owners.{Owner, Own, Owners, is_own, turned_owner, given_up, own_to_pool, left_by}
-use Rattle.osi_machine.specs.Channels.{is_plain}
-use Rattle.osi_machine.specs.Core.{Core, stays_in_core, says, view_called, owners_called, answered}
-use Rattle.osi_machine.specs.Worlds.{Message, unit, Kept, World, put, mark_called, after_call}
+use Rattle.osi_machine.proofs.Vocabulary.{length-append, map-append, list_any, Passed, State, Meaning, Token, is_over, Call, Restart, Granted, allowed, after, sends, may_call, Numbers, Item, cutat, Owner, Own, Owners, is_own, turned_owner, given_up, own_to_pool, left_by, is_plain, Core, stays_in_core, says, view_called, owners_called, answered, Message, unit, Kept, World, put, mark_called, after_call}
 use Rattle.osi_machine.proofs.CoreLaws.{SessionLaws, granted}
 use Rattle.osi_machine.proofs.Records.{Stands}
 use Rattle.osi_machine.proofs.Idle.{append_nil}

@@ -1,13 +1,9 @@
 -- A close, a break and the end of a side at a whole connection: to the core nothing has happened.
 use Rattle.std.proofs.Common.{◌≡◌, refl, sym, ◌∙◌, ap, ℕ, zero, suc, Bool, true, false, ◌||◌, List, [], ◌∷◌, ◌++◌, map, take, arith}
-use Rattle.std.specs.List.{list_any}
-use Rattle.osi_machine.specs.Floor.{State, Meaning, lost}
-use Rattle.osi_machine.specs.Core.{Core, turned}
-use Rattle.osi_machine.specs.Worlds.{Message, unit, bye, over, Transport, linked, gone, World, session_of, moved, shortened, closed, ended_at, turned as turned_world}
-use Rattle.osi_machine.specs.Machine.{without_first}
+use Rattle.osi_machine.specs.Core.{turned}
+use Rattle.osi_machine.proofs.Vocabulary.{list_any, State, Meaning, lost, Core, Message, unit, bye, over, Transport, linked, gone, World, session_of, moved, shortened, closed, ended_at, turned as turned_world, without_first, or_parts}
 use Rattle.osi_machine.proofs.Projects.{stopped, parts, IsTail, Carried, OneSide, Projects, both_over, not_both, one_over}
 use Rattle.osi_machine.proofs.ProjectCall.{left_theirs}
-use Rattle.std.proofs.lemmas.Bool.{or_parts}
 use Rattle.osi_machine.proofs.RestartFlow.{or_true}
 use Rattle.osi_machine.proofs.PhaseLaws.{by_test}
 

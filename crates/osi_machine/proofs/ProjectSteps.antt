@@ -1,9 +1,6 @@
 -- A message that is taken, a close, a break and an end at a whole connection that was agreed to.
 use Rattle.std.proofs.Common.{◌≡◌, refl, sym, ◌∙◌, ap, subst, ℕ, Bool, true, false, if◌then◌else◌, List, [], ◌∷◌, take}
-use Rattle.osi_machine.specs.Floor.{State, shows_loss, lost}
-use Rattle.osi_machine.specs.Worlds.{Message, unit, ask, agree, deny, bye, over, Transport, not_yet, waiting, linked, closing, gone, World, session_of, moved, moves, put, shortened, unchanged, Terms, message_taken, closed, ended_at, shown_at_end}
-use Rattle.osi_machine.specs.Machine.{without_first}
-use Rattle.osi_machine.specs.Views.{Told}
+use Rattle.osi_machine.proofs.Vocabulary.{State, shows_loss, lost, Message, unit, ask, agree, deny, bye, over, Transport, not_yet, waiting, linked, closing, gone, World, session_of, moved, moves, put, shortened, unchanged, Terms, message_taken, closed, ended_at, shown_at_end, without_first, Told}
 use Rattle.osi_machine.proofs.CoreLaws.{SessionLaws}
 use Rattle.osi_machine.proofs.ViewFold.{told_all}
 use Rattle.osi_machine.proofs.Projects.{stopped, parts, is_begun, Projects, both_over, not_both}

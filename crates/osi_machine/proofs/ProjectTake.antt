@@ -1,16 +1,7 @@
 -- A unit is taken at a whole connection, and in the core.
 use Rattle.std.proofs.Common.{◌≡◌, refl, sym, ◌∙◌, ap, subst, ℕ, ◌+◌, Bool, true, false, not, ◌&&◌, ◌||◌, if◌then◌else◌, List, [], ◌∷◌, ◌++◌, map, length, Option, Some, None, ◌⊎◌, inl, inr, arith}
-use Rattle.std.proofs.lemmas.List.{length-append}
-use Rattle.std.specs.List.{list_any}
-use Rattle.osi_machine.specs.Floor.{TokenSetting, TsduMaximumSize, State, Meaning, CN, AC, RF, GT, RS, RA, AB, Token, has, Outcome, is_over, is_acceptable, are_sizes, has_data, functional_units, respond_unit, becomes, stands, drops}
-use Rattle.osi_session.specs.Respond.{reply_for}
-use Rattle.osi_machine.specs.Histories.{Item, cutat}
-use Rattle.osi_machine.specs.Owners.{Owners, is_own, turned_owner, left_by}
-use Rattle.osi_machine.specs.Taking.{is_acted_on, seen, got_in, cut_by, owners_after}
-use Rattle.osi_machine.specs.Channels.{is_plain, AllFit, Fits}
-use Rattle.osi_machine.specs.Core.{Core, turned, taking}
-use Rattle.osi_machine.specs.Worlds.{Message, unit, Kept, World, put, mark_after, replied, after_unit, turned as turned_world}
-use Rattle.osi_machine.specs.Machine.{without_first}
+use Rattle.osi_machine.specs.Core.{turned}
+use Rattle.osi_machine.proofs.Vocabulary.{length-append, list_any, TokenSetting, TsduMaximumSize, State, Meaning, CN, AC, RF, GT, RS, RA, AB, Token, has, Outcome, is_over, is_acceptable, are_sizes, has_data, functional_units, respond_unit, becomes, stands, drops, reply_for, Item, cutat, Owners, is_own, turned_owner, left_by, is_acted_on, seen, got_in, cut_by, owners_after, is_plain, AllFit, Fits, Core, taking, Message, unit, Kept, World, put, mark_after, replied, after_unit, turned as turned_world, without_first}
 use Rattle.osi_machine.proofs.Records.{Stands}
 use Rattle.osi_machine.proofs.Idle.{append_nil}
 use Rattle.osi_machine.proofs.Acting.{no_fault}

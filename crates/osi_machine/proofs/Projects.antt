@@ -1,14 +1,8 @@
 -- How a whole connection is repeated by one of which nothing is lost. A side that is over is left as it was;
 -- to the other, an abort, an end, a break or a loss is a side that has gone silent.
 use Rattle.std.proofs.Common.{◌≡◌, sym, ◌∙◌, ap, ℕ, ◌+◌, Bool, true, false, not, ◌||◌, List, [], ◌∷◌, ◌++◌, map, length, take, ◌⊎◌}
-use Rattle.std.proofs.Math.Seq.{take-append_seam}
-use Rattle.std.specs.List.{list_any}
-use Rattle.osi_machine.specs.Floor.{State, Meaning, RF, DN, AB, Token, is_over, is_answering, is_release_due}
-use Rattle.osi_machine.specs.Histories.{Item, points, Begins}
-use Rattle.osi_machine.specs.Owners.{is_own, owned}
-use Rattle.osi_machine.specs.Channels.{is_plain}
-use Rattle.osi_machine.specs.Core.{Party, Core, turned}
-use Rattle.osi_machine.specs.Worlds.{Message, unit, bye, over, Transport, not_yet, waiting, linked, kept_of, End, World, session_of, turned as turned_world}
+use Rattle.osi_machine.specs.Core.{turned}
+use Rattle.osi_machine.proofs.Vocabulary.{take-append_seam, list_any, State, Meaning, RF, DN, AB, Token, is_over, is_answering, is_release_due, Item, points, Begins, is_own, owned, is_plain, Party, Core, Message, unit, bye, over, Transport, not_yet, waiting, linked, kept_of, End, World, session_of, turned as turned_world}
 use Rattle.osi_machine.proofs.Records.{Stands}
 use Rattle.osi_machine.proofs.Tokens.{has_set}
 use Rattle.osi_machine.proofs.Fewer.{tokens_same}

@@ -1,13 +1,7 @@
 -- What is true of two sides and what is under way between them. Each line is stated for the side x that
 -- takes what y sends, and holds for both.
 use Rattle.std.specs.Prelude.{◌≡◌, ℕ, ◌≤◌, ◌<◌, Bool, true, false, not, ◌&&◌, ◌||◌, List, [], ◌++◌}
-use Rattle.std.specs.List.{list_any}
-use Rattle.osi_machine.specs.Floor.{State, Phase, FunctionalUnits, Connecting, Answering, Ready, MajorAsked, MajorDue, Releasing, ReleaseDue, Restarting, RestartDue, Token, data_token, has, available, lower, is_restarting, is_restart_due, is_connecting, is_release_due, is_releasing, may_hold}
-use Rattle.osi_machine.specs.Histories.{Item, cutat, AreNumberedFrom}
-use Rattle.osi_machine.specs.Owners.{Owners, is_own, is_to_own, is_absent, turned_owners}
-use Rattle.osi_machine.specs.Channels.{AllFit, flush, heard, hears, heard_view, data_of, needs_token}
-use Rattle.osi_machine.specs.Core.{Party, Core}
-use Rattle.osi_machine.specs.Parties.{AreConsistent}
+use Rattle.osi_machine.proofs.Vocabulary.{list_any, State, Phase, FunctionalUnits, Connecting, Answering, Ready, MajorAsked, MajorDue, Releasing, ReleaseDue, Restarting, RestartDue, Token, data_token, has, available, lower, is_restarting, is_restart_due, is_connecting, is_release_due, is_releasing, may_hold, Item, cutat, AreNumberedFrom, Owners, is_own, is_to_own, is_absent, turned_owners, AllFit, flush, heard, hears, heard_view, data_of, needs_token, Party, Core, AreConsistent}
 
 -- the state of x when it has taken all that y has sent, and just before a restart that stands
 abbrev pub flushed : Party → Party → State

@@ -1,13 +1,6 @@
 -- The calls of Release and of ReleaseRefuse keep what is true of both sides.
 use Rattle.std.proofs.Common.{◌≡◌, refl, sym, ◌∙◌, ap, subst, ℕ, ◌≤◌, ◌<◌, Bool, true, false, not, ◌&&◌, ◌||◌, if◌then◌else◌, List, [], ◌∷◌, ◌++◌, inl, inr, Ok, arith}
-use Rattle.std.proofs.lemmas.Bool.{and_parts, and_from, not-true, or_parts, and_right}
-use Rattle.std.specs.List.{list_any}
-use Rattle.osi_machine.specs.Floor.{State, Phase, Numbers, FunctionalUnits, Ready, Releasing, ReleaseDue, Tokens, Meaning, AC, DT, GT, PT, MIP, MIA, MAP, MAA, RS, RA, FN, NF, Token, data_token, minor, major, has, available, each, has_right, is_empty, is_within, is_disjoint, is_ready, is_releasing, is_release_due, is_restarting, is_restart_due, is_wait_cn, is_connecting, is_major_asked, lower, passes_restarting, has_no_effect, may_hold, becomes, next, Good, Release, ReleaseRefuse}
-use Rattle.osi_machine.specs.Histories.{AreNumberedFrom}
-use Rattle.osi_machine.specs.Owners.{turned_owners}
-use Rattle.osi_machine.specs.Channels.{is_plain, Fits, AllFit, flush, stops, heard_view, needs_token}
-use Rattle.osi_machine.specs.Core.{Core, answered}
-use Rattle.osi_machine.specs.Parties.{is_opening}
+use Rattle.osi_machine.proofs.Vocabulary.{and_parts, and_from, not-true, or_parts, and_right, list_any, State, Phase, Numbers, FunctionalUnits, Ready, Releasing, ReleaseDue, Tokens, Meaning, AC, DT, GT, PT, MIP, MIA, MAP, MAA, RS, RA, FN, NF, Token, data_token, minor, major, has, available, each, has_right, is_empty, is_within, is_disjoint, is_ready, is_releasing, is_release_due, is_restarting, is_restart_due, is_wait_cn, is_connecting, is_major_asked, lower, passes_restarting, has_no_effect, may_hold, becomes, next, Good, Release, ReleaseRefuse, AreNumberedFrom, turned_owners, is_plain, Fits, AllFit, flush, stops, heard_view, needs_token, Core, answered, is_opening}
 use Rattle.osi_machine.proofs.PhaseLaws.{implied, excluded, implied_two, by_either, by_test}
 use Rattle.osi_machine.proofs.Units.{next_cases, fit_cases, next_acted, next_dropped, next_hears}
 use Rattle.osi_machine.proofs.ChannelLaws.{kept_all, kept_heard, heard_flush}

@@ -1,13 +1,7 @@
 -- The call of Restart keeps what is true of both sides.
 use Rattle.std.proofs.Common.{◌≡◌, refl, sym, ◌∙◌, ap, subst, ℕ, ◌+◌, ◌-◌, ◌≤◌, true, false, not, ◌&&◌, ◌||◌, if◌then◌else◌, List, [], ◌∷◌, ◌++◌, Ok, inl, inr, arith}
-use Rattle.std.proofs.lemmas.Bool.{leb-true, and_parts, and_from, both_ways}
 use Rattle.osi_spdu.specs.declared.fields.ResyncType.TheVariants as resync
-use Rattle.osi_machine.specs.Floor.{TokenSetting, State, FunctionalUnits, RS, has, available, is_restarting, is_restart_due, is_release_due, restarted_at, is_restartable, offered, Restart, IsSound, next}
-use Rattle.osi_machine.specs.Histories.{Item, points, cutat, Begins}
-use Rattle.osi_machine.specs.Owners.{Owner, Own, turned_owner, turned_owners, is_own, is_to_own, is_absent, own_to_pool, given_up}
-use Rattle.osi_machine.specs.Channels.{flush, heard, hears, data_of}
-use Rattle.osi_machine.specs.Core.{Party, Core, answered}
-use Rattle.osi_machine.specs.Parties.{AreConsistent}
+use Rattle.osi_machine.proofs.Vocabulary.{leb-true, and_parts, and_from, both_ways, TokenSetting, State, FunctionalUnits, RS, has, available, is_restarting, is_restart_due, is_release_due, restarted_at, is_restartable, offered, Restart, IsSound, next, Item, points, cutat, Begins, Owner, Own, turned_owner, turned_owners, is_own, is_to_own, is_absent, own_to_pool, given_up, flush, heard, hears, data_of, Party, Core, answered, AreConsistent}
 use Rattle.osi_machine.proofs.PhaseLaws.{excluded, implied_two, by_test}
 use Rattle.osi_machine.proofs.ChannelLaws.{fit_append, flush_append, due_end, data_append}
 use Rattle.osi_machine.proofs.HistoryLaws.{upto_append}

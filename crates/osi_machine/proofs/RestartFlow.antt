@@ -1,15 +1,10 @@
 -- What is under way to a side when it asks for a restart: all of it is discarded, but for one restart.
 use Rattle.std.proofs.Common.{◌≡◌, refl, sym, ◌∙◌, ap, ℕ, Bool, true, false, ◌&&◌, ◌||◌, nat_le, if◌then◌else◌, List, [], ◌∷◌, ◌⊎◌, inl, inr, arith}
-use Rattle.std.proofs.lemmas.Bool.{and_parts}
-use Rattle.osi_machine.specs.Floor.{TokenSetting, ResyncType, State, Meaning, RS, is_restarting, is_restart_due, passes_restarting, restarted_at, stands, next}
-use Rattle.osi_machine.specs.Histories.{Item, cutat}
-use Rattle.osi_machine.specs.Taking.{seen}
-use Rattle.osi_machine.specs.Channels.{Fits, AllFit, flush, stops, heard, view_next, heard_view}
+use Rattle.osi_machine.proofs.Vocabulary.{and_parts, TokenSetting, ResyncType, State, Meaning, RS, is_restarting, is_restart_due, passes_restarting, restarted_at, stands, next, Item, cutat, seen, Fits, AllFit, flush, stops, heard, view_next, heard_view, is_opening}
 use Rattle.osi_machine.proofs.PhaseLaws.{excluded, if_first, by_test}
 use Rattle.osi_machine.proofs.Units.{fit_cases, next_dropped, none_due, restart_due, and_false}
 use Rattle.osi_machine.proofs.Begun.{Open, becomes_open, is_lively, Lively, becomes_lively}
 use Rattle.osi_machine.proofs.Deaf.{AllEmpty, all_empty, empty_fits, empty_end, empty_heard, empty_view, crossed, restart_kept, restart_next, yielded, stood}
-use Rattle.osi_machine.specs.Parties.{is_opening}
 use Rattle.osi_machine.proofs.ShiftCall.{drops_waiting}
 
 -- The one side asks for nothing, the other asks for a restart; their units and base are the same.

@@ -1,12 +1,7 @@
 -- How two sides meet after one of them has asked for a restart.
 use Rattle.std.proofs.Common.{◌≡◌, refl, sym, ◌∙◌, ap, subst, ℕ, ◌+◌, ◌==◌, ◌≤◌, Bool, true, false, not, ◌&&◌, ◌||◌, nat_le, nat_lt, if◌then◌else◌, List, inl, inr, arith}
-use Rattle.std.proofs.lemmas.Bool.{lt-ltb, le-ltb, le-leb, eq-eqb, ne_eqb, cases_order, and_from, not-true}
 use Rattle.osi_spdu.specs.declared.fields.ResyncType.TheVariants as resync
-use Rattle.osi_machine.specs.Floor.{TokenSetting, State, FunctionalUnits, Restarting, RS, may_restart, takes_restart, is_restarting, is_restart_due, is_connecting, without_tokens, restarted_at, stands}
-use Rattle.osi_machine.specs.Histories.{points}
-use Rattle.osi_machine.specs.Channels.{Fits, flush, hears}
-use Rattle.osi_machine.specs.Core.{Core}
-use Rattle.osi_machine.specs.Parties.{is_opening}
+use Rattle.osi_machine.proofs.Vocabulary.{lt-ltb, le-ltb, le-leb, eq-eqb, ne_eqb, cases_order, and_from, not-true, TokenSetting, State, FunctionalUnits, Restarting, RS, may_restart, takes_restart, is_restarting, is_restart_due, is_connecting, without_tokens, restarted_at, stands, points, Fits, flush, hears, Core, is_opening}
 use Rattle.osi_machine.proofs.PhaseLaws.{implied, excluded, implied_two, by_test}
 use Rattle.osi_machine.proofs.Units.{next_hears}
 use Rattle.osi_machine.proofs.ChannelLaws.{kept_heard, heard_flush}

@@ -1,8 +1,6 @@
 -- The lines of a half, and of the numbers, where only tokens move.
 use Rattle.std.proofs.Common.{◌≡◌, refl, sym, ◌∙◌, ap, subst, ℕ, ◌≤◌, ◌<◌, true, false, ◌||◌, arith}
-use Rattle.osi_machine.specs.Floor.{State, Numbers, Token, has, available, lower, may_hold}
-use Rattle.osi_machine.specs.Owners.{Owners, is_own, is_to_own, is_absent}
-use Rattle.osi_machine.specs.Channels.{hears}
+use Rattle.osi_machine.proofs.Vocabulary.{State, Numbers, Token, has, available, lower, may_hold, Owners, is_own, is_to_own, is_absent, hears}
 use Rattle.osi_machine.proofs.Records.{matched, Meeting, Counting}
 
 -- all but the tokens is the same

@@ -1,13 +1,7 @@
 -- What each side of a connection said, what the other heard of it, and what is under way: at one line.
 use Rattle.std.proofs.Common.{◌≡◌, refl, sym, ◌∙◌, ap, subst, ℕ, zero, suc, Bool, true, false, ◌||◌, List, [], ◌∷◌, ◌++◌, append_assoc, take, drop, Option, Some, None, Ok, inl, inr, ◌⊎◌}
-use Rattle.std.proofs.lemmas.List.{append-nil}
-use Rattle.std.specs.List.{list_any}
-use Rattle.osi_session.specs.Moves.{Input, broken as broken_off, Standing, react, after_input}
-use Rattle.osi_session.specs.Phases.{may_abort, is_ended}
-use Rattle.osi_machine.specs.Floor.{State, Meaning, Call, Granted, allowed}
-use Rattle.osi_machine.specs.Histories.{Begins}
-use Rattle.osi_machine.specs.Worlds.{Message, unit, agree, deny, Transport, not_yet, waiting, put, replied}
-use Rattle.osi_machine.specs.Sayings.{one_or_none, units_in}
+use Rattle.osi_session.specs.Phases.{is_ended}
+use Rattle.osi_machine.proofs.Vocabulary.{append-nil, list_any, Input, broken as broken_off, Standing, react, after_input, may_abort, State, Meaning, Call, Granted, allowed, Begins, Message, unit, agree, deny, Transport, not_yet, waiting, put, replied, one_or_none, units_in}
 use Rattle.osi_machine.proofs.EarlyLines.{is_agree}
 
 -- what is proved of one session

@@ -1,18 +1,9 @@
 -- What each side of a connection said, and what the other heard of it, over all that may happen to a line.
 use Rattle.std.proofs.Common.{◌≡◌, refl, sym, ◌∙◌, ap, subst, ℕ, Bool, true, false, ◌||◌, if◌then◌else◌, List, [], ◌∷◌, ◌++◌, take, Option, Some, None, Ok, Err, inl, arith}
-use Rattle.std.proofs.lemmas.List.{append-nil}
-use Rattle.std.specs.List.{list_any}
-use Rattle.osi_session.specs.Moves.{called, taken, opened, refused, broken as broken_off, Standing, react, answered as answered_move}
-use Rattle.osi_session.specs.Phases.{may_abort, is_over, is_ended, is_wait_transport}
-use Rattle.osi_message.specs.Sendable.{said_of}
-use Rattle.osi_machine.specs.Floor.{Phase, Meaning, Call, Answer, allowed}
-use Rattle.osi_machine.specs.Histories.{Begins}
-use Rattle.osi_machine.specs.Core.{Offer}
-use Rattle.osi_machine.specs.Worlds.{Message, unit, ask, agree, deny, bye, over, Transport, not_yet, waiting, linked, closing, gone, put, replied, Terms, accepts, denies}
-use Rattle.osi_machine.specs.Machine.{is_given}
-use Rattle.osi_machine.specs.Tables.{Seat, Line, turned, asked_with, made, after_call, message_taken, closed, ended_at, ends_there, without_first}
-use Rattle.osi_machine.specs.AsTables.{cut_line}
-use Rattle.osi_machine.specs.Sayings.{one_or_none, said_to, heard_of, units_in, is_parting}
+use Rattle.osi_session.specs.Moves.{answered as answered_move}
+use Rattle.osi_session.specs.Phases.{is_over, is_ended, is_wait_transport}
+use Rattle.osi_machine.specs.Tables.{turned, asked_with, after_call, message_taken, closed, ended_at, without_first}
+use Rattle.osi_machine.proofs.Vocabulary.{append-nil, list_any, called, taken, opened, refused, broken as broken_off, Standing, react, may_abort, said_of, Phase, Meaning, Call, Answer, allowed, Begins, Offer, Message, unit, ask, agree, deny, bye, over, Transport, not_yet, waiting, linked, closing, gone, put, replied, Terms, accepts, denies, is_given, Seat, Line, made, ends_there, cut_line, one_or_none, said_to, heard_of, units_in, is_parting}
 use Rattle.osi_machine.proofs.EarlyLines.{is_agree}
 use Rattle.osi_machine.proofs.PhaseLaws.{excluded, implied, by_test}
 use Rattle.osi_machine.proofs.SaidLines.{SayLaws, Words, silent, says_more, hears_more, and_more, is_early, put_no_units, no_units_taken, no_agree_taken, no_agree_put, Carried, same_units, fewer_units, first_heard, reply_said, begins_so, begins_more}

@@ -6,8 +6,7 @@ use Rattle.osi_spdu.specs.declared.settings.Side.{Side}
 use Rattle.osi_spdu.specs.declared.settings.Side.TheVariants as side
 use Rattle.osi_spdu.specs.Fields.{wish_of}
 use Rattle.osi_session.specs.Sides.{wish_for, sides_by, settled, stated_side, allows}
-use Rattle.osi_machine.specs.Floor.{FunctionalUnits, Sides, Token, data_token, minor, major, release, has, each, available, side_for, is_asker, settle, stated, setting_of, of_asker, of_answerer, answers_wishes}
-use Rattle.osi_machine.specs.Owners.{Owner, Own, ToThem, Absent, turned_owner, is_own, is_to_own, is_absent}
+use Rattle.osi_machine.proofs.Vocabulary.{FunctionalUnits, Sides, Token, data_token, minor, major, release, has, each, available, side_for, is_asker, settle, stated, setting_of, of_asker, of_answerer, answers_wishes, Owner, Own, ToThem, Absent, turned_owner, is_own, is_to_own, is_absent}
 use Rattle.osi_machine.proofs.Tokens.{has_set}
 
 -- ---- a side for each token

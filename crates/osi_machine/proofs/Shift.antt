@@ -1,15 +1,10 @@
 -- A call that changes no more of a side than its phase and its numbers: what is under way to it goes on
 -- fitting, and leaves it the same but for that change, until a restart stands.
 use Rattle.std.proofs.Common.{◌≡◌, refl, sym, ◌∙◌, ap, subst, ℕ, Bool, true, false, not, ◌&&◌, ◌||◌, if◌then◌else◌, List, [], ◌∷◌, ◌++◌, ◌⊎◌, inl, inr, arith}
-use Rattle.std.specs.List.{list_any}
-use Rattle.osi_machine.specs.Floor.{State, TokenSetting, Meaning, RS, RestartDue, may_hold, is_restarting, is_restart_due, has_no_effect, passes_restarting, restarted_at, without_tokens, becomes, stands, drops, next, Good}
-use Rattle.osi_machine.specs.Histories.{Item}
-use Rattle.osi_machine.specs.Taking.{seen}
-use Rattle.osi_machine.specs.Channels.{is_plain, Fits, AllFit, flush, stops, heard, view_next, heard_view}
+use Rattle.osi_machine.proofs.Vocabulary.{list_any, State, TokenSetting, Meaning, RS, RestartDue, may_hold, is_restarting, is_restart_due, has_no_effect, passes_restarting, restarted_at, without_tokens, becomes, stands, drops, next, Good, Item, seen, is_plain, Fits, AllFit, flush, stops, heard, view_next, heard_view, or_parts}
 use Rattle.osi_machine.proofs.PhaseLaws.{excluded, by_test}
 use Rattle.osi_machine.proofs.Units.{next_acted, next_dropped, restart_acted, none_due}
 use Rattle.osi_machine.proofs.ChannelLaws.{due_end}
-use Rattle.std.proofs.lemmas.Bool.{or_parts}
 
 -- all but phase and numbers is the same
 pub record Still (s r : State) : Type 0 where

@@ -1,14 +1,7 @@
 -- A call that changes no more of a side than its phase and its numbers: what has to be known of it, so that
 -- all that is true of both sides stays.
 use Rattle.std.proofs.Common.{◌≡◌, refl, sym, ◌∙◌, ap, subst, ℕ, ◌≤◌, ◌<◌, Bool, true, false, not, ◌&&◌, ◌||◌, if◌then◌else◌, List, [], ◌∷◌, ◌++◌, ◌⊎◌, inl, inr, arith}
-use Rattle.std.specs.List.{list_any}
-use Rattle.osi_machine.specs.Floor.{State, FunctionalUnits, Tokens, Meaning, Token, has, available, data_token, lower, is_answering, is_connecting, is_release_due, is_releasing, is_restarting, is_restart_due, may_hold, has_no_effect, passes_restarting, becomes, drops, next, Good}
-use Rattle.osi_machine.specs.Histories.{Item, cutat, AreNumberedFrom}
-use Rattle.osi_machine.specs.Owners.{turned_owners, is_own, is_to_own}
-use Rattle.osi_machine.specs.Taking.{seen}
-use Rattle.osi_machine.specs.Channels.{is_plain, Fits, flush, stops, heard, hears, view_next, heard_view, data_in, data_of, needs_token}
-use Rattle.osi_machine.specs.Core.{Party, Core}
-use Rattle.osi_machine.specs.Parties.{AreConsistent}
+use Rattle.osi_machine.proofs.Vocabulary.{list_any, State, FunctionalUnits, Tokens, Meaning, Token, has, available, data_token, lower, is_answering, is_connecting, is_release_due, is_releasing, is_restarting, is_restart_due, may_hold, has_no_effect, passes_restarting, becomes, drops, next, Good, Item, cutat, AreNumberedFrom, turned_owners, is_own, is_to_own, seen, is_plain, Fits, flush, stops, heard, hears, view_next, heard_view, data_in, data_of, needs_token, Party, Core, AreConsistent, and_from, not-true}
 use Rattle.osi_machine.proofs.PhaseLaws.{excluded, implied_two, by_either, by_test}
 use Rattle.osi_machine.proofs.Units.{next_cases, next_acted, next_dropped, next_hears}
 use Rattle.osi_machine.proofs.ChannelLaws.{fit_append, flush_append, heard_flush, heard_append, view_append, data_append}
@@ -18,7 +11,6 @@ use Rattle.osi_machine.proofs.Idle.{append_nil}
 use Rattle.osi_machine.proofs.DataCall.{none_owed}
 use Rattle.osi_machine.proofs.TakeMoves.{none_due_there}
 use Rattle.osi_machine.proofs.Shift.{Shift, Still, still, Due, Shifted, Shifts, shifts, shift_view, shifted_still, shifted_listens, inv_listens, after_listens}
-use Rattle.std.proofs.lemmas.Bool.{and_from, not-true}
 use Rattle.osi_machine.proofs.Deaf.{not_both}
 
 -- the connection after the call

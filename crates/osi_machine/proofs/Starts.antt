@@ -1,13 +1,9 @@
 -- What is true of both sides is true where the CN of a caller is under way.
 use Rattle.std.proofs.Common.{◌≡◌, refl, sym, ap, subst, Bool, true, ◌&&◌, if◌then◌else◌, unwrap_or, arith}
-use Rattle.osi_machine.specs.Floor.{State, Answering, Ended, are_sizes, has_data, functional_units, serial_for, offered, is_restarting, without_tokens, awaiting, next}
-use Rattle.osi_machine.specs.Owners.{no_owner, turned_owners}
-use Rattle.osi_machine.specs.Channels.{Fits}
-use Rattle.osi_machine.specs.Core.{Offer, CanBeOffered, offering, offer_sent, core_start}
+use Rattle.osi_machine.proofs.Vocabulary.{State, Answering, Ended, are_sizes, has_data, functional_units, serial_for, offered, is_restarting, without_tokens, awaiting, next, no_owner, turned_owners, Fits, Offer, CanBeOffered, offering, offer_sent, core_start, and_from}
 use Rattle.osi_machine.proofs.Tokens.{has_set}
 use Rattle.osi_machine.proofs.CoreLaws.{starts}
 use Rattle.osi_machine.proofs.Records.{Meeting, Counting, IsOfProfile, Stands}
-use Rattle.std.proofs.lemmas.Bool.{and_from}
 use Rattle.osi_machine.proofs.PhaseLaws.{by_test}
 
 -- the called side, once it has taken the CN

@@ -1,15 +1,7 @@
 -- What two users may rely on, read from the tables and the journal.
 use Rattle.std.proofs.Common.{◌≡◌, refl, sym, ◌∙◌, ap, subst, ℕ, zero, suc, List, [], ◌∷◌, map, Option, Some, None, Bool, ◌+◌, arith}
-use Rattle.std.specs.List.{AllByRecursion, list_any, slice_get}
-use Rattle.osi_machine.specs.Floor.{State}
-use Rattle.osi_machine.specs.Core.{Offer, Side, Left, Right}
-use Rattle.osi_machine.specs.Worlds.{Message, World, Terms, turned, session_of}
-use Rattle.osi_machine.specs.Machine.{IsLegal, Step, Entry, Machine, start, connection_at, run, HasNumber}
-use Rattle.osi_machine.specs.Tables.{Line, Tables}
 use Rattle.osi_machine.specs.Tables as tables
-use Rattle.osi_machine.specs.Views.{Told, told_of}
-use Rattle.osi_machine.specs.Runs.{IsRun, is_fault, loses, LosesByItsEnd}
-use Rattle.osi_machine.specs.AsTables.{IsLine, AreLines, AtEachSide, IsAsTables, offers_in, IsTableRun, AreOffered, OfEachLine, HoldNoneTwice, AreNoFaults, AreAgreed, IsShownAsAsked, IsSeenInBoth, TellsNoFault, LosesAsItEnds}
+use Rattle.osi_machine.proofs.Vocabulary.{AllByRecursion, list_any, slice_get, State, Offer, Side, Left, Right, Message, World, Terms, turned, session_of, IsLegal, Step, Entry, Machine, start, connection_at, run, HasNumber, Line, Tables, Told, told_of, IsRun, is_fault, loses, LosesByItsEnd, IsLine, AreLines, AtEachSide, IsAsTables, offers_in, IsTableRun, AreOffered, OfEachLine, HoldNoneTwice, AreNoFaults, AreAgreed, IsShownAsAsked, IsSeenInBoth, TellsNoFault, LosesAsItEnds}
 use Rattle.osi_machine.proofs.CoreLaws.{SessionLaws}
 use Rattle.osi_machine.proofs.FaultShown.{no_fault_shown}
 use Rattle.osi_machine.proofs.OffersTold.{offer_of, Offered}

@@ -1,11 +1,6 @@
 -- A synchronization point is taken. It keeps what is true of both sides.
 use Rattle.std.proofs.Common.{◌≡◌, refl, sym, ◌∙◌, ap, subst, ℕ, ◌+◌, ◌≤◌, ◌<◌, Bool, true, false, not, ◌&&◌, ◌||◌, nat_lt, if◌then◌else◌, List, ◌∷◌, ◌⊎◌, arith}
-use Rattle.std.proofs.lemmas.Bool.{ltb-true, ltb-false, false_from_ne_true}
-use Rattle.std.specs.List.{list_any}
-use Rattle.osi_machine.specs.Floor.{State, Numbers, FunctionalUnits, Meaning, MIP, MAP, data_token, lower, MajorDue, is_ready, is_releasing, is_restarting, is_restart_due, point_taken, drops, next}
-use Rattle.osi_machine.specs.Channels.{AllFit, flush, stops, heard, hears, needs_token}
-use Rattle.osi_machine.specs.Core.{Core}
-use Rattle.osi_machine.specs.Parties.{is_opening}
+use Rattle.osi_machine.proofs.Vocabulary.{ltb-true, ltb-false, false_from_ne_true, list_any, State, Numbers, FunctionalUnits, Meaning, MIP, MAP, data_token, lower, MajorDue, is_ready, is_releasing, is_restarting, is_restart_due, point_taken, drops, next, AllFit, flush, stops, heard, hears, needs_token, Core, is_opening}
 use Rattle.osi_machine.proofs.PhaseLaws.{excluded}
 use Rattle.osi_machine.proofs.Records.{IsOfProfile, Stands}
 use Rattle.osi_machine.proofs.Units.{next_acted}

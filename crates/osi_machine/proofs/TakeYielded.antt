@@ -1,11 +1,6 @@
 -- A restart is taken that does not stand: its taker has asked for one that does. Nothing changes.
 use Rattle.std.proofs.Common.{◌≡◌, refl, ◌∙◌, ap, ℕ, Bool, false, if◌then◌else◌, List, ◌∷◌, arith}
-use Rattle.osi_machine.specs.Floor.{TokenSetting, ResyncType, Meaning, RS, stands}
-use Rattle.osi_machine.specs.Histories.{cutat}
-use Rattle.osi_machine.specs.Owners.{pooled, turned_owners}
-use Rattle.osi_machine.specs.Taking.{is_acted_on, cut_by, owners_after}
-use Rattle.osi_machine.specs.Channels.{flush, heard}
-use Rattle.osi_machine.specs.Core.{Core, taking}
+use Rattle.osi_machine.proofs.Vocabulary.{TokenSetting, ResyncType, Meaning, RS, stands, cutat, pooled, turned_owners, is_acted_on, cut_by, owners_after, flush, heard, Core, taking}
 use Rattle.osi_machine.proofs.CoreLaws.{SessionLaws}
 use Rattle.osi_machine.proofs.Records.{Stands}
 use Rattle.osi_machine.proofs.TakeMoves.{at, stands_at, Moves, moves_stands, same_tokens, none_got, same_stream}

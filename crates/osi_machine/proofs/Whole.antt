@@ -1,11 +1,7 @@
 -- A connection of the machine, at every step: it was asked for and not yet agreed to, or one of which nothing
 -- is lost repeats it; and what the records of both sides tell.
 use Rattle.std.proofs.Common.{◌≡◌, refl, sym, ◌∙◌, subst, ℕ, Bool, true, false, List, [], ◌∷◌, ◌⊎◌, inl, inr, Ok, Err, arith}
-use Rattle.osi_machine.specs.Floor.{Call, HasSerial, Answer, allowed, is_profile}
-use Rattle.osi_machine.specs.Core.{Offer, CanBeOffered, Left, Right}
-use Rattle.osi_machine.specs.Worlds.{Message, Transport, World, session_of, asked_with, after_answer, Terms, message_taken, closed, ended_at, shown_at_end, turned}
-use Rattle.osi_machine.specs.Machine.{error_of, without_first}
-use Rattle.osi_machine.specs.Views.{Told, untold}
+use Rattle.osi_machine.proofs.Vocabulary.{Call, HasSerial, Answer, allowed, is_profile, Offer, CanBeOffered, Left, Right, Message, Transport, World, session_of, asked_with, after_answer, Terms, message_taken, closed, ended_at, shown_at_end, turned, error_of, without_first, Told, untold}
 use Rattle.osi_machine.proofs.CoreLaws.{SessionLaws}
 use Rattle.osi_machine.proofs.Dispatch.{turned_twice}
 use Rattle.osi_machine.proofs.ViewFold.{told_all}

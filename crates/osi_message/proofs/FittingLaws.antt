@@ -1,34 +1,10 @@
 -- The units of what can be sent have a written form.
 use Rattle.std.proofs.Common.{◌≡◌, ◌∙◌, refl, sym, ap, subst, ℕ, ◌+◌, ◌<◌, ◌≤◌, ◌==◌, Bool, true, false, cond, ◌&&◌, List, [], ◌∷◌, length, Option, Some, None, option_map, if◌then◌else◌, arith}
-use Rattle.std.proofs.lemmas.Bool.{le-leb, lt-ltb}
-use Rattle.osi_spdu.specs.declared.codes.Code.{Code}
-use Rattle.osi_spdu.specs.declared.codes.Code.TheVariants.{ConnectAcceptItem, SyncType, TokenItem, TransportDisconnect, ProtocolOptions, UserRequirements, Version, InitialNumber, Number, Reason, CallingSelector, CalledSelector, UserData, ExtendedUserData}
 use Rattle.osi_spdu.specs.declared.codes.Code.TheVariants as code
-use Rattle.osi_spdu.specs.declared.fields.ResyncType.{ResyncType}
-use Rattle.osi_spdu.specs.declared.fields.ResyncType.TheVariants.{Restart, Abandon, Set}
-use Rattle.osi_spdu.specs.declared.fields.TsduMaximumSize.{TsduMaximumSize}
-use Rattle.osi_spdu.specs.declared.kinds.Kind.{Kind}
-use Rattle.osi_spdu.specs.declared.kinds.Kind.TheVariants.{GiveTokens, Connect, DataTransfer, MinorSyncPoint}
 use Rattle.osi_spdu.specs.declared.kinds.Category.{Category}
 use Rattle.osi_spdu.specs.declared.kinds.Category.TheVariants.{Zero, One, Two}
-use Rattle.osi_spdu.specs.declared.settings.TokenSetting.{TokenSetting}
-use Rattle.osi_spdu.specs.declared.settings.Wish.{Wish}
-use Rattle.osi_spdu.specs.declared.settings.Wish.TheVariants.{Asker, Answerer, Choice}
-use Rattle.osi_spdu.specs.Codes.{number_of, is_same}
-use Rattle.osi_spdu.specs.Kinds.{category_of, codes_of, members_of, required_of, may_stand}
-use Rattle.osi_spdu.specs.Values.{digits_of, canonical}
-use Rattle.osi_spdu.specs.Fields.{wish_number, two_octets, size_octets, setting_octets, resync_octet}
-use Rattle.osi_spdu.specs.Sizes.{written_sizes}
-use Rattle.osi_spdu.specs.Known.{Known, Contents, nothing, put, some_octets}
-use Rattle.osi_spdu.specs.Spelling.{HasInformation, EndsTsdu, MayFollow, StandTogether}
-use Rattle.osi_spdu.specs.Writing.{IsCanonical, IsFormedUnit, IsFormedTsdu, UnitFits, TsduFits, value_len, free_len, is_formed}
 use Rattle.osi_spdu.proofs.StepLaws.{same_true}
-use Rattle.osi_message.specs.declared.tokens.Tokens.{Tokens}
-use Rattle.osi_message.specs.Tokens.{token_octet}
-use Rattle.osi_message.specs.Meanings.{Meaning, CN, AC, RF, DT, GT, PT, MIP, MIA, MAP, MAA, RS, RA, FN, DN, NF, AB, AA}
-use Rattle.osi_message.specs.Numbered.{IsSmall, IsNumbered}
-use Rattle.osi_message.specs.Sendable.{IsAddress, IsAddressed}
-use Rattle.osi_message.specs.Written.{put_some, with_data, terms, numbered, sync_type, unit_with, unit_of, is_second, user_data_of, alone_units, behind_tokens, spelled, connect_unit}
+use Rattle.osi_message.proofs.Vocabulary.{le-leb, lt-ltb, Code, ConnectAcceptItem, SyncType, TokenItem, TransportDisconnect, ProtocolOptions, UserRequirements, Version, InitialNumber, Number, Reason, CallingSelector, CalledSelector, UserData, ExtendedUserData, ResyncType, Restart, Abandon, Set, TsduMaximumSize, Kind, GiveTokens, Connect, DataTransfer, MinorSyncPoint, TokenSetting, Wish, Asker, Answerer, Choice, number_of, is_same, category_of, codes_of, members_of, required_of, may_stand, digits_of, canonical, wish_number, two_octets, size_octets, setting_octets, resync_octet, written_sizes, Known, Contents, nothing, put, some_octets, HasInformation, EndsTsdu, MayFollow, StandTogether, IsCanonical, IsFormedUnit, IsFormedTsdu, UnitFits, TsduFits, value_len, free_len, is_formed, Tokens, token_octet, Meaning, CN, AC, RF, DT, GT, PT, MIP, MIA, MAP, MAA, RS, RA, FN, DN, NF, AB, AA, IsSmall, IsNumbered, IsAddress, IsAddressed, put_some, with_data, terms, numbered, sync_type, unit_with, unit_of, is_second, user_data_of, alone_units, behind_tokens, spelled, connect_unit}
 use Rattle.osi_message.proofs.ReadingLaws.{pairs_again, wish_small}
 use Rattle.osi_message.proofs.SendingLaws.{HaveDigits}
 use Rattle.osi_message.proofs.TokenLaws.{octet_kept}

@@ -8,4 +8,5 @@ pub mod ReadingLaws
 pub mod SendingLaws
 pub mod SentLaws
 pub mod TokenLaws
+mod Vocabulary
 pub mod WritingLaws

@@ -1,18 +1,8 @@
 -- The numbers in messages are those that a point may have.
 use Rattle.std.proofs.Common.{◌≡◌, refl, ℕ, ◌≤◌, ◌<◌, Bool, true, false, ◌&&◌, nat_le, nat_lt, List, [], ◌∷◌, length, Option, Some, None, unwrap_or, if◌then◌else◌, arith}
-use Rattle.std.specs.List.{list_all}
-use Rattle.std.proofs.lemmas.Bool.{and_parts, leb-true, ltb-true}
-use Rattle.osi_spdu.specs.declared.kinds.Kind.{Kind}
 use Rattle.osi_spdu.specs.declared.kinds.Kind.TheVariants as kind
-use Rattle.osi_spdu.specs.declared.codes.Code.TheVariants.{InitialNumber, Number}
-use Rattle.osi_spdu.specs.Known.{Known, Contents, Units}
-use Rattle.osi_spdu.specs.Values.{is_digit, is_numeral, decimal_from, decimal, numeral}
-use Rattle.osi_message.specs.declared.places.Place.{Place}
-use Rattle.osi_message.specs.declared.messages.Message.{Message}
 use Rattle.osi_message.specs.declared.messages.Message.TheVariants as message
-use Rattle.osi_message.specs.Meanings.{meant_by}
-use Rattle.osi_message.specs.Numbered.{IsSmall, IsNumbered, IsNumberedWord, AreNumberedWords}
-use Rattle.osi_message.specs.Reading.{serial_in, number_in, meaning_by, meaning, place_of, word_at, word, said_by_units}
+use Rattle.osi_message.proofs.Vocabulary.{list_all, and_parts, leb-true, ltb-true, Kind, InitialNumber, Number, Known, Contents, Units, is_digit, is_numeral, decimal_from, decimal, numeral, Place, Message, meant_by, IsSmall, IsNumbered, IsNumberedWord, AreNumberedWords, serial_in, number_in, meaning_by, meaning, place_of, word_at, word, said_by_units}
 
 -- ---- numbers of at most six digits
 

@@ -1,36 +1,8 @@
 -- What is sent is octets.
 use Rattle.std.proofs.Common.{◌≡◌, refl, subst, ℕ, suc, ◌+◌, ◌/◌, ◌%◌, ◌<◌, ◌≤◌, ◌==◌, Bool, true, false, cond, ◌&&◌, List, [], ◌∷◌, ◌++◌, length, length-append, nat_lt, Option, Some, None, option_map, if◌then◌else◌, arith}
 use Rattle.std.proofs.lemmas.Bool.Decides.{nat_tests}
-use Rattle.std.proofs.lemmas.Nat.{and_le_r}
-use Rattle.std.specs.List.{AllByRecursion, flat_map}
-use Rattle.std.specs.Prelude.{IfSome}
-use Rattle.osi_tpkt.specs.Octets.{IsOctets}
-use Rattle.osi_tpkt.proofs.OctetLaws.{octets_nil, octets_cons, octets_append}
-use Rattle.osi_spdu.specs.declared.codes.Code.{Code}
-use Rattle.osi_spdu.specs.declared.codes.Code.TheVariants.{ConnectionIdentifier, ConnectAcceptItem, SyncType, TokenItem, TransportDisconnect, ProtocolOptions, UserRequirements, Version, InitialNumber, Number, Reason, CallingSelector, CalledSelector, UserData}
 use Rattle.osi_spdu.specs.declared.codes.Code.TheVariants as code
-use Rattle.osi_spdu.specs.declared.fields.ResyncType.{ResyncType}
-use Rattle.osi_spdu.specs.declared.fields.ResyncType.TheVariants.{Restart, Abandon, Set}
-use Rattle.osi_spdu.specs.declared.fields.TsduMaximumSize.{TsduMaximumSize}
-use Rattle.osi_spdu.specs.declared.kinds.Kind.{Kind}
-use Rattle.osi_spdu.specs.declared.kinds.Kind.TheVariants.{GiveTokens}
-use Rattle.osi_spdu.specs.declared.settings.TokenSetting.{TokenSetting}
-use Rattle.osi_spdu.specs.declared.settings.Wish.{Wish}
-use Rattle.osi_spdu.specs.declared.settings.Wish.TheVariants.{Asker, Answerer, Choice}
-use Rattle.osi_spdu.specs.Codes.{number_of, is_same, is_group}
-use Rattle.osi_spdu.specs.Kinds.{si_of, codes_of, members_of}
-use Rattle.osi_spdu.specs.Values.{significant, six_digits, digits_of}
-use Rattle.osi_spdu.specs.Fields.{wish_number, two_octets, size_octets, setting_octets, resync_octet}
-use Rattle.osi_spdu.specs.Sizes.{written_sizes}
-use Rattle.osi_spdu.specs.Known.{Known, Contents, Units, nothing, put, some_octets}
-use Rattle.osi_spdu.specs.Spelling.{length_octets}
-use Rattle.osi_spdu.specs.Writing.{written_item, written_code, member_octets, members_octets, group_octets, value_octets, parameter_octets, body_octets, unit_octets, tsdu_octets, UnitFits, TsduFits}
-use Rattle.osi_message.specs.declared.tokens.Tokens.{Tokens}
-use Rattle.osi_message.specs.Tokens.{token_octet}
-use Rattle.osi_message.specs.InOctets.{IsInOctets}
-use Rattle.osi_message.specs.Meanings.{Meaning, CN, AC, RF, DT, GT, PT, MIP, MIA, MAP, MAA, RS, RA, FN, DN, NF, AB, AA}
-use Rattle.osi_message.specs.Sendable.{IsSendable}
-use Rattle.osi_message.specs.Written.{put_some, with_data, terms, numbered, sync_type, unit_with, unit_of, is_second, alone_units, behind_tokens, spelled, written}
+use Rattle.osi_message.proofs.Vocabulary.{and_le_r, AllByRecursion, flat_map, IfSome, IsOctets, octets_nil, octets_cons, octets_append, Code, ConnectionIdentifier, ConnectAcceptItem, SyncType, TokenItem, TransportDisconnect, ProtocolOptions, UserRequirements, Version, InitialNumber, Number, Reason, CallingSelector, CalledSelector, UserData, ResyncType, Restart, Abandon, Set, TsduMaximumSize, Kind, GiveTokens, TokenSetting, Wish, Asker, Answerer, Choice, number_of, is_same, is_group, si_of, codes_of, members_of, significant, six_digits, digits_of, wish_number, two_octets, size_octets, setting_octets, resync_octet, written_sizes, Known, Contents, Units, nothing, put, some_octets, length_octets, written_item, written_code, member_octets, members_octets, group_octets, value_octets, parameter_octets, body_octets, unit_octets, tsdu_octets, UnitFits, TsduFits, Tokens, token_octet, IsInOctets, Meaning, CN, AC, RF, DT, GT, PT, MIP, MIA, MAP, MAA, RS, RA, FN, DN, NF, AB, AA, IsSendable, put_some, with_data, terms, numbered, sync_type, unit_with, unit_of, is_second, alone_units, behind_tokens, spelled, written}
 use Rattle.osi_message.proofs.FittingLaws.{HaveRoom, spelled_fits}
 use Rattle.osi_message.proofs.SendingLaws.{HaveDigits}
 use Rattle.osi_message.proofs.TokenLaws.{octet_kept}

@@ -1,22 +1,6 @@
 -- Parts of one Data: how they are written and read.
 use Rattle.std.proofs.Common.{◌≡◌, ◌∙◌, refl, sym, ap, ℕ, List, [], ◌∷◌, Some, Result, Ok, arith}
-use Rattle.std.proofs.lemmas.List.{append-nil}
-use Rattle.osi_spdu.specs.declared.kinds.Kind.TheVariants.{DataTransfer, GiveTokens}
-use Rattle.osi_spdu.specs.declared.codes.Code.TheVariants.{Enclosure}
-use Rattle.osi_spdu.specs.declared.faults.SpduFault.{SpduFault}
-use Rattle.osi_spdu.specs.Codes.{number_of, is_group}
-use Rattle.osi_spdu.specs.Kinds.{category_of, codes_of, members_of, required_of, si_of}
-use Rattle.osi_spdu.specs.Known.{nothing, put, Contents, Units}
-use Rattle.osi_spdu.specs.Values.{canonical}
-use Rattle.osi_spdu.specs.Reading.{tsdu_at}
-use Rattle.osi_spdu.specs.Writing.{written_code, body_octets, unit_octets, tsdu_octets, is_formed, free_len, IsCanonical, IsFormedUnit, IsFormedTsdu, UnitFits, TsduFits}
-use Rattle.osi_message.specs.declared.places.Place.{Place}
-use Rattle.osi_message.specs.declared.places.Place.TheVariants.{First, Middle, Last}
-use Rattle.osi_message.specs.Tokens.{no_token}
-use Rattle.osi_message.specs.Meanings.{GT}
-use Rattle.osi_message.specs.Words.{says, part, Words, enclosure_of, part_octets}
-use Rattle.osi_message.specs.Reading.{meaning, word, said_if_read, said_at, said_by_units}
-use Rattle.osi_message.specs.Written.{unit_with, behind_tokens}
+use Rattle.osi_message.proofs.Vocabulary.{append-nil, DataTransfer, GiveTokens, Enclosure, SpduFault, number_of, is_group, category_of, codes_of, members_of, required_of, si_of, nothing, put, Contents, Units, canonical, tsdu_at, written_code, body_octets, unit_octets, tsdu_octets, is_formed, free_len, IsCanonical, IsFormedUnit, IsFormedTsdu, UnitFits, TsduFits, Place, First, Middle, Last, no_token, GT, says, part, Words, enclosure_of, part_octets, meaning, word, said_if_read, said_at, said_by_units, unit_with, behind_tokens}
 use Rattle.osi_message.proofs.FittingLaws.{HaveRoom, no_value, with_one, no_tokens_fit, behind_formed}
 
 -- ---- how a part is written

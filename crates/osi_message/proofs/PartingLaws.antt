@@ -1,10 +1,6 @@
 -- Data in parts: how its pieces follow one another, and what is true of them.
 use Rattle.std.proofs.Common.{◌≡◌, ◌∙◌, refl, sym, ap, subst, ℕ, zero, suc, ◌<◌, ◌≤◌, Bool, true, false, if◌then◌else◌, nat_le, List, [], ◌∷◌, ◌++◌, length, take, drop, map, arith, append_assoc}
-use Rattle.std.proofs.lemmas.Bool.{le-leb, leb-false, lt-leb}
-use Rattle.std.proofs.lemmas.List.{length-append, length-drop}
-use Rattle.osi_message.specs.declared.places.Place.TheVariants.{First, Middle, Last}
-use Rattle.osi_message.specs.Words.{part, Words, part_octets, word_octets}
-use Rattle.osi_message.specs.Parting.{pieces, later_parts, parts_of}
+use Rattle.osi_message.proofs.Vocabulary.{le-leb, leb-false, lt-leb, length-append, length-drop, First, Middle, Last, part, Words, part_octets, word_octets, pieces, later_parts, parts_of}
 
 -- ---- pieces
 

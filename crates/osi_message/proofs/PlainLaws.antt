@@ -1,29 +1,9 @@
 -- Data, points and confirmations as they are written straight.
 use Rattle.std.proofs.Common.{◌≡◌, ◌∙◌, refl, sym, ap, subst, ◌&&◌, nat_le, nat_lt, take, drop, if◌then◌else◌, ℕ, ◌+◌, ◌/◌, ◌%◌, ◌≤◌, ◌<◌, Bool, true, false, List, [], ◌∷◌, ◌++◌, length, Some, None, Result, Ok, eqb, arith}
-use Rattle.std.specs.List.{list_all}
-use Rattle.std.proofs.lemmas.Bool.{ne_eqb, and_parts, leb-true, ltb-true}
-use Rattle.std.proofs.lemmas.List.{take-append-drop, append-nil}
-use Rattle.osi_spdu.specs.declared.kinds.Kind.{Kind}
-use Rattle.osi_spdu.specs.declared.kinds.Kind.TheVariants.{MinorSyncPoint, MinorSyncAck}
-use Rattle.osi_spdu.specs.declared.codes.Code.TheVariants.{Number}
-use Rattle.osi_spdu.specs.Codes.{number_of, is_group}
-use Rattle.osi_spdu.specs.Kinds.{codes_of, si_of}
-use Rattle.osi_spdu.specs.Known.{nothing, put}
-use Rattle.osi_spdu.specs.Values.{significant, six_digits, digits_of, is_digit, is_numeral, decimal_from, decimal, numeral}
-use Rattle.osi_spdu.specs.Writing.{written_code, body_octets, unit_octets, tsdu_octets}
-use Rattle.osi_spdu.specs.Reading.{tsdu_at}
-use Rattle.osi_spdu.specs.declared.faults.SpduFault.{SpduFault}
 use Rattle.osi_message.specs.declared.plain.PlainUnit.{PlainUnit}
 use Rattle.osi_message.specs.declared.plain.PlainUnit.TheVariants as plain
-use Rattle.osi_message.specs.Meanings.{Meaning, DT, GT, MIP, MIA}
-use Rattle.osi_message.specs.declared.places.Place.{Place}
-use Rattle.osi_message.specs.Tokens.{no_token}
-use Rattle.osi_message.specs.Words.{says, part, Words, part_head, part_octets}
-use Rattle.osi_message.specs.Plain.{plain_meaning, plain_octets, plain_said, data_octets, point_octets, has_zero_in_front}
-use Rattle.osi_message.specs.Reading.{said_by_units, said_if_read, said_at}
-use Rattle.osi_message.specs.Sendable.{IsSendable, words_of}
+use Rattle.osi_message.proofs.Vocabulary.{list_all, ne_eqb, and_parts, leb-true, ltb-true, take-append-drop, append-nil, Kind, MinorSyncPoint, MinorSyncAck, Number, number_of, is_group, codes_of, si_of, nothing, put, significant, six_digits, digits_of, is_digit, is_numeral, decimal_from, decimal, numeral, written_code, body_octets, unit_octets, tsdu_octets, tsdu_at, SpduFault, Meaning, DT, GT, MIP, MIA, Place, no_token, says, part, Words, part_head, part_octets, plain_meaning, plain_octets, plain_said, data_octets, point_octets, has_zero_in_front, said_by_units, said_if_read, said_at, IsSendable, words_of, with_data, unit_with, unit_of, is_second, behind_tokens, spelled, written, user_data_of}
 use Rattle.osi_message.proofs.NumberLaws.{six}
-use Rattle.osi_message.specs.Written.{with_data, unit_with, unit_of, is_second, behind_tokens, spelled, written, user_data_of}
 
 -- ---- the digits of a number
 

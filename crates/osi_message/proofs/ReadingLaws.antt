@@ -1,16 +1,6 @@
 -- What is written of a field is read as it.
 use Rattle.std.proofs.Common.{◌≡◌, ◌∙◌, ℕ, ◌+◌, ◌*◌, ◌/◌, ◌%◌, ◌≤◌, ◌==◌, ◌&&◌, Bool, true, false, Some, None, option_map, if◌then◌else◌, refl, sym, ap, eqb, arith}
-use Rattle.std.specs.Int.RustNames.{bit_and}
-use Rattle.std.proofs.lemmas.Bool.{and_parts, eqb-true}
-use Rattle.std.proofs.lemmas.Nat.{and_assoc}
-use Rattle.osi_spdu.specs.declared.fields.TsduMaximumSize.{TsduMaximumSize}
-use Rattle.osi_spdu.specs.declared.settings.Wish.{Wish}
-use Rattle.osi_spdu.specs.declared.settings.Wish.TheVariants.{Asker, Answerer, Choice}
-use Rattle.osi_spdu.specs.declared.settings.TokenSetting.{TokenSetting}
-use Rattle.osi_spdu.specs.Fields.{wish_number, size_octets, setting_octets}
-use Rattle.osi_spdu.specs.Sizes.{written_sizes}
-use Rattle.osi_message.specs.Tokens.{named}
-use Rattle.osi_message.specs.Reading.{wish_named, sizes_in, setting_named, first_in}
+use Rattle.osi_message.proofs.Vocabulary.{bit_and, and_parts, eqb-true, and_assoc, TsduMaximumSize, Wish, Asker, Answerer, Choice, TokenSetting, wish_number, size_octets, setting_octets, written_sizes, named, wish_named, sizes_in, setting_named, first_in}
 
 same_bit : (t b : ℕ) → bit_and 85 b ≡ b → eqb (bit_and (bit_and t 85) b) b ≡ eqb (bit_and t b) b
 same_bit t b e = ap (λ (x : ℕ). eqb x b) (and_assoc b t 85 ∙ ap (bit_and t) e)

@@ -1,20 +1,6 @@
 -- What is written of a meaning means it.
 use Rattle.std.proofs.Common.{◌≡◌, ◌∙◌, refl, sym, ap, ℕ, ◌≤◌, Bool, true, false, List, [], ◌∷◌, map, Option, Some, None, option_map, unwrap_or, if◌then◌else◌, arith}
-use Rattle.osi_spdu.specs.declared.fields.ResyncType.{ResyncType}
-use Rattle.osi_spdu.specs.declared.fields.ResyncType.TheVariants.{Restart, Abandon, Set}
-use Rattle.osi_spdu.specs.declared.fields.TsduMaximumSize.{TsduMaximumSize}
-use Rattle.osi_spdu.specs.declared.settings.TokenSetting.{TokenSetting}
-use Rattle.osi_spdu.specs.Codes.{number_of}
-use Rattle.osi_spdu.specs.Values.{digits_of, numeral}
-use Rattle.osi_spdu.specs.Fields.{two_octets, resync_octet}
-use Rattle.osi_spdu.specs.Known.{some_octets}
-use Rattle.osi_message.specs.Tokens.{no_token}
-use Rattle.osi_message.specs.Meanings.{Meaning, CN, AC, RF, DT, GT, PT, MIP, MIA, MAP, MAA, RS, RA, FN, DN, NF, AB, AA}
-use Rattle.osi_message.specs.Numbered.{IsSmall, IsNumbered}
-use Rattle.osi_message.specs.Reading.{octets_in, two_in, serial_in, number_in, resync_named, meaning, word, said_by_units, alone, behind}
-use Rattle.osi_message.specs.Written.{connect_unit, unit_of, is_second, alone_units, behind_tokens, spelled}
-use Rattle.osi_message.specs.Sendable.{words_of, is_of_version_2}
-use Rattle.osi_message.specs.Words.{Word, says}
+use Rattle.osi_message.proofs.Vocabulary.{ResyncType, Restart, Abandon, Set, TsduMaximumSize, TokenSetting, number_of, digits_of, numeral, two_octets, resync_octet, some_octets, no_token, Meaning, CN, AC, RF, DT, GT, PT, MIP, MIA, MAP, MAA, RS, RA, FN, DN, NF, AB, AA, IsSmall, IsNumbered, octets_in, two_in, serial_in, number_in, resync_named, meaning, word, said_by_units, alone, behind, connect_unit, unit_of, is_second, alone_units, behind_tokens, spelled, words_of, is_of_version_2, Word, says}
 use Rattle.osi_message.proofs.ReadingLaws.{setting_again, written_again}
 use Rattle.osi_message.proofs.TokenLaws.{named_octet}
 

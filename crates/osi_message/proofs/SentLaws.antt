@@ -1,25 +1,7 @@
 -- What is true of the TSDUs in which a message leaves.
 use Rattle.std.proofs.Common.{◌≡◌, ◌∙◌, refl, sym, ap, subst, ℕ, zero, suc, ◌+◌, ◌-◌, ◌<◌, ◌≤◌, ◌==◌, Bool, true, false, not, ◌||◌, ◌&&◌, if◌then◌else◌, nat_le, List, [], ◌∷◌, ◌++◌, length, take, drop, map, Result, Ok, arith}
-use Rattle.std.specs.List.{AllByRecursion}
-use Rattle.std.proofs.lemmas.Bool.{leb-true, leb-false, and_parts, ne_eqb}
-use Rattle.std.proofs.lemmas.List.{append-nil, take-append-drop, length-drop, length-take}
-use Rattle.osi_tpkt.specs.Octets.{IsOctets}
-use Rattle.osi_tpkt.proofs.OctetLaws.{octets_cons, octets_take, octets_drop}
-use Rattle.osi_spdu.specs.Values.{is_size}
-use Rattle.osi_spdu.specs.Reading.{tsdu_at}
-use Rattle.osi_spdu.specs.declared.faults.SpduFault.{SpduFault}
-use Rattle.osi_message.specs.declared.places.Place.{Place}
-use Rattle.osi_message.specs.declared.places.Place.TheVariants.{First, Middle, Last}
-use Rattle.osi_message.specs.declared.messages.Message.{Message}
 use Rattle.osi_message.specs.declared.messages.Message.TheVariants as message
-use Rattle.osi_message.specs.Meanings.{Meaning, DT, GT, meant_by}
-use Rattle.osi_message.specs.Tokens.{no_token}
-use Rattle.osi_message.specs.InOctets.{IsInOctets}
-use Rattle.osi_message.specs.Words.{Word, says, part, Words, enclosure_of, part_octets, word_octets}
-use Rattle.osi_message.specs.Reading.{said_by_units, said_at}
-use Rattle.osi_message.specs.Sendable.{IsSendable, words_of}
-use Rattle.osi_message.specs.Written.{spelled, written}
-use Rattle.osi_message.specs.Parting.{pieces, later_parts, parts_of, is_whole, is_parted, words_sent, tsdus_of, in_one, AreLater, AreParts, joined, behind_no_token, AreFull}
+use Rattle.osi_message.proofs.Vocabulary.{AllByRecursion, leb-true, leb-false, and_parts, ne_eqb, append-nil, take-append-drop, length-drop, length-take, IsOctets, octets_cons, octets_take, octets_drop, is_size, tsdu_at, SpduFault, Place, First, Middle, Last, Message, Meaning, DT, GT, meant_by, no_token, IsInOctets, Word, says, part, Words, enclosure_of, part_octets, word_octets, said_by_units, said_at, IsSendable, words_of, spelled, written, pieces, later_parts, parts_of, is_whole, is_parted, words_sent, tsdus_of, in_one, AreLater, AreParts, joined, behind_no_token, AreFull}
 use Rattle.osi_message.proofs.PlainLaws.{data_written, said_data}
 use Rattle.osi_message.proofs.PartingLaws.{all_pieces, IsCons, some_piece, octets_of, rest_parts, middle_of, parts_begin}
 

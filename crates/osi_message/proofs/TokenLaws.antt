@@ -1,8 +1,5 @@
 -- The octet of a set of tokens names these tokens.
-use Rattle.std.specs.Prelude.{◌≡◌, refl, Bool, true, false}
-use Rattle.std.specs.Int.RustNames.{bit_and}
-use Rattle.osi_message.specs.declared.tokens.Tokens.{Tokens}
-use Rattle.osi_message.specs.Tokens.{named, token_octet}
+use Rattle.osi_message.proofs.Vocabulary.{◌≡◌, refl, Bool, true, false, bit_and, Tokens, named, token_octet}
 
 abbrev tokens_with : Bool → Bool → Bool → Bool → Tokens
 tokens_with a b c d = record { data_token = a; minor = b; major = c; release = d }

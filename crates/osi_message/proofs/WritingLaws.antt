@@ -1,29 +1,16 @@
 -- The parameters that a unit is made with are those of its meaning.
 use Rattle.std.proofs.Common.{◌≡◌, ◌∙◌, ap, ℕ, ◌+◌, Bool, true, false, List, [], ◌∷◌, Option, Some, None, refl, option_map, arith}
 use Rattle.std.specs.Borrow.{Bor}
-use Rattle.std.specs.Int.RustNames.{bit_and}
-use Rattle.osi_spdu.specs.declared.codes.Code.{Code}
-use Rattle.osi_spdu.specs.declared.codes.Code.TheVariants.{ConnectAcceptItem, SyncType, TokenItem, TransportDisconnect, ProtocolOptions, UserRequirements, Version, InitialNumber, Number, CallingSelector, CalledSelector, UserData}
 use Rattle.osi_spdu.specs.declared.codes.Code.TheVariants as code
 use Rattle.osi_spdu.specs.declared.serials.Serial.{Serial}
 use Rattle.osi_spdu.specs.declared.selectors.Selector.{Selector}
 use Rattle.osi_spdu.specs.declared.tokens.TokenSet.{TokenSet}
 use Rattle.osi_spdu.specs.declared.requirements.Requirements.{Requirements}
-use Rattle.osi_spdu.specs.declared.settings.TokenSetting.{TokenSetting}
 use Rattle.osi_spdu.specs.declared.fields.Reason.{Reason}
-use Rattle.osi_spdu.specs.declared.fields.ResyncType.{ResyncType}
 use Rattle.osi_spdu.specs.declared.fields.SyncType.TheVariants.{Open}
-use Rattle.osi_spdu.specs.declared.fields.TsduMaximumSize.{TsduMaximumSize}
-use Rattle.osi_spdu.specs.Codes.{number_of}
-use Rattle.osi_spdu.specs.Values.{digits_of}
-use Rattle.osi_spdu.specs.Fields.{setting_octets, resync_octet, bits_of, unit_bits}
-use Rattle.osi_spdu.specs.Sizes.{written_sizes}
-use Rattle.osi_spdu.specs.Known.{nothing, put}
-use Rattle.osi_spdu.specs.Params.{place_of, cells_of, slots_of, known_of, no_params}
-use Rattle.osi_message.specs.declared.tokens.Tokens.{Tokens}
-use Rattle.osi_message.specs.Tokens.{token_octet}
+use Rattle.osi_spdu.specs.Params.{place_of}
+use Rattle.osi_message.proofs.Vocabulary.{bit_and, Code, ConnectAcceptItem, SyncType, TokenItem, TransportDisconnect, ProtocolOptions, UserRequirements, Version, InitialNumber, Number, CallingSelector, CalledSelector, UserData, TokenSetting, ResyncType, TsduMaximumSize, number_of, digits_of, setting_octets, resync_octet, bits_of, unit_bits, written_sizes, nothing, put, cells_of, slots_of, known_of, no_params, Tokens, token_octet, put_some, with_data, terms, numbered}
 use Rattle.osi_message.proofs.TokenLaws.{octet_kept}
-use Rattle.osi_message.specs.Written.{put_some, with_data, terms, numbered}
 
 same_serial : (serial : Option Serial) → option_map (λ s. digits_of s.number) serial ≡ option_map digits_of (option_map (λ s. s.number) serial)
 same_serial None = refl

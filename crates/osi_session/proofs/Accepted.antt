@@ -1,14 +1,6 @@
 -- What a session does with a call that its table accepts.
 use Rattle.std.proofs.Common.{◌≡◌, ◌∙◌, subst, ℕ, None, Ok, ap}
-use Rattle.osi_message.specs.Meanings.{Meaning}
-use Rattle.osi_message.specs.Parting.{tsdus_of, tsdus_sent}
-use Rattle.osi_session.specs.Allowed.{Step, allowed}
-use Rattle.osi_session.specs.Calls.{Call, HasSerial}
-use Rattle.osi_session.specs.Joining.{kept_in}
-use Rattle.osi_session.specs.Listening.{called, Listener, in_state, react}
-use Rattle.osi_session.specs.Sessions.{CanBeSent}
-use Rattle.osi_session.specs.Sizes.{limit_of}
-use Rattle.osi_session.specs.Sound.{IsSound}
+use Rattle.osi_session.proofs.Vocabulary.{Meaning, tsdus_of, tsdus_sent, Step, allowed, Call, HasSerial, kept_in, called, Listener, in_state, react, CanBeSent, limit_of, IsSound}
 use Rattle.osi_session.proofs.MoveLaws.{call_leaves, call_sends, call_passes}
 use Rattle.osi_session.proofs.SendableLaws.{call_sendable}
 use Rattle.osi_session.proofs.SessionMoves.{stays}

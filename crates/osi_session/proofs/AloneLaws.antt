@@ -1,20 +1,10 @@
 -- What stands alone in a TSDU: a unit of category 1 (X.225 section 6.3.7).
 use Rattle.std.proofs.Common.{◌≡◌, refl, subst, ℕ, Bool, true, false, not, ◌||◌, List, [], ◌∷◌, ap, Option, Some, None, Result, Ok, Err, arith}
-use Rattle.std.specs.List.{list_any}
-use Rattle.osi_spdu.specs.declared.faults.SpduFault.{SpduFault}
-use Rattle.osi_spdu.specs.declared.kinds.Kind.{Kind}
 use Rattle.osi_spdu.specs.declared.kinds.Category.{Category}
-use Rattle.osi_spdu.specs.declared.kinds.Category.TheVariants.{Zero, One, Two}
-use Rattle.osi_spdu.specs.Kinds.{category_of}
-use Rattle.osi_spdu.specs.Known.{Known, Contents, Units}
-use Rattle.osi_spdu.specs.Reading.{Placed, unit_at, contents_of, behind_at, ended, continued, tsdu_at}
 use Rattle.osi_spdu.specs.Spelling.{AreBehind}
 use Rattle.osi_spdu.proofs.StepLaws.{bind_ok, ok_is}
 use Rattle.osi_spdu.proofs.UnitsLaws.{behind_stands}
-use Rattle.osi_message.specs.Meanings.{Meaning, DT}
-use Rattle.osi_message.specs.declared.places.Place.{Place}
-use Rattle.osi_message.specs.Reading.{meaning_by, meaning, place_of, word_at, word, said_by_units, said_if_read, said_at}
-use Rattle.osi_message.specs.Words.{Word, Words, as_message}
+use Rattle.osi_session.proofs.Vocabulary.{list_any, SpduFault, Kind, Zero, One, Two, category_of, Known, Contents, Units, Placed, unit_at, contents_of, behind_at, ended, continued, tsdu_at, Meaning, DT, Place, meaning_by, meaning, place_of, word_at, word, said_by_units, said_if_read, said_at, Word, Words, as_message}
 
 -- a test that passes no token item and no unit of category 2
 pub record StandsAlone (p : Meaning → Bool) : Type 0 where

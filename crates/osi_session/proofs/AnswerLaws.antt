@@ -1,28 +1,7 @@
 -- What a TSDU is answered by, in which phases a session closes the transport connection, and in which
 -- a call is accepted.
 use Rattle.std.proofs.Common.{◌⊎◌, inl, inr, ◌≡◌, refl, sym, ◌∙◌, ap, subst, ℕ, Bool, true, false, not, ◌&&◌, ◌||◌, List, [], ◌∷◌, Option, Some, None, unwrap_or, Result, Ok, Err, if◌then◌else◌, arith}
-use Rattle.std.specs.List.{list_any}
-use Rattle.osi_spdu.specs.declared.faults.SpduFault.{SpduFault}
-use Rattle.osi_spdu.specs.declared.settings.TokenSetting.{TokenSetting}
-use Rattle.osi_spdu.specs.declared.fields.TsduMaximumSize.{TsduMaximumSize}
-use Rattle.osi_spdu.specs.Sizes.{are_sizes}
-use Rattle.osi_message.specs.Meanings.{Meaning, CN, RF, DN, AB, AA}
-use Rattle.osi_message.specs.Reading.{said_at}
-use Rattle.osi_message.specs.Words.{Word, Words, as_message}
-use Rattle.osi_session.specs.declared.faults.UnitFault.{UnitFault}
-use Rattle.osi_session.specs.declared.faults.UnitFault.TheVariants.{Spelling, Unexpected}
-use Rattle.osi_session.specs.declared.phases.Phase.{Phase}
-use Rattle.osi_session.specs.declared.phases.Phase.TheVariants.{WaitTransport, Answering, Ended}
-use Rattle.osi_session.specs.declared.state.State.{State}
-use Rattle.osi_session.specs.Phases.{is_wait_transport, is_wait_cn, is_connecting, is_answering, is_ready, is_major_due, is_releasing, is_release_due, is_restart_due, is_aborting, is_ended, is_over, may_give, may_ask, may_confirm_minor, may_restart, may_abort}
-use Rattle.osi_session.specs.Calls.{Call, Accept, Refuse, Data, Give, Please, Minor, MinorConfirm, Major, MajorConfirm, Restart, RestartConfirm, Release, ReleaseAccept, ReleaseRefuse, Abort}
-use Rattle.osi_session.specs.Allowed.{Step, may_call, allowed}
-use Rattle.osi_session.specs.Closing.{may_close, may_close_word, closes_alone, is_answer, awaits_close}
-use Rattle.osi_session.specs.Joining.{Taker, Hearing, word_verdict, respond_word, respond_words, heard_then, acting_words, respond_tsdu, respond_came}
-use Rattle.osi_session.specs.Listening.{Input, called, taken, unread, opened, refused, broken, is_opened, came_as, came, Listener, taker_of, react, after_input}
-use Rattle.osi_session.specs.State.{without_tokens}
-use Rattle.osi_session.specs.Units.{functional_units, has_data}
-use Rattle.osi_session.specs.Respond.{Outcome, si, conditions, first_fault, is_expected, drops, nothing, good, bad, becomes, judged, take_expected, in_aborting, in_ended, respond_unit, first_reply, and_then, over, verdict, enacted, is_faulty, respond_fault}
+use Rattle.osi_session.proofs.Vocabulary.{list_any, SpduFault, TokenSetting, TsduMaximumSize, are_sizes, Meaning, CN, RF, DN, AB, AA, said_at, Word, Words, as_message, UnitFault, Spelling, Unexpected, Phase, WaitTransport, Answering, Ended, State, is_wait_transport, is_wait_cn, is_connecting, is_answering, is_ready, is_major_due, is_releasing, is_release_due, is_restart_due, is_aborting, is_ended, is_over, may_give, may_ask, may_confirm_minor, may_restart, may_abort, Call, Accept, Refuse, Data, Give, Please, Minor, MinorConfirm, Major, MajorConfirm, Restart, RestartConfirm, Release, ReleaseAccept, ReleaseRefuse, Abort, Step, may_call, allowed, may_close, may_close_word, closes_alone, is_answer, awaits_close, Taker, Hearing, word_verdict, respond_word, respond_words, heard_then, acting_words, respond_tsdu, respond_came, Input, called, taken, unread, opened, refused, broken, is_opened, came_as, came, Listener, taker_of, react, after_input, without_tokens, functional_units, has_data, Outcome, si, conditions, first_fault, is_expected, drops, nothing, good, bad, becomes, judged, take_expected, in_aborting, in_ended, respond_unit, first_reply, and_then, over, verdict, enacted, is_faulty, respond_fault}
 use Rattle.osi_session.proofs.ClosingLaws.{neither, acting_none, not_true, words_open, octets_alone, fault_open}
 use Rattle.osi_session.proofs.Passed.{passed}
 use Rattle.osi_session.proofs.PhaseLaws.{implied, excluded}

@@ -1,10 +1,6 @@
 -- No unit goes back to awaiting the transport connection.
 use Rattle.std.proofs.Common.{◌≡◌, Bool, true, false, not, Option, Some, None, if◌then◌else◌, arith}
-use Rattle.osi_session.specs.declared.faults.UnitFault.{UnitFault}
-use Rattle.osi_session.specs.declared.state.State.{State}
-use Rattle.osi_session.specs.Phases.{is_wait_transport, is_aborting, is_ended}
-use Rattle.osi_message.specs.Meanings.{Meaning, CN, AC, RF, DT, GT, PT, MIP, MIA, MAP, MAA, RS, RA, FN, DN, NF, AB, AA}
-use Rattle.osi_session.specs.Respond.{Outcome, si, conditions, first_fault, is_expected, is_acceptable, stands, becomes, judged, take_expected, in_aborting, in_ended, drops, respond_unit}
+use Rattle.osi_session.proofs.Vocabulary.{UnitFault, State, is_wait_transport, is_aborting, is_ended, Meaning, CN, AC, RF, DT, GT, PT, MIP, MIA, MAP, MAA, RS, RA, FN, DN, NF, AB, AA, Outcome, si, conditions, first_fault, is_expected, is_acceptable, stands, becomes, judged, take_expected, in_aborting, in_ended, drops, respond_unit}
 
 abbrev pub Begins : State → State → Type 0
 Begins s next = is_wait_transport next.phase ≡ true → is_wait_transport s.phase ≡ true

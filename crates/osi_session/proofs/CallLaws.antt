@@ -1,17 +1,7 @@
 -- The table of calls never answers that memory is wanted, and sends no more user data than fits.
 use Rattle.std.proofs.Common.{◌≡◌, refl, sym, ap, subst, ◌<◌, Bool, true, false, not, ◌&&◌, nat_le, List, [], ◌∷◌, length, Ok, Err, arith, if◌then◌else◌}
-use Rattle.std.proofs.lemmas.Bool.{leb-true}
-use Rattle.osi_session.specs.declared.faults.CallError.{CallError}
 use Rattle.osi_session.specs.declared.faults.CallError.TheVariants as error
-use Rattle.osi_session.specs.declared.state.State.{State}
-use Rattle.osi_session.specs.Phases.{is_over}
-use Rattle.osi_session.specs.Calls.{Call, Accept, Refuse, Data, Give, Please, Minor, MinorConfirm, Major, MajorConfirm, Restart, RestartConfirm, Release, ReleaseAccept, ReleaseRefuse, Abort}
-use Rattle.osi_session.specs.Allowed.{Test, Step, Answer, first_error, needs, may_call, octets_of, most_of, after, sends, met, sized, allowed}
-use Rattle.osi_session.specs.Sizes.{fits_limit}
-use Rattle.osi_session.specs.Sessions.{is_memory, Refused, RefusedBy}
-use Rattle.osi_message.specs.Meanings.{Meaning}
-use Rattle.osi_message.specs.Written.{user_data_of}
-use Rattle.osi_session.specs.Listening.{called, Listener, react}
+use Rattle.osi_session.proofs.Vocabulary.{leb-true, CallError, State, is_over, Call, Accept, Refuse, Data, Give, Please, Minor, MinorConfirm, Major, MajorConfirm, Restart, RestartConfirm, Release, ReleaseAccept, ReleaseRefuse, Abort, Test, Step, Answer, first_error, needs, may_call, octets_of, most_of, after, sends, met, sized, allowed, fits_limit, is_memory, Refused, RefusedBy, Meaning, user_data_of, called, Listener, react}
 use Rattle.osi_session.proofs.MoveLaws.{call_errs, call_passes}
 use Rattle.osi_session.proofs.Passed.{first_error_ok, passed}
 

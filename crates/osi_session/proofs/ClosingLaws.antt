@@ -1,26 +1,9 @@
 -- What closes the transport connection, and that nothing is sent with it.
 use Rattle.std.proofs.Common.{◌≡◌, refl, sym, ◌∙◌, ap, subst, ℕ, Bool, true, false, not, ◌||◌, List, [], ◌∷◌, ◌++◌, None, Result, Ok, Err, if◌then◌else◌, arith}
-use Rattle.std.specs.List.{list_any}
 use Rattle.std.proofs.lemmas.List.Folds.{list_any-append}
-use Rattle.osi_spdu.specs.declared.faults.SpduFault.{SpduFault}
-use Rattle.osi_spdu.specs.declared.kinds.Kind.{Kind}
 use Rattle.osi_spdu.specs.declared.kinds.Kind.TheVariants as kind
-use Rattle.osi_spdu.specs.declared.kinds.Category.TheVariants.{Zero, Two}
-use Rattle.osi_spdu.specs.Kinds.{category_of}
-use Rattle.osi_spdu.specs.Known.{Known}
-use Rattle.osi_message.specs.Meanings.{Meaning, RF, DN, AB, AA}
-use Rattle.osi_message.specs.Reading.{meaning_by, said_at}
-use Rattle.osi_message.specs.Words.{Word, Words}
-use Rattle.osi_session.specs.declared.state.State.{State}
-use Rattle.osi_session.specs.Phases.{is_wait_transport, is_aborting, is_ended, is_over}
-use Rattle.osi_session.specs.Calls.{Call}
-use Rattle.osi_session.specs.Allowed.{Answer, allowed}
-use Rattle.osi_session.specs.Closing.{may_close, may_close_word, closes_alone}
-use Rattle.osi_session.specs.Joining.{Taker, Hearing, word_verdict, respond_word, respond_words, heard_then, is_restart_word, acting_words, respond_tsdu}
-use Rattle.osi_session.specs.Listening.{Input, called, taken, unread, opened, refused, broken, came_as, came, Listener, Move, taker_of, rests, answered, begun, denied, react}
 use Rattle.osi_session.specs.Moves as whole
-use Rattle.osi_session.specs.Whole.{listening, in_words}
-use Rattle.osi_session.specs.Respond.{Outcome, becomes, reply_for, closes_for, in_aborting, in_ended, respond_unit, Verdict, over, dropped, faulty, fine, verdict, enacted, is_faulty, respond_fault}
+use Rattle.osi_session.proofs.Vocabulary.{list_any, SpduFault, Kind, Zero, Two, category_of, Known, Meaning, RF, DN, AB, AA, meaning_by, said_at, Word, Words, State, is_wait_transport, is_aborting, is_ended, is_over, Call, Answer, allowed, may_close, may_close_word, closes_alone, Taker, Hearing, word_verdict, respond_word, respond_words, heard_then, is_restart_word, acting_words, respond_tsdu, Input, called, taken, unread, opened, refused, broken, came_as, came, Listener, Move, taker_of, rests, answered, begun, denied, react, listening, in_words, Outcome, becomes, reply_for, closes_for, in_aborting, in_ended, respond_unit, Verdict, over, dropped, faulty, fine, verdict, enacted, is_faulty, respond_fault}
 use Rattle.osi_session.proofs.AloneLaws.{StandsAlone, stands_alone, alone_in_octets}
 use Rattle.osi_session.proofs.RunLaws.{word_ended}
 use Rattle.osi_session.proofs.VerdictLaws.{enacts}

@@ -1,26 +1,7 @@
 -- What raises V(A), and that it does not fall but by a restart.
 use Rattle.std.proofs.Common.{◌≡◌, refl, sym, ◌∙◌, subst, ℕ, ◌+◌, ◌≤◌, Bool, true, false, not, ◌&&◌, ◌||◌, nat_le, nat_lt, List, [], ◌∷◌, Ok, Option, Some, None, if◌then◌else◌, arith}
-use Rattle.std.specs.List.{AllByRecursion, list_any}
-use Rattle.std.proofs.lemmas.Bool.{leb-true, and_parts}
-use Rattle.osi_session.specs.declared.faults.UnitFault.{UnitFault}
 use Rattle.osi_spdu.specs.declared.fields.ResyncType.{ResyncType}
-use Rattle.osi_spdu.specs.declared.settings.TokenSetting.{TokenSetting}
-use Rattle.osi_session.specs.declared.state.State.{State}
-use Rattle.osi_session.specs.declared.numbers.Numbers.{Numbers}
-use Rattle.osi_session.specs.Numbers.{point_sent, point_taken, minor_confirmed, major_confirmed}
-use Rattle.osi_session.specs.Phases.{is_wait_cn, is_aborting, is_ended}
-use Rattle.osi_session.specs.Sound.{IsSound, AreOrdered}
-use Rattle.osi_session.specs.Calls.{Call, Accept, Refuse, Data, Give, Please, Minor, MinorConfirm, Major, MajorConfirm, Restart, RestartConfirm, Release, ReleaseAccept, ReleaseRefuse, Abort}
-use Rattle.osi_message.specs.Meanings.{Meaning, CN, AC, RF, DT, GT, PT, MIP, MIA, MAP, MAA, RS, RA, FN, DN, NF, AB, AA}
-use Rattle.osi_message.specs.Numbered.{IsNumberedWord}
-use Rattle.osi_message.specs.Words.{Word, Words, as_message}
-use Rattle.osi_session.specs.Shown.{MinorConfirmed, BadUnit}
-use Rattle.osi_session.specs.Allowed.{Step, needs, after, allowed, AllHold}
-use Rattle.osi_session.specs.Respond.{Outcome, si, conditions, first_fault, is_expected, drops, is_acceptable, stands, becomes, bad, judged, take_expected, respond_unit, is_faulty, AllMet}
-use Rattle.osi_session.specs.Joining.{Taker, Hearing, word_verdict, respond_word, respond_words, acting_words}
-use Rattle.osi_session.specs.Listening.{Input, called, taken, unread, opened, refused, broken, Listener, taker_of, after_input, after_inputs}
-use Rattle.osi_session.specs.Runs.{HasNumbersInWords}
-use Rattle.osi_session.specs.Causes.{call_renews, unit_renews, renews}
+use Rattle.osi_session.proofs.Vocabulary.{AllByRecursion, list_any, leb-true, and_parts, UnitFault, TokenSetting, State, Numbers, point_sent, point_taken, minor_confirmed, major_confirmed, is_wait_cn, is_aborting, is_ended, IsSound, AreOrdered, Call, Accept, Refuse, Data, Give, Please, Minor, MinorConfirm, Major, MajorConfirm, Restart, RestartConfirm, Release, ReleaseAccept, ReleaseRefuse, Abort, Meaning, CN, AC, RF, DT, GT, PT, MIP, MIA, MAP, MAA, RS, RA, FN, DN, NF, AB, AA, IsNumberedWord, Word, Words, as_message, MinorConfirmed, BadUnit, Step, needs, after, allowed, AllHold, Outcome, si, conditions, first_fault, is_expected, drops, is_acceptable, stands, becomes, bad, judged, take_expected, respond_unit, is_faulty, AllMet, Taker, Hearing, word_verdict, respond_word, respond_words, acting_words, Input, called, taken, unread, opened, refused, broken, Listener, taker_of, after_input, after_inputs, HasNumbersInWords, call_renews, unit_renews, renews}
 use Rattle.osi_session.proofs.Passed.{passed}
 use Rattle.osi_session.proofs.TsduLaws.{word_sound}
 use Rattle.osi_session.proofs.WordCases.{acts_alike, word_keeps, all_acting}

@@ -1,27 +1,8 @@
 -- A side that awaits a CN shows nothing before a Connect, and this by a CN alone.
 use Rattle.std.proofs.Common.{◌⊎◌, inl, inr, ◌≡◌, refl, sym, ◌∙◌, ap, subst, ℕ, Bool, true, false, not, List, [], ◌∷◌, ◌++◌, Option, Some, None, Result, Ok, Err, if◌then◌else◌, arith}
-use Rattle.std.specs.List.{list_any}
-use Rattle.osi_spdu.specs.declared.faults.SpduFault.{SpduFault}
-use Rattle.osi_spdu.specs.declared.kinds.Kind.{Kind}
 use Rattle.osi_spdu.specs.declared.kinds.Kind.TheVariants as kind
-use Rattle.osi_spdu.specs.declared.kinds.Category.TheVariants.{Zero, Two}
-use Rattle.osi_spdu.specs.Kinds.{category_of}
-use Rattle.osi_spdu.specs.Known.{Known}
-use Rattle.osi_message.specs.Meanings.{Meaning, CN, AB, RS, AA}
-use Rattle.osi_message.specs.Reading.{meaning_by, names, said_at}
-use Rattle.osi_message.specs.Words.{Word, Words}
-use Rattle.osi_session.specs.declared.faults.UnitFault.{UnitFault}
-use Rattle.osi_session.specs.declared.faults.UnitFault.TheVariants.{Unexpected, Spelling}
-use Rattle.osi_session.specs.declared.phases.Phase.{Phase}
-use Rattle.osi_session.specs.declared.phases.Phase.TheVariants.{WaitCn, Aborting, Ended}
-use Rattle.osi_session.specs.declared.state.State.{State}
-use Rattle.osi_session.specs.Allowed.{Answer, allowed}
-use Rattle.osi_session.specs.Causes.{unit_asks, asks_first, asks_for_connection, is_taken}
-use Rattle.osi_session.specs.Phases.{is_wait_transport, is_wait_cn, is_aborting, is_ended, is_over, may_abort, shows_loss}
-use Rattle.osi_session.specs.Joining.{Taker, Hearing, word_verdict, respond_word, respond_words, heard_then, acting_words, respond_tsdu}
-use Rattle.osi_session.specs.Listening.{Input, called, taken, unread, opened, refused, broken, came, came_as, Listener, Move, taker_of, answered, begun, denied, rests, react, after_input}
-use Rattle.osi_session.specs.Shown.{Shown, Lost, BadUnit, Restart, Aborted, PeerAbort, is_connect, shows_connect}
-use Rattle.osi_session.specs.Respond.{Outcome, si, conditions, first_fault, is_expected, drops, stands, nothing, good, bad, judged, take_expected, shown_for, in_aborting, in_ended, respond_unit, is_acceptable, Verdict, over, dropped, faulty, fine, verdict, enacted, is_faulty, respond_fault}
+use Rattle.osi_session.specs.Shown.{Restart}
+use Rattle.osi_session.proofs.Vocabulary.{list_any, SpduFault, Kind, Zero, Two, category_of, Known, Meaning, CN, AB, RS, AA, meaning_by, names, said_at, Word, Words, UnitFault, Unexpected, Spelling, Phase, WaitCn, Aborting, Ended, State, Answer, allowed, unit_asks, asks_first, asks_for_connection, is_taken, is_wait_transport, is_wait_cn, is_aborting, is_ended, is_over, may_abort, shows_loss, Taker, Hearing, word_verdict, respond_word, respond_words, heard_then, acting_words, respond_tsdu, Input, called, taken, unread, opened, refused, broken, came, came_as, Listener, Move, taker_of, answered, begun, denied, rests, react, after_input, Shown, Lost, BadUnit, Aborted, PeerAbort, is_connect, shows_connect, Outcome, si, conditions, first_fault, is_expected, drops, stands, nothing, good, bad, judged, take_expected, shown_for, in_aborting, in_ended, respond_unit, is_acceptable, Verdict, over, dropped, faulty, fine, verdict, enacted, is_faulty, respond_fault}
 use Rattle.osi_session.proofs.AloneLaws.{StandsAlone, passes, stands_alone, alone_in_octets}
 use Rattle.osi_session.proofs.AnswerLaws.{accepted_callable, stays_over}
 use Rattle.osi_session.proofs.ClosingLaws.{neither, not_true, acting_none}

@@ -1,16 +1,7 @@
 use Rattle.std.proofs.Common.{◌≡◌, refl, sym, ◌∙◌, ap, subst, ℕ, Bool, true, false, ◌||◌, List, [], ◌∷◌, ◌++◌, Option, Some, None, Result, Ok, Err, if◌then◌else◌, arith}
-use Rattle.std.specs.Prelude.{OnErr}
-use Rattle.std.specs.List.{list_any}
-use Rattle.std.proofs.lemmas.List.{append_assoc, append-nil}
 use Rattle.osi_spdu.specs.declared.behind.Behind.{Behind}
 use Rattle.osi_spdu.specs.declared.units.Spdu.{Spdu}
-use Rattle.osi_spdu.specs.Groups.{GivesBehind, units_behind}
-use Rattle.osi_session.specs.declared.grouping.Reactions.{Reactions}
-use Rattle.osi_session.specs.Steps.{hearing_of_all, takes_room}
-use Rattle.osi_message.specs.Meanings.{Meaning}
-use Rattle.osi_message.specs.Words.{Word, Words}
-use Rattle.osi_session.specs.Respond.{first_reply, is_faulty}
-use Rattle.osi_session.specs.Joining.{Taker, Hearing, heard_then, idle, is_restart_word, word_verdict, respond_word, respond_words, acting_words, respond_tsdu}
+use Rattle.osi_session.proofs.Vocabulary.{OnErr, list_any, append_assoc, append-nil, GivesBehind, units_behind, Reactions, hearing_of_all, takes_room, Meaning, Word, Words, first_reply, is_faulty, Taker, Hearing, heard_then, idle, is_restart_word, word_verdict, respond_word, respond_words, acting_words, respond_tsdu}
 use Rattle.osi_session.proofs.JoinedLaws.{InPhase}
 use Rattle.osi_session.proofs.RoomLaws.{SoFar, none_so_far, word_so_far, word_takes, takes_behind}
 use Rattle.osi_session.proofs.WordLaws.{one_word}

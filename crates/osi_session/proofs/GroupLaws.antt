@@ -1,9 +1,6 @@
 -- Where one of two outcomes shows or sends something, both together do.
 use Rattle.std.proofs.Common.{◌≡◌, refl, Bool, true, false, ◌&&◌, List, [], ◌∷◌, ◌++◌, Option, Some, None}
-use Rattle.std.specs.Prelude.{is_none}
-use Rattle.osi_session.specs.Shown.{Shown}
-use Rattle.osi_message.specs.Meanings.{Meaning}
-use Rattle.osi_session.specs.Respond.{Outcome, is_nil, is_silent, first_reply, and_then}
+use Rattle.osi_session.proofs.Vocabulary.{is_none, Shown, Meaning, Outcome, is_nil, is_silent, first_reply, and_then}
 
 pub loud_reply : (shown : List Shown) (reply : Option Meaning) → is_none reply ≡ false → (is_nil shown && is_none reply) ≡ false
 loud_reply shown None h = absurd (cc)

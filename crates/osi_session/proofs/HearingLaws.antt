@@ -1,23 +1,8 @@
 -- What a word does, from what is told of it in memory.
 use Rattle.std.proofs.Common.{◌≡◌, ◌∙◌, refl, sym, ap, subst, ℕ, ◌<◌, Bool, true, false, not, ◌&&◌, ◌||◌, if◌then◌else◌, nat_le, nat_lt, List, [], ◌∷◌, ◌++◌, length, Option, Some, None, is_none, arith}
-use Rattle.std.proofs.lemmas.Bool.{lt-ltb}
-use Rattle.std.proofs.lemmas.List.{length-append, append-nil}
-use Rattle.osi_session.specs.declared.state.State.{State}
-use Rattle.osi_session.specs.declared.faults.UnitFault.{UnitFault}
-use Rattle.osi_session.specs.declared.hearing.Heard.{Heard}
 use Rattle.osi_session.specs.declared.joining.PartVerdict.TheVariants as is
-use Rattle.osi_session.specs.declared.faults.UnitFault.TheVariants.{Unexpected, TokenHeld, BadEnclosure, DataTooLong}
-use Rattle.osi_session.specs.Allowed.{most_data}
-use Rattle.osi_session.specs.Phases.{is_over, is_aborting, is_restarting, takes_data, may_hold}
-use Rattle.osi_session.specs.declared.phases.Phase.{Phase}
-use Rattle.osi_session.specs.Respond.{nothing, shows, bad, Verdict, over, dropped, faulty, fine, is_faulty, enacted, is_silent, is_nil, si, replies_abort}
 use Rattle.osi_session.specs.Shown.{Data}
-use Rattle.osi_session.specs.Joining.{Taker, Hearing, joined_octets, kept_in, is_in_place, word_verdict, joined_by, good_word, heard, enacted_word, respond_word}
-use Rattle.osi_session.specs.Steps.{told_of, hearing_of, takes_room, outcome_of}
-use Rattle.osi_message.specs.Meanings.{Meaning, DT}
-use Rattle.osi_message.specs.declared.places.Place.{Place}
-use Rattle.osi_message.specs.declared.places.Place.TheVariants.{First, Middle, Last}
-use Rattle.osi_message.specs.Words.{Word, says, part, as_message}
+use Rattle.osi_session.proofs.Vocabulary.{lt-ltb, length-append, append-nil, State, UnitFault, Heard, Unexpected, TokenHeld, BadEnclosure, DataTooLong, most_data, is_over, is_aborting, is_restarting, takes_data, may_hold, Phase, nothing, shows, bad, Verdict, over, dropped, faulty, fine, is_faulty, enacted, is_silent, is_nil, si, replies_abort, Taker, Hearing, joined_octets, kept_in, is_in_place, word_verdict, joined_by, good_word, heard, enacted_word, respond_word, told_of, hearing_of, takes_room, outcome_of, Meaning, DT, Place, First, Middle, Last, Word, says, part, as_message}
 use Rattle.osi_session.proofs.JoiningLaws.{part_verdict}
 use Rattle.osi_session.proofs.PhaseLaws.{implied}
 use Rattle.osi_session.proofs.VerdictLaws.{enacted_reply, good_reply}

@@ -1,22 +1,8 @@
 -- What gives a token to a side, and what takes it away.
 use Rattle.std.proofs.Common.{◌≡◌, refl, sym, ◌∙◌, subst, Bool, true, false, not, ◌&&◌, ◌||◌, unwrap_or, Ok, if◌then◌else◌, arith}
-use Rattle.std.proofs.lemmas.Bool.{or_left, or_right, and_parts}
-use Rattle.osi_session.specs.declared.phases.Phase.TheVariants.{Answering, RestartDue, Ended}
-use Rattle.osi_session.specs.declared.state.State.{State}
-use Rattle.osi_message.specs.declared.tokens.Tokens.{Tokens}
 use Rattle.osi_session.specs.declared.sides.Sides.{Sides}
-use Rattle.osi_session.specs.declared.selected.FunctionalUnits.{FunctionalUnits}
-use Rattle.osi_message.specs.Tokens.{Token, data_token, minor, major, release, has, set_of, each, no_token, is_within, without, united}
-use Rattle.osi_session.specs.Units.{functional_units, both_units, available}
 use Rattle.osi_session.specs.Sides.{side_for, is_asker, settle, stated, of_asker, of_answerer}
-use Rattle.osi_session.specs.Numbers.{restarted_at}
-use Rattle.osi_session.specs.State.{without_tokens}
-use Rattle.osi_session.specs.Calls.{Call, Accept, Refuse, Data, Give, Please, Minor, MinorConfirm, Major, MajorConfirm, Restart, RestartConfirm, Release, ReleaseAccept, ReleaseRefuse, Abort}
-use Rattle.osi_message.specs.Meanings.{Meaning, CN, AC, RF, DT, GT, PT, MIP, MIA, MAP, MAA, RS, RA, FN, DN, NF, AB, AA}
-use Rattle.osi_session.specs.Allowed.{Step, after, allowed}
-use Rattle.osi_session.specs.Respond.{is_acceptable, stands, becomes, bad, respond_unit}
-use Rattle.osi_session.specs.declared.faults.UnitFault.{UnitFault}
-use Rattle.osi_session.specs.Causes.{to_asker, to_answerer, call_gives, unit_gives, call_holds, unit_holds}
+use Rattle.osi_session.proofs.Vocabulary.{or_left, or_right, and_parts, Answering, RestartDue, Ended, State, Tokens, FunctionalUnits, Token, data_token, minor, major, release, has, set_of, each, no_token, is_within, without, united, functional_units, both_units, available, restarted_at, without_tokens, Call, Accept, Refuse, Data, Give, Please, Minor, MinorConfirm, Major, MajorConfirm, Restart, RestartConfirm, Release, ReleaseAccept, ReleaseRefuse, Abort, Meaning, CN, AC, RF, DT, GT, PT, MIP, MIA, MAP, MAA, RS, RA, FN, DN, NF, AB, AA, Step, after, allowed, is_acceptable, stands, becomes, bad, respond_unit, UnitFault, to_asker, to_answerer, call_gives, unit_gives, call_holds, unit_holds}
 use Rattle.osi_session.proofs.Passed.{passed}
 use Rattle.osi_session.proofs.RunCases.{unit_cases}
 

@@ -1,26 +1,6 @@
 -- What is joined at all times: it is kept by the phase, and at most as much as one Data.
 use Rattle.std.proofs.Common.{◌≡◌, refl, ap, subst, ℕ, ◌≤◌, Bool, true, false, not, if◌then◌else◌, nat_le, List, [], ◌∷◌, ◌++◌, length, Option, Some, None, Result, Ok, Err, arith}
-use Rattle.std.specs.Prelude.{is_some}
-use Rattle.std.proofs.lemmas.Bool.{leb-true}
-use Rattle.std.proofs.lemmas.List.{length-append}
-use Rattle.osi_spdu.specs.declared.faults.SpduFault.{SpduFault}
-use Rattle.osi_session.specs.declared.faults.UnitFault.{UnitFault}
-use Rattle.osi_session.specs.declared.faults.UnitFault.TheVariants.{Unexpected, BadEnclosure, DataTooLong}
-use Rattle.osi_session.specs.declared.phases.Phase.{Phase}
-use Rattle.osi_session.specs.declared.phases.Phase.TheVariants.{Connecting, Ended}
-use Rattle.osi_session.specs.State.{without_tokens}
-use Rattle.osi_session.specs.declared.state.State.{State}
-use Rattle.osi_session.specs.Allowed.{most_data, Answer, allowed}
-use Rattle.osi_session.specs.Phases.{is_over, is_wait_transport, may_hold}
-use Rattle.osi_session.specs.Respond.{Condition, si, conditions, first_fault, is_expected, drops, Verdict, over, dropped, faulty, fine, by_fault, is_faulty, enacted, bad, respond_fault}
-use Rattle.osi_message.specs.declared.places.Place.{Place}
-use Rattle.osi_message.specs.declared.places.Place.TheVariants.{First, Middle, Last}
-use Rattle.osi_message.specs.Meanings.{DT}
-use Rattle.osi_message.specs.Reading.{said_at}
-use Rattle.osi_message.specs.Words.{Word, Words, says, part, as_message}
-use Rattle.osi_session.specs.Joining.{Taker, joined_octets, drops_parts, kept_in, is_in_place, enclosure_conditions, word_conditions, word_verdict, joined_by, good_word, Hearing, enacted_word, respond_word, respond_words, acting_words, respond_tsdu, respond_came}
-use Rattle.osi_session.specs.Kept.{IsKeptIn, IsKept}
-use Rattle.osi_session.specs.Listening.{Input, called, taken, unread, opened, refused, broken, Listener, Move, taker_of, in_state, answered, begun, denied, rests, react, after_input, after_inputs}
+use Rattle.osi_session.proofs.Vocabulary.{is_some, leb-true, length-append, SpduFault, UnitFault, Unexpected, BadEnclosure, DataTooLong, Phase, Connecting, Ended, without_tokens, State, most_data, Answer, allowed, is_over, is_wait_transport, may_hold, Condition, si, conditions, first_fault, is_expected, drops, Verdict, over, dropped, faulty, fine, by_fault, is_faulty, enacted, bad, respond_fault, Place, First, Middle, Last, DT, said_at, Word, Words, says, part, as_message, Taker, joined_octets, drops_parts, kept_in, is_in_place, enclosure_conditions, word_conditions, word_verdict, joined_by, good_word, Hearing, enacted_word, respond_word, respond_words, acting_words, respond_tsdu, respond_came, IsKeptIn, IsKept, Input, called, taken, unread, opened, refused, broken, Listener, Move, taker_of, in_state, answered, begun, denied, rests, react, after_input, after_inputs}
 use Rattle.osi_session.proofs.WordLaws.{kept_twice, word_kept}
 
 -- ---- what each word leaves, words leave

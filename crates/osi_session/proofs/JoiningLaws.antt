@@ -1,21 +1,8 @@
 -- What is joined of an unfinished SSDU, and what becomes of a word.
 use Rattle.std.proofs.Common.{◌≡◌, ◌∙◌, refl, sym, ap, subst, ℕ, ◌+◌, Bool, true, false, not, ◌&&◌, ◌||◌, if◌then◌else◌, nat_le, List, [], ◌∷◌, ◌++◌, length, Option, Some, None, is_none, Result, arith}
-use Rattle.std.proofs.lemmas.List.{length-append}
-use Rattle.osi_session.specs.declared.state.State.{State}
-use Rattle.osi_session.specs.declared.faults.UnitFault.{UnitFault}
-use Rattle.osi_session.specs.declared.faults.UnitFault.TheVariants.{Unexpected, TokenHeld, BadEnclosure, DataTooLong}
-use Rattle.osi_session.specs.Phases.{is_over, is_restarting, takes_data}
-use Rattle.osi_session.specs.Allowed.{most_data}
-use Rattle.osi_session.specs.Respond.{Outcome, Condition, si, conditions, first_fault, is_expected, drops, bad, Verdict, over, dropped, faulty, fine, by_fault, verdict, is_faulty, enacted, respond_unit, replies_abort, is_silent, is_nil, kind_of}
-use Rattle.osi_spdu.specs.declared.kinds.Kind.{Kind}
-use Rattle.osi_spdu.specs.Kinds.{si_of}
 use Rattle.osi_session.specs.declared.reactions.Reaction.{Reaction}
-use Rattle.osi_session.specs.Joining.{Taker, joined_octets, begins_anew, is_in_place, word_verdict}
-use Rattle.osi_session.specs.Steps.{Reacts}
+use Rattle.osi_session.proofs.Vocabulary.{length-append, State, UnitFault, Unexpected, TokenHeld, BadEnclosure, DataTooLong, is_over, is_restarting, takes_data, most_data, Outcome, Condition, si, conditions, first_fault, is_expected, drops, bad, Verdict, over, dropped, faulty, fine, by_fault, verdict, is_faulty, enacted, respond_unit, replies_abort, is_silent, is_nil, kind_of, Kind, si_of, Taker, joined_octets, begins_anew, is_in_place, word_verdict, Reacts, Meaning, DT, Place, says, part}
 use Rattle.osi_session.proofs.VerdictLaws.{enacts, told_bad}
-use Rattle.osi_message.specs.Meanings.{Meaning, DT}
-use Rattle.osi_message.specs.declared.places.Place.{Place}
-use Rattle.osi_message.specs.Words.{says, part}
 
 pub length_both : (a b : List ℕ) → nat_le (length a + length b) 1048572 ≡ nat_le (length (a ++ b)) most_data
 length_both a b = ap (λ n. nat_le n 1048572) (sym (length-append a b))

@@ -1,21 +1,9 @@
 -- What the taker of parts has joined, whatever its user calls between them: their octets, or nothing where it
 -- discards data. Nothing is asked of its functional units here: that the data is no fault is known from elsewhere.
 use Rattle.std.proofs.Common.{◌≡◌, refl, sym, ◌∙◌, ap, subst, ℕ, ◌≤◌, Bool, true, false, not, ◌||◌, ◌⊎◌, if◌then◌else◌, List, [], ◌++◌, length, Option, Some, None, Ok, inl, inr, arith}
-use Rattle.std.proofs.lemmas.Bool.{cases_Bool, le-leb}
-use Rattle.osi_session.specs.declared.state.State.{State}
-use Rattle.osi_session.specs.declared.phases.Phase.{Phase}
-use Rattle.osi_session.specs.Phases.{is_answering, is_ready, is_major_due, is_restarting, is_restart_due, is_release_due, is_over, may_hold, may_give, may_ask, may_confirm_minor, takes_data}
-use Rattle.osi_session.specs.Allowed.{Step, allowed, may_call, after, most_data}
-use Rattle.osi_session.specs.Calls.{Call, Accept, Refuse, Data, Give, Please, Minor, MinorConfirm, Major, MajorConfirm, Restart, RestartConfirm, Release, ReleaseAccept, ReleaseRefuse, Abort}
-use Rattle.osi_session.specs.Respond.{nothing, fine}
+use Rattle.osi_session.proofs.Vocabulary.{cases_Bool, le-leb, State, Phase, is_answering, is_ready, is_major_due, is_restarting, is_restart_due, is_release_due, is_over, may_hold, may_give, may_ask, may_confirm_minor, takes_data, Step, allowed, may_call, after, most_data, Call, Accept, Refuse, Data, Give, Please, Minor, MinorConfirm, Major, MajorConfirm, Restart, RestartConfirm, Release, ReleaseAccept, ReleaseRefuse, Abort, nothing, fine, Place, First, Middle, Last, DT, Word, says, part, drops_parts, kept_in, heard, respond_word, IsKeptIn, discards, IsJoinedAs, IsNoFault, IsJoined}
 use Rattle.osi_session.proofs.PhaseLaws.{implied, excluded}
 use Rattle.osi_session.proofs.Passed.{passed}
-use Rattle.osi_message.specs.declared.places.Place.{Place}
-use Rattle.osi_message.specs.declared.places.Place.TheVariants.{First, Middle, Last}
-use Rattle.osi_message.specs.Meanings.{DT}
-use Rattle.osi_message.specs.Words.{Word, says, part}
-use Rattle.osi_session.specs.Joining.{drops_parts, kept_in, heard, respond_word}
-use Rattle.osi_session.specs.Kept.{IsKeptIn, discards, IsJoinedAs, IsNoFault, IsJoined}
 use Rattle.osi_session.proofs.PartLaws.{Expects, part_fine, data_fine, expects, part_discarded, data_discarded}
 use Rattle.osi_session.proofs.WordLaws.{word_at, kept_none, kept_some, kept_gone}
 

@@ -26,6 +26,7 @@ pub mod VerdictLaws
 pub mod AloneLaws
 pub mod ClosingLaws
 pub mod AnswerLaws
+mod Vocabulary
 pub mod WrittenLaws
 pub mod JoiningLaws
 pub mod RoomLaws

@@ -1,20 +1,7 @@
 -- The move of each thing, from what the tables answer.
 use Rattle.std.proofs.Common.{inl, inr, ◌≡◌, refl, sym, ◌∙◌, ap, ℕ, true, false, Some, None, Result, Ok, Err}
-use Rattle.osi_spdu.specs.declared.faults.SpduFault.{SpduFault}
-use Rattle.osi_session.specs.declared.state.State.{State}
-use Rattle.osi_session.specs.declared.faults.CallError.{CallError}
-use Rattle.osi_message.specs.Words.{Words}
-use Rattle.osi_message.specs.Parting.{tsdus_of, tsdus_sent}
-use Rattle.osi_session.specs.Calls.{Call}
-use Rattle.osi_session.specs.Allowed.{Step, Answer, allowed}
-use Rattle.osi_session.specs.Respond.{Outcome, respond_fault, lost}
-use Rattle.osi_session.specs.Joining.{Hearing, heard, respond_tsdu, respond_came}
-use Rattle.osi_session.specs.Listening.{called, taken, unread, opened, refused, broken, came_as, Listener, Move, taker_of, rests, in_state, answered, moved, begun, denied, react, after_input}
-use Rattle.osi_session.specs.Sessions.{Planned, IsPlanOf}
-use Rattle.osi_session.specs.Sizes.{limit_of}
 use Rattle.osi_session.specs.declared.faults.CallError.TheVariants as error
-use Rattle.std.proofs.lemmas.Bool.{cases_Bool}
-use Rattle.osi_session.specs.Phases.{is_wait_transport, is_over}
+use Rattle.osi_session.proofs.Vocabulary.{SpduFault, State, CallError, Words, tsdus_of, tsdus_sent, Call, Step, Answer, allowed, Outcome, respond_fault, lost, Hearing, heard, respond_tsdu, respond_came, called, taken, unread, opened, refused, broken, came_as, Listener, Move, taker_of, rests, in_state, answered, moved, begun, denied, react, after_input, Planned, IsPlanOf, limit_of, cases_Bool, is_wait_transport, is_over}
 
 pub call_is : (s : Listener) (c : Call) (a : Answer) → allowed s.state c ≡ a → react s (called c) ≡ answered s a
 unfolding react

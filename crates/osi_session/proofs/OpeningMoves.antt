@@ -1,19 +1,6 @@
 -- What leads to a phase in which tokens may be held.
 use Rattle.std.proofs.Common.{inl, inr, ◌≡◌, refl, sym, subst, Bool, true, false, ◌||◌, List, [], ◌∷◌, if◌then◌else◌, arith}
-use Rattle.std.specs.List.{list_any}
-use Rattle.std.proofs.lemmas.Bool.{cases_Bool, or_left, or_right}
-use Rattle.osi_session.specs.declared.phases.Phase.{Phase}
-use Rattle.osi_session.specs.declared.phases.Phase.TheVariants.{Ready, MajorAsked, MajorDue, Releasing, ReleaseDue}
-use Rattle.osi_session.specs.declared.state.State.{State}
-use Rattle.osi_session.specs.Phases.{is_ready, is_major_asked, is_major_due, is_releasing, is_release_due, may_hold}
-use Rattle.osi_session.specs.Calls.{Call, Accept, Refuse, Data, Give, Please, Minor, MinorConfirm, Major, MajorConfirm, Restart, RestartConfirm, Release, ReleaseAccept, ReleaseRefuse, Abort}
-use Rattle.osi_message.specs.Meanings.{Meaning, CN, AC, RF, DT, GT, PT, MIP, MIA, MAP, MAA, RS, RA, FN, DN, NF, AB, AA}
-use Rattle.osi_message.specs.Words.{Word, Words, as_message}
-use Rattle.osi_session.specs.Allowed.{Step, may_call, after}
-use Rattle.osi_session.specs.Respond.{is_expected, is_acceptable, stands, becomes, respond_unit, is_faulty}
-use Rattle.osi_session.specs.Joining.{Taker, Hearing, word_verdict, respond_word, respond_words, acting_words}
-use Rattle.osi_session.specs.Listening.{Input, called, taken, unread, opened, refused, broken, Listener, taker_of, after_input, after_inputs}
-use Rattle.osi_session.specs.Causes.{some_word, call_opens, unit_opens, opens_connection}
+use Rattle.osi_session.proofs.Vocabulary.{list_any, cases_Bool, or_left, or_right, Phase, Ready, MajorAsked, MajorDue, Releasing, ReleaseDue, State, is_ready, is_major_asked, is_major_due, is_releasing, is_release_due, may_hold, Call, Accept, Refuse, Data, Give, Please, Minor, MinorConfirm, Major, MajorConfirm, Restart, RestartConfirm, Release, ReleaseAccept, ReleaseRefuse, Abort, Meaning, CN, AC, RF, DT, GT, PT, MIP, MIA, MAP, MAA, RS, RA, FN, DN, NF, AB, AA, Word, Words, as_message, Step, may_call, after, is_expected, is_acceptable, stands, becomes, respond_unit, is_faulty, Taker, Hearing, word_verdict, respond_word, respond_words, acting_words, Input, called, taken, unread, opened, refused, broken, Listener, taker_of, after_input, after_inputs, some_word, call_opens, unit_opens, opens_connection}
 use Rattle.osi_session.proofs.Passed.{passed}
 use Rattle.osi_session.proofs.PhaseLaws.{implied}
 use Rattle.osi_session.proofs.RunCases.{call_cases, unit_cases, taken_cases, fault_cases, opened_cases, refused_cases, broken_cases}

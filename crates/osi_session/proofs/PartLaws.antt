@@ -1,16 +1,7 @@
 -- A part where data is expected, and where it is discarded.
 use Rattle.std.proofs.Common.{◌≡◌, refl, sym, ◌∙◌, ap, ℕ, Bool, true, false, not, ◌||◌, ◌⊎◌, if◌then◌else◌, nat_le, List, ◌++◌, length, Option, Some, None, inl, inr, arith}
-use Rattle.osi_session.specs.declared.state.State.{State}
-use Rattle.osi_session.specs.declared.faults.UnitFault.TheVariants.{Unexpected, TokenHeld}
-use Rattle.osi_session.specs.Phases.{is_restarting, is_over, is_aborting, takes_data}
-use Rattle.osi_session.specs.Allowed.{most_data}
-use Rattle.osi_session.specs.Respond.{nothing, si, over, dropped, faulty, fine, by_fault, verdict, is_faulty}
+use Rattle.osi_session.proofs.Vocabulary.{State, Unexpected, TokenHeld, is_restarting, is_over, is_aborting, takes_data, most_data, nothing, si, over, dropped, faulty, fine, by_fault, verdict, is_faulty, Place, DT, says, part, joined_octets, is_in_place, word_verdict, heard, respond_word, discards, IsNoFault}
 use Rattle.osi_session.proofs.PhaseLaws.{excluded}
-use Rattle.osi_message.specs.declared.places.Place.{Place}
-use Rattle.osi_message.specs.Meanings.{DT}
-use Rattle.osi_message.specs.Words.{says, part}
-use Rattle.osi_session.specs.Joining.{joined_octets, is_in_place, word_verdict, heard, respond_word}
-use Rattle.osi_session.specs.Kept.{discards, IsNoFault}
 use Rattle.osi_session.proofs.WordLaws.{word_at}
 
 -- ---- where it is expected

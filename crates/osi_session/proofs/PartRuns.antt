@@ -1,31 +1,9 @@
 -- The parts of one Data, with calls of their taker between, and the whole Data behind the calls alone.
 use Rattle.std.proofs.Common.{◌≡◌, refl, sym, ◌∙◌, ap, subst, ℕ, ◌≤◌, Bool, true, false, not, ◌&&◌, ◌||◌, ◌⊎◌, List, [], ◌∷◌, ◌++◌, length, map, Option, Some, None, Result, Ok, Err, inl, inr, arith}
-use Rattle.std.proofs.lemmas.Bool.{cases_Bool, and_parts}
-use Rattle.std.proofs.lemmas.List.{length-append}
-use Rattle.osi_spdu.specs.declared.faults.SpduFault.{SpduFault}
-use Rattle.osi_session.specs.declared.state.State.{State}
-use Rattle.osi_session.specs.declared.phases.Phase.{Phase}
-use Rattle.osi_session.specs.Phases.{is_answering, is_major_due, is_restarting, is_restart_due, is_release_due, is_over, takes_data}
-use Rattle.osi_session.specs.Allowed.{most_data, Step, Answer, allowed, needs, may_call, after, has_right, AllHold}
-use Rattle.osi_session.specs.Calls.{Call, Accept, Refuse, Data, Give, Please, Minor, MinorConfirm, Major, MajorConfirm, Restart, RestartConfirm, Release, ReleaseAccept, ReleaseRefuse, Abort}
-use Rattle.osi_session.specs.Units.{available}
-use Rattle.osi_session.specs.declared.selected.FunctionalUnits.{FunctionalUnits}
+use Rattle.osi_session.proofs.Vocabulary.{cases_Bool, and_parts, length-append, SpduFault, State, Phase, is_answering, is_major_due, is_restarting, is_restart_due, is_release_due, is_over, takes_data, most_data, Step, Answer, allowed, needs, may_call, after, has_right, AllHold, Call, Accept, Refuse, Data, Give, Please, Minor, MinorConfirm, Major, MajorConfirm, Restart, RestartConfirm, Release, ReleaseAccept, ReleaseRefuse, Abort, available, FunctionalUnits, Tokens, Place, First, Middle, Last, Meaning, DT, GT, said_at, IsSendable, words_of, no_token, without, has, Words, says, part, part_octets, written, user_data_of, drops_parts, kept_in, respond_word, discards, IsNoFault, Input, called, taken, came, came_as, Listener, Move, rests, moved, answered, react, after_input, after_inputs, Act, comes, calls, part_comes, act_in_words, act_in_octets, calls_in, AreParts, AreAlike, AreSilent, IsOfProfile, has_profile, HasProfile}
 use Rattle.osi_session.proofs.PhaseLaws.{implied, excluded}
 use Rattle.osi_session.proofs.Passed.{passed}
-use Rattle.osi_message.specs.declared.tokens.Tokens.{Tokens}
-use Rattle.osi_message.specs.declared.places.Place.{Place}
-use Rattle.osi_message.specs.declared.places.Place.TheVariants.{First, Middle, Last}
-use Rattle.osi_message.specs.Meanings.{Meaning, DT, GT}
-use Rattle.osi_message.specs.Reading.{said_at}
-use Rattle.osi_message.specs.Sendable.{IsSendable, words_of}
-use Rattle.osi_message.specs.Tokens.{no_token, without, has}
 use Rattle.osi_message.specs.Tokens as token
-use Rattle.osi_message.specs.Words.{Words, says, part, part_octets}
-use Rattle.osi_message.specs.Written.{written, user_data_of}
-use Rattle.osi_session.specs.Joining.{drops_parts, kept_in, respond_word}
-use Rattle.osi_session.specs.Kept.{discards, IsNoFault}
-use Rattle.osi_session.specs.Listening.{Input, called, taken, came, came_as, Listener, Move, rests, moved, answered, react, after_input, after_inputs}
-use Rattle.osi_session.specs.Parts.{Act, comes, calls, part_comes, act_in_words, act_in_octets, calls_in, AreParts, AreAlike, AreSilent, IsOfProfile, has_profile, HasProfile}
 use Rattle.osi_session.proofs.KeptLaws.{Joins, goes_on_discarding, expected_keeps, discarded_is, first_is, middle_is, last_joined, last_discarded}
 use Rattle.osi_session.proofs.MoveLaws.{call_is, taken_is}
 use Rattle.osi_session.proofs.PartLaws.{Expects, expects}

@@ -1,28 +1,8 @@
 -- Data, minor points and confirmations: those that come where they are expected, and points that are sent.
 use Rattle.std.proofs.Common.{◌≡◌, ◌∙◌, ap, ℕ, ◌≤◌, ◌==◌, nat_le, nat_lt, Bool, List, [], ◌∷◌, Option, Some, None, is_some, Result, Ok, true, false, refl, sym, subst, length}
-use Rattle.osi_spdu.specs.declared.faults.SpduFault.{SpduFault}
-use Rattle.osi_message.specs.Meanings.{Meaning, DT, MIP, MIA, GT}
-use Rattle.osi_message.specs.Parting.{tsdus_of}
-use Rattle.osi_message.specs.Reading.{said_at}
-use Rattle.osi_message.specs.Tokens.{no_token}
-use Rattle.osi_message.specs.Words.{Words, says}
-use Rattle.osi_session.specs.declared.indications.Indication.{Indication}
-use Rattle.osi_session.specs.declared.numbers.Numbers.{Numbers}
-use Rattle.osi_session.specs.declared.phases.Phase.{Phase}
-use Rattle.osi_session.specs.declared.phases.Phase.TheVariants.{Ready, Releasing}
-use Rattle.osi_session.specs.declared.state.State.{State}
 use Rattle.osi_session.specs.declared.plans.PlannedPoint.{PlannedPoint}
-use Rattle.osi_session.specs.Allowed.{Step, allowed}
-use Rattle.osi_session.specs.Calls.{Call, HasSerial}
-use Rattle.osi_session.specs.Joining.{Taker, heard, joined_octets, kept_in, respond_came}
-use Rattle.osi_session.specs.Listening.{Listener, called, react, came_as, taker_of}
-use Rattle.osi_session.specs.Numbers.{point_taken, minor_confirmed}
-use Rattle.osi_session.specs.Phases.{is_ready, takes_data}
-use Rattle.osi_session.specs.Respond.{respond_unit, shows, take_expected}
-use Rattle.osi_session.specs.Points.{in_numbers, only_shows, PlansPoint}
-use Rattle.osi_session.specs.Sizes.{limit_of}
-use Rattle.osi_session.specs.Shown.{Shown, Data, Minor, MinorConfirmed, shown_by}
-use Rattle.osi_session.specs.Sound.{IsSound}
+use Rattle.osi_session.specs.Shown.{Data, Minor}
+use Rattle.osi_session.proofs.Vocabulary.{SpduFault, Meaning, DT, MIP, MIA, GT, tsdus_of, said_at, no_token, Words, says, Indication, Numbers, Phase, Ready, Releasing, State, Step, allowed, Call, HasSerial, Taker, heard, joined_octets, kept_in, respond_came, Listener, called, react, came_as, taker_of, point_taken, minor_confirmed, is_ready, takes_data, respond_unit, shows, take_expected, in_numbers, only_shows, PlansPoint, limit_of, Shown, MinorConfirmed, shown_by, IsSound}
 use Rattle.osi_session.proofs.MoveLaws.{came_is, call_leaves, call_passes, call_sends}
 use Rattle.osi_session.proofs.SendableLaws.{call_sendable}
 use Rattle.osi_session.proofs.SessionMoves.{holds, leaves_as, leaves_octets, stays_in}

@@ -1,25 +1,7 @@
 -- The functional units of a session are those of a profile.
-use Rattle.osi_spdu.specs.Fields.{unit_bits}
 use Rattle.std.proofs.Common.{◌≡◌, refl, sym, ◌∙◌, ap, subst, ℕ, ◌==◌, Bool, true, false, not, ◌&&◌, ◌||◌, List, [], ◌∷◌, Ok, if◌then◌else◌, arith}
-use Rattle.std.proofs.lemmas.Bool.{eqb-true, and_parts}
 use Rattle.std.proofs.lemmas.Nat.{and_assoc, and_le_r}
-use Rattle.std.specs.Int.RustNames.{bit_and}
-use Rattle.osi_message.specs.Reading.{names}
-use Rattle.osi_message.specs.Meanings.{Meaning, CN, AC, RF, DT, GT, PT, MIP, MIA, MAP, MAA, RS, RA, FN, DN, NF, AB, AA}
-use Rattle.osi_message.specs.Words.{Word}
-use Rattle.osi_spdu.specs.Sizes.{are_sizes}
-use Rattle.osi_session.specs.declared.opening.Opening.{Opening}
-use Rattle.osi_session.specs.declared.selected.FunctionalUnits.{FunctionalUnits}
-use Rattle.osi_session.specs.declared.state.State.{State}
-use Rattle.osi_session.specs.Allowed.{Step, may_call, needs, after, allowed, AllHold}
-use Rattle.osi_session.specs.Calls.{Call, Accept, Refuse, Data, Give, Please, Minor, MinorConfirm, Major, MajorConfirm, Restart, RestartConfirm, Release, ReleaseAccept, ReleaseRefuse, Abort}
-use Rattle.osi_session.specs.Joining.{Taker, respond_word}
-use Rattle.osi_session.specs.Listening.{Input, called, taken, unread, opened, refused, broken, Listener, taker_of, after_input, after_inputs}
-use Rattle.osi_session.specs.Parts.{IsOfProfile, has_profile, HasProfile}
-use Rattle.osi_session.specs.Phases.{is_wait_transport, is_connecting, is_ready, is_major_asked, is_major_due, is_releasing, is_release_due, is_restarting, is_restart_due, takes_restart, may_restart}
-use Rattle.osi_session.specs.Respond.{is_expected, conditions, is_acceptable, stands, becomes, respond_unit, AllMet}
-use Rattle.osi_session.specs.Sessions.{awaiting, asking}
-use Rattle.osi_session.specs.Units.{functional_units, both_units, units_within, has_data, is_profile}
+use Rattle.osi_session.proofs.Vocabulary.{unit_bits, eqb-true, and_parts, bit_and, names, Meaning, CN, AC, RF, DT, GT, PT, MIP, MIA, MAP, MAA, RS, RA, FN, DN, NF, AB, AA, Word, are_sizes, Opening, FunctionalUnits, State, Step, may_call, needs, after, allowed, AllHold, Call, Accept, Refuse, Data, Give, Please, Minor, MinorConfirm, Major, MajorConfirm, Restart, RestartConfirm, Release, ReleaseAccept, ReleaseRefuse, Abort, Taker, respond_word, Input, called, taken, unread, opened, refused, broken, Listener, taker_of, after_input, after_inputs, IsOfProfile, has_profile, HasProfile, is_wait_transport, is_connecting, is_ready, is_major_asked, is_major_due, is_releasing, is_release_due, is_restarting, is_restart_due, takes_restart, may_restart, is_expected, conditions, is_acceptable, stands, becomes, respond_unit, AllMet, awaiting, asking, functional_units, both_units, units_within, has_data, is_profile}
 use Rattle.osi_session.proofs.Passed.{passed}
 use Rattle.osi_session.proofs.PhaseLaws.{implied}
 use Rattle.osi_session.proofs.RunCases.{call_cases, unit_cases, taken_cases, fault_cases, opened_cases, refused_cases, broken_cases}

@@ -1,15 +1,8 @@
 -- Two restarts that cross: which of them stands.
 use Rattle.std.proofs.Common.{inl, inr, ◌⊎◌, ◌≡◌, refl, sym, ◌∙◌, ap, ℕ, ◌≤◌, ◌<◌, Bool, true, false, not, ◌&&◌, List, None, if◌then◌else◌, arith}
-use Rattle.std.proofs.lemmas.Bool.{lt-ltb, le-ltb, le-leb, eq-eqb, ne_eqb, cases_order}
 use Rattle.osi_spdu.specs.declared.fields.ResyncType.TheVariants.{Restart}
-use Rattle.osi_spdu.specs.declared.settings.TokenSetting.{TokenSetting}
-use Rattle.osi_session.specs.declared.state.State.{State}
-use Rattle.osi_session.specs.Phases.{is_aborting, is_ended, is_restarting, is_restart_due, takes_restart}
-use Rattle.osi_session.specs.Numbers.{restarted_at, lower}
-use Rattle.osi_message.specs.Tokens.{no_token}
-use Rattle.osi_message.specs.Meanings.{GT, RS}
-use Rattle.osi_session.specs.Respond.{Outcome, si, conditions, first_fault, judged, stands, becomes, good, take_expected, respond_unit}
 use Rattle.osi_session.specs.Restarts.{HasAsked, AreCrossed, after_restart}
+use Rattle.osi_session.proofs.Vocabulary.{lt-ltb, le-ltb, le-leb, eq-eqb, ne_eqb, cases_order, TokenSetting, State, is_aborting, is_ended, is_restarting, is_restart_due, takes_restart, restarted_at, lower, no_token, GT, RS, Outcome, si, conditions, first_fault, judged, stands, becomes, good, take_expected, respond_unit}
 use Rattle.osi_session.proofs.PhaseLaws.{implied, excluded}
 use Rattle.osi_session.proofs.VerdictLaws.{in_front, empty_item}
 

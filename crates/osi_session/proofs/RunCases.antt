@@ -1,18 +1,6 @@
 -- The outcomes of each event.
 use Rattle.std.proofs.Common.{◌≡◌, refl, ℕ, Bool, true, false, not, Option, Some, None, Ok, Err, if◌then◌else◌, arith}
-use Rattle.osi_spdu.specs.declared.faults.SpduFault.{SpduFault}
-use Rattle.osi_session.specs.declared.phases.Phase.TheVariants.{Connecting, Aborting, Ended}
-use Rattle.osi_session.specs.declared.faults.UnitFault.{UnitFault}
-use Rattle.osi_session.specs.declared.state.State.{State}
-use Rattle.osi_session.specs.Phases.{is_wait_transport, is_aborting, is_ended, is_over}
-use Rattle.osi_session.specs.State.{without_tokens}
-use Rattle.osi_session.specs.Calls.{Call}
-use Rattle.osi_message.specs.Meanings.{Meaning, AB, AA}
-use Rattle.osi_message.specs.Words.{Words}
-use Rattle.osi_session.specs.Allowed.{Step, Answer, allowed}
-use Rattle.osi_session.specs.Respond.{Outcome, si, conditions, first_fault, is_expected, drops, becomes, judged, take_expected, in_aborting, in_ended, respond_unit, AllMet, respond_fault}
-use Rattle.osi_session.specs.Joining.{respond_tsdu}
-use Rattle.osi_session.specs.Listening.{called, taken, unread, opened, refused, broken, Listener, Move, taker_of, answered, react, after_input}
+use Rattle.osi_session.proofs.Vocabulary.{SpduFault, Connecting, Aborting, Ended, UnitFault, State, is_wait_transport, is_aborting, is_ended, is_over, without_tokens, Call, Meaning, AB, AA, Words, Step, Answer, allowed, Outcome, si, conditions, first_fault, is_expected, drops, becomes, judged, take_expected, in_aborting, in_ended, respond_unit, AllMet, respond_fault, respond_tsdu, called, taken, unread, opened, refused, broken, Listener, Move, taker_of, answered, react, after_input}
 use Rattle.osi_session.proofs.SoundUnits.{all_met}
 
 -- a call is accepted, or changes nothing

@@ -1,31 +1,9 @@
 -- What every run of a session keeps.
-use Rattle.osi_spdu.specs.Fields.{unit_bits}
 use Rattle.std.proofs.Common.{◌≡◌, refl, sym, subst, ℕ, true, false, ◌||◌, List, [], ◌∷◌, map, Err, arith}
-use Rattle.std.specs.List.{AllByRecursion}
-use Rattle.osi_session.specs.declared.phases.Phase.{Phase}
-use Rattle.osi_session.specs.declared.phases.Phase.TheVariants.{Connecting, Aborting, Ended}
 use Rattle.osi_session.specs.declared.faults.CallError.TheVariants as error
-use Rattle.osi_session.specs.declared.numbers.Numbers.{Numbers}
-use Rattle.osi_session.specs.declared.state.State.{State}
-use Rattle.osi_session.specs.Numbers.{from_base}
-use Rattle.osi_session.specs.Phases.{is_wait_transport, is_wait_cn, is_aborting, is_ended, is_over, is_restart_due, in_major}
-use Rattle.osi_session.specs.Sound.{IsSound, AreOrdered}
-use Rattle.osi_session.specs.Calls.{Call}
-use Rattle.osi_message.specs.Meanings.{Meaning}
-use Rattle.osi_session.specs.Allowed.{allowed}
-use Rattle.osi_session.specs.Respond.{respond_unit}
-use Rattle.osi_session.specs.declared.opening.Opening.{Opening}
-use Rattle.osi_session.specs.Units.{functional_units, has_points}
-use Rattle.osi_session.specs.Sessions.{awaiting, asking}
+use Rattle.osi_session.proofs.Vocabulary.{unit_bits, AllByRecursion, Phase, Connecting, Aborting, Ended, Numbers, State, from_base, is_wait_transport, is_wait_cn, is_aborting, is_ended, is_over, is_restart_due, in_major, IsSound, AreOrdered, Call, Meaning, allowed, respond_unit, Opening, functional_units, has_points, awaiting, asking, Input, called, taken, unread, opened, refused, broken, Listener, taker_of, react, after_input, after_inputs, HasNumbers, HasNumbersInWords, IsFresh, listening, in_words, Taker, respond_word, respond_tsdu, Said, AreNumbered, AreNumberedWords, Word, Words, says}
 use Rattle.osi_session.proofs.SessionLaws.{first_small}
-use Rattle.osi_session.specs.Listening.{Input, called, taken, unread, opened, refused, broken, Listener, taker_of, react, after_input, after_inputs}
-use Rattle.osi_session.specs.Runs.{HasNumbers, HasNumbersInWords, IsFresh}
 use Rattle.osi_session.specs.Moves as whole
-use Rattle.osi_session.specs.Whole.{listening, in_words}
-use Rattle.osi_session.specs.Joining.{Taker, respond_word, respond_tsdu}
-use Rattle.osi_message.specs.Reading.{Said}
-use Rattle.osi_message.specs.Numbered.{AreNumbered, AreNumberedWords}
-use Rattle.osi_message.specs.Words.{Word, Words, says}
 use Rattle.osi_session.proofs.Begun.{Begins}
 use Rattle.osi_session.proofs.WordCases.{word_keeps, any_tsdu_keeps}
 use Rattle.osi_session.proofs.WordLaws.{run_as_whole}

@@ -1,28 +1,7 @@
 -- What an accepted call sends, and what a TSDU is answered by, can be sent.
-use Rattle.osi_spdu.specs.Fields.{unit_bits}
-use Rattle.osi_spdu.specs.Sizes.{are_sizes}
 use Rattle.std.proofs.Common.{◌≡◌, refl, sym, subst, ℕ, ◌<◌, Bool, true, false, not, ◌&&◌, nat_le, nat_lt, List, [], ◌∷◌, length, Option, Some, None, Ok, if◌then◌else◌, arith}
-use Rattle.std.proofs.lemmas.Bool.{leb-true, ltb-true, and_parts}
-use Rattle.osi_session.specs.declared.faults.UnitFault.{UnitFault}
 use Rattle.osi_spdu.specs.declared.selectors.Selector.{Selector}
-use Rattle.osi_session.specs.declared.opening.Opening.{Opening}
-use Rattle.osi_session.specs.declared.state.State.{State}
-use Rattle.osi_session.specs.Units.{functional_units, has_points, has_data}
-use Rattle.osi_session.specs.Phases.{is_aborting, is_ended}
-use Rattle.osi_session.specs.Calls.{Call, Accept, Refuse, Data, Give, Please, Minor, MinorConfirm, Major, MajorConfirm, Restart, RestartConfirm, Release, ReleaseAccept, ReleaseRefuse, Abort, HasSerial}
-use Rattle.osi_message.specs.Meanings.{Meaning, CN, RF, AB, AA, selector_octets}
-use Rattle.osi_message.specs.Numbered.{IsSmall, IsNumbered}
-use Rattle.osi_message.specs.Reading.{Said}
-use Rattle.osi_session.specs.Openings.{asked_for}
-use Rattle.osi_session.specs.Sound.{IsSound}
-use Rattle.osi_session.specs.Allowed.{Step, last_number, needs, may_call, sends, allowed, AllHold}
-use Rattle.osi_session.specs.Respond.{Outcome, si, conditions, first_fault, is_expected, drops, reply_for, first_reply, judged, take_expected, in_aborting, in_ended, respond_unit, is_faulty, verdict, respond_all, acting, respond}
-use Rattle.osi_message.specs.Written.{user_data_of}
-use Rattle.osi_message.specs.Sendable.{IsAddress, IsAddressed, IsSendable, is_of_version_2, is_sized}
-use Rattle.osi_session.specs.Listening.{called, Listener, react}
-use Rattle.osi_session.specs.Sessions.{CanBeSent}
-use Rattle.osi_message.specs.Words.{Word, Words}
-use Rattle.osi_session.specs.Joining.{Taker, Hearing, word_verdict, respond_word, respond_words, acting_words, respond_tsdu}
+use Rattle.osi_session.proofs.Vocabulary.{unit_bits, are_sizes, leb-true, ltb-true, and_parts, UnitFault, Opening, State, functional_units, has_points, has_data, is_aborting, is_ended, Call, Accept, Refuse, Data, Give, Please, Minor, MinorConfirm, Major, MajorConfirm, Restart, RestartConfirm, Release, ReleaseAccept, ReleaseRefuse, Abort, HasSerial, Meaning, CN, RF, AB, AA, selector_octets, IsSmall, IsNumbered, Said, asked_for, IsSound, Step, last_number, needs, may_call, sends, allowed, AllHold, Outcome, si, conditions, first_fault, is_expected, drops, reply_for, first_reply, judged, take_expected, in_aborting, in_ended, respond_unit, is_faulty, verdict, respond_all, acting, respond, user_data_of, IsAddress, IsAddressed, IsSendable, is_of_version_2, is_sized, called, Listener, react, CanBeSent, Word, Words, Taker, Hearing, word_verdict, respond_word, respond_words, acting_words, respond_tsdu}
 use Rattle.osi_session.proofs.MoveLaws.{call_reply}
 use Rattle.osi_session.proofs.WordCases.{outcome_in, word_does}
 use Rattle.osi_session.proofs.CallLaws.{sent_short}

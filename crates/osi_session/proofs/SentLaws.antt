@@ -1,16 +1,6 @@
 -- What an accepted call sends.
 use Rattle.std.proofs.Common.{◌≡◌, refl, sym, ap, subst, ℕ, ◌<◌, ◌≤◌, Bool, true, false, not, List, length, Ok, if◌then◌else◌}
-use Rattle.std.specs.List.{AllByRecursion}
-use Rattle.std.proofs.lemmas.Bool.{and_parts, leb-true}
-use Rattle.osi_spdu.specs.Values.{is_size}
-use Rattle.osi_message.specs.Meanings.{Meaning, DT}
-use Rattle.osi_message.specs.Parting.{is_whole, is_parted, tsdus_of, in_one, AreFull}
-use Rattle.osi_session.specs.declared.state.State.{State}
-use Rattle.osi_session.specs.Allowed.{Step, sends, allowed}
-use Rattle.osi_session.specs.Calls.{Call, Data}
-use Rattle.osi_session.specs.Phases.{is_settled}
-use Rattle.osi_session.specs.Sizes.{limit_of, is_data}
-use Rattle.osi_session.specs.Sound.{IsSound}
+use Rattle.osi_session.proofs.Vocabulary.{AllByRecursion, and_parts, leb-true, is_size, Meaning, DT, is_whole, is_parted, tsdus_of, in_one, AreFull, State, Step, sends, allowed, Call, Data, is_settled, limit_of, is_data, IsSound}
 use Rattle.osi_session.proofs.Passed.{passed}
 
 -- ---- the limit is a size

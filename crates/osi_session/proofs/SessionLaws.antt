@@ -1,31 +1,8 @@
 -- What is true of a session in memory.
-use Rattle.osi_spdu.specs.Fields.{unit_bits}
-use Rattle.osi_spdu.specs.Sizes.{are_sizes}
 use Rattle.std.proofs.Common.{◌≡◌, ◌∙◌, refl, sym, ap, subst, ℕ, if◌then◌else◌, ◌<◌, ◌≤◌, Bool, true, false, Some, Ok, arith}
 use Rattle.osi_session.specs.declared.requests.Request.{Request}
 use Rattle.osi_session.specs.declared.requests.Request.TheVariants as request
-use Rattle.osi_session.specs.declared.state.State.{State}
-use Rattle.osi_session.specs.Phases.{is_wait_transport, in_major, is_restart_due}
-use Rattle.osi_session.specs.Sound.{IsSound, AreOrdered}
-use Rattle.osi_session.specs.Calls.{HasSerial, called_by}
-use Rattle.osi_session.specs.Allowed.{Step, allowed}
-use Rattle.osi_session.specs.declared.opening.Opening.{Opening}
-use Rattle.osi_session.specs.declared.numbers.Numbers.{Numbers}
-use Rattle.osi_session.specs.Numbers.{from_base}
-use Rattle.osi_message.specs.Tokens.{no_token}
-use Rattle.osi_session.specs.Units.{functional_units, has_points}
-use Rattle.osi_spdu.specs.Known.{Units}
-use Rattle.osi_message.specs.Words.{Words}
-use Rattle.osi_message.proofs.NumberLaws.{units_numbered}
-use Rattle.osi_message.specs.Meanings.{Meaning}
-use Rattle.osi_session.specs.Joining.{Taker, Hearing, respond_tsdu}
-use Rattle.osi_spdu.specs.Reading.{tsdu_at}
-use Rattle.osi_message.specs.Reading.{said_by_units}
-use Rattle.osi_message.specs.Parting.{in_one}
-use Rattle.osi_message.specs.Sendable.{words_of}
-use Rattle.osi_message.specs.Written.{is_second, spelled, written}
-use Rattle.osi_session.specs.Openings.{asked_for}
-use Rattle.osi_session.specs.Sessions.{awaiting, asking, lone, lone_of, unit_in}
+use Rattle.osi_session.proofs.Vocabulary.{unit_bits, are_sizes, State, is_wait_transport, in_major, is_restart_due, IsSound, AreOrdered, HasSerial, called_by, Step, allowed, Opening, Numbers, from_base, no_token, functional_units, has_points, Units, Words, units_numbered, Meaning, Taker, Hearing, respond_tsdu, tsdu_at, said_by_units, in_one, words_of, is_second, spelled, written, asked_for, awaiting, asking, lone, lone_of, unit_in}
 use Rattle.osi_session.proofs.SoundCalls.{call_sound, call_begun}
 use Rattle.osi_session.proofs.SizeLaws.{user_sizes}
 use Rattle.osi_session.proofs.SoundNumbers.{from_ordered}

@@ -1,29 +1,10 @@
 -- The moves of a session in memory.
 use Rattle.std.proofs.Common.{◌≡◌, ◌∙◌, refl, sym, ap, subst, ℕ, ◌≤◌, ◌<◌, true, false, ◌&&◌, if◌then◌else◌, is_some, List, [], ◌∷◌, ◌++◌, length, map, Option, Some, None, option_map, Result, Ok, Err}
-use Rattle.std.proofs.lemmas.List.{append-nil}
-use Rattle.osi_spdu.specs.declared.faults.SpduFault.{SpduFault}
-use Rattle.osi_message.specs.Meanings.{Meaning}
-use Rattle.osi_message.specs.Numbered.{IsNumberedWord, AreNumberedWords}
-use Rattle.osi_message.specs.Reading.{said_at}
-use Rattle.osi_message.specs.declared.places.Place.{Place}
-use Rattle.osi_message.specs.declared.places.Place.TheVariants.{First, Middle, Last}
-use Rattle.osi_message.specs.Words.{Word, Words, part}
-use Rattle.osi_message.specs.Parting.{in_one}
-use Rattle.osi_session.specs.declared.indications.Indication.{Indication}
 use Rattle.osi_session.specs.declared.joining.PartVerdict.TheVariants as is
-use Rattle.osi_session.specs.declared.grouping.Reactions.{Reactions}
-use Rattle.osi_session.specs.declared.hearing.Heard.{Heard}
 use Rattle.osi_session.specs.declared.hearing.Joined.{Joined}
-use Rattle.osi_session.specs.declared.state.State.{State}
 use Rattle.osi_session.specs.declared.taken.Taken.{Taken}
-use Rattle.osi_session.specs.Joining.{Taker, Hearing, kept_in, joined_octets, is_last, word_verdict, heard, respond_word, respond_tsdu, respond_came}
-use Rattle.osi_session.specs.Listening.{Listener, Move, in_state, moved, taker_of}
-use Rattle.osi_session.specs.Phases.{is_wait_transport, may_hold}
-use Rattle.osi_session.specs.Respond.{Outcome, nothing, shows, fine, respond_fault}
-use Rattle.osi_session.specs.Shown.{Data, shown_by}
-use Rattle.osi_session.specs.Sessions.{Takes, takes_memory}
-use Rattle.osi_session.specs.Sound.{IsSound}
-use Rattle.osi_session.specs.Steps.{hearing_of, hearing_of_all, outcome_of, outcome_of_all, shown_list, takes_room, told_of}
+use Rattle.osi_session.specs.Shown.{Data}
+use Rattle.osi_session.proofs.Vocabulary.{append-nil, SpduFault, Meaning, IsNumberedWord, AreNumberedWords, said_at, Place, First, Middle, Last, Word, Words, part, in_one, Indication, Reactions, Heard, State, Taker, Hearing, kept_in, joined_octets, is_last, word_verdict, heard, respond_word, respond_tsdu, respond_came, Listener, Move, in_state, moved, taker_of, is_wait_transport, may_hold, Outcome, nothing, shows, fine, respond_fault, shown_by, Takes, takes_memory, IsSound, hearing_of, hearing_of_all, outcome_of, outcome_of_all, shown_list, takes_room, told_of}
 use Rattle.osi_session.proofs.HearingLaws.{kept_held, part_dropped, fine_holds, first_is, middle_is, last_is, early_takes}
 use Rattle.osi_session.proofs.JoinedLaws.{InPhase, Few, kept_few, words_in_phase, words_few, octets_in_phase, octets_few}
 use Rattle.osi_session.proofs.TsduLaws.{words_sound, words_begun, octets_sound, octets_begun, fault_sound, fault_begun}

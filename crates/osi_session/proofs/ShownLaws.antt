@@ -1,15 +1,6 @@
 -- How much a TSDU shows.
 use Rattle.std.proofs.Common.{◌≡◌, refl, ap, sym, subst, ℕ, suc, ◌+◌, ◌≤◌, Bool, true, false, List, [], ◌∷◌, ◌++◌, length, map, None, if◌then◌else◌, arith}
-use Rattle.std.specs.List.{list_any}
-use Rattle.std.proofs.lemmas.List.{length-append}
-use Rattle.osi_session.specs.declared.state.State.{State}
-use Rattle.osi_session.specs.Phases.{is_aborting, is_wait_cn}
-use Rattle.osi_message.specs.Meanings.{Meaning, CN, AC, RF, DT, GT, PT, MIP, MIA, MAP, MAA, RS, RA, FN, DN, NF, AB, AA}
-use Rattle.osi_message.specs.Reading.{Said}
-use Rattle.osi_message.specs.Words.{Word, Words, says}
-use Rattle.osi_session.specs.Joining.{Taker, Hearing, word_verdict, respond_word, respond_words, is_restart_word, acting_words, respond_tsdu}
-use Rattle.osi_session.specs.Shown.{Shown}
-use Rattle.osi_session.specs.Respond.{Outcome, is_acceptable, stands, shown_for, in_aborting, in_ended, respond_unit, Verdict, over, dropped, faulty, fine, verdict, enacted, is_faulty, respond}
+use Rattle.osi_session.proofs.Vocabulary.{list_any, length-append, State, is_aborting, is_wait_cn, Meaning, CN, AC, RF, DT, GT, PT, MIP, MIA, MAP, MAA, RS, RA, FN, DN, NF, AB, AA, Said, Word, Words, says, Taker, Hearing, word_verdict, respond_word, respond_words, is_restart_word, acting_words, respond_tsdu, Shown, Outcome, is_acceptable, stands, shown_for, in_aborting, in_ended, respond_unit, Verdict, over, dropped, faulty, fine, verdict, enacted, is_faulty, respond}
 use Rattle.osi_session.proofs.VerdictLaws.{enacts}
 use Rattle.osi_session.proofs.WordCases.{word_does}
 use Rattle.osi_session.proofs.WordLaws.{plain_tsdu}

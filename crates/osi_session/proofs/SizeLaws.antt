@@ -1,16 +1,8 @@
 -- What a CN and an AC agree on, and what it bounds.
 use Rattle.std.proofs.Common.{◌≡◌, refl, sym, subst, ℕ, ◌==◌, ◌<◌, ◌≤◌, Bool, true, false, ◌||◌, nat_lt, nat_le, length, Ok, arith, if◌then◌else◌}
-use Rattle.std.proofs.lemmas.Bool.{and_parts, and_from}
-use Rattle.osi_spdu.specs.declared.fields.TsduMaximumSize.{TsduMaximumSize}
 use Rattle.osi_spdu.specs.declared.sizes.TsduSizes.{TsduSizes}
-use Rattle.osi_spdu.specs.Sizes.{named_by, are_sizes}
-use Rattle.osi_spdu.specs.Values.{is_size}
-use Rattle.osi_message.specs.Meanings.{Meaning}
-use Rattle.osi_message.specs.Written.{written}
-use Rattle.osi_session.specs.declared.state.State.{State}
-use Rattle.osi_session.specs.Allowed.{Step, sends, allowed}
-use Rattle.osi_session.specs.Calls.{Call, Accept, Refuse, Data}
-use Rattle.osi_session.specs.Sizes.{smaller, answered, smaller_sizes, answered_sizes, limit_of, is_bounded, fits_limit}
+use Rattle.osi_session.specs.Sizes.{answered}
+use Rattle.osi_session.proofs.Vocabulary.{and_parts, and_from, TsduMaximumSize, named_by, are_sizes, is_size, Meaning, written, State, Step, sends, allowed, Call, Accept, Refuse, Data, smaller, smaller_sizes, answered_sizes, limit_of, is_bounded, fits_limit}
 use Rattle.osi_session.proofs.Passed.{passed}
 
 either : (b : Bool) (m n : ℕ) → is_size m ≡ true → is_size n ≡ true → is_size (if b then m else n) ≡ true

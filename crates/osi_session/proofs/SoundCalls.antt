@@ -1,22 +1,6 @@
 -- What is true of a session at all times is true after each accepted call.
 use Rattle.std.proofs.Common.{◌≡◌, refl, sym, subst, ℕ, ◌≤◌, ◌<◌, Bool, true, false, Ok, arith, if◌then◌else◌}
-use Rattle.std.proofs.lemmas.Bool.{leb-true, ltb-true, and_parts}
-use Rattle.osi_spdu.specs.declared.settings.TokenSetting.{TokenSetting}
-use Rattle.osi_spdu.specs.declared.fields.TsduMaximumSize.{TsduMaximumSize}
-use Rattle.osi_spdu.specs.Sizes.{are_sizes}
-use Rattle.osi_session.specs.declared.phases.Phase.{Phase}
-use Rattle.osi_session.specs.declared.phases.Phase.TheVariants.{Ready, MajorAsked, Releasing, Restarting, Aborting, Ended}
-use Rattle.osi_session.specs.declared.state.State.{State}
-use Rattle.osi_session.specs.declared.numbers.Numbers.{Numbers}
-use Rattle.osi_session.specs.declared.selected.FunctionalUnits.{FunctionalUnits}
-use Rattle.osi_message.specs.declared.tokens.Tokens.{Tokens}
-use Rattle.osi_session.specs.Units.{functional_units, has_points}
-use Rattle.osi_session.specs.Numbers.{point_sent, minor_confirmed, major_confirmed, restarted_at}
-use Rattle.osi_session.specs.Phases.{in_major, is_restart_due, may_hold, may_give, may_ask, is_ready, is_major_due, may_confirm_minor, is_wait_transport}
-use Rattle.osi_session.specs.State.{without_tokens}
-use Rattle.osi_session.specs.Sound.{IsSound, AreOrdered}
-use Rattle.osi_session.specs.Calls.{Call, Accept, Refuse, Data, Give, Please, Minor, MinorConfirm, Major, MajorConfirm, Restart, RestartConfirm, Release, ReleaseAccept, ReleaseRefuse, Abort, HasSerial}
-use Rattle.osi_session.specs.Allowed.{Step, opened_with, is_confirmable, is_restartable, last_number, needs, may_call, after, allowed, AllHold}
+use Rattle.osi_session.proofs.Vocabulary.{leb-true, ltb-true, and_parts, TokenSetting, TsduMaximumSize, are_sizes, Phase, Ready, MajorAsked, Releasing, Restarting, Aborting, Ended, State, Numbers, FunctionalUnits, Tokens, functional_units, has_points, point_sent, minor_confirmed, major_confirmed, restarted_at, in_major, is_restart_due, may_hold, may_give, may_ask, is_ready, is_major_due, may_confirm_minor, is_wait_transport, without_tokens, IsSound, AreOrdered, Call, Accept, Refuse, Data, Give, Please, Minor, MinorConfirm, Major, MajorConfirm, Restart, RestartConfirm, Release, ReleaseAccept, ReleaseRefuse, Abort, HasSerial, Step, opened_with, is_confirmable, is_restartable, last_number, needs, may_call, after, allowed, AllHold}
 use Rattle.osi_session.proofs.Passed.{passed}
 use Rattle.osi_session.proofs.PhaseLaws.{implied, excluded}
 use Rattle.osi_session.proofs.SizeLaws.{answered_are}

@@ -1,19 +1,6 @@
 -- What is true of a session at all times is true after each unit.
 use Rattle.std.proofs.Common.{◌≡◌, refl, ℕ, ◌+◌, ◌≤◌, ◌<◌, Bool, true, false, not, ◌&&◌, ◌==◌, nat_lt, List, [], ◌∷◌, Option, Some, None, unwrap_or, arith, if◌then◌else◌}
-use Rattle.std.proofs.lemmas.Bool.{leb-true, ltb-true, and_parts}
-use Rattle.osi_spdu.specs.declared.settings.TokenSetting.{TokenSetting}
-use Rattle.osi_session.specs.declared.phases.Phase.TheVariants.{Ready, MajorDue, ReleaseDue, RestartDue, Aborting, Ended}
-use Rattle.osi_session.specs.declared.faults.UnitFault.{UnitFault}
-use Rattle.osi_session.specs.declared.state.State.{State}
-use Rattle.osi_spdu.specs.Sizes.{are_sizes}
-use Rattle.osi_session.specs.Units.{functional_units, both_units, has_points, has_data}
-use Rattle.osi_session.specs.Numbers.{point_taken, minor_confirmed, major_confirmed, restarted_at}
-use Rattle.osi_session.specs.Phases.{in_major, is_restart_due, may_hold, may_ask, is_ready, is_wait_cn, is_major_asked, is_aborting, is_ended, takes_minor_ack}
-use Rattle.osi_session.specs.State.{without_tokens}
-use Rattle.osi_session.specs.Sound.{IsSound}
-use Rattle.osi_message.specs.Meanings.{Meaning, CN, AC, RF, DT, GT, PT, MIP, MIA, MAP, MAA, RS, RA, FN, DN, NF, AB, AA}
-use Rattle.osi_message.specs.Numbered.{IsSmall, IsNumbered}
-use Rattle.osi_session.specs.Respond.{Outcome, Condition, si, conditions, first_fault, is_expected, is_acceptable, is_acknowledgeable, stands, becomes, judged, take_expected, in_aborting, in_ended, drops, respond_unit, AllMet}
+use Rattle.osi_session.proofs.Vocabulary.{leb-true, ltb-true, and_parts, TokenSetting, Ready, MajorDue, ReleaseDue, RestartDue, Aborting, Ended, UnitFault, State, are_sizes, functional_units, both_units, has_points, has_data, point_taken, minor_confirmed, major_confirmed, restarted_at, in_major, is_restart_due, may_hold, may_ask, is_ready, is_wait_cn, is_major_asked, is_aborting, is_ended, takes_minor_ack, without_tokens, IsSound, Meaning, CN, AC, RF, DT, GT, PT, MIP, MIA, MAP, MAA, RS, RA, FN, DN, NF, AB, AA, IsSmall, IsNumbered, Outcome, Condition, si, conditions, first_fault, is_expected, is_acceptable, is_acknowledgeable, stands, becomes, judged, take_expected, in_aborting, in_ended, drops, respond_unit, AllMet}
 use Rattle.osi_session.proofs.PhaseLaws.{implied, excluded}
 use Rattle.osi_session.proofs.SizeLaws.{smaller_are}
 use Rattle.osi_session.proofs.SoundNumbers.{taken_ordered, minor_ordered, major_ordered, restart_ordered}

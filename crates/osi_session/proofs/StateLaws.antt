@@ -1,17 +1,9 @@
 -- Two states of which each part is the same are one.
 use Rattle.std.proofs.Common.{◌≡◌, ◌≢◌, ◌∙◌, ◌==◌, ◌&&◌, ℕ, refl, sym, ap, Bool, true, false, MatchBool, if◌then◌else◌, arith}
-use Rattle.std.proofs.lemmas.Bool.{and_parts, and_from, eqb-true, eq-eqb}
 use Rattle.osi_spdu.specs.declared.settings.Wish.{Wish}
 use Rattle.osi_spdu.specs.declared.settings.Wish.TheVariants.{Asker, Answerer, Choice}
-use Rattle.osi_spdu.specs.declared.settings.TokenSetting.{TokenSetting}
-use Rattle.osi_spdu.specs.declared.fields.TsduMaximumSize.{TsduMaximumSize}
-use Rattle.osi_message.specs.declared.tokens.Tokens.{Tokens}
-use Rattle.osi_session.specs.declared.phases.Phase.{Phase}
-use Rattle.osi_session.specs.declared.phases.Phase.TheVariants.{WaitTransport, WaitCn, Connecting, Answering, Ready, MajorAsked, MajorDue, Releasing, ReleaseDue, Restarting, RestartDue, Aborting, Ended}
-use Rattle.osi_session.specs.declared.numbers.Numbers.{Numbers}
-use Rattle.osi_session.specs.declared.selected.FunctionalUnits.{FunctionalUnits}
-use Rattle.osi_session.specs.declared.state.State.{State}
 use Rattle.osi_session.specs.Same.{same_bit, same_wish, place_of, same_setting, same_tokens, same_units, same_numbers, same_sizes, same_state}
+use Rattle.osi_session.proofs.Vocabulary.{and_parts, and_from, eqb-true, eq-eqb, TokenSetting, TsduMaximumSize, Tokens, Phase, WaitTransport, WaitCn, Connecting, Answering, Ready, MajorAsked, MajorDue, Releasing, ReleaseDue, Restarting, RestartDue, Aborting, Ended, Numbers, FunctionalUnits, State}
 
 bit_is : (a b : Bool) → same_bit a b ≡ true → a ≡ b
 bit_is a b h0 = grind arith

@@ -1,9 +1,6 @@
 -- Sets of tokens, and their octets.
 use Rattle.std.proofs.Common.{◌≡◌, refl, ◌==◌, Bool, true, false, not, ◌&&◌, ◌||◌}
-use Rattle.std.specs.Int.RustNames.{bit_and}
-use Rattle.std.proofs.lemmas.Bool.{and_parts, eqb-true}
-use Rattle.osi_message.specs.declared.tokens.Tokens.{Tokens}
-use Rattle.osi_message.specs.Tokens.{is_disjoint, token_octet}
+use Rattle.osi_session.proofs.Vocabulary.{bit_and, and_parts, eqb-true, Tokens, is_disjoint, token_octet}
 
 every_bool : (Bool → Bool) → Bool
 every_bool f = f true && f false

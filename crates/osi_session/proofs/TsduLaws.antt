@@ -1,19 +1,6 @@
 -- What the words of a TSDU keep.
 use Rattle.std.proofs.Common.{◌≡◌, refl, sym, subst, ℕ, List, Bool, true, false, Result, Ok, Err, if◌then◌else◌}
-use Rattle.osi_spdu.specs.declared.faults.SpduFault.{SpduFault}
-use Rattle.osi_session.specs.declared.phases.Phase.TheVariants.{Aborting}
-use Rattle.osi_session.specs.declared.state.State.{State}
-use Rattle.osi_session.specs.Phases.{is_over, is_wait_transport}
-use Rattle.osi_session.specs.Sound.{IsSound}
-use Rattle.osi_message.specs.Meanings.{Meaning}
-use Rattle.osi_message.specs.Numbered.{IsNumbered, IsNumberedWord, AreNumberedWords}
-use Rattle.osi_message.specs.Reading.{said_by_units, said_if_read, said_at}
-use Rattle.osi_message.specs.Words.{Word, Words, says, part}
-use Rattle.osi_message.proofs.NumberLaws.{units_numbered}
-use Rattle.osi_spdu.specs.Known.{Units}
-use Rattle.osi_spdu.specs.Reading.{tsdu_at}
-use Rattle.osi_session.specs.Joining.{Taker, Hearing, respond_word, respond_tsdu, respond_came}
-use Rattle.osi_session.specs.Respond.{Outcome, respond_fault}
+use Rattle.osi_session.proofs.Vocabulary.{SpduFault, Aborting, State, is_over, is_wait_transport, IsSound, Meaning, IsNumbered, IsNumberedWord, AreNumberedWords, said_by_units, said_if_read, said_at, Word, Words, says, part, units_numbered, Units, tsdu_at, Taker, Hearing, respond_word, respond_tsdu, respond_came, Outcome, respond_fault}
 use Rattle.osi_session.proofs.Begun.{Begins, unit_begun}
 use Rattle.osi_session.proofs.SoundCalls.{bare}
 use Rattle.osi_session.proofs.SoundUnits.{unit_sound}

@@ -1,22 +1,6 @@
 -- What becomes of a unit, and of a token item that names no token.
 use Rattle.std.proofs.Common.{inl, inr, ◌≡◌, refl, sym, ◌∙◌, ap, subst, Bool, true, false, not, ◌&&◌, ◌||◌, List, [], ◌∷◌, ◌++◌, Option, Some, None, if◌then◌else◌, arith}
-use Rattle.std.proofs.lemmas.Bool.{cases_Bool}
-use Rattle.std.proofs.lemmas.List.{append-nil}
-use Rattle.osi_session.specs.declared.phases.Phase.TheVariants.{Aborting}
-use Rattle.osi_session.specs.declared.faults.UnitFault.{UnitFault}
-use Rattle.osi_session.specs.declared.faults.UnitFault.TheVariants.{Unexpected}
-use Rattle.osi_session.specs.declared.state.State.{State}
-use Rattle.osi_message.specs.Tokens.{no_token, is_empty}
-use Rattle.osi_session.specs.Phases.{is_aborting, is_ended, is_over}
-use Rattle.osi_session.specs.State.{without_tokens}
-use Rattle.osi_message.specs.Meanings.{Meaning, CN, GT, PT, AB, AA}
-use Rattle.std.specs.List.{list_any}
-use Rattle.osi_message.specs.Reading.{alone, behind}
-use Rattle.osi_session.specs.Units.{functional_units, has_data}
-use Rattle.osi_spdu.specs.Sizes.{are_sizes}
-use Rattle.osi_message.specs.Written.{is_second}
-use Rattle.osi_message.specs.Sendable.{said_of}
-use Rattle.osi_session.specs.Respond.{Outcome, Condition, si, conditions, first_fault, is_expected, drops, nothing, bad, judged, take_expected, in_aborting, in_ended, has_no_effect, is_token_item, is_resynchronize, reply_for, first_reply, replies_abort, respond_unit, and_then, Verdict, over, dropped, faulty, fine, by_fault, verdict, enacted, is_faulty, AllMet, IsGood, respond_all, acting, respond}
+use Rattle.osi_session.proofs.Vocabulary.{cases_Bool, append-nil, Aborting, UnitFault, Unexpected, State, no_token, is_empty, is_aborting, is_ended, is_over, without_tokens, Meaning, CN, GT, PT, AB, AA, list_any, alone, behind, functional_units, has_data, are_sizes, is_second, said_of, Outcome, Condition, si, conditions, first_fault, is_expected, drops, nothing, bad, judged, take_expected, in_aborting, in_ended, has_no_effect, is_token_item, is_resynchronize, reply_for, first_reply, replies_abort, respond_unit, and_then, Verdict, over, dropped, faulty, fine, by_fault, verdict, enacted, is_faulty, AllMet, IsGood, respond_all, acting, respond}
 use Rattle.osi_session.proofs.PhaseLaws.{implied, every_is}
 
 live : (s : State) (u : Meaning) (d x : Bool) (f : Option UnitFault) →

@@ -1,18 +1,6 @@
 -- A word leaves a state, and is answered, as its message or data does, as a bad unit does, or as nothing does.
 use Rattle.std.proofs.Common.{◌≡◌, refl, sym, ◌∙◌, ap, subst, ℕ, Bool, true, false, if◌then◌else◌, List, [], ◌∷◌, ◌++◌, Option, Some, None, inl, inr}
-use Rattle.std.specs.List.{AllByRecursion, list_any}
-use Rattle.std.proofs.lemmas.Bool.{cases_Bool}
-use Rattle.osi_session.specs.declared.phases.Phase.TheVariants.{Aborting}
-use Rattle.osi_session.specs.declared.faults.UnitFault.{UnitFault}
-use Rattle.osi_session.specs.declared.faults.UnitFault.TheVariants.{Unexpected}
-use Rattle.osi_session.specs.declared.state.State.{State}
-use Rattle.osi_session.specs.State.{without_tokens}
-use Rattle.osi_session.specs.Phases.{is_over}
-use Rattle.osi_session.specs.Respond.{Outcome, nothing, Condition, si, conditions, first_fault, is_expected, drops, bad, Verdict, over, dropped, faulty, fine, verdict, is_faulty, enacted, respond_unit}
-use Rattle.osi_message.specs.declared.places.Place.TheVariants.{First, Middle, Last}
-use Rattle.osi_message.specs.Meanings.{Meaning, DT}
-use Rattle.osi_message.specs.Words.{Word, Words, says, part, as_message}
-use Rattle.osi_session.specs.Joining.{Taker, joined_octets, word_conditions, enclosure_conditions, word_verdict, good_word, Hearing, respond_word, respond_words, acting_words, is_restart_word, respond_tsdu}
+use Rattle.osi_session.proofs.Vocabulary.{AllByRecursion, list_any, cases_Bool, Aborting, UnitFault, Unexpected, State, without_tokens, is_over, Outcome, nothing, Condition, si, conditions, first_fault, is_expected, drops, bad, Verdict, over, dropped, faulty, fine, verdict, is_faulty, enacted, respond_unit, First, Middle, Last, Meaning, DT, Word, Words, says, part, as_message, Taker, joined_octets, word_conditions, enclosure_conditions, word_verdict, good_word, Hearing, respond_word, respond_words, acting_words, is_restart_word, respond_tsdu}
 use Rattle.osi_session.proofs.VerdictLaws.{enacts}
 use Rattle.osi_session.proofs.WordLaws.{word_at}
 

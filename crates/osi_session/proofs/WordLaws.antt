@@ -1,25 +1,7 @@
 -- Where nothing is joined, messages do what they do by the table of units; and what a TSDU of one word does.
 use Rattle.std.proofs.Common.{◌≡◌, refl, sym, ◌∙◌, ap, ℕ, Bool, true, false, not, ◌||◌, if◌then◌else◌, List, [], ◌∷◌, ◌++◌, map, Option, Some, None, Ok, Err, inl, inr, arith}
-use Rattle.std.specs.List.{list_any}
-use Rattle.std.proofs.lemmas.Bool.{cases_Bool}
-use Rattle.std.proofs.lemmas.List.{append-nil}
-use Rattle.osi_session.specs.declared.state.State.{State}
-use Rattle.osi_session.specs.declared.phases.Phase.{Phase}
-use Rattle.osi_session.specs.declared.faults.UnitFault.{UnitFault}
-use Rattle.osi_session.specs.declared.faults.UnitFault.TheVariants.{Unexpected, BadEnclosure}
-use Rattle.osi_session.specs.Allowed.{Answer, allowed}
-use Rattle.osi_session.specs.Phases.{is_over, is_aborting, is_wait_transport}
-use Rattle.osi_session.specs.Respond.{Outcome, nothing, Condition, si, conditions, first_fault, is_expected, drops, bad, is_resynchronize, first_reply, Verdict, over, dropped, faulty, fine, by_fault, verdict, is_faulty, enacted, respond_unit, respond_all, acting, respond, and_then}
-use Rattle.osi_message.specs.Meanings.{Meaning, GT}
-use Rattle.osi_message.specs.Tokens.{no_token}
-use Rattle.osi_message.specs.Reading.{Said, alone, behind}
-use Rattle.osi_message.specs.Sendable.{words_of}
-use Rattle.osi_message.specs.Written.{is_second}
-use Rattle.osi_message.specs.Words.{Word, Words, says, as_message}
-use Rattle.osi_session.specs.Joining.{Taker, drops_parts, kept_in, word_verdict, joined_by, good_word, Hearing, heard, enacted_word, respond_word, respond_words, heard_then, idle, is_restart_word, acting_words, respond_tsdu}
-use Rattle.osi_session.specs.Listening.{Listener, Move, react, after_input, after_inputs, taken, answered, begun, denied, rests}
 use Rattle.osi_session.specs.Moves as whole
-use Rattle.osi_session.specs.Whole.{listening, standing_of, in_words, is_apart, joins}
+use Rattle.osi_session.proofs.Vocabulary.{list_any, cases_Bool, append-nil, State, Phase, UnitFault, Unexpected, BadEnclosure, Answer, allowed, is_over, is_aborting, is_wait_transport, Outcome, nothing, Condition, si, conditions, first_fault, is_expected, drops, bad, is_resynchronize, first_reply, Verdict, over, dropped, faulty, fine, by_fault, verdict, is_faulty, enacted, respond_unit, respond_all, acting, respond, and_then, Meaning, GT, no_token, Said, alone, behind, words_of, is_second, Word, Words, says, as_message, Taker, drops_parts, kept_in, word_verdict, joined_by, good_word, Hearing, heard, enacted_word, respond_word, respond_words, heard_then, idle, is_restart_word, acting_words, respond_tsdu, Listener, Move, react, after_input, after_inputs, taken, answered, begun, denied, rests, listening, standing_of, in_words, is_apart, joins}
 use Rattle.osi_session.proofs.VerdictLaws.{enacts, empty_item}
 
 -- ---- what is kept

@@ -1,16 +1,6 @@
 -- What is sent is taken as it was meant: from the octets of a message to the row of the table of units.
 use Rattle.std.proofs.Common.{◌≡◌, ◌∙◌, ap, ℕ, List, [], ◌∷◌, Result, Ok}
-use Rattle.osi_spdu.specs.declared.faults.SpduFault.{SpduFault}
-use Rattle.osi_spdu.specs.Reading.{tsdu_at}
-use Rattle.osi_message.specs.declared.places.Place.{Place}
-use Rattle.osi_message.specs.Meanings.{Meaning, GT}
-use Rattle.osi_message.specs.Tokens.{no_token}
-use Rattle.osi_message.specs.Reading.{said_by_units, said_if_read, said_at}
-use Rattle.osi_message.specs.Sendable.{words_of}
-use Rattle.osi_message.specs.Words.{Words, says, part, part_octets}
-use Rattle.osi_message.specs.Written.{written, spelled}
-use Rattle.osi_session.specs.Joining.{respond_word}
-use Rattle.osi_session.specs.Listening.{came_as, came, Listener, taker_of, moved, react}
+use Rattle.osi_session.proofs.Vocabulary.{SpduFault, tsdu_at, Place, Meaning, GT, no_token, said_by_units, said_if_read, said_at, words_of, Words, says, part, part_octets, written, spelled, respond_word, came_as, came, Listener, taker_of, moved, react}
 use Rattle.osi_session.proofs.MoveLaws.{taken_is}
 use Rattle.osi_session.proofs.WordLaws.{word_behind, words_of_message}
 

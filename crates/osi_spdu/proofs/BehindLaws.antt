@@ -1,18 +1,6 @@
 -- Units behind the first one, given one after the other.
 use Rattle.std.proofs.Common.{◌≡◌, ℕ, zero, suc, ◌-◌, ◌≤◌, ◌==◌, ◌&&◌, ◌||◌, not, true, false, List, [], ◌∷◌, length, get_or, Option, Some, None, Result, Ok, Err, refl, sym, ap, subst, ◌∙◌, arith}
-use Rattle.std.specs.Prelude.{is_ok}
-use Rattle.std.specs.List.{AllByRecursion}
-use Rattle.std.specs.Result.{result_unwrap_or}
-use Rattle.std.proofs.lemmas.Bool.{and_parts, or_right, eq-eqb}
-use Rattle.osi_spdu.specs.declared.faults.SpduFault.{SpduFault}
-use Rattle.osi_spdu.specs.declared.kinds.Kind.{Kind}
-use Rattle.osi_spdu.specs.declared.kinds.Category.{Category}
-use Rattle.osi_spdu.specs.declared.kinds.Category.TheVariants.{Zero, One, Two}
-use Rattle.osi_spdu.specs.Kinds.{kind_named, category_of, may_stand}
-use Rattle.osi_spdu.specs.Known.{Units}
-use Rattle.osi_spdu.specs.Reading.{◌>>=◌, Next, next_at, behind_at, crowded, takes_rest}
-use Rattle.osi_spdu.specs.Writing.{is_zero, is_joined, IsFormedUnit}
-use Rattle.osi_spdu.specs.Behind.{left_at, AreLeft, is_behind}
+use Rattle.osi_spdu.proofs.Vocabulary.{is_ok, AllByRecursion, result_unwrap_or, and_parts, or_right, eq-eqb, SpduFault, Kind, Category, Zero, One, Two, kind_named, category_of, may_stand, Units, ◌>>=◌, Next, next_at, behind_at, crowded, takes_rest, is_zero, is_joined, IsFormedUnit, left_at, AreLeft, is_behind}
 use Rattle.osi_spdu.proofs.UnitsLaws.{left_read}
 
 abbrev Read : Type 0

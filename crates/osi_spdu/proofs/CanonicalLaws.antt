@@ -1,18 +1,6 @@
 -- The values in memory are in their written form.
 use Rattle.std.proofs.Common.{inl, inr, ◌≡◌, ◌==◌, ◌≤◌, ◌||◌, ℕ, ◌+◌, ◌*◌, ◌/◌, ◌%◌, ◌<◌, Bool, true, false, cond, not, ◌&&◌, List, [], ◌∷◌, length, Option, Some, None, Ok, option_map, refl, sym, ap, subst, ◌∙◌, arith}
-use Rattle.std.proofs.lemmas.Bool.{cases_Bool, and_parts, or_cases, not-true, eqb-true, ne_eqb, le-leb, lt-ltb}
-use Rattle.osi_tpkt.specs.Octets.{IsOctets}
-use Rattle.osi_spdu.specs.declared.codes.Code.{Code}
-use Rattle.osi_spdu.specs.declared.codes.Code.TheVariants.{ConnectionIdentifier, ConnectAcceptItem, CalledReference, CallingReference, CommonReference, AdditionalReference, SyncType, TokenItem, TransportDisconnect, ProtocolOptions, UserRequirements, TsduMaximumSize, Version, InitialNumber, Enclosure, TokenSetting, ResyncType, Number, Reflect, Reason, CallingSelector, CalledSelector, UserData, ExtendedUserData}
-use Rattle.osi_spdu.specs.declared.kinds.Kind.{Kind}
-use Rattle.osi_spdu.specs.declared.kinds.Kind.TheVariants.{DataTransfer}
-use Rattle.osi_spdu.specs.declared.kinds.Category.{Category}
-use Rattle.osi_spdu.specs.declared.kinds.Category.TheVariants.{Zero, One, Two}
-use Rattle.osi_spdu.specs.declared.params.Params.{Params}
 use Rattle.osi_spdu.specs.declared.units.Spdu.{Spdu}
-use Rattle.osi_spdu.specs.declared.behind.Behind.{Behind}
-use Rattle.osi_spdu.specs.declared.groups.Group.{Group}
-use Rattle.std.specs.List.{AllByRecursion}
 use Rattle.osi_spdu.specs.declared.settings.Wish.{Wish}
 use Rattle.osi_spdu.specs.declared.settings.Wish.TheVariants as wishes
 use Rattle.osi_spdu.specs.declared.fields.SyncType as syncs
@@ -21,21 +9,9 @@ use Rattle.osi_spdu.specs.declared.fields.Enclosure as enclosures
 use Rattle.osi_spdu.specs.declared.fields.Enclosure.TheVariants.{First, Middle, Last, Whole}
 use Rattle.osi_spdu.specs.declared.fields.ResyncType as resyncs
 use Rattle.osi_spdu.specs.declared.fields.ResyncType.TheVariants.{Restart, Abandon, Set}
-use Rattle.osi_spdu.specs.Codes.{number_of, is_same}
-use Rattle.osi_spdu.specs.Kinds.{category_of, may_stand}
-use Rattle.osi_spdu.specs.Values.{canonical, digits_of, is_setting}
-use Rattle.osi_spdu.specs.Fields.{sync_octet, enclosure_octet, token_octets, wish_number, setting_octets, resync_octet}
-use Rattle.osi_spdu.specs.Known.{some_octets, Units}
-use Rattle.osi_spdu.specs.Reading.{takes_rest, behind_at, tsdu_at}
-use Rattle.osi_spdu.specs.Spelling.{HasInformation, EndsTsdu, AreBehind, MayFollow, StandTogether, SpellsTsdu}
-use Rattle.osi_spdu.specs.Params.{place_of, cells_of, slots_of, known_of, present}
-use Rattle.osi_spdu.specs.Units.{said_by}
-use Rattle.osi_spdu.specs.Behind.{left_at, AreLeft, is_behind}
-use Rattle.osi_spdu.specs.Groups.{units_from, units_behind, units_of}
-use Rattle.osi_spdu.specs.Writing.{is_informed, is_joined, is_zero, IsCanonical, IsFormedUnit, IsFormedTsdu, TsduFits, tsdu_octets}
+use Rattle.osi_spdu.proofs.Vocabulary.{cases_Bool, and_parts, or_cases, not-true, eqb-true, ne_eqb, le-leb, lt-ltb, IsOctets, Code, ConnectionIdentifier, ConnectAcceptItem, CalledReference, CallingReference, CommonReference, AdditionalReference, SyncType, TokenItem, TransportDisconnect, ProtocolOptions, UserRequirements, TsduMaximumSize, Version, InitialNumber, Enclosure, TokenSetting, ResyncType, Number, Reflect, Reason, CallingSelector, CalledSelector, UserData, ExtendedUserData, Kind, DataTransfer, Category, Zero, One, Two, Params, Behind, Group, AllByRecursion, number_of, is_same, category_of, may_stand, canonical, digits_of, is_setting, sync_octet, enclosure_octet, token_octets, wish_number, setting_octets, resync_octet, some_octets, Units, takes_rest, behind_at, tsdu_at, HasInformation, EndsTsdu, AreBehind, MayFollow, StandTogether, SpellsTsdu, place_of, cells_of, slots_of, known_of, present, said_by, left_at, AreLeft, is_behind, units_from, units_behind, units_of, is_informed, is_joined, is_zero, IsCanonical, IsFormedUnit, IsFormedTsdu, TsduFits, tsdu_octets, nil_from_length}
 use Rattle.osi_spdu.proofs.UnitsLaws.{left_stands, tsdu_read}
 use Rattle.osi_spdu.proofs.WrittenLaws.{units_written, tsdu_written}
-use Rattle.std.proofs.lemmas.List.{nil_from_length}
 use Rattle.osi_spdu.proofs.Digits.{numeral_digits}
 use Rattle.osi_spdu.proofs.OneOctet.{token_bits_again}
 

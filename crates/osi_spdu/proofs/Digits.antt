@@ -1,10 +1,6 @@
 -- Digits of numbers, written and read.
 use Rattle.std.proofs.Common.{◌⊎◌, inl, inr, ◌≡◌, ℕ, zero, suc, ◌+◌, ◌-◌, ◌*◌, ◌/◌, ◌%◌, ◌^◌, ◌<◌, ◌≤◌, Bool, true, false, ◌&&◌, ltb, leb, eqb, List, [], ◌∷◌, length, get_or, drop, Option, Some, None, refl, sym, ap, ◌∙◌, arith}
-use Rattle.std.specs.List.{list_all}
-use Rattle.std.proofs.lemmas.Bool.{cases_Bool, and_parts, and_from, and_left, and_right, eqb-true, eq-eqb, ne_eqb, le-leb, lt-ltb, lt-leb, le-ltb}
-use Rattle.std.proofs.lemmas.List.{drop_more, drop_all, length-drop}
-use Rattle.std.proofs.lemmas.Grind.{common_steps}
-use Rattle.osi_spdu.specs.Values.{significant, six_digits, digits_of, decimal_from, decimal, is_digit, is_numeral, numeral}
+use Rattle.osi_spdu.proofs.Vocabulary.{list_all, cases_Bool, and_parts, and_from, and_left, and_right, eqb-true, eq-eqb, ne_eqb, le-leb, lt-ltb, lt-leb, le-ltb, drop_more, drop_all, length-drop, common_steps, significant, six_digits, digits_of, decimal_from, decimal, is_digit, is_numeral, numeral}
 
 -- a zero in front goes
 pub significant_step : (xs : List ℕ) (i : ℕ) → i + 1 < length xs → get_or xs i 0 ≡ 48 → significant (drop (i + 1) xs) ≡ significant (drop i xs)

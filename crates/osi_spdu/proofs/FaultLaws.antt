@@ -1,20 +1,6 @@
 -- The first fault of parameters, units and TSDUs is the one that reading answers.
 use Rattle.std.proofs.Common.{◌⊎◌, inl, inr, ◌≡◌, ℕ, zero, suc, ◌+◌, ◌*◌, ◌/◌, ◌%◌, ◌<◌, ◌≤◌, Bool, true, false, cond, ltb, eqb, List, [], ◌∷◌, ◌++◌, length, map, take, drop, Option, Some, None, Result, Ok, Err, refl, sym, ap, subst, ◌∙◌, append_assoc, add-zero, arith}
-use Rattle.std.specs.Prelude.{is_some}
-use Rattle.std.specs.List.{flat_map, AllByRecursion}
-use Rattle.std.proofs.lemmas.List.{length-append, drop_at}
-use Rattle.osi_tpkt.specs.Octets.{IsOctets}
-use Rattle.osi_spdu.specs.declared.faults.SpduFault.{SpduFault}
-use Rattle.osi_spdu.specs.declared.faults.SpduFault.TheVariants.{LengthPastEnd, DuplicateParameter, BadValue, MissingParameter}
-use Rattle.osi_spdu.specs.declared.codes.Code.{Code}
-use Rattle.osi_spdu.specs.declared.kinds.Kind.{Kind}
-use Rattle.osi_spdu.specs.Codes.{number_of, is_group, slot_of}
-use Rattle.osi_spdu.specs.Kinds.{codes_of, members_of}
-use Rattle.osi_spdu.specs.Values.{canonical_in}
-use Rattle.osi_spdu.specs.Known.{Known, nothing, put}
-use Rattle.osi_spdu.specs.Reading.{◌>>=◌, Measured, counted_at, long_at, measured_at, Taking, params_at, params_of, code_among, judged, stored, member_taken, in_group, parameter_taken, in_unit, all_there}
-use Rattle.osi_spdu.specs.Spelling.{length_octets, Part, part_octets, Sole, IsPart, MeansInGroup, MeansInUnit}
-use Rattle.osi_spdu.specs.Faults.{indicator_len, HasNoValue, IsValueFault, Failing, IsItemFault, IsLevelFault, FailsInGroup, FailsInUnit, IsFirstMissing}
+use Rattle.osi_spdu.proofs.Vocabulary.{is_some, flat_map, AllByRecursion, length-append, drop_at, IsOctets, SpduFault, LengthPastEnd, DuplicateParameter, BadValue, MissingParameter, Code, Kind, number_of, is_group, slot_of, codes_of, members_of, canonical_in, Known, nothing, put, ◌>>=◌, Measured, counted_at, long_at, measured_at, Taking, params_at, params_of, code_among, judged, stored, member_taken, in_group, parameter_taken, in_unit, all_there, length_octets, Part, part_octets, Sole, IsPart, MeansInGroup, MeansInUnit, indicator_len, HasNoValue, IsValueFault, Failing, IsItemFault, IsLevelFault, FailsInGroup, FailsInUnit, IsFirstMissing}
 use Rattle.osi_spdu.proofs.OptionLaws.{merged, sole_one, sole_same, sole_back, sole_step, sole_joins}
 use Rattle.osi_spdu.proofs.StepLaws.{bind_of, ok_is, guard_ok, is_none_of, none_is}
 use Rattle.osi_spdu.proofs.LengthLaws.{IsMeasured, octets-tail, octets-drop, measured_ok, measured_again, chosen}

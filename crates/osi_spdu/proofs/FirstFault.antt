@@ -1,17 +1,6 @@
 -- The first fault of a unit is the one that reading answers.
 use Rattle.std.proofs.Common.{inl, inr, ◌≡◌, ℕ, ◌+◌, Bool, true, false, cond, List, [], ◌∷◌, ◌++◌, length, Option, Some, None, Result, Ok, Err, refl, sym, ap, subst, ◌∙◌, arith}
-use Rattle.std.specs.List.{flat_map}
-use Rattle.std.proofs.lemmas.Bool.{cases_Bool}
-use Rattle.std.proofs.lemmas.List.{length-append}
-use Rattle.osi_tpkt.specs.Octets.{IsOctets}
-use Rattle.osi_spdu.specs.declared.faults.SpduFault.{SpduFault}
-use Rattle.osi_spdu.specs.declared.faults.SpduFault.TheVariants.{UnknownSi, LengthPastEnd, BadConcatenation}
-use Rattle.osi_spdu.specs.declared.kinds.Kind.{Kind}
-use Rattle.osi_spdu.specs.Kinds.{category_of, required_of, kind_named, may_stand}
-use Rattle.osi_spdu.specs.Known.{Known, nothing, settled}
-use Rattle.osi_spdu.specs.Reading.{◌>>=◌, Measured, measured_at, params_of, in_unit, all_there, Placed, placed_kind, unit_at}
-use Rattle.osi_spdu.specs.Spelling.{length_octets, part_octets, Spells, MeansInUnit}
-use Rattle.osi_spdu.specs.Faults.{indicator_len, FailsInUnit, IsLevelFault, IsBodyFault, IsNamedFault, IsUnitFault}
+use Rattle.osi_spdu.proofs.Vocabulary.{flat_map, cases_Bool, length-append, IsOctets, SpduFault, UnknownSi, LengthPastEnd, BadConcatenation, Kind, category_of, required_of, kind_named, may_stand, Known, nothing, settled, ◌>>=◌, Measured, measured_at, params_of, in_unit, all_there, Placed, placed_kind, unit_at, length_octets, part_octets, Spells, MeansInUnit, indicator_len, FailsInUnit, IsLevelFault, IsBodyFault, IsNamedFault, IsUnitFault}
 use Rattle.osi_spdu.proofs.StepLaws.{bind_ok, bind_of, ok_is}
 use Rattle.osi_spdu.proofs.LengthLaws.{octets-tail, measured_ok, measured_again}
 use Rattle.osi_spdu.proofs.LengthLaws as lengths

@@ -1,18 +1,6 @@
 -- The first fault of a TSDU is the one that reading answers.
 use Rattle.std.proofs.Common.{◌⊎◌, inl, inr, ◌≡◌, ℕ, zero, suc, ◌+◌, ◌≤◌, Bool, true, false, List, [], ◌∷◌, ◌++◌, length, Result, Ok, Err, refl, sym, ap, subst, ◌∙◌, append_assoc, add-zero, arith}
-use Rattle.std.specs.List.{AllByRecursion}
-use Rattle.std.proofs.lemmas.Bool.{cases_Bool}
-use Rattle.std.proofs.lemmas.List.{length-append, drop_at}
-use Rattle.osi_tpkt.specs.Octets.{IsOctets}
-use Rattle.osi_spdu.specs.declared.faults.SpduFault.{SpduFault}
-use Rattle.osi_spdu.specs.declared.faults.SpduFault.TheVariants.{TrailingOctets}
-use Rattle.osi_spdu.specs.declared.kinds.Category.{Category}
-use Rattle.osi_spdu.specs.declared.kinds.Category.TheVariants.{Zero, One, Two}
-use Rattle.osi_spdu.specs.Kinds.{category_of, kind_named, may_stand}
-use Rattle.osi_spdu.specs.Known.{Contents, Units}
-use Rattle.osi_spdu.specs.Reading.{◌>>=◌, Placed, unit_at, contents_of, takes_rest, Next, next_if, next_at, behind_at, crowded, ended, continued, tsdu_at}
-use Rattle.osi_spdu.specs.Spelling.{AreBehind, AreUnits}
-use Rattle.osi_spdu.specs.Faults.{IsUnitFault, IsCrowded, IsFaultBehind, IsFaultAfter, IsFirstFault}
+use Rattle.osi_spdu.proofs.Vocabulary.{AllByRecursion, cases_Bool, length-append, drop_at, IsOctets, SpduFault, TrailingOctets, Category, Zero, One, Two, category_of, kind_named, may_stand, Contents, Units, ◌>>=◌, Placed, unit_at, contents_of, takes_rest, Next, next_if, next_at, behind_at, crowded, ended, continued, tsdu_at, AreBehind, AreUnits, IsUnitFault, IsCrowded, IsFaultBehind, IsFaultAfter, IsFirstFault}
 use Rattle.osi_spdu.proofs.StepLaws.{bind_of}
 use Rattle.osi_spdu.proofs.LengthLaws.{octets-drop}
 use Rattle.osi_spdu.proofs.UnitsLaws.{IsUnitAt, unit_found, unit_only, second_stands, two_second, informed_none, informed_plain, ends_none, not_second, behind_cons}

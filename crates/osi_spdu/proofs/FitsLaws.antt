@@ -1,18 +1,6 @@
 -- What was read fits: its written form is no longer than what was read.
 use Rattle.std.proofs.Common.{inl, inr, ◌≡◌, ℕ, ◌+◌, ◌/◌, ◌%◌, ◌<◌, ◌≤◌, Bool, true, false, cond, List, [], ◌∷◌, ◌++◌, length, map, Option, Some, None, refl, sym, ap, subst, ◌∙◌, ltb, arith}
-use Rattle.std.specs.List.{flat_map, list_any, list_all, AllByRecursion}
-use Rattle.std.proofs.lemmas.Bool.{cases_Bool, or_cases, or_left, or_right, ltb-true, le-ltb, lt-ltb, both_ways}
-use Rattle.std.proofs.lemmas.List.{length-append}
-use Rattle.osi_spdu.specs.declared.codes.Code.{Code}
-use Rattle.osi_spdu.specs.declared.codes.Code.TheVariants.{UserData, ExtendedUserData}
-use Rattle.osi_spdu.specs.declared.kinds.Kind.{Kind}
-use Rattle.osi_spdu.specs.declared.kinds.Kind.TheVariants.{GiveTokens, PleaseTokens, DataTransfer, NotFinished, Finish, Disconnect, Refuse, Connect, Accept, Abort, AbortAccept, ResynchronizeAck, MajorSyncPoint, MajorSyncAck, MinorSyncPoint, MinorSyncAck, Resynchronize}
-use Rattle.osi_spdu.specs.Codes.{number_of, is_same, is_group, slot_of, every_code}
-use Rattle.osi_spdu.specs.Kinds.{codes_of, members_of}
-use Rattle.osi_spdu.specs.Known.{Known, nothing, some_octets, settled, Contents, Units}
-use Rattle.osi_spdu.specs.Reading.{code_among}
-use Rattle.osi_spdu.specs.Spelling.{length_octets, HasLength, Part, part_octets, Sole, IsPart, Spells, only, MemberOf, MeansInGroup, GroupOf, ParameterOf, KnownOf, MeansInUnit, SpellsUnit, AreUnits, SpellsTsdu}
-use Rattle.osi_spdu.specs.Writing.{written_item, among, written_code, member_octets, group_octets, value_octets, parameter_octets, body_octets, UnitFits, TsduFits}
+use Rattle.osi_spdu.proofs.Vocabulary.{flat_map, list_any, list_all, AllByRecursion, cases_Bool, or_cases, or_left, or_right, ltb-true, le-ltb, lt-ltb, both_ways, length-append, Code, UserData, ExtendedUserData, Kind, GiveTokens, PleaseTokens, DataTransfer, NotFinished, Finish, Disconnect, Refuse, Connect, Accept, Abort, AbortAccept, ResynchronizeAck, MajorSyncPoint, MajorSyncAck, MinorSyncPoint, MinorSyncAck, Resynchronize, number_of, is_same, is_group, slot_of, every_code, codes_of, members_of, Known, nothing, some_octets, settled, Contents, Units, code_among, length_octets, HasLength, Part, part_octets, Sole, IsPart, Spells, only, MemberOf, MeansInGroup, GroupOf, ParameterOf, KnownOf, MeansInUnit, SpellsUnit, AreUnits, SpellsTsdu, written_item, among, written_code, member_octets, group_octets, value_octets, parameter_octets, body_octets, UnitFits, TsduFits}
 use Rattle.osi_spdu.proofs.OptionLaws.{Joins, first, sole_one, sole_same, sole_split}
 use Rattle.osi_spdu.proofs.StepLaws.{same_true, same_refl}
 use Rattle.osi_spdu.proofs.LevelLaws.{JoinsAll}

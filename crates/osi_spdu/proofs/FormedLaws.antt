@@ -1,20 +1,6 @@
 -- What is read has a written form: it holds nothing that its unit does not know, and all that it must have.
 use Rattle.std.proofs.Common.{◌⊎◌, inl, inr, ◌≡◌, ℕ, Bool, true, false, cond, not, ◌&&◌, ◌||◌, List, [], ◌∷◌, map, Option, Some, None, Ok, refl, sym, ap, subst, ◌∙◌, ltb, arith}
-use Rattle.std.specs.Prelude.{is_some, is_none, IsSome}
-use Rattle.std.specs.List.{list_any, list_all, AllByRecursion}
-use Rattle.std.proofs.lemmas.Bool.{cases_Bool, and_parts, and_from, or_left, or_right, not-true}
-use Rattle.osi_tpkt.specs.Octets.{IsOctets}
-use Rattle.osi_spdu.specs.declared.codes.Code.{Code}
-use Rattle.osi_spdu.specs.declared.codes.Code.TheVariants.{ConnectionIdentifier, ConnectAcceptItem, Enclosure, UserData, ExtendedUserData}
-use Rattle.osi_spdu.specs.declared.kinds.Kind.{Kind}
-use Rattle.osi_spdu.specs.declared.kinds.Kind.TheVariants.{Connect, Resynchronize, ResynchronizeAck, MajorSyncPoint, MajorSyncAck, MinorSyncPoint, MinorSyncAck}
-use Rattle.osi_spdu.specs.Codes.{number_of, is_same, is_group, slot_of, every_code}
-use Rattle.osi_spdu.specs.Kinds.{codes_of, members_of, references_of, required_of}
-use Rattle.osi_spdu.specs.Values.{octet_if, as_it_is, canonical, may_have_parts, is_three, may_enclose, canonical_in}
-use Rattle.osi_spdu.specs.Known.{Known, settled, Contents}
-use Rattle.osi_spdu.specs.Reading.{code_among, Placed, contents_of, unit_at}
-use Rattle.osi_spdu.specs.Spelling.{Part, Sole, IsPart, Spells, only, MemberOf, MeansInGroup, GroupOf, ParameterOf, KnownOf, MeansInUnit, SpellsUnit}
-use Rattle.osi_spdu.specs.Writing.{among, may_be_there, is_enclosed, is_formed}
+use Rattle.osi_spdu.proofs.Vocabulary.{is_some, is_none, IsSome, list_any, list_all, AllByRecursion, cases_Bool, and_parts, and_from, or_left, or_right, not-true, IsOctets, Code, ConnectionIdentifier, ConnectAcceptItem, Enclosure, UserData, ExtendedUserData, Kind, Connect, Resynchronize, ResynchronizeAck, MajorSyncPoint, MajorSyncAck, MinorSyncPoint, MinorSyncAck, number_of, is_same, is_group, slot_of, every_code, codes_of, members_of, references_of, required_of, octet_if, as_it_is, canonical, may_have_parts, is_three, may_enclose, canonical_in, Known, settled, Contents, code_among, Placed, contents_of, unit_at, Part, Sole, IsPart, Spells, only, MemberOf, MeansInGroup, GroupOf, ParameterOf, KnownOf, MeansInUnit, SpellsUnit, among, may_be_there, is_enclosed, is_formed}
 use Rattle.osi_spdu.proofs.OptionLaws.{Joins, first, sole_same, sole_split}
 use Rattle.osi_spdu.proofs.StepLaws.{same_true, same_refl}
 use Rattle.osi_spdu.proofs.OwnerLaws.{among_named, any_weaker}

@@ -1,11 +1,7 @@
 -- A TSDU as a unit of a grammar: it is all of its octets.
 use Rattle.std.proofs.Common.{◌≡◌, ℕ, List, length, sym, ap, subst, ◌∙◌, arith}
-use Rattle.std.proofs.lemmas.List.{take_all, drop_all, length-drop}
-use Rattle.osi_tpkt.specs.Octets.{IsOctets}
 use Rattle.osi_tpkt.specs.Unit.{IsAtFront}
-use Rattle.osi_spdu.specs.Known.{Units}
-use Rattle.osi_spdu.specs.Spelling.{SpellsTsdu, IsAll}
-use Rattle.osi_spdu.specs.Writing.{tsdu_octets, IsFormedTsdu, TsduFits}
+use Rattle.osi_spdu.proofs.Vocabulary.{take_all, drop_all, length-drop, IsOctets, Units, SpellsTsdu, IsAll, tsdu_octets, IsFormedTsdu, TsduFits}
 use Rattle.osi_spdu.proofs.StepLaws.{ok_is}
 use Rattle.osi_spdu.proofs.UnitsLaws.{tsdu_only}
 use Rattle.osi_spdu.proofs.WrittenLaws.{tsdu_written}

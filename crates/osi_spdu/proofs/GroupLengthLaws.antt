@@ -1,21 +1,7 @@
 -- What a group of a unit holds, which is counted once.
 use Rattle.std.proofs.Common.{inl, inr, ◌≡◌, ℕ, zero, suc, ◌<◌, ◌≤◌, true, List, [], ◌∷◌, ◌++◌, length, get_or, Option, Some, None, refl, sym, ap, subst, ltb, arith}
-use Rattle.std.specs.Prelude.{is_some, option_map}
-use Rattle.std.specs.List.{flat_map}
-use Rattle.std.proofs.lemmas.Bool.{or_cases, or_left, or_right}
-use Rattle.std.proofs.lemmas.List.{length-append}
-use Rattle.osi_spdu.specs.declared.codes.Code.{Code}
-use Rattle.osi_spdu.specs.declared.codes.Code.TheVariants.{ConnectionIdentifier, ConnectAcceptItem}
-use Rattle.osi_spdu.specs.declared.kinds.Kind.{Kind}
-use Rattle.osi_spdu.specs.declared.kinds.Kind.TheVariants.{DataTransfer}
-use Rattle.osi_spdu.specs.declared.kinds.Category.TheVariants.{Two}
 use Rattle.osi_spdu.specs.declared.writing.GroupLengths.{GroupLengths}
-use Rattle.osi_spdu.specs.Codes.{is_same, is_group, number_of}
-use Rattle.osi_spdu.specs.Kinds.{codes_of, category_of}
-use Rattle.osi_spdu.specs.Known.{Known, Contents, Units}
-use Rattle.osi_spdu.specs.Spelling.{length_octets, AreBehind}
-use Rattle.osi_spdu.specs.UnitLengths.{held, AreHeld}
-use Rattle.osi_spdu.specs.Writing.{among, written_item, group_octets, value_octets, parameter_octets, body_octets, written_code}
+use Rattle.osi_spdu.proofs.Vocabulary.{is_some, option_map, flat_map, or_cases, or_left, or_right, length-append, Code, ConnectionIdentifier, ConnectAcceptItem, Kind, DataTransfer, Two, is_same, is_group, number_of, codes_of, category_of, Known, Contents, Units, length_octets, AreBehind, held, AreHeld, among, written_item, group_octets, value_octets, parameter_octets, body_octets, written_code}
 use Rattle.osi_spdu.proofs.StepLaws.{same_true, same_refl}
 
 -- a piece is no longer than all pieces

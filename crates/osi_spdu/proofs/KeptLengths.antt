@@ -1,9 +1,6 @@
 -- The lengths of units are kept one after the other, as a loop does.
 use Rattle.std.proofs.Common.{inl, inr, ◌≡◌, ℕ, zero, suc, ◌+◌, ◌<◌, ◌≤◌, List, [], ◌∷◌, ◌++◌, length, take, drop, get_or, set, refl, sym, ap, subst, ◌∙◌, append_assoc, ltb, arith}
-use Rattle.std.proofs.lemmas.Bool.{cases_Bool, ltb-true, ltb-false}
-use Rattle.std.proofs.lemmas.List.{append-nil, length-set, take_more_set, drop_more, drop_all}
-use Rattle.osi_spdu.specs.Known.{Contents, Units}
-use Rattle.osi_spdu.specs.UnitLengths.{body_length, AreLengths}
+use Rattle.osi_spdu.proofs.Vocabulary.{cases_Bool, ltb-true, ltb-false, append-nil, length-set, take_more_set, drop_more, drop_all, Contents, Units, body_length, AreLengths}
 
 -- the lengths of all units, once those of the units that are left stand behind those that were kept
 pub record IsKeeping (lens : List ℕ) (count : ℕ) (units all : Units) : Type 0 where

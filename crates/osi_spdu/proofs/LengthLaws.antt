@@ -1,11 +1,6 @@
 -- Length indicators, read and written.
 use Rattle.std.proofs.Common.{◌⊎◌, inl, inr, ◌≡◌, ℕ, suc, ◌+◌, ◌*◌, ◌/◌, ◌%◌, ◌<◌, ◌≤◌, Bool, true, false, cond, ltb, eqb, List, [], ◌∷◌, ◌++◌, length, take, drop, Ok, refl, sym, ap, subst, arith}
-use Rattle.std.proofs.lemmas.Bool.{cases_lt, ltb-false, le-ltb, eqb-true, eqb-false, ne_eqb}
-use Rattle.std.proofs.lemmas.List.{take_at, drop_at, take-append-drop, length-append, length-take, length-drop, length-take-le, get_or-drop, get_or-take, get_or_past}
-use Rattle.osi_tpkt.specs.Octets.{IsOctets}
-use Rattle.osi_spdu.specs.declared.faults.SpduFault.TheVariants.{LengthPastEnd}
-use Rattle.osi_spdu.specs.Reading.{Measured, counted_at, long_at, measured_at}
-use Rattle.osi_spdu.specs.Spelling.{length_octets, HasLength}
+use Rattle.osi_spdu.proofs.Vocabulary.{cases_lt, ltb-false, le-ltb, eqb-true, eqb-false, ne_eqb, take_at, drop_at, take-append-drop, length-append, length-take, length-drop, length-take-le, get_or-drop, get_or-take, get_or_past, IsOctets, LengthPastEnd, Measured, counted_at, long_at, measured_at, length_octets, HasLength}
 use Rattle.osi_spdu.proofs.StepLaws.{guard_ok, ok_is}
 
 pub octets-drop : (n : ℕ) (octets : List ℕ) → IsOctets octets → IsOctets (drop n octets)

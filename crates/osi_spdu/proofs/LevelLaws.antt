@@ -1,19 +1,6 @@
 -- Parameters of one level: what is read is spelled so, and what is spelled so is read.
 use Rattle.std.proofs.Common.{◌≡◌, ℕ, zero, suc, ◌+◌, ◌<◌, ◌≤◌, Bool, true, false, cond, List, [], ◌∷◌, ◌++◌, length, map, Option, Some, None, Ok, refl, sym, ap, subst, ◌∙◌, arith}
-use Rattle.std.specs.Prelude.{is_some}
-use Rattle.std.specs.List.{flat_map, AllByRecursion}
-use Rattle.std.proofs.lemmas.List.{length-append}
-use Rattle.osi_tpkt.specs.Octets.{IsOctets}
-use Rattle.osi_spdu.specs.declared.faults.SpduFault.TheVariants.{DuplicateParameter}
-use Rattle.osi_spdu.specs.declared.codes.Code.{Code}
-use Rattle.osi_spdu.specs.declared.kinds.Kind.{Kind}
-use Rattle.osi_spdu.specs.declared.codes.Code.TheVariants.{ConnectionIdentifier, ConnectAcceptItem}
-use Rattle.osi_spdu.specs.Codes.{number_of, is_same, is_group, slot_of}
-use Rattle.osi_spdu.specs.Kinds.{codes_of, members_of}
-use Rattle.osi_spdu.specs.Values.{canonical, may_enclose, canonical_in}
-use Rattle.osi_spdu.specs.Known.{Known, nothing, put}
-use Rattle.osi_spdu.specs.Reading.{◌>>=◌, Measured, measured_at, Taking, params_at, params_of, code_among, judged, stored, member_taken, in_group, parameter_taken, in_unit}
-use Rattle.osi_spdu.specs.Spelling.{length_octets, Part, part_octets, Sole, IsPart, Spells, only, MemberOf, MeansInGroup, GroupOf, ParameterOf, KnownOf, MeansInUnit}
+use Rattle.osi_spdu.proofs.Vocabulary.{is_some, flat_map, AllByRecursion, length-append, IsOctets, DuplicateParameter, Code, Kind, ConnectionIdentifier, ConnectAcceptItem, number_of, is_same, is_group, slot_of, codes_of, members_of, canonical, may_enclose, canonical_in, Known, nothing, put, ◌>>=◌, Measured, measured_at, Taking, params_at, params_of, code_among, judged, stored, member_taken, in_group, parameter_taken, in_unit, length_octets, Part, part_octets, Sole, IsPart, Spells, only, MemberOf, MeansInGroup, GroupOf, ParameterOf, KnownOf, MeansInUnit}
 use Rattle.osi_spdu.proofs.OptionLaws.{Joins, merged, first, sole_one, sole_same, sole_step, sole_back, sole_joins, sole_split, sole_join, joins_both, joins_apart, put_joins, joins_put, joins_free, joins_merged}
 use Rattle.osi_spdu.proofs.StepLaws.{bind_ok, bind_of, ok_is, guard_ok, is_none_of, none_is, same_true, same_refl}
 use Rattle.osi_spdu.proofs.LengthLaws.{octets-tail, measured_ok, measured_again, indicator_len}

@@ -4,6 +4,7 @@ pub mod LengthLaws
 pub mod LevelLaws
 pub mod OwnerLaws
 pub mod UnitsLaws
+mod Vocabulary
 pub mod WrittenLaws
 pub mod GrammarLaws
 pub mod Named

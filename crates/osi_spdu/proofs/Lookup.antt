@@ -1,10 +1,6 @@
 -- A code that a unit knows is looked up by its number, and then among those that the unit knows.
 use Rattle.std.proofs.Common.{inl, inr, ◌≡◌, ◌≤◌, ◌<◌, ℕ, false, List, [], ◌∷◌, Option, Some, None, refl, sym, ap, ◌∙◌, eqb, if◌then◌else◌, arith}
-use Rattle.std.proofs.lemmas.Bool.{cases_Bool, eqb-true, eqb-false, ne_eqb}
-use Rattle.osi_spdu.specs.declared.codes.Code.{Code}
-use Rattle.osi_spdu.specs.Codes.{number_of, is_same, every_code}
-use Rattle.osi_spdu.specs.Reading.{code_among}
-use Rattle.osi_spdu.specs.Writing.{among}
+use Rattle.osi_spdu.proofs.Vocabulary.{cases_Bool, eqb-true, eqb-false, ne_eqb, Code, number_of, is_same, every_code, code_among, among}
 use Rattle.osi_spdu.proofs.StepLaws.{named, named_back, same_refl}
 
 -- a number that names no code

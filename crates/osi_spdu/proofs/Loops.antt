@@ -1,17 +1,6 @@
 -- Reading parameters one after the other, as a loop does.
 use Rattle.std.proofs.Common.{inl, inr, ◌≡◌, ℕ, zero, suc, ◌+◌, ◌*◌, ◌<◌, ◌≤◌, true, false, ltb, eqb, List, [], ◌∷◌, length, take, drop, Option, Some, None, Result, Ok, Err, refl, sym, ap, subst, ◌∙◌, arith}
-use Rattle.std.specs.Prelude.{is_some}
-use Rattle.std.proofs.lemmas.List.{length-drop}
-use Rattle.osi_spdu.specs.declared.faults.SpduFault.{SpduFault}
-use Rattle.osi_spdu.specs.declared.faults.SpduFault.TheVariants.{LengthPastEnd, DuplicateParameter, BadValue}
-use Rattle.osi_spdu.specs.declared.codes.Code.{Code}
-use Rattle.osi_spdu.specs.declared.kinds.Kind.{Kind}
-use Rattle.osi_spdu.specs.declared.params.Params.{Params}
-use Rattle.osi_spdu.specs.Codes.{number_of, slot_of}
-use Rattle.osi_spdu.specs.Values.{canonical_in}
-use Rattle.osi_spdu.specs.Known.{Known}
-use Rattle.osi_spdu.specs.Reading.{◌>>=◌, Measured, counted_at, long_at, measured_at, parameter_at, Taking, params_at, params_of, judged, stored}
-use Rattle.osi_spdu.specs.Params.{place_of, cells_of, filled, slots_of}
+use Rattle.osi_spdu.proofs.Vocabulary.{is_some, length-drop, SpduFault, LengthPastEnd, DuplicateParameter, BadValue, Code, Kind, Params, number_of, slot_of, canonical_in, Known, ◌>>=◌, Measured, counted_at, long_at, measured_at, parameter_at, Taking, params_at, params_of, judged, stored, place_of, cells_of, filled, slots_of}
 use Rattle.osi_spdu.proofs.StepLaws.{bind_ok, bind_of, ok_is, guard_ok}
 use Rattle.osi_spdu.proofs.LengthLaws.{chosen}
 use Rattle.osi_spdu.proofs.ParamsLaws.{slots_put}

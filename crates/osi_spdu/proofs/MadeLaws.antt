@@ -1,19 +1,6 @@
 -- Units whose values have few octets fit.
 use Rattle.std.proofs.Common.{inl, inr, ◌≡◌, ℕ, ◌+◌, ◌%◌, ◌≤◌, ◌∷◌, Bool, true, false, List, [], length, Option, Some, None, refl, sym, ap, subst, option_map, eqb, leb, ltb, arith}
-use Rattle.std.proofs.lemmas.Bool.{cases_Bool, eqb-true, leb-true}
-use Rattle.osi_spdu.specs.declared.codes.Code.{Code}
-use Rattle.osi_spdu.specs.declared.codes.Code.TheVariants.{ConnectionIdentifier, ConnectAcceptItem, SyncType, TokenItem, TransportDisconnect, ProtocolOptions, UserRequirements, TsduMaximumSize, Version, InitialNumber, Enclosure, TokenSetting, ResyncType, Number, CallingSelector, CalledSelector, ExtendedUserData}
-use Rattle.osi_spdu.specs.declared.kinds.Kind.{Kind}
-use Rattle.osi_spdu.specs.declared.kinds.Kind.TheVariants.{GiveTokens, PleaseTokens, DataTransfer, NotFinished, Finish, Disconnect, Refuse, Connect, Accept, Abort, AbortAccept, ResynchronizeAck, MajorSyncPoint, MajorSyncAck, MinorSyncPoint, MinorSyncAck, Resynchronize}
-use Rattle.osi_spdu.specs.Codes.{is_group, every_code}
-use Rattle.osi_spdu.specs.Kinds.{codes_of, members_of}
-use Rattle.osi_spdu.specs.Values.{six_digits, digits_of, numeral, octet_if, kept_if, any_octet, as_it_is, token_bits, is_setting, canonical}
-use Rattle.osi_spdu.specs.Known.{Known, some_octets, Contents}
-use Rattle.osi_spdu.specs.Writing.{group_octets, value_octets, IsCanonical, UnitFits, value_len, free_len}
-use Rattle.osi_spdu.specs.declared.params.Params.{Params}
-use Rattle.osi_spdu.specs.Codes.{number_of}
-use Rattle.osi_spdu.specs.Fields.{reason_octets}
-use Rattle.osi_spdu.specs.Params.{place_of, cells_of, slots_of, known_of, count_of, lent_len}
+use Rattle.osi_spdu.proofs.Vocabulary.{cases_Bool, eqb-true, leb-true, Code, ConnectionIdentifier, ConnectAcceptItem, SyncType, TokenItem, TransportDisconnect, ProtocolOptions, UserRequirements, TsduMaximumSize, Version, InitialNumber, Enclosure, TokenSetting, ResyncType, Number, CallingSelector, CalledSelector, ExtendedUserData, Kind, GiveTokens, PleaseTokens, DataTransfer, NotFinished, Finish, Disconnect, Refuse, Connect, Accept, Abort, AbortAccept, ResynchronizeAck, MajorSyncPoint, MajorSyncAck, MinorSyncPoint, MinorSyncAck, Resynchronize, is_group, every_code, codes_of, members_of, six_digits, digits_of, numeral, octet_if, kept_if, any_octet, as_it_is, token_bits, is_setting, canonical, Known, some_octets, Contents, group_octets, value_octets, IsCanonical, UnitFits, value_len, free_len, Params, number_of, reason_octets, place_of, cells_of, slots_of, known_of, count_of, lent_len}
 use Rattle.osi_spdu.proofs.CanonicalLaws.{params_canonical}
 use Rattle.osi_spdu.proofs.FitsLaws.{total, cost, member_cost, unit_cost, part_cost, total_less, group_len, body_len}
 use Rattle.osi_spdu.proofs.Shorter.{significant_len}

@@ -2,8 +2,7 @@
 use Rattle.std.proofs.Common.{◌≡◌, ℕ, ◌≤◌, Bool, true, false, cond, List, [], ◌∷◌, length, get_or, Option, Some, None, MatchOption, option_map, refl, sym, ap, arith}
 use Rattle.std.proofs.lemmas.Nat.{and_assoc}
 use Rattle.osi_spdu.specs.declared.settings.TokenSetting.{TokenSetting}
-use Rattle.osi_spdu.specs.Values.{octet_if, is_setting, token_bits}
-use Rattle.osi_spdu.specs.Fields.{setting_octets}
+use Rattle.osi_spdu.proofs.Vocabulary.{octet_if, is_setting, token_bits, setting_octets}
 
 pub octet_if_one : (good : ℕ → Bool) (form : ℕ → ℕ) (v : List ℕ) → 1 ≤ length v → length v ≤ 1 → octet_if good form v ≡ cond (good (get_or v 0 0)) (Some (form (get_or v 0 0) ∷ [])) None
 octet_if_one good form (b ∷ []) low high = refl

@@ -1,18 +1,8 @@
 -- A slot that is filled, and the values that slots have.
 use Rattle.std.proofs.Common.{inl, inr, ◌≡◌, ◌==◌, ◌&&◌, ℕ, ◌<◌, Bool, true, false, List, [], ◌∷◌, length, get_or, set, Option, Some, None, option_map, refl, sym, ap, ◌∙◌, get_or-set_other, get_or-set_same, eqb, ltb, arith}
-use Rattle.std.specs.List.{slice_get}
-use Rattle.std.proofs.lemmas.Bool.{cases_Bool, ltb-true, lt-ltb, eq-eqb}
-use Rattle.osi_spdu.specs.declared.codes.Code.{Code}
-use Rattle.osi_spdu.specs.declared.codes.Code.TheVariants.{ConnectionIdentifier, ConnectAcceptItem, CalledReference, CallingReference, CommonReference, AdditionalReference, SyncType, TokenItem, TransportDisconnect, ProtocolOptions, UserRequirements, TsduMaximumSize, Version, InitialNumber, Enclosure, TokenSetting, ResyncType, Number, Reflect, Reason, CallingSelector, CalledSelector, UserData, ExtendedUserData}
-use Rattle.osi_spdu.specs.declared.params.Params.{Params}
-use Rattle.osi_spdu.specs.Codes.{number_of, is_same, slot_of, every_code}
-use Rattle.osi_spdu.specs.Known.{nothing, put, some_octets}
-use Rattle.osi_spdu.specs.Params.{place_of, cells_of, filled, slots_of, known_of, no_params, present, count_of, has_octets}
 use Rattle.osi_spdu.specs.declared.tokens.TokenSet.{TokenSet}
-use Rattle.osi_spdu.specs.Fields.{token_octets, tokens_alone}
-use Rattle.osi_spdu.specs.Values.{token_bits}
+use Rattle.osi_spdu.proofs.Vocabulary.{slice_get, cases_Bool, ltb-true, lt-ltb, eq-eqb, Code, ConnectionIdentifier, ConnectAcceptItem, CalledReference, CallingReference, CommonReference, AdditionalReference, SyncType, TokenItem, TransportDisconnect, ProtocolOptions, UserRequirements, TsduMaximumSize, Version, InitialNumber, Enclosure, TokenSetting, ResyncType, Number, Reflect, Reason, CallingSelector, CalledSelector, UserData, ExtendedUserData, Params, number_of, is_same, slot_of, every_code, nothing, put, some_octets, place_of, cells_of, filled, slots_of, known_of, no_params, present, count_of, has_octets, token_octets, tokens_alone, token_bits, is_some}
 use Rattle.osi_spdu.proofs.OneOctet.{token_bits_again}
-use Rattle.std.specs.Prelude.{is_some}
 use Rattle.osi_spdu.proofs.StepLaws.{same_true, same_refl}
 
 at_place : ℕ → Option Code

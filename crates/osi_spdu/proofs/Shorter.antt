@@ -1,12 +1,6 @@
 -- A value is written in no more octets than it was read in.
 use Rattle.std.proofs.Common.{inl, inr, ◌≡◌, ℕ, zero, suc, ◌+◌, ◌*◌, ◌/◌, ◌%◌, ◌^◌, ◌<◌, ◌≤◌, Bool, true, false, cond, ◌&&◌, List, [], ◌∷◌, length, Option, Some, None, option_map, refl, ap, subst, ◌-◌, add-zero, zero-add, eqb, ltb, leb, arith}
-use Rattle.std.proofs.lemmas.Grind.{common_steps}
-use Rattle.std.specs.List.{list_all}
-use Rattle.std.proofs.lemmas.Bool.{cases_Bool, and_parts, ltb-true, leb-true}
-use Rattle.osi_spdu.specs.declared.codes.Code.{Code}
-use Rattle.osi_spdu.specs.declared.kinds.Kind.{Kind}
-use Rattle.osi_spdu.specs.declared.codes.Code.TheVariants.{ConnectionIdentifier, ConnectAcceptItem, CalledReference, CallingReference, CommonReference, AdditionalReference, SyncType, TokenItem, TransportDisconnect, ProtocolOptions, UserRequirements, TsduMaximumSize, Version, InitialNumber, Enclosure, TokenSetting, ResyncType, Number, Reflect, Reason, CallingSelector, CalledSelector, UserData, ExtendedUserData}
-use Rattle.osi_spdu.specs.Values.{significant, six_digits, digits_of, decimal_from, decimal, is_digit, is_numeral, numeral, octet_if, kept_if, canonical, may_enclose, canonical_in, token_bits, any_octet, as_it_is, is_setting}
+use Rattle.osi_spdu.proofs.Vocabulary.{common_steps, list_all, cases_Bool, and_parts, ltb-true, leb-true, Code, Kind, ConnectionIdentifier, ConnectAcceptItem, CalledReference, CallingReference, CommonReference, AdditionalReference, SyncType, TokenItem, TransportDisconnect, ProtocolOptions, UserRequirements, TsduMaximumSize, Version, InitialNumber, Enclosure, TokenSetting, ResyncType, Number, Reflect, Reason, CallingSelector, CalledSelector, UserData, ExtendedUserData, significant, six_digits, digits_of, decimal_from, decimal, is_digit, is_numeral, numeral, octet_if, kept_if, canonical, may_enclose, canonical_in, token_bits, any_octet, as_it_is, is_setting}
 
 -- ---- a value is written in no more octets than it was read in
 

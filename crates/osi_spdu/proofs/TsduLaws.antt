@@ -1,24 +1,7 @@
 -- How the reader of a TSDU goes on behind the first unit.
 use Rattle.std.proofs.Common.{◌≡◌, ℕ, Bool, true, false, ◌&&◌, List, [], ◌∷◌, length, Some, Result, Ok, Err, refl, sym, ◌∙◌, arith}
-use Rattle.std.specs.Prelude.{IfOk, IsOkAnd}
-use Rattle.osi_tpkt.specs.Octets.{IsOctets}
-use Rattle.osi_spdu.specs.declared.faults.SpduFault.{SpduFault}
-use Rattle.osi_spdu.specs.declared.faults.SpduFault.TheVariants.{TrailingOctets}
-use Rattle.osi_spdu.specs.declared.kinds.Kind.{Kind}
-use Rattle.osi_spdu.specs.Kinds.{category_of, may_stand}
-use Rattle.osi_spdu.specs.declared.kinds.Category.{Category}
-use Rattle.osi_spdu.specs.declared.kinds.Category.TheVariants.{Zero, One, Two}
 use Rattle.osi_spdu.specs.declared.reading.Found.{Found}
-use Rattle.osi_spdu.specs.declared.behind.Behind.{Behind}
-use Rattle.osi_spdu.specs.declared.groups.Group.{Group}
-use Rattle.osi_spdu.specs.Known.{Contents, Units}
-use Rattle.osi_spdu.specs.declared.params.Params.{Params}
-use Rattle.osi_spdu.specs.Params.{known_of}
-use Rattle.osi_spdu.specs.Writing.{is_formed, is_joined, IsFormedTsdu, TsduFits}
-use Rattle.osi_spdu.specs.Reading.{Gives, Placed, unit_at, contents_of, behind_at, ended, continued, tsdu_at}
-use Rattle.osi_spdu.specs.Spelling.{SpellsTsdu}
-use Rattle.osi_spdu.specs.Found.{placed_of}
-use Rattle.osi_spdu.specs.Groups.{units_behind, units_of}
+use Rattle.osi_spdu.proofs.Vocabulary.{IfOk, IsOkAnd, IsOctets, SpduFault, TrailingOctets, Kind, category_of, may_stand, Category, Zero, One, Two, Behind, Group, Contents, Units, Params, known_of, is_formed, is_joined, IsFormedTsdu, TsduFits, Gives, Placed, unit_at, contents_of, behind_at, ended, continued, tsdu_at, SpellsTsdu, placed_of, units_behind, units_of}
 use Rattle.osi_spdu.proofs.StepLaws.{ok_is}
 use Rattle.osi_spdu.proofs.FormedLaws.{placed_formed}
 use Rattle.osi_spdu.proofs.CanonicalLaws.{group_formed}

@@ -1,24 +1,6 @@
 -- Units and TSDUs: what is read is spelled so, and what is spelled so is read.
 use Rattle.std.proofs.Common.{inl, inr, ◌≡◌, ℕ, zero, suc, ◌+◌, ◌≤◌, Bool, true, false, List, [], ◌∷◌, ◌++◌, length, Option, Some, None, Result, Ok, Err, refl, sym, ap, subst, ◌∙◌, eqb, arith}
-use Rattle.std.specs.Prelude.{is_some, is_ok, IsSome}
-use Rattle.std.specs.Result.{result_unwrap_or}
-use Rattle.std.specs.List.{flat_map, find, AllByRecursion}
-use Rattle.std.proofs.lemmas.Bool.{eqb-true}
-use Rattle.std.proofs.lemmas.List.{append-nil}
-use Rattle.osi_tpkt.specs.Octets.{IsOctets}
-use Rattle.osi_spdu.specs.declared.faults.SpduFault.{SpduFault}
-use Rattle.osi_spdu.specs.declared.faults.SpduFault.TheVariants.{MissingParameter, BadConcatenation}
-use Rattle.osi_spdu.specs.declared.codes.Code.{Code}
-use Rattle.osi_spdu.specs.declared.kinds.Kind.{Kind}
-use Rattle.osi_spdu.specs.declared.kinds.Kind.TheVariants.{GiveTokens, DataTransfer}
-use Rattle.osi_spdu.specs.declared.kinds.Category.{Category}
-use Rattle.osi_spdu.specs.declared.kinds.Category.TheVariants.{Zero, One, Two}
-use Rattle.osi_spdu.specs.Codes.{number_of}
-use Rattle.osi_spdu.specs.Kinds.{si_of, category_of, required_of, kind_named, may_stand, one_kind, later_kinds}
-use Rattle.osi_spdu.specs.Known.{Known, nothing, settled, Contents, Units}
-use Rattle.osi_spdu.specs.Reading.{◌>>=◌, Measured, measured_at, params_of, in_unit, all_there, Placed, placed_kind, unit_at, contents_of, takes_rest, Next, next_if, next_at, behind_at, ended, continued, tsdu_at}
-use Rattle.osi_spdu.specs.Spelling.{length_octets, part_octets, item_octets, Spells, MeansInUnit, SpellsUnit, HasInformation, EndsTsdu, AreBehind, MayFollow, StandTogether, AreUnits, SpellsTsdu}
-use Rattle.osi_spdu.specs.Behind.{left_at}
+use Rattle.osi_spdu.proofs.Vocabulary.{is_some, is_ok, IsSome, result_unwrap_or, flat_map, find, AllByRecursion, eqb-true, append-nil, IsOctets, SpduFault, MissingParameter, BadConcatenation, Code, Kind, GiveTokens, DataTransfer, Category, Zero, One, Two, number_of, si_of, category_of, required_of, kind_named, may_stand, one_kind, later_kinds, Known, nothing, settled, Contents, Units, ◌>>=◌, Measured, measured_at, params_of, in_unit, all_there, Placed, placed_kind, unit_at, contents_of, takes_rest, Next, next_if, next_at, behind_at, ended, continued, tsdu_at, length_octets, part_octets, item_octets, Spells, MeansInUnit, SpellsUnit, HasInformation, EndsTsdu, AreBehind, MayFollow, StandTogether, AreUnits, SpellsTsdu, left_at}
 use Rattle.osi_spdu.proofs.StepLaws.{bind_ok, bind_of, ok_is}
 use Rattle.osi_spdu.proofs.LengthLaws.{octets-tail, measured_ok, measured_again, indicator_len, chosen}
 use Rattle.osi_spdu.proofs.LevelLaws.{params_found, params_only, unit_follows}

@@ -1,8 +1,6 @@
 -- Writing parameters one after the other, as a loop does.
 use Rattle.std.proofs.Common.{◌≡◌, ℕ, zero, suc, ◌+◌, ◌<◌, ◌≤◌, List, [], ◌∷◌, ◌++◌, length, drop, get_or, refl, sym, ap, ◌∙◌, append_assoc, arith}
-use Rattle.std.specs.List.{flat_map}
-use Rattle.std.proofs.lemmas.List.{length-append, append-nil, drop_more, drop_all}
-use Rattle.osi_spdu.specs.declared.codes.Code.{Code}
+use Rattle.osi_spdu.proofs.Vocabulary.{flat_map, length-append, append-nil, drop_more, drop_all, Code}
 
 pub piece_next : (f : Code → List ℕ) (codes : List Code) (i : ℕ) (c : Code) → i < length codes → flat_map f (drop i codes) ≡ f (get_or codes i c) ++ flat_map f (drop (i + 1) codes)
 piece_next f codes i c lt = ap (flat_map f) (drop_more codes i c lt)

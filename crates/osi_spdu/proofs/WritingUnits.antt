@@ -1,14 +1,7 @@
 -- Writing units one after the other, as a loop does.
 use Rattle.std.proofs.Common.{◌≡◌, ℕ, ◌+◌, ◌*◌, ◌<◌, ◌≤◌, List, [], ◌∷◌, ◌++◌, length, refl, sym, ap, subst, ◌∙◌, append_assoc, arith}
-use Rattle.std.specs.List.{AllByRecursion}
-use Rattle.std.proofs.lemmas.List.{length-append, append-nil, drop_at}
-use Rattle.osi_tpkt.specs.Octets.{IsOctets}
+use Rattle.osi_spdu.proofs.Vocabulary.{AllByRecursion, length-append, append-nil, drop_at, IsOctets, Kind, DataTransfer, Contents, Units, HasInformation, EndsTsdu, AreBehind, unit_octets, tsdu_octets, IsFormedUnit, UnitFits, TsduFits}
 use Rattle.osi_spdu.proofs.LengthLaws.{octets-drop}
-use Rattle.osi_spdu.specs.declared.kinds.Kind.{Kind}
-use Rattle.osi_spdu.specs.declared.kinds.Kind.TheVariants.{DataTransfer}
-use Rattle.osi_spdu.specs.Known.{Contents, Units}
-use Rattle.osi_spdu.specs.Spelling.{HasInformation, EndsTsdu, AreBehind}
-use Rattle.osi_spdu.specs.Writing.{unit_octets, tsdu_octets, IsFormedUnit, UnitFits, TsduFits}
 
 pub octets_none : (units : Units) → units ≡ [] → tsdu_octets units ≡ []
 unfolding tsdu_octets

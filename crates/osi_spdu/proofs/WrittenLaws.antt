@@ -1,19 +1,6 @@
 -- The written form of a unit and of a TSDU spells it.
 use Rattle.std.proofs.Common.{inl, inr, ◌≡◌, ℕ, ◌<◌, Bool, true, false, cond, not, ◌&&◌, ◌||◌, List, [], ◌∷◌, ◌++◌, length, map, Option, Some, None, refl, sym, ap, subst, ◌∙◌, ltb, arith}
-use Rattle.std.specs.Prelude.{is_some, is_none, IsSome}
-use Rattle.std.specs.List.{flat_map, list_any, list_all, AllByRecursion}
-use Rattle.std.proofs.lemmas.Bool.{cases_Bool, and_parts, and_from, or_cases, or_parts, or_left, or_right, ltb-false, not-true}
-use Rattle.std.proofs.lemmas.List.{length-append}
-use Rattle.osi_tpkt.specs.Octets.{IsOctets}
-use Rattle.osi_spdu.specs.declared.codes.Code.{Code}
-use Rattle.osi_spdu.specs.declared.codes.Code.TheVariants.{Enclosure, UserData, ExtendedUserData}
-use Rattle.osi_spdu.specs.declared.kinds.Kind.{Kind}
-use Rattle.osi_spdu.specs.Codes.{number_of, is_same, is_group, slot_of, every_code}
-use Rattle.osi_spdu.specs.Kinds.{codes_of, members_of, required_of}
-use Rattle.osi_spdu.specs.Values.{canonical, may_enclose, canonical_in}
-use Rattle.osi_spdu.specs.Known.{Known, some_octets, settled, Contents, Units}
-use Rattle.osi_spdu.specs.Spelling.{length_octets, HasLength, Part, part_octets, Sole, IsPart, Spells, only, MemberOf, MeansInGroup, GroupOf, ParameterOf, KnownOf, MeansInUnit, SpellsUnit, AreUnits, SpellsTsdu}
-use Rattle.osi_spdu.specs.Writing.{written_item, among, written_code, member_octets, group_octets, value_octets, parameter_octets, body_octets, unit_octets, tsdu_octets, may_be_there, is_enclosed, is_formed, IsCanonical, IsFormedUnit, UnitFits, IsFormedTsdu, TsduFits}
+use Rattle.osi_spdu.proofs.Vocabulary.{is_some, is_none, IsSome, flat_map, list_any, list_all, AllByRecursion, cases_Bool, and_parts, and_from, or_cases, or_parts, or_left, or_right, ltb-false, not-true, length-append, IsOctets, Code, Enclosure, UserData, ExtendedUserData, Kind, number_of, is_same, is_group, slot_of, every_code, codes_of, members_of, required_of, canonical, may_enclose, canonical_in, Known, some_octets, settled, Contents, Units, length_octets, HasLength, Part, part_octets, Sole, IsPart, Spells, only, MemberOf, MeansInGroup, GroupOf, ParameterOf, KnownOf, MeansInUnit, SpellsUnit, AreUnits, SpellsTsdu, written_item, among, written_code, member_octets, group_octets, value_octets, parameter_octets, body_octets, unit_octets, tsdu_octets, may_be_there, is_enclosed, is_formed, IsCanonical, IsFormedUnit, UnitFits, IsFormedTsdu, TsduFits}
 use Rattle.osi_spdu.proofs.OptionLaws.{sole_one}
 use Rattle.osi_spdu.proofs.StepLaws.{same_true, same_refl}
 use Rattle.osi_spdu.proofs.LevelLaws.{group_form}

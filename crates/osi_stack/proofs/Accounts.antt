@@ -1,13 +1,6 @@
 -- What an end comes to, packet by packet, whatever was told and carried between.
 use Rattle.std.proofs.Common.{◌≡◌, ℕ, false, List, [], ◌∷◌, ◌++◌, Option, Some, None, is_some, option_to_list, refl, sym, ap, ◌∙◌, append_assoc}
-use Rattle.osi_carrier.specs.Rows.{Rows}
-use Rattle.osi_session.specs.Shown.{Shown}
-use Rattle.osi_stack.specs.Calls.{first_shown, without_first, rest_by}
-use Rattle.osi_stack.specs.Feeding.{stops, TakesPackets}
-use Rattle.osi_stack.specs.Hearing.{after_packet}
-use Rattle.osi_stack.specs.Messages.{all_waiting, IsFirstOf}
-use Rattle.osi_stack.specs.Runs.{quieted, hushed, put_back, Account, account_of, with_packet, with_packets}
-use Rattle.osi_stack.specs.State.{Line, End, line_waits, waits}
+use Rattle.osi_stack.proofs.Vocabulary.{Rows, Shown, first_shown, without_first, rest_by, stops, TakesPackets, after_packet, all_waiting, IsFirstOf, quieted, hushed, put_back, Account, account_of, with_packet, with_packets, Line, End, line_waits, waits}
 use Rattle.osi_stack.proofs.FirstShown.{quiet_line}
 use Rattle.osi_stack.proofs.InFront.{apart_packet}
 use Rattle.osi_stack.proofs.Lifting.{or_first, or_second}

@@ -1,23 +1,7 @@
 -- The addresses of a connection: what was asked for, what came, and what keeps them.
 use Rattle.std.proofs.Common.{◌≡◌, ◌≢◌, ℕ, ◌+◌, Bool, true, false, [], ◌∷◌, ◌++◌, Option, Some, None, is_some, option_map, refl, ap, ◌∙◌, arith, if◌then◌else◌}
-use Rattle.osi_tpdu.specs.Limits.{tsap_octets}
-use Rattle.osi_carrier.specs.Calls.{tsaps_at, asks}
 use Rattle.osi_carrier.specs.Named.{AreNamed}
-use Rattle.osi_carrier.specs.Rows.{value_at}
-use Rattle.osi_carrier.specs.State.{Connection, asked, TsapIds}
-use Rattle.osi_carrier.proofs.Apart.{push_here, put_here, beyond}
-use Rattle.osi_carrier.proofs.AtReferences.{put_other}
-use Rattle.osi_carrier.proofs.Naming.{known_is}
-use Rattle.osi_carrier.proofs.Reacts.{none_of}
-use Rattle.osi_session.specs.Listening.{Input, Listener, react}
-use Rattle.osi_stack.specs.Addresses.{addressed, selectors_in, addresses_at, asked_addresses}
-use Rattle.osi_stack.specs.Calls.{calls_with, connects}
-use Rattle.osi_stack.specs.Links.{Soundness}
-use Rattle.osi_stack.specs.Messages.{kept_at}
-use Rattle.osi_stack.specs.Moving.{line_by, by_line, to_session}
-use Rattle.osi_stack.specs.Selectors.{Selectors, selectors_told, shows_connect}
-use Rattle.osi_stack.specs.State.{Line, End, session_in, fresh_line}
-use Rattle.osi_stack.specs.declared.connecting.Connect.{Connect}
+use Rattle.osi_stack.proofs.Vocabulary.{tsap_octets, tsaps_at, asks, value_at, Connection, asked, TsapIds, push_here, put_here, beyond, put_other, known_is, none_of, Input, Listener, react, addressed, selectors_in, addresses_at, asked_addresses, calls_with, connects, Soundness, kept_at, line_by, by_line, to_session, Selectors, selectors_told, shows_connect, Line, End, session_in, fresh_line, Connect}
 use Rattle.osi_stack.proofs.Moves.{used_live}
 
 -- ---- what is asked for

@@ -1,19 +1,8 @@
 -- What is seen of two ends that came to the same.
 use Rattle.std.proofs.Common.{option_map, ◌≡◌, ℕ, ◌==◌, Bool, true, false, not, List, [], ◌∷◌, length, Option, Some, None, is_some, refl, sym, ap, ◌∙◌, if◌then◌else◌}
-use Rattle.osi_session.specs.Sizes.{limit_of}
-use Rattle.std.specs.List.{flat_map}
-use Rattle.osi_carrier.specs.Calls.{kept_in}
-use Rattle.osi_carrier.specs.Rows.{Rows, value_at}
 use Rattle.osi_carrier.specs.Runs as runs
-use Rattle.osi_carrier.specs.State.{State as Carrier}
-use Rattle.osi_message.specs.Meanings.{Meaning}
-use Rattle.osi_session.specs.Calls.{Call as SessionCall}
-use Rattle.osi_session.specs.Listening.{Listener, called, react}
-use Rattle.osi_session.specs.declared.faults.CallError.{CallError}
-use Rattle.osi_session.specs.declared.faults.CallError.TheVariants.{NoSuchConnection}
-use Rattle.osi_stack.specs.Calls.{has_given, connect_error, call_error, or_else, reply_refusal, session_refusal, phase_of, phase_at}
-use Rattle.osi_stack.specs.Runs.{quieted, hushed, put_back, Call, told_of, carried_in, AreAlike, AreAlikeByReference, LookAlike}
-use Rattle.osi_stack.specs.State.{Line, End, Holding, session_in, session_at, joined_in}
+use Rattle.osi_stack.specs.Runs.{Call, told_of}
+use Rattle.osi_stack.proofs.Vocabulary.{limit_of, flat_map, kept_in, Rows, value_at, State as Carrier, Meaning, Call as SessionCall, Listener, called, react, CallError, NoSuchConnection, has_given, connect_error, call_error, or_else, reply_refusal, session_refusal, phase_of, phase_at, quieted, hushed, put_back, carried_in, AreAlike, AreAlikeByReference, LookAlike, Line, End, Holding, session_in, session_at, joined_in}
 use Rattle.osi_stack.proofs.Keeps.{joined_quiet, kept_same}
 
 -- a line for which nothing waits

@@ -1,8 +1,7 @@
 -- Which connections that were asked for are told to be agreed to, or denied.
 use Rattle.std.proofs.Common.{◌≡◌, ◌≢◌, ℕ, ◌+◌, ◌==◌, Bool, true, false, ◌||◌, List, [], ◌∷◌, ◌++◌, refl, sym, ap, ◌∙◌, ◌⊎◌}
-use Rattle.std.proofs.lemmas.Bool.{ne_eqb, or_right}
-use Rattle.osi_carrier.specs.Happenings.{Happening, opened, refused, tsdu, closed, faulted}
-use Rattle.osi_carrier.specs.Orderly.{told_of}
+use Rattle.osi_carrier.specs.Happenings.{opened, refused}
+use Rattle.osi_stack.proofs.Vocabulary.{ne_eqb, or_right, Happening, tsdu, closed, faulted, told_of}
 
 -- that a connection is agreed to, or denied, is among these
 abbrev pub answered : ℕ → List Happening → Bool

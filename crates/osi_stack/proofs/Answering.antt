@@ -1,30 +1,9 @@
 -- What a call is answered is what the table of its session says.
 use Rattle.std.proofs.Common.{◌≡◌, ℕ, Bool, true, false, not, ◌||◌, List, Option, Some, None, is_some, Ok, Err, refl, sym, ap, subst, ◌∙◌, inl, inr, if◌then◌else◌}
-use Rattle.std.specs.List.{AllByRecursion}
-use Rattle.std.specs.Prelude.{IfSome}
-use Rattle.std.proofs.lemmas.Bool.{or_right}
-use Rattle.osi_carrier.specs.Calls.{open_link, send_all_error}
-use Rattle.osi_carrier.specs.Rows.{value_at}
-use Rattle.osi_class.specs.Link.{Standing as Link}
-use Rattle.osi_message.specs.Sendable.{IsSendable}
-use Rattle.osi_message.specs.Parting.{tsdus_of}
-use Rattle.osi_session.specs.Allowed.{Step, Answer, allowed, Passed}
-use Rattle.osi_session.specs.Calls.{Call, HasSerial}
-use Rattle.osi_session.specs.Listening.{Input, Listener, Move, called, answered, react, after_inputs}
-use Rattle.osi_session.specs.Phases.{is_wait_cn, may_abort}
-use Rattle.osi_session.specs.Runs.{HasNumbersInWords, IsFresh}
-use Rattle.osi_session.specs.Sessions.{awaiting, asking}
-use Rattle.osi_session.specs.Sizes.{limit_of}
 use Rattle.osi_session.specs.Sound.{IsSound as IsSoundState}
-use Rattle.osi_session.specs.declared.faults.CallError.{CallError}
 use Rattle.osi_session.specs.declared.faults.CallError.TheVariants as error
-use Rattle.osi_session.specs.declared.opening.Opening.{Opening}
 use Rattle.osi_session.specs.declared.state.State.{State}
-use Rattle.osi_stack.specs.Calls.{opening_of, has_given, send_refusal, move_refusal, session_refusal, session_error, call_error, table_error}
-use Rattle.osi_stack.specs.Folds.{CameAbout, AllCameAbout}
-use Rattle.osi_stack.specs.Links.{needs_link, Soundness}
-use Rattle.osi_stack.specs.Messages.{AreShort, kept_at}
-use Rattle.osi_stack.specs.State.{End, session_in, session_at}
+use Rattle.osi_stack.proofs.Vocabulary.{AllByRecursion, IfSome, or_right, open_link, send_all_error, value_at, Standing as Link, IsSendable, tsdus_of, Step, Answer, allowed, Passed, Call, HasSerial, Input, Listener, Move, called, answered, react, after_inputs, is_wait_cn, may_abort, HasNumbersInWords, IsFresh, awaiting, asking, limit_of, CallError, Opening, opening_of, has_given, send_refusal, move_refusal, session_refusal, session_error, call_error, table_error, CameAbout, AllCameAbout, needs_link, Soundness, AreShort, kept_at, End, session_in, session_at}
 use Rattle.osi_stack.proofs.Folds.{at_line}
 use Rattle.osi_stack.proofs.Moves.{line_of}
 use Rattle.osi_stack.proofs.Handing.{lengths_fit}

@@ -1,21 +1,7 @@
 -- A connection is asked for, whatever waits: it is the same but for lines of connections that are gone.
 use Rattle.std.proofs.Common.{◌≡◌, ◌≢◌, ℕ, ◌+◌, ◌==◌, Bool, true, false, List, [], ◌∷◌, ◌++◌, is_some, refl, sym, ap, ◌∙◌, option_map, arith}
-use Rattle.std.proofs.lemmas.Bool.{eqb-true, eq-eqb}
-use Rattle.std.specs.List.{flat_map}
-use Rattle.osi_carrier.proofs.Apart.{beyond, push_here}
-use Rattle.osi_carrier.proofs.AtReferences.{push_other}
-use Rattle.osi_carrier.specs.Calls.{asks}
-use Rattle.osi_carrier.specs.Orderly.{AreUpTo}
-use Rattle.osi_carrier.specs.Rows.{Rows, value_at}
-use Rattle.osi_carrier.specs.State.{Connection, asked, State as Carrier}
-use Rattle.osi_session.specs.Listening.{Listener}
-use Rattle.osi_session.specs.Shown.{Shown}
-use Rattle.osi_stack.specs.Calls.{calls_with, connects}
-use Rattle.osi_stack.specs.Messages.{shown_of, all_waiting}
-use Rattle.osi_stack.specs.Runs.{quieted, hushed, put_back, live_lines, pruned, Call, told_in, carried_in, AreAlike, AreAlikeInLive}
-use Rattle.osi_stack.specs.State.{Line, End, Holding, line_waits, is_used, used_lines, fresh_line}
-use Rattle.osi_stack.specs.declared.connecting.Connect.{Connect}
-use Rattle.osi_tpdu.specs.Limits.{tsap_octets}
+use Rattle.osi_stack.specs.Runs.{Call}
+use Rattle.osi_stack.proofs.Vocabulary.{eqb-true, eq-eqb, flat_map, beyond, push_here, push_other, asks, AreUpTo, Rows, value_at, Connection, asked, State as Carrier, Listener, Shown, calls_with, connects, shown_of, all_waiting, quieted, hushed, put_back, live_lines, pruned, told_in, carried_in, AreAlike, AreAlikeInLive, Line, End, Holding, line_waits, is_used, used_lines, fresh_line, Connect, tsap_octets}
 use Rattle.osi_stack.proofs.FirstShown.{quiet_line}
 use Rattle.osi_stack.proofs.InLive.{quieted_live}
 use Rattle.osi_stack.proofs.Lifting.{both, or_first, or_second}

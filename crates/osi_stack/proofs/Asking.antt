@@ -1,13 +1,6 @@
 -- A connection is asked for while indications wait, for live connections alone: as where all was told.
 use Rattle.std.proofs.Common.{◌≡◌, ℕ, ◌==◌, Bool, true, false, ◌||◌, not, List, [], ◌∷◌, ◌++◌, is_some, refl, sym, ap, ◌∙◌}
-use Rattle.osi_carrier.specs.Rows.{Rows, value_at}
-use Rattle.osi_carrier.specs.State.{Connection}
-use Rattle.osi_session.specs.Listening.{Listener}
-use Rattle.osi_session.specs.Shown.{Shown}
-use Rattle.osi_stack.specs.Messages.{shown_of, all_waiting}
-use Rattle.osi_stack.specs.Rounds.{WaitForLive}
-use Rattle.osi_stack.specs.Runs.{quieted}
-use Rattle.osi_stack.specs.State.{Line, line_waits, is_used, used_lines, fresh_line}
+use Rattle.osi_stack.proofs.Vocabulary.{Rows, value_at, Connection, Listener, Shown, shown_of, all_waiting, WaitForLive, quieted, Line, line_waits, is_used, used_lines, fresh_line}
 use Rattle.osi_stack.proofs.Alike.{hush}
 use Rattle.osi_stack.proofs.FirstShown.{quiet_line}
 use Rattle.osi_stack.proofs.Linking.{used_by, joined_lines, mono_or}

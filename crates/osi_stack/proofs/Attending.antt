@@ -1,12 +1,6 @@
 -- An end that has not ended has heard all that its carrier told.
 use Rattle.std.proofs.Common.{◌≡◌, ℕ, ◌||◌, List, ◌∷◌, ◌∙◌, ◌⊎◌, if◌then◌else◌, []}
-use Rattle.osi_tpkt.specs.declared.cutting.Fed.{Fed}
-use Rattle.osi_session.specs.Listening.{Input}
-use Rattle.osi_stack.specs.Calls.{connects, breaks}
-use Rattle.osi_stack.specs.Feeding.{Feeds}
-use Rattle.osi_stack.specs.Moving.{to_session}
-use Rattle.osi_stack.specs.State.{End, Holding, IsAttended}
-use Rattle.osi_stack.specs.declared.connecting.Connect.{Connect}
+use Rattle.osi_stack.proofs.Vocabulary.{Fed, Input, connects, breaks, Feeds, to_session, End, Holding, IsAttended, Connect}
 use Rattle.osi_stack.proofs.Keeping.{session_keeps}
 use Rattle.osi_stack.proofs.Throughout.{feeds_kept, breaks_kept}
 use Rattle.osi_stack.proofs.Comings.{attended_kept}

@@ -1,24 +1,10 @@
 -- A break while indications wait: of each reference the same is told.
 use Rattle.std.proofs.Common.{◌≡◌, ℕ, ◌==◌, Bool, true, false, List, [], ◌∷◌, ◌++◌, Option, None, is_some, refl, sym, ap, subst, ◌∙◌, append_assoc, if◌then◌else◌}
-use Rattle.std.proofs.lemmas.Bool.{eqb-true}
-use Rattle.std.proofs.lemmas.List.{append-nil}
-use Rattle.std.proofs.lemmas.List.Elements.{filter-append}
-use Rattle.std.specs.List.{flat_map}
-use Rattle.osi_carrier.specs.Rows.{Rows, value_at}
-use Rattle.osi_carrier.specs.declared.ends.EndReason.TheVariants.{Broken}
-use Rattle.osi_session.specs.Listening.{Listener}
-use Rattle.osi_session.specs.Shown.{Shown}
-use Rattle.osi_stack.specs.Calls.{breaks}
-use Rattle.osi_stack.specs.Hearing.{ends, shown_at_loss, all_lost}
-use Rattle.osi_stack.specs.Links.{AreApart}
-use Rattle.osi_stack.specs.Messages.{kept_at, waiting_of, waiting_at, shown_of, all_waiting}
-use Rattle.osi_stack.specs.Runs.{quieted, hushed, put_back, Call, told_of, told_in, carried_in, AreAlike, AreAlikeByReference}
-use Rattle.osi_stack.specs.Settled.{IsSettled}
-use Rattle.osi_stack.specs.State.{Line, End, Holding}
+use Rattle.osi_stack.specs.Runs.{Call, told_of}
+use Rattle.osi_stack.proofs.Vocabulary.{eqb-true, append-nil, filter-append, flat_map, Rows, value_at, Broken, Listener, Shown, breaks, ends, shown_at_loss, all_lost, AreApart, kept_at, waiting_of, waiting_at, shown_of, all_waiting, quieted, hushed, put_back, told_in, carried_in, AreAlike, AreAlikeByReference, IsSettled, Line, End, Holding, none_of}
 use Rattle.osi_stack.proofs.Alike.{quieted_at}
 use Rattle.osi_stack.proofs.Linking.{apart_lost}
 use Rattle.osi_stack.proofs.Moves.{are_lost}
-use Rattle.osi_carrier.proofs.Reacts.{none_of}
 
 -- ---- what is told of one reference
 

@@ -1,22 +1,6 @@
 -- What a call sends, and what it does not do.
 use Rattle.std.proofs.Common.{◌≡◌, ℕ, Bool, false, List, [], ◌++◌, Option, Some, None, is_none, Result, Ok, Err, OnOk, IfErr, refl, sym, ap, subst, ◌∙◌, if◌then◌else◌}
-use Rattle.std.proofs.lemmas.List.{append-nil}
-use Rattle.osi_carrier.specs.Packets.{Carrying}
-use Rattle.osi_carrier.specs.Calls.{send_all_error, open_link}
-use Rattle.osi_carrier.specs.State.{State as Carrier}
-use Rattle.osi_message.specs.Meanings.{Meaning}
-use Rattle.osi_message.specs.Parting.{tsdus_sent}
-use Rattle.osi_session.specs.Allowed.{Answer, allowed}
-use Rattle.osi_session.specs.Calls.{Call}
-use Rattle.osi_session.specs.declared.faults.CallError.{CallError}
-use Rattle.osi_session.specs.Listening.{Listener, Move, called, answered, react}
-use Rattle.osi_session.specs.Shown.{Shown}
-use Rattle.osi_session.specs.Sizes.{limit_of}
-use Rattle.osi_stack.specs.Calls.{send_refusal, reply_refusal, move_refusal, or_else, Refuses}
-use Rattle.osi_stack.specs.Moving.{answers, line_by, carrier_by}
-use Rattle.osi_stack.specs.Selectors.{shows_connect}
-use Rattle.osi_stack.specs.State.{Line}
-use Rattle.osi_stack.specs.Transport.{hands, answers_by}
+use Rattle.osi_stack.proofs.Vocabulary.{append-nil, Carrying, send_all_error, open_link, State as Carrier, Meaning, tsdus_sent, Answer, allowed, Call, CallError, Listener, Move, called, answered, react, Shown, limit_of, send_refusal, reply_refusal, move_refusal, or_else, Refuses, answers, line_by, carrier_by, shows_connect, Line, hands, answers_by}
 
 -- a call shows nothing and closes nothing, and one that is accepted sends something
 pub record IsCall (move : Move) : Type 0 where

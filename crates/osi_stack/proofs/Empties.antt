@@ -1,13 +1,7 @@
 -- An empty piece changes nothing.
 use Rattle.std.proofs.Common.{◌≡◌, ℕ, ◌==◌, true, false, List, ◌∷◌, length, is_some, refl, sym, ap, subst, ◌∙◌, inl, inr, arith, []}
-use Rattle.std.proofs.lemmas.Bool.{eqb-true}
-use Rattle.std.proofs.lemmas.List.{append-nil}
-use Rattle.osi_tpkt.specs.declared.cutting.Fed.{Fed}
-use Rattle.osi_carrier.specs.Packets.{Carrying}
 use Rattle.osi_carrier.specs.Packets as carriers
-use Rattle.osi_carrier.specs.State.{State as Carrier}
-use Rattle.osi_stack.specs.Feeding.{stops, RunsDry, Goes}
-use Rattle.osi_stack.specs.State.{Holding, IsAttended, holding, waits}
+use Rattle.osi_stack.proofs.Vocabulary.{eqb-true, append-nil, Fed, Carrying, State as Carrier, stops, RunsDry, Goes, Holding, IsAttended, holding, waits}
 use Rattle.osi_stack.proofs.Events.{carrying_of}
 use Rattle.osi_stack.proofs.Lifting.{both, or_first}
 use Rattle.osi_stack.proofs.Pieces.{quiet_end}

@@ -1,32 +1,14 @@
 -- How a list of calls ends an end for which there is memory: behind a packet, or at a fault of the stream. Two
 -- lists with the same octets end it alike.
 use Rattle.std.proofs.Common.{◌≡◌, ℕ, ◌+◌, ◌-◌, ◌<◌, ◌^◌, ◌||◌, Bool, true, false, List, ◌∷◌, ◌++◌, length, take, Option, Some, None, is_some, refl, sym, ap, subst, ◌∙◌, ◌⊎◌, inl, inr, arith, append_assoc, length-append, []}
-use Rattle.std.proofs.lemmas.List.{append-nil, take_all}
-use Rattle.std.specs.List.{flat_map}
 use Rattle.osi_tpkt.proofs.Fronts.{one_fault}
-use Rattle.osi_tpkt.specs.Held.{Held}
-use Rattle.osi_tpkt.specs.Packet.{IsPartial, IsFaultOf}
-use Rattle.osi_tpkt.specs.Stream.{ArePackets, offset_of}
-use Rattle.osi_tpkt.specs.declared.cutting.Fed.{Fed}
-use Rattle.osi_tpkt.specs.declared.faults.TpktFault.{TpktFault}
-use Rattle.osi_carrier.proofs.Lasting.{PacketLaws, fault_behind, front_used}
 use Rattle.osi_carrier.proofs.Outcomes.{Compared, compare, init_front, no_further, at_same, offsets_join}
-use Rattle.osi_carrier.proofs.Pieces.{packets_joined}
-use Rattle.osi_carrier.proofs.Reading.{packets_leave}
-use Rattle.osi_carrier.specs.declared.ends.CarrierFault.TheVariants.{Tpkt}
-use Rattle.osi_carrier.specs.declared.ends.EndReason.{EndReason}
-use Rattle.osi_carrier.specs.declared.ends.EndReason.TheVariants.{Fault}
-use Rattle.osi_session.specs.Shown.{Shown}
-use Rattle.osi_stack.specs.Feeding.{stops, uses_all, TakesPackets, RunsDry, StopsBehind, Refuses, Feeds}
-use Rattle.osi_stack.specs.Hearing.{after_packet, ends, all_lost}
-use Rattle.osi_stack.specs.Messages.{all_waiting}
-use Rattle.osi_stack.specs.Runs.{hushed, put_back, Account, account_of, with_packets, Call, Calls, HasRoom, CallsAlong, CallsInRoom, used_in, told_in, carried_in, account_along, AreAlike}
-use Rattle.osi_stack.specs.Runs.Call.{feeding, telling, carrying}
-use Rattle.osi_stack.specs.State.{End, Holding, waits}
+use Rattle.osi_stack.specs.Feeding.{Refuses}
+use Rattle.osi_stack.specs.Runs.{Call}
+use Rattle.osi_stack.proofs.Vocabulary.{append-nil, take_all, flat_map, Held, IsPartial, IsFaultOf, ArePackets, offset_of, Fed, TpktFault, PacketLaws, fault_behind, front_used, packets_joined, packets_leave, Tpkt, EndReason, Fault, Shown, stops, uses_all, TakesPackets, RunsDry, StopsBehind, Feeds, after_packet, ends, all_lost, all_waiting, hushed, put_back, Account, account_of, with_packets, Calls, HasRoom, CallsAlong, CallsInRoom, used_in, told_in, carried_in, account_along, AreAlike, feeding, telling, carrying, End, Holding, waits, none_of}
 use Rattle.osi_stack.proofs.Accounts.{made, after_more, account_quiet, account_told, account_joined, account_packet, packets_apart, packets_done, with_joined}
 use Rattle.osi_stack.proofs.Lasting.{Lasts, account_over, in_front, packets_within, no_packets_end, no_fault_ends, reads_lasts}
 use Rattle.osi_stack.proofs.Lifting.{both, or_first, or_second, never}
-use Rattle.osi_carrier.proofs.Reacts.{none_of}
 use Rattle.osi_stack.proofs.Runs.{ReadsOne, reads_one}
 
 -- ---- how it ends

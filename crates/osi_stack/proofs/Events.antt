@@ -1,19 +1,7 @@
 -- The events that wait, heard one after the other.
 use Rattle.std.proofs.Common.{◌≡◌, ℕ, ◌+◌, ◌<◌, ◌==◌, zero, suc, Bool, true, false, not, List, ◌∷◌, length, Option, Some, None, is_some, refl, sym, ap, subst, ◌∙◌, inl, inr, arith, if◌then◌else◌, []}
-use Rattle.std.proofs.lemmas.Bool.{eqb-true, not-false}
-use Rattle.osi_tpkt.specs.declared.cutting.Fed.{Fed}
-use Rattle.osi_carrier.specs.Calls.{ended_by, Tells}
-use Rattle.osi_carrier.specs.Happenings.{Happening}
-use Rattle.osi_carrier.specs.Packets.{Carrying, is_spoilt}
 use Rattle.osi_carrier.specs.Packets as carriers
-use Rattle.osi_carrier.specs.Rows.{Rows}
-use Rattle.osi_carrier.specs.State.{State as Carrier}
-use Rattle.osi_carrier.specs.declared.ends.EndReason.{EndReason}
-use Rattle.osi_carrier.specs.declared.ends.EndReason.TheVariants.{NoMemory}
-use Rattle.osi_stack.specs.Fetching.{Interrupted, LeftOff, Fetches}
-use Rattle.osi_stack.specs.Hearing.{hears, hears_first, hears_next, hears_times, hears_all, with_events, with_carrier, all_lost, concludes, starves, RunsOut}
-use Rattle.osi_stack.specs.Needs.{needs_memory}
-use Rattle.osi_stack.specs.State.{Line, End, Holding, IsAttended, holding}
+use Rattle.osi_stack.proofs.Vocabulary.{eqb-true, not-false, Fed, ended_by, Tells, Happening, Carrying, is_spoilt, Rows, State as Carrier, EndReason, NoMemory, Interrupted, LeftOff, Fetches, hears, hears_first, hears_next, hears_times, hears_all, with_events, with_carrier, all_lost, concludes, starves, RunsOut, needs_memory, Line, End, Holding, IsAttended, holding}
 use Rattle.osi_stack.proofs.Found.{same_end}
 use Rattle.osi_stack.proofs.Keeping.{hears_keep}
 

@@ -1,15 +1,7 @@
 -- The first connection for which an indication waits.
 use Rattle.std.proofs.Common.{◌≡◌, ℕ, ◌+◌, ◌<◌, ◌≤◌, ◌==◌, Bool, zero, suc, true, false, not, List, [], ◌∷◌, length, map, get_or, set, Option, Some, None, refl, sym, ap, ◌∙◌, arith}
-use Rattle.std.specs.List.{position, position_or_len}
-use Rattle.std.proofs.lemmas.Bool.{eqb-true, not-false}
-use Rattle.std.proofs.lemmas.Bool.{eqb-true}
-use Rattle.std.proofs.lemmas.Grind.{common_steps}
 use Rattle.std.proofs.lemmas.List.Quantifiers.{position-Some}
-use Rattle.osi_carrier.specs.Rows.{Rows}
-use Rattle.osi_session.specs.Shown.{Shown, shown_by}
-use Rattle.osi_session.specs.declared.indications.Indication.{Indication}
-use Rattle.osi_stack.specs.Calls.{first_by, first_shown, rest_by, without_first, TellsOf}
-use Rattle.osi_stack.specs.State.{Line, line_waits, waits}
+use Rattle.osi_stack.proofs.Vocabulary.{position, position_or_len, eqb-true, not-false, common_steps, Rows, Shown, shown_by, Indication, first_by, first_shown, rest_by, without_first, TellsOf, Line, line_waits, waits}
 use Rattle.osi_stack.proofs.Events.{no_events}
 use Rattle.osi_stack.proofs.Lifting.{or_first, or_second}
 

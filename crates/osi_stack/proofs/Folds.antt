@@ -1,26 +1,7 @@
 -- What is true of each session of an end stays so, whatever is called and fed: each is what its inputs made of
 -- it, and its functional units can be selected together.
 use Rattle.std.proofs.Common.{◌≡◌, ℕ, List, [], ◌∷◌, ◌++◌, Option, Some, None, Result, Ok, Err, refl, ap, subst, ◌∙◌, inl, inr}
-use Rattle.std.specs.List.{AllByRecursion}
-use Rattle.std.specs.Prelude.{IfSome}
-use Rattle.osi_tpkt.specs.declared.cutting.Fed.{Fed}
-use Rattle.osi_spdu.specs.Known.{Units}
-use Rattle.osi_spdu.specs.Reading.{tsdu_at}
-use Rattle.osi_spdu.specs.declared.faults.SpduFault.{SpduFault}
-use Rattle.osi_message.specs.Reading.{said_by_units, said_if_read, said_at}
-use Rattle.osi_carrier.specs.Rows.{Rows, value_at}
-use Rattle.osi_session.specs.Calls.{Call, HasSerial}
-use Rattle.osi_session.specs.Listening.{Input, Listener, called, taken, opened, refused, broken, came, came_as, react, after_inputs}
-use Rattle.osi_session.specs.Runs.{HasNumbersInWords}
-use Rattle.osi_session.specs.Parts.{HasProfile}
-use Rattle.osi_session.specs.Sessions.{awaiting, awaits}
-use Rattle.osi_stack.specs.Calls.{calls_with, connects, breaks, without_first}
-use Rattle.osi_stack.specs.Feeding.{Feeds}
-use Rattle.osi_stack.specs.Folds.{CameAbout, IsProfiled, OfSession, OfSessions, AllCameAbout}
-use Rattle.osi_stack.specs.Hearing.{after_packet}
-use Rattle.osi_stack.specs.Moving.{line_by, to_session}
-use Rattle.osi_stack.specs.State.{Line, End, Holding}
-use Rattle.osi_stack.specs.declared.connecting.Connect.{Connect}
+use Rattle.osi_stack.proofs.Vocabulary.{AllByRecursion, IfSome, Fed, Units, tsdu_at, SpduFault, said_by_units, said_if_read, said_at, Rows, value_at, Call, HasSerial, Input, Listener, called, taken, opened, refused, broken, came, came_as, react, after_inputs, HasNumbersInWords, HasProfile, awaiting, awaits, calls_with, connects, breaks, without_first, Feeds, CameAbout, IsProfiled, OfSession, OfSessions, AllCameAbout, after_packet, line_by, to_session, Line, End, Holding, Connect}
 use Rattle.osi_stack.proofs.OfLines.{LinesStay, line_at, session_lines, packet_lines, feeds_lines, connect_lines, told_lines, breaks_lines}
 
 -- ---- what stays true of a session

@@ -1,17 +1,6 @@
 -- The line of a reference, at its place among the lines.
 use Rattle.std.proofs.Common.{◌≡◌, ℕ, ◌+◌, ◌≤◌, ◌==◌, Bool, suc, true, false, [], ◌∷◌, length, get_or, set, is_some, Option, Some, None, Result, Ok, Err, OnOk, IfErr, refl, sym, ap, subst, ◌∙◌, arith}
-use Rattle.std.specs.List.{position_or_len}
-use Rattle.std.proofs.lemmas.Grind.{common_steps}
-use Rattle.osi_carrier.proofs.Places.{placed, here_is}
-use Rattle.osi_carrier.specs.Packets.{Carrying}
-use Rattle.osi_carrier.specs.Rows.{Rows, value_at, place_of, put}
-use Rattle.osi_carrier.specs.State.{State as Carrier}
-use Rattle.osi_session.specs.Calls.{Call}
-use Rattle.osi_session.specs.Listening.{Input, Listener}
-use Rattle.osi_session.specs.declared.faults.CallError.{CallError}
-use Rattle.osi_stack.specs.Calls.{session_refusal, session_error, Refuses}
-use Rattle.osi_stack.specs.Moving.{line_by, carrier_by, by_line, to_session}
-use Rattle.osi_stack.specs.State.{Line, End, session_in}
+use Rattle.osi_stack.proofs.Vocabulary.{position_or_len, common_steps, placed, here_is, Carrying, Rows, value_at, place_of, put, State as Carrier, Call, Input, Listener, CallError, session_refusal, session_error, Refuses, line_by, carrier_by, by_line, to_session, Line, End, session_in}
 
 -- ---- a reference that has no place
 

@@ -1,33 +1,12 @@
 -- Once the carrier has ended no session is left.
 use Rattle.std.proofs.Common.{◌≡◌, ℕ, ◌||◌, Bool, true, false, List, ◌∷◌, Option, Some, None, is_some, IsSome, refl, sym, ap, subst, ◌∙◌, inl, inr, ◌⊎◌, if◌then◌else◌, []}
-use Rattle.osi_message.specs.Parting.{tsdus_sent}
-use Rattle.osi_session.specs.Sizes.{limit_of}
-use Rattle.osi_tpkt.specs.declared.cutting.Fed.{Fed}
-use Rattle.osi_carrier.specs.Calls.{open_link, sent_on, may_connect, send_all_error}
 use Rattle.osi_carrier.specs.Packets as carriers
-use Rattle.osi_carrier.specs.Rows.{value_at, put}
-use Rattle.osi_carrier.specs.State.{State as Carrier}
-use Rattle.osi_carrier.specs.declared.ends.EndReason.{EndReason}
-use Rattle.osi_carrier.proofs.Effects.{free_of}
-use Rattle.osi_carrier.proofs.Places.{put_same}
-use Rattle.osi_class.specs.Link.{Standing as Link}
-use Rattle.osi_session.specs.Calls.{Call}
-use Rattle.osi_session.specs.Listening.{Input, Listener, called, react}
-use Rattle.osi_stack.specs.Calls.{connects, connect_error, terms_error, breaks, without_first}
-use Rattle.osi_stack.specs.Feeding.{Feeds}
-use Rattle.osi_stack.specs.Hearing.{with_events, with_carrier, hears_all, hears_times, attends, after_packet, ends, all_lost, Starves}
-use Rattle.osi_stack.specs.Messages.{kept_at}
-use Rattle.osi_stack.specs.Moving.{line_by, carrier_by, by_line, to_session}
-use Rattle.osi_stack.specs.Settled.{IsGone}
-use Rattle.osi_stack.specs.State.{Line, End, Holding, session_in}
-use Rattle.osi_stack.specs.Transport.{answers_by}
-use Rattle.osi_stack.specs.declared.connecting.Connect.{Connect}
+use Rattle.osi_stack.proofs.Vocabulary.{tsdus_sent, limit_of, Fed, open_link, sent_on, may_connect, send_all_error, value_at, put, State as Carrier, EndReason, free_of, put_same, Standing as Link, Call, Input, Listener, called, react, connects, connect_error, terms_error, breaks, without_first, Feeds, with_events, with_carrier, hears_all, hears_times, attends, after_packet, ends, all_lost, Starves, kept_at, line_by, carrier_by, by_line, to_session, IsGone, Line, End, Holding, session_in, answers_by, Connect, none_of}
 use Rattle.osi_stack.proofs.Lifting.{packet_is}
 use Rattle.osi_stack.proofs.Moves.{are_lost, kept_first}
 use Rattle.osi_stack.proofs.Soundness.{open_none}
 use Rattle.osi_stack.proofs.Stepwise.{unless_sent}
 use Rattle.osi_stack.proofs.Throughout.{IsKept, feeds_kept, breaks_kept}
-use Rattle.osi_carrier.proofs.Reacts.{none_of}
 
 -- what lasts loses no session
 pub lasting_gone : (e : End) → e.carrier.ended ≡ None → IsGone e

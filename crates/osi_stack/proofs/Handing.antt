@@ -1,26 +1,8 @@
 -- TSDUs that are handed over together.
 use Rattle.std.proofs.Common.{◌≡◌, ◌∙◌, refl, sym, ap, ℕ, ◌≤◌, Bool, true, false, ◌||◌, List, [], ◌∷◌, length, map, nat_lt, Option, Some, None, option_map, unwrap_or, Ok, Err, Result, arith, if◌then◌else◌}
-use Rattle.std.specs.List.{list_any}
-use Rattle.std.proofs.lemmas.Bool.Decides.{nat_tests}
-use Rattle.std.proofs.Math.Bool.{or-false}
-use Rattle.osi_carrier.specs.Calls.{send_error, send_all_error, lengths_error, open_link, sent, sent_on, sent_all}
-use Rattle.osi_carrier.specs.State.{State as Carrier}
-use Rattle.osi_carrier.specs.declared.faults.SendError.{SendError}
 use Rattle.osi_carrier.specs.declared.faults.SendError.TheVariants.{TooLong}
-use Rattle.osi_class.specs.Link.{Standing as Link}
-use Rattle.osi_message.specs.Meanings.{Meaning, DT}
-use Rattle.osi_message.specs.Parting.{is_parted, tsdus_sent, in_one}
-use Rattle.osi_message.specs.Reading.{said_at}
-use Rattle.osi_message.specs.Words.{Words, Word, says, part, word_octets}
-use Rattle.osi_message.proofs.SentLaws.{sent_alone}
-use Rattle.osi_session.specs.Listening.{Listener, Move, came, came_as}
-use Rattle.osi_spdu.specs.declared.faults.SpduFault.{SpduFault}
-use Rattle.osi_stack.specs.Messages.{AreShort, message_of, does, puts}
-use Rattle.osi_stack.specs.Moving.{limit_for, answers}
-use Rattle.osi_stack.specs.Telling.{told_input}
-use Rattle.osi_stack.specs.Transport.{sent_unless, hands, answers_by}
-use Rattle.osi_stack.specs.declared.told.Told.{Told}
 use Rattle.osi_stack.specs.declared.told.Told.TheVariants.{Opened, Refused, Tsdu, Lost}
+use Rattle.osi_stack.proofs.Vocabulary.{list_any, nat_tests, or-false, send_error, send_all_error, lengths_error, open_link, sent, sent_on, sent_all, State as Carrier, SendError, Standing as Link, Meaning, DT, is_parted, tsdus_sent, in_one, said_at, Words, Word, says, part, word_octets, sent_alone, Listener, Move, came, came_as, SpduFault, AreShort, message_of, does, puts, limit_for, answers, told_input, sent_unless, hands, answers_by, Told}
 
 -- ---- one, and none
 

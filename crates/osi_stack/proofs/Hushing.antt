@@ -1,15 +1,6 @@
 -- An accepted call of a session does the same where indications wait as where all was told.
 use Rattle.std.proofs.Common.{◌≡◌, ℕ, ◌==◌, Bool, true, false, List, [], ◌∷◌, ◌++◌, Option, Some, None, option_map, refl, sym, ap, ◌∙◌}
-use Rattle.std.proofs.lemmas.List.{append-nil}
-use Rattle.osi_carrier.specs.Rows.{Rows, value_at, put}
-use Rattle.osi_session.specs.Calls.{Call as SessionCall}
-use Rattle.osi_session.specs.Listening.{Input, Listener, called}
-use Rattle.osi_session.specs.Shown.{Shown}
-use Rattle.osi_stack.specs.Calls.{call_error}
-use Rattle.osi_stack.specs.Messages.{shown_of, all_waiting}
-use Rattle.osi_stack.specs.Moving.{line_by, by_line, to_session}
-use Rattle.osi_stack.specs.Runs.{quieted, hushed, put_back, account_of}
-use Rattle.osi_stack.specs.State.{Line, End}
+use Rattle.osi_stack.proofs.Vocabulary.{append-nil, Rows, value_at, put, Call as SessionCall, Input, Listener, called, Shown, call_error, shown_of, all_waiting, line_by, by_line, to_session, quieted, hushed, put_back, account_of, Line, End}
 use Rattle.osi_stack.proofs.Accounts.{made}
 use Rattle.osi_stack.proofs.Alike.{call_hushed, hush, quieted_value}
 use Rattle.osi_stack.proofs.Moves.{says_is}

@@ -1,23 +1,11 @@
 -- What an end does hangs on no octet that is to be carried: it comes to the same with others in front of
 -- these.
 use Rattle.std.proofs.Common.{◌≡◌, ℕ, zero, suc, Bool, true, false, List, [], ◌∷◌, length, Option, Some, None, is_some, refl, sym, ap, ◌∙◌, if◌then◌else◌}
-use Rattle.osi_carrier.proofs.InFront.{apart_all}
-use Rattle.osi_carrier.specs.Calls.{open_link, sent, closed_with, sent_all, send_all_error}
-use Rattle.osi_carrier.specs.Happenings.{Happening}
 use Rattle.osi_carrier.specs.Happenings as told
 use Rattle.osi_carrier.specs.Packets as carriers
-use Rattle.osi_carrier.specs.Rows.{value_at, put}
 use Rattle.osi_carrier.specs.Runs as runs
-use Rattle.osi_carrier.specs.Runs.Act.{packet, user}
-use Rattle.osi_carrier.specs.Runs.UserCall.{sends, closes}
-use Rattle.osi_carrier.specs.State.{State as Carrier}
-use Rattle.osi_carrier.specs.declared.faults.SendError.{SendError}
-use Rattle.osi_session.specs.Listening.{Input, Listener, opened, react}
-use Rattle.osi_stack.specs.Hearing.{opens, hears, hears_first, hears_next, hears_times, hears_all, with_events, with_carrier, all_lost, concludes, attends, after_packet}
-use Rattle.osi_stack.specs.Moving.{line_by, carrier_by, by_line, to_session}
-use Rattle.osi_stack.specs.Runs.{put_back}
-use Rattle.osi_stack.specs.State.{Line, End}
-use Rattle.osi_stack.specs.Transport.{sent_unless, answers_by}
+use Rattle.osi_carrier.specs.Runs.UserCall.{closes}
+use Rattle.osi_stack.proofs.Vocabulary.{apart_all, open_link, sent, closed_with, sent_all, send_all_error, Happening, value_at, put, packet, user, sends, State as Carrier, SendError, Input, Listener, opened, react, opens, hears, hears_first, hears_next, hears_times, hears_all, with_events, with_carrier, all_lost, concludes, attends, after_packet, line_by, carrier_by, by_line, to_session, put_back, Line, End, sent_unless, answers_by}
 use Rattle.osi_stack.proofs.Lifting.{packet_is}
 
 -- these octets stand in front

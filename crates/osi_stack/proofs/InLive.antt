@@ -1,23 +1,7 @@
 -- Two accounts that are the same but for lines of connections that are gone stay so, whatever comes.
 use Rattle.std.proofs.Common.{◌≡◌, ℕ, ◌==◌, Bool, true, false, ◌||◌, List, [], ◌∷◌, ◌++◌, Option, Some, None, is_some, refl, sym, ap, ◌∙◌, if◌then◌else◌}
-use Rattle.std.proofs.lemmas.Bool.{eqb-true, eq-eqb, or_right}
-use Rattle.osi_carrier.proofs.Effects.{orderly_same}
-use Rattle.osi_carrier.specs.Calls.{link_of}
-use Rattle.osi_carrier.specs.Orderly.{AreUpTo}
 use Rattle.osi_carrier.specs.Packets as carriers
-use Rattle.osi_carrier.specs.Rows.{Rows, value_at}
-use Rattle.osi_carrier.specs.State.{Connection, asked, State as Carrier}
-use Rattle.osi_carrier.specs.Told.{is_open}
-use Rattle.osi_carrier.proofs.Reacts.{none_of}
-use Rattle.osi_session.proofs.PhaseLaws.{implied}
-use Rattle.osi_session.specs.Listening.{Listener, broken, react}
-use Rattle.osi_session.specs.Phases.{is_wait_transport, may_abort, shows_loss}
-use Rattle.osi_session.specs.Shown.{Shown, Lost}
-use Rattle.osi_stack.specs.Hearing.{shown_at_loss, after_packet, with_carrier}
-use Rattle.osi_stack.specs.Links.{AreApart, HasAsked, IsSound}
-use Rattle.osi_stack.specs.Messages.{kept_at, all_waiting}
-use Rattle.osi_stack.specs.Runs.{quieted, hushed, put_back, live_lines, pruned, Account, account_of}
-use Rattle.osi_stack.specs.State.{Line, End, IsAttended, line_waits, session_in, waits}
+use Rattle.osi_stack.proofs.Vocabulary.{eqb-true, eq-eqb, or_right, orderly_same, link_of, AreUpTo, Rows, value_at, Connection, asked, State as Carrier, is_open, none_of, implied, Listener, broken, react, is_wait_transport, may_abort, shows_loss, Shown, Lost, shown_at_loss, after_packet, with_carrier, AreApart, HasAsked, IsSound, kept_at, all_waiting, quieted, hushed, put_back, live_lines, pruned, Account, account_of, Line, End, IsAttended, line_waits, session_in, waits}
 use Rattle.osi_stack.proofs.Accounts.{made}
 use Rattle.osi_stack.proofs.Alike.{quieted_at}
 use Rattle.osi_stack.proofs.Awaiting.{StillWaits, packet_asked}

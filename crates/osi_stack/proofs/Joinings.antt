@@ -1,23 +1,7 @@
 -- A session that has joined something has an open connection.
 use Rattle.std.proofs.Common.{◌≡◌, ℕ, ◌≤◌, true, List, length, Option, Some, None, is_some, refl, sym, subst, inl, inr, ◌⊎◌, arith}
-use Rattle.std.specs.Prelude.{IfSome}
-use Rattle.osi_carrier.specs.Rows.{Rows, value_at}
-use Rattle.osi_carrier.specs.Told.{is_open}
-use Rattle.osi_session.specs.Allowed.{most_data}
-use Rattle.osi_session.specs.Joining.{joined_octets}
 use Rattle.osi_session.specs.Kept.{IsKept}
-use Rattle.osi_session.specs.Listening.{Input, Listener, after_inputs}
-use Rattle.osi_session.specs.Phases.{may_hold}
-use Rattle.osi_session.specs.Sessions.{awaits}
-use Rattle.osi_session.specs.declared.phases.Phase.{Phase}
-use Rattle.osi_session.proofs.PhaseLaws.{implied}
-use Rattle.osi_stack.specs.Calls.{calls_with}
-use Rattle.osi_stack.specs.Folds.{CameAbout, AllCameAbout}
-use Rattle.osi_stack.specs.Links.{needs_link}
-use Rattle.osi_stack.specs.Messages.{kept_at}
-use Rattle.osi_stack.specs.Settled.{IsSettled}
-use Rattle.osi_stack.specs.State.{Line, End, session_in}
-use Rattle.osi_stack.specs.declared.connecting.Connect.{Connect}
+use Rattle.osi_stack.proofs.Vocabulary.{IfSome, Rows, value_at, is_open, most_data, joined_octets, Input, Listener, after_inputs, may_hold, awaits, Phase, implied, calls_with, CameAbout, AllCameAbout, needs_link, kept_at, IsSettled, Line, End, session_in, Connect}
 use Rattle.osi_stack.proofs.Folds.{at_line}
 
 pub record JoinedLaws : Type 0 where

@@ -1,22 +1,8 @@
 -- What sessions leave of the carrier as it was: the events that wait, and how it ended.
 use Rattle.std.proofs.Common.{◌≡◌, ℕ, List, Option, Some, None, is_some, refl, sym, ap, if◌then◌else◌, ◌∙◌, ◌∷◌, []}
-use Rattle.osi_carrier.specs.Calls.{open_link, link_of, sent_on, closes, closed_on, sent, closed_with}
-use Rattle.osi_carrier.specs.Happenings.{Happening}
 use Rattle.osi_carrier.specs.Happenings as told
-use Rattle.osi_carrier.specs.Packets.{is_spoilt}
-use Rattle.osi_carrier.specs.Rows.{value_at}
-use Rattle.osi_carrier.specs.State.{State as Carrier}
-use Rattle.osi_carrier.specs.declared.ends.EndReason.{EndReason}
-use Rattle.osi_class.specs.Link.{Standing as Link}
-use Rattle.osi_class.specs.declared.terms.Class.{Class}
-use Rattle.osi_class.specs.declared.terms.Class.TheVariants.{Zero, Two}
-use Rattle.osi_session.specs.Listening.{Input}
-use Rattle.osi_stack.specs.Hearing.{hears}
-use Rattle.osi_stack.specs.Moving.{to_session}
-use Rattle.osi_stack.specs.State.{End}
+use Rattle.osi_stack.proofs.Vocabulary.{open_link, link_of, sent_on, closes, closed_on, sent, closed_with, Happening, is_spoilt, value_at, State as Carrier, EndReason, Standing as Link, Class, Zero, Two, Input, hears, to_session, End, told_of, input_of}
 use Rattle.osi_stack.proofs.Stepwise.{Carries, session_carried, event_heard}
-use Rattle.osi_carrier.specs.Orderly.{told_of}
-use Rattle.osi_stack.specs.Inputs.{input_of}
 
 pub record Keeps (old new : Carrier) : Type 0 where
   pub events : new.events ≡ old.events

@@ -1,15 +1,6 @@
 -- What sessions have joined of unfinished SSDUs: as much for each live connection, whatever waits.
 use Rattle.std.proofs.Common.{◌≡◌, ◌≢◌, ℕ, ◌+◌, ◌≤◌, ◌<◌, ◌==◌, Bool, true, false, cond, [], ◌∷◌, length, Option, Some, None, is_some, IsSome, refl, ap, subst, arith, if◌then◌else◌}
-use Rattle.std.proofs.lemmas.List.Sums.{sum_by-cons, sum_by_push}
-use Rattle.std.specs.List.{sum_by}
-use Rattle.osi_carrier.specs.Calls.{kept_in}
-use Rattle.osi_carrier.specs.Orderly.{RiseFrom}
-use Rattle.osi_carrier.specs.Rows.{Rows, value_at, without}
-use Rattle.osi_carrier.specs.State.{Connection}
-use Rattle.osi_carrier.proofs.AtReferences.{without_other}
-use Rattle.osi_session.specs.Listening.{Listener}
-use Rattle.osi_stack.specs.Runs.{quieted}
-use Rattle.osi_stack.specs.State.{Line, End, Holding, joined_of, joined_live, joined_in, kept_octets, is_used, used_lines, fresh_line}
+use Rattle.osi_stack.proofs.Vocabulary.{sum_by-cons, sum_by_push, sum_by, kept_in, RiseFrom, Rows, value_at, without, Connection, without_other, Listener, quieted, Line, End, Holding, joined_of, joined_live, joined_in, kept_octets, is_used, used_lines, fresh_line}
 use Rattle.osi_stack.proofs.Linking.{used_by, joined_lines}
 
 -- ---- how many lines are of live connections

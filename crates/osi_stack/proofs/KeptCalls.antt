@@ -1,28 +1,10 @@
 -- A session whose connection is not live answers a call as if it were not there.
 use Rattle.std.proofs.Common.{◌≡◌, ℕ, Bool, true, false, not, Option, Some, None, Result, Ok, Err, is_some, IsSome, refl, sym, ap, subst, ◌∙◌, if◌then◌else◌}
-use Rattle.std.specs.Prelude.{OnOk, OnErr, IfErr}
-use Rattle.osi_tpkt.specs.Held.{Held}
-use Rattle.osi_carrier.specs.Packets.{Carrying}
-use Rattle.osi_carrier.specs.Rows.{Rows, value_at}
-use Rattle.osi_carrier.specs.State.{Connection, State as Carrier}
-use Rattle.osi_carrier.specs.Told.{is_open}
-use Rattle.osi_carrier.specs.declared.ends.EndReason.{EndReason}
 use Rattle.osi_carrier.proofs.ByStage.{no_link}
-use Rattle.osi_session.specs.Allowed.{allowed}
-use Rattle.osi_session.specs.Calls.{Call}
-use Rattle.osi_session.specs.Listening.{Listener, Move, called, answered, react}
-use Rattle.osi_session.specs.Phases.{is_wait_transport, is_over}
-use Rattle.osi_session.specs.Sizes.{limit_of}
-use Rattle.osi_session.specs.declared.faults.CallError.{CallError}
 use Rattle.osi_session.specs.declared.faults.CallError.TheVariants as error
-use Rattle.osi_session.specs.declared.phases.Phase.{Phase}
 use Rattle.osi_session.specs.declared.phases.Phase.TheVariants.{WaitTransport, WaitCn, Connecting, Answering, Ready, MajorAsked, MajorDue, Releasing, ReleaseDue, Restarting, RestartDue, Aborting, Ended}
 use Rattle.osi_session.specs.declared.state.State.{State}
-use Rattle.osi_stack.specs.Calls.{has_given, move_refusal, session_refusal, session_error, call_error, table_error, Refuses, by_rule}
-use Rattle.osi_stack.specs.Links.{needs_link}
-use Rattle.osi_stack.specs.Messages.{kept_at}
-use Rattle.osi_stack.specs.Settled.{IsSettled}
-use Rattle.osi_stack.specs.State.{Line, End, Holding, holding, session_in, session_at}
+use Rattle.osi_stack.proofs.Vocabulary.{OnOk, OnErr, IfErr, Held, Carrying, Rows, value_at, Connection, State as Carrier, is_open, EndReason, allowed, Call, Listener, Move, called, answered, react, is_wait_transport, is_over, limit_of, CallError, Phase, has_given, move_refusal, session_refusal, session_error, call_error, table_error, Refuses, by_rule, needs_link, kept_at, IsSettled, Line, End, Holding, holding, session_in, session_at}
 use Rattle.osi_stack.proofs.Settling.{answered_by_table}
 
 -- ---- a session that is over

@@ -1,25 +1,8 @@
 -- A live connection of which something may be shown has addresses.
 use Rattle.std.proofs.Common.{◌≡◌, ℕ, Bool, true, false, List, [], ◌∷◌, Option, Some, None, IsSome, is_some, option_map, refl, sym, ap, subst, ◌∙◌, if◌then◌else◌}
-use Rattle.std.specs.Prelude.{IfSome}
-use Rattle.osi_carrier.specs.Calls.{tsaps_at}
-use Rattle.osi_carrier.specs.Rows.{Rows, value_at}
-use Rattle.osi_carrier.specs.State.{TsapIds}
-use Rattle.osi_carrier.proofs.Naming.{known_is}
-use Rattle.osi_message.specs.Meanings.{Meaning, CN}
-use Rattle.osi_message.specs.Words.{Words, as_message}
-use Rattle.osi_session.specs.Calls.{Call}
 use Rattle.osi_session.specs.Causes.{unit_asks, asks_first, asks_for_connection, is_taken}
-use Rattle.osi_session.specs.Listening.{Input, Listener, called, taken, opened, refused, broken, came, react, after_input}
-use Rattle.osi_session.specs.Phases.{shows_loss}
 use Rattle.osi_session.specs.Shown.{shows_connect}
-use Rattle.osi_session.specs.declared.phases.Phase.{Phase}
-use Rattle.osi_stack.specs.Addresses.{addressed, selectors_in, addresses_at}
-use Rattle.osi_stack.specs.Calls.{has_given, phase_of, phase_at}
-use Rattle.osi_stack.specs.Folds.{IsNamed, AllNamed}
-use Rattle.osi_stack.specs.Moving.{line_by}
-use Rattle.osi_stack.specs.Selectors.{Selectors, selectors_of, selectors_said, selectors_told}
-use Rattle.osi_stack.specs.Settled.{IsSettled}
-use Rattle.osi_stack.specs.State.{Line, End, session_in, session_at}
+use Rattle.osi_stack.proofs.Vocabulary.{IfSome, tsaps_at, Rows, value_at, TsapIds, known_is, Meaning, CN, Words, as_message, Call, Input, Listener, called, taken, opened, refused, broken, came, react, after_input, shows_loss, Phase, addressed, selectors_in, addresses_at, has_given, phase_of, phase_at, IsNamed, AllNamed, line_by, Selectors, selectors_of, selectors_said, selectors_told, IsSettled, Line, End, session_in, session_at}
 use Rattle.osi_stack.proofs.OfLines.{LinesStay, line_at}
 
 -- what a user is shown first

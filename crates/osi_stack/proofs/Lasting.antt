@@ -1,24 +1,11 @@
 -- Where one list of pieces does not end an end, no other with the same octets does.
 use Rattle.std.proofs.Common.{◌≡◌, ℕ, ◌||◌, Bool, true, false, List, ◌∷◌, ◌++◌, take, Option, Some, None, is_some, refl, sym, ap, subst, ◌∙◌, ◌⊎◌, inl, inr, arith, append_assoc, []}
-use Rattle.std.proofs.lemmas.List.{append-nil, take_all}
-use Rattle.std.specs.List.{flat_map}
-use Rattle.osi_tpkt.specs.Packet.{IsPartial, IsFaultOf}
-use Rattle.osi_tpkt.specs.Stream.{ArePackets}
-use Rattle.osi_tpkt.specs.declared.cutting.Fed.{Fed}
-use Rattle.osi_tpkt.specs.declared.faults.TpktFault.{TpktFault}
-use Rattle.osi_carrier.proofs.Lasting.{PacketLaws, Parts, parts, no_fault, fault_behind, front_used, packets_over}
-use Rattle.osi_carrier.proofs.Reading.{packets_more}
-use Rattle.osi_carrier.specs.declared.ends.EndReason.{EndReason}
-use Rattle.osi_carrier.specs.declared.ends.EndReason.TheVariants.{NoMemory}
-use Rattle.osi_stack.specs.Feeding.{uses_all, StopsBehind, Refuses, FindsNoMemory, Goes, Feeds}
-use Rattle.osi_stack.specs.Hearing.{after_packet}
-use Rattle.osi_stack.specs.Runs.{Account, account_of, with_packet, with_packets, Call, Calls, CallsAlong, used_in, told_in, carried_in}
-use Rattle.osi_stack.specs.Runs.Call.{feeding, telling, carrying}
-use Rattle.osi_stack.specs.State.{End, Holding, waits}
+use Rattle.osi_stack.specs.Feeding.{Refuses}
+use Rattle.osi_stack.specs.Runs.{Call}
+use Rattle.osi_stack.proofs.Vocabulary.{append-nil, take_all, flat_map, IsPartial, IsFaultOf, ArePackets, Fed, TpktFault, PacketLaws, Parts, parts, no_fault, fault_behind, front_used, packets_over, packets_more, EndReason, NoMemory, uses_all, StopsBehind, FindsNoMemory, Goes, Feeds, after_packet, Account, account_of, with_packet, with_packets, Calls, CallsAlong, used_in, told_in, carried_in, feeding, telling, carrying, End, Holding, waits, none_of}
 use Rattle.osi_stack.proofs.Accounts.{account_packet, packets_apart, packets_done, with_joined}
 use Rattle.osi_stack.proofs.Lifting.{or_first, packets_append, never}
 use Rattle.osi_stack.proofs.Overs.{packet_over, starved_full}
-use Rattle.osi_carrier.proofs.Reacts.{none_of}
 use Rattle.osi_stack.proofs.Runs.{calls_read, reads_one, ReadsOne}
 
 -- ---- an end stays

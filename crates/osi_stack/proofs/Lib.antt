@@ -26,6 +26,7 @@ pub mod Answering
 pub mod Attending
 pub mod Rising
 pub mod Lowest
+mod Vocabulary
 pub mod Waiting
 pub mod Knowing
 pub mod Settling

@@ -1,13 +1,7 @@
 -- What packets that tell nothing do to an end, and what the last of them does.
 use Rattle.std.proofs.Common.{◌≡◌, ℕ, ◌||◌, Bool, true, false, List, ◌∷◌, ◌++◌, Option, Some, None, is_some, refl, sym, ap, subst, ◌∙◌, if◌then◌else◌, []}
-use Rattle.osi_tpkt.specs.Stream.{ArePackets}
 use Rattle.osi_carrier.specs.Packets as carriers
-use Rattle.osi_carrier.specs.Rows.{Rows}
-use Rattle.osi_carrier.specs.State.{State as Carrier}
-use Rattle.osi_carrier.specs.declared.ends.EndReason.{EndReason}
-use Rattle.osi_stack.specs.Feeding.{stops, TakesPackets}
-use Rattle.osi_stack.specs.Hearing.{attends, after_packet, with_carrier, all_lost, concludes}
-use Rattle.osi_stack.specs.State.{Line, End, waits}
+use Rattle.osi_stack.proofs.Vocabulary.{ArePackets, Rows, State as Carrier, EndReason, stops, TakesPackets, attends, after_packet, with_carrier, all_lost, concludes, Line, End, waits}
 use Rattle.osi_stack.proofs.Events.{no_events, all_quiet}
 
 pub both : {A : Type 0} (b : Bool) → b ≡ true → b ≡ false → A

@@ -1,42 +1,12 @@
 -- Sessions keep transport connections that are open, whatever is heard.
 use Rattle.std.proofs.Common.{◌≡◌, ◌≢◌, ℕ, zero, suc, ◌==◌, Bool, true, false, not, ◌&&◌, ◌||◌, List, ◌∷◌, ◌++◌, length, Option, Some, None, is_some, IsSome, option_map, Result, Ok, Err, refl, sym, ap, subst, ◌∙◌, inl, inr, ◌⊎◌, if◌then◌else◌, []}
-use Rattle.std.proofs.lemmas.Bool.{ne_eqb, eqb-true, eq-eqb, or_right}
-use Rattle.std.proofs.Math.Bool.{or-false, and-true}
-use Rattle.osi_carrier.specs.Calls.{open_link, link_of, sent, sent_on, closes, closed_on, closed_with, sent_all, send_all_error}
-use Rattle.osi_carrier.specs.Happenings.{Happening}
 use Rattle.osi_carrier.specs.Happenings as told
-use Rattle.osi_carrier.specs.Rows.{Rows, value_at, put}
-use Rattle.osi_carrier.specs.State.{Connection, closing, State as Carrier}
-use Rattle.osi_carrier.specs.Told.{is_open, open_after}
-use Rattle.osi_carrier.specs.declared.faults.SendError.{SendError}
-use Rattle.osi_carrier.proofs.Apart.{put_here, push_here}
-use Rattle.osi_carrier.proofs.AtReferences.{put_other, push_other, put_none}
-use Rattle.osi_carrier.proofs.Places.{put_same}
-use Rattle.osi_carrier.specs.Orderly.{told_of}
-use Rattle.osi_carrier.proofs.ToldOpen.{sent_opens, closed_opens}
-use Rattle.osi_class.specs.Link.{Standing as Link}
-use Rattle.osi_class.specs.declared.terms.Class.{Class}
-use Rattle.osi_class.specs.declared.terms.Class.TheVariants.{Zero}
-use Rattle.osi_session.specs.Listening.{Input, Listener, opened, refused, broken, came, came_as, react}
-use Rattle.osi_message.specs.Reading.{said_at}
-use Rattle.osi_message.specs.Words.{Words}
-use Rattle.osi_spdu.specs.declared.faults.SpduFault.{SpduFault}
-use Rattle.osi_session.specs.Phases.{is_ended}
-use Rattle.osi_session.specs.Sessions.{awaits}
-use Rattle.osi_session.specs.declared.phases.Phase.{Phase}
-use Rattle.osi_stack.specs.Hearing.{opens, hears, hears_first, hears_next, hears_times, with_events, loses, all_lost}
-use Rattle.osi_stack.specs.Links.{needs_link, AreApart}
-use Rattle.osi_stack.specs.Messages.{kept_at}
-use Rattle.osi_message.specs.Parting.{tsdus_sent}
-use Rattle.osi_stack.specs.Moving.{limit_for, line_by, carrier_by, by_line, to_session}
-use Rattle.osi_stack.specs.State.{Line, End, session_in, line_waits, is_used, used_lines, joins, fresh_line}
-use Rattle.osi_stack.specs.Transport.{sent_unless, answers_by}
+use Rattle.osi_stack.proofs.Vocabulary.{ne_eqb, eqb-true, eq-eqb, or_right, or-false, and-true, open_link, link_of, sent, sent_on, closes, closed_on, closed_with, sent_all, send_all_error, Happening, Rows, value_at, put, Connection, closing, State as Carrier, is_open, open_after, SendError, put_here, push_here, put_other, push_other, put_none, put_same, told_of, sent_opens, closed_opens, Standing as Link, Class, Zero, Input, Listener, opened, refused, broken, came, came_as, react, said_at, Words, SpduFault, is_ended, awaits, Phase, opens, hears, hears_first, hears_next, hears_times, with_events, loses, all_lost, needs_link, AreApart, kept_at, tsdus_sent, limit_for, line_by, carrier_by, by_line, to_session, Line, End, session_in, line_waits, is_used, used_lines, joins, fresh_line, sent_unless, answers_by, input_of}
 use Rattle.osi_stack.proofs.Keeping.{hears_keep}
 use Rattle.osi_stack.proofs.Lifting.{both}
 use Rattle.osi_stack.proofs.Moves.{lost_at, at_row, used_keep}
 pub use Rattle.osi_stack.proofs.Moves.{used_by}
 use Rattle.osi_stack.proofs.Stepwise.{event_heard, events_heard, Hears}
-use Rattle.osi_stack.specs.Inputs.{input_of}
 
 -- what the tables of sessions say
 pub record SessionLaws : Type 0 where

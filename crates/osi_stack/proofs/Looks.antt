@@ -1,25 +1,8 @@
 -- What is seen of two ends that are the same but for lines of connections that are gone; and where a break is
 -- found.
 use Rattle.std.proofs.Common.{◌≡◌, ℕ, Bool, true, false, not, List, [], ◌∷◌, ◌++◌, length, Option, Some, None, is_some, IsSome, refl, sym, ap, subst, ◌∙◌, arith, if◌then◌else◌}
-use Rattle.std.proofs.lemmas.List.Concat.{flat_map-append}
-use Rattle.std.proofs.lemmas.List.Sums.{sum_by-cons}
-use Rattle.std.specs.List.{flat_map}
-use Rattle.osi_tpkt.specs.Held.{Held}
-use Rattle.osi_carrier.specs.Calls.{kept_in}
-use Rattle.osi_carrier.specs.Rows.{Rows, value_at}
-use Rattle.osi_carrier.specs.State.{Connection}
-use Rattle.osi_carrier.specs.declared.ends.EndReason.TheVariants.{Broken}
-use Rattle.osi_carrier.proofs.Reacts.{none_of}
-use Rattle.osi_session.specs.Calls.{Call as SessionCall}
-use Rattle.osi_session.specs.Listening.{Listener}
-use Rattle.osi_session.specs.Shown.{Shown}
-use Rattle.osi_session.specs.declared.faults.CallError.TheVariants.{NoSuchConnection}
-use Rattle.osi_stack.specs.Calls.{has_given, connect_error, call_error, session_refusal, phase_of, phase_at, breaks}
-use Rattle.osi_stack.specs.Hearing.{ends, shown_at_loss, all_lost}
-use Rattle.osi_stack.specs.Messages.{kept_at, shown_of, all_waiting}
-use Rattle.osi_stack.specs.Runs.{quieted, hushed, put_back, live_lines, pruned, Account, account_of, Call, CallsAlong, told_of, told_in, carried_in, AreAlikeInLive, LookAlike}
-use Rattle.osi_stack.specs.Settled.{IsSettled}
-use Rattle.osi_stack.specs.State.{Line, End, Holding, session_in, session_at, joined_of, joined_live, joined_in}
+use Rattle.osi_stack.specs.Runs.{Call, told_of}
+use Rattle.osi_stack.proofs.Vocabulary.{flat_map-append, sum_by-cons, flat_map, Held, kept_in, Rows, value_at, Connection, Broken, none_of, Call as SessionCall, Listener, Shown, NoSuchConnection, has_given, connect_error, call_error, session_refusal, phase_of, phase_at, breaks, ends, shown_at_loss, all_lost, kept_at, shown_of, all_waiting, quieted, hushed, put_back, live_lines, pruned, Account, account_of, CallsAlong, told_in, carried_in, AreAlikeInLive, LookAlike, IsSettled, Line, End, Holding, session_in, session_at, joined_of, joined_live, joined_in}
 use Rattle.osi_stack.proofs.Accounts.{after_more, account_joined}
 use Rattle.osi_stack.proofs.Alike.{quieted_at, call_apart, call_hushed, look_alike}
 use Rattle.osi_stack.proofs.Breaking.{lost_told}

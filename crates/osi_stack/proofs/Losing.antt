@@ -1,14 +1,6 @@
 -- Sessions that are lost.
 use Rattle.std.proofs.Common.{◌≡◌, ℕ, ◌+◌, ◌<◌, ◌==◌, zero, suc, Bool, true, false, List, [], ◌∷◌, ◌++◌, length, take, drop, map, get_or, set, arith, Some, None, Result, Ok, Err, OnErr, refl, sym, ap, ◌∙◌, if◌then◌else◌}
-use Rattle.std.proofs.lemmas.List.{append-nil, map-append}
-use Rattle.osi_carrier.proofs.Places.{placed, here_is}
-use Rattle.osi_carrier.specs.Rows.{Rows, value_at, place_of, put}
-use Rattle.osi_session.specs.Listening.{Listener, broken, react}
-use Rattle.osi_session.specs.Phases.{shows_loss}
-use Rattle.osi_session.specs.Shown.{Shown, Lost, shown_by}
-use Rattle.osi_session.specs.declared.indications.Indication.{Indication}
-use Rattle.osi_stack.specs.Hearing.{shown_at_loss, loses, all_lost}
-use Rattle.osi_stack.specs.State.{Line}
+use Rattle.osi_stack.proofs.Vocabulary.{append-nil, map-append, placed, here_is, Rows, value_at, place_of, put, Listener, broken, react, shows_loss, Shown, Lost, shown_by, Indication, shown_at_loss, loses, all_lost, Line}
 
 -- what a session shows when it is lost
 lost_shown : (s : Listener) → (react s broken).shown ≡ (if shows_loss s.state.phase then Lost ∷ [] else [])

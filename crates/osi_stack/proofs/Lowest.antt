@@ -1,14 +1,6 @@
 -- What is told first, where the lines stand in the order of their references.
 use Rattle.std.proofs.Common.{◌≡◌, ℕ, ◌≤◌, ◌==◌, Bool, true, false, List, [], ◌∷◌, Option, Some, None, refl, sym, ap, ◌∙◌, arith}
-use Rattle.std.proofs.lemmas.Bool.{eqb-true, eq-eqb}
-use Rattle.osi_carrier.proofs.Apart.{absent}
-use Rattle.osi_carrier.specs.Orderly.{RiseFrom}
-use Rattle.osi_carrier.specs.Rows.{Rows, value_at}
-use Rattle.osi_session.specs.Shown.{Shown}
-use Rattle.osi_stack.specs.Calls.{first_by, first_shown, rest_by, without_first}
-use Rattle.osi_stack.specs.Messages.{kept_at, waiting_of, waiting_at}
-use Rattle.osi_stack.specs.Ordered.{IsLowest, TellsLowest}
-use Rattle.osi_stack.specs.State.{Line}
+use Rattle.osi_stack.proofs.Vocabulary.{eqb-true, eq-eqb, absent, RiseFrom, Rows, value_at, Shown, first_by, first_shown, rest_by, without_first, kept_at, waiting_of, waiting_at, IsLowest, TellsLowest, Line}
 use Rattle.osi_stack.proofs.Linking.{unlike}
 
 -- ---- one line in front

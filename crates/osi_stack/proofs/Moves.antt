@@ -1,48 +1,15 @@
 -- What a session that makes a move leaves, and a message that arrives.
 use Rattle.std.proofs.Common.{◌≡◌, ℕ, suc, ◌≤◌, ◌==◌, Bool, true, false, not, ◌||◌, List, [], ◌∷◌, ◌++◌, length, nat_lt, Option, Some, None, is_some, IsSome, option_map, Result, Ok, Err, refl, sym, ap, subst, ◌∙◌, arith, if◌then◌else◌}
-use Rattle.std.proofs.lemmas.Bool.{eqb-true}
-use Rattle.std.proofs.lemmas.Bool.Decides.{nat_tests}
-use Rattle.std.specs.List.{list_any}
-use Rattle.osi_tpdu.specs.Value.{Value}
-use Rattle.osi_carrier.specs.Calls.{send_all_error, open_link}
 use Rattle.osi_carrier.specs.Place.{Place, never, was_given}
-use Rattle.osi_carrier.specs.Happenings.{Happening}
 use Rattle.osi_carrier.specs.Happenings as told
 use Rattle.osi_carrier.specs.React as carriers
-use Rattle.osi_carrier.specs.Rows.{Rows, value_at, put}
-use Rattle.osi_carrier.specs.State.{Connection, asked, linked, closing, State as Carrier}
-use Rattle.osi_carrier.proofs.Apart.{put_here}
-use Rattle.osi_carrier.proofs.AtReferences.{put_other}
-use Rattle.osi_class.specs.Link.{Standing as Link}
-use Rattle.osi_message.specs.Meanings.{Meaning}
-use Rattle.osi_message.specs.Reading.{said_by_units, said_at, said_if_read}
-use Rattle.osi_spdu.specs.Known.{Units}
-use Rattle.osi_spdu.specs.declared.faults.SpduFault.{SpduFault}
-use Rattle.osi_message.specs.Sendable.{words_of, IsSendable}
-use Rattle.osi_message.specs.Parting.{words_sent, tsdus_of, tsdus_sent, behind_no_token}
-use Rattle.osi_message.specs.Words.{part_octets}
 use Rattle.osi_message.specs.Words as words
-use Rattle.osi_message.specs.Written.{written, spelled}
-use Rattle.osi_message.specs.declared.places.Place.{Place as PartPlace}
-use Rattle.osi_spdu.specs.Reading.{tsdu_at}
-use Rattle.osi_session.specs.Listening.{Input, Listener, Move, called, opened, refused, broken, taken, came, came_as, answered, react}
-use Rattle.osi_session.specs.Sessions.{awaits}
-use Rattle.osi_session.specs.Sizes.{limit_of}
-use Rattle.osi_session.specs.Shown.{Shown}
-use Rattle.osi_stack.specs.Calls.{first_shown, first_by, without_first, rest_by, has_given, send_refusal, move_refusal, session_refusal, call_error}
-use Rattle.osi_stack.specs.Coming.{carries_out, after_unit}
-use Rattle.osi_stack.specs.Hearing.{opens, hears, hears_times, hears_first, hears_all, with_events, concludes, attends, shown_at_loss, loses, all_lost}
-use Rattle.osi_stack.specs.Messages.{Message, unit, part, ask, agree, deny, bye, over, IsWhole, put_by, puts, Acts, Effect, begins, happens, rests, effect_at, told_at, HasSession, AreShort, IsShort, CanHear, Hears, told_all, Arrives, kept_at, waiting_of, Becomes, IsGranted, Says, AreLost, shown_of, all_waiting, IsFirstOf}
-use Rattle.osi_stack.specs.Moving.{limit_for, line_by, carrier_by, by_line, to_session}
-use Rattle.osi_stack.specs.State.{Line, End, session_in, session_at, line_waits, waits, is_used, used_lines, joins}
-use Rattle.osi_stack.specs.Transport.{answers_by}
+use Rattle.osi_stack.specs.Messages.{part}
+use Rattle.osi_stack.proofs.Vocabulary.{eqb-true, nat_tests, list_any, Value, send_all_error, open_link, Happening, Rows, value_at, put, Connection, asked, linked, closing, State as Carrier, put_here, put_other, Standing as Link, Meaning, said_by_units, said_at, said_if_read, Units, SpduFault, words_of, IsSendable, words_sent, tsdus_of, tsdus_sent, behind_no_token, part_octets, written, spelled, Place as PartPlace, tsdu_at, Input, Listener, Move, called, opened, refused, broken, taken, came, came_as, answered, react, awaits, limit_of, Shown, first_shown, first_by, without_first, rest_by, has_given, send_refusal, move_refusal, session_refusal, call_error, carries_out, after_unit, opens, hears, hears_times, hears_first, hears_all, with_events, concludes, attends, shown_at_loss, loses, all_lost, Message, unit, ask, agree, deny, bye, over, IsWhole, put_by, puts, Acts, Effect, begins, happens, rests, effect_at, told_at, HasSession, AreShort, IsShort, CanHear, Hears, told_all, Arrives, kept_at, waiting_of, Becomes, IsGranted, Says, AreLost, shown_of, all_waiting, IsFirstOf, limit_for, line_by, carrier_by, by_line, to_session, Line, End, session_in, session_at, line_waits, waits, is_used, used_lines, joins, answers_by, Answer, allowed, Call, CallError}
 use Rattle.osi_stack.proofs.Handing.{hands_none, handed, puts_words}
 use Rattle.osi_stack.proofs.Events.{all_quiet}
 use Rattle.osi_stack.proofs.FirstShown.{quiet_line}
 use Rattle.osi_stack.proofs.Lifting.{or_first, or_second}
-use Rattle.osi_session.specs.Allowed.{Answer, allowed}
-use Rattle.osi_session.specs.Calls.{Call}
-use Rattle.osi_session.specs.declared.faults.CallError.{CallError}
 use Rattle.osi_session.specs.declared.faults.CallError.TheVariants as error
 
 -- ---- what a session puts

@@ -1,29 +1,9 @@
 -- What needs memory shows, sends or keeps something.
 use Rattle.std.proofs.Common.{◌≡◌, ℕ, ◌||◌, ◌&&◌, not, Bool, true, false, List, [], ◌∷◌, length, map, get_or, nat_lt, Option, Some, None, is_some, is_none, option_map, unwrap_or, Result, OnErr, refl, sym, ap, subst, ◌∙◌, inl, inr, arith}
-use Rattle.std.proofs.lemmas.Bool.{or_right, or_left}
-use Rattle.osi_tpdu.specs.Value.{disconnect}
-use Rattle.osi_class.specs.Link.{Standing}
-use Rattle.osi_class.specs.declared.terms.Class.{Class}
-use Rattle.osi_class.specs.declared.terms.Class.TheVariants.{Zero, Two}
 use Rattle.osi_carrier.proofs.Growing.{written_grows, or_cases}
-use Rattle.osi_carrier.proofs.Places.{placed}
-use Rattle.osi_carrier.specs.Calls.{closes, closed_on, closed_with, close_error, open_link}
 use Rattle.osi_carrier.specs.Growth.{grows}
-use Rattle.osi_carrier.specs.Rows.{Rows, value_at, place_of}
-use Rattle.osi_carrier.specs.State.{State as Carrier}
-use Rattle.osi_message.specs.Meanings.{Meaning}
-use Rattle.osi_message.specs.Parting.{in_one}
-use Rattle.osi_session.specs.Joining.{joined_octets}
-use Rattle.osi_session.specs.Listening.{Input, Listener, Move, react}
 use Rattle.osi_session.specs.Respond.{is_nil}
-use Rattle.osi_session.specs.Sessions.{is_quiet, takes_memory}
-use Rattle.osi_session.specs.Shown.{Shown, shown_by}
-use Rattle.osi_session.specs.declared.indications.Indication.{Indication}
-use Rattle.osi_stack.specs.Needs.{session_needs}
-use Rattle.osi_stack.specs.State.{Line, session_in}
-use Rattle.osi_stack.specs.Telling.{told_input}
-use Rattle.osi_stack.specs.Transport.{answers_by}
-use Rattle.osi_stack.specs.declared.told.Told.{Told}
+use Rattle.osi_stack.proofs.Vocabulary.{or_right, or_left, disconnect, Standing, Class, Zero, Two, placed, closes, closed_on, closed_with, close_error, open_link, Rows, value_at, place_of, State as Carrier, Meaning, in_one, joined_octets, Input, Listener, Move, react, is_quiet, takes_memory, Shown, shown_by, Indication, session_needs, Line, session_in, told_input, answers_by, Told}
 use Rattle.osi_stack.proofs.Found.{session_here}
 use Rattle.osi_stack.proofs.Handing.{answer_heard}
 

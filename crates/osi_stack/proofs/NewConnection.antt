@@ -1,14 +1,6 @@
 -- What an end is once a connection was asked for, from what each step of asking did.
 use Rattle.std.proofs.Common.{◌≡◌, ◌∙◌, ℕ, ◌+◌, [], ◌∷◌, ◌++◌, option_map, ap}
-use Rattle.osi_tpdu.specs.Limits.{tsap_octets}
-use Rattle.osi_tpkt.specs.Held.{Held}
-use Rattle.osi_carrier.specs.Calls.{asks}
-use Rattle.osi_carrier.specs.Rows.{Rows}
-use Rattle.osi_carrier.specs.State.{State as Carrier}
-use Rattle.osi_session.specs.Listening.{Listener}
-use Rattle.osi_stack.specs.Calls.{connects, calls_with}
-use Rattle.osi_stack.specs.State.{Line, Holding, used_lines, fresh_line}
-use Rattle.osi_stack.specs.declared.connecting.Connect.{Connect}
+use Rattle.osi_stack.proofs.Vocabulary.{tsap_octets, Held, asks, Rows, State as Carrier, Listener, connects, calls_with, Line, Holding, used_lines, fresh_line, Connect}
 
 abbrev begins_with : ℕ → Listener → ℕ × Line
 begins_with r session = (r, fresh_line session)

@@ -1,26 +1,11 @@
 -- What is true of each line of an end stays so, whatever is called and fed.
 use Rattle.std.proofs.Common.{◌≡◌, ℕ, ◌+◌, ◌==◌, Bool, true, false, ◌||◌, List, ◌∷◌, ◌++◌, length, Option, Some, None, refl, sym, subst, ◌∙◌, inl, inr, ◌⊎◌, if◌then◌else◌, []}
-use Rattle.osi_tpkt.specs.declared.cutting.Fed.{Fed}
-use Rattle.osi_carrier.specs.Happenings.{Happening}
 use Rattle.osi_carrier.specs.Happenings as told
 use Rattle.osi_carrier.specs.Packets as carriers
-use Rattle.osi_carrier.specs.Rows.{Rows, value_at, put}
-use Rattle.osi_carrier.specs.State.{Connection}
-use Rattle.osi_session.specs.Listening.{Input, opened, refused, broken, came}
-use Rattle.osi_session.specs.Sessions.{awaits}
-use Rattle.osi_session.specs.Shown.{Shown}
-use Rattle.osi_stack.specs.Calls.{calls_with, connects, breaks, without_first}
-use Rattle.osi_stack.specs.Feeding.{Feeds}
-use Rattle.osi_stack.specs.Folds.{OfLines}
-use Rattle.osi_stack.specs.Hearing.{hears_times, hears_all, with_events, with_carrier, attends, after_packet, loses, all_lost, Starves}
-use Rattle.osi_stack.specs.Moving.{line_by, by_line, to_session}
-use Rattle.osi_stack.specs.State.{Line, End, Holding, used_lines, fresh_line}
-use Rattle.osi_stack.specs.declared.connecting.Connect.{Connect}
+use Rattle.osi_stack.proofs.Vocabulary.{Fed, Happening, Rows, value_at, put, Connection, Input, opened, refused, broken, came, awaits, Shown, calls_with, connects, breaks, without_first, Feeds, OfLines, hears_times, hears_all, with_events, with_carrier, attends, after_packet, loses, all_lost, Starves, line_by, by_line, to_session, Line, End, Holding, used_lines, fresh_line, Connect, told_of, input_of}
 use Rattle.osi_stack.proofs.Lifting.{packet_is}
 use Rattle.osi_stack.proofs.Stepwise.{events_heard, concluded_end, broken_end}
 use Rattle.osi_stack.proofs.Throughout.{feeds_kept}
-use Rattle.osi_carrier.specs.Orderly.{told_of}
-use Rattle.osi_stack.specs.Inputs.{input_of}
 use Rattle.osi_stack.proofs.Moves.{used_keep, first_keep}
 
 -- ---- what stays true of a line

@@ -1,27 +1,15 @@
 -- Which connections units open: those that were asked for, and at a called end new ones. One that was asked for is
 -- so until its user is told that it is agreed to, or denied.
 use Rattle.std.proofs.Common.{◌≡◌, ◌≢◌, ℕ, ◌+◌, ◌<◌, ◌≤◌, ◌==◌, Bool, true, false, List, [], ◌∷◌, ◌++◌, take, nat_le, Option, Some, None, Result, Ok, Err, is_some, IsSome, refl, sym, ap, subst, ◌∙◌, inl, inr, ◌⊎◌, arith, append_assoc, if◌then◌else◌}
-use Rattle.std.proofs.lemmas.Bool.{eqb-true, eq-eqb, or_left}
-use Rattle.std.proofs.lemmas.Bool.Decides.{nat_tests}
-use Rattle.std.proofs.lemmas.List.{append-nil}
-use Rattle.std.specs.List.{AllByRecursion}
-use Rattle.osi_tpdu.specs.Value.{Value, Connect, request, confirm, disconnect, disconnected, data0, data2, acknowledge, error}
-use Rattle.osi_class.specs.Link.{Standing, taken}
+use Rattle.osi_tpdu.specs.Value.{Connect}
+use Rattle.osi_class.specs.Link.{taken}
 use Rattle.osi_class.specs.Negotiation.{Selection, accept, refuse, selected_by}
 use Rattle.osi_class.specs.declared.faults.LinkFault.{LinkFault}
-use Rattle.osi_class.specs.declared.terms.Class.{Class}
-use Rattle.osi_class.specs.declared.terms.Class.TheVariants.{Zero, Two}
-use Rattle.osi_carrier.specs.Happenings.{Happening, opened, refused, tsdu, closed, faulted}
+use Rattle.osi_carrier.specs.Happenings.{opened, refused}
 use Rattle.osi_carrier.specs.Negotiation.{confirmed}
-use Rattle.osi_carrier.specs.Orderly.{RiseFrom, told_of, IsOrderly}
-use Rattle.osi_carrier.specs.React.{denies, answers, is_full, has_peer, answers_request, to_unknown, opens, to_asked, tells_of, taking, breaks, leaves, to_linked, to_closing, to_connection, to_reference, before_class, to_only, in_zero, in_two, in_class, react, react_by, reacts}
-use Rattle.osi_carrier.specs.Rows.{Rows, value_at, put, without}
-use Rattle.osi_carrier.specs.State.{Connection, asked, linked, closing, State, drops, ends}
-use Rattle.osi_carrier.specs.declared.ends.EndReason.{EndReason}
-use Rattle.osi_carrier.proofs.Apart.{put_here, without_here, beyond}
-use Rattle.osi_carrier.proofs.AtReferences.{put_other, without_other, put_none, push_other}
-use Rattle.osi_carrier.proofs.Effects.{stays_gone, orderly_unit}
-use Rattle.osi_carrier.proofs.Reacts.{react_over}
+use Rattle.osi_carrier.specs.React.{answers, opens, breaks, react}
+use Rattle.osi_carrier.specs.State.{ends}
+use Rattle.osi_stack.proofs.Vocabulary.{eqb-true, eq-eqb, or_left, nat_tests, append-nil, AllByRecursion, Value, request, confirm, disconnect, disconnected, data0, data2, acknowledge, error, Standing, Class, Zero, Two, Happening, tsdu, closed, faulted, RiseFrom, told_of, IsOrderly, denies, is_full, has_peer, answers_request, to_unknown, to_asked, tells_of, taking, leaves, to_linked, to_closing, to_connection, to_reference, before_class, to_only, in_zero, in_two, in_class, react_by, reacts, Rows, value_at, put, without, Connection, asked, linked, closing, State, drops, EndReason, put_here, without_here, beyond, put_other, without_other, put_none, push_other, stays_gone, orderly_unit, react_over}
 use Rattle.osi_stack.proofs.Answered.{answered, answered_front, answered_behind}
 use Rattle.osi_stack.proofs.Soundness.{units_rise, up_at}
 use Rattle.osi_stack.proofs.Lifting.{both}

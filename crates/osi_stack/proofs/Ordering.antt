@@ -1,39 +1,10 @@
 -- The lines of an end stand in the order of their references, whatever packets come.
 use Rattle.std.proofs.Common.{◌≡◌, ◌≢◌, ℕ, zero, suc, ◌+◌, ◌<◌, ◌≤◌, ◌==◌, Bool, true, false, ◌||◌, not, List, ◌∷◌, ◌++◌, length, Option, Some, None, Result, Ok, Err, is_some, IsSome, refl, sym, ap, subst, ◌∙◌, inl, inr, ◌⊎◌, arith, if◌then◌else◌, []}
-use Rattle.std.proofs.lemmas.Bool.{eqb-true, eq-eqb}
-use Rattle.osi_tpkt.specs.declared.cutting.Fed.{Fed}
-use Rattle.osi_tpdu.specs.Packet.{units_of}
-use Rattle.osi_tpdu.specs.Value.{Value}
-use Rattle.osi_tpdu.specs.declared.faults.TpduFault.{TpduFault}
-use Rattle.osi_class.specs.Link.{Standing as Link}
-use Rattle.osi_class.specs.declared.terms.Class.{Class}
-use Rattle.osi_class.specs.declared.terms.Class.TheVariants.{Zero}
-use Rattle.osi_class.specs.declared.terms.Local.{Local}
-use Rattle.osi_carrier.specs.Calls.{open_link, may_connect, sent_on, closes, closed_on, sent, closed_with}
-use Rattle.osi_carrier.specs.Happenings.{Happening, opened, refused, tsdu, closed, faulted}
-use Rattle.osi_carrier.specs.Orderly.{RiseFrom, AreUpTo, IsOrderly, told_of}
+use Rattle.osi_carrier.specs.Happenings.{opened, refused}
 use Rattle.osi_carrier.specs.Packets as carriers
-use Rattle.osi_carrier.specs.React.{reacts}
-use Rattle.osi_carrier.specs.Rows.{Rows, value_at}
-use Rattle.osi_carrier.specs.State.{Connection, asked, closing, State as Carrier, ends as carrier_ends}
-use Rattle.osi_carrier.specs.declared.ends.EndReason.{EndReason}
-use Rattle.osi_carrier.specs.declared.ends.EndReason.TheVariants.{Broken, NoMemory}
-use Rattle.osi_carrier.specs.declared.faults.OpenError.{OpenError}
+use Rattle.osi_carrier.specs.State.{ends as carrier_ends}
 use Rattle.osi_carrier.specs.declared.faults.OpenError.TheVariants.{NotCaller}
-use Rattle.osi_carrier.proofs.Apart.{beyond, push_here}
-use Rattle.osi_carrier.proofs.AtReferences.{push_other}
-use Rattle.osi_carrier.proofs.Effects.{free_of}
-use Rattle.osi_carrier.proofs.Reacts.{none_of}
-use Rattle.osi_session.specs.Listening.{Input, opened as linked_up}
-use Rattle.osi_session.specs.Sessions.{awaits}
-use Rattle.osi_stack.specs.Calls.{calls_with, connects, connect_error, terms_error, breaks, carried, without_first}
-use Rattle.osi_stack.specs.Feeding.{Feeds}
-use Rattle.osi_stack.specs.Hearing.{opens, hears, hears_next, hears_times, hears_all, with_events, with_carrier, attends, after_packet, ends, starves, loses, all_lost, Starves}
-use Rattle.osi_stack.specs.Links.{AreApart, Soundness, IsSound}
-use Rattle.osi_stack.specs.Moving.{line_by, by_line, to_session}
-use Rattle.osi_stack.specs.Ordered.{IsOrdered}
-use Rattle.osi_stack.specs.State.{Line, End, Holding, IsAttended, fresh_end, used_lines, fresh_line}
-use Rattle.osi_stack.specs.declared.connecting.Connect.{Connect}
+use Rattle.osi_stack.proofs.Vocabulary.{eqb-true, eq-eqb, Fed, units_of, Value, TpduFault, Standing as Link, Class, Zero, Local, open_link, may_connect, sent_on, closes, closed_on, sent, closed_with, Happening, tsdu, closed, faulted, RiseFrom, AreUpTo, IsOrderly, told_of, reacts, Rows, value_at, Connection, asked, closing, State as Carrier, EndReason, Broken, NoMemory, OpenError, beyond, push_here, push_other, free_of, none_of, Input, opened as linked_up, awaits, calls_with, connects, connect_error, terms_error, breaks, carried, without_first, Feeds, opens, hears, hears_next, hears_times, hears_all, with_events, with_carrier, attends, after_packet, ends, starves, loses, all_lost, Starves, AreApart, Soundness, IsSound, line_by, by_line, to_session, IsOrdered, Line, End, Holding, IsAttended, fresh_end, used_lines, fresh_line, Connect, input_of}
 use Rattle.osi_stack.proofs.Events.{times_quiet}
 use Rattle.osi_stack.proofs.Lifting.{both, packet_is}
 use Rattle.osi_stack.proofs.Linking.{SessionLaws, first_is, rest_is, used_at, apart_push, joined_lines, put_some}
@@ -42,7 +13,6 @@ use Rattle.osi_stack.proofs.Rising.{rise_joins, rise_lost, rise_first, rise_sess
 use Rattle.osi_stack.proofs.Soundness.{up_more, open_none, session_up, hale_kept, IsHale}
 use Rattle.osi_stack.proofs.Stepwise.{Carries, session_carried, events_heard, concluded_end, broken_end}
 use Rattle.osi_stack.proofs.Throughout.{IsKeptBeside, feeds_beside}
-use Rattle.osi_stack.specs.Inputs.{input_of}
 use Rattle.osi_stack.proofs.Moves.{used_keep, first_keep}
 
 -- ---- what sessions leave of the carrier

@@ -1,23 +1,8 @@
 -- The parts of one Data do to an end what the whole does, whatever calls come between.
 use Rattle.std.proofs.Common.{◌≡◌, ℕ, ◌==◌, Bool, true, false, List, [], ◌∷◌, ◌++◌, map, Option, Some, None, refl, sym, ap, ◌∙◌, if◌then◌else◌}
-use Rattle.std.proofs.lemmas.List.{append-nil}
-use Rattle.osi_carrier.specs.Rows.{Rows, value_at, put}
-use Rattle.osi_carrier.specs.State.{State as Carrier}
-use Rattle.osi_carrier.proofs.Apart.{put_here}
-use Rattle.osi_carrier.proofs.Places.{put_same}
-use Rattle.osi_message.specs.Meanings.{Meaning}
-use Rattle.osi_message.specs.Words.{part_octets}
-use Rattle.osi_message.specs.Parting.{tsdus_sent}
-use Rattle.osi_session.specs.Listening.{Input, Listener, Move, called, came, react, after_inputs}
-use Rattle.osi_session.specs.Parts.{Act, comes, calls, act_in_octets, calls_in, IsSilent, AreAlike, AreSilent}
-use Rattle.osi_session.specs.Shown.{Shown}
-use Rattle.osi_session.specs.Sizes.{limit_of}
-use Rattle.osi_stack.specs.Messages.{kept_at}
-use Rattle.osi_stack.specs.Moving.{limit_for, answers, line_by, by_line, to_session}
+use Rattle.osi_session.specs.Parts.{AreAlike}
 use Rattle.osi_stack.specs.Parted.{to_session_along}
-use Rattle.osi_stack.specs.Selectors.{Selectors, selectors_told, shows_connect}
-use Rattle.osi_stack.specs.State.{Line, End, session_in}
-use Rattle.osi_stack.specs.Transport.{answers_by}
+use Rattle.osi_stack.proofs.Vocabulary.{append-nil, Rows, value_at, put, State as Carrier, put_here, put_same, Meaning, part_octets, tsdus_sent, Input, Listener, Move, called, came, react, after_inputs, Act, comes, calls, act_in_octets, calls_in, IsSilent, AreSilent, Shown, limit_of, kept_at, limit_for, answers, line_by, by_line, to_session, Selectors, selectors_told, shows_connect, Line, End, session_in, answers_by}
 use Rattle.osi_stack.proofs.Handing.{hands_none}
 
 -- ---- the end where a session stands at a reference

@@ -1,28 +1,10 @@
 -- A piece of the stream, read by looks that each take packets up to one that tells something.
 use Rattle.std.proofs.Common.{◌≡◌, ℕ, zero, suc, ◌+◌, ◌-◌, ◌<◌, ◌≤◌, ◌||◌, ◌==◌, not, true, false, Bool, List, [], ◌∷◌, ◌++◌, length, take, drop, Option, Some, None, Result, Ok, Err, is_some, refl, sym, ap, subst, ◌∙◌, inl, inr, ◌⊎◌, arith, length-append, length-drop, append_assoc, if◌then◌else◌}
-use Rattle.std.proofs.lemmas.List.{append-nil, take-append-drop, take_at}
 use Rattle.std.proofs.Math.Seq.{drop-append_seam}
-use Rattle.std.proofs.lemmas.Bool.{or_right, or_left}
-use Rattle.osi_tpkt.specs.Packet.{IsPartial, IsFaultOf}
-use Rattle.osi_tpkt.specs.Stream.{ArePackets, offset_of}
-use Rattle.osi_tpkt.specs.declared.faults.TpktFault.{TpktFault}
-use Rattle.osi_tpdu.specs.Packet.{units_of}
-use Rattle.osi_tpdu.specs.Value.{Value}
-use Rattle.osi_tpdu.specs.declared.faults.TpduFault.{TpduFault}
-use Rattle.osi_carrier.proofs.Reacts.{none_of}
-use Rattle.osi_carrier.proofs.Reading.{packets_more, packets_leave}
-use Rattle.osi_carrier.specs.Packets.{Carrying, HasToHold, is_spoilt, ActsBy, acts_by}
 use Rattle.osi_carrier.specs.Packets as carriers
-use Rattle.osi_carrier.specs.Rows.{Rows}
-use Rattle.osi_carrier.specs.State.{State as Carrier}
 use Rattle.osi_carrier.specs.State as states
-use Rattle.osi_carrier.specs.declared.ends.CarrierFault.TheVariants.{Tpkt}
-use Rattle.osi_carrier.specs.declared.ends.EndReason.{EndReason}
-use Rattle.osi_carrier.specs.declared.ends.EndReason.TheVariants.{Fault, NoMemory}
-use Rattle.osi_stack.specs.Feeding.{stops, uses_all, TakesPackets, RunsDry, StopsBehind, Refuses, FindsNoRoom, FindsNoMemory, Goes}
-use Rattle.osi_stack.specs.Fetching.{Fetches}
-use Rattle.osi_stack.specs.Hearing.{attends, with_carrier, ends, hears_all, concludes, RunsOut, Starves}
-use Rattle.osi_stack.specs.State.{Line, End, Holding, IsAttended, waits}
+use Rattle.osi_stack.specs.Feeding.{Refuses}
+use Rattle.osi_stack.proofs.Vocabulary.{append-nil, take-append-drop, take_at, or_right, or_left, IsPartial, IsFaultOf, ArePackets, offset_of, TpktFault, units_of, Value, TpduFault, none_of, packets_more, packets_leave, Carrying, HasToHold, is_spoilt, ActsBy, acts_by, Rows, State as Carrier, Tpkt, EndReason, Fault, NoMemory, stops, uses_all, TakesPackets, RunsDry, StopsBehind, FindsNoRoom, FindsNoMemory, Goes, Fetches, attends, with_carrier, ends, hears_all, concludes, RunsOut, Starves, Line, End, Holding, IsAttended, waits}
 use Rattle.osi_stack.proofs.Events.{all_quiet, never_starved, concluded_carrier, all_keep_by}
 use Rattle.osi_stack.proofs.Rooms.{room_stays, less_room, packet_faultless, first_part}
 use Rattle.osi_stack.proofs.Lifting.{both, or_first, or_second, IsQuiet, quiet_is, quiet_attends, quiet_stops, lift_dry, last_is, takes_append, packets_append, packets_part, lift_last}

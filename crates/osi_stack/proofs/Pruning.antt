@@ -1,21 +1,8 @@
 -- The lines of some references alone: what happens to those is the same where the others are dropped.
 use Rattle.std.proofs.Common.{◌≡◌, ℕ, zero, suc, ◌==◌, Bool, true, false, List, [], ◌∷◌, ◌++◌, length, Option, Some, None, is_some, refl, sym, ap, subst, ◌∙◌, if◌then◌else◌}
-use Rattle.std.proofs.lemmas.Bool.{eqb-true}
-use Rattle.std.proofs.lemmas.List.Elements.{filter-append}
-use Rattle.std.specs.List.{AllByRecursion, filter}
-use Rattle.osi_carrier.specs.Happenings.{Happening}
 use Rattle.osi_carrier.specs.Happenings as told
-use Rattle.osi_carrier.specs.Orderly.{told_of}
 use Rattle.osi_carrier.specs.Packets as carriers
-use Rattle.osi_carrier.specs.Rows.{Rows, value_at, put}
-use Rattle.osi_carrier.specs.State.{Connection}
-use Rattle.osi_session.specs.Listening.{Input, Listener, opened}
-use Rattle.osi_session.specs.Sessions.{awaits}
-use Rattle.osi_session.specs.Shown.{Shown}
-use Rattle.osi_stack.specs.Hearing.{opens, hears, hears_first, hears_next, hears_times, hears_all, with_events, with_carrier, shown_at_loss, loses, all_lost, concludes, attends, after_packet}
-use Rattle.osi_stack.specs.Messages.{shown_of, all_waiting}
-use Rattle.osi_stack.specs.Moving.{line_by, carrier_by, by_line, to_session}
-use Rattle.osi_stack.specs.State.{Line, End, is_used, used_lines, joins, fresh_line}
+use Rattle.osi_stack.proofs.Vocabulary.{eqb-true, filter-append, AllByRecursion, filter, Happening, told_of, Rows, value_at, put, Connection, Input, Listener, opened, awaits, Shown, opens, hears, hears_first, hears_next, hears_times, hears_all, with_events, with_carrier, shown_at_loss, loses, all_lost, concludes, attends, after_packet, shown_of, all_waiting, line_by, carrier_by, by_line, to_session, Line, End, is_used, used_lines, joins, fresh_line}
 use Rattle.osi_stack.proofs.Lifting.{both, packet_is}
 use Rattle.osi_stack.proofs.Linking.{rest_is, joined_lines}
 use Rattle.osi_stack.proofs.Stepwise.{concluded_end}

@@ -1,31 +1,14 @@
 -- What happens to an end happens to live connections and to new ones alone: it is the same without the lines of
 -- connections that are gone.
 use Rattle.std.proofs.Common.{◌≡◌, ℕ, ◌<◌, ◌≤◌, Bool, true, false, ◌||◌, nat_lt, List, [], ◌∷◌, ◌++◌, length, Option, None, is_some, refl, sym, ap, subst, ◌∙◌, inl, inr, arith}
-use Rattle.std.proofs.lemmas.Bool.Decides.{nat_tests}
-use Rattle.std.specs.List.{AllByRecursion}
-use Rattle.std.proofs.lemmas.Bool.{or_right}
-use Rattle.std.proofs.Math.Bool.{or-false}
-use Rattle.osi_carrier.proofs.Effects.{sent_gone, closed_gone}
-use Rattle.osi_carrier.specs.Happenings.{Happening}
 use Rattle.osi_carrier.specs.Happenings as told
-use Rattle.osi_carrier.specs.Orderly.{AreUpTo, IsOrderly, told_of}
 use Rattle.osi_carrier.specs.Packets as carriers
-use Rattle.osi_carrier.specs.Rows.{Rows, value_at}
-use Rattle.osi_carrier.specs.State.{Connection, State as Carrier}
-use Rattle.osi_carrier.specs.declared.ends.EndReason.{EndReason}
-use Rattle.osi_carrier.proofs.Reacts.{none_of}
-use Rattle.osi_session.specs.Listening.{Input}
-use Rattle.osi_stack.specs.Hearing.{hears_times, hears_all, with_carrier, after_packet, ends}
-use Rattle.osi_stack.specs.Messages.{all_waiting}
-use Rattle.osi_stack.specs.Moving.{to_session}
-use Rattle.osi_stack.specs.Runs.{live_lines, pruned}
-use Rattle.osi_stack.specs.State.{Line, End}
+use Rattle.osi_stack.proofs.Vocabulary.{nat_tests, AllByRecursion, or_right, or-false, sent_gone, closed_gone, Happening, AreUpTo, IsOrderly, told_of, Rows, value_at, Connection, State as Carrier, EndReason, none_of, Input, hears_times, hears_all, with_carrier, after_packet, ends, all_waiting, to_session, live_lines, pruned, Line, End, input_of}
 use Rattle.osi_stack.proofs.Events.{concluded_carrier}
 use Rattle.osi_stack.proofs.Lifting.{both, or_first, or_second, packet_is}
 use Rattle.osi_stack.proofs.Opened.{IsOf}
 use Rattle.osi_stack.proofs.Ordering.{packet_along}
 use Rattle.osi_stack.proofs.Stepwise.{Carries, session_carried, events_heard}
-use Rattle.osi_stack.specs.Inputs.{input_of}
 use Rattle.osi_stack.proofs.Pruning.{only, only_end, only_row, only_session, only_packet, only_lost, only_told, AreOf, AreStill, still_session, still_packet, still_lost}
 
 -- ---- which connections are reached

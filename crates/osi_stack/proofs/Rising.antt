@@ -1,21 +1,6 @@
 -- The lines of an end stand in the order in which their references were given.
 use Rattle.std.proofs.Common.{◌≡◌, ℕ, ◌+◌, ◌<◌, zero, suc, take, [], ◌∷◌, ◌++◌, Option, Some, None, option_map, refl, sym, subst, arith, if◌then◌else◌}
-use Rattle.osi_tpdu.specs.Value.{Value}
-use Rattle.osi_tpdu.specs.Limits.{tsap_octets}
-use Rattle.osi_carrier.specs.Calls.{asks}
-use Rattle.osi_carrier.specs.Orderly.{RiseFrom, AreUpTo}
-use Rattle.osi_carrier.specs.Rows.{Rows, value_at}
-use Rattle.osi_carrier.specs.State.{Connection}
-use Rattle.osi_carrier.proofs.AtReferences.{rise_lower, put_rise}
-use Rattle.osi_session.specs.Listening.{Input, Listener}
-use Rattle.osi_session.specs.Sessions.{awaits}
-use Rattle.osi_stack.specs.Calls.{calls_with, connects, breaks, without_first}
-use Rattle.osi_stack.specs.Hearing.{all_lost}
-use Rattle.osi_stack.specs.Links.{Soundness}
-use Rattle.osi_stack.specs.Messages.{Effect, begins, happens, rests, Hears, Arrives, told_all}
-use Rattle.osi_stack.specs.Moving.{line_by, by_line, to_session}
-use Rattle.osi_stack.specs.State.{Line, End, used_lines, joins, fresh_line}
-use Rattle.osi_stack.specs.declared.connecting.Connect.{Connect}
+use Rattle.osi_stack.proofs.Vocabulary.{Value, tsap_octets, asks, RiseFrom, AreUpTo, Rows, value_at, Connection, rise_lower, put_rise, Input, Listener, awaits, calls_with, connects, breaks, without_first, all_lost, Soundness, Effect, begins, happens, rests, Hears, Arrives, told_all, line_by, by_line, to_session, Line, End, used_lines, joins, fresh_line, Connect}
 use Rattle.osi_stack.proofs.Stepwise.{concluded_end, broken_end}
 use Rattle.osi_stack.proofs.Moves.{used_keep, first_keep}
 

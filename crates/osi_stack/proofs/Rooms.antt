@@ -1,17 +1,8 @@
 -- The room for the octets of a packet, and where it does not suffice.
 use Rattle.std.proofs.Common.{◌≡◌, ℕ, ◌≤◌, List, [], ◌∷◌, ◌++◌, length, take, refl, sym, ap, subst, ◌∙◌, inl, inr, ◌⊎◌, arith, length-append, append_assoc}
 use Rattle.osi_tpkt.proofs.Streams.{fault_no_packet}
-use Rattle.osi_tpkt.specs.Held.{Held}
-use Rattle.osi_tpkt.specs.Packet.{IsFaultOf}
-use Rattle.osi_tpkt.specs.Stream.{ArePackets}
-use Rattle.osi_tpkt.specs.declared.faults.TpktFault.{TpktFault}
 use Rattle.osi_carrier.proofs.Parts.{empty_list}
-use Rattle.osi_carrier.proofs.Reading.{packets_leave}
-use Rattle.osi_carrier.specs.Packets.{HasToHold}
-use Rattle.osi_carrier.specs.declared.ends.EndReason.TheVariants.{NoMemory}
-use Rattle.osi_stack.specs.Feeding.{FindsNoMemory}
-use Rattle.osi_stack.specs.Hearing.{ends, Starves}
-use Rattle.osi_stack.specs.State.{Holding}
+use Rattle.osi_stack.proofs.Vocabulary.{Held, IsFaultOf, ArePackets, TpktFault, packets_leave, HasToHold, NoMemory, FindsNoMemory, ends, Starves, Holding}
 
 -- the room stays over one more look
 pub room_stays : (old now : ℕ) (told new : Held) → old ≤ now → now ≤ told.room → new ≡ told → old ≤ new.room

@@ -1,36 +1,13 @@
 -- Two runs in step come to the same, whatever the pieces.
 use Rattle.std.proofs.Common.{◌≡◌, ℕ, ◌+◌, ◌-◌, ◌<◌, ◌^◌, Bool, true, false, List, ◌∷◌, ◌++◌, Option, Some, None, is_some, length, option_map, arith, refl, sym, ap, subst, ◌∙◌, append_assoc, if◌then◌else◌, []}
-use Rattle.std.proofs.lemmas.List.{append-nil}
-use Rattle.std.proofs.lemmas.List.Concat.{flat_map-append}
-use Rattle.std.specs.List.{flat_map}
-use Rattle.osi_tpkt.specs.Held.{Held}
-use Rattle.osi_tpkt.specs.Packet.{IsPartial}
-use Rattle.osi_tpkt.specs.Stream.{ArePackets, offset_of}
-use Rattle.osi_tpkt.specs.declared.faults.TpktFault.{TpktFault}
-use Rattle.osi_tpdu.specs.Limits.{tsap_octets}
-use Rattle.osi_carrier.proofs.InFront.{apart_all}
-use Rattle.osi_carrier.proofs.Pieces.{OneCut}
-use Rattle.osi_carrier.specs.Runs.Act.{user}
 use Rattle.osi_carrier.specs.Runs.UserCall.{connects as connects_call}
-use Rattle.osi_carrier.specs.Rows.{Rows}
-use Rattle.osi_carrier.specs.State.{asked, State as Carrier}
-use Rattle.osi_carrier.specs.declared.ends.EndReason.TheVariants.{Broken}
-use Rattle.osi_session.specs.Listening.{called}
-use Rattle.osi_session.specs.Shown.{Shown}
-use Rattle.osi_stack.specs.Calls.{connects, calls_with}
-use Rattle.osi_stack.specs.Hearing.{ends}
-use Rattle.osi_stack.specs.Messages.{all_waiting}
-use Rattle.osi_stack.specs.Rounds.{UserCall, user_does, Round, WaitForLive, MayCall, IsCalled, RoundsBy, RoundsAlong, calls_of, AreInStep}
-use Rattle.osi_stack.specs.Rounds.UserCall.{connecting, calling, breaking}
-use Rattle.osi_stack.specs.Runs.{hushed, put_back, Account, account_of, with_packet, with_packets, Call, CallsAlong, used_in, told_in, carried_in, account_along, AreAlike}
-use Rattle.osi_stack.specs.State.{Line, End, Holding, joins, waits}
-use Rattle.osi_stack.specs.declared.connecting.Connect.{Connect}
+use Rattle.osi_stack.specs.Runs.{Call}
+use Rattle.osi_stack.proofs.Vocabulary.{append-nil, flat_map-append, flat_map, Held, IsPartial, ArePackets, offset_of, TpktFault, tsap_octets, apart_all, OneCut, user, Rows, asked, State as Carrier, Broken, called, Shown, connects, calls_with, ends, all_waiting, UserCall, user_does, Round, WaitForLive, MayCall, IsCalled, RoundsBy, RoundsAlong, calls_of, AreInStep, connecting, calling, breaking, hushed, put_back, Account, account_of, with_packet, with_packets, CallsAlong, used_in, told_in, carried_in, account_along, AreAlike, Line, End, Holding, joins, waits, Connect, none_of}
 use Rattle.osi_stack.proofs.Accounts.{made, after_more, account_quiet, account_joined, packets_apart}
 use Rattle.osi_stack.proofs.Asking.{wait_push, joins_alike}
 use Rattle.osi_stack.proofs.Endings.{faulted}
 use Rattle.osi_stack.proofs.Hushing.{account_calling}
 use Rattle.osi_stack.proofs.Lasting.{account_over}
-use Rattle.osi_carrier.proofs.Reacts.{none_of}
 use Rattle.osi_stack.proofs.Runs.{calls_read}
 use Rattle.osi_stack.proofs.InFront.{apart_session}
 use Rattle.osi_stack.proofs.Lifting.{never}

@@ -1,22 +1,9 @@
 -- Over every run of calls an end comes to what the packets of the octets used make of it.
 use Rattle.std.proofs.Common.{◌≡◌, ℕ, ◌+◌, ◌-◌, ◌<◌, ◌^◌, ◌||◌, Bool, true, false, List, ◌∷◌, ◌++◌, length, take, Option, None, is_some, refl, sym, ap, subst, ◌∙◌, inl, inr, arith, append_assoc, length-append, []}
-use Rattle.std.proofs.lemmas.List.{append-nil, take_all}
-use Rattle.std.specs.List.{flat_map}
-use Rattle.osi_tpkt.specs.Held.{Held}
-use Rattle.osi_tpkt.specs.Packet.{IsPartial}
-use Rattle.osi_tpkt.specs.Stream.{ArePackets, offset_of}
-use Rattle.osi_tpkt.specs.declared.cutting.Fed.{Fed}
-use Rattle.osi_carrier.specs.declared.ends.EndReason.{EndReason}
-use Rattle.osi_carrier.proofs.Pieces.{OneCut, packets_joined}
-use Rattle.osi_carrier.proofs.Reading.{packets_leave}
-use Rattle.osi_session.specs.Shown.{Shown}
-use Rattle.osi_stack.specs.Feeding.{RunsDry, StopsBehind, FindsNoMemory, Goes, Feeds}
-use Rattle.osi_stack.specs.Runs.{Account, account_of, with_packets, Call, Calls, CallsAlong, used_in, told_in, carried_in, account_along, Reads, AreAlike}
-use Rattle.osi_stack.specs.Runs.Call.{feeding, telling, carrying}
-use Rattle.osi_stack.specs.State.{End, Holding, waits}
+use Rattle.osi_stack.specs.Runs.{Call}
+use Rattle.osi_stack.proofs.Vocabulary.{append-nil, take_all, flat_map, Held, IsPartial, ArePackets, offset_of, Fed, EndReason, OneCut, packets_joined, packets_leave, Shown, RunsDry, StopsBehind, FindsNoMemory, Goes, Feeds, Account, account_of, with_packets, Calls, CallsAlong, used_in, told_in, carried_in, account_along, Reads, AreAlike, feeding, telling, carrying, End, Holding, waits, none_of}
 use Rattle.osi_stack.proofs.Accounts.{after_more, account_told, account_joined, packets_apart, with_joined, packets_done}
 use Rattle.osi_stack.proofs.Comings.{uses_within}
-use Rattle.osi_carrier.proofs.Reacts.{none_of}
 use Rattle.osi_stack.proofs.Throughout.{starved_ended}
 use Rattle.osi_stack.proofs.Lifting.{never}
 

@@ -1,18 +1,10 @@
 -- The session selectors of what comes.
 use Rattle.std.proofs.Common.{◌≡◌, ℕ, List, ◌∷◌, Option, Some, None, Result, Ok, Err, refl, sym, ap, ◌∙◌}
-use Rattle.osi_message.specs.Meanings.{DT}
-use Rattle.osi_message.specs.Reading.{meaning, meaning_by, word, word_at, place_of, place_by, said_at, said_if_read}
-use Rattle.osi_message.specs.Words.{part_octets, as_message}
-use Rattle.osi_message.specs.Written.{written, is_second}
-use Rattle.osi_message.specs.declared.places.Place.{Place}
-use Rattle.osi_session.specs.Listening.{came, came_as}
+use Rattle.osi_message.specs.Reading.{place_of}
 use Rattle.osi_session.proofs.PartRuns.{data_sendable}
-use Rattle.osi_spdu.specs.Known.{Contents, Units}
-use Rattle.osi_spdu.specs.Reading.{tsdu_at}
-use Rattle.osi_spdu.specs.declared.faults.SpduFault.{SpduFault}
 use Rattle.osi_spdu.specs.declared.kinds.Kind.{Kind}
 use Rattle.osi_spdu.specs.declared.kinds.Kind.TheVariants as kind
-use Rattle.osi_stack.specs.Selectors.{selectors_of, selectors_told}
+use Rattle.osi_stack.proofs.Vocabulary.{DT, meaning, meaning_by, word, word_at, place_by, said_at, said_if_read, part_octets, as_message, written, is_second, Place, came, came_as, Contents, Units, tsdu_at, SpduFault, selectors_of, selectors_told}
 use Rattle.osi_stack.proofs.Moves.{Readings, came_is}
 
 -- ---- the first unit that is read

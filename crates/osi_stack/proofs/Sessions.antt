@@ -1,14 +1,8 @@
 -- What happens to a session beside calls and TSDUs.
 use Rattle.std.proofs.Common.{◌≡◌, ℕ, Bool, true, false, [], ◌++◌, map, Option, None, option_map, Result, Ok, refl, sym, ap, subst, ◌∙◌, if◌then◌else◌}
-use Rattle.std.proofs.lemmas.List.{append-nil}
-use Rattle.osi_message.specs.Parting.{in_one}
-use Rattle.osi_session.specs.Listening.{Input, Listener, Move, opened, refused, broken, react}
-use Rattle.osi_session.specs.Phases.{is_wait_transport}
-use Rattle.osi_session.specs.Sessions.{Takes}
-use Rattle.osi_session.specs.Shown.{shown_by}
 use Rattle.osi_session.specs.Steps.{shown_list}
-use Rattle.osi_session.specs.declared.indications.Indication.{Indication}
 use Rattle.osi_session.specs.declared.taken.Taken.{Taken}
+use Rattle.osi_stack.proofs.Vocabulary.{append-nil, in_one, Input, Listener, Move, opened, refused, broken, react, is_wait_transport, Takes, shown_by, Indication}
 
 -- nothing is sent, and nothing closed
 pub record IsQuiet (move : Move) : Type 0 where

@@ -1,44 +1,10 @@
 -- What is true of every end between any two calls stays so.
 use Rattle.std.proofs.Common.{◌≡◌, ℕ, ◌≤◌, ◌<◌, Bool, true, false, ◌||◌, not, List, ◌∷◌, length, drop, Option, Some, None, Result, Ok, Err, arith, is_some, IsSome, option_map, refl, sym, ap, subst, ◌∙◌, inl, inr, ◌⊎◌, if◌then◌else◌, []}
-use Rattle.std.specs.Prelude.{OnOk, OnErr, IfErr, IfSome}
-use Rattle.osi_tpdu.specs.Limits.{tsap_octets}
-use Rattle.osi_tpdu.specs.Packet.{units_of}
-use Rattle.osi_tpdu.specs.Value.{Value}
-use Rattle.osi_tpdu.specs.declared.faults.TpduFault.{TpduFault}
-use Rattle.osi_class.specs.declared.terms.Local.{Local}
-use Rattle.osi_spdu.specs.Known.{Units}
-use Rattle.osi_message.specs.Reading.{said_by_units}
-use Rattle.osi_tpkt.specs.declared.cutting.Fed.{Fed}
-use Rattle.osi_carrier.specs.Calls.{may_connect}
-use Rattle.osi_carrier.specs.Orderly.{IsOrderly}
 use Rattle.osi_carrier.specs.Packets as carriers
-use Rattle.osi_carrier.specs.React.{reacts}
-use Rattle.osi_carrier.specs.Rows.{Rows, value_at}
-use Rattle.osi_carrier.specs.State.{Connection, State as Carrier}
-use Rattle.osi_carrier.specs.declared.ends.EndReason.{EndReason}
-use Rattle.osi_carrier.specs.declared.ends.EndReason.TheVariants.{Broken, NoMemory}
-use Rattle.osi_carrier.proofs.Effects.{free_of, orderly_fresh, orderly_units, orderly_packet, orderly_asks, orderly_end, orderly_ended, orderly_same}
-use Rattle.osi_session.specs.Calls.{Call, HasSerial}
-use Rattle.osi_session.specs.Listening.{Input, Listener, called, taken, react, after_inputs}
-use Rattle.osi_session.specs.Parts.{HasProfile}
 use Rattle.osi_session.specs.Units.{is_profile}
-use Rattle.osi_session.specs.declared.opening.Opening.{Opening}
-use Rattle.osi_spdu.specs.Fields.{unit_bits}
-use Rattle.osi_carrier.specs.declared.faults.OpenError.{OpenError}
-use Rattle.osi_stack.specs.declared.connecting.ConnectError.{ConnectError}
 use Rattle.osi_stack.specs.declared.connecting.ConnectError.TheVariants.{NotSelected}
-use Rattle.osi_session.specs.Sessions.{awaiting, asking, is_memory}
-use Rattle.osi_session.specs.Runs.{HasNumbersInWords}
-use Rattle.osi_session.specs.declared.faults.CallError.{CallError}
 use Rattle.osi_session.specs.declared.faults.CallError.TheVariants as error
-use Rattle.osi_stack.specs.Calls.{connects, connect_error, terms_error, after_open, opening_of, calls_with, breaks, carried, without_first, has_given, call_error, table_error, session_refusal, session_error, RefusesBy, Refuses, by_rule}
-use Rattle.osi_stack.specs.Feeding.{stops, Goes, Feeds}
-use Rattle.osi_stack.specs.Hearing.{hears_all, hears_times, with_events, with_carrier, attends, after_packet, starves, Starves}
-use Rattle.osi_stack.specs.Moving.{to_session}
-use Rattle.osi_stack.specs.State.{Line, End, Holding, IsAttended, fresh_end, session_in, session_at, waits}
-use Rattle.osi_stack.specs.Folds.{CameAbout, IsProfiled, IsNamed, OfSessions}
-use Rattle.osi_stack.specs.Settled.{IsSettled}
-use Rattle.osi_stack.specs.declared.connecting.Connect.{Connect}
+use Rattle.osi_stack.proofs.Vocabulary.{OnOk, OnErr, IfErr, IfSome, tsap_octets, units_of, Value, TpduFault, Local, Units, said_by_units, Fed, may_connect, IsOrderly, reacts, Rows, value_at, Connection, State as Carrier, EndReason, Broken, NoMemory, free_of, orderly_fresh, orderly_units, orderly_packet, orderly_asks, orderly_end, orderly_ended, orderly_same, Call, HasSerial, Input, Listener, called, taken, react, after_inputs, HasProfile, Opening, unit_bits, OpenError, ConnectError, awaiting, asking, is_memory, HasNumbersInWords, CallError, connects, connect_error, terms_error, after_open, opening_of, calls_with, breaks, carried, without_first, has_given, call_error, table_error, session_refusal, session_error, RefusesBy, Refuses, by_rule, stops, Goes, Feeds, hears_all, hears_times, with_events, with_carrier, attends, after_packet, starves, Starves, to_session, Line, End, Holding, IsAttended, fresh_end, session_in, session_at, waits, CameAbout, IsProfiled, IsNamed, OfSessions, IsSettled, Connect, IsSound, none_of}
 use Rattle.osi_stack.proofs.Answering.{Below, answered_is}
 use Rattle.osi_stack.proofs.Awaiting.{StillWaits, fresh_asked, connect_asked, call_asked, feeds_asked, first_asked, carried_asked, breaks_asked}
 use Rattle.osi_stack.proofs.Attending.{session_attended, connect_attended, breaks_attended, feeds_attended}
@@ -51,10 +17,8 @@ use Rattle.osi_stack.proofs.Linking.{SessionLaws}
 use Rattle.osi_stack.proofs.OfLines.{session_lines, feeds_lines, connect_lines, told_lines, breaks_lines}
 use Rattle.osi_stack.proofs.Ordering.{fresh_ordered, connect_ordered, call_ordered, feeds_ordered, first_ordered, carried_ordered, breaks_ordered}
 use Rattle.osi_stack.proofs.Soundness.{Fits, times_fits, up_more, units_rise, packet_rises, open_none, fresh_sound, connect_sound, call_sound, feeds_sound, first_sound, carried_sound, breaks_sound, session_leaves, hale_kept, IsHale}
-use Rattle.osi_stack.specs.Links.{IsSound}
 use Rattle.osi_stack.proofs.Stepwise.{broken_end}
 use Rattle.osi_stack.proofs.Throughout.{IsKeptBeside, feeds_beside}
-use Rattle.osi_carrier.proofs.Reacts.{none_of}
 
 -- ---- calls
 

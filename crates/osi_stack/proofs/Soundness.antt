@@ -1,44 +1,9 @@
 -- What is true of every end, whatever is called and fed.
 use Rattle.std.proofs.Common.{◌≡◌, ◌≢◌, ℕ, ◌+◌, ◌==◌, ◌<◌, ◌≤◌, Bool, true, false, ◌||◌, List, ◌∷◌, ◌++◌, length, drop, nat_le, Option, Some, None, is_some, IsSome, option_map, Result, Ok, Err, refl, sym, ap, subst, ◌∙◌, inl, inr, ◌⊎◌, arith, if◌then◌else◌, []}
-use Rattle.std.proofs.lemmas.Bool.{eqb-true, eq-eqb}
-use Rattle.std.proofs.lemmas.Bool.Decides.{nat_tests}
-use Rattle.osi_tpdu.specs.Packet.{units_of}
-use Rattle.osi_tpdu.specs.Value.{Value}
-use Rattle.osi_tpdu.specs.declared.faults.TpduFault.{TpduFault}
-use Rattle.osi_class.specs.Link.{Standing as Link}
-use Rattle.osi_class.specs.declared.terms.Class.{Class}
-use Rattle.osi_class.specs.declared.terms.Class.TheVariants.{Zero, Two}
-use Rattle.osi_carrier.specs.Calls.{open_link, may_connect, asks, sent_on, closes, closed_on}
-use Rattle.osi_carrier.specs.Happenings.{Happening}
 use Rattle.osi_carrier.specs.Happenings as told
-use Rattle.osi_carrier.specs.Orderly.{AreUpTo, IsOrderly, connection_of, told_of}
 use Rattle.osi_carrier.specs.Packets as carriers
-use Rattle.osi_carrier.specs.React.{react as carrier_react, reacts}
-use Rattle.osi_carrier.specs.Rows.{Rows, value_at}
-use Rattle.osi_carrier.specs.State.{Connection, State as Carrier}
-use Rattle.osi_carrier.specs.Told.{is_open, open_after}
-use Rattle.osi_carrier.specs.declared.ends.EndReason.{EndReason}
-use Rattle.osi_carrier.specs.declared.faults.OpenError.{OpenError}
-use Rattle.osi_carrier.proofs.Apart.{beyond, push_here}
-use Rattle.osi_carrier.proofs.AtReferences.{put_up, push_other}
-use Rattle.osi_carrier.proofs.Effects.{How, effect, orderly_packet, orderly_asks, orderly_sent, orderly_closed, orderly_same, orderly_fresh}
-use Rattle.osi_carrier.proofs.ToldOpen.{packet_opens, asks_opens}
-use Rattle.osi_session.specs.Calls.{Call}
-use Rattle.osi_session.specs.Listening.{Input, Listener, called, opened}
-use Rattle.osi_session.specs.Sessions.{awaits}
-use Rattle.osi_stack.specs.Calls.{connects, connect_error, after_open, terms_error, calls_with, breaks, carried, without_first}
-use Rattle.osi_stack.specs.Feeding.{Feeds}
-use Rattle.osi_stack.specs.declared.connecting.Connect.{Connect}
-use Rattle.osi_stack.specs.declared.connecting.ConnectError.{ConnectError}
-use Rattle.osi_tpdu.specs.Limits.{tsap_octets}
-use Rattle.osi_tpkt.specs.declared.cutting.Fed.{Fed}
-use Rattle.osi_class.specs.declared.terms.Local.{Local}
-use Rattle.osi_carrier.specs.declared.ends.EndReason.TheVariants.{Broken}
-use Rattle.osi_stack.specs.Hearing.{hears_times, hears_all, with_carrier, after_packet, ends, all_lost}
-use Rattle.osi_stack.specs.Links.{needs_link, AreApart, HasLinks, Soundness, IsSound}
-use Rattle.osi_stack.specs.Messages.{kept_at}
-use Rattle.osi_stack.specs.Moving.{line_by, by_line, to_session}
-use Rattle.osi_stack.specs.State.{Line, End, Holding, IsAttended, fresh_end, session_in, used_lines, joins, fresh_line}
+use Rattle.osi_carrier.specs.React.{react as carrier_react}
+use Rattle.osi_stack.proofs.Vocabulary.{eqb-true, eq-eqb, nat_tests, units_of, Value, TpduFault, Standing as Link, Class, Zero, Two, open_link, may_connect, asks, sent_on, closes, closed_on, Happening, AreUpTo, IsOrderly, connection_of, told_of, reacts, Rows, value_at, Connection, State as Carrier, is_open, open_after, EndReason, OpenError, beyond, push_here, put_up, push_other, How, effect, orderly_packet, orderly_asks, orderly_sent, orderly_closed, orderly_same, orderly_fresh, packet_opens, asks_opens, Call, Input, Listener, called, opened, awaits, connects, connect_error, after_open, terms_error, calls_with, breaks, carried, without_first, Feeds, Connect, ConnectError, tsap_octets, Fed, Local, Broken, hears_times, hears_all, with_carrier, after_packet, ends, all_lost, needs_link, AreApart, HasLinks, Soundness, IsSound, kept_at, line_by, by_line, to_session, Line, End, Holding, IsAttended, fresh_end, session_in, used_lines, joins, fresh_line, input_of}
 use Rattle.osi_stack.proofs.Events.{concluded_carrier}
 use Rattle.osi_stack.proofs.Moves.{kept_first, used_keep, first_keep}
 use Rattle.osi_stack.proofs.Keeping.{session_keeps}
@@ -47,7 +12,6 @@ use Rattle.osi_stack.proofs.Linking.{SessionLaws, IsLinked, AllLinked, times_lin
 use Rattle.osi_stack.proofs.Stepwise.{Carries, session_carried, events_heard}
 use Rattle.osi_stack.proofs.Throughout.{IsKept, feeds_kept, over_beside, both_kept}
 use Rattle.osi_stack.proofs.Comings.{attended_kept}
-use Rattle.osi_stack.specs.Inputs.{input_of}
 
 -- ---- how many references were given
 

@@ -1,21 +1,7 @@
 -- What each step of a session keeps, all that the sessions of an end hear keeps.
 use Rattle.std.proofs.Common.{◌≡◌, ℕ, zero, suc, Bool, true, false, List, ◌∷◌, Option, Some, None, is_some, refl, if◌then◌else◌, []}
-use Rattle.osi_carrier.specs.Calls.{open_link, sent, send_all_error, closed_with}
-use Rattle.osi_carrier.specs.Happenings.{Happening}
 use Rattle.osi_carrier.specs.Happenings as told
-use Rattle.osi_carrier.specs.Orderly.{told_of}
-use Rattle.osi_carrier.specs.Rows.{value_at}
-use Rattle.osi_carrier.specs.State.{State as Carrier}
-use Rattle.osi_carrier.specs.declared.ends.EndReason.TheVariants.{Broken}
-use Rattle.osi_carrier.specs.declared.faults.SendError.{SendError}
-use Rattle.osi_session.specs.Listening.{Input, Listener, react}
-use Rattle.osi_session.specs.Sessions.{awaits}
-use Rattle.osi_stack.specs.Calls.{breaks}
-use Rattle.osi_stack.specs.Hearing.{opens, hears, hears_first, hears_next, hears_times, with_events, concludes, ends, all_lost}
-use Rattle.osi_stack.specs.Inputs.{input_of}
-use Rattle.osi_stack.specs.Moving.{carrier_by, by_line, to_session}
-use Rattle.osi_stack.specs.State.{Line, End, joins}
-use Rattle.osi_stack.specs.Transport.{sent_unless, answers_by}
+use Rattle.osi_stack.proofs.Vocabulary.{open_link, sent, send_all_error, closed_with, Happening, told_of, value_at, State as Carrier, Broken, SendError, Input, Listener, react, awaits, breaks, opens, hears, hears_first, hears_next, hears_times, with_events, concludes, ends, all_lost, input_of, carrier_by, by_line, to_session, Line, End, joins, sent_unless, answers_by}
 
 -- ---- the carrier
 

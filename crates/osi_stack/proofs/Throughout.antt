@@ -1,14 +1,6 @@
 -- What each packet keeps, and the end, feeding keeps.
 use Rattle.std.proofs.Common.{◌≡◌, ℕ, ◌||◌, Bool, true, false, List, ◌∷◌, Option, Some, None, is_some, refl, sym, ap, subst, ◌∙◌, inl, inr, ◌⊎◌, if◌then◌else◌, []}
-use Rattle.osi_tpkt.specs.Stream.{ArePackets}
-use Rattle.osi_tpkt.specs.declared.cutting.Fed.{Fed}
-use Rattle.osi_carrier.specs.State.{State as Carrier}
-use Rattle.osi_carrier.specs.declared.ends.EndReason.{EndReason}
-use Rattle.osi_carrier.specs.declared.ends.EndReason.TheVariants.{Broken, NoMemory}
-use Rattle.osi_stack.specs.Calls.{breaks}
-use Rattle.osi_stack.specs.Feeding.{TakesPackets, Goes, Feeds}
-use Rattle.osi_stack.specs.Hearing.{after_packet, ends, hears_times, with_carrier, with_events, Starves}
-use Rattle.osi_stack.specs.State.{End, Holding, waits}
+use Rattle.osi_stack.proofs.Vocabulary.{ArePackets, Fed, State as Carrier, EndReason, Broken, NoMemory, breaks, TakesPackets, Goes, Feeds, after_packet, ends, hears_times, with_carrier, with_events, Starves, End, Holding, waits}
 use Rattle.osi_stack.proofs.Rooms.{found_how}
 use Rattle.osi_stack.proofs.Events.{starved_over}
 use Rattle.osi_stack.proofs.Lifting.{lasting_of}

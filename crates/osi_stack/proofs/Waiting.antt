@@ -1,19 +1,7 @@
 -- How many lines have something that waits.
 use Rattle.std.proofs.Common.{◌≡◌, ℕ, ◌+◌, ◌<◌, ◌≤◌, ◌==◌, ◌||◌, Bool, zero, suc, true, false, not, cond, List, [], ◌∷◌, ◌++◌, length, get_or, set, nat_lt, Option, Some, None, Result, Ok, Err, OnOk, OnErr, refl, sym, ap, subst, ◌∙◌, arith}
-use Rattle.std.specs.List.{position, position_or_len}
-use Rattle.std.proofs.lemmas.Bool.{lt-ltb, eqb-true}
-use Rattle.std.proofs.lemmas.Grind.{common_steps}
-use Rattle.std.proofs.lemmas.List.{length-set}
-use Rattle.std.proofs.lemmas.List.Sums.{sum_by-cons, sum_by-set, count_by-le-length, position_or_len_is}
 use Rattle.osi_carrier.proofs.Order.{set_rise}
-use Rattle.osi_carrier.proofs.Places.{placed}
-use Rattle.osi_carrier.specs.Orderly.{RiseFrom}
-use Rattle.osi_carrier.specs.Rows.{Rows, place_of}
-use Rattle.osi_session.specs.Listening.{Input, Listener, react}
-use Rattle.osi_session.specs.Shown.{Shown, Lost}
-use Rattle.osi_stack.specs.Hearing.{shown_at_loss, loses}
-use Rattle.osi_stack.specs.Moving.{line_by}
-use Rattle.osi_stack.specs.State.{Line, line_waits, waits, how_many_wait}
+use Rattle.osi_stack.proofs.Vocabulary.{position, position_or_len, lt-ltb, eqb-true, common_steps, length-set, sum_by-cons, sum_by-set, count_by-le-length, position_or_len_is, placed, RiseFrom, Rows, place_of, Input, Listener, react, Shown, Lost, shown_at_loss, loses, line_by, Line, line_waits, waits, how_many_wait}
 use Rattle.osi_stack.proofs.FirstShown.{IsNone, quiet_none}
 
 -- ---- one waits, or none

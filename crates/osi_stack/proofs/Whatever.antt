@@ -1,28 +1,8 @@
 -- Rounds in which connections are asked for whatever waits: two runs in step come to the same but for lines of
 -- connections that are gone.
 use Rattle.std.proofs.Common.{◌≡◌, ℕ, ◌<◌, ◌^◌, true, false, List, [], ◌++◌, Option, Some, None, is_some, refl, sym, ap, ◌∙◌, if◌then◌else◌}
-use Rattle.std.specs.List.{flat_map}
-use Rattle.osi_tpkt.specs.Packet.{IsPartial}
-use Rattle.osi_carrier.proofs.Lasting.{PacketLaws}
-use Rattle.osi_carrier.proofs.Pieces.{OneCut}
-use Rattle.osi_carrier.specs.Rows.{value_at}
-use Rattle.osi_carrier.specs.State.{Connection}
-use Rattle.osi_carrier.specs.declared.ends.CarrierFault.TheVariants.{Tpkt}
-use Rattle.osi_carrier.specs.declared.ends.EndReason.{EndReason}
-use Rattle.osi_carrier.specs.declared.ends.EndReason.TheVariants.{Broken, Fault}
-use Rattle.osi_session.specs.Calls.{Call as SessionCall}
-use Rattle.osi_session.specs.Listening.{Listener, called}
-use Rattle.osi_session.specs.Shown.{Shown}
-use Rattle.osi_stack.specs.Calls.{connects, connect_error, call_error}
-use Rattle.osi_stack.specs.Hearing.{after_packet, ends}
-use Rattle.osi_stack.specs.Messages.{all_waiting}
-use Rattle.osi_stack.specs.Moving.{to_session}
-use Rattle.osi_stack.specs.Rounds.{UserCall, user_does, Round, MayAsk, RoundsAsking, calls_of, AreInStep}
-use Rattle.osi_stack.specs.Rounds.UserCall.{connecting, calling, breaking}
-use Rattle.osi_stack.specs.Runs.{hushed, put_back, pruned, Account, account_of, with_packet, Call, CallsInRoom, used_in, told_in, carried_in, AreAlikeInLive}
-use Rattle.osi_stack.specs.Settled.{IsSettled}
-use Rattle.osi_stack.specs.State.{End, Holding, waits}
-use Rattle.osi_stack.specs.declared.connecting.Connect.{Connect}
+use Rattle.osi_stack.specs.Runs.{Call}
+use Rattle.osi_stack.proofs.Vocabulary.{flat_map, IsPartial, PacketLaws, OneCut, value_at, Connection, Tpkt, EndReason, Broken, Fault, Call as SessionCall, Listener, called, Shown, connects, connect_error, call_error, after_packet, ends, all_waiting, to_session, UserCall, user_does, Round, MayAsk, RoundsAsking, calls_of, AreInStep, connecting, calling, breaking, hushed, put_back, pruned, Account, account_of, with_packet, CallsInRoom, used_in, told_in, carried_in, AreAlikeInLive, IsSettled, End, Holding, waits, Connect}
 use Rattle.osi_stack.proofs.Accounts.{made}
 use Rattle.osi_stack.proofs.Asked.{waits_asked, connects_pruned, connects_back}
 use Rattle.osi_stack.proofs.Attending.{session_attended, connect_attended}

@@ -1,18 +1,10 @@
 -- What comes last in two runs, also where it ends them.
 use Rattle.std.proofs.Common.{◌≡◌, ℕ, ◌<◌, ◌^◌, Bool, true, false, List, [], ◌∷◌, ◌++◌, None, is_some, inl, inr, refl, sym, ap, subst, ◌∙◌}
-use Rattle.std.specs.List.{flat_map}
-use Rattle.osi_tpkt.specs.Held.{Held}
-use Rattle.osi_tpkt.specs.Packet.{IsPartial}
-use Rattle.osi_carrier.proofs.Lasting.{PacketLaws}
-use Rattle.osi_carrier.proofs.Pieces.{OneCut}
-use Rattle.osi_session.specs.Shown.{Shown}
-use Rattle.osi_stack.specs.Rounds.{UserCall, Round, RoundsAlong, MayCall, RoundsBy, calls_of, AreInStep}
-use Rattle.osi_stack.specs.Runs.{Account, account_of, with_packet, with_packets, Call, CallsInRoom, used_in, told_in, carried_in, account_along, AreAlike}
-use Rattle.osi_stack.specs.State.{End, Holding}
+use Rattle.osi_stack.specs.Runs.{Call}
+use Rattle.osi_stack.proofs.Vocabulary.{flat_map, Held, IsPartial, PacketLaws, OneCut, Shown, UserCall, Round, RoundsAlong, MayCall, RoundsBy, calls_of, AreInStep, Account, account_of, with_packet, with_packets, CallsInRoom, used_in, told_in, carried_in, account_along, AreAlike, End, Holding, none_of}
 use Rattle.osi_stack.proofs.Accounts.{after_more, account_joined, packets_apart, with_joined}
 use Rattle.osi_stack.proofs.Endings.{faulted, Ending, end_alike, ending_lasts, ending_apart, Outcome, outcome_along, stays_along, in_room}
 use Rattle.osi_stack.proofs.Lasting.{Lasts, reads_lasts}
-use Rattle.osi_carrier.proofs.Reacts.{none_of}
 use Rattle.osi_stack.proofs.Rounds.{Likeness, alike_at, packets_alike, Same, Are, SameAfter, used_alike, calls_alike, same_joined, same_alike, are_first, rounds_alike, exactly}
 
 -- accounts that are alike

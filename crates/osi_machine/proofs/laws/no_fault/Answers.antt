@@ -1,5 +1,5 @@
-use Rattle.osi_machine.specs.Core.{Core, turned}
-use Rattle.osi_machine.specs.Promises.{IsReached, OfBoth, TakesNoFault}
+use Rattle.osi_machine.specs.Core.{turned}
+use Rattle.osi_machine.proofs.Vocabulary.{Core, IsReached, OfBoth, TakesNoFault}
 use Rattle.osi_machine.proofs.CoreLaws.{SessionLaws}
 use Rattle.osi_machine.proofs.Dispatch.{turned_stands}
 use Rattle.osi_machine.proofs.Promises.{reached_stands, takes_no_fault}

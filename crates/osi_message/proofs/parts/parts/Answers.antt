@@ -1,6 +1,5 @@
 use Rattle.std.proofs.Common.{◌∙◌, ◌++◌, [], ◌∷◌, ap, map}
-use Rattle.osi_message.specs.declared.places.Place.TheVariants.{First, Middle}
-use Rattle.osi_message.specs.Words.{part_octets}
+use Rattle.osi_message.proofs.Vocabulary.{First, Middle, part_octets}
 use Rattle.osi_message.proofs.PartingLaws.{parting_begins, parting_goes_on, some_put}
 use Rattle.osi_message.proofs.parts.parts.Goals as goal
 

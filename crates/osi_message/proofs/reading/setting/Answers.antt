@@ -1,8 +1,6 @@
 use Rattle.std.proofs.Common.{◌≡◌, ◌∙◌, Some, ap, option_map, sym}
 use Rattle.osi_spdu.specs.declared.codes.Code.TheVariants as code
-use Rattle.osi_spdu.specs.Fields.{setting_octets}
-use Rattle.osi_spdu.specs.Params.{known_of}
-use Rattle.osi_message.specs.Reading.{octet_in, setting_named}
+use Rattle.osi_message.proofs.Vocabulary.{setting_octets, known_of, octet_in, setting_named}
 use Rattle.osi_message.proofs.ReadingLaws.{setting_again}
 use Rattle.osi_message.proofs.reading.setting.Goals as goal
 

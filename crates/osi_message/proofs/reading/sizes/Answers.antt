@@ -1,8 +1,6 @@
 use Rattle.std.proofs.Common.{◌≡◌, ◌∙◌, Some, ap, option_map, sym}
 use Rattle.osi_spdu.specs.declared.codes.Code.TheVariants as code
-use Rattle.osi_spdu.specs.Fields.{size_octets}
-use Rattle.osi_spdu.specs.Params.{known_of}
-use Rattle.osi_message.specs.Reading.{sizes_in}
+use Rattle.osi_message.proofs.Vocabulary.{size_octets, known_of, sizes_in}
 use Rattle.osi_message.proofs.ReadingLaws.{sizes_again}
 use Rattle.osi_message.proofs.reading.sizes.Goals as goal
 

@@ -1,9 +1,6 @@
 use Rattle.std.proofs.Common.{◌≡◌, ◌∙◌, Some, ap, option_map, sym}
 use Rattle.osi_spdu.specs.declared.codes.Code.TheVariants as code
-use Rattle.osi_spdu.specs.Fields.{bits_of, token_octets}
-use Rattle.osi_spdu.specs.Params.{known_of}
-use Rattle.osi_message.specs.Reading.{octet_in}
-use Rattle.osi_message.specs.Tokens.{named}
+use Rattle.osi_message.proofs.Vocabulary.{bits_of, token_octets, known_of, octet_in, named}
 use Rattle.osi_message.proofs.ReadingLaws.{named_again}
 use Rattle.osi_message.proofs.reading.tokens.Goals as goal
 

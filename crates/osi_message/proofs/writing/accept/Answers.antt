@@ -1,6 +1,5 @@
 use Rattle.std.proofs.Common.{◌∙◌, ap, arith}
-use Rattle.osi_spdu.specs.declared.kinds.Kind.TheVariants.{Accept}
-use Rattle.osi_message.specs.Written.{unit_with, unit_of}
+use Rattle.osi_message.proofs.Vocabulary.{Accept, unit_with, unit_of}
 use Rattle.osi_message.proofs.WritingLaws.{accept_known}
 use Rattle.osi_message.proofs.writing.accept.Goals as goal
 

@@ -1,10 +1,6 @@
 use Rattle.std.proofs.Common.{◌∙◌, [], ◌∷◌, sym, subst, arith}
-use Rattle.osi_spdu.specs.declared.kinds.Kind.TheVariants.{GiveTokens}
-use Rattle.osi_spdu.specs.Known.{nothing}
-use Rattle.osi_spdu.specs.Kinds.{codes_of}
 use Rattle.osi_spdu.specs.Units.{said_by}
-use Rattle.osi_spdu.specs.Writing.{body_octets, UnitFits, TsduFits}
-use Rattle.osi_message.specs.Written.{unit_with, behind_tokens}
+use Rattle.osi_message.proofs.Vocabulary.{GiveTokens, nothing, codes_of, body_octets, UnitFits, TsduFits, unit_with, behind_tokens}
 use Rattle.osi_message.proofs.WritingLaws.{none_known}
 use Rattle.osi_message.proofs.writing.behind.Goals as goal
 

@@ -1,9 +1,6 @@
 use Rattle.std.proofs.Common.{◌∙◌, ℕ, ◌∷◌, [], ap}
-use Rattle.osi_spdu.specs.declared.kinds.Kind.TheVariants.{GiveTokens}
-use Rattle.osi_message.specs.Written.{unit_with, unit_of}
+use Rattle.osi_message.proofs.Vocabulary.{GiveTokens, unit_with, unit_of, put, nothing, TokenItem}
 use Rattle.osi_message.proofs.WritingLaws.{give_known, set_kept}
-use Rattle.osi_spdu.specs.Known.{put, nothing}
-use Rattle.osi_spdu.specs.declared.codes.Code.TheVariants.{TokenItem}
 use Rattle.osi_message.proofs.writing.give.Goals as goal
 
 pub returns-clause-units : goal.returns-clause-units

@@ -1,6 +1,5 @@
 use Rattle.std.proofs.Common.{◌∙◌, ap}
-use Rattle.osi_spdu.specs.declared.kinds.Kind.TheVariants.{MinorSyncPoint}
-use Rattle.osi_message.specs.Written.{unit_with, unit_of}
+use Rattle.osi_message.proofs.Vocabulary.{MinorSyncPoint, unit_with, unit_of}
 use Rattle.osi_message.proofs.WritingLaws.{number_known, open_known}
 use Rattle.osi_message.proofs.writing.minor_point.Goals as goal
 

@@ -1,9 +1,6 @@
 use Rattle.std.proofs.Common.{◌∙◌, ℕ, ◌∷◌, [], ap, arith}
-use Rattle.osi_spdu.specs.declared.kinds.Kind.TheVariants.{PleaseTokens}
-use Rattle.osi_message.specs.Written.{unit_with, unit_of, with_data}
+use Rattle.osi_message.proofs.Vocabulary.{PleaseTokens, unit_with, unit_of, with_data, put, nothing, TokenItem}
 use Rattle.osi_message.proofs.WritingLaws.{please_known, set_kept}
-use Rattle.osi_spdu.specs.Known.{put, nothing}
-use Rattle.osi_spdu.specs.declared.codes.Code.TheVariants.{TokenItem}
 use Rattle.osi_message.proofs.writing.please.Goals as goal
 
 pub returns-clause-units : goal.returns-clause-units

@@ -1,6 +1,5 @@
 use Rattle.std.proofs.Common.{◌∙◌, ap, arith}
-use Rattle.osi_spdu.specs.declared.kinds.Kind.TheVariants.{Refuse}
-use Rattle.osi_message.specs.Written.{unit_with, unit_of}
+use Rattle.osi_message.proofs.Vocabulary.{Refuse, unit_with, unit_of}
 use Rattle.osi_message.proofs.WritingLaws.{refuse_known}
 use Rattle.osi_message.proofs.writing.refuse.Goals as goal
 

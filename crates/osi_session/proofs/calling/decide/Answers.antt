@@ -1,6 +1,5 @@
 use Rattle.std.proofs.Common.{◌∙◌, sym}
-use Rattle.osi_session.specs.Calls.{called_by}
-use Rattle.osi_session.specs.Steps.{step_of}
+use Rattle.osi_session.proofs.Vocabulary.{called_by, step_of}
 use Rattle.osi_session.proofs.CallLaws.{met_short, limit_passed, limit_refused}
 use Rattle.osi_session.proofs.calling.decide.Goals as goal
 

@@ -1,11 +1,7 @@
 use Rattle.std.proofs.Common.{◌∙◌, ap, [], ℕ, List, None, Ok}
-use Rattle.osi_message.specs.Meanings.{MIP, MIA}
-use Rattle.osi_message.specs.Plain.{plain_said}
-use Rattle.osi_message.specs.Reading.{said_at}
 use Rattle.osi_message.specs.declared.plain.PlainUnit.{PlainUnit}
-use Rattle.osi_session.specs.Joining.{heard}
-use Rattle.osi_session.specs.Respond.{shows}
-use Rattle.osi_session.specs.Shown.{Minor, MinorConfirmed}
+use Rattle.osi_session.specs.Shown.{Minor}
+use Rattle.osi_session.proofs.Vocabulary.{MIP, MIA, plain_said, said_at, heard, shows, MinorConfirmed}
 use Rattle.osi_session.proofs.PointLaws.{unit_comes}
 use Rattle.osi_session.proofs.expected.expected_point.Goals as goal
 use Rattle.std.proofs.Common.{sym, true}

@@ -1,8 +1,5 @@
 use Rattle.std.proofs.Common.{length, map, option_copied}
-use Rattle.osi_spdu.specs.Groups.{units_behind, units_of}
-use Rattle.osi_message.specs.Reading.{word, said_by_units}
-use Rattle.osi_session.specs.Joining.{respond_tsdu}
-use Rattle.osi_session.specs.Steps.{word_by}
+use Rattle.osi_session.proofs.Vocabulary.{units_behind, units_of, word, said_by_units, respond_tsdu, word_by}
 use Rattle.osi_session.proofs.FollowLaws.{Walks}
 use Rattle.osi_session.proofs.grouping.take_all.Given as goal
 

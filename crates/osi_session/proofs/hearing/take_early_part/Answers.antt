@@ -1,7 +1,5 @@
 use Rattle.std.proofs.Common.{◌∙◌, ap, sym, List, ℕ, Option, option_copied}
-use Rattle.osi_session.specs.Joining.{heard}
-use Rattle.osi_session.specs.Respond.{nothing}
-use Rattle.osi_session.specs.Steps.{joined_after}
+use Rattle.osi_session.proofs.Vocabulary.{heard, nothing, joined_after}
 use Rattle.osi_session.proofs.HearingLaws.{early_takes}
 use Rattle.osi_session.proofs.hearing.take_early_part.Goals as goal
 

@@ -1,9 +1,5 @@
 use Rattle.std.proofs.Common.{◌≡◌, ap, subst, sym, ◌∙◌, option_copied}
-use Rattle.osi_message.specs.declared.places.Place.{Place}
-use Rattle.osi_message.specs.Words.{part}
-use Rattle.osi_session.specs.Joining.{Taker, Hearing, respond_word, word_verdict}
-use Rattle.osi_session.specs.Respond.{fine}
-use Rattle.osi_session.specs.Steps.{Hears}
+use Rattle.osi_session.proofs.Vocabulary.{Place, part, Taker, Hearing, respond_word, word_verdict, fine, Hears}
 use Rattle.osi_session.proofs.HearingLaws.{first_is, middle_is, last_is}
 use Rattle.osi_session.proofs.hearing.take_good_part.Goals as goal
 

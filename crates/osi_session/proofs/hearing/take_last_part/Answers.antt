@@ -1,7 +1,6 @@
 use Rattle.std.proofs.Common.{◌∙◌, ap, sym, List, ℕ, Option, None, option_copied}
-use Rattle.osi_session.specs.Joining.{heard}
-use Rattle.osi_session.specs.Respond.{shows}
 use Rattle.osi_session.specs.Shown.{Data}
+use Rattle.osi_session.proofs.Vocabulary.{heard, shows}
 use Rattle.osi_session.proofs.hearing.take_last_part.Goals as goal
 
 pub returns-in-Ok : goal.returns-in-Ok

@@ -1,6 +1,5 @@
 use Rattle.std.proofs.Common.{option_copied}
-use Rattle.osi_message.specs.Meanings.{meant_by}
-use Rattle.osi_session.specs.Joining.{Taker}
+use Rattle.osi_session.proofs.Vocabulary.{meant_by, Taker}
 use Rattle.osi_session.proofs.JoiningLaws.{reacts_plain, reacts_misplaced}
 use Rattle.osi_session.proofs.hearing.take_message.Goals as goal
 

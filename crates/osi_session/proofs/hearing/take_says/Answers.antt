@@ -1,6 +1,5 @@
 use Rattle.std.proofs.Common.{◌∙◌, ap, sym, option_copied}
-use Rattle.osi_message.specs.Meanings.{meant_by}
-use Rattle.osi_session.specs.Joining.{Taker, heard}
+use Rattle.osi_session.proofs.Vocabulary.{meant_by, Taker, heard}
 use Rattle.osi_session.proofs.HearingLaws.{message_is, message_takes}
 use Rattle.osi_session.proofs.hearing.take_says.Goals as goal
 

@@ -1,7 +1,5 @@
 use Rattle.std.proofs.Common.{◌≡◌, ◌<◌, ◌∙◌, ℕ, List, Some, length, ap, sym, subst}
-use Rattle.osi_message.specs.Parting.{in_one}
-use Rattle.osi_session.specs.Openings.{asked_for}
-use Rattle.osi_session.specs.Sessions.{unit_in}
+use Rattle.osi_session.proofs.Vocabulary.{in_one, asked_for, unit_in}
 use Rattle.osi_session.proofs.SendableLaws.{asked_sendable}
 use Rattle.osi_session.proofs.SessionLaws.{read_again, asked_alone}
 use Rattle.osi_session.proofs.sessions.written_connect.Goals as goal

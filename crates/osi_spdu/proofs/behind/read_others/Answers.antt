@@ -1,6 +1,5 @@
 use Rattle.std.proofs.Common.{◌≡◌, ◌≤◌, ◌∙◌, Err, length, ap, sym, arith, rules}
-use Rattle.std.proofs.lemmas.Result.{err_from_is_err_and}
-use Rattle.osi_spdu.specs.Found.{later_of}
+use Rattle.osi_spdu.proofs.Vocabulary.{err_from_is_err_and, later_of}
 use Rattle.osi_spdu.proofs.BehindLaws.{behind_full, behind_bad, left_none, leads_start, leads_next}
 use Rattle.osi_spdu.proofs.CanonicalLaws.{unit_formed}
 use Rattle.osi_spdu.proofs.behind.read_others.Goals as goal

@@ -1,6 +1,5 @@
 use Rattle.std.proofs.Common.{◌≡◌, ◌∙◌, Ok, ap, sym, length, rules}
-use Rattle.osi_spdu.specs.Known.{nothing}
-use Rattle.osi_spdu.specs.Reading.{in_unit}
+use Rattle.osi_spdu.proofs.Vocabulary.{nothing, in_unit}
 use Rattle.osi_spdu.proofs.Loops.{taking_start, taking_end}
 use Rattle.osi_spdu.proofs.levels.read_parameters.Goals as goal
 

@@ -1,8 +1,5 @@
 use Rattle.std.proofs.Common.{◌≡◌, ◌∙◌, ap, sym}
-use Rattle.std.specs.Prelude.{is_some}
-use Rattle.osi_spdu.specs.declared.codes.Code.{Code}
-use Rattle.osi_spdu.specs.Codes.{slot_of}
-use Rattle.osi_spdu.specs.Params.{slots_of}
+use Rattle.osi_spdu.proofs.Vocabulary.{is_some, Code, slot_of, slots_of}
 use Rattle.osi_spdu.proofs.Loops.{stored_twice, stored_bad, stored_done}
 use Rattle.osi_spdu.proofs.levels.store.Goals as goal
 

@@ -1,8 +1,6 @@
 use Rattle.std.proofs.Common.{◌≡◌, ◌∙◌, length, sym, arith}
-use Rattle.std.proofs.lemmas.Bool.{eqb-true, eqb-false}
-use Rattle.std.proofs.lemmas.Result.{err_from_is_err_and}
-use Rattle.osi_spdu.specs.Params.{slots_of}
 use Rattle.osi_spdu.specs.Counted.{measured_of}
+use Rattle.osi_spdu.proofs.Vocabulary.{eqb-true, eqb-false, err_from_is_err_and, slots_of}
 use Rattle.osi_spdu.proofs.Loops.{taking_next, taking_fault, taking_refused, taking_end}
 use Rattle.osi_spdu.proofs.levels.take_all.Goals as goal
 

@@ -1,9 +1,5 @@
 use Rattle.std.proofs.Common.{◌≡◌, ◌∙◌, true, length, sym, subst, rules, option_map}
-use Rattle.osi_spdu.specs.declared.kinds.Category.TheVariants.{Zero}
-use Rattle.osi_spdu.specs.declared.kinds.Kind.{Kind}
-use Rattle.osi_spdu.specs.Kinds.{category_of}
-use Rattle.osi_spdu.specs.Writing.{is_joined}
-use Rattle.osi_spdu.specs.Found.{placed_of}
+use Rattle.osi_spdu.proofs.Vocabulary.{Zero, Kind, category_of, is_joined, placed_of}
 use Rattle.osi_spdu.proofs.BehindLaws.{joined_behind}
 use Rattle.osi_spdu.proofs.TsduLaws.{tsdu_goes, continued_trailing}
 use Rattle.osi_spdu.proofs.reading.read_all.Goals as goal

@@ -1,7 +1,5 @@
 use Rattle.std.proofs.Common.{◌≡◌, true, List, get_or, subst}
-use Rattle.osi_spdu.specs.declared.codes.Code.{Code}
-use Rattle.osi_spdu.specs.declared.codes.Code.TheVariants.{ConnectionIdentifier}
-use Rattle.osi_spdu.specs.Writing.{among}
+use Rattle.osi_spdu.proofs.Vocabulary.{Code, ConnectionIdentifier, among}
 use Rattle.osi_spdu.proofs.GroupLengthLaws.{among_at}
 use Rattle.osi_spdu.proofs.writing.body_len.Goals as goal
 

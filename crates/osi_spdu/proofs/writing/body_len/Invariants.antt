@@ -1,5 +1,4 @@
-use Rattle.osi_spdu.specs.Params.{known_of}
-use Rattle.osi_spdu.specs.Writing.{parameter_octets}
+use Rattle.osi_spdu.proofs.Vocabulary.{known_of, parameter_octets}
 use Rattle.osi_spdu.proofs.WritingLoops.{IsCounting}
 use Rattle.osi_spdu.proofs.writing.body_len.Given as goal
 

@@ -1,6 +1,5 @@
 use Rattle.std.proofs.Common.{length, ap, arith}
-use Rattle.osi_spdu.specs.Groups.{units_behind}
-use Rattle.osi_spdu.specs.Units.{said_by}
+use Rattle.osi_spdu.proofs.Vocabulary.{units_behind, said_by}
 use Rattle.osi_spdu.proofs.WritingUnits.{one_len, one_fits}
 use Rattle.osi_spdu.proofs.KeptLengths.{one_kept}
 use Rattle.osi_spdu.proofs.writing.count_behind.Goals as goal

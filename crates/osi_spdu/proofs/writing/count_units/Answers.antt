@@ -1,7 +1,5 @@
 use Rattle.std.proofs.Common.{◌≡◌, ◌+◌, ℕ, length, ap, sym, subst, arith}
-use Rattle.osi_spdu.specs.Groups.{units_behind}
-use Rattle.osi_spdu.specs.Units.{said_by}
-use Rattle.osi_spdu.specs.Writing.{unit_octets}
+use Rattle.osi_spdu.proofs.Vocabulary.{units_behind, said_by, unit_octets}
 use Rattle.osi_spdu.proofs.CanonicalLaws.{behind_formed}
 use Rattle.osi_spdu.proofs.WritingUnits.{IsCountingUnits, counting_start, counts_next, counting_end}
 use Rattle.osi_spdu.proofs.KeptLengths.{keeping_start, keeping_within, keeping_next, keeping_end}

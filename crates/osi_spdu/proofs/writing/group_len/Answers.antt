@@ -1,8 +1,5 @@
 use Rattle.std.proofs.Common.{◌≡◌, ◌∙◌, not, List, length, ap, sym, arith}
-use Rattle.osi_spdu.specs.declared.codes.Code.{Code}
-use Rattle.osi_spdu.specs.Octets.{octets_of}
-use Rattle.osi_spdu.specs.Params.{known_of}
-use Rattle.osi_spdu.specs.Writing.{members_octets, group_octets}
+use Rattle.osi_spdu.proofs.Vocabulary.{Code, octets_of, known_of, members_octets, group_octets}
 use Rattle.osi_spdu.proofs.GroupLengthLaws.{group_within, mapped_there}
 use Rattle.osi_spdu.proofs.writing.group_len.Goals as goal
 

@@ -1,9 +1,5 @@
 use Rattle.std.proofs.Common.{◌∙◌, ap, length, subst, arith}
-use Rattle.osi_spdu.specs.Known.{Contents, Units}
-use Rattle.osi_spdu.specs.Units.{said_by}
-use Rattle.osi_spdu.specs.Groups.{units_behind}
-use Rattle.osi_spdu.specs.Writing.{unit_octets, tsdu_octets}
-use Rattle.osi_spdu.specs.UnitLengths.{AreHeld, AreLengths}
+use Rattle.osi_spdu.proofs.Vocabulary.{Contents, Units, said_by, units_behind, unit_octets, tsdu_octets, AreHeld, AreLengths}
 use Rattle.osi_spdu.proofs.WritingUnits.{first_len}
 use Rattle.osi_spdu.proofs.CanonicalLaws.{group_plain}
 use Rattle.osi_spdu.proofs.writing.lengths_of.Goals as goal

@@ -1,8 +1,5 @@
 use Rattle.std.proofs.Common.{◌++◌, ℕ, List, [], length, ap, sym, ◌∙◌, append_assoc, arith}
-use Rattle.osi_spdu.specs.Groups.{units_behind}
-use Rattle.osi_spdu.specs.Kinds.{category_of}
-use Rattle.osi_spdu.specs.Units.{said_by}
-use Rattle.osi_spdu.specs.Writing.{unit_octets}
+use Rattle.osi_spdu.proofs.Vocabulary.{units_behind, category_of, said_by, unit_octets}
 use Rattle.osi_spdu.proofs.CanonicalLaws.{behind_formed}
 use Rattle.osi_spdu.proofs.GroupLengthLaws.{next_two}
 use Rattle.osi_spdu.proofs.KeptLengths.{next_length}

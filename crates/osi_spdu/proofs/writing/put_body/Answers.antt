@@ -1,9 +1,5 @@
 use Rattle.std.proofs.Common.{◌≡◌, ◌<◌, true, List, length, get_or, sym, subst, arith}
-use Rattle.std.specs.List.{flat_map}
-use Rattle.osi_spdu.specs.declared.codes.Code.{Code}
-use Rattle.osi_spdu.specs.declared.codes.Code.TheVariants.{ConnectionIdentifier}
-use Rattle.osi_spdu.specs.Params.{known_of}
-use Rattle.osi_spdu.specs.Writing.{among, parameter_octets, body_octets}
+use Rattle.osi_spdu.proofs.Vocabulary.{flat_map, Code, ConnectionIdentifier, known_of, among, parameter_octets, body_octets}
 use Rattle.osi_spdu.proofs.GroupLengthLaws.{among_at}
 use Rattle.osi_spdu.proofs.WritingLoops.{piece_len, tail_less}
 use Rattle.osi_spdu.proofs.writing.put_body.Goals as goal

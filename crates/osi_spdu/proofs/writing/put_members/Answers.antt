@@ -1,7 +1,5 @@
 use Rattle.std.proofs.Common.{arith}
-use Rattle.osi_spdu.specs.declared.codes.Code.TheVariants.{ConnectionIdentifier}
-use Rattle.osi_spdu.specs.Params.{known_of}
-use Rattle.osi_spdu.specs.Writing.{member_octets}
+use Rattle.osi_spdu.proofs.Vocabulary.{ConnectionIdentifier, known_of, member_octets}
 use Rattle.osi_spdu.proofs.WritingLoops.{piece_len, tail_less}
 use Rattle.osi_spdu.proofs.writing.put_members.Goals as goal
 

@@ -1,5 +1,4 @@
-use Rattle.osi_spdu.specs.Params.{known_of}
-use Rattle.osi_spdu.specs.Writing.{member_octets}
+use Rattle.osi_spdu.proofs.Vocabulary.{known_of, member_octets}
 use Rattle.osi_spdu.proofs.WritingLoops.{IsPutting}
 use Rattle.osi_spdu.proofs.writing.put_members.Given as goal
 

@@ -1,6 +1,5 @@
 use Rattle.std.proofs.Common.{length, drop}
-use Rattle.osi_spdu.specs.Groups.{units_behind}
-use Rattle.osi_spdu.specs.UnitLengths.{AreLengths}
+use Rattle.osi_spdu.proofs.Vocabulary.{units_behind, AreLengths}
 use Rattle.osi_spdu.proofs.WritingUnits.{IsPuttingUnits}
 use Rattle.osi_spdu.proofs.writing.put_units.Given as goal
 

@@ -1,9 +1,7 @@
 use Rattle.std.proofs.Common.{◌∙◌, subst}
-use Rattle.osi_tpkt.specs.Octets.{IsOctets}
+use Rattle.osi_spdu.proofs.Vocabulary.{IsOctets, units_of, tsdu_octets}
 use Rattle.osi_spdu.proofs.CanonicalLaws.{group_spelled, group_read}
 use Rattle.osi_spdu.proofs.WritingUnits.{octets_behind}
-use Rattle.osi_spdu.specs.Groups.{units_of}
-use Rattle.osi_spdu.specs.Writing.{tsdu_octets}
 use Rattle.osi_spdu.proofs.writing.write_tsdu.Goals as goal
 
 pub returns-in_err-reserve-clause-read : goal.returns-in_err-reserve-clause-read

@@ -1,10 +1,5 @@
 use Rattle.std.proofs.Common.{◌≡◌, None, refl, sym, ap, subst}
-use Rattle.std.specs.Prelude.{OnOk, IfErr}
-use Rattle.osi_session.specs.Calls.{Call, Data, called_by}
-use Rattle.osi_session.specs.Listening.{called, react}
-use Rattle.osi_session.specs.Sizes.{limit_of}
-use Rattle.osi_stack.specs.Calls.{move_refusal, Refuses}
-use Rattle.osi_stack.specs.Moving.{answers}
+use Rattle.osi_stack.proofs.Vocabulary.{OnOk, IfErr, Call, Data, called_by, called, react, limit_of, move_refusal, Refuses, answers}
 use Rattle.osi_stack.proofs.Calling.{call_handed, call_allowed, call_refused}
 use Rattle.osi_stack.proofs.calls.make_call.Goals as goal
 

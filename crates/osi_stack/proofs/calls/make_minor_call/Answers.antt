@@ -1,6 +1,5 @@
 use Rattle.std.proofs.Common.{refl}
-use Rattle.osi_session.specs.Calls.{Minor}
-use Rattle.osi_session.specs.Sizes.{limit_of}
+use Rattle.osi_stack.proofs.Vocabulary.{Minor, limit_of}
 use Rattle.osi_stack.proofs.Calling.{call_handed, call_refused}
 use Rattle.osi_stack.proofs.calls.make_minor_call.Goals as goal
 

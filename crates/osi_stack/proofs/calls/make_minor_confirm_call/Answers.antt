@@ -1,6 +1,5 @@
 use Rattle.std.proofs.Common.{refl}
-use Rattle.osi_session.specs.Calls.{MinorConfirm}
-use Rattle.osi_session.specs.Sizes.{limit_of}
+use Rattle.osi_stack.proofs.Vocabulary.{MinorConfirm, limit_of}
 use Rattle.osi_stack.proofs.Calling.{call_handed, call_refused}
 use Rattle.osi_stack.proofs.calls.make_minor_confirm_call.Goals as goal
 

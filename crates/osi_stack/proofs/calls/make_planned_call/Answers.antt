@@ -1,7 +1,5 @@
 use Rattle.std.proofs.Common.{Ok, Err}
-use Rattle.osi_session.specs.Calls.{called_by}
-use Rattle.osi_session.specs.Sizes.{limit_of}
-use Rattle.osi_session.specs.declared.faults.CallError.{CallError}
+use Rattle.osi_stack.proofs.Vocabulary.{called_by, limit_of, CallError}
 use Rattle.osi_stack.proofs.Calling.{call_handed, call_allowed, call_refused}
 use Rattle.osi_stack.proofs.calls.make_planned_call.Goals as goal
 

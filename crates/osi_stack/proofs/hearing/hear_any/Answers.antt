@@ -1,8 +1,5 @@
 use Rattle.std.proofs.Common.{◌≡◌, ◌∙◌, ap, option_map, rules}
-use Rattle.osi_carrier.specs.State.{State as Carrier}
-use Rattle.osi_message.specs.Parting.{in_one}
-use Rattle.osi_session.specs.Listening.{react}
-use Rattle.osi_stack.specs.Telling.{told_input}
+use Rattle.osi_stack.proofs.Vocabulary.{State as Carrier, in_one, react, told_input}
 use Rattle.osi_stack.proofs.Handing.{answer_heard}
 use Rattle.osi_stack.proofs.hearing.hear_any.Goals as goal
 

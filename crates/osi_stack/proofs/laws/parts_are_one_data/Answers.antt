@@ -1,10 +1,6 @@
 use Rattle.std.proofs.Common.{◌∙◌, ◌++◌, sym, map}
-use Rattle.osi_message.specs.Meanings.{DT}
-use Rattle.osi_message.specs.Words.{part_octets}
-use Rattle.osi_message.specs.Written.{written}
 use Rattle.osi_message.specs.declared.places.Place.TheVariants.{Last}
-use Rattle.osi_session.specs.Listening.{came, after_inputs}
-use Rattle.osi_session.specs.Parts.{act_in_octets, calls_in}
+use Rattle.osi_stack.proofs.Vocabulary.{DT, part_octets, written, came, after_inputs, act_in_octets, calls_in}
 use Rattle.osi_stack.proofs.Handing.{came_unbounded}
 use Rattle.osi_stack.proofs.Parted.{parts_as_whole}
 use Rattle.osi_stack.proofs.Selecting.{data_selectors}

@@ -1,6 +1,5 @@
 use Rattle.std.proofs.Common.{◌<◌, ℕ, length, arith, sym, ap, ◌∙◌}
-use Rattle.std.proofs.lemmas.Bool.Decides.{nat_tests}
-use Rattle.osi_stack.specs.State.{Line, line_waits}
+use Rattle.osi_stack.proofs.Vocabulary.{nat_tests, Line, line_waits}
 use Rattle.osi_stack.proofs.Waiting.{only_first}
 use Rattle.osi_stack.proofs.lines.first_place.Goals as goal
 

@@ -1,6 +1,5 @@
 use Rattle.std.proofs.Common.{ℕ, ◌<◌, length, sym, ap, arith, ◌∙◌}
-use Rattle.osi_stack.specs.Hearing.{loses}
-use Rattle.osi_stack.specs.State.{Line}
+use Rattle.osi_stack.proofs.Vocabulary.{loses, Line}
 use Rattle.osi_stack.proofs.Losing.{lost_step}
 use Rattle.osi_stack.proofs.lines.lose_each.Goals as goal
 

@@ -1,7 +1,5 @@
 use Rattle.std.proofs.Common.{ℕ, ◌-◌, ◌<◌, List, length, is_some, sym, ap, subst, ◌∙◌}
-use Rattle.std.proofs.lemmas.Bool.{eqb-true}
-use Rattle.osi_stack.specs.Feeding.{Goes}
-use Rattle.osi_stack.specs.State.{holding}
+use Rattle.osi_stack.proofs.Vocabulary.{eqb-true, Goes, holding}
 use Rattle.osi_stack.proofs.Pieces.{IsRead, read_first, read_waits, read_ended, read_dry, read_on, nonzero}
 use Rattle.osi_stack.proofs.Empties.{idle_goes}
 use Rattle.osi_stack.proofs.reading.read.Goals as goal

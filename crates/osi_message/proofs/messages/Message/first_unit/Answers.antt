@@ -1,10 +1,7 @@
 use Rattle.std.proofs.Common.{◌≡◌, ◌∙◌, ap, false, subst, refl, arith}
-use Rattle.osi_spdu.specs.declared.kinds.Kind.TheVariants.{NotFinished, Finish, Disconnect, Abort, AbortAccept}
-use Rattle.osi_message.specs.Written.{unit_with, unit_of, user_data_of, is_second}
+use Rattle.osi_message.proofs.Vocabulary.{NotFinished, Finish, Disconnect, Abort, AbortAccept, unit_with, unit_of, user_data_of, is_second, Message, meant_by}
 use Rattle.osi_message.proofs.WritingLaws.{none_known, data_known, abort_known}
-use Rattle.osi_message.specs.declared.messages.Message.{Message}
 use Rattle.osi_message.specs.declared.messages.Message.TheVariants as message
-use Rattle.osi_message.specs.Meanings.{meant_by}
 use Rattle.osi_message.proofs.messages.Message.first_unit.Goals as goal
 use Rattle.osi_message.proofs.messages.Message.first_unit.Goals.{in-Connect, in-Accept, in-Refuse, in-Give, in-Please, in-Finish, in-Disconnect, in-NotFinished, in-Abort, in-AbortAccept}
 

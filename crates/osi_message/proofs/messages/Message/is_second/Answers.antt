@@ -1,8 +1,6 @@
 use Rattle.std.proofs.Common.{◌≡◌, false, refl}
-use Rattle.osi_message.specs.declared.messages.Message.{Message}
 use Rattle.osi_message.specs.declared.messages.Message.TheVariants as message
-use Rattle.osi_message.specs.Meanings.{meant_by}
-use Rattle.osi_message.specs.Written.{is_second}
+use Rattle.osi_message.proofs.Vocabulary.{Message, meant_by, is_second}
 use Rattle.osi_message.proofs.messages.Message.is_second.Goals as goal
 
 pub returns-in_default : goal.returns-in_default

@@ -1,6 +1,5 @@
 use Rattle.std.proofs.Common.{◌∙◌}
-use Rattle.osi_message.specs.Meanings.{DT}
-use Rattle.osi_session.specs.Calls.{Data}
+use Rattle.osi_session.proofs.Vocabulary.{DT, Data}
 use Rattle.osi_session.proofs.Accepted.{accepts, rests_by}
 use Rattle.osi_session.proofs.SentLaws.{limit_sized}
 use Rattle.osi_session.proofs.sessions.Session.call_bounded_data.Goals as goal

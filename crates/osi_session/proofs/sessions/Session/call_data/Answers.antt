@@ -1,9 +1,5 @@
 use Rattle.std.proofs.Common.{◌≡◌, ◌∙◌, Ok, rules, arith}
-use Rattle.osi_message.specs.Meanings.{DT}
-use Rattle.osi_message.specs.Parting.{words_sent}
-use Rattle.osi_session.specs.Allowed.{allowed}
-use Rattle.osi_session.specs.Calls.{Data}
-use Rattle.osi_session.specs.Sizes.{limit_of}
+use Rattle.osi_session.proofs.Vocabulary.{DT, words_sent, allowed, Data, limit_of}
 use Rattle.osi_session.proofs.Accepted.{accepts, rests_by}
 use Rattle.osi_session.proofs.sessions.Session.call_data.Goals as goal
 

@@ -1,6 +1,5 @@
 use Rattle.std.proofs.Common.{◌∙◌}
-use Rattle.osi_session.specs.Calls.{called_by}
-use Rattle.osi_session.specs.Steps.{step_of}
+use Rattle.osi_session.proofs.Vocabulary.{called_by, step_of}
 use Rattle.osi_session.proofs.CallLaws.{sent_short}
 use Rattle.osi_session.proofs.SentLaws.{limit_sized}
 use Rattle.osi_session.proofs.SessionLaws.{request_small, request_sound, request_begun}

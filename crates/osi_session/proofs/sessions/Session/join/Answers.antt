@@ -1,7 +1,5 @@
 use Rattle.std.proofs.Common.{ap, ◌∙◌}
-use Rattle.osi_session.specs.Steps.{shown_list}
-use Rattle.std.specs.Option.{option_and_then}
-use Rattle.osi_session.specs.Sessions.{unit_in}
+use Rattle.osi_session.proofs.Vocabulary.{shown_list, option_and_then, unit_in}
 use Rattle.osi_session.proofs.SessionMoves.{part_joins, part_refused}
 use Rattle.osi_session.proofs.sessions.Session.join.Goals as goal
 

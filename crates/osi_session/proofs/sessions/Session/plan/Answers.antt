@@ -1,8 +1,5 @@
 use Rattle.std.proofs.Common.{◌∙◌, ℕ, ap, sym, refl}
-use Rattle.osi_session.specs.Listening.{Listener}
-use Rattle.osi_message.specs.Parting.{tsdus_of, tsdus_sent}
-use Rattle.osi_session.specs.Calls.{called_by}
-use Rattle.osi_session.specs.Steps.{step_of}
+use Rattle.osi_session.proofs.Vocabulary.{Listener, tsdus_of, tsdus_sent, called_by, step_of}
 use Rattle.osi_session.proofs.CallLaws.{sent_short}
 use Rattle.osi_session.proofs.MoveLaws.{plan_of}
 use Rattle.osi_session.proofs.SentLaws.{limit_sized}

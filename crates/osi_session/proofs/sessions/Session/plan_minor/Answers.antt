@@ -1,10 +1,4 @@
-use Rattle.std.specs.Option.{option_and_then}
-use Rattle.osi_message.specs.Meanings.{MIP}
-use Rattle.osi_message.specs.Parting.{words_sent}
-use Rattle.osi_message.specs.Written.{user_data_of}
-use Rattle.osi_session.specs.Allowed.{Step}
-use Rattle.osi_session.specs.Calls.{Call, Minor}
-use Rattle.osi_session.specs.Sessions.{unit_in}
+use Rattle.osi_session.proofs.Vocabulary.{option_and_then, MIP, words_sent, user_data_of, Step, Call, Minor, unit_in}
 use Rattle.osi_session.proofs.CallLaws.{sent_short}
 use Rattle.osi_session.proofs.PointLaws.{point_passes, point_planned}
 use Rattle.osi_session.proofs.sessions.Session.plan_minor.Goals as goal

@@ -1,13 +1,5 @@
 use Rattle.std.proofs.Common.{◌≡◌, refl, subst, sym, ℕ, List, Option, true, option_copied}
-use Rattle.std.specs.Option.{option_and_then}
-use Rattle.osi_session.specs.Listening.{Listener, Move, moved, taker_of}
-use Rattle.osi_session.specs.Joining.{kept_in, respond_tsdu}
-use Rattle.osi_session.specs.Steps.{hearing_of_all}
-use Rattle.osi_session.specs.Sessions.{unit_in, takes_memory}
-use Rattle.osi_spdu.specs.Groups.{units_of}
-use Rattle.osi_message.specs.Reading.{said_by_units}
-use Rattle.osi_message.specs.Words.{Words}
-use Rattle.osi_message.proofs.NumberLaws.{units_numbered}
+use Rattle.osi_session.proofs.Vocabulary.{option_and_then, Listener, Move, moved, taker_of, kept_in, respond_tsdu, hearing_of_all, unit_in, takes_memory, units_of, said_by_units, Words, units_numbered}
 use Rattle.osi_session.proofs.MoveLaws.{taken_is}
 use Rattle.osi_session.proofs.SessionMoves.{leaves_words, heard_by, room_by, leaves_by, takes_as}
 use Rattle.osi_session.proofs.sessions.Session.take.Goals as goal

@@ -1,10 +1,5 @@
 use Rattle.std.proofs.Common.{◌∙◌, refl, ap, sym}
-use Rattle.std.specs.Option.{option_and_then}
-use Rattle.osi_session.specs.Listening.{Listener, moved}
-use Rattle.osi_session.specs.Joining.{heard}
-use Rattle.osi_session.specs.Steps.{hearing_of_all}
-use Rattle.osi_session.specs.Sessions.{unit_in}
-use Rattle.osi_session.specs.Respond.{respond_fault}
+use Rattle.osi_session.proofs.Vocabulary.{option_and_then, Listener, moved, heard, hearing_of_all, unit_in, respond_fault}
 use Rattle.osi_session.proofs.MoveLaws.{unread_is}
 use Rattle.osi_session.proofs.SessionMoves.{Holds, holds, leaves_fault, leaves_as, of_heard, takes_as}
 use Rattle.osi_session.proofs.sessions.Session.take_bad.Goals as goal

@@ -1,14 +1,7 @@
 use Rattle.std.proofs.Common.{◌≡◌, ◌∙◌, ap, subst, sym, refl, ℕ, List, true, None}
-use Rattle.std.specs.Option.{option_and_then}
-use Rattle.osi_message.specs.Meanings.{DT}
-use Rattle.osi_message.specs.Reading.{said_at}
 use Rattle.osi_session.specs.declared.indications.Indication.TheVariants as indication
-use Rattle.osi_session.specs.Joining.{heard}
-use Rattle.osi_session.specs.Listening.{Listener, Move}
-use Rattle.osi_session.specs.Points.{only_shows}
-use Rattle.osi_session.specs.Respond.{shows}
-use Rattle.osi_session.specs.Sessions.{takes_memory, unit_in}
 use Rattle.osi_session.specs.Shown.{Data}
+use Rattle.osi_session.proofs.Vocabulary.{option_and_then, DT, said_at, heard, Listener, Move, only_shows, shows, takes_memory, unit_in}
 use Rattle.osi_session.proofs.PointLaws.{point_shows, unit_comes}
 use Rattle.osi_session.proofs.sessions.Session.take_expected.Goals as goal
 use Rattle.osi_session.proofs.sessions.Session.take_expected.Goals.{in-Ok, in-Err}

@@ -1,10 +1,5 @@
 use Rattle.std.proofs.Common.{◌≡◌, refl, subst, sym, ℕ, List, Option, true, option_copied}
-use Rattle.std.specs.Option.{option_and_then}
-use Rattle.osi_session.specs.Listening.{Listener, Move, moved, taker_of}
-use Rattle.osi_session.specs.Joining.{kept_in, respond_came}
-use Rattle.osi_session.specs.Steps.{hearing_of_all}
-use Rattle.osi_session.specs.Sessions.{unit_in, takes_memory}
-use Rattle.osi_message.specs.Reading.{said_at}
+use Rattle.osi_session.proofs.Vocabulary.{option_and_then, Listener, Move, moved, taker_of, kept_in, respond_came, hearing_of_all, unit_in, takes_memory, said_at}
 use Rattle.osi_session.proofs.MoveLaws.{came_is}
 use Rattle.osi_session.proofs.SessionMoves.{leaves_octets, heard_by, room_by, leaves_by, takes_as, takes_nothing}
 use Rattle.osi_session.proofs.sessions.Session.take_general.Goals as goal

@@ -1,12 +1,5 @@
 use Rattle.std.proofs.Common.{refl, ap, sym, option_copied}
-use Rattle.std.specs.Option.{option_and_then}
-use Rattle.osi_session.specs.Listening.{Listener, moved, taker_of}
-use Rattle.osi_session.specs.Joining.{respond_word}
-use Rattle.osi_session.specs.Steps.{hearing_of_all}
-use Rattle.osi_session.specs.Sessions.{unit_in}
-use Rattle.osi_message.specs.Meanings.{meant_by}
-use Rattle.osi_message.proofs.NumberLaws.{meant_numbered}
-use Rattle.osi_message.specs.Words.{Word, says}
+use Rattle.osi_session.proofs.Vocabulary.{option_and_then, Listener, moved, taker_of, respond_word, hearing_of_all, unit_in, meant_by, meant_numbered, Word, says}
 use Rattle.osi_session.proofs.SessionMoves.{leaves_word, of_heard, heard_by, room_by, leaves_by, takes_as, takes_nothing}
 use Rattle.osi_session.proofs.sessions.Session.take_message.Goals as goal
 

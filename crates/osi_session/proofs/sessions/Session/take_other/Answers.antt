@@ -1,8 +1,5 @@
 use Rattle.std.proofs.Common.{◌∙◌, ap, sym}
-use Rattle.osi_session.specs.Listening.{Listener, moved, taker_of}
-use Rattle.osi_session.specs.Joining.{respond_word, respond_came}
-use Rattle.osi_message.specs.Plain.{plain_word}
-use Rattle.osi_message.specs.Reading.{said_at}
+use Rattle.osi_session.proofs.Vocabulary.{Listener, moved, taker_of, respond_word, respond_came, plain_word, said_at}
 use Rattle.osi_session.proofs.MoveLaws.{came_is}
 use Rattle.osi_session.proofs.WordLaws.{word_behind}
 use Rattle.osi_session.proofs.SessionMoves.{takes_as}

@@ -1,12 +1,6 @@
 use Rattle.std.proofs.Common.{◌≡◌, ◌∙◌, ap, sym, option_copied}
-use Rattle.std.specs.Option.{option_and_then}
 use Rattle.osi_session.specs.declared.joining.PartVerdict.TheVariants as is
-use Rattle.osi_message.specs.Words.{Word, part}
-use Rattle.osi_session.specs.Listening.{Listener, moved, taker_of}
-use Rattle.osi_session.specs.Joining.{heard, respond_word, word_verdict}
-use Rattle.osi_session.specs.Respond.{bad}
-use Rattle.osi_session.specs.Sessions.{unit_in}
-use Rattle.osi_session.specs.Steps.{hearing_of_all, told_of}
+use Rattle.osi_session.proofs.Vocabulary.{option_and_then, Word, part, Listener, moved, taker_of, heard, respond_word, word_verdict, bad, unit_in, hearing_of_all, told_of}
 use Rattle.osi_session.proofs.HearingLaws.{part_bad}
 use Rattle.osi_session.proofs.SessionMoves.{Holds, holds, leaves_word, leaves_as, of_heard, of_place, part_rests, takes_as}
 use Rattle.osi_session.proofs.sessions.Session.take_part.Goals as goal

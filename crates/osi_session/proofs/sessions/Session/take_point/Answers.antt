@@ -1,6 +1,4 @@
-use Rattle.std.specs.Option.{option_and_then}
-use Rattle.osi_message.specs.Reading.{said_at}
-use Rattle.osi_session.specs.Sessions.{unit_in}
+use Rattle.osi_session.proofs.Vocabulary.{option_and_then, said_at, unit_in}
 use Rattle.osi_session.proofs.PointLaws.{point_leaves, point_shows}
 use Rattle.osi_session.proofs.sessions.Session.take_point.Goals as goal
 

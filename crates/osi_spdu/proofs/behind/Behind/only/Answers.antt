@@ -1,7 +1,5 @@
 use Rattle.std.proofs.Common.{◌≡◌, ◌∙◌, ◌∷◌, length, ap, rules}
-use Rattle.osi_spdu.specs.Units.{said_by}
-use Rattle.osi_spdu.specs.Behind.{left_at}
-use Rattle.osi_spdu.specs.Groups.{units_from}
+use Rattle.osi_spdu.proofs.Vocabulary.{said_by, left_at, units_from}
 use Rattle.osi_spdu.proofs.BehindLaws.{left_empty}
 use Rattle.osi_spdu.proofs.behind.Behind.only.Goals as goal
 

@@ -1,6 +1,5 @@
 use Rattle.std.proofs.Common.{◌≡◌, ◌≤◌, ◌∙◌, Ok, length, ap, sym, arith, rules}
-use Rattle.std.proofs.lemmas.Result.{err_from_is_err_and}
-use Rattle.osi_spdu.specs.Found.{later_of}
+use Rattle.osi_spdu.proofs.Vocabulary.{err_from_is_err_and, later_of}
 use Rattle.osi_spdu.proofs.BehindLaws.{behind_none, behind_bad, others_bad, others_read}
 use Rattle.osi_spdu.proofs.behind.Behind.read.Goals as goal
 

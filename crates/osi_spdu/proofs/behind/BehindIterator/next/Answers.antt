@@ -1,8 +1,5 @@
 use Rattle.std.proofs.Common.{◌≡◌, ◌≤◌, ◌∙◌, ◌∷◌, length, ap, arith, rules}
-use Rattle.osi_spdu.specs.Found.{later_of}
-use Rattle.osi_spdu.specs.Units.{said_by}
-use Rattle.osi_spdu.specs.Behind.{left_at}
-use Rattle.osi_spdu.specs.Groups.{units_from}
+use Rattle.osi_spdu.proofs.Vocabulary.{later_of, said_by, left_at, units_from}
 use Rattle.osi_spdu.proofs.BehindLaws.{left_empty, left_goes, left_never_bad, nothing_stands}
 use Rattle.osi_spdu.proofs.behind.BehindIterator.next.Goals as goal
 

@@ -1,9 +1,5 @@
 use Rattle.std.proofs.Common.{◌≡◌, true, Some, ap, sym, subst, refl}
-use Rattle.osi_spdu.specs.declared.kinds.Kind.{Kind}
-use Rattle.osi_spdu.specs.declared.kinds.Kind.TheVariants.{GiveTokens}
-use Rattle.osi_spdu.specs.Kinds.{category_of, may_stand}
-use Rattle.osi_spdu.specs.Known.{Contents}
-use Rattle.osi_spdu.specs.Writing.{is_joined}
+use Rattle.osi_spdu.proofs.Vocabulary.{Kind, GiveTokens, category_of, may_stand, Contents, is_joined}
 use Rattle.osi_spdu.proofs.TsduLaws.{joined_ok}
 use Rattle.osi_spdu.proofs.groups.Group.behind_give_tokens.Goals as goal
 

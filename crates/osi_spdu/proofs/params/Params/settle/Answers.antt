@@ -1,6 +1,5 @@
 use Rattle.std.proofs.Common.{◌∙◌, ap, refl, option_map}
-use Rattle.std.proofs.lemmas.Bool.{and_from}
-use Rattle.osi_spdu.specs.Params.{is_settled, has_octets}
+use Rattle.osi_spdu.proofs.Vocabulary.{and_from, is_settled, has_octets}
 use Rattle.osi_spdu.proofs.ParamsLaws.{settled_known, some_there}
 use Rattle.osi_spdu.proofs.params.Params.settle.Goals as goal
 

@@ -1,8 +1,5 @@
 use Rattle.std.proofs.Common.{◌≡◌, ◌∙◌, ◌&&◌, ◌==◌, false, length, sym}
-use Rattle.std.proofs.lemmas.Bool.{and_left, and_right, eqb-true}
-use Rattle.osi_spdu.specs.declared.codes.Code.TheVariants.{UserData}
-use Rattle.osi_spdu.specs.Codes.{is_same}
-use Rattle.osi_spdu.specs.Octets.{octets_of}
+use Rattle.osi_spdu.proofs.Vocabulary.{and_left, and_right, eqb-true, UserData, is_same, octets_of}
 use Rattle.osi_spdu.proofs.ParamsLaws.{known_some, known_none, known_empty}
 use Rattle.osi_spdu.proofs.params.Params.value.Goals as goal
 use Rattle.osi_spdu.proofs.params.Params.value.Goals.{else-is_user_data-via-then-is_user_data+else-is_empty, else-is_user_data-via-else-is_user_data}

@@ -1,6 +1,5 @@
 use Rattle.std.proofs.Common.{◌∙◌, ℕ, List, [], ◌∷◌, Option, Some, ap, sym, get_or, arith}
-use Rattle.std.proofs.lemmas.Bool.{eq-eqb}
-use Rattle.osi_spdu.specs.Values.{canonical, any_octet, token_bits}
+use Rattle.osi_spdu.proofs.Vocabulary.{eq-eqb, canonical, any_octet, token_bits}
 use Rattle.osi_spdu.proofs.OneOctet.{octet_if_one, token_bits_again}
 use Rattle.osi_spdu.proofs.tokens.TokenSet.read.Goals as goal
 

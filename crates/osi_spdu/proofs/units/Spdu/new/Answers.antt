@@ -1,7 +1,5 @@
 use Rattle.std.proofs.Common.{◌≡◌, true, sym, subst, []}
-use Rattle.osi_spdu.specs.Known.{Known, Contents}
-use Rattle.osi_spdu.specs.Params.{known_of}
-use Rattle.osi_spdu.specs.Writing.{is_formed}
+use Rattle.osi_spdu.proofs.Vocabulary.{Known, Contents, known_of, is_formed}
 use Rattle.osi_spdu.proofs.MadeLaws.{made_fits}
 use Rattle.osi_spdu.proofs.units.Spdu.new.Goals as goal
 

@@ -1,6 +1,5 @@
 use Rattle.std.proofs.Common.{refl}
-use Rattle.osi_spdu.specs.Codes.{is_group}
-use Rattle.osi_spdu.specs.Params.{known_of}
+use Rattle.osi_spdu.proofs.Vocabulary.{is_group, known_of}
 use Rattle.osi_spdu.proofs.GroupLengthLaws.{both_held}
 use Rattle.osi_spdu.proofs.writing.GroupLengths.of.Goals as goal
 

@@ -1,10 +1,5 @@
 use Rattle.std.proofs.Common.{◌≡◌, ℕ, [], ◌∷◌, ◌++◌, map, Option, None, ap, subst, ◌∙◌, option_map, if◌then◌else◌}
-use Rattle.osi_session.specs.Listening.{Listener}
-use Rattle.osi_session.specs.Phases.{shows_loss}
-use Rattle.osi_session.specs.Shown.{Lost, shown_by}
-use Rattle.osi_stack.specs.Hearing.{loses}
-use Rattle.osi_stack.specs.Selectors.{session_selectors}
-use Rattle.osi_stack.specs.State.{Line}
+use Rattle.osi_stack.proofs.Vocabulary.{Listener, shows_loss, Lost, shown_by, loses, session_selectors, Line}
 use Rattle.osi_stack.proofs.Losing.{lost_line}
 use Rattle.osi_stack.proofs.lines.Line.hear.Goals as goal
 

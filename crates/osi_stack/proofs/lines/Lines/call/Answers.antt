@@ -1,10 +1,5 @@
 use Rattle.std.proofs.Common.{◌≡◌, ◌+◌, Bool, cond, Some, None, get_or, refl, sym, ap, ◌∙◌}
-use Rattle.osi_carrier.proofs.Places.{placed}
-use Rattle.osi_carrier.specs.Rows.{Rows, place_of}
-use Rattle.osi_session.specs.Calls.{called_by}
-use Rattle.osi_session.specs.Listening.{called}
-use Rattle.osi_stack.specs.Calls.{session_refusal}
-use Rattle.osi_stack.specs.State.{Line, line_waits, session_in}
+use Rattle.osi_stack.proofs.Vocabulary.{placed, Rows, place_of, called_by, called, session_refusal, Line, line_waits, session_in}
 use Rattle.osi_stack.proofs.Found.{nowhere, heard_rows, allowed_at, refused_at}
 use Rattle.osi_stack.proofs.Waiting.{set_kept}
 use Rattle.osi_stack.proofs.lines.Lines.call.Goals as goal

@@ -1,6 +1,5 @@
 use Rattle.std.proofs.Common.{ap, ◌∙◌, is_some}
-use Rattle.osi_carrier.specs.Rows.{Rows, place_of}
-use Rattle.osi_stack.specs.State.{Line}
+use Rattle.osi_stack.proofs.Vocabulary.{Rows, place_of, Line}
 use Rattle.osi_stack.proofs.Found.{found}
 use Rattle.osi_stack.proofs.lines.Lines.has.Goals as goal
 

@@ -1,12 +1,6 @@
 use Rattle.std.proofs.Common.{rules, length, ◌≡◌, ◌+◌, true, false, Some, None, get_or, set, refl, sym, ap, subst, arith, ◌∙◌}
-use Rattle.std.specs.Prelude.{OnOk, OnErr}
-use Rattle.osi_carrier.proofs.Places.{placed}
-use Rattle.osi_carrier.specs.Rows.{Rows, place_of}
-use Rattle.osi_stack.specs.Hearing.{all_lost}
-use Rattle.osi_stack.specs.Moving.{to_session}
-use Rattle.osi_stack.specs.State.{Line}
-use Rattle.osi_stack.specs.Telling.{told_input}
 use Rattle.osi_stack.specs.declared.lines.Lines.TheInside.{Inside}
+use Rattle.osi_stack.proofs.Vocabulary.{OnOk, OnErr, placed, Rows, place_of, all_lost, to_session, Line, told_input}
 use Rattle.osi_stack.proofs.Found.{unheard, heard_rows}
 use Rattle.osi_stack.proofs.Losing.{stopped_rows}
 use Rattle.osi_stack.proofs.Needing.{needs_at}

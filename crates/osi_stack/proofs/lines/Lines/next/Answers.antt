@@ -1,10 +1,5 @@
 use Rattle.std.proofs.Common.{◌-◌, ◌+◌, ℕ, [], List, true, false, cond, map, Some, get_or, refl, sym, ap, subst, option_map, position, arith, ◌∙◌, ◌≡◌}
-use Rattle.osi_session.specs.Shown.{shown_by}
-use Rattle.osi_session.specs.declared.indications.Indication.{Indication}
-use Rattle.osi_carrier.specs.Rows.{Rows}
-use Rattle.osi_stack.specs.Calls.{TellsOf}
-use Rattle.osi_stack.specs.Selectors.{session_selectors}
-use Rattle.osi_stack.specs.State.{Line, line_waits, how_many_wait}
+use Rattle.osi_stack.proofs.Vocabulary.{shown_by, Indication, Rows, TellsOf, session_selectors, Line, line_waits, how_many_wait}
 use Rattle.osi_stack.proofs.FirstShown.{none_waits, first_is, never_popped, told_first}
 use Rattle.osi_stack.proofs.Waiting.{none_counted, set_kept}
 use Rattle.osi_stack.proofs.lines.Lines.next.Goals.{then-not-waits, else-not-waits}

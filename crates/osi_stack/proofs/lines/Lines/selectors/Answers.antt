@@ -1,8 +1,5 @@
 use Rattle.std.proofs.Common.{◌≡◌, Some, None, get_or, sym, ap, ◌∙◌}
-use Rattle.osi_carrier.proofs.Places.{here_is}
-use Rattle.osi_carrier.specs.Rows.{Rows, place_of}
-use Rattle.osi_stack.specs.Addresses.{selectors_in}
-use Rattle.osi_stack.specs.State.{Line}
+use Rattle.osi_stack.proofs.Vocabulary.{here_is, Rows, place_of, selectors_in, Line}
 use Rattle.osi_stack.proofs.Found.{nowhere}
 use Rattle.osi_stack.proofs.lines.Lines.selectors.Goals as goal
 

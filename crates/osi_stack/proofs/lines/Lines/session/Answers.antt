@@ -1,6 +1,5 @@
 use Rattle.std.proofs.Common.{◌≡◌, Some, None, get_or, sym, ap, ◌∙◌}
-use Rattle.osi_carrier.specs.Rows.{Rows, place_of}
-use Rattle.osi_stack.specs.State.{Line, session_in}
+use Rattle.osi_stack.proofs.Vocabulary.{Rows, place_of, Line, session_in}
 use Rattle.osi_stack.proofs.Found.{nowhere, session_here}
 use Rattle.osi_stack.proofs.lines.Lines.session.Goals as goal
 

@@ -1,7 +1,6 @@
 use Rattle.std.proofs.Common.{ap, sym, ◌∙◌}
-use Rattle.osi_message.specs.Reading.{meaning}
 use Rattle.osi_spdu.specs.Groups.{first_of, behind_of}
-use Rattle.osi_stack.specs.Selectors.{selectors_of}
+use Rattle.osi_stack.proofs.Vocabulary.{meaning, selectors_of}
 use Rattle.osi_stack.proofs.Selecting.{read_selectors, bad_selectors}
 use Rattle.osi_stack.proofs.names.SessionSelectors.read.Goals as goal
 

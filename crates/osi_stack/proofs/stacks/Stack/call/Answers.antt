@@ -1,11 +1,6 @@
 use Rattle.std.proofs.Common.{◌≡◌, sym, ap, subst, ◌∙◌}
-use Rattle.std.specs.Prelude.{OnOk, OnErr}
-use Rattle.osi_session.specs.Calls.{called_by}
-use Rattle.osi_session.specs.Listening.{called}
 use Rattle.osi_session.proofs.SessionLaws.{request_small}
-use Rattle.osi_stack.specs.Calls.{has_given}
-use Rattle.osi_stack.specs.Moving.{to_session}
-use Rattle.osi_stack.specs.State.{Holding, holding}
+use Rattle.osi_stack.proofs.Vocabulary.{OnOk, OnErr, called_by, called, has_given, to_session, Holding, holding}
 use Rattle.osi_stack.proofs.KeptCalls.{IsAnswered, answered_there, called_ok, called_err}
 use Rattle.osi_stack.proofs.Settling.{settled_by}
 use Rattle.osi_stack.proofs.stacks.Stack.call.Goals as goal

@@ -1,7 +1,5 @@
 use Rattle.std.proofs.Common.{◌≡◌, subst}
-use Rattle.std.specs.Prelude.{OnOk}
-use Rattle.osi_stack.specs.Calls.{connects}
-use Rattle.osi_stack.specs.State.{Holding, holding}
+use Rattle.osi_stack.proofs.Vocabulary.{OnOk, connects, Holding, holding}
 use Rattle.osi_stack.proofs.Settling.{settled_connect}
 use Rattle.osi_stack.proofs.stacks.Stack.connect.Goals as goal
 

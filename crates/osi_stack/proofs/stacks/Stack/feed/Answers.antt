@@ -1,6 +1,5 @@
 use Rattle.std.proofs.Common.{◌≡◌, false, is_some, sym, ap, ◌∙◌}
-use Rattle.osi_stack.specs.Feeding.{stops}
-use Rattle.osi_stack.specs.State.{holding, waits}
+use Rattle.osi_stack.proofs.Vocabulary.{stops, holding, waits}
 use Rattle.osi_stack.proofs.Lifting.{quiet_stops}
 use Rattle.osi_stack.proofs.Settling.{feeds_of}
 use Rattle.osi_stack.proofs.stacks.Stack.feed.Goals as goal

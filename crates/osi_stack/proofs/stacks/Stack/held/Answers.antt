@@ -1,8 +1,6 @@
 use Rattle.std.proofs.Common.{◌≡◌, None, IsSome, ap, subst, rules, ◌∙◌}
 use Rattle.osi_message.specs.Tokens.{named}
-use Rattle.osi_spdu.specs.Fields.{bits_of}
-use Rattle.osi_stack.specs.Calls.{held_by}
-use Rattle.osi_stack.specs.State.{Holding, holding, session_at}
+use Rattle.osi_stack.proofs.Vocabulary.{bits_of, held_by, Holding, holding, session_at}
 use Rattle.osi_stack.proofs.stacks.Stack.held.Goals as goal
 
 pub returns-in-Some-clause-over : goal.returns-in-Some-clause-over

@@ -1,7 +1,5 @@
 use Rattle.std.proofs.Common.{sym, subst}
-use Rattle.osi_carrier.specs.Rows.{Rows}
-use Rattle.osi_stack.specs.Settled.{IsSettled}
-use Rattle.osi_stack.specs.State.{Line, holding}
+use Rattle.osi_stack.proofs.Vocabulary.{Rows, IsSettled, Line, holding}
 use Rattle.osi_stack.proofs.stacks.Stack.next_indication.Goals as goal
 
 pub invariant_of-self : goal.invariant_of-self

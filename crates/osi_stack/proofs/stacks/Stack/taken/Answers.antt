@@ -1,7 +1,5 @@
 use Rattle.std.proofs.Common.{◌≡◌, sym, subst, rules}
-use Rattle.osi_stack.specs.Calls.{carried}
-use Rattle.osi_stack.specs.Settled.{IsSettled}
-use Rattle.osi_stack.specs.State.{Holding, holding}
+use Rattle.osi_stack.proofs.Vocabulary.{carried, IsSettled, Holding, holding}
 use Rattle.osi_stack.proofs.stacks.Stack.taken.Goals as goal
 
 pub invariant_of-self : goal.invariant_of-self

@@ -1,0 +1,108 @@
+-- What the proofs of this crate take from the library, from the crates below and from its own definitions.
+pub use Rattle.std.proofs.Math.Bool.{and-true, or-false}
+pub use Rattle.std.proofs.lemmas.Bool.{eq-eqb, eqb-true, lt-ltb, ne_eqb, not-false, or_left, or_right}
+pub use Rattle.std.proofs.lemmas.Bool.Decides.{nat_tests}
+pub use Rattle.std.proofs.lemmas.Grind.{common_steps}
+pub use Rattle.std.proofs.lemmas.List.{append-nil, length-set, length-take-le, map-append, take-append-drop, take-take, take_all, take_at}
+pub use Rattle.std.proofs.lemmas.List.Concat.{flat_map-append}
+pub use Rattle.std.proofs.lemmas.List.Elements.{filter-append}
+pub use Rattle.std.proofs.lemmas.List.Sums.{count_by-le-length, position_or_len_is, sum_by-cons, sum_by-set, sum_by_push}
+pub use Rattle.std.specs.List.{AllByRecursion, filter, flat_map, list_any, position, position_or_len, sum_by}
+pub use Rattle.std.specs.Prelude.{IfErr, IfSome, OnErr, OnOk}
+pub use Rattle.osi_carrier.proofs.Apart.{absent, beyond, push_here, put_here, without_here}
+pub use Rattle.osi_carrier.proofs.AtReferences.{push_other, put_none, put_other, put_rise, put_up, rise_lower, without_other}
+pub use Rattle.osi_carrier.proofs.Effects.{How, closed_gone, effect, free_of, orderly_asks, orderly_closed, orderly_end, orderly_ended, orderly_fresh, orderly_packet, orderly_same, orderly_sent, orderly_unit, orderly_units, sent_gone, stays_gone}
+pub use Rattle.osi_carrier.proofs.InFront.{apart_all}
+pub use Rattle.osi_carrier.proofs.Lasting.{PacketLaws, Parts, fault_behind, front_used, no_fault, packets_over, parts}
+pub use Rattle.osi_carrier.proofs.Naming.{known_is}
+pub use Rattle.osi_carrier.proofs.Pieces.{OneCut, packets_joined}
+pub use Rattle.osi_carrier.proofs.Places.{here_is, placed, put_same}
+pub use Rattle.osi_carrier.proofs.Reacts.{none_of, react_over}
+pub use Rattle.osi_carrier.proofs.Reading.{acts_cases, packets_leave, packets_more}
+pub use Rattle.osi_carrier.proofs.ToldOpen.{asks_opens, closed_opens, packet_opens, sent_opens}
+pub use Rattle.osi_carrier.specs.Calls.{Tells, asks, close_error, closed_on, closed_with, closes, ended_by, kept_in, lengths_error, link_of, may_connect, open_link, send_all_error, send_error, sent, sent_all, sent_on, tsaps_at}
+pub use Rattle.osi_carrier.specs.Happenings.{Happening, closed, faulted, happening, tsdu}
+pub use Rattle.osi_carrier.specs.Orderly.{AreUpTo, IsOrderly, RiseFrom, connection_of, told_of}
+pub use Rattle.osi_carrier.specs.Packets.{ActsBy, Carrying, HasToHold, acts_by, is_spoilt}
+pub use Rattle.osi_carrier.specs.React.{answers_request, before_class, denies, has_peer, in_class, in_two, in_zero, is_full, leaves, react_by, reacts, taking, tells_of, to_asked, to_closing, to_connection, to_linked, to_only, to_reference, to_unknown}
+pub use Rattle.osi_carrier.specs.Rows.{Rows, place_of, put, value_at, without}
+pub use Rattle.osi_carrier.specs.Runs.Act.{packet, user}
+pub use Rattle.osi_carrier.specs.Runs.UserCall.{sends}
+pub use Rattle.osi_carrier.specs.State.{Connection, State, TsapIds, asked, closing, drops, linked}
+pub use Rattle.osi_carrier.specs.Told.{is_open, open_after}
+pub use Rattle.osi_carrier.specs.declared.ends.CarrierFault.TheVariants.{Tpkt}
+pub use Rattle.osi_carrier.specs.declared.ends.EndReason.{EndReason}
+pub use Rattle.osi_carrier.specs.declared.ends.EndReason.TheVariants.{Broken, Fault, NoMemory}
+pub use Rattle.osi_carrier.specs.declared.faults.OpenError.{OpenError}
+pub use Rattle.osi_carrier.specs.declared.faults.SendError.{SendError}
+pub use Rattle.osi_class.specs.Link.{Standing}
+pub use Rattle.osi_class.specs.declared.terms.Class.{Class}
+pub use Rattle.osi_class.specs.declared.terms.Class.TheVariants.{Two, Zero}
+pub use Rattle.osi_class.specs.declared.terms.Local.{Local}
+pub use Rattle.osi_message.proofs.SentLaws.{sent_alone, sent_short}
+pub use Rattle.osi_message.specs.Meanings.{CN, DT, Meaning}
+pub use Rattle.osi_message.specs.Parting.{behind_no_token, in_one, is_parted, tsdus_of, tsdus_sent, words_sent}
+pub use Rattle.osi_message.specs.Reading.{meaning_by, place_by, said_by_units, said_if_read, word_at}
+unfoldable pub use Rattle.osi_message.specs.Reading.{meaning, said_at, word}
+pub use Rattle.osi_message.specs.Sendable.{IsSendable, words_of}
+pub use Rattle.osi_message.specs.Words.{Word, Words, as_message, part, part_octets, says, word_octets}
+pub use Rattle.osi_message.specs.Written.{alone_units, behind_tokens, unit_with, written}
+unfoldable pub use Rattle.osi_message.specs.Written.{is_second, spelled, unit_of}
+pub use Rattle.osi_message.specs.declared.places.Place.{Place}
+pub use Rattle.osi_session.proofs.PhaseLaws.{excluded, implied}
+pub use Rattle.osi_session.specs.Allowed.{Answer, Passed, Step, most_data, most_of, octets_of}
+unfoldable pub use Rattle.osi_session.specs.Allowed.{allowed}
+pub use Rattle.osi_session.specs.Calls.{Abort, Accept, Call, Data, Give, HasSerial, Major, MajorConfirm, Minor, MinorConfirm, Please, Refuse, Release, ReleaseAccept, ReleaseRefuse, Restart, RestartConfirm, called_by}
+pub use Rattle.osi_session.specs.Joining.{joined_octets}
+pub use Rattle.osi_session.specs.Listening.{Input, Listener, Move, after_input, after_inputs, answered, begun, broken, called, came, came_as, denied, is_opened, opened, refused, taken, unread}
+unfoldable pub use Rattle.osi_session.specs.Listening.{react}
+pub use Rattle.osi_session.specs.Parts.{Act, AreSilent, HasProfile, IsSilent, act_in_octets, calls, calls_in, comes}
+pub use Rattle.osi_session.specs.Phases.{is_ended, is_over, is_wait_cn, is_wait_transport, may_abort, may_hold, shows_loss}
+pub use Rattle.osi_session.specs.Runs.{HasNumbersInWords, IsFresh}
+pub use Rattle.osi_session.specs.Sessions.{Takes, asking, awaiting, awaits, is_memory, is_quiet, takes_memory}
+pub use Rattle.osi_session.specs.Shown.{Lost, Shown, shown_by}
+pub use Rattle.osi_session.specs.Sizes.{is_data, limit_of}
+pub use Rattle.osi_session.specs.declared.faults.CallError.{CallError}
+pub use Rattle.osi_session.specs.declared.faults.CallError.TheVariants.{NoSuchConnection}
+pub use Rattle.osi_session.specs.declared.indications.Indication.{Indication}
+pub use Rattle.osi_session.specs.declared.opening.Opening.{Opening}
+pub use Rattle.osi_session.specs.declared.phases.Phase.{Phase}
+pub use Rattle.osi_spdu.specs.Fields.{bits_of, unit_bits}
+pub use Rattle.osi_spdu.specs.Known.{Contents, Units, nothing}
+pub use Rattle.osi_spdu.specs.Reading.{tsdu_at}
+pub use Rattle.osi_spdu.specs.declared.faults.SpduFault.{SpduFault}
+pub use Rattle.osi_tpdu.specs.Limits.{tsap_octets}
+pub use Rattle.osi_tpdu.specs.Packet.{units_of}
+pub use Rattle.osi_tpdu.specs.Value.{Value, acknowledge, confirm, data0, data2, disconnect, disconnected, error, request}
+pub use Rattle.osi_tpdu.specs.declared.faults.TpduFault.{TpduFault}
+pub use Rattle.osi_tpkt.specs.Held.{Held, fresh}
+pub use Rattle.osi_tpkt.specs.Packet.{IsFaultOf, IsPartial}
+pub use Rattle.osi_tpkt.specs.Stream.{ArePackets, offset_of}
+pub use Rattle.osi_tpkt.specs.declared.cutting.Fed.{Fed}
+pub use Rattle.osi_tpkt.specs.declared.faults.TpktFault.{TpktFault}
+pub use Rattle.osi_stack.specs.Addresses.{addressed, addresses_at, asked_addresses, selectors_in}
+pub use Rattle.osi_stack.specs.Calls.{Refuses, RefusesBy, TellsOf, after_open, breaks, by_rule, call_error, calls_with, carried, connect_error, connects, first_by, first_shown, has_given, held_by, move_refusal, opening_of, or_else, phase_at, phase_of, reply_refusal, rest_by, send_refusal, session_error, session_refusal, table_error, terms_error, without_first}
+pub use Rattle.osi_stack.specs.Coming.{IsUnheard, TakesSome, TakesUnits, after_unit, carries_out}
+pub use Rattle.osi_stack.specs.Feeding.{Feeds, FindsNoMemory, FindsNoRoom, Goes, RunsDry, StopsBehind, TakesPackets, stops, uses_all}
+pub use Rattle.osi_stack.specs.Fetching.{Fetches, Interrupted, LeftOff}
+pub use Rattle.osi_stack.specs.Folds.{AllCameAbout, AllNamed, CameAbout, IsNamed, IsProfiled, OfLines, OfSession, OfSessions}
+pub use Rattle.osi_stack.specs.Hearing.{RunsOut, Starves, all_lost, attends, concludes, ends, hears, hears_all, hears_first, hears_next, hears_times, loses, opens, shown_at_loss, starves, with_carrier, with_events}
+unfoldable pub use Rattle.osi_stack.specs.Hearing.{after_packet}
+pub use Rattle.osi_stack.specs.Inputs.{AreMadeBy, IsAccepted, Past, Steps, StepsAlong, begun_as, input_of, inputs_of, inputs_told, made_at, no_past, past_called, serving, then_came, told_along, using}
+pub use Rattle.osi_stack.specs.Links.{AreApart, HasAsked, HasLinks, IsSound, Soundness, needs_link}
+pub use Rattle.osi_stack.specs.Messages.{Acts, AreLost, AreShort, Arrives, Becomes, CanHear, Effect, HasSession, Hears, IsFirstOf, IsGranted, IsShort, IsWhole, Message, Says, agree, all_waiting, ask, begins, bye, deny, does, effect_at, happens, kept_at, message_of, over, put_by, puts, rests, shown_of, told_all, told_at, unit, waiting_at, waiting_of}
+pub use Rattle.osi_stack.specs.Moving.{answers, by_line, carrier_by, limit_for, line_by, to_session}
+pub use Rattle.osi_stack.specs.Needs.{needs_memory, session_needs}
+pub use Rattle.osi_stack.specs.Ordered.{IsLowest, IsOrdered, TellsLowest}
+pub use Rattle.osi_stack.specs.Rounds.{AreInStep, IsCalled, MayAsk, MayCall, Round, RoundsAlong, RoundsAsking, RoundsBy, UserCall, WaitForLive, calls_of, user_does}
+pub use Rattle.osi_stack.specs.Rounds.UserCall.{breaking, calling, connecting}
+pub use Rattle.osi_stack.specs.Runs.{Account, AreAlike, AreAlikeByReference, AreAlikeInLive, Calls, CallsAlong, CallsInRoom, HasRoom, LookAlike, Reads, account_along, account_of, carried_in, hushed, live_lines, pruned, put_back, quieted, told_in, used_in, with_packet, with_packets}
+pub use Rattle.osi_stack.specs.Runs.Call.{carrying, feeding, telling}
+pub use Rattle.osi_stack.specs.Selectors.{Selectors, selectors_of, selectors_said, selectors_told, session_selectors, shows_connect}
+pub use Rattle.osi_stack.specs.Settled.{IsGone, IsSettled}
+pub use Rattle.osi_stack.specs.State.{End, Holding, IsAttended, Line, fresh_end, fresh_line, holding, how_many_wait, is_used, joined_in, joined_live, joined_of, joins, kept_octets, line_waits, session_at, session_in, used_lines, waits}
+pub use Rattle.osi_stack.specs.Telling.{told_input}
+pub use Rattle.osi_stack.specs.Transport.{answers_by, hands, sent_unless}
+pub use Rattle.osi_stack.specs.declared.connecting.Connect.{Connect}
+pub use Rattle.osi_stack.specs.declared.connecting.ConnectError.{ConnectError}
+pub use Rattle.osi_stack.specs.declared.told.Told.{Told}
