@@ -38,7 +38,6 @@ use Rattle.osi_pair.specs.declared.reach.Reach.{Reach}
 use Rattle.osi_pair.specs.declared.sides.Side.{Side}
 use Rattle.osi_pair.specs.declared.sides.Side.TheVariants.{Left, Right}
 use Rattle.osi_pair.proofs.NothingKept.{open_there, open_here, none_begun, none_joined as all_none_joined}
-use Rattle.osi_pair.proofs.StandingActed.{live_place}
 use Rattle.osi_pair.proofs.StandingFinish.{order_of}
 use Rattle.osi_pair.proofs.StandingPromises.{tables_at, line_at, outside_by, within}
 use Rattle.osi_pair.proofs.StandingSeats.{live_session}
@@ -53,6 +52,7 @@ use Rattle.osi_session.proofs.JoinedLaws.{joined_holds}
 use Rattle.osi_session.proofs.PhaseLaws.{implied}
 use Rattle.osi_stack.specs.Links.{needs_link}
 use Rattle.osi_carrier.specs.Told.{is_open}
+use Rattle.osi_between.proofs.JoinedMoves.{given_live}
 
 -- two ends at rest, each of which holds less than a packet
 record Resting (p : TwoEnds) : Type 0 where
@@ -97,7 +97,7 @@ uncut_at side p rest = cut_none side p (is_some p.reach) refl (rest.lasts side) 
 open_place : (side : Side) (r : ℕ) (p : TwoEnds) (steps : List Step) (h : StandsAt p steps) → (end_at side p).end.carrier.ended ≡ None → (o : IsOpenAt r (end_at side p).end)
     → place_at r (end_at side p).end.carrier ≡ was_given (Some (linked o.peer o.link))
 open_place side r p steps h lasts o =
-    live_place r (end_at side p).end.carrier (linked o.peer o.link) (order_of side p h.now (tables_at p steps) h.stands lasts).sound.orderly o.live
+    given_live r (end_at side p).end.carrier (linked o.peer o.link) (order_of side p h.now (tables_at p steps) h.stands lasts).sound.orderly o.live
 
 last_now : (side : Side) (p : TwoEnds) (steps : List Step) (h : StandsAt p steps) → (end_at side p).end.carrier.ended ≡ None → (end_at side p).end.carrier ≡ last_of (is_caller side) h.now
 last_now Left p steps h lasts = h.stands.between.lives true lasts
@@ -251,10 +251,7 @@ none_begun_at empties Right p steps h rest r (linked peer link) at =
 
 -- a session that has joined something is at an open connection
 linked_of : (n : ℕ) (e : End) (o : Option Connection) → value_at n e.carrier.live ≡ o → is_some (link_of o) ≡ true → IsOpenAt n e
-linked_of n e None at h = absurd cc
-linked_of n e (Some asked) at h = absurd cc
-linked_of n e (Some (linked peer link)) at h = record { peer = peer; link = link; live = at }
-linked_of n e (Some (closing peer)) at h = absurd cc
+linked_of n e o at h = grind arith
 
 open_linked : (n : ℕ) (e : End) → e.carrier.ended ≡ None → is_open n e.carrier ≡ true → IsOpenAt n e
 open_linked n e lasts h =

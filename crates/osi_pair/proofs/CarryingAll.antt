@@ -13,19 +13,11 @@ use Rattle.osi_pair.specs.declared.events.Event.{Event}
 use Rattle.osi_pair.specs.declared.events.Event.TheVariants.{Connect, Call, Carry, Break, Told}
 use Rattle.osi_pair.specs.declared.sides.Side.{Side}
 use Rattle.osi_pair.specs.declared.sides.Side.TheVariants.{Left, Right}
-
-waits_by : (r : ℕ) (line : Line) (w : List Shown) (lines : Rows Line) → line.waiting ≡ w → map (λ shown. (r, shown)) w ++ waiting_in lines ≡ [] →
-    (waiting_in lines ≡ [] → waits lines ≡ false) → waits ((r, line) ∷ lines) ≡ false
-waits_by r line [] lines is e more = ap (λ (l : List Shown). not (length l == 0) || waits lines) is ∙ more e
-waits_by r line (shown ∷ w) lines is e more = cc
-
-none_wait : (lines : Rows Line) → waiting_in lines ≡ [] → waits lines ≡ false
-none_wait [] e = refl
-none_wait ((r, line) ∷ lines) e = waits_by r line line.waiting lines refl e (none_wait lines)
+use Rattle.osi_pair.proofs.StandingPackets.{still_waits}
 
 quiet_at : (side : Side) (p : TwoEnds) → IsReached p → waits (end_at side p).end.lines ≡ false
-quiet_at Left p is = none_wait p.left.end.lines is.stands.stands.quiet_left
-quiet_at Right p is = none_wait p.right.end.lines is.stands.stands.quiet_right
+quiet_at Left p is = still_waits p.left.end.lines is.stands.stands.quiet_left
+quiet_at Right p is = still_waits p.right.end.lines is.stands.stands.quiet_right
 
 pub carries_as_much : (event : Event) (p : TwoEnds) (applied : Applied) → IsReached p → CarriesWhereQuiet event p applied → CarriesAsMuch event p applied
 carries_as_much (Carry side most) p applied is h =

@@ -48,7 +48,3 @@ does_add (Carry side most) old new octets h = pieces_add _ _ h.way.pieces (cross
 does_add (Break left right) old new octets h = adds_none old.journal new.journal (ap (λ (p : TwoEnds). p.journal) h.0)
 does_add (Told side) old new octets h =
     told_adds side (end_at side old) (end_at side new) old.journal new.journal (end_at side old).end.carrier.ended refl h.0.told
-
--- nothing has changed
-pub same_adds : (old new : TwoEnds) → new ≡ old → Adds old.journal new.journal
-same_adds old new same = adds_none old.journal new.journal (ap (λ (p : TwoEnds). p.journal) same)

@@ -57,7 +57,6 @@ pub mod StandingWant
 pub mod StandingStarved
 pub mod StandingShuts
 pub mod StandingTold
-pub mod StandingSides
 pub mod StandingActs
 pub mod StandingAnswer
 pub mod StandingCall

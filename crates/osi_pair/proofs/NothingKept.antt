@@ -71,11 +71,7 @@ linked_here n p x called (met (waiting_there us last)) a out back = absurd (cc)
 linked_here n p x called (met parted) a out back = absurd (cc)
 
 at_place : (n : ℕ) (s : State) → IsLinked (place_at n s) → IsLinkedAt n s
-at_place n s l = record { peer = l.peer; link = l.link; live = by (nat_lt s.given n) l.is }
-  where
-    by : (b : Bool) → (if b then never else was_given (value_at n s.live)) ≡ was_given (Some (linked l.peer l.link)) → value_at n s.live ≡ Some (linked l.peer l.link)
-    by true e = absurd (cc)
-    by false e = cc
+at_place n s l = grind arith
 
 -- class 0: there is one connection
 one_linked : (n : ℕ) (s : State) (x : Standing) → n ≡ 1 → s.live ≡ (1, linked 1 x) ∷ [] → IsLinkedAt n s

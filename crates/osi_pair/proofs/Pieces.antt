@@ -8,9 +8,6 @@ use Rattle.osi_pair.specs.Entries.{entry_by}
 use Rattle.osi_pair.specs.declared.entries.Entry.{Entry}
 use Rattle.osi_pair.specs.declared.sides.Side.{Side}
 
-pub carries_none : (side : Side) (most : ℕ) (old : Crossing) → Carries side most old 0 old
-carries_none side most old = record { pieces = []; length = refl; each = refl }
-
 pub carries_more : (side : Side) (most carried used : ℕ) (old mid new : Crossing) → Carries side most old carried mid →
     CarriesPiece side (most - carried) mid used new → Carries side most old (carried + used) new
 carries_more side most carried used old mid new h more = record {

@@ -20,9 +20,6 @@ pub record HasShown (side : Side) (old : Holding) (before : List Entry) (count :
   pub rest : new ≡ record old { end = record old.end { lines = new.end.lines } }
   pub says : after ≡ before ++ shown_entries side first
 
-pub shown_none : (side : Side) (old : Holding) (before : List Entry) → HasShown side old before 0 old before
-shown_none side old before = record { first = []; many = refl; shown = refl; lines = refl; rest = refl; says = sym (append-nil before) }
-
 -- one more is shown
 pub shown_more : (side : Side) (old : Holding) (before : List Entry) (count : ℕ) (mid new : Holding) (after : List Entry) (p : ℕ × Shown) →
     HasShown side old before count mid after → first_shown mid.end.lines ≡ Some p →
@@ -49,15 +46,6 @@ pub shown_all : (side : Side) (old : Holding) (before : List Entry) (count : ℕ
 shown_all side old before count new after h e = record {
   first = h.first;
   shows = record { shown = h.shown; lines = h.lines; rest = h.rest; most = inl (none_waits new.end.lines e) };
-  says = h.says;
-}
-
--- as many as there is room for
-pub shown_most : (side : Side) (old : Holding) (before : List Entry) (new : Holding) (after : List Entry) →
-    HasShown side old before 81 new after → Tells side old before new after
-shown_most side old before new after h = record {
-  first = h.first;
-  shows = record { shown = h.shown; lines = h.lines; rest = h.rest; most = inr h.many };
   says = h.says;
 }
 

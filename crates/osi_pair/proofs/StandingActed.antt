@@ -1,6 +1,6 @@
 -- The carrier of an end acts for a connection that is open there: nothing is taken, and its session makes no
 -- move. How two ends stand then.
-use Rattle.std.proofs.Common.{◌≡◌, ◌≢◌, ℕ, ◌<◌, ◌≤◌, Bool, true, false, nat_lt, if◌then◌else◌, List, [], ◌++◌, length, Option, Some, None, option_map, refl, sym, ap, subst, ◌∙◌, arith}
+use Rattle.std.proofs.Common.{◌≡◌, ◌≢◌, ℕ, ◌<◌, ◌≤◌, Bool, true, false, nat_lt, if◌then◌else◌, List, [], ◌++◌, length, Option, Some, None, option_map, refl, sym, ap, subst, ◌∙◌, arith, not}
 use Rattle.std.proofs.lemmas.Bool.Decides.{nat_tests}
 use Rattle.std.proofs.lemmas.List.{append-nil}
 use Rattle.osi_carrier.specs.Place.{Place, never, was_given, place_at, connection_in}
@@ -9,7 +9,7 @@ use Rattle.osi_carrier.specs.Rows.{value_at, put}
 use Rattle.osi_carrier.specs.State.{Connection, State}
 use Rattle.osi_carrier.proofs.Apart.{beyond, put_here}
 use Rattle.osi_carrier.proofs.AtReferences.{put_other}
-use Rattle.osi_between.specs.Between.{Between, AreBetween, Carries, last_of, under_way, put_in, is_cut}
+use Rattle.osi_between.specs.Between.{Between, AreBetween, Carries, last_of, under_way, put_in, is_cut, Acted, becomes, side}
 use Rattle.osi_between.specs.Course.{progress_of}
 use Rattle.osi_between.specs.Messages.{AreLike}
 use Rattle.osi_between.specs.Messages as carrier
@@ -26,13 +26,17 @@ use Rattle.osi_pair.specs.Sides.{other}
 use Rattle.osi_pair.specs.Standing.{side_in, is_caller, class_in, carriers_of, IsSeated, IsInOrder, Stands, Goes, HasJoined}
 use Rattle.osi_pair.specs.declared.sides.Side.{Side}
 use Rattle.osi_pair.specs.declared.sides.Side.TheVariants.{Left, Right}
-use Rattle.osi_pair.proofs.StandingActs.{StandsOn, there}
-use Rattle.osi_pair.proofs.StandingFinish.{terms_at, order_of}
+use Rattle.osi_pair.proofs.StandingActs.{StandsOn, there, of_end}
+use Rattle.osi_pair.proofs.StandingFinish.{terms_at, order_of, was_at, GivenAfter}
 use Rattle.osi_pair.proofs.StandingSeats.{transport_by, HasSession, place_by, session_of_seat, seat_of_session}
-use Rattle.osi_pair.proofs.StandingTurned.{IsSeen, seen, seen_twice, with_holding, holding_here, holding_there, Others, LinesAfter, Turned, turned_pair, turned_stands, out_there, back_here, GoesTo}
+use Rattle.osi_pair.proofs.StandingTurned.{IsSeen, seen, seen_twice, with_holding, holding_here, holding_there, Others, LinesAfter, Turned, turned_pair, turned_stands, out_there, back_here, GoesTo, other_role, still_there}
 use Rattle.osi_pair.proofs.StandingWays.{shuts, back_waits}
 use Rattle.osi_pair.proofs.StandingCut.{end_back}
 use Rattle.osi_session.specs.declared.state.State.{State as SessionState}
+use Rattle.osi_between.proofs.JoinedMoves.{given_live}
+use Rattle.osi_tpkt.specs.Held.{Held}
+use Rattle.osi_between.specs.Terms.{Terms}
+use Rattle.osi_pair.specs.Telling.{waiting_in}
 
 -- ---- the carrier
 
@@ -46,18 +50,6 @@ pub record ActsOn (n : ℕ) (g : Progress) (old new : State) : Type 0 where
   pub connection : Connection
   pub live : new.live ≡ put n connection old.live
   pub progress : progress_in (Some connection) ≡ g
-
-live_place_by : (n : ℕ) (s : State) (x : Connection) (b : Bool) → nat_lt s.given n ≡ b → IsOrderly s → value_at n s.live ≡ Some x → place_at n s ≡ was_given (Some x)
-live_place_by n s x true e o h =
-    let above : s.given < n = grind (arith, nat_tests) in
-    let none = beyond n s.given s.live o.up_to above in
-    let no_way : None ≡ Some x = sym none ∙ h in
-    cc
-live_place_by n s x false e o h = place_by n s false e ∙ ap was_given h
-
--- where a row is there
-pub live_place : (n : ℕ) (s : State) (x : Connection) → IsOrderly s → value_at n s.live ≡ Some x → place_at n s ≡ was_given (Some x)
-live_place n s x o h = live_place_by n s x (nat_lt s.given n) refl o h
 
 -- ---- the end
 
@@ -80,28 +72,24 @@ pub record WaysAt (s : Side) (n : ℕ) (p new : TwoEnds) (b c : Between) (put : 
   pub there : last_of (is_caller (other s)) c ≡ last_of (is_caller (other s)) b
 
 pub ways_at : (s : Side) (n : ℕ) (p new : TwoEnds) (b c : Between) (put : List carrier.Message) → Carries (terms_at p) (is_caller s) n (carriers_of p) (carriers_of new) b c [] put → WaysAt s n p new b c put
-ways_at Left n p new b c put k = record {
+ways_at s n p new b c put k = record {
   stays = k.stays;
   gone = k.gone;
-  came = subst (λ (l : List carrier.Message). AreLike (connection_in (place_at n c.caller)) (under_way false n (carriers_of p) b) (l ++ under_way false n (carriers_of new) c)) k.brings.is k.came;
-  before = k.before;
-  after = k.after;
+  came = rw (other_role s) (subst (λ (l : List carrier.Message). AreLike (connection_in (place_at n (last_of (is_caller s) c))) (under_way (not (is_caller s)) n (carriers_of p) b) (l ++ under_way (not (is_caller s)) n (carriers_of new) c)) k.brings.is k.came);
+  before = rw (other_role s) k.before;
+  after = rw (other_role s) k.after;
   keeps = k.keeps;
   others = k.others;
   other_places = k.other_places;
-  there = k.there;
+  there = still_there s b c k.there;
 }
-ways_at Right n p new b c put k = record {
-  stays = k.stays;
-  gone = k.gone;
-  came = subst (λ (l : List carrier.Message). AreLike (connection_in (place_at n c.called)) (under_way true n (carriers_of p) b) (l ++ under_way true n (carriers_of new) c)) k.brings.is k.came;
-  before = k.before;
-  after = k.after;
-  keeps = k.keeps;
-  others = k.others;
-  other_places = k.other_places;
-  there = k.there;
-}
+
+-- the carrier of a side acts, of the two that the ends are
+pub acted_by : (s : Side) (p : TwoEnds) (b : Between) (n : ℕ) (terms : Terms) (f : State → State) (put : List carrier.Message) →
+    Acted terms (is_caller s) n (carriers_of p) (becomes (is_caller s) (f (side (is_caller s) (carriers_of p)).state) (side (is_caller s) (carriers_of p)).held (carriers_of p)) b [] put →
+    Acted terms (is_caller s) n (carriers_of p) (carriers_of (pair_with s (f (end_at s p).end.carrier) p)) b [] put
+acted_by Left p b n terms f put a = a
+acted_by Right p b n terms f put a = a
 
 -- The end of a side has this carrier: what is known of it, where this was put.
 pub record CarrierActs (s : Side) (p : TwoEnds) (b : Between) (n : ℕ) (g : Progress) (c : State) (put : List carrier.Message) : Type 0 where
@@ -113,10 +101,6 @@ pub record CarrierActs (s : Side) (p : TwoEnds) (b : Between) (n : ℕ) (g : Pro
   pub between : AreBetween (terms_at p) (carriers_of (pair_with s c p)) now
   pub ways : WaysAt s n p (pair_with s c p) b now put
 
-last_was : (s : Side) (p : TwoEnds) (b : Between) (t : Tables) → Stands p b t → (end_at s p).end.carrier.ended ≡ None → last_of (is_caller s) b ≡ (end_at s p).end.carrier
-last_was Left p b t old alive = sym (old.between.lives true alive)
-last_was Right p b t old alive = sym (old.between.lives false alive)
-
 last_now : (s : Side) (p : TwoEnds) (b : Between) (n : ℕ) (g : Progress) (c : State) (put : List carrier.Message) → (a : CarrierActs s p b n g c put) → last_of (is_caller s) a.now ≡ c
 last_now Left p b n g c put a = sym (a.between.lives true a.on.lasts)
 last_now Right p b n g c put a = sym (a.between.lives false a.on.lasts)
@@ -125,11 +109,11 @@ last_now Right p b n g c put a = sym (a.between.lives false a.on.lasts)
 pub stood_in_use : (s : Side) (p : TwoEnds) (b : Between) (t : Tables) (n : ℕ) (g : Progress) (c : State) (put : List carrier.Message) → Stands p b t → (end_at s p).end.carrier.ended ≡ None → CarrierActs s p b n g c put →
     progress_of (place_at n (last_of (is_caller s) b)) ≡ in_use
 stood_in_use s p b t n g c put old alive a =
-    ap (λ (x : State). progress_of (place_at n x)) (last_was s p b t old alive) ∙ ap progress_of (live_place n (end_at s p).end.carrier a.was (order_of s p b t old alive).sound.orderly a.at) ∙ a.used
+    ap (λ (x : State). progress_of (place_at n x)) (was_at s p b t old alive) ∙ ap progress_of (given_live n (end_at s p).end.carrier a.was (order_of s p b t old alive).sound.orderly a.at) ∙ a.used
 
 here_now : (s : Side) (p : TwoEnds) (b : Between) (n : ℕ) (g : Progress) (c : State) (put : List carrier.Message) → CarrierActs s p b n g c put → IsInOrder (end_with s c p) → progress_of (place_at n c) ≡ g
 here_now s p b n g c ms a order =
-    ap progress_of (live_place n c a.on.connection order.sound.orderly (ap (value_at n) a.on.live ∙ put_here n a.on.connection a.was (end_at s p).end.carrier.live a.at)) ∙ a.on.progress
+    ap progress_of (given_live n c a.on.connection order.sound.orderly (ap (value_at n) a.on.live ∙ put_here n a.on.connection a.was (end_at s p).end.carrier.live a.at)) ∙ a.on.progress
 
 pub stands_now : (s : Side) (p : TwoEnds) (b : Between) (n : ℕ) (g : Progress) (c : State) (put : List carrier.Message) → (a : CarrierActs s p b n g c put) → IsInOrder (end_with s c p) →
     progress_of (place_at n (last_of (is_caller s) a.now)) ≡ g
@@ -202,58 +186,59 @@ lines_stay s n l line t found = record {
   others = λ q apart. with_other q n t.lines (seen_from (side_in s) line) apart;
 }
 
-turned_acts : (s : Side) (p : TwoEnds) (b : Between) (t : Tables) (n : ℕ) (g : Progress) (c : State) (put : List carrier.Message) (l line : Line) → Stands p b t →
-    (a : CarrierActs s p b n g c put) → IsInOrder (end_with s c p) → connection_at n t.lines ≡ Some (seen_from (side_in s) l) → IsSeen s n (pair_with s c p) a.now line →
-    Turned s p b t (end_with s c p) (end_at s p).held a.now (stays t (side_in s) n line) n []
-turned_acts Left p b t n g c put l line old a order found i =
-    let last = last_now Left p b n g c put a in
+-- An end that lasts has acted for a connection: of its carrier no more is said than that it keeps this.
+pub record Keeps (old new : State) : Type 0 where
+  pub is_caller : new.is_caller ≡ old.is_caller
+  pub local : new.local ≡ old.local
+  pub class : new.class ≡ old.class
+  pub given : new.given ≡ old.given
+  pub lasts : new.ended ≡ None
+
+kept_given : (s : Side) (p : TwoEnds) (b : Between) (t : Tables) (e : End) (h : Held) (c : Between) → Stands p b t → Keeps (end_at s p).end.carrier e.carrier → AreBetween (terms_at p) (carriers_of (with_holding s e h p)) c →
+    last_of (is_caller (other s)) c ≡ last_of (is_caller (other s)) b → GivenAfter s p t e h c
+kept_given Left p b t e h c old k between there =
+    let last = sym (between.lives true k.lasts) in
+    record { given = k.given; given_back = old.given_back; given_then = ap (λ (x : State). x.given) last; class_then = ap (λ (x : State). x.class) last }
+kept_given Right p b t e h c old k between there = record {
+  given = refl;
+  given_back = subst (λ (m : ℕ). m ≤ length t.lines) (sym k.given) old.given_back;
+  given_then = ap (λ (x : State). x.given) there ∙ old.given_then;
+  class_then = ap (λ (x : State). x.class) there ∙ old.class_then;
+}
+
+kept_known : (s : Side) (p : TwoEnds) (b : Between) (t : Tables) (e : End) (h : Held) → Stands p b t → Keeps (end_at s p).end.carrier e.carrier → t.known ≡ option_map class_in (with_holding s e h p).left.end.carrier.class
+kept_known Left p b t e h old k = old.known ∙ ap (option_map class_in) (sym k.class)
+kept_known Right p b t e h old k = old.known
+
+pub turned_by : (s : Side) (p : TwoEnds) (b : Between) (t : Tables) (e : End) (h : Held) (c : Between) (n : ℕ) (l line : Line) → Stands p b t → Keeps (end_at s p).end.carrier e.carrier →
+    AreBetween (terms_at p) (carriers_of (with_holding s e h p)) c → connection_at n t.lines ≡ Some (seen_from (side_in s) l) → IsSeen s n (with_holding s e h p) c line → Others s p b e h c n →
+    last_of (is_caller (other s)) c ≡ last_of (is_caller (other s)) b → IsInOrder e → waiting_in e.lines ≡ [] → Turned s p b t e h c (stays t (side_in s) n line) n []
+turned_by s p b t e h c n l line old k between found i o there order quiet =
+    let g = kept_given s p b t e h c old k between there in
     record {
-      between = a.between;
-      lasts = a.on.lasts;
-      local = a.on.local;
-      is_caller = a.on.is_caller;
-      known = old.known ∙ ap (option_map class_in) (sym a.on.class);
-      given = a.on.given;
-      given_then = ap (λ (x : State). x.given) last;
-      class_then = ap (λ (x : State). x.class) last;
-      given_back = old.given_back;
+      between = between;
+      lasts = k.lasts;
+      local = k.local;
+      is_caller = k.is_caller;
+      known = kept_known s p b t e h old k;
+      given = g.given;
+      given_then = g.given_then;
+      class_then = g.class_then;
+      given_back = g.given_back;
       terms = refl;
       broken = refl;
       left_end = refl;
       right_end = refl;
       journal = sym (append-nil t.journal);
       line = line;
-      lines = lines_stay Left n l line t found;
+      lines = lines_stay s n l line t found;
       is = i;
-      others = others_stay Left p b n g c put a;
+      others = o;
       order = order;
-      quiet = old.quiet_left;
-    }
-turned_acts Right p b t n g c put l line old a order found i =
-    record {
-      between = a.between;
-      lasts = a.on.lasts;
-      local = a.on.local;
-      is_caller = a.on.is_caller;
-      known = old.known;
-      given = refl;
-      given_then = ap (λ (x : State). x.given) a.ways.there ∙ old.given_then;
-      class_then = ap (λ (x : State). x.class) a.ways.there ∙ old.class_then;
-      given_back = subst (λ (k : ℕ). k ≤ length t.lines) (sym a.on.given) old.given_back;
-      terms = refl;
-      broken = refl;
-      left_end = refl;
-      right_end = refl;
-      journal = sym (append-nil t.journal);
-      line = line;
-      lines = lines_stay Right n l line t found;
-      is = i;
-      others = others_stay Right p b n g c put a;
-      order = order;
-      quiet = old.quiet_right;
+      quiet = quiet;
     }
 
-nothing_noted : (s : Side) (e : End) (p : TwoEnds) (n : ℕ) → turned_pair s e (end_at s p).held n [] p ≡ with_holding s e (end_at s p).held p
+pub nothing_noted : (s : Side) (e : End) (p : TwoEnds) (n : ℕ) → turned_pair s e (end_at s p).held n [] p ≡ with_holding s e (end_at s p).held p
 nothing_noted Left e p n = ap (λ (j : List Entry). record (with_holding Left e p.left.held p) { journal = j }) (append-nil p.journal)
 nothing_noted Right e p n = ap (λ (j : List Entry). record (with_holding Right e p.right.held p) { journal = j }) (append-nil p.journal)
 
@@ -267,7 +252,7 @@ seen_at s p b t n l old found =
 pub session_in_use : (s : Side) (p : TwoEnds) (b : Between) (t : Tables) (n : ℕ) (x : Connection) (l : Line) → Stands p b t → (end_at s p).end.carrier.ended ≡ None → value_at n (end_at s p).end.carrier.live ≡ Some x →
     progress_in (Some x) ≡ in_use → IsSeen s n p b l → HasSession n (end_at s p).end.lines in_use l.own.session
 session_in_use s p b t n x l old alive at used i =
-    session_of_seat n (end_at s p) l.own in_use (ap progress_of (live_place n (end_at s p).end.carrier x (order_of s p b t old alive).sound.orderly at) ∙ used) i.here
+    session_of_seat n (end_at s p) l.own in_use (ap progress_of (given_live n (end_at s p).end.carrier x (order_of s p b t old alive).sound.orderly at) ∙ used) i.here
 
 pub acted_stands : (s : Side) (p : TwoEnds) (b : Between) (t : Tables) (n : ℕ) (g : Progress) (c : State) (put : List carrier.Message) (channel : List Message) (l : Line) → Stands p b t →
     (end_at s p).end.carrier.ended ≡ None → (a : CarrierActs s p b n g c put) → IsInOrder (end_with s c p) → connection_at n t.lines ≡ Some (seen_from (side_in s) l) →
@@ -279,5 +264,6 @@ acted_stands s p b t n g c put channel l old alive a order found x out =
     record {
       now = a.now;
       stands = subst (λ (q : TwoEnds). Stands q a.now (stays t (side_in s) n line)) (nothing_noted s (end_with s c p) p n)
-          (turned_stands s p b t (end_with s c p) (end_at s p).held a.now (stays t (side_in s) n line) n [] old alive (turned_acts s p b t n g c put l line old a order found i));
+          (turned_stands s p b t (end_with s c p) (end_at s p).held a.now (stays t (side_in s) n line) n [] old alive (turned_by s p b t (end_with s c p) (end_at s p).held a.now n l line old
+          (record { is_caller = a.on.is_caller; local = a.on.local; class = a.on.class; given = a.on.given; lasts = a.on.lasts }) a.between found i (others_stay s p b n g c put a) a.ways.there order (of_end s p b t old).quiet));
     }

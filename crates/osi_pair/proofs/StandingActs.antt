@@ -26,10 +26,9 @@ use Rattle.osi_pair.specs.Words.{Word}
 use Rattle.osi_pair.specs.declared.reach.Reach.{Reach}
 use Rattle.osi_pair.specs.declared.sides.Side.{Side}
 use Rattle.osi_pair.specs.declared.sides.Side.TheVariants.{Left, Right}
-use Rattle.osi_pair.proofs.StandingSides.{alike_trans, alike_same, alike_at, like_alike}
 use Rattle.osi_pair.proofs.StandingCut.{cut_none, cut_out, cut_back}
 use Rattle.osi_pair.proofs.StandingRests.{unless_broken, put_unless, words_put, are_put, put_same, put_spare}
-use Rattle.osi_pair.proofs.StandingWays.{as_now, out_puts}
+use Rattle.osi_pair.proofs.StandingWays.{as_now, out_puts, same_alike, alike_trans, alike_at, like_alike}
 use Rattle.osi_pair.proofs.StandingTurned.{GoesTo}
 use Rattle.osi_pair.proofs.WordLaws.{AreWords}
 use Rattle.osi_machine.specs.Calm.{StaysCalm}
@@ -37,11 +36,7 @@ use Rattle.osi_machine.specs.Calm.{StaysCalm}
 -- ---- what is under way from the end that acted
 
 reach_in : (p : TwoEnds) (broken : Bool) → broken ≡ is_some p.reach → is_some (carriers_of p).reach ≡ broken
-reach_in p broken e = mapped p.reach ∙ sym e
-  where
-    mapped : (o : Option Reach) → is_some {T = ℕ × ℕ} (option_map (λ r. (r.left, r.right)) o) ≡ is_some o
-    mapped None = refl
-    mapped (Some r) = refl
+reach_in p broken e = grind arith
 
 pub out_way : (terms : Terms) (side : Side) (r : ℕ) (p new : TwoEnds) (b c : Between) (words : List Word) (more channel : List Message) (broken : Bool) (seat to : Seat) → AreWords words more →
     (k : Carries terms (is_caller side) r (carriers_of p) (carriers_of new) b c [] (map word_in words)) → broken ≡ is_some p.reach → k.gone ≡ [] →
@@ -70,7 +65,7 @@ out_way terms Right r p new b c words more channel broken seat to are k reach no
 -- nothing arrived
 came_same : (g h : Progress) (ch old now arrived : List carrier.Message) → g ≡ h → arrived ≡ [] → AreAlike g ch old → AreAlike h old (arrived ++ now) → AreAlike h ch now
 came_same g h ch old now arrived e none was came =
-    alike_trans h ch old now (alike_at g h ch old e was) (alike_trans h old (arrived ++ now) now came (alike_same h (arrived ++ now) now (ap (λ (l : List carrier.Message). l ++ now) none)))
+    alike_trans h ch old now (alike_at g h ch old e was) (alike_trans h old (arrived ++ now) now came (same_alike h (arrived ++ now) now (ap (λ (l : List carrier.Message). l ++ now) none)))
 
 pub back_way : (terms : Terms) (side : Side) (r : ℕ) (p new : TwoEnds) (b c : Between) (messages : List carrier.Message) (seat to now : Seat) →
     (k : Carries terms (is_caller side) r (carriers_of p) (carriers_of new) b c [] messages) →
@@ -108,20 +103,7 @@ pub record OfEnd (side : Side) (p : TwoEnds) (b : Between) (t : Tables) : Type 0
   pub lives : (end_at side p).end.carrier.ended ≡ None → (end_at side p).end.carrier ≡ last_of (is_caller side) b
 
 pub of_end : (side : Side) (p : TwoEnds) (b : Between) (t : Tables) → Stands p b t → OfEnd side p b t
-of_end Left p b t s = record {
-  given = let e = s.given in omega arith;
-  order = s.order_left;
-  over = s.over_left;
-  quiet = s.quiet_left;
-  lives = λ e. s.between.lives true e;
-}
-of_end Right p b t s = record {
-  given = s.given_back;
-  order = s.order_right;
-  over = s.over_right;
-  quiet = s.quiet_right;
-  lives = λ e. s.between.lives false e;
-}
+of_end side p b t s = grind arith
 
 -- ---- a line of two that stand
 

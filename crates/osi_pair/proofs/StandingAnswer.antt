@@ -29,7 +29,7 @@ use Rattle.osi_pair.specs.Standing.{side_in, transport_in, is_parting, IsSeated,
 use Rattle.osi_pair.specs.declared.sides.Side.{Side}
 use Rattle.osi_pair.proofs.StandingActs.{OfEnd, of_end, there, NoneBeyond, place_given, place_ahead}
 use Rattle.osi_pair.proofs.StandingListens.{calls_so}
-use Rattle.osi_pair.proofs.StandingSides.{seen}
+use Rattle.osi_pair.proofs.StandingTurned.{seen}
 
 -- what the machine answers, by the line of the reference
 abbrev pub seat_error : Seat → Call → Option CallError
@@ -54,11 +54,7 @@ ended_refuses s call e =
 -- ---- a reference
 
 not_given : (r : ℕ) (c : Carrier) → c.given < r → has_given r c ≡ false
-not_given r c h = let no : nat_le r c.given ≡ false = grind (arith, nat_tests) in after (nat_lt 0 r) no
-  where
-    after : (b : Bool) → nat_le r c.given ≡ false → (b && nat_le r c.given) ≡ false
-    after true e = e
-    after false e = refl
+not_given r c h = grind arith
 
 was_there : (r : ℕ) (c : Carrier) → 0 < r → r ≤ c.given → has_given r c ≡ true
 was_there r c some h = ap (λ (b : Bool). b && nat_le r c.given) (lt-ltb 0 r some) ∙ le-leb r c.given h
@@ -117,7 +113,7 @@ table_at : NoneBeyond → (r : ℕ) (side : Side) (p : TwoEnds) (b : Between) (t
 table_at none r side p b t call None s at = none_there r side p b t call s at
 table_at none r side p b t call (Some l) s at =
     let h = there none r p b t l s at in
-    seat_at r (end_at side p) (seen_from (side_in side) l).own call (nat_le r (end_at side p).end.carrier.given) h.some refl (seen side r p b l h.is).own
+    seat_at r (end_at side p) (seen_from (side_in side) l).own call (nat_le r (end_at side p).end.carrier.given) h.some refl (seen side r p b l h.is).here
 
 -- what the carrier says makes no difference
 abbrev pub Answered : Type 0
@@ -125,14 +121,7 @@ Answered = (r : ℕ) (call : Call) (e : End) → HasSerial call → e.carrier.en
 
 table_alone : Answered → (r : ℕ) (side : Side) (p : TwoEnds) (b : Between) (t : Tables) (call : Call) (ended : Option EndReason) → HasSerial call → OfEnd side p b t →
     (end_at side p).end.carrier.ended ≡ ended → call_error r call (end_at side p).end ≡ table_error r call (end_at side p).end
-table_alone answers r side p b t call None serial h is =
-    let o = h.order is in answers r call (end_at side p).end serial is o.sound o.came
-table_alone answers r side p b t call (Some reason) serial h is =
-    let e : End = (end_at side p).end in
-    let none : value_at r e.carrier.live ≡ None = ap (value_at r) (h.over (subst (λ (o : Option EndReason). IsSome o) (sym is) refl)) in
-    let gone_now : session_at r e ≡ None = session_gone r e none in
-    ap (λ (o : Option Listener). if◌then◌else◌ {A = Option CallError} (not (has_given r e.carrier)) (Some error.NoSuchConnection) (session_refusal r o call e.carrier)) gone_now
-    ∙ sym (ap (λ (o : Option Listener). if◌then◌else◌ {A = Option CallError} (not (has_given r e.carrier)) (Some error.NoSuchConnection) (session_error o call)) gone_now)
+table_alone answers r side p b t call ended serial h is = grind arith
 
 pub answer_same : NoneBeyond → Answered → (r : ℕ) (side : Side) (p : TwoEnds) (b : Between) (t : Tables) (call : Call) → HasSerial call → Stands p b t →
     call_error r call (end_at side p).end ≡ line_error (side_of (side_in side) (connection_at r t.lines)) call

@@ -1,6 +1,6 @@
 -- A packet with which a session moves: what is known of the move and of the end behind it, where the session
 -- answers, or closes its connection of class 2.
-use Rattle.std.proofs.Common.{◌≡◌, ℕ, Bool, true, false, if◌then◌else◌, List, Option, Some, None, option_map, refl, sym, ap, subst, ◌∙◌, ◌⊎◌, inl, inr}
+use Rattle.std.proofs.Common.{◌≡◌, ℕ, Bool, true, false, if◌then◌else◌, List, Option, Some, None, option_map, refl, sym, ap, subst, ◌∙◌, ◌⊎◌, inl, inr, arith}
 use Rattle.osi_tpkt.specs.Held.{Held}
 use Rattle.osi_carrier.specs.Place.{Place, never, was_given, place_at}
 use Rattle.osi_carrier.specs.Packets as carriers
@@ -37,6 +37,8 @@ use Rattle.osi_pair.proofs.StandingMoves.{heard_by, is_move}
 use Rattle.osi_pair.proofs.StandingPacket.{PacketLaws}
 use Rattle.osi_pair.proofs.StandingRows.{Row, quiet, still, begins, refuses, agrees, denies, tells, leaves, ignores, ends, before, is_row}
 use Rattle.osi_pair.proofs.StandingShown.{StandsShown}
+use Rattle.osi_pair.proofs.StandingReplies.{refused_open}
+use Rattle.osi_pair.proofs.StandingKnown.{linked_place}
 
 -- what is proved of one session
 pub record AnswerLaws : Type 0 where
@@ -62,10 +64,6 @@ sound_behind laws s p b t packet h old alive pa =
 opened_open : (b : Bool) (x : Standing) → (if b then begun x else rests x).closes ≡ false
 opened_open true x = refl
 opened_open false x = refl
-
-refused_open : (b : Bool) (reason : ℕ) (x : Standing) → (if b then denied reason x else rests x).closes ≡ false
-refused_open true reason x = refl
-refused_open false reason x = refl
 
 pub opened_stays : (x : Standing) → (react x opened).closes ≡ false
 unfolding react
@@ -115,33 +113,14 @@ closes_alone laws (ends last) m x is h = cc
 
 -- ---- the class is known
 
-is_linked_at : (p : Place) → progress_of p ≡ in_use → is_linked p ≡ true
-is_linked_at never e = cc
-is_linked_at (was_given None) e = cc
-is_linked_at (was_given (Some asked)) e = cc
-is_linked_at (was_given (Some (linked peer link))) e = refl
-is_linked_at (was_given (Some (closing peer))) e = cc
-
-learns_waiting : (class : worlds.Class) (m : Message) → learns (accepts class) worlds.waiting m (Some class) ≡ Some class
-learns_waiting class ask = refl
-learns_waiting class (unit u) = refl
-learns_waiting class agree = refl
-learns_waiting class (deny reason) = refl
-learns_waiting class (bye reason) = refl
-learns_waiting class over = refl
-
 learns_same : (class : worlds.Class) (tr : Transport) (m : Message) → learns (accepts class) tr m (Some class) ≡ Some class
-learns_same class worlds.not_yet m = refl
-learns_same class worlds.waiting m = learns_waiting class m
-learns_same class worlds.linked m = refl
-learns_same class worlds.closing m = refl
-learns_same class worlds.gone m = refl
+learns_same class tr m = grind arith
 
 -- where a unit comes to an open connection the caller has agreed the class
 pub class_known : (s : Side) (p : TwoEnds) (b : Between) (t : Tables) (packet : List ℕ) (h : Held) → Stands p b t → (pa : PacketActs (terms_at p) (is_caller s) (carriers_of p) b packet h.octets) →
     before pa.did.row ≡ in_use → t.known ≡ option_map class_in (class_of (terms_at p))
 class_known s p b t packet h old pa used =
-    old.known ∙ ap (option_map class_in) (sym old.class_then ∙ pa.first.class (is_linked_at (place_at (reference_of pa.unit) (last_of (is_caller s) b)) (pa.did.stood ∙ used)))
+    old.known ∙ ap (option_map class_in) (sym old.class_then ∙ pa.first.class (linked_place (place_at (reference_of pa.unit) (last_of (is_caller s) b)) (pa.did.stood ∙ used)))
 
 known_by_class : (s : Side) (p : TwoEnds) (b : Between) (t : Tables) (packet : List ℕ) (h : Held) (terms : Terms) (class : worlds.Class) → Stands p b t → (pa : PacketActs (terms_at p) (is_caller s) (carriers_of p) b packet h.octets) →
     before pa.did.row ≡ in_use → terms_at p ≡ terms → terms_in terms ≡ accepts class → option_map class_in (class_of terms) ≡ Some class → (tr : Transport) (m : Message) → learns t.terms tr m t.known ≡ Some class
@@ -180,18 +159,7 @@ closing_packet laws moves s p b t packet h old alive pa v row input two shut =
 
 -- a unit comes to an open connection in one of the classes
 open_terms : (terms : Terms) (row : Row) → is_row terms row → before row ≡ in_use → (terms ≡ by_two) ⊎ (terms ≡ by_zero)
-open_terms by_two row is e = inl refl
-open_terms by_zero row is e = inr refl
-open_terms (refusing reason) quiet is e = absurd is
-open_terms (refusing reason) still is e = absurd is
-open_terms (refusing reason) begins is e = absurd is
-open_terms (refusing reason) (refuses why) is e = cc
-open_terms (refusing reason) agrees is e = absurd is
-open_terms (refusing reason) (denies why) is e = cc
-open_terms (refusing reason) (tells octets) is e = absurd is
-open_terms (refusing reason) (leaves why) is e = absurd is
-open_terms (refusing reason) (ignores octets) is e = absurd is
-open_terms (refusing reason) (ends m) is e = absurd is
+open_terms terms row is e = grind arith
 
 by_terms : PacketLaws → AnswerLaws → (s : Side) (p : TwoEnds) (b : Between) (t : Tables) (packet : List ℕ) (h : Held) → Stands p b t → (end_at s p).end.carrier.ended ≡ None →
     (pa : PacketActs (terms_at p) (is_caller s) (carriers_of p) b packet h.octets) → (v : HasMoved s p t packet h) → v.m.row ≡ pa.did.row → v.m.input ≡ heard_by v.m.row v.m.first →

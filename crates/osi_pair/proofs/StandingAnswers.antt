@@ -1,6 +1,6 @@
 -- A session moved, and sends a unit, or closes its connection of class 2: how two ends stand when that was done,
 -- and its user was shown what the move shows.
-use Rattle.std.proofs.Common.{◌≡◌, ℕ, ◌≤◌, zero, suc, Bool, true, false, if◌then◌else◌, List, [], ◌∷◌, ◌++◌, length, map, Option, Some, None, refl, sym, ap, subst, ◌∙◌, ◌⊎◌, inl, inr}
+use Rattle.std.proofs.Common.{◌≡◌, ℕ, ◌≤◌, zero, suc, Bool, true, false, if◌then◌else◌, List, [], ◌∷◌, ◌++◌, length, map, Option, Some, None, refl, sym, ap, subst, ◌∙◌, ◌⊎◌, inl, inr, arith}
 use Rattle.std.proofs.lemmas.List.{append-nil}
 use Rattle.osi_tpkt.specs.Held.{Held}
 use Rattle.osi_carrier.specs.Calls.{open_link, sent, sent_on, closes, closed_on, closed_with}
@@ -154,16 +154,7 @@ closed_step s p t packet h v keep known closing reply =
 -- ---- the connection of a move that sends or closes is open
 
 pub move_ends : (row : Row) → is_move row ≡ true → (after row ≡ in_use) ⊎ (after row ≡ gone)
-move_ends agrees e = inl refl
-move_ends (denies reason) e = inr refl
-move_ends (tells octets) e = inl refl
-move_ends quiet e = cc
-move_ends still e = cc
-move_ends begins e = cc
-move_ends (refuses reason) e = cc
-move_ends (leaves reason) e = cc
-move_ends (ignores octets) e = cc
-move_ends (ends m) e = cc
+move_ends row e = grind arith
 
 some_none : (o : Option Meaning) (x : Meaning) → o ≡ Some x → o ≡ None → ⊥
 some_none o x e f = cc
@@ -180,11 +171,7 @@ linked_closes s p t packet h v closing (inr e) = let no_way : true ≡ false = s
 
 -- the end is in order before it sends or closes
 pub moved_order : (s : Side) (p : TwoEnds) (t : Tables) (packet : List ℕ) (h : Held) (v : HasMoved s p t packet h) → IsInOrder (moved_end s p v.unit v.m)
-moved_order s p t packet h v =
-    let e = moved_end s p v.unit v.m in
-    let p1 = turned_pair s e h v.m.n (move_of v.m).shown p in
-    let here = turned_here s e h v.m.n (move_of v.m).shown p in
-    subst (λ (y : Holding). IsInOrder y.end) here (order_of s p1 v.now (moved_tables s t v.m) v.stands (ap (λ (y : Holding). y.end.carrier.ended) here ∙ v.lasts))
+moved_order s p t packet h v = grind arith
 
 -- ---- the packet
 

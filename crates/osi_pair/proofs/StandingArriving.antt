@@ -21,6 +21,9 @@ use Rattle.osi_between.specs.Refusing as refusal
 use Rattle.osi_between.specs.Terms.{Terms, by_two, by_zero, refusing, accepts_in, class_of, IsProposed}
 use Rattle.osi_between.specs.Zero.{AreJoinedZero, ZeroCourse, HasOne, given_in}
 use Rattle.osi_between.specs.Zero as zero_class
+use Rattle.osi_between.proofs.Addressing.{first_of_all}
+use Rattle.osi_between.proofs.Proposals.{source_is}
+use Rattle.osi_between.proofs.Zeros.{one_place}
 
 -- ---- by place
 
@@ -114,13 +117,7 @@ met_back n (waiting_there units last) u vs some e = refl
 met_back n parted u vs some e = none_first u vs e
 
 met_asked : (n : ℕ) (m : Meeting) → is_asked (was_given (here n m)) ≡ false
-met_asked n (talking p) = refl
-met_asked n (left_here p units reason) = refl
-met_asked n (left_there p units reason) = refl
-met_asked n (left_both units reason back other) = refl
-met_asked n (waiting_here units last) = refl
-met_asked n (waiting_there units last) = refl
-met_asked n parted = refl
+met_asked n m = grind arith
 
 not_asked : {A : Type 0} (p : Place) → is_asked p ≡ false → is_asked p ≡ true → A
 not_asked p e h = absurd (cc)
@@ -151,9 +148,6 @@ to_called n caller called (accepting c p) u vs some h e = none_first u vs e
 to_called n caller called (withdrawing c p reason) u vs some h e = none_first u vs e
 to_called n caller called (met m) u vs some h e = record { may = met_back n m u vs some e; class = λ x. h.class; given = λ x. cc; waits = λ x. not_asked (was_given (here n (mirror m))) (met_asked n (mirror m)) x }
 
-first_unit : (u : Value) (us : List Value) → units_of (reference_of u) (u ∷ us) ≡ u ∷ units_of (reference_of u) us
-first_unit u us = ap (λ (b : Bool). if◌then◌else◌ {A = List Value} b (u ∷ units_of (reference_of u) us) (units_of (reference_of u) us)) (eq-eqb (reference_of u) (reference_of u) refl)
-
 given_by : (n given : ℕ) (o : Option Connection) (b : Bool) → nat_lt given n ≡ b → ((if nat_lt given n then never else was_given o) ≡ never → ⊥) → n ≤ given
 given_by n given o true e none = absurd (none (ap (λ (c : Bool). if◌then◌else◌ {A = Place} c never (was_given o)) e))
 given_by n given o false e none = grind (arith, nat_tests)
@@ -167,7 +161,7 @@ two_to_caller caller called going coming u rest j e =
     let n = reference_of u in
     let some : 0 < n = (subst (λ (us : List Value). AllByRecursion (λ unit. 0 < reference_of unit) us) e j.named_back).0 in
     let st = j.stands n some in
-    let c = to_caller n caller called st.course u (units_of n rest) some st.holds (sym st.back ∙ ap (units_of n) e ∙ first_unit u rest) in
+    let c = to_caller n caller called st.course u (units_of n rest) some st.holds (sym st.back ∙ ap (units_of n) e ∙ first_of_all u rest) in
     record {
       named = some;
       given = was n caller (λ x. c.given (sym st.place ∙ x));
@@ -181,7 +175,7 @@ two_to_called caller called going coming u rest j e =
     let n = reference_of u in
     let some : 0 < n = (subst (λ (us : List Value). AllByRecursion (λ unit. 0 < reference_of unit) us) e j.named).0 in
     let st = j.stands n some in
-    let c = to_called n caller called st.course u (units_of n rest) some st.holds (sym st.out ∙ ap (units_of n) e ∙ first_unit u rest) in
+    let c = to_called n caller called st.course u (units_of n rest) some st.holds (sym st.out ∙ ap (units_of n) e ∙ first_of_all u rest) in
     record {
       named = some;
       given = was n caller (λ x. c.given (sym st.place ∙ x));
@@ -191,13 +185,6 @@ two_to_called caller called going coming u rest j e =
     }
 
 -- ---- in class 0
-
-proposed_source : (two : Bool) (local : Local) (calling to : Option (List ℕ)) (n : ℕ) → (proposal_by two local None calling to n).source ≡ n
-proposed_source true local calling to n = refl
-proposed_source false local calling to n = refl
-
-source_is : (n : ℕ) (local : Local) (c : Connect) → IsProposed n local c → c.source ≡ n
-source_is n local c h = ap (λ (d : Connect). d.source) h.is ∙ proposed_source (proposes_two local) local h.calling h.called n
 
 record ZeroBy (end : Bool) (caller : Place) (place : Place) (u : Value) : Type 0 where
   first : reference_of u ≡ 1
@@ -239,11 +226,6 @@ place_by n s given live e f =
     ap (λ (g : ℕ). if◌then◌else◌ {A = Place} (nat_lt g n) never (was_given (value_at n s.live))) e
     ∙ ap (λ (l : Rows Connection). if◌then◌else◌ {A = Place} (nat_lt given n) never (was_given (value_at n l))) f
 
-one_place : (s : State) (place : Place) → HasOne s place → place_at 1 s ≡ place
-one_place s never h = place_by 1 s 0 [] h.given h.live
-one_place s (was_given None) h = place_by 1 s 1 [] h.given h.live
-one_place s (was_given (Some c)) h = place_by 1 s 1 ((1, c) ∷ []) h.given h.live
-
 zero_first : (end : Bool) (caller taker : State) (there place : Place) (u : Value) → HasOne caller there → HasOne taker place → ZeroBy end there place u → IsFirstFor by_zero end caller (place_at (reference_of u) taker) u
 zero_first end caller taker there place u one other z =
     let at : place_at (reference_of u) taker ≡ place = ap (λ (n : ℕ). place_at n taker) z.first ∙ one_place taker place other in
@@ -259,37 +241,12 @@ zero_first end caller taker there place u one other z =
 
 -- ---- where CRs are refused
 
-refused_place : (n given : ℕ) (s : State) (c : Connection) → s.given ≡ given → n ≡ given → s.live ≡ (given, c) ∷ [] → place_at n s ≡ was_given (Some c)
-refused_place n given s c e f l =
-    place_by n s given ((given, c) ∷ []) e l ∙ by_less (nat_lt given n) refl
-  where
-    by_less : (b : Bool) → nat_lt given n ≡ b → (if nat_lt given n then never else was_given (value_at n ((given, c) ∷ []))) ≡ was_given (Some c)
-    by_less true g = let less : given < n = grind (arith, nat_tests) in absurd (omega arith)
-    by_less false g =
-        ap (λ (b : Bool). if◌then◌else◌ {A = Place} b never (was_given (value_at n ((given, c) ∷ [])))) g
-        ∙ ap (λ (b : Bool). was_given (if◌then◌else◌ {A = Option Connection} b (Some c) None)) (eq-eqb given n (sym f))
-
-deny_comes : (n reason : ℕ) (u : Value) → refusal.denying n reason ≡ u → comes_asked false u ≡ true
-deny_comes n reason u e = subst (λ (x : Value). comes_asked false x ≡ true) e refl
-
 never_at : (n : ℕ) (s : State) → 0 < n → s.given ≡ 0 → place_at n s ≡ never
 never_at n s some e = place_by n s 0 s.live e refl ∙ ap (λ (b : Bool). if◌then◌else◌ {A = Place} b never (was_given (value_at n s.live))) (let less : nat_lt 0 n ≡ true = grind (arith, nat_tests) in less)
 
 refusing_to_caller : (reason : ℕ) (caller : State) (stage : Refusal) (u : Value) (vs : List Value) → refusal.Holds caller stage → caller.live ≡ rows_in caller.given stage →
     refusal.from_end false reason caller.given stage ≡ u ∷ vs → IsFirstFor (refusing reason) true caller (place_at (reference_of u) caller) u
-refusing_to_caller reason caller refusal.unasked u vs h l e = none_first u vs e
-refusing_to_caller reason caller (refusal.asking c) u vs h l e = none_first u vs e
-refusing_to_caller reason caller refusal.denied u vs h l e =
-    let is = first_is (refusal.denying caller.given reason) u [] vs e in
-    let n : reference_of u ≡ caller.given = subst (λ (x : Value). reference_of x ≡ caller.given) is refl in
-    let at = refused_place (reference_of u) caller.given caller asked refl n l in
-    record {
-      named = omega arith;
-      given = omega arith;
-      may = subst (λ (p : Place). comes false p u ≡ true) (sym at) (deny_comes caller.given reason u is);
-      waits = λ x. refl;
-      class = λ x. let never_so : false ≡ true = ap is_linked (sym at) ∙ x in cc;
-    }
+refusing_to_caller reason caller stage u vs h l e = grind arith
 
 refusing_to_called : (reason : ℕ) (caller called : State) (stage : Refusal) (u : Value) (vs : List Value) → refusal.Holds caller stage → called.given ≡ 0 →
     refusal.from_end true reason caller.given stage ≡ u ∷ vs → IsFirstFor (refusing reason) false caller (place_at (reference_of u) called) u

@@ -29,15 +29,16 @@ use Rattle.osi_pair.specs.Standing.{side_in, is_caller, carriers_of, message_in,
 use Rattle.osi_pair.specs.Telling.{waiting_in}
 use Rattle.osi_pair.specs.declared.sides.Side.{Side}
 use Rattle.osi_pair.proofs.StandingArrived.{PacketActs}
-use Rattle.osi_pair.proofs.StandingFinish.{terms_at, DidAt, TablesAfter, line_then, is_agree, last_is, order_of, finish, known_then}
+use Rattle.osi_pair.proofs.StandingFinish.{terms_at, DidAt, TablesAfter, line_then, is_agree, last_is, order_of, finish, known_then, was_at}
 use Rattle.osi_pair.proofs.StandingRests.{step_opens, tables_delivered, is_awaited, learns_row, rests, turn_rests, sends_then}
-use Rattle.osi_pair.proofs.StandingResting.{acted_end, line_at, EndThen, NextFor, was_at, transport_before, out_row, back_alone, back_then}
+use Rattle.osi_pair.proofs.StandingResting.{acted_end, line_at, EndThen, NextFor, transport_before, out_row, back_alone, back_then}
 use Rattle.osi_pair.proofs.StandingRows.{Row, begins, before, after, arrived_in}
 use Rattle.osi_pair.proofs.StandingSeats.{transport_by, lives_in, live_there, HasSession}
 use Rattle.osi_session.specs.declared.state.State.{State as SessionState}
 use Rattle.osi_machine.specs.Calm.{after_message, StaysCalm}
 use Rattle.osi_between.specs.Messages.{kind_of}
 use Rattle.osi_machine.specs.Worlds.{Message, unit, ask, agree, deny, bye, over}
+use Rattle.osi_pair.proofs.StandingQuiet.{none_first, none_second}
 
 -- ---- lines with a new one, of which those are dropped that are of no use
 
@@ -46,14 +47,6 @@ new_line = fresh_line awaits
 
 abbrev pub joined : ℕ → Rows Line → Rows Line
 joined n lines = lines ++ (n, new_line) ∷ []
-
-none_first : {A B : Type 0} (f : A → B) (xs : List A) (ys : List B) → map f xs ++ ys ≡ [] → xs ≡ []
-none_first f [] ys e = refl
-none_first f (x ∷ xs) ys e = cc
-
-none_second : {A B : Type 0} (f : A → B) (xs : List A) (ys : List B) → map f xs ++ ys ≡ [] → ys ≡ []
-none_second f [] ys e = e
-none_second f (x ∷ xs) ys e = cc
 
 joined_waits : (n : ℕ) (lines : Rows Line) → waiting_in lines ≡ [] → waiting_in (joined n lines) ≡ []
 joined_waits n [] e = refl
@@ -92,15 +85,7 @@ begun_kept n q live lines x apart none all h = kept_by n q live lines x apart (u
 -- ---- the reference is new
 
 new_by : (n : ℕ) (s : State) (b : Bool) → nat_lt s.given n ≡ b → progress_of (place_at n s) ≡ not_yet → s.given < n
-new_by n s true e h = grind (arith, nat_tests)
-new_by n s false e h =
-    absurd (no_new (value_at n s.live) (sym (ap (λ (b : Bool). progress_of (if◌then◌else◌ {A = Place} b never (was_given (value_at n s.live)))) e) ∙ h))
-  where
-    no_new : (o : Option Connection) → progress_of (was_given o) ≡ not_yet → ⊥
-    no_new None h = cc
-    no_new (Some asked) h = cc
-    no_new (Some (linked peer link)) h = cc
-    no_new (Some (closing peer)) h = cc
+new_by n s b e h = grind arith
 
 pub new_at : (n : ℕ) (s : State) → progress_of (place_at n s) ≡ not_yet → s.given < n
 new_at n s h = new_by n s (nat_lt s.given n) refl h
@@ -112,12 +97,7 @@ begun_lines s p u n = used_lines (told_all u (end_at s p).end).carrier.live (joi
 
 -- an ask says nothing to a session
 pub asks_same : (x : SessionState) (m : Message) → kind_of (message_in m) ≡ carrier.ask → after_message x m ≡ x
-asks_same x (unit u) k = cc
-asks_same x ask k = refl
-asks_same x agree k = cc
-asks_same x (deny r) k = cc
-asks_same x (bye r) k = cc
-asks_same x over k = cc
+asks_same x m k = grind arith
 
 pub begins_unit : (s : Side) (p : TwoEnds) (b : Between) (t : Tables) (packet : List ℕ) (h : Held) → Stands p b t → (end_at s p).end.carrier.ended ≡ None → end_of (side_in s) t ≡ None →
     (pa : PacketActs (terms_at p) (is_caller s) (carriers_of p) b packet h.octets) →

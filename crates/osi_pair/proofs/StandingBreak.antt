@@ -23,6 +23,7 @@ use Rattle.osi_pair.proofs.StandingAhead.{TakeLaws, TakesFrom, takes_from}
 use Rattle.osi_pair.proofs.StandingWays.{Takes, Front, front_at, map_take, alike_take}
 use Rattle.osi_pair.proofs.StandingCut.{IsWithin, outside_not, within_or}
 use Rattle.osi_carrier.specs.declared.ends.EndReason.{EndReason}
+use Rattle.osi_machine.proofs.Places.{cut_there, cut_count}
 
 -- what is proved of two carriers
 pub record BreakLaws : Type 0 where
@@ -36,27 +37,6 @@ cut_line left right l = record {
   own = record l.own { channel = take left l.own.channel };
   peer = record l.peer { channel = take right l.peer.channel };
 }
-
-cut_got : (left right : ℕ → ℕ) (k r : ℕ) (ls : List Line) (l : Line) → slice_get ls r ≡ Some l
-    → slice_get (cut_channels left right k ls) r ≡ Some (cut_line (left (k + r)) (right (k + r)) l)
-cut_got left right k r [] l e = absurd (cc)
-cut_got left right k zero (x ∷ ls) l e =
-    ap (λ (o : Option Line). cut_some o) e ∙ ap (λ (n : ℕ). Some (cut_line (left n) (right n) l)) (omega arith)
-  where
-    cut_some : Option Line → Option Line
-    cut_some None = None
-    cut_some (Some y) = Some (cut_line (left k) (right k) y)
-cut_got left right k (suc r) (x ∷ ls) l e =
-    cut_got left right (k + 1) r ls l e ∙ ap (λ (n : ℕ). Some (cut_line (left n) (right n) l)) (omega arith)
-
-cut_there : (left right : ℕ → ℕ) (q : ℕ) (ls : List Line) (l : Line) → connection_at q ls ≡ Some l
-    → connection_at q (cut_channels left right 1 ls) ≡ Some (cut_line (left q) (right q) l)
-cut_there left right zero ls l e = absurd (cc)
-cut_there left right (suc q) ls l e = cut_got left right 1 q ls l e ∙ ap (λ (n : ℕ). Some (cut_line (left n) (right n) l)) (omega arith)
-
-cut_count : (left right : ℕ → ℕ) (k : ℕ) (ls : List Line) → length (cut_channels left right k ls) ≡ length ls
-cut_count left right k [] = refl
-cut_count left right k (l ∷ ls) = ap suc (cut_count left right (k + 1) ls)
 
 -- ---- one connection
 
@@ -197,33 +177,9 @@ break_at laws p steps k l s none =
 abbrev pub FreshSound : Type 0
 FreshSound = (is_caller : Bool) (local : Local) → IsSound (fresh_end is_caller local)
 
-fresh_order : FreshSound → (is_caller : Bool) (local : Local) → IsInOrder (fresh_end is_caller local)
-fresh_order sound is_caller local = record { heard = refl; sound = sound is_caller local refl; rising = tt; came = tt }
-
 fresh_stands : FreshSound → (caller called : Local) → AreBetween (terms_of caller called) (fresh_both caller called) (fresh_between caller called)
     → Stands (fresh_ends caller called) (fresh_between caller called) (start (terms_in (terms_of caller called)))
-fresh_stands sound caller called h = record {
-  between = h;
-  terms = refl;
-  broken = refl;
-  caller = refl;
-  left_end = refl;
-  right_end = refl;
-  known = refl;
-  journal = refl;
-  given = refl;
-  given_then = refl;
-  class_then = refl;
-  given_back = omega arith;
-  over_left = λ e. refl;
-  over_right = λ e. refl;
-  lost_right = λ e n. refl;
-  order_left = λ e. fresh_order sound true caller;
-  order_right = λ e. fresh_order sound false called;
-  lines = λ n a c. absurd (omega arith);
-  quiet_left = refl;
-  quiet_right = refl;
-}
+fresh_stands sound caller called h = grind arith
 
 pub fresh_at : FreshSound → (caller called : Local) → AreBetween (terms_of caller called) (fresh_both caller called) (fresh_between caller called)
     → StandsAt (fresh_ends caller called) []

@@ -1,8 +1,8 @@
 -- A call of the user of an end is a call of the machine.
-use Rattle.std.proofs.Common.{◌≡◌, ◌≢◌, refl, sym, ◌∙◌, ap, subst, ℕ, zero, suc, ◌<◌, ◌≤◌, ◌==◌, Bool, true, false, nat_lt, if◌then◌else◌, List, [], ◌∷◌, ◌++◌, length, map, Option, Some, None, is_some, IsSome, IfSome, Ok, Err}
+use Rattle.std.proofs.Common.{◌≡◌, ◌≢◌, refl, sym, ◌∙◌, ap, subst, ℕ, zero, suc, ◌<◌, ◌≤◌, ◌==◌, Bool, true, false, nat_lt, if◌then◌else◌, List, [], ◌∷◌, ◌++◌, length, map, Option, Some, None, is_some, IsSome, IfSome, Ok, Err, arith}
 use Rattle.std.proofs.lemmas.Bool.{eqb-true, eq-eqb}
 use Rattle.std.proofs.lemmas.List.{append-nil}
-use Rattle.std.specs.List.{AllByRecursion}
+use Rattle.std.specs.List.{AllByRecursion, slice_get}
 use Rattle.osi_tpkt.specs.Octets.{IsOctets}
 use Rattle.osi_class.specs.Between.{IsShortTsdu}
 use Rattle.osi_class.specs.Link.{Standing as Link}
@@ -21,7 +21,7 @@ use Rattle.osi_between.specs.Messages as carrier
 use Rattle.osi_between.specs.Progress.{Progress, in_use, leaves_use}
 use Rattle.osi_between.specs.Terms.{Terms, terms_of}
 use Rattle.osi_machine.specs.AsTables.{IsTableRun, AreSoundLines}
-use Rattle.osi_machine.specs.Machine.{connection_at, with_connection, call_answered, is_given}
+use Rattle.osi_machine.specs.Machine.{connection_at, with_connection, call_answered, is_given, replaced}
 use Rattle.osi_machine.specs.Machine as entries
 use Rattle.osi_machine.specs.Tables.{Seat, Line, Tables, seen_from, side_of, stays, made, after_call, call_in, step}
 use Rattle.osi_machine.specs.Tables as tables
@@ -60,13 +60,13 @@ use Rattle.osi_pair.specs.declared.sides.Side.TheVariants.{Left, Right}
 use Rattle.osi_pair.proofs.StandingActs.{out_way, back_way, place_given, OfEnd, of_end, NoneBeyond, more_said, StandsOn}
 use Rattle.osi_pair.proofs.StandingAnswer.{line_error, Answered}
 use Rattle.osi_pair.proofs.StandingListens.{calls_so, calls_keep}
-use Rattle.osi_pair.proofs.StandingSides.{SeenLine, seen, as_line, seen_twice, IsLeft, other_line, same_place}
 use Rattle.osi_pair.proofs.StandingCut.{reach_same}
 use Rattle.osi_pair.proofs.StandingSeats.{live_session}
 use Rattle.osi_pair.proofs.WordLaws.{AreWords}
 use Rattle.osi_pair.proofs.WordsSent.{PartLaws, word_of, carried_words}
 use Rattle.osi_session.specs.Kept.{IsJoinedAs}
 use Rattle.osi_machine.proofs.CalmLaws.{called_calm}
+use Rattle.osi_pair.proofs.StandingTurned.{IsSeen, seen_twice, Others, still_there}
 
 -- what the crates below say
 pub record CallLaws : Type 0 where
@@ -104,18 +104,21 @@ refused_line : (broken : Bool) (call : Call) (l : Line) (e : CallError) → (rea
 unfolding react
 refused_line broken call l e h = made_rest broken l (allowed l.own.session.state call) e h
 
+-- the same line in its place
+same_place : (r : ℕ) (l : Line) (ls : List Line) → slice_get ls r ≡ Some l → replaced r l ls ≡ ls
+same_place r l [] e = refl
+same_place zero l (x ∷ ls) e = let same : l ≡ x = cc in ap (λ (y : Line). y ∷ ls) same
+same_place (suc r) l (x ∷ ls) e = ap (λ (ys : List Line). x ∷ ys) (same_place r l ls e)
+
 stays_same : (t : Tables) (side : Side) (r : ℕ) (l : Line) → connection_at r t.lines ≡ Some l → stays t (side_in side) r (seen_from (side_in side) l) ≡ t
 stays_same t side zero l at = absurd cc
-stays_same t side (suc k) l at = ap (λ (ls : List Line). record t { lines = ls }) (ap (λ (x : Line). with_connection (suc k) x t.lines) (seen_twice side l) ∙ same_place k l t.lines at)
+stays_same t side (suc k) l at = ap (λ (ls : List Line). record t { lines = ls }) (ap (λ (x : Line). with_connection (suc k) x t.lines) (seen_twice (side_in side) l) ∙ same_place k l t.lines at)
 
 refused_by : (b : Bool) (t moved : Tables) (side : Side) (r : ℕ) (call : Call) (other_error : Option CallError) (first : Option CallError) (e : CallError) → (b ≡ true → first ≡ Some e → moved ≡ t) →
     (if b then first else other_error) ≡ Some e →
     (if b then tables.noted (call_answered (side_in side) r call first ∷ []) moved else tables.noted (call_answered (side_in side) r call other_error ∷ []) t)
     ≡ tables.noted (call_answered (side_in side) r call (Some e) ∷ []) t
-refused_by true t moved side r call other_error first e same h =
-    ap (λ (o : Option CallError). tables.noted (call_answered (side_in side) r call o ∷ []) moved) h
-    ∙ ap (λ (u : Tables). tables.noted (call_answered (side_in side) r call (Some e) ∷ []) u) (same refl h)
-refused_by false t moved side r call other_error first e same h = ap (λ (o : Option CallError). tables.noted (call_answered (side_in side) r call o ∷ []) t) h
+refused_by b t moved side r call other_error first e same h = grind arith
 
 refused_step : (t : Tables) (side : Side) (r : ℕ) (call : Call) (o : Option Line) (e : CallError) → connection_at r t.lines ≡ o → line_error (side_of (side_in side) o) call ≡ Some e →
     call_in t (side_in side) r call (side_of (side_in side) o) ≡ tables.noted (call_answered (side_in side) r call (Some e) ∷ []) t
@@ -154,20 +157,7 @@ pub record OpenAt (r : ℕ) (c : Carrier) : Type 0 where
   pub is : open_link r c ≡ Some (peer, link)
 
 open_by : (r : ℕ) (c : Carrier) (ended : Option EndReason) (o : Option Connection) → c.ended ≡ ended → value_at r c.live ≡ o → IsSome (open_link r c) → OpenAt r c
-open_by r c (Some reason) o e at h =
-    let none : open_link r c ≡ None = ap (λ (x : Option EndReason). if◌then◌else◌ {A = Option (ℕ × Link)} (is_some x) None (link_of (value_at r c.live))) e in
-    let no : IsSome {T = ℕ × Link} None = subst (λ (x : Option (ℕ × Link)). IsSome x) none h in
-    absurd cc
-open_by r c None o e at h =
-    let is : open_link r c ≡ link_of o =
-    ap (λ (x : Option EndReason). if◌then◌else◌ {A = Option (ℕ × Link)} (is_some x) None (link_of (value_at r c.live))) e ∙ ap link_of at in
-    by_link o at is (subst (λ (x : Option (ℕ × Link)). IsSome x) is h)
-  where
-    by_link : (x : Option Connection) → value_at r c.live ≡ x → open_link r c ≡ link_of x → IsSome (link_of x) → OpenAt r c
-    by_link None a is h = absurd cc
-    by_link (Some asked) a is h = absurd cc
-    by_link (Some (linked peer link)) a is h = record { lasts = e; peer = peer; link = link; at = a; is = is }
-    by_link (Some (closing peer)) a is h = absurd cc
+open_by r c ended o e at h = grind arith
 
 -- what it leaves of the carrier
 pub record SentOn (r : ℕ) (c new : Carrier) : Type 0 where
@@ -323,19 +313,6 @@ seat_now r call h broken x c within s =
           (sym (ap (λ (y : Listener). y.waiting) (sym next) ∙ c.waits ∙ ap (λ (y : Listener). y.waiting) (sym same))) s.octets;
     }
 
-left_alone : (q r : ℕ) (call : Call) (h : Holding) → Called r call h → q ≢ r → IsLeft q h (now_of r call h)
-left_alone q r call h c apart =
-    let g : Holding = now_of r call h in
-    let live : value_at q g.end.carrier.live ≡ value_at q h.end.carrier.live = c.kept.others q apart in
-    let line : value_at q g.end.lines ≡ value_at q h.end.lines = ap (value_at q) c.lines ∙ put_other q r c.line_now h.end.lines apart in
-    record {
-      place = ap (λ (n : ℕ). if◌then◌else◌ {A = Place} (nat_lt n q) never (was_given (value_at q g.end.carrier.live))) c.kept.given
-          ∙ ap (λ (o : Option Connection). if◌then◌else◌ {A = Place} (nat_lt h.end.carrier.given q) never (was_given o)) live;
-      live = live;
-      line = λ e. line;
-      kept = λ s e. sym (ap session_in line) ∙ e;
-    }
-
 -- ---- the two of an accepted call
 
 abbrev pub new_of : Side → ℕ → Call → TwoEnds → TwoEnds
@@ -414,15 +391,15 @@ keeps_joined r call h c begun held y at =
     let same : y ≡ (words.react c.session (words.called call)).next = cc in
     subst (λ (z : Listener). IsJoinedAs z.state z.joined begun) (sym same) (calls_keep c.session call begun (held c.session was))
 
-line_acts : (side : Side) (r : ℕ) (call : Call) (p : TwoEnds) (b : Between) (t : Tables) (x : Line) (c : Called r call (end_at side p)) (a : MayAct side r call p b (sent_words r call (end_at side p) c) c.granted.sent) → HasSerial call → OfEnd side p b t →
-    t.broken ≡ is_some p.reach → r ≤ (end_at side p).end.carrier.given → SeenLine side r p b x → SeenLine side r (new_of side r call p) a.now (after_call t.broken call x)
+pub line_acts : (side : Side) (r : ℕ) (call : Call) (p : TwoEnds) (b : Between) (t : Tables) (x : Line) (c : Called r call (end_at side p)) (a : MayAct side r call p b (sent_words r call (end_at side p) c) c.granted.sent) → HasSerial call → OfEnd side p b t →
+    t.broken ≡ is_some p.reach → r ≤ (end_at side p).end.carrier.given → IsSeen side r p b x → IsSeen side r (new_of side r call p) a.now (after_call t.broken call x)
 line_acts side r call p b t x c a serial o broken within h =
-    let sends : (react x.own.session (called call)).reply ≡ Some c.granted.sent = reply_so r call (end_at side p) x.own c h.own in
+    let sends : (react x.own.session (called call)).reply ≡ Some c.granted.sent = reply_so r call (end_at side p) x.own c h.here in
     let before = progress_then side r call p b t c o within in
     let after = progress_now side r call p b c a within in
     record {
-      own = subst (λ (y : Holding). IsSeated r y (after_call t.broken call x).own) (sym (end_is side r call p)) (seat_now r call (end_at side p) t.broken x c within h.own);
-      peer = subst (λ (y : Holding). IsSeated r y x.peer) (sym (other_is side r call p)) h.peer;
+      here = subst (λ (y : Holding). IsSeated r y (after_call t.broken call x).own) (sym (end_is side r call p)) (seat_now r call (end_at side p) t.broken x c within h.here);
+      there = subst (λ (y : Holding). IsSeated r y x.peer) (sym (other_is side r call p)) h.there;
       out = out_way (terms_now p) side r p (new_of side r call p) b a.now (sent_words r call (end_at side p) c) (unit c.granted.sent ∷ []) x.own.channel t.broken (after_call t.broken call x).own x.peer a.are a.carries broken
           (none_gone _ _ a.carries.gone before after a.carries.keeps) (other_is side r call p) c.opened.lasts (reach_same side (now_of r call (end_at side p)) p) h.out (ap (λ (y : Option Meaning). worlds.put t.broken (replied y) x.own.channel) sends);
       back = back_way (terms_now p) side r p (new_of side r call p) b a.now (map word_in (sent_words r call (end_at side p) c)) x.peer x.own (after_call t.broken call x).own a.carries (before ∙ sym after)
@@ -436,44 +413,29 @@ line_acts side r call p b t x c a serial o broken within h =
 abbrev pub tables_now : Tables → Side → ℕ → Call → Line → Tables
 tables_now t side r call l = stays t (side_in side) r (after_call t.broken call (seen_from (side_in side) l))
 
-pub line_by : (here : Bool) (laws : CallLaws) (side : Side) (r n : ℕ) (call : Call) (p : TwoEnds) (b : Between) (t : Tables) (l : Line) (c : Called r call (end_at side p)) (a : MayAct side r call p b (sent_words r call (end_at side p) c) c.granted.sent) →
-    (n == r) ≡ here → HasSerial call → Stands p b t → connection_at r t.lines ≡ Some l → IsLine r p b l → r ≤ (end_at side p).end.carrier.given → 0 < n → n ≤ length t.lines →
-    HasLine n (new_of side r call p) a.now (tables_now t side r call l)
-line_by true laws side r n call p b t l c a e serial s at is within some few =
-    let x : Line = seen_from (side_in side) l in
-    let y : Line = after_call t.broken call x in
-    let new : HasLine r (new_of side r call p) a.now (tables_now t side r call l) = record {
-      line = seen_from (side_in side) y;
-      found = laws.same r t.lines l (seen_from (side_in side) y) at;
-      is = as_line side r (new_of side r call p) a.now y (line_acts side r call p b t x c a serial (of_end side p b t s) s.broken within (seen side r p b l is));
-    } in
-    subst (λ (m : ℕ). HasLine m (new_of side r call p) a.now (tables_now t side r call l)) (sym (eqb-true n r e)) new
-line_by false laws side r n call p b t l c a e serial s at is within some few =
-    let h = s.lines n some few in
-    let apart : n ≢ r = λ same. let no = sym e ∙ eq-eqb n r same in cc in
-    let left : IsLeft n (end_at side p) (end_at side (new_of side r call p)) =
-    subst (IsLeft n (end_at side p)) (sym (end_is side r call p)) (left_alone n r call (end_at side p) c apart) in
+-- all others are as they were
+pub others_left : (side : Side) (r : ℕ) (call : Call) (p : TwoEnds) (b : Between) (words : List Word) (m : Meaning) → Called r call (end_at side p) → (a : MayAct side r call p b words m) →
+    Others side p b (now_of r call (end_at side p)).end (end_at side p).held a.now r
+others_left side r call p b words m c a =
+    let h : Holding = end_at side p in
+    let e : End = (now_of r call h).end in
+    let line : (q : ℕ) → q ≢ r → value_at q e.lines ≡ value_at q h.end.lines = λ q apart. ap (value_at q) c.lines ∙ put_other q r c.line_now h.end.lines apart in
     record {
-      line = h.line;
-      found = laws.apart n r t.lines _ apart ∙ h.found;
-      is = subst (IsLine n (new_of side r call p) a.now) (seen_twice side h.line)
-          (as_line side n (new_of side r call p) a.now (seen_from (side_in side) h.line)
-          (other_line (terms_now p) side n r p (new_of side r call p) b a.now [] (map word_in (sent_words r call (end_at side p) c)) (seen_from (side_in side) h.line) a.carries apart
-          (other_is side r call p) c.opened.lasts (reach_same side (now_of r call (end_at side p)) p) left (seen side n p b h.line h.is)));
+      places = λ q apart. ap (λ (n : ℕ). if◌then◌else◌ {A = Place} (nat_lt n q) never (was_given (value_at q e.carrier.live))) c.kept.given
+          ∙ ap (λ (o : Option Connection). if◌then◌else◌ {A = Place} (nat_lt h.end.carrier.given q) never (was_given o)) (c.kept.others q apart);
+      lives = c.kept.others;
+      sessions = λ q apart is. ap session_in (line q apart);
+      kept = λ q apart x is. sym (ap session_in (line q apart)) ∙ is;
+      ways = a.carries.others;
+      last = a.carries.other_places;
+      there = λ q. ap (place_at q) (still_there side b a.now a.carries.there);
     }
 
 -- ---- what waits
 
 quiet_by : (r q : ℕ) (x y z : stack.Line) (lines : Rows stack.Line) (b : Bool) → (q == r) ≡ b → y.waiting ≡ x.waiting → value_at r ((q, z) ∷ lines) ≡ Some x →
     (value_at r lines ≡ Some x → waiting_in (put r y lines) ≡ waiting_in lines) → waiting_in (put r y ((q, z) ∷ lines)) ≡ waiting_in ((q, z) ∷ lines)
-quiet_by r q x y z lines true e same at more =
-    let here : z ≡ x = (let is : Some z ≡ Some x = sym (ap (λ (b : Bool). if◌then◌else◌ {A = Option stack.Line} b (Some z) (value_at r lines)) e) ∙ at in cc) in
-    ap (λ (b : Bool). waiting_in (if◌then◌else◌ {A = Rows stack.Line} b ((q, y) ∷ lines) ((q, z) ∷ put r y lines))) e
-    ∙ ap (λ (w : List Shown). map (λ shown. (q, shown)) w ++ waiting_in lines) (same ∙ ap (λ (l : stack.Line). l.waiting) (sym here))
-quiet_by r q x y z lines false e same at more =
-    let there_is : value_at r lines ≡ Some x = sym (ap (λ (b : Bool). if◌then◌else◌ {A = Option stack.Line} b (Some z) (value_at r lines)) e) ∙ at in
-    ap (λ (b : Bool). waiting_in (if◌then◌else◌ {A = Rows stack.Line} b ((q, y) ∷ lines) ((q, z) ∷ put r y lines))) e
-    ∙ ap (λ (w : List (ℕ × Shown)). map (λ shown. (q, shown)) z.waiting ++ w) (more there_is)
+quiet_by r q x y z lines b e same at more = grind arith
 
 quiet_put : (r : ℕ) (x y : stack.Line) (lines : Rows stack.Line) → y.waiting ≡ x.waiting → value_at r lines ≡ Some x → waiting_in (put r y lines) ≡ waiting_in lines
 quiet_put r x y [] same at = refl
@@ -483,12 +445,4 @@ pub quiet_now : (r : ℕ) (call : Call) (h : Holding) → Called r call h → wa
 quiet_now r call h c quiet = ap waiting_in c.lines ∙ quiet_put r c.line c.line_now h.end.lines c.waiting_now c.found ∙ quiet
 
 pub order_now : CallLaws → (r : ℕ) (call : Call) (h : Holding) → HasSerial call → IsInOrder h.end → (now_of r call h).end.carrier.ended ≡ None → IsInOrder (now_of r call h).end
-order_now laws r call h serial o lasts = record {
-  heard = laws.attended r call h.end (λ e. o.heard) lasts;
-  sound = laws.sound r call h.end (λ e. o.sound) lasts;
-  rising = laws.rising r call h.end o.rising;
-  came = laws.came r call h.end serial o.came;
-}
-
-pub over_now : (r : ℕ) (call : Call) (h : Holding) → Called r call h → IsSome (now_of r call h).end.carrier.ended → (now_of r call h).end.carrier.live ≡ []
-over_now r call h c e = let no : IsSome {T = EndReason} None = subst (λ (o : Option EndReason). IsSome o) (lasts_now r call h c) e in absurd cc
+order_now laws r call h serial o lasts = grind arith

@@ -1,5 +1,5 @@
 -- Two ends stand after a call as the tables do after theirs.
-use Rattle.std.proofs.Common.{◌≡◌, refl, sym, ◌∙◌, ap, subst, ℕ, ◌≤◌, ◌==◌, ◌&&◌, Bool, true, false, not, nat_le, nat_lt, if◌then◌else◌, List, [], ◌∷◌, ◌++◌, length, Option, Some, None, Ok, option_map, IsSome}
+use Rattle.std.proofs.Common.{◌≡◌, refl, sym, ◌∙◌, ap, subst, ℕ, ◌≤◌, ◌==◌, ◌&&◌, Bool, true, false, not, nat_le, nat_lt, if◌then◌else◌, List, [], ◌∷◌, ◌++◌, length, Option, Some, None, Ok, option_map, IsSome, arith}
 use Rattle.std.proofs.lemmas.Bool.{leb-true}
 use Rattle.std.specs.List.{AllByRecursion}
 use Rattle.osi_tpkt.specs.Octets.{IsOctets}
@@ -28,7 +28,7 @@ use Rattle.osi_session.specs.declared.faults.CallError.{CallError}
 use Rattle.osi_session.specs.declared.faults.CallError.TheVariants as error
 use Rattle.osi_stack.specs.Calls.{has_given, session_refusal, call_error}
 use Rattle.osi_stack.specs.Messages.{kept_at}
-use Rattle.osi_stack.specs.State.{Holding, session_at}
+use Rattle.osi_stack.specs.State.{Holding, session_at, End}
 use Rattle.osi_pair.specs.Ends.{TwoEnds, end_at}
 use Rattle.osi_pair.specs.Ends as ends
 use Rattle.osi_pair.specs.Entries.{calls}
@@ -36,81 +36,29 @@ use Rattle.osi_pair.specs.Standing.{side_in, terms_in, class_in, ending_in, carr
 use Rattle.osi_pair.specs.Words.{most_data}
 use Rattle.osi_pair.specs.declared.sides.Side.{Side}
 use Rattle.osi_pair.specs.declared.sides.Side.TheVariants.{Left, Right}
-use Rattle.osi_pair.proofs.StandingActs.{There, there, more_said, StandsOn, begun_with, one_step}
+use Rattle.osi_pair.proofs.StandingActs.{There, there, more_said, StandsOn, begun_with, one_step, of_end}
 use Rattle.osi_pair.proofs.StandingAnswer.{line_error, answer_same}
-use Rattle.osi_pair.proofs.StandingCall.{CallLaws, refused_stands, after_by, now_of, new_of, tables_now, Called, called_is, seat_session, sent_words, MayAct, acted_at, lasts_now, lives_now, line_by, quiet_now, order_now, over_now}
-use Rattle.osi_pair.proofs.StandingSides.{seen}
+use Rattle.osi_pair.proofs.StandingCall.{CallLaws, refused_stands, after_by, now_of, new_of, tables_now, Called, called_is, seat_session, sent_words, MayAct, acted_at, lasts_now, quiet_now, order_now, line_acts, others_left}
 use Rattle.osi_pair.proofs.WordLaws.{AreWords}
 use Rattle.osi_pair.proofs.WordsSent.{IsBounded, words_of_message}
+use Rattle.osi_pair.proofs.StandingActed.{turned_by, nothing_noted}
+use Rattle.osi_pair.proofs.StandingTurned.{turned_stands, seen, seen_twice, still_there}
 
--- ---- at the left end, and at the right
-
--- an end that acts has not ended
-lost_now : (r : ℕ) (call : Call) (h : Holding) → Called r call h → IsSome (now_of r call h).end.carrier.ended → (n : ℕ) → kept_at n (now_of r call h).end.lines ≡ None
-lost_now r call h c e n = let no : IsSome {T = EndReason} None = subst (λ (o : Option EndReason). IsSome o) (lasts_now r call h c) e in absurd cc
-
-stand_left : (laws : CallLaws) (r : ℕ) (call : Call) (p : TwoEnds) (b : Between) (t : Tables) (l : Line) (c : Called r call p.left) (a : MayAct Left r call p b (sent_words r call p.left c) c.granted.sent) → HasSerial call → Stands p b t →
-    connection_at r t.lines ≡ Some l → There r p b t l → r ≤ p.left.end.carrier.given → Stands (new_of Left r call p) a.now (tables_now t Left r call l)
-stand_left laws r call p b t l c a serial s at th within =
-    let g : Holding = now_of r call p.left in
-    let lasts = lasts_now r call p.left c in
-    let lives : g.end.carrier ≡ a.now.caller = lives_now Left r call p b (sent_words r call p.left c) c.granted.sent a lasts in
-    let count = laws.count r t.lines (seen_from (side_in Left) (after_call t.broken call (seen_from (side_in Left) l))) in
-    record {
-      between = subst (λ (x : Local). AreBetween (terms_of x p.right.end.carrier.local) (carriers_of (new_of Left r call p)) a.now) (sym c.kept.local) a.between;
-      terms = s.terms ∙ ap (λ (x : Local). terms_in (terms_of x p.right.end.carrier.local)) (sym c.kept.local);
-      broken = s.broken;
-      caller = c.kept.is_caller ∙ s.caller;
-      left_end = s.left_end ∙ ap (option_map ending_in) (sym c.kept.ended);
-      right_end = s.right_end;
-      known = s.known ∙ ap (option_map class_in) (sym c.kept.class);
-      journal = s.journal;
-      given = count ∙ s.given ∙ sym c.kept.given;
-      given_then = ap (λ (x : Carrier). x.given) (sym lives);
-      class_then = ap (λ (x : Carrier). x.class) (sym lives);
-      given_back = subst (λ (n : ℕ). p.right.end.carrier.given ≤ n) (sym count) s.given_back;
-      lines = λ n some few. line_by (n == r) laws Left r n call p b t l c a refl serial s at th.is within some (subst (λ (m : ℕ). n ≤ m) count few);
-      over_left = over_now r call p.left c;
-      over_right = s.over_right;
-      lost_right = s.lost_right;
-      order_left = λ e. order_now laws r call p.left serial (s.order_left c.opened.lasts) e;
-      order_right = s.order_right;
-      quiet_left = quiet_now r call p.left c s.quiet_left;
-      quiet_right = s.quiet_right;
-    }
-
-stand_right : (laws : CallLaws) (r : ℕ) (call : Call) (p : TwoEnds) (b : Between) (t : Tables) (l : Line) (c : Called r call p.right) (a : MayAct Right r call p b (sent_words r call p.right c) c.granted.sent) → HasSerial call → Stands p b t →
-    connection_at r t.lines ≡ Some l → There r p b t l → r ≤ p.right.end.carrier.given → Stands (new_of Right r call p) a.now (tables_now t Right r call l)
-stand_right laws r call p b t l c a serial s at th within =
-    let g : Holding = now_of r call p.right in
-    let count = laws.count r t.lines (seen_from (side_in Right) (after_call t.broken call (seen_from (side_in Right) l))) in
-    record {
-      between = subst (λ (x : Local). AreBetween (terms_of p.left.end.carrier.local x) (carriers_of (new_of Right r call p)) a.now) (sym c.kept.local) a.between;
-      terms = s.terms ∙ ap (λ (x : Local). terms_in (terms_of p.left.end.carrier.local x)) (sym c.kept.local);
-      broken = s.broken;
-      caller = s.caller;
-      left_end = s.left_end;
-      right_end = s.right_end ∙ ap (option_map ending_in) (sym c.kept.ended);
-      known = s.known;
-      journal = s.journal;
-      given = count ∙ s.given;
-      given_then = ap (λ (x : Carrier). x.given) a.carries.there ∙ s.given_then;
-      class_then = ap (λ (x : Carrier). x.class) a.carries.there ∙ s.class_then;
-      given_back = subst (λ (n : ℕ). g.end.carrier.given ≤ n) (sym count) (subst (λ (n : ℕ). n ≤ length t.lines) (sym c.kept.given) s.given_back);
-      lines = λ n some few. line_by (n == r) laws Right r n call p b t l c a refl serial s at th.is within some (subst (λ (m : ℕ). n ≤ m) count few);
-      over_left = s.over_left;
-      over_right = over_now r call p.right c;
-      lost_right = λ e n. lost_now r call p.right c e n;
-      order_left = s.order_left;
-      order_right = λ e. order_now laws r call p.right serial (s.order_right c.opened.lasts) e;
-      quiet_left = s.quiet_left;
-      quiet_right = quiet_now r call p.right c s.quiet_right;
-    }
+-- ---- two ends
 
 stand_at : (laws : CallLaws) (side : Side) (r : ℕ) (call : Call) (p : TwoEnds) (b : Between) (t : Tables) (l : Line) (c : Called r call (end_at side p)) (a : MayAct side r call p b (sent_words r call (end_at side p) c) c.granted.sent) → HasSerial call →
     Stands p b t → connection_at r t.lines ≡ Some l → There r p b t l → r ≤ (end_at side p).end.carrier.given → Stands (new_of side r call p) a.now (tables_now t side r call l)
-stand_at laws Left r call p b t l c a serial s at th within = stand_left laws r call p b t l c a serial s at th within
-stand_at laws Right r call p b t l c a serial s at th within = stand_right laws r call p b t l c a serial s at th within
+stand_at laws side r call p b t l c a serial s at th within =
+    let h : Holding = end_at side p in
+    let e : End = (now_of r call h).end in
+    let x : Line = seen_from (side_in side) l in
+    let o = of_end side p b t s in
+    let lasts = lasts_now r call h c in
+    subst (λ (q : TwoEnds). Stands q a.now (tables_now t side r call l)) (nothing_noted side e p r)
+    (turned_stands side p b t e h.held a.now (tables_now t side r call l) r [] s c.opened.lasts
+    (turned_by side p b t e h.held a.now r x (after_call t.broken call x) s (record { is_caller = c.kept.is_caller; local = c.kept.local; class = c.kept.class; given = c.kept.given; lasts = lasts }) a.between
+    (at ∙ ap Some (sym (seen_twice (side_in side) l))) (line_acts side r call p b t x c a serial o s.broken within (seen side r p b l th.is)) (others_left side r call p b (sent_words r call h c) c.granted.sent c a)
+    (still_there side b a.now a.carries.there) (order_now laws r call h serial (o.order c.opened.lasts) lasts) (quiet_now r call h c o.quiet)))
 
 -- ---- the step of the tables
 
@@ -124,15 +72,7 @@ given_by true first e f other h = ap f h
 given_by false first e f other h = absurd cc
 
 accepted_step : (t : Tables) (side : Side) (r : ℕ) (call : Call) (o : Option Line) → line_error (side_of (side_in side) o) call ≡ None → Accepted t side r call o
-accepted_step t side r call None h = absurd cc
-accepted_step t side r call (Some l) h =
-    let x : Line = seen_from (side_in side) l in
-    record {
-      line = l;
-      found = refl;
-      is = given_by (is_given x.own.transport) (react x.own.session (called call)).error error.NoSuchConnection
-          (λ o. tables.noted (call_answered (side_in side) r call o ∷ []) (tables_now t side r call l)) (tables.noted (call_answered (side_in side) r call (Some error.NoSuchConnection) ∷ []) t) h;
-    }
+accepted_step t side r call o h = grind arith
 
 -- ---- what is sent
 
@@ -157,7 +97,7 @@ can_send : (laws : CallLaws) (side : Side) (r : ℕ) (call : Call) (p : TwoEnds)
     IsOctets (octets_of call) → connection_at r t.lines ≡ Some l → There r p b t l → CanSend r call (end_at side p) c
 can_send laws side r call p b t l c tabled serial octets at th =
     let x : Line = seen_from (side_in side) l in
-    let same = seat_session r call (end_at side p) x.own c (seen side r p b l th.is).own in
+    let same = seat_session r call (end_at side p) x.own c (seen side r p b l th.is).here in
     let sound : IsSoundState c.session.state = subst (λ (y : Listener). IsSoundState y.state) same (sound_seat side l (laws.sound_lines t tabled r l at)).sound in
     let sendable : IsSendable c.granted.sent = laws.sendable c.session.state call c.granted sound serial c.accepted in
     let limit = limit_of c.session.state in

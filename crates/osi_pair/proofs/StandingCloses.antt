@@ -1,6 +1,6 @@
 -- An end closes an open connection of class 2: the tables put that, and of what was under way from it they keep
 -- what was written.
-use Rattle.std.proofs.Common.{◌≡◌, ℕ, Bool, true, false, List, [], ◌∷◌, take, Option, Some, None, is_some, refl, sym, subst, arith}
+use Rattle.std.proofs.Common.{◌≡◌, ℕ, Bool, true, false, List, [], ◌∷◌, take, Option, Some, None, is_some, refl, sym, subst, arith, ap, ◌∙◌}
 use Rattle.osi_class.specs.Link.{Standing as Link}
 use Rattle.osi_class.specs.declared.terms.Class.{Class}
 use Rattle.osi_class.specs.declared.terms.Class.TheVariants.{Zero, Two}
@@ -26,7 +26,7 @@ use Rattle.osi_pair.specs.Sides.{other}
 use Rattle.osi_pair.specs.Standing.{side_in, is_caller, carriers_of, IsInOrder, Stands, HasJoined}
 use Rattle.osi_pair.specs.declared.sides.Side.{Side}
 use Rattle.osi_pair.specs.declared.sides.Side.TheVariants.{Left, Right}
-use Rattle.osi_pair.proofs.StandingActed.{ActsOn, CarrierActs, end_with, pair_with, ways_at, acted_stands, seen_at, session_in_use, OutNow}
+use Rattle.osi_pair.proofs.StandingActed.{ActsOn, CarrierActs, end_with, pair_with, ways_at, acted_stands, seen_at, session_in_use, OutNow, acted_by}
 use Rattle.osi_pair.proofs.StandingActs.{StandsOn}
 use Rattle.osi_pair.proofs.StandingArrived.{CarrierLaws}
 use Rattle.osi_pair.proofs.StandingFinish.{terms_at}
@@ -34,23 +34,15 @@ use Rattle.osi_pair.proofs.StandingRests.{unless_broken, put_unless, unless_same
 use Rattle.osi_pair.proofs.StandingResting.{broken_is}
 use Rattle.osi_pair.proofs.StandingSeats.{HasSession}
 use Rattle.osi_pair.proofs.StandingCall.{open_is}
-use Rattle.osi_pair.proofs.StandingTurned.{IsSeen, with_holding, GoesTo}
+use Rattle.osi_pair.proofs.StandingTurned.{IsSeen, with_holding, GoesTo, holding_here}
 use Rattle.osi_pair.proofs.StandingWays.{Takes, out_cuts}
 use Rattle.osi_pair.proofs.StandingCut.{cut_broken, reach_same}
+use Rattle.osi_pair.proofs.StandingPacket.{both_carrier}
 
 -- ---- the carrier
 
--- one that lasts behind it is not of class 0
-closes_acts : (n : ℕ) (c : State) (peer reason : ℕ) (link : Link) (class : Option Class) → (closes n peer reason class c).ended ≡ None → ActsOn n shutting c (closes n peer reason class c)
-closes_acts n c peer reason link (Some Zero) lasts = absurd cc
-closes_acts n c peer reason link (Some Two) lasts = record { is_caller = refl; local = refl; class = refl; given = refl; lasts = lasts; connection = closing peer; live = refl; progress = refl }
-closes_acts n c peer reason link None lasts = record { is_caller = refl; local = refl; class = refl; given = refl; lasts = lasts; connection = closing peer; live = refl; progress = refl }
-
 pub closed_acts : (n : ℕ) (c : State) (peer reason : ℕ) (link : Link) → c.ended ≡ None → value_at n c.live ≡ Some (linked peer link) → (closed_with n reason c).ended ≡ None → ActsOn n shutting c (closed_with n reason c)
-closed_acts n c peer reason link alive at lasts =
-    let is = open_is n c peer link alive at in
-    subst (λ (o : Option (ℕ × Link)). ActsOn n shutting c (closed_on n reason o c)) (sym is)
-    (closes_acts n c peer reason link c.class (subst (λ (o : Option (ℕ × Link)). (closed_on n reason o c).ended ≡ None) is lasts))
+closed_acts n c peer reason link alive at lasts = grind arith
 
 abbrev pub CloseActs : Side → TwoEnds → Between → ℕ → Type 0
 CloseActs s p b n = CarrierActs s p b n shutting (closed_with n 128 (end_at s p).end.carrier) (carrier.bye 128 ∷ [])
@@ -63,29 +55,21 @@ ActedBy end p new b n x = Acted x end n (carriers_of p) (carriers_of new) b [] (
 
 pub close_acts : CarrierLaws → (s : Side) (p : TwoEnds) (b : Between) (t : Tables) (n peer : ℕ) (link : Link) → Stands p b t → (end_at s p).end.carrier.ended ≡ None → terms_at p ≡ by_two →
     value_at n (end_at s p).end.carrier.live ≡ Some (linked peer link) → CloseActs s p b n
-close_acts laws Left p b t n peer link old alive two at =
-    let new = pair_with Left (closed_with n 128 p.left.end.carrier) p in
-    let a = subst (ActedBy true p new b n) (sym two) (laws.closed true (carriers_of p) b n peer link 128 (in_two p b t old two) alive at (omega arith)) in
+close_acts laws s p b t n peer link old alive two at =
+    let c = both_carrier s p in
+    let closed = closed_with n 128 (end_at s p).end.carrier in
+    let new = pair_with s closed p in
+    let a = subst (ActedBy (is_caller s) p new b n) (sym two) (acted_by s p b n by_two (closed_with n 128) (carrier.bye 128 ∷ [])
+    (laws.closed (is_caller s) (carriers_of p) b n peer link 128 (in_two p b t old two) (ap (λ (x : State). x.ended) c ∙ alive) (ap (λ (x : State). value_at n x.live) c ∙ at) (omega arith))) in
+    let is = both_carrier s new ∙ ap (λ (y : Holding). y.end.carrier) (holding_here s (end_with s closed p) (end_at s p).held p) in
     record {
-      on = closed_acts n p.left.end.carrier peer 128 link alive at a.lasts;
+      on = closed_acts n (end_at s p).end.carrier peer 128 link alive at (sym (ap (λ (x : State). x.ended) is) ∙ a.lasts);
       was = linked peer link;
       at = at;
       used = refl;
       now = a.now;
       between = a.between;
-      ways = ways_at Left n p new b a.now (carrier.bye 128 ∷ []) a.carries;
-    }
-close_acts laws Right p b t n peer link old alive two at =
-    let new = pair_with Right (closed_with n 128 p.right.end.carrier) p in
-    let a = subst (ActedBy false p new b n) (sym two) (laws.closed false (carriers_of p) b n peer link 128 (in_two p b t old two) alive at (omega arith)) in
-    record {
-      on = closed_acts n p.right.end.carrier peer 128 link alive at a.lasts;
-      was = linked peer link;
-      at = at;
-      used = refl;
-      now = a.now;
-      between = a.between;
-      ways = ways_at Right n p new b a.now (carrier.bye 128 ∷ []) a.carries;
+      ways = ways_at s n p new b a.now (carrier.bye 128 ∷ []) a.carries;
     }
 
 -- ---- what is under way from it

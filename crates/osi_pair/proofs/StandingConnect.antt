@@ -1,6 +1,6 @@
 -- Who asks for a connection asks the machine.
-use Rattle.std.proofs.Common.{◌≡◌, ◌≢◌, refl, sym, ◌∙◌, ap, subst, ℕ, suc, ◌+◌, ◌<◌, ◌≤◌, ◌==◌, Bool, true, false, not, if◌then◌else◌, List, [], ◌∷◌, ◌++◌, length, length-append, map, Option, Some, None, option_map, is_some, IsSome, Ok, Err, arith, inl}
-use Rattle.std.proofs.lemmas.Bool.{eqb-true, eq-eqb}
+use Rattle.std.proofs.Common.{◌≡◌, ◌≢◌, refl, sym, ◌∙◌, ap, subst, ℕ, suc, ◌+◌, ◌<◌, ◌≤◌, ◌==◌, Bool, true, false, not, if◌then◌else◌, List, [], ◌∷◌, ◌++◌, length, length-append, map, Option, Some, None, option_map, is_some, IsSome, Ok, Err, arith, inl, nat_le}
+use Rattle.std.proofs.lemmas.Bool.{eqb-true, eq-eqb, leb-true, leb-false}
 use Rattle.std.proofs.lemmas.Bool.Decides.{nat_tests}
 use Rattle.osi_tpdu.specs.Limits.{tsap_octets}
 use Rattle.osi_carrier.specs.Calls.{may_connect, asks}
@@ -52,8 +52,9 @@ use Rattle.osi_pair.proofs.StandingActs.{out_way, place_given, place_ahead, more
 use Rattle.osi_pair.proofs.StandingCall.{session_now_is}
 use Rattle.osi_pair.proofs.StandingOctets.{profile_small, asker_small, answerer_small}
 use Rattle.osi_pair.proofs.StandingRefusal.{Awaits, refusal_same}
-use Rattle.osi_pair.proofs.StandingSides.{seen, as_line, alike_trans, alike_same, like_alike, IsLeft, other_line}
-use Rattle.osi_pair.proofs.StandingWays.{none_under_way}
+use Rattle.osi_pair.proofs.StandingWays.{none_under_way, same_alike, alike_trans, like_alike}
+use Rattle.osi_stack.proofs.Pieces.{none_of}
+use Rattle.osi_pair.proofs.StandingTurned.{seen, unseen, Others, other_seen}
 
 -- what the crates below say
 pub record ConnectLaws : Type 0 where
@@ -81,10 +82,6 @@ record MayAsk (c : Connect) (h : Holding) : Type 0 where
   lasts : h.end.carrier.ended ≡ None
   profile : is_profile (unit_bits c.requirements) ≡ true
 
-none_ended : (o : Option EndReason) → is_some o ≡ false → o ≡ None
-none_ended None e = refl
-none_ended (Some reason) e = cc
-
 profile_by : (profile long : Bool) → (if not profile then Some NotSelected else (if long then Some TooLong else None)) ≡ None → profile ≡ true
 profile_by true long h = refl
 profile_by false long h = cc
@@ -98,7 +95,7 @@ may_ask c h none =
     let o = opened_by (may_connect h.end.carrier) (terms_error c) none in
     record {
       may = o.0;
-      lasts = none_ended h.end.carrier.ended (free_of h.end.carrier o.0).lasts;
+      lasts = none_of h.end.carrier.ended (free_of h.end.carrier o.0).lasts;
       profile = profile_by (is_profile (unit_bits c.requirements)) (is_long c) o.1;
     }
 
@@ -164,16 +161,28 @@ line_new c h o =
     used_live (next_of h) (asked_end c h).end.carrier.live (h.end.lines ++ (next_of h, line_of c) ∷ []) (ap is_some (value_new c h o))
     ∙ push_here (next_of h) (line_of c) h.end.lines (beyond (next_of h) h.end.carrier.given h.end.lines o.known (omega arith))
 
-left_alone : (q : ℕ) (c : Connect) (h : Holding) → IsInOrder h.end → q ≢ next_of h → q ≤ h.end.carrier.given → IsLeft q h (asked_end c h)
-left_alone q c h o apart within =
-    let live : value_at q (asked_end c h).end.carrier.live ≡ value_at q h.end.carrier.live = push_other q (next_of h) asked h.end.carrier.live apart in
+place_apart : (q : ℕ) (c : Connect) (h : Holding) (given : Bool) → nat_le q h.end.carrier.given ≡ given → q ≢ next_of h → value_at q (asked_end c h).end.carrier.live ≡ value_at q h.end.carrier.live →
+    place_at q (asked_end c h).end.carrier ≡ place_at q h.end.carrier
+place_apart q c h true e apart live =
+    let within = leb-true q h.end.carrier.given e in place_given q (asked_end c h).end.carrier (omega arith) ∙ ap was_given live ∙ sym (place_given q h.end.carrier within)
+place_apart q c h false e apart live =
+    let above = leb-false q h.end.carrier.given e in place_ahead q (asked_end c h).end.carrier (omega arith) ∙ sym (place_ahead q h.end.carrier above)
+
+left_alone : (c : Connect) (p : TwoEnds) (b : Between) (a : Acted (terms_of p.left.end.carrier.local p.right.end.carrier.local) true (next_of p.left) (carriers_of p) (carriers_of (record p { left = asked_end c p.left })) b [] (carrier.ask ∷ [])) →
+    IsInOrder p.left.end → Others Left p b (asked_end c p.left).end p.left.held a.now (next_of p.left)
+left_alone c p b a o =
+    let h : Holding = p.left in
+    let live : (q : ℕ) → q ≢ next_of h → value_at q (asked_end c h).end.carrier.live ≡ value_at q h.end.carrier.live = λ q apart. push_other q (next_of h) asked h.end.carrier.live apart in
     let rise : RiseFrom 0 (h.end.lines ++ (next_of h, line_of c) ∷ []) = rise_push 0 h.end.carrier.given (next_of h) (line_of c) h.end.lines (omega arith) (omega arith) o.sound.known o.rising in
     record {
-      place = place_given q (asked_end c h).end.carrier (omega arith) ∙ ap was_given live ∙ sym (place_given q h.end.carrier within);
-      live = live;
-      line = λ e. used_live q (asked_end c h).end.carrier.live (h.end.lines ++ (next_of h, line_of c) ∷ []) e ∙ push_other q (next_of h) (line_of c) h.end.lines apart;
-      kept = λ s e. ap session_in (sym (push_other q (next_of h) (line_of c) h.end.lines apart))
+      places = λ q apart. place_apart q c h (nat_le q h.end.carrier.given) refl apart (live q apart);
+      lives = live;
+      sessions = λ q apart e. ap session_in (used_live q (asked_end c h).end.carrier.live (h.end.lines ++ (next_of h, line_of c) ∷ []) e ∙ push_other q (next_of h) (line_of c) h.end.lines apart);
+      kept = λ q apart s e. ap session_in (sym (push_other q (next_of h) (line_of c) h.end.lines apart))
           ∙ kept_used 0 q (asked_end c h).end.carrier.live (h.end.lines ++ (next_of h, line_of c) ∷ []) s (value_at q (asked_end c h).end.lines) rise refl e;
+      ways = a.carries.others;
+      last = a.carries.other_places;
+      there = λ q. ap (place_at q) a.carries.there;
     }
 
 own_new : (broken : Bool) (c : Connect) (h : Holding) → Soundness h.end → MayAsk c h → CanBeAsked c → IsSeated (next_of h) (asked_end c h) (asked_with broken (offer_in (asked_of c))).own
@@ -202,15 +211,7 @@ unaware n p b t (Some reason) is s above =
     record { live = ap (value_at n) (s.over_right over); kept = s.lost_right over n }
 
 peer_new : (n : ℕ) (broken : Bool) (c : Connect) (p : TwoEnds) → p.right.end.carrier.given < n → IsUnaware n p.right → IsSeated n p.right (asked_with broken (offer_in (asked_of c))).peer
-peer_new n broken c p above u = record {
-  joined = None;
-  transport = ap transport_in (sym (place_ahead n p.right.end.carrier above));
-  live = λ e. let no : false ≡ true = sym (ap is_some u.live) ∙ e in cc;
-  kept = λ s e. let no : None ≡ Some s = sym u.kept ∙ e in cc;
-  over_now = λ e. cc;
-  awaiting = λ e. refl;
-  octets = tt;
-}
+peer_new n broken c p above u = grind arith
 
 -- ---- the two
 
@@ -239,19 +240,19 @@ line_asks laws c p b t a s may can =
     let now : progress_of (place_at n a.now.caller) ≡ awaiting =
     ap (λ (x : Carrier). progress_of (place_at n x)) (sym (a.between.lives true a.lasts)) ∙ ap progress_of (place_new c p.left o.sound) in
     let g : Progress = progress_of (place_at n a.now.caller) in
-    as_line Left n new a.now (asked_with t.broken (offer_in (asked_of c))) (record {
-      own = own_new t.broken c p.left o.sound may can;
-      peer = peer_new n t.broken c p above (unaware n p b t p.right.end.carrier.ended refl s above);
+    unseen Left n new a.now (asked_with t.broken (offer_in (asked_of c))) (record {
+      here = own_new t.broken c p.left o.sound may can;
+      there = peer_new n t.broken c p above (unaware n p b t p.right.end.carrier.ended refl s above);
       out = out_way (terms_now p) Left n p new b a.now (whole ask ∷ []) (ask ∷ []) [] t.broken (asked_with t.broken (offer_in (asked_of c))).own (asked_with t.broken (offer_in (asked_of c))).peer (wholes (ask ∷ [])) a.carries s.broken
           (none_gone _ _ a.carries.gone earlier now a.carries.keeps) refl may.lasts refl
           (none_under_way p.right.end.carrier.ended (progress_of (place_at n b.called)) (is_cut true (carriers_of p)) (HasJoined n p.right) (asked_with t.broken (offer_in (asked_of c))).peer.session.state (under_way true n (carriers_of p) b)
           (λ y at. (let none = (unaware n p b t p.right.end.carrier.ended refl s above).kept in let no : None ≡ Some y = sym none ∙ at in absurd cc))
-          (λ e. alike_same (progress_of (place_at n b.called)) _ _ (sym none_out))) refl;
+          (λ e. same_alike (progress_of (place_at n b.called)) _ _ (sym none_out))) refl;
       back = none_under_way new.left.end.carrier.ended g (is_cut false (carriers_of new)) (HasJoined n new.left) (asked_with t.broken (offer_in (asked_of c))).own.session.state (under_way false n (carriers_of new) a.now)
           (λ y at. (let is : Some y ≡ Some (calls_with c) = sym at ∙ ap session_in (line_new c p.left o.sound) in let same : y ≡ calls_with c = cc in inl (ap (λ (z : Listener). z.joined) same)))
-          (λ e. alike_trans g [] (under_way false n (carriers_of p) b) (under_way false n (carriers_of new) a.now) (alike_same g _ _ (sym none_back))
+          (λ e. alike_trans g [] (under_way false n (carriers_of p) b) (under_way false n (carriers_of new) a.now) (same_alike g _ _ (sym none_back))
           (alike_trans g _ (a.carries.arrived ++ under_way false n (carriers_of new) a.now) _ (like_alike (place_at n a.now.caller) _ _ a.carries.came)
-          (alike_same g _ _ (ap (λ (l : List carrier.Message). l ++ under_way false n (carriers_of new) a.now) a.carries.brings.is))));
+          (same_alike g _ _ (ap (λ (l : List carrier.Message). l ++ under_way false n (carriers_of new) a.now) a.carries.brings.is))));
     })
 
 abbrev with_line : Tables → Connect → Tables
@@ -270,14 +271,12 @@ line_by true laws m c p b t a e s may can some few =
 line_by false laws m c p b t a e s may can some few =
     let apart : m ≢ next_of p.left = λ same. let no = sym e ∙ eq-eqb m (next_of p.left) same in cc in
     let within : m ≤ length t.lines = (let x = s.given in grind (arith, nat_tests)) in
-    let low : m ≤ p.left.end.carrier.given = (let x = s.given in omega arith) in
     let h = s.lines m some within in
     record {
       line = h.line;
       found = laws.before m t.lines h.line (asked_with t.broken (offer_in (asked_of c))) h.found;
-      is = as_line Left m (new_two c p) a.now h.line
-          (other_line (terms_now p) Left m (next_of p.left) p (new_two c p) b a.now [] (carrier.ask ∷ []) h.line a.carries apart refl may.lasts refl
-          (left_alone m c p.left (s.order_left may.lasts) apart low) (seen Left m p b h.line h.is));
+      is = unseen Left m (new_two c p) a.now h.line
+          (other_seen Left p b (asked_end c p.left).end p.left.held a.now (next_of p.left) m h.line apart may.lasts (left_alone c p b a (s.order_left may.lasts)) (seen Left m p b h.line h.is));
     }
 
 asks_stand : ConnectLaws → (c : Connect) (p : TwoEnds) (b : Between) (t : Tables) (a : HasAsked c p b) → connect_error c p.left.end ≡ None → Stands p b t → MayAsk c p.left → CanBeAsked c →
@@ -318,12 +317,7 @@ asks_stand laws c p b t a none s may can =
 -- ---- the step
 
 refused_in : (t : Tables) (o : Offer) (e : ConnectError) (r : Option Refusal) → answer_in (Err e) ≡ Some r → asked_in t o r ≡ t
-refused_in t o e (Some x) h = refl
-refused_in t o e None h = by_refusal (refusal_in e) h
-  where
-    by_refusal : (x : Option Refusal) → option_map Some x ≡ Some None → asked_in t o None ≡ t
-    by_refusal None k = cc
-    by_refusal (Some y) k = absurd cc
+refused_in t o e r h = grind arith
 
 none_refused : (r : Option Refusal) → Some None ≡ Some r → r ≡ None
 none_refused r h = let is : None ≡ r = cc in sym is

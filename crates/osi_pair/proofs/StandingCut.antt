@@ -9,23 +9,11 @@ use Rattle.osi_pair.specs.Standing.{is_caller, carriers_of}
 use Rattle.osi_pair.specs.declared.reach.Reach.{Reach}
 use Rattle.osi_pair.specs.declared.sides.Side.{Side}
 use Rattle.osi_pair.specs.declared.sides.Side.TheVariants.{Left, Right}
+use Rattle.osi_stack.proofs.Lifting.{or_first}
 
 -- by what reaches, and by the end that sends
 cut_by : (s : Side) (p : TwoEnds) → is_cut (is_caller s) (carriers_of p) ≡ (is_some p.reach || is_some (end_at s p).end.carrier.ended)
-cut_by Left p = ap (λ (b : Bool). b || is_some p.left.end.carrier.ended) (mapped p.reach)
-  where
-    mapped : (o : Option Reach) → is_some {T = ℕ × ℕ} (option_map (λ r. (r.left, r.right)) o) ≡ is_some o
-    mapped None = refl
-    mapped (Some r) = refl
-cut_by Right p = ap (λ (b : Bool). b || is_some p.right.end.carrier.ended) (mapped p.reach)
-  where
-    mapped : (o : Option Reach) → is_some {T = ℕ × ℕ} (option_map (λ r. (r.left, r.right)) o) ≡ is_some o
-    mapped None = refl
-    mapped (Some r) = refl
-
-first_false : (a b : Bool) → (a || b) ≡ false → a ≡ false
-first_false true b e = e
-first_false false b e = refl
+cut_by s p = grind arith
 
 none_false : (a b c : Bool) → c ≡ false → (a || b) ≡ false → (a || c) ≡ false
 none_false true b c e h = h
@@ -34,7 +22,7 @@ none_false false b c e h = e
 -- where an end acts that lasts, nothing new is cut of what is under way from it
 pub cut_out : (s : Side) (p new : TwoEnds) → new.reach ≡ p.reach → (end_at s p).end.carrier.ended ≡ None → is_cut (is_caller s) (carriers_of new) ≡ false → is_cut (is_caller s) (carriers_of p) ≡ false
 cut_out s p new reach alive h =
-    let reached : is_some p.reach ≡ false = sym (ap is_some reach) ∙ first_false (is_some new.reach) (is_some (end_at s new).end.carrier.ended) (sym (cut_by s new) ∙ h) in
+    let reached : is_some p.reach ≡ false = sym (ap is_some reach) ∙ or_first (is_some new.reach) (is_some (end_at s new).end.carrier.ended) (sym (cut_by s new) ∙ h) in
     cut_by s p ∙ none_false (is_some p.reach) false (is_some (end_at s p).end.carrier.ended) (ap is_some alive) (ap (λ (b : Bool). b || false) reached)
 
 -- nor to it

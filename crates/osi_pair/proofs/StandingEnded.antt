@@ -88,53 +88,11 @@ pub record MayEnd (s : Side) (p : TwoEnds) (t u : Tables) (e : End) (h : Held) (
 -- the two carriers are as they were but for the end
 left_between : (terms : Terms) (reason : EndReason) (held : List ℕ) (both : Both) (b : Between) → AreBetween terms both b →
     AreBetween terms (record both { caller = record { state = carriers.ends reason both.caller.state; held = held } }) b
-left_between terms reason held both b h = record {
-  lives = lives_by;
-  joined = h.joined;
-  comes = comes_by;
-  unbroken = h.unbroken;
-  bound = bound_by;
-}
-  where
-    new : Both
-    new = record both { caller = record { state = carriers.ends reason both.caller.state; held = held } }
-
-    lives_by : (end : Bool) → (side end new).state.ended ≡ None → (side end new).state ≡ last_of end b
-    lives_by true e = cc
-    lives_by false e = h.lives false e
-
-    comes_by : (end : Bool) → (side (not end) new).state.ended ≡ None → IsOnTheWay (side (not end) new).held (arriving end new) (units_from end b) (lost_from end b)
-    comes_by true e = h.comes true e
-    comes_by false e = cc
-
-    bound_by : (end : Bool) → IfSome (reach_of end both.reach) (λ k. k ≤ length (side end new).state.outgoing)
-    bound_by true = h.bound true
-    bound_by false = h.bound false
+left_between terms reason held both b h = grind arith
 
 right_between : (terms : Terms) (reason : EndReason) (held : List ℕ) (both : Both) (b : Between) → AreBetween terms both b →
     AreBetween terms (record both { called = record { state = carriers.ends reason both.called.state; held = held } }) b
-right_between terms reason held both b h = record {
-  lives = lives_by;
-  joined = h.joined;
-  comes = comes_by;
-  unbroken = h.unbroken;
-  bound = bound_by;
-}
-  where
-    new : Both
-    new = record both { called = record { state = carriers.ends reason both.called.state; held = held } }
-
-    lives_by : (end : Bool) → (side end new).state.ended ≡ None → (side end new).state ≡ last_of end b
-    lives_by true e = h.lives true e
-    lives_by false e = cc
-
-    comes_by : (end : Bool) → (side (not end) new).state.ended ≡ None → IsOnTheWay (side (not end) new).held (arriving end new) (units_from end b) (lost_from end b)
-    comes_by true e = cc
-    comes_by false e = h.comes false e
-
-    bound_by : (end : Bool) → IfSome (reach_of end both.reach) (λ k. k ≤ length (side end new).state.outgoing)
-    bound_by true = h.bound true
-    bound_by false = h.bound false
+right_between terms reason held both b h = grind arith
 
 none_there : (n : ℕ) (a last : State) (seat : Seat) → a ≡ last → IsPlaced n a seat → is_given seat.transport ≡ false → connection_in (place_at n last) ≡ None
 none_there n a last seat same i given =
@@ -387,9 +345,3 @@ lost_stands Left p b t u e h c reason ending lines held s m is says =
 lost_stands Right p b t u e h c reason ending lines held s m is says =
     ended_stands Right p b t u e h c reason ending (quieted (all_lost lines)) held (waiting_in (all_lost lines))
     (p.journal ++ (shown_entries Right (waiting_in (all_lost lines)) ++ ends Right reason ∷ [])) s m is (λ n. none_left n lines) says refl
-
-pub ends_stand : (s : Side) (p : TwoEnds) (b : Between) (t : Tables) (reason : EndReason) (ending : Ending) (held : Held) → Stands p b t → TakesFrom s t → (end_at s p).end.carrier.ended ≡ None →
-    ending_in reason ≡ Some ending →
-    EndsOn s (shown_pair s (hearing.ends reason (end_at s p).end) held p) b ending t
-ends_stand s p b t reason ending held old takes none is =
-    lost_stands s p b t t (end_at s p).end (end_at s p).held b reason ending (end_at s p).end.lines held old (may_end s p b t old takes none) is (all_shown_then s p b t old none)

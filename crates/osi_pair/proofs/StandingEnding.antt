@@ -56,10 +56,7 @@ pub record IsPlaced (n : ℕ) (c : State) (seat : Seat) : Type 0 where
   pub octets : IfSome seat.session.waiting IsInOctets
 
 given_value : (o : Option Connection) → is_given (transport_in (was_given o)) ≡ true
-given_value None = refl
-given_value (Some asked) = refl
-given_value (Some (linked peer link)) = refl
-given_value (Some (closing peer)) = refl
+given_value o = grind arith
 
 given_by : (o : Option Connection) (never_given : Bool) → is_given (transport_in (if never_given then never else was_given o)) ≡ not never_given
 given_by o true = refl
@@ -72,11 +69,7 @@ pub placed_seat : (n : ℕ) (h : Holding) (seat : Seat) → IsSeated n h seat �
 placed_seat n h seat i = record { given = ap is_given i.transport ∙ given_place n h.end.carrier; awaiting = i.awaiting; octets = i.octets }
 
 ungiven : (t : Transport) → is_given t ≡ false → t ≡ not_yet
-ungiven not_yet e = refl
-ungiven waiting e = cc
-ungiven worlds.linked e = cc
-ungiven worlds.closing e = cc
-ungiven gone e = cc
+ungiven t e = grind arith
 
 -- the end of a carrier leaves what was given
 pub record HasEnded (c : State) (new : Holding) : Type 0 where
@@ -85,10 +78,7 @@ pub record HasEnded (c : State) (new : Holding) : Type 0 where
   pub none : (n : ℕ) → kept_at n new.end.lines ≡ None
 
 place_ended : (n : ℕ) (c : State) (new : Holding) (b : Bool) → HasEnded c new → nat_lt c.given n ≡ b → place_at n new.end.carrier ≡ (if b then never else was_given None)
-place_ended n c new b h e =
-    ap (λ (k : ℕ). if◌then◌else◌ {A = Place} (nat_lt k n) never (was_given (value_at n new.end.carrier.live))) h.given
-    ∙ ap (λ (rows : Rows Connection). if◌then◌else◌ {A = Place} (nat_lt c.given n) never (was_given (value_at n rows))) h.live
-    ∙ ap (λ (x : Bool). if◌then◌else◌ {A = Place} x never (was_given None)) e
+place_ended n c new b h e = cc
 
 not_live : (n : ℕ) (live : Rows Connection) → live ≡ [] → is_some (value_at n live) ≡ true → ⊥
 not_live n live none some =
@@ -179,10 +169,7 @@ way_cut end n old new b cut =
 
 -- nothing is still to be cut where no connection is there
 none_to_come : (s t : Bool) (c : Option Connection) → c ≡ None → to_come s c ≡ to_come t c
-none_to_come true true c e = refl
-none_to_come false false c e = refl
-none_to_come true false c e = sym (ap (λ (x : Option Connection). to_come false x) e)
-none_to_come false true c e = ap (λ (x : Option Connection). to_come false x) e
+none_to_come s t c e = grind arith
 
 pub way_none : (end : Bool) (n : ℕ) (old new : Both) (b : Between) → connection_in (place_at n (last_of end b)) ≡ None → under_way end n old b ≡ under_way end n new b
 way_none end n old new b none =
@@ -223,8 +210,4 @@ way_ended o g c H x false seat kept more old new parts none takes f same w =
     }
 
 pub cut_by_end : (end : Bool) (both : Both) → is_some (side end both).state.ended ≡ true → is_cut end both ≡ true
-cut_by_end end both e = ap (λ b. is_some both.reach || b) e ∙ or_true (is_some both.reach)
-  where
-    or_true : (b : Bool) → (b || true) ≡ true
-    or_true true = refl
-    or_true false = refl
+cut_by_end end both e = grind arith

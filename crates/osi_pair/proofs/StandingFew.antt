@@ -53,13 +53,12 @@ use Rattle.osi_pair.specs.declared.sides.Side.{Side}
 use Rattle.osi_pair.specs.declared.sides.Side.TheVariants.{Left, Right}
 use Rattle.osi_pair.proofs.StandingArrived.{PacketActs}
 use Rattle.osi_pair.proofs.StandingBegins.{begun_waits}
-use Rattle.osi_pair.proofs.StandingFinish.{terms_at, order_of}
+use Rattle.osi_pair.proofs.StandingFinish.{terms_at, order_of, was_at}
 use Rattle.osi_pair.proofs.StandingHeard.{one_told, lasting}
 use Rattle.osi_pair.proofs.StandingLost.{shows_one, lost_of, lost_in, AreLive, waiting_lost, few_lost, all_live}
 use Rattle.osi_pair.proofs.StandingPacket.{PacketLaws, acts_at, is_heard, unheard_packet, quiet_of}
 use Rattle.osi_pair.proofs.StandingPackets.{FewWait}
 use Rattle.osi_pair.proofs.StandingQuiet.{put_waits}
-use Rattle.osi_pair.proofs.StandingResting.{was_at}
 use Rattle.osi_pair.proofs.StandingRows.{Row, quiet, still, begins, refuses, agrees, denies, tells, leaves, ignores, told_for, before}
 use Rattle.osi_pair.proofs.StandingRows as rows
 use Rattle.osi_pair.proofs.StandingTaken.{packet_at, tables_at}
@@ -190,13 +189,7 @@ concluded_by e live false rise all most few = omega arith
 -- a session made its move, and then the carrier may have ended
 put_same_by : (n r : ℕ) (line x : Line) (lines : Rows Line) (b : Bool) → (r == n) ≡ b → value_at n ((r, x) ∷ lines) ≡ Some line → (value_at n lines ≡ Some line → put n line lines ≡ lines) →
     put n line ((r, x) ∷ lines) ≡ (r, x) ∷ lines
-put_same_by n r line x lines true e is more =
-    let found : Some x ≡ Some line = rw e at is in
-    let same : line ≡ x = cc in
-    ap (λ (c : Bool). if◌then◌else◌ {A = Rows Line} c ((r, line) ∷ lines) ((r, x) ∷ put n line lines)) e ∙ ap (λ (l : Line). (r, l) ∷ lines) same
-put_same_by n r line x lines false e is more =
-    let found : value_at n lines ≡ Some line = rw e at is in
-    ap (λ (c : Bool). if◌then◌else◌ {A = Rows Line} c ((r, line) ∷ lines) ((r, x) ∷ put n line lines)) e ∙ ap (λ (l : Rows Line). (r, x) ∷ l) (more found)
+put_same_by n r line x lines b e is more = grind arith
 
 put_same : (n : ℕ) (line : Line) (lines : Rows Line) → value_at n lines ≡ Some line → put n line lines ≡ lines
 put_same n line [] is = cc
@@ -253,11 +246,7 @@ is_there g = false
 
 there_by : (never_given : Bool) (o : Option Connection) → is_there (progress_of (if never_given then never else was_given o)) ≡ true → IsSome o
 unfolding is_there
-there_by true o h = cc
-there_by false None h = cc
-there_by false (Some asked) h = refl
-there_by false (Some (linked peer link)) h = refl
-there_by false (Some (closing peer)) h = refl
+there_by never_given o h = grind arith
 
 there_is : (n : ℕ) (c : Carrier) → is_there (progress_of (place_at n c)) ≡ true → IsSome (value_at n c.live)
 there_is n c h = there_by (nat_lt c.given n) (value_at n c.live) h
@@ -298,12 +287,7 @@ input_of n agrees h = inr refl
 input_of n (denies reason) h = inl (record { event = refused n reason; told = refl; input = inputs.refused reason; hears_it = λ e. refl; shows = λ x. refused_shows x reason; there = refl })
 input_of n (tells octets) h = inl (record { event = tsdu n octets; told = refl; input = came octets; hears_it = λ e. refl; shows = λ x. came_shows x (said_at octets) (few_said octets); there = refl })
 input_of n (leaves reason) h = inl (record { event = closed n reason; told = refl; input = inputs.broken; hears_it = λ e. refl; shows = broken_shows; there = refl })
-input_of n quiet h = absurd (cc)
-input_of n still h = absurd (cc)
-input_of n begins h = absurd (cc)
-input_of n (refuses reason) h = absurd (cc)
-input_of n (ignores octets) h = absurd (cc)
-input_of n (rows.ends m) h = absurd (cc)
+input_of n row h = cc
 
 -- a connection that was asked for is there
 opens_few : (n : ℕ) (e : End) (live : Rows Connection) (o : Option Line) → value_at n e.lines ≡ o → e.carrier.ended ≡ None → Hearing e live n →
@@ -361,17 +345,9 @@ pub record FewLaws : Type 0 where
       AreBetween terms both b → (side end both).state.ended ≡ None → IsPacket packet octets → (side end both).held ≡ octets ++ behind →
       carriers.Acts (side end both).state packet new → (new ≡ carriers.after_packet (side end both).state packet) ⊎ (new ≡ states.ends NoMemory (side end both).state)
 
-over_lost : (b : Bool) (e : End) → b ≡ true → (if b then record e { lines = all_lost e.lines } else e).lines ≡ all_lost e.lines
-over_lost true e h = refl
-over_lost false e h = cc
-
 -- an end whose carrier found no memory and told nothing
 none_told : (e new : End) (c : Carrier) → e.carrier.events ≡ [] → c ≡ states.ends NoMemory e.carrier → new ≡ attends (with_carrier c e) → new.lines ≡ all_lost e.lines
-none_told e new c none is same =
-    let there = with_carrier c e in
-    let quiet_there : hears_all there ≡ there = all_quiet there (ap (λ (x : Carrier). x.events) is ∙ none) in
-    ap (λ (x : End). x.lines) (same ∙ ap concludes quiet_there)
-    ∙ over_lost (is_some c.ended) there (ap (λ (x : Carrier). is_some x.ended) is)
+none_told e new c none is same = grind arith
 
 -- for what the one event does there was no memory
 one_told_by : (x new : End) (event : Happening) (heard : ℕ) → x.carrier.events ≡ event ∷ [] → (out : RunsOut x new) → out.heard ≡ heard → new.lines ≡ all_lost x.lines
@@ -394,16 +370,7 @@ abbrev ToldAtMostOne : List Happening → Type 0
 ToldAtMostOne told = (told ≡ []) ⊎ ((event : Happening) × (told ≡ event ∷ []))
 
 told_one : (n : ℕ) (row : Row) → ToldAtMostOne (told_for n row)
-told_one n rows.quiet = inl refl
-told_one n rows.still = inl refl
-told_one n rows.begins = inr (opened n, refl)
-told_one n (rows.refuses reason) = inl refl
-told_one n rows.agrees = inr (opened n, refl)
-told_one n (rows.denies reason) = inr (refused n reason, refl)
-told_one n (rows.tells octets) = inr (tsdu n octets, refl)
-told_one n (rows.leaves reason) = inr (closed n reason, refl)
-told_one n (rows.ignores octets) = inl refl
-told_one n (rows.ends m) = inl refl
+told_one n row = grind arith
 
 out_lost : (e new : End) (c : Carrier) → ToldAtMostOne c.events → RunsOut (with_carrier c e) new → new.lines ≡ all_lost e.lines
 out_lost e new c (inl none) out = never_starved (with_carrier c e) new none out

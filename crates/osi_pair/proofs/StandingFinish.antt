@@ -1,5 +1,5 @@
 -- An end took a unit of a connection: what is left to say of its carrier, where its session is known.
-use Rattle.std.proofs.Common.{◌≡◌, ◌≢◌, ℕ, ◌<◌, ◌≤◌, Bool, true, false, nat_lt, if◌then◌else◌, List, [], ◌++◌, map, Option, Some, None, is_some, option_map, refl, sym, ap, subst, ◌∙◌, arith}
+use Rattle.std.proofs.Common.{◌≡◌, ◌≢◌, ℕ, ◌<◌, ◌≤◌, Bool, true, false, nat_lt, if◌then◌else◌, List, [], ◌++◌, map, Option, Some, None, is_some, option_map, refl, sym, ap, subst, ◌∙◌, arith, length}
 use Rattle.std.proofs.lemmas.Bool.Decides.{nat_tests}
 use Rattle.osi_tpkt.specs.Held.{Held}
 use Rattle.osi_class.specs.declared.terms.Class.{Class}
@@ -35,89 +35,17 @@ use Rattle.osi_pair.proofs.StandingTurned.{IsSeen, with_holding, holding_here, h
 
 -- a connection that ends gives no reference and no class
 pub refs_row : (terms : Terms) (row : Row) → is_row terms row → (before row ≡ not_yet → ⊥) → references_for (accepts_in terms) (arrived_in row) (put_for row) ≡ 0
-refs_row terms begins is f = absurd (f refl)
-refs_row terms (refuses reason) is f = absurd (f refl)
-refs_row by_two quiet is f = refl
-refs_row by_two still is f = refl
-refs_row by_two agrees is f = refl
-refs_row by_two (denies reason) is f = absurd is
-refs_row by_two (tells octets) is f = refl
-refs_row by_two (leaves reason) is f = refl
-refs_row by_two (ignores octets) is f = refl
-refs_row by_zero quiet is f = refl
-refs_row by_zero still is f = refl
-refs_row by_zero agrees is f = refl
-refs_row by_zero (denies reason) is f = absurd is
-refs_row by_zero (tells octets) is f = refl
-refs_row by_zero (leaves reason) is f = refl
-refs_row by_zero (ignores octets) is f = refl
-refs_row (refusing why) quiet is f = absurd is
-refs_row (refusing why) still is f = absurd is
-refs_row (refusing why) agrees is f = absurd is
-refs_row (refusing why) (denies reason) is f = refl
-refs_row (refusing why) (tells octets) is f = absurd is
-refs_row (refusing why) (leaves reason) is f = absurd is
-refs_row (refusing why) (ignores octets) is f = absurd is
-refs_row (refusing why) (ends m) is f = absurd is
-refs_row by_two (ends (bye reason)) is f = refl
-refs_row by_two (ends over) is f = refl
-refs_row by_two (ends carrier.ask) is f = absurd is
-refs_row by_two (ends carrier.agree) is f = absurd is
-refs_row by_two (ends (carrier.deny why)) is f = absurd is
-refs_row by_two (ends (carrier.message octets)) is f = absurd is
-refs_row by_zero (ends (bye reason)) is f = refl
-refs_row by_zero (ends over) is f = refl
-refs_row by_zero (ends carrier.ask) is f = absurd is
-refs_row by_zero (ends carrier.agree) is f = absurd is
-refs_row by_zero (ends (carrier.deny why)) is f = absurd is
-refs_row by_zero (ends (carrier.message octets)) is f = absurd is
+refs_row terms row is f = grind arith
 
 abbrev pub is_agree : Row → Bool
 is_agree agrees = true
 is_agree row = false
 
 class_row : (terms : Terms) (row : Row) (held : Option Class) → is_row terms row → is_agree row ≡ false → (before row ≡ not_yet → ⊥) → class_behind_all (class_of terms) held (arrived_in row) ≡ held
-class_row terms begins held is a f = absurd (f refl)
-class_row terms (refuses reason) held is a f = absurd (f refl)
-class_row terms agrees held is a f = cc
-class_row terms quiet held is a f = refl
-class_row terms still held is a f = refl
-class_row by_two (denies reason) held is a f = absurd is
-class_row by_two (tells octets) held is a f = refl
-class_row by_two (leaves reason) held is a f = refl
-class_row by_two (ignores octets) held is a f = refl
-class_row by_zero (denies reason) held is a f = absurd is
-class_row by_zero (tells octets) held is a f = refl
-class_row by_zero (leaves reason) held is a f = refl
-class_row by_zero (ignores octets) held is a f = refl
-class_row (refusing why) (denies reason) held is a f = refl
-class_row (refusing why) (tells octets) held is a f = absurd is
-class_row (refusing why) (leaves reason) held is a f = absurd is
-class_row (refusing why) (ignores octets) held is a f = absurd is
-class_row (refusing why) (ends m) held is a f = absurd is
-class_row by_two (ends (bye reason)) held is a f = refl
-class_row by_two (ends over) held is a f = refl
-class_row by_two (ends carrier.ask) held is a f = absurd is
-class_row by_two (ends carrier.agree) held is a f = absurd is
-class_row by_two (ends (carrier.deny why)) held is a f = absurd is
-class_row by_two (ends (carrier.message octets)) held is a f = absurd is
-class_row by_zero (ends (bye reason)) held is a f = refl
-class_row by_zero (ends over) held is a f = refl
-class_row by_zero (ends carrier.ask) held is a f = absurd is
-class_row by_zero (ends carrier.agree) held is a f = absurd is
-class_row by_zero (ends (carrier.deny why)) held is a f = absurd is
-class_row by_zero (ends (carrier.message octets)) held is a f = absurd is
+class_row terms row held is a f = grind arith
 
 pub given_not_new : (n : ℕ) (s : State) (b : Bool) → nat_lt s.given n ≡ b → n ≤ s.given → progress_of (place_at n s) ≡ not_yet → ⊥
-given_not_new n s true e le h = let more : s.given < n = grind (arith, nat_tests) in absurd (omega arith)
-given_not_new n s false e le h =
-    new_value (value_at n s.live) (sym (ap (λ (b : Bool). progress_of (if◌then◌else◌ {A = Place} b never (was_given (value_at n s.live)))) e) ∙ h)
-  where
-    new_value : (o : Option Connection) → progress_of (was_given o) ≡ not_yet → ⊥
-    new_value None h = cc
-    new_value (Some asked) h = cc
-    new_value (Some (linked peer link)) h = cc
-    new_value (Some (closing peer)) h = cc
+given_not_new n s b e le h = grind arith
 
 -- ---- what is left to say
 
@@ -152,9 +80,9 @@ pub last_is : (s : Side) (p : TwoEnds) (b : Between) (e : End) (h : Held) (n : �
 last_is Left p b e h n d lasts = sym (d.between.lives true lasts)
 last_is Right p b e h n d lasts = sym (d.between.lives false lasts)
 
-was_last : (s : Side) (p : TwoEnds) (b : Between) (t : Tables) → Stands p b t → (end_at s p).end.carrier.ended ≡ None → last_of (is_caller s) b ≡ (end_at s p).end.carrier
-was_last Left p b t old alive = sym (old.between.lives true alive)
-was_last Right p b t old alive = sym (old.between.lives false alive)
+pub was_at : (s : Side) (p : TwoEnds) (b : Between) (t : Tables) → Stands p b t → (end_at s p).end.carrier.ended ≡ None → last_of (is_caller s) b ≡ (end_at s p).end.carrier
+was_at Left p b t old alive = sym (old.between.lives true alive)
+was_at Right p b t old alive = sym (old.between.lives false alive)
 
 pub order_of : (s : Side) (p : TwoEnds) (b : Between) (t : Tables) → Stands p b t → (end_at s p).end.carrier.ended ≡ None → IsInOrder (end_at s p).end
 order_of Left p b t old alive = old.order_left alive
@@ -164,7 +92,7 @@ others_then : (s : Side) (p : TwoEnds) (b : Between) (t : Tables) (e : End) (h :
     IsInOrder e → OtherSessions s p e n → Others s p b e h d.now n
 others_then s p b t e h n old alive d lasts order o =
     let last = last_is s p b e h n d lasts in
-    let was = was_last s p b t old alive in
+    let was = was_at s p b t old alive in
     let places : (q : ℕ) → q ≢ n → place_at q e.carrier ≡ place_at q (end_at s p).end.carrier =
     λ q apart. ap (place_at q) (sym last) ∙ d.other_places q apart ∙ ap (place_at q) was in
     record {
@@ -193,29 +121,56 @@ seen_then s p b t e h n l x channel back d lasts order hs i w = record {
   back = subst (λ (g : Progress). Goes (other s) s n (with_holding s e h p) d.now g x.state back) (sym d.stands) w.back;
 }
 
+-- the references and the class that the ends have then
+pub record GivenAfter (s : Side) (p : TwoEnds) (t : Tables) (e : End) (h : Held) (c : Between) : Type 0 where
+  pub given : (with_holding s e h p).left.end.carrier.given ≡ p.left.end.carrier.given
+  pub given_back : (with_holding s e h p).right.end.carrier.given ≤ length t.lines
+  pub given_then : c.caller.given ≡ (with_holding s e h p).left.end.carrier.given
+  pub class_then : c.caller.class ≡ (with_holding s e h p).left.end.carrier.class
+
+pub given_after : (s : Side) (p : TwoEnds) (b : Between) (t : Tables) (e : End) (h : Held) (n : ℕ) → Stands p b t → (end_at s p).end.carrier.ended ≡ None → (d : DidAt s p b e h n) → e.carrier.ended ≡ None →
+    n ≤ b.caller.given → d.now.called.given ≤ d.now.caller.given → GivenAfter s p t e h d.now
+given_after Left p b t e h n old alive d lasts named behind =
+    let last = last_is Left p b e h n d lasts in
+    let new : before d.row ≡ not_yet → ⊥ = λ f. given_not_new n b.caller (nat_lt b.caller.given n) refl named (d.stood ∙ f) in
+    let refs = refs_row (terms_at p) d.row d.is new in
+    let same : d.now.caller.given ≡ b.caller.given = let more = d.given in omega arith in
+    record {
+      given = ap (λ (c : State). c.given) (sym last) ∙ same ∙ old.given_then;
+      given_back = old.given_back;
+      given_then = ap (λ (c : State). c.given) last;
+      class_then = ap (λ (c : State). c.class) last;
+    }
+given_after Right p b t e h n old alive d lasts named behind =
+    let last = last_is Right p b e h n d lasts in
+    let there : d.now.caller.given ≡ p.left.end.carrier.given = d.given_there ∙ old.given_then in
+    let here : d.now.called.given ≡ e.carrier.given = ap (λ (c : State). c.given) last in
+    let count = old.given in
+    record {
+      given = refl;
+      given_back = omega arith;
+      given_then = there;
+      class_then = d.class_there ∙ old.class_then;
+    }
+
 -- of an end that took a unit all that is said of one that acted
 pub finish : (s : Side) (p : TwoEnds) (b : Between) (t u : Tables) (e : End) (h : Held) (n : ℕ) (shown : List Shown) (l : Line) (x : Standing) (channel back : List Message) → Stands p b t →
     (end_at s p).end.carrier.ended ≡ None → (d : DidAt s p b e h n) → e.carrier.ended ≡ None → e.carrier.local ≡ (end_at s p).end.carrier.local → e.carrier.is_caller ≡ (end_at s p).end.carrier.is_caller →
     n ≤ b.caller.given → d.now.called.given ≤ d.now.caller.given → IsInOrder e → waiting_in e.lines ≡ [] → OtherSessions s p e n → HasSession n e.lines (after d.row) x → IsSeen s n p b l →
     WaysThen s p b e h n d x l.peer.session channel back → TablesAfter s n t u shown (line_then d.row x channel back l) → u.known ≡ option_map class_in (with_holding s e h p).left.end.carrier.class →
     Turned s p b t e h d.now u n shown
-finish Left p b t u e h n shown l x channel back old alive d lasts local role named behind order none o hs i w a known =
-    let last = last_is Left p b e h n d lasts in
-    let was = was_last Left p b t old alive in
-    let new : before d.row ≡ not_yet → ⊥ = λ f. given_not_new n b.caller (nat_lt b.caller.given n) refl named (d.stood ∙ f) in
-    let refs = refs_row (terms_at p) d.row d.is new in
-    let same : d.now.caller.given ≡ b.caller.given = let more = d.given in omega arith in
-    let given : e.carrier.given ≡ p.left.end.carrier.given = ap (λ (c : State). c.given) (sym last) ∙ same ∙ old.given_then in
+finish s p b t u e h n shown l x channel back old alive d lasts local role named behind order none o hs i w a known =
+    let g = given_after s p b t e h n old alive d lasts named behind in
     record {
       between = d.between;
       lasts = lasts;
       local = local;
       is_caller = role;
       known = known;
-      given = given;
-      given_then = ap (λ (c : State). c.given) last;
-      class_then = ap (λ (c : State). c.class) last;
-      given_back = old.given_back;
+      given = g.given;
+      given_then = g.given_then;
+      class_then = g.class_then;
+      given_back = g.given_back;
       terms = a.terms;
       broken = a.broken;
       left_end = a.left_end;
@@ -223,35 +178,8 @@ finish Left p b t u e h n shown l x channel back old alive d lasts local role na
       journal = a.journal;
       line = line_then d.row x channel back l;
       lines = a.lines;
-      is = seen_then Left p b t e h n l x channel back d lasts order hs i w;
-      others = others_then Left p b t e h n old alive d lasts order o;
-      order = order;
-      quiet = none;
-    }
-finish Right p b t u e h n shown l x channel back old alive d lasts local role named behind order none o hs i w a known =
-    let last = last_is Right p b e h n d lasts in
-    let there : d.now.caller.given ≡ p.left.end.carrier.given = d.given_there ∙ old.given_then in
-    let here : d.now.called.given ≡ e.carrier.given = ap (λ (c : State). c.given) last in
-    let count = old.given in
-    record {
-      between = d.between;
-      lasts = lasts;
-      local = local;
-      is_caller = role;
-      known = known;
-      given = refl;
-      given_then = there;
-      class_then = d.class_there ∙ old.class_then;
-      given_back = omega arith;
-      terms = a.terms;
-      broken = a.broken;
-      left_end = a.left_end;
-      right_end = a.right_end;
-      journal = a.journal;
-      line = line_then d.row x channel back l;
-      lines = a.lines;
-      is = seen_then Right p b t e h n l x channel back d lasts order hs i w;
-      others = others_then Right p b t e h n old alive d lasts order o;
+      is = seen_then s p b t e h n l x channel back d lasts order hs i w;
+      others = others_then s p b t e h n old alive d lasts order o;
       order = order;
       quiet = none;
     }

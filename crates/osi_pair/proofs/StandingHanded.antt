@@ -96,17 +96,7 @@ seat_held : (n : ℕ) (h : Holding) (held : Held) (seat : Seat) → IsSeated n h
 seat_held n h held seat i = record { joined = i.joined; transport = i.transport; live = i.live; kept = i.kept; over_now = i.over_now; awaiting = i.awaiting; octets = i.octets }
 
 order_sent : (k : ℕ) (e : End) → IsInOrder e → IsInOrder (carried k e)
-order_sent k e o = record {
-  heard = o.heard;
-  sound = record {
-    orderly = record { rise = o.sound.orderly.rise; up_to = o.sound.orderly.up_to; given = o.sound.orderly.given; live = o.sound.orderly.live; over = o.sound.orderly.over; named = o.sound.orderly.named };
-    apart = o.sound.apart;
-    known = o.sound.known;
-    links = o.sound.links;
-  };
-  rising = o.rising;
-  came = o.came;
-}
+order_sent k e o = search
 
 -- ---- how far octets reach
 
@@ -135,18 +125,8 @@ still_reach : (f : Side) (k : ℕ) (o : Option Reach) → is_some (reach_after f
 still_reach f k None = refl
 still_reach f k (Some r) = refl
 
--- nothing is cut by it
-cut_so : (o o2 : Option Reach) (ended : Option EndReason) → is_some o2 ≡ is_some o → (is_some (reach_in o2) || is_some ended) ≡ false → (is_some (reach_in o) || is_some ended) ≡ false
-cut_so None None ended same e = e
-cut_so None (Some r) ended same e = cc
-cut_so (Some r) None ended same e = cc
-cut_so (Some r) (Some q) ended same e = cc
-
 handed_cut : (f s : Side) (k : ℕ) (h : Held) (p : TwoEnds) → is_cut (is_caller s) (carriers_of (handed f k h p)) ≡ false → is_cut (is_caller s) (carriers_of p) ≡ false
-handed_cut Left Left k h p e = cut_so p.reach (reach_after Left k p.reach) p.left.end.carrier.ended (still_reach Left k p.reach) e
-handed_cut Left Right k h p e = cut_so p.reach (reach_after Left k p.reach) p.right.end.carrier.ended (still_reach Left k p.reach) e
-handed_cut Right Left k h p e = cut_so p.reach (reach_after Right k p.reach) p.left.end.carrier.ended (still_reach Right k p.reach) e
-handed_cut Right Right k h p e = cut_so p.reach (reach_after Right k p.reach) p.right.end.carrier.ended (still_reach Right k p.reach) e
+handed_cut f s k h p e = grind arith
 
 -- ---- two ends
 

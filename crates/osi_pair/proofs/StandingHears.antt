@@ -1,5 +1,5 @@
 -- A message arrives of which a session hears: what the carrier tells, and what happens to the session, row by row.
-use Rattle.std.proofs.Common.{◌≡◌, ℕ, true, false, List, [], ◌∷◌, Option, Some, None, IfSome, refl, sym, ap, subst, ◌∙◌, ◌⊎◌, inl, inr, ◌++◌}
+use Rattle.std.proofs.Common.{◌≡◌, ℕ, true, false, List, [], ◌∷◌, Option, Some, None, IfSome, refl, sym, ap, subst, ◌∙◌, ◌⊎◌, inl, inr, ◌++◌, arith}
 use Rattle.osi_spdu.specs.Known.{Units}
 use Rattle.osi_carrier.specs.Happenings.{Happening, opened, refused, tsdu, closed}
 use Rattle.osi_carrier.specs.Rows.{value_at}
@@ -54,32 +54,14 @@ no_move : false ≡ true → ⊥
 no_move e = cc
 
 pub as_move : (row : Row) → is_move row ≡ true → AsMove row
-as_move agrees e = inl refl
-as_move (denies reason) e = inr (inl (reason, refl))
-as_move (tells octets) e = inr (inr (octets, refl))
-as_move quiet e = absurd (no_move e)
-as_move still e = absurd (no_move e)
-as_move begins e = absurd (no_move e)
-as_move (refuses reason) e = absurd (no_move e)
-as_move (leaves reason) e = absurd (no_move e)
-as_move (ignores octets) e = absurd (no_move e)
-as_move (ends m) e = absurd (no_move e)
+as_move row e = grind arith
 
 -- or the connection is closed
 abbrev pub AsHeard : Row → Type 0
 AsHeard row = AsMove row ⊎ ((reason : ℕ) × (row ≡ leaves reason))
 
 pub as_heard : (row : Row) → is_heard row ≡ true → AsHeard row
-as_heard agrees e = inl (inl refl)
-as_heard (denies reason) e = inl (inr (inl (reason, refl)))
-as_heard (tells octets) e = inl (inr (inr (octets, refl)))
-as_heard (leaves reason) e = inr (reason, refl)
-as_heard quiet e = absurd (no_move e)
-as_heard still e = absurd (no_move e)
-as_heard begins e = absurd (no_move e)
-as_heard (refuses reason) e = absurd (no_move e)
-as_heard (ignores octets) e = absurd (no_move e)
-as_heard (ends m) e = absurd (no_move e)
+as_heard row e = grind arith
 
 heard_by_move : (row : Row) → AsMove row → is_heard row ≡ true
 heard_by_move row (inl e) = ap is_heard e
@@ -98,10 +80,7 @@ got_in (leaves reason) = carrier.bye reason
 got_in row = carrier.over
 
 one_by : (row : Row) → AsHeard row → arrived_in row ≡ got_in row ∷ []
-one_by row (inl (inl e)) = subst (λ (r : Row). arrived_in r ≡ got_in r ∷ []) (sym e) refl
-one_by row (inl (inr (inl e))) = subst (λ (r : Row). arrived_in r ≡ got_in r ∷ []) (sym e.1) refl
-one_by row (inl (inr (inr e))) = subst (λ (r : Row). arrived_in r ≡ got_in r ∷ []) (sym e.1) refl
-one_by row (inr e) = subst (λ (r : Row). arrived_in r ≡ got_in r ∷ []) (sym e.1) refl
+one_by row h1 = grind arith
 
 pub one_in : (row : Row) → is_heard row ≡ true → arrived_in row ≡ got_in row ∷ []
 one_in row heard = one_by row (as_heard row heard)
@@ -239,11 +218,7 @@ waiting_goes laws seat c w h y e =
 pub tells_by : HearLaws → (n : ℕ) (octets : List ℕ) (m : Message) (joined : Option (List ℕ)) (x : Standing) → joined ≡ None → message_in m ∷ [] ≡ carrier.message octets ∷ [] → IsWhole m → IfSome x.waiting IsInOctets →
     HearsBy n (tells octets) m joined x
 tells_by laws n octets (unit u) joined x none e whole waits = hears_tells laws.replies laws.readings laws.units n octets u joined x (let same : octets ≡ written u = cc in same) whole none waits
-tells_by laws n octets ask joined x none e whole waits = absurd cc
-tells_by laws n octets agree joined x none e whole waits = absurd cc
-tells_by laws n octets (deny reason) joined x none e whole waits = absurd cc
-tells_by laws n octets (bye reason) joined x none e whole waits = absurd cc
-tells_by laws n octets over joined x none e whole waits = absurd cc
+tells_by laws n octets m joined x none e whole waits = cc
 
 -- the last part of one Data
 pub tells_last : HearLaws → (n : ℕ) (octets front last : List ℕ) (joined : Option (List ℕ)) (x : Standing) → octets ≡ part_octets Last last →

@@ -1,5 +1,5 @@
 -- The class of a connection at a message of which a session hears.
-use Rattle.std.proofs.Common.{◌≡◌, ℕ, ◌≤◌, true, false, [], ◌∷◌, Option, Some, None, option_map, refl, sym, ap, subst, ◌∙◌, inl, inr}
+use Rattle.std.proofs.Common.{◌≡◌, ℕ, ◌≤◌, true, false, [], ◌∷◌, Option, Some, None, option_map, refl, sym, ap, subst, ◌∙◌, inl, inr, arith}
 use Rattle.osi_tpkt.specs.Held.{Held}
 use Rattle.osi_tpdu.specs.Value.{Value}
 use Rattle.osi_class.specs.declared.terms.Class.{Class}
@@ -31,19 +31,11 @@ use Rattle.osi_between.specs.Messages.{kind_of}
 
 -- ---- places
 
-linked_place : (q : Place) → progress_of q ≡ in_use → is_linked q ≡ true
-linked_place never e = cc
-linked_place (was_given None) e = cc
-linked_place (was_given (Some asked)) e = cc
-linked_place (was_given (Some (linked peer link))) e = refl
-linked_place (was_given (Some (closing peer))) e = cc
+pub linked_place : (q : Place) → progress_of q ≡ in_use → is_linked q ≡ true
+linked_place q e = grind arith
 
 asked_place : (q : Place) → progress_of q ≡ awaiting → is_asked q ≡ true
-asked_place never e = cc
-asked_place (was_given None) e = cc
-asked_place (was_given (Some asked)) e = refl
-asked_place (was_given (Some (linked peer link))) e = cc
-asked_place (was_given (Some (closing peer))) e = cc
+asked_place q e = grind arith
 
 -- ---- a CC
 
@@ -61,14 +53,7 @@ class_agreed Left p b e h n d lasts same caller =
 class_agreed Right p b e h n d lasts same caller = absurd (let no : false ≡ true = caller in cc)
 
 learned_by : (terms : Terms) (m : Message) (known : Option worlds.Class) → is_row terms agrees → kind_of (message_in m) ≡ carrier.agree → learns (terms_in terms) worlds.waiting m known ≡ option_map class_in (class_of terms)
-learned_by by_two agree known is e = refl
-learned_by by_zero agree known is e = refl
-learned_by (refusing reason) m known is e = absurd is
-learned_by terms ask known is e = absurd cc
-learned_by terms (unit u) known is e = absurd cc
-learned_by terms (deny reason) known is e = absurd cc
-learned_by terms (bye reason) known is e = absurd cc
-learned_by terms over known is e = absurd cc
+learned_by terms m known is e = grind arith
 
 -- and the tables learn it
 learned : (t : Tables) (l : Line) (m : Message) (terms : Terms) → t.terms ≡ terms_in terms → l.own.transport ≡ worlds.waiting → is_row terms agrees → kind_of (message_in m) ≡ carrier.agree →

@@ -1,6 +1,6 @@
 -- A DR arrives at an open connection, which is answered by a DC: its session is lost, and the last of what was under
 -- way from it may be.
-use Rattle.std.proofs.Common.{◌≡◌, ℕ, Bool, true, false, List, [], ◌∷◌, map, take, Option, None, is_some, refl, sym, ap, subst, ◌∙◌}
+use Rattle.std.proofs.Common.{◌≡◌, ℕ, Bool, true, false, List, [], ◌∷◌, map, take, Option, None, is_some, refl, sym, ap, subst, ◌∙◌, arith}
 use Rattle.osi_tpkt.specs.Held.{Held}
 use Rattle.osi_carrier.specs.Place.{Place, place_at}
 use Rattle.osi_carrier.specs.State.{State as Carrier}
@@ -84,12 +84,7 @@ lost_silent broken keep reason x channel peer =
 
 turn_leaves : (broken : Bool) (terms : worlds.Terms) (keep reason : ℕ) (x : Standing) (channel : List Message) (peer : Seat) (m : Message) → kind_of (message_in m) ≡ carrier.bye reason →
     message_taken broken terms keep worlds.linked (record { own = seat_now worlds.linked x channel; peer = peer }) m ≡ lost_turn broken keep (react x broken_off).reply x channel peer
-turn_leaves broken terms keep reason x channel peer (bye why) e = refl
-turn_leaves broken terms keep reason x channel peer (unit u) e = absurd cc
-turn_leaves broken terms keep reason x channel peer ask e = absurd cc
-turn_leaves broken terms keep reason x channel peer agree e = absurd cc
-turn_leaves broken terms keep reason x channel peer (deny why) e = absurd cc
-turn_leaves broken terms keep reason x channel peer over e = absurd cc
+turn_leaves broken terms keep reason x channel peer m e = grind arith
 
 taken_leaves : (broken : Bool) (terms : worlds.Terms) (keep reason : ℕ) (l : TableLine) (m : Message) (xs : List Message) → l.own.transport ≡ worlds.linked → kind_of (message_in m) ≡ carrier.bye reason →
     message_taken broken terms keep l.own.transport (without_first l xs) m ≡ left_turn broken keep (leaves reason) (react l.own.session broken_off) xs l

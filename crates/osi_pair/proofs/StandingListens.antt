@@ -137,6 +137,3 @@ either_true false b e = e
 
 pub discards_over : (q : Phase) → is_over q ≡ true → discards q ≡ true
 discards_over q e = either_true (is_restarting q) (is_over q) e
-
-pub same_session : (s t : Standing) → Some (listening s) ≡ Some (listening t) → s ≡ t
-same_session s t e = let same : listening s ≡ listening t = cc in ap standing_of same

@@ -115,11 +115,7 @@ abbrev pub AreLive : Rows stack.Line → Rows Connection → Type 0
 AreLive lines live = (q : ℕ) (s : Listener) → kept_at q lines ≡ Some s → shows_loss s.state.phase ≡ true → IsSome (value_at q live)
 
 at_other : (q r : ℕ) (line : stack.Line) (lines : Rows stack.Line) → q ≢ r → kept_at q ((r, line) ∷ lines) ≡ kept_at q lines
-at_other q r line lines other = other_by (r == q) refl
-  where
-    other_by : (b : Bool) → (r == q) ≡ b → kept_at q ((r, line) ∷ lines) ≡ kept_at q lines
-    other_by true e = absurd (other (sym (eqb-true r q e)))
-    other_by false e = rw e refl
+at_other q r line lines other = grind arith
 
 at_here : (r : ℕ) (line : stack.Line) (lines : Rows stack.Line) → kept_at r ((r, line) ∷ lines) ≡ line.session
 at_here r line lines = let e : (r == r) ≡ true = eq-eqb r r refl in rw e refl
@@ -173,10 +169,6 @@ few_lost m ((r, line) ∷ lines) live rise all =
     few_lost_by r line lines live line.session shown.0 refl shown.1 rise.1 all (λ rows. few_lost r lines rows rise.1)
 
 -- ---- in the order of the machine
-
-one_entry : (side : Side) (r : ℕ) (l : List Shown) → map Some (map (shown_at (side_in side) r) l) ≡ map entry_in (shown_entries side (map (λ shown. (r, shown)) l))
-one_entry side r [] = refl
-one_entry side r (x ∷ l) = ap (λ (es : List (Option entries.Entry)). Some (shown_at (side_in side) r x) ∷ es) (one_entry side r l)
 
 -- what the side of each line shows is what the session shows that is kept
 abbrev AreKept : Side → ℕ → List Line → Rows stack.Line → Type 0
@@ -270,17 +262,7 @@ seat_shows n h seat up s = seat_shows_by n h seat (nat_lt h.end.carrier.given n)
 -- a session that shows its loss has a live connection
 seat_live_by : (n : ℕ) (h : Holding) (seat : Seat) (s : Listener) (never_given : Bool) (o : Option Connection) → nat_lt h.end.carrier.given n ≡ never_given →
     value_at n h.end.carrier.live ≡ o → AreUpTo h.end.carrier.given h.end.lines → IsSeated n h seat → kept_at n h.end.lines ≡ Some s → shows_loss s.state.phase ≡ true → IsSome o
-seat_live_by n h seat s true o e at up is kept shown =
-    let above : h.end.carrier.given < n = grind (arith, nat_tests) in
-    let no : None ≡ Some s = sym (ap session_in (beyond n h.end.carrier.given h.end.lines up above)) ∙ kept in
-    cc
-seat_live_by n h seat s false None e at up is kept shown =
-    let place : place_at n h.end.carrier ≡ was_given None =
-    ap (λ (b : Bool). if b then never else was_given (value_at n h.end.carrier.live)) e ∙ ap was_given at in
-    let over : is_ended s.state.phase ≡ true =
-    ap (λ (x : Listener). is_ended x.state.phase) (is.kept s kept) ∙ is.over_now (ap is_parting (is.transport ∙ ap transport_in place)) in
-    absurd (both (shows_loss s.state.phase) shown (excluded is_ended shows_loss refl s.state.phase over))
-seat_live_by n h seat s false (Some c) e at up is kept shown = refl
+seat_live_by n h seat s never_given o e at up is kept shown = grind arith
 
 seat_live : (n : ℕ) (h : Holding) (seat : Seat) (s : Listener) → AreUpTo h.end.carrier.given h.end.lines → IsSeated n h seat → kept_at n h.end.lines ≡ Some s →
     shows_loss s.state.phase ≡ true → IsSome (value_at n h.end.carrier.live)

@@ -39,18 +39,18 @@ use Rattle.osi_pair.specs.Standing.{side_in, is_caller, class_in, carriers_of, m
 use Rattle.osi_pair.specs.Telling.{waiting_in, quieted}
 use Rattle.osi_pair.specs.declared.sides.Side.{Side}
 use Rattle.osi_pair.proofs.StandingArrived.{PacketActs}
-use Rattle.osi_pair.proofs.StandingFinish.{terms_at, DidAt, line_then, last_is, order_of}
+use Rattle.osi_pair.proofs.StandingFinish.{terms_at, DidAt, line_then, last_is, order_of, was_at}
 use Rattle.osi_pair.proofs.StandingHeard.{lines_then, kept_then, one_told}
 use Rattle.osi_pair.proofs.StandingHears.{as_move, move_heard, got_in, one_in, HearsBy, HearLaws, IsWhole, hears_row, IsTaker, tells_by, tells_last}
 use Rattle.osi_pair.proofs.StandingKnown.{moved_known, moved_class}
 use Rattle.osi_pair.proofs.StandingListens.{as_made, none_joined, kept_of, PartJoins, first_joins, middle_joins, last_moves, over_fine}
 use Rattle.osi_pair.proofs.StandingMoves.{is_move, heard_by, MovesBy, step_moves, move_unit}
 use Rattle.osi_pair.proofs.StandingOrder.{session_acts, acted_order}
-use Rattle.osi_pair.proofs.StandingPacket.{PacketLaws, ActsAt, acts_at, same_role, is_heard, lasting_in, quiet_of}
+use Rattle.osi_pair.proofs.StandingPacket.{PacketLaws, ActsAt, acts_at, same_role, is_heard, lasting_in, quiet_of, stood_at}
 use Rattle.osi_pair.proofs.StandingQuiet.{quiet_order, quiet_waits, put_waits}
 use Rattle.osi_pair.proofs.StandingReplies.{CanGo}
 use Rattle.osi_pair.proofs.StandingRests.{delivered, tables_delivered}
-use Rattle.osi_pair.proofs.StandingResting.{acted_end, did_at, same_row, line_at, EndThen, was_at, back_one, FoundLine, back_then, other_lines, over_stays}
+use Rattle.osi_pair.proofs.StandingResting.{acted_end, did_at, same_row, line_at, EndThen, back_one, FoundLine, back_then, other_lines, over_stays}
 use Rattle.osi_pair.proofs.StandingRows.{Row, before, after, arrived_in, quiet, still, begins, refuses, agrees, denies, tells, leaves, ignores, ends}
 use Rattle.osi_pair.proofs.StandingSeats.{transport_by, value_same, HasSession, lives_in, session_of_seat, transport_at}
 use Rattle.osi_pair.proofs.StandingTurned.{IsSeen, with_holding, turned_pair, turned_stands}
@@ -175,12 +175,7 @@ seen_sound machine.Left l h = h
 seen_sound machine.Right l h = record { own = h.peer; peer = h.own }
 
 first_whole : (m : Message) (ms : List Message) → AreSendable (m ∷ ms) → IsWhole m
-first_whole (unit u) ms h = h.0
-first_whole ask ms h = tt
-first_whole agree ms h = tt
-first_whole (deny reason) ms h = tt
-first_whole (bye reason) ms h = tt
-first_whole over ms h = tt
+first_whole m ms h = grind arith
 
 pub record KeptLine (n : ℕ) (lines : Rows Line) (joined : Option (List ℕ)) (x : Standing) : Type 0 where
   pub line : Line
@@ -196,16 +191,7 @@ no_way e = cc
 
 -- a message of which a session hears comes to one that lives
 heard_lives : (row : Row) → is_heard row ≡ true → lives_in (before row) ≡ true
-heard_lives agrees e = refl
-heard_lives (denies reason) e = refl
-heard_lives (tells octets) e = refl
-heard_lives (leaves reason) e = refl
-heard_lives quiet e = absurd (no_way e)
-heard_lives still e = absurd (no_way e)
-heard_lives begins e = absurd (no_way e)
-heard_lives (refuses reason) e = absurd (no_way e)
-heard_lives (ignores octets) e = absurd (no_way e)
-heard_lives (ends m) e = absurd (no_way e)
+heard_lives row e = grind arith
 
 -- what stands at its reference, and what happens to its session
 pub record Arriving (s : Side) (p : TwoEnds) (b : Between) (t : Tables) (n : ℕ) (row : Row) : Type 0 where
@@ -246,12 +232,6 @@ comes_at s p b t packet h alive pa got at one =
     subst (λ (r : Row). Comes (before r) (after r) (is_cut (is_caller (other s)) (carriers_of (with_holding s e h p))) (HasJoined n (end_at s p)) at.line.own.session.state at.line.peer.channel got
     (under_way (is_caller (other s)) n (carriers_of (with_holding s e h p)) d.now)) same (back_one s p b e h n at.line got d at.is alive (ap arrived_in same ∙ one))
 
--- where its connection stood
-pub pa_stood : (s : Side) (p : TwoEnds) (b : Between) (packet : List ℕ) (h : Held) → (pa : PacketActs (terms_at p) (is_caller s) (carriers_of p) b packet h.octets) →
-    progress_of (place_at (reference_of pa.unit) (last_of (is_caller s) b)) ≡ before pa.did.row
-pa_stood Left p b packet h pa = pa.did.stood
-pa_stood Right p b packet h pa = pa.did.stood
-
 pub seat_progress : (s : Side) (p : TwoEnds) (b : Between) (t : Tables) (n : ℕ) (row : Row) → Stands p b t → (end_at s p).end.carrier.ended ≡ None → progress_of (place_at n (last_of (is_caller s) b)) ≡ before row →
     progress_of (place_at n (end_at s p).end.carrier) ≡ before row
 seat_progress s p b t n row old alive stood = ap (λ (c : Carrier). progress_of (place_at n c)) (sym (was_at s p b t old alive)) ∙ stood
@@ -289,24 +269,11 @@ part_joins joined x place octets now H holds short kept f (inr a) =
     (subst (λ (o : List ℕ). PartJoins joined x Middle octets (Some o)) (sym a.now_is)
     (middle_joins joined x a.front octets f.all (subst (λ (o : List ℕ). length o ≤ most_data) a.now_is short) kept f.fine (holds (Some a.front) a.held)))
 
--- a part comes as a TSDU
-no_tsdu : (g : Progress) (octets : List ℕ) (m : carrier.Message) → is_tsdu m ≡ false → AreAlike g (carrier.message octets ∷ []) (m ∷ []) → ⊥
-no_tsdu g octets m e is = no_part g octets m e is
-
 alone_is : (x y : List ℕ) → carrier.message x ∷ [] ≡ carrier.message y ∷ [] → y ≡ x
 alone_is x y e = let same : x ≡ y = cc in sym same
 
 part_tells : (row : Row) (place : PartPlace) (octets : List ℕ) → is_heard row ≡ true → AreAlike (before row) (carrier.message (part_octets place octets) ∷ []) (got_in row ∷ []) → row ≡ tells (part_octets place octets)
-part_tells (tells o) place octets heard is = ap tells (alone_is (part_octets place octets) o is)
-part_tells agrees place octets heard is = absurd (no_tsdu awaiting (part_octets place octets) carrier.agree refl is)
-part_tells (denies reason) place octets heard is = absurd (no_tsdu awaiting (part_octets place octets) (carrier.deny reason) refl is)
-part_tells (leaves reason) place octets heard is = absurd (no_tsdu in_use (part_octets place octets) (carrier.bye reason) refl is)
-part_tells quiet place octets heard is = absurd (no_way heard)
-part_tells still place octets heard is = absurd (no_way heard)
-part_tells begins place octets heard is = absurd (no_way heard)
-part_tells (refuses reason) place octets heard is = absurd (no_way heard)
-part_tells (ignores o) place octets heard is = absurd (no_way heard)
-part_tells (ends m) place octets heard is = absurd (no_way heard)
+part_tells row place octets heard is = grind arith
 
 -- a message arrives, of which a session hears, and what is under way behind it
 pub record ArrivesAt (s : Side) (p : TwoEnds) (b : Between) (t : Tables) (packet : List ℕ) (h : Held) (pa : PacketActs (terms_at p) (is_caller s) (carriers_of p) b packet h.octets) : Type 0 where
@@ -335,34 +302,10 @@ got_leaves carrier.over = true
 got_leaves m = false
 
 stays_kind : (m : Message) (got : carrier.Message) → kind_of (message_in m) ≡ kind_of got → got_leaves got ≡ false → is_leaving m ≡ false
-stays_kind (unit u) got k e = refl
-stays_kind ask got k e = refl
-stays_kind agree got k e = refl
-stays_kind (deny r) got k e = refl
-stays_kind (bye r) (carrier.bye q) k e = cc
-stays_kind (bye r) carrier.over k e = cc
-stays_kind (bye r) carrier.ask k e = cc
-stays_kind (bye r) carrier.agree k e = cc
-stays_kind (bye r) (carrier.deny q) k e = cc
-stays_kind (bye r) (carrier.message o) k e = cc
-stays_kind over (carrier.bye q) k e = cc
-stays_kind over carrier.over k e = cc
-stays_kind over carrier.ask k e = cc
-stays_kind over carrier.agree k e = cc
-stays_kind over (carrier.deny q) k e = cc
-stays_kind over (carrier.message o) k e = cc
+stays_kind m got k e = grind arith
 
 move_stays : (row : Row) → is_move row ≡ true → got_leaves (got_in row) ≡ false
-move_stays agrees e = refl
-move_stays (denies reason) e = refl
-move_stays (tells octets) e = refl
-move_stays quiet e = absurd (no_way e)
-move_stays still e = absurd (no_way e)
-move_stays begins e = absurd (no_way e)
-move_stays (refuses reason) e = absurd (no_way e)
-move_stays (leaves reason) e = absurd (no_way e)
-move_stays (ignores octets) e = absurd (no_way e)
-move_stays (ends m) e = absurd (no_way e)
+move_stays row e = grind arith
 
 -- what a session hears of a TSDU that is a message, whole or by its last part
 hears_tsdu : MovingLaws → (s : Side) (p : TwoEnds) (b : Between) (t : Tables) (n : ℕ) (row : Row) (octets : List ℕ) (l : TableLine) (joined : Option (List ℕ)) (first : Message) (rest : List Message) → IsTableRun t →
@@ -391,7 +334,7 @@ arriving_as laws s p b t packet h old run alive pa heard at was (inl sp) =
     let lines = (end_at s p).end.lines in
     let l = at.line in
     let x = l.own.session in
-    let tr = seat_transport s p b t n row l old alive (pa_stood s p b packet h pa) at.is in
+    let tr = seat_transport s p b t n row l old alive (stood_at s p b packet h pa) at.is in
     let sound = seen_sound (side_in s) l (laws.sound_lines t run n (seen_from (side_in s) l) at.found) in
     let whole = first_whole sp.first sp.others (subst AreSendable sp.parts sound.peer.under_way) in
     let joined = was.joined in
@@ -400,7 +343,7 @@ arriving_as laws s p b t packet h old run alive pa heard at was (inl sp) =
     let hears = hears_row laws.hear n row sp.first joined l.own keeps.phase
     (λ move other_kind. elim sp.how [
       | inl a ↦ none_joined x.state joined (a.held (stays_kind sp.first (got_in row) sp.kind (move_stays row move)) (joining joined x) live)
-      | inr q ↦ absurd (no_tsdu (before row) (part_octets Last q.last) (got_in row) other_kind q.is)
+      | inr q ↦ absurd (no_part (before row) (part_octets Last q.last) (got_in row) other_kind q.is)
     ])
     (λ octets is. hears_tsdu laws s p b t n row octets l joined sp.first sp.others run at.found sp.parts whole live keeps.phase at.is.here.octets is sp.kind sp.how)
     heard tr (λ w. is_calling laws.tables laws.hear.replies.says (side_in s) n l t run at.found w) sound.own.waits at.is.here.octets in
@@ -451,7 +394,7 @@ pub arriving : MovingLaws → (s : Side) (p : TwoEnds) (b : Between) (t : Tables
 arriving laws s p b t packet h old run alive pa heard =
     let n = reference_of pa.unit in
     let at = line_at s n p b t old pa.first.named pa.first.given in
-    let was = session_of_seat n (end_at s p) at.line.own (before pa.did.row) (seat_progress s p b t n pa.did.row old alive (pa_stood s p b packet h pa)) at.is.here in
+    let was = session_of_seat n (end_at s p) at.line.own (before pa.did.row) (seat_progress s p b t n pa.did.row old alive (stood_at s p b packet h pa)) at.is.here in
     arriving_as laws s p b t packet h old run alive pa heard at was (comes_at s p b t packet h alive pa (got_in pa.did.row) at (one_in pa.did.row heard))
 
 -- the move
@@ -475,10 +418,7 @@ moves_by s p b t n row a = record {
 -- ---- the end then
 
 linked_value : (n : ℕ) (c : Carrier) (o : Option Connection) → value_at n c.live ≡ o → progress_of (was_given o) ≡ in_use → IsLinkedAt n c
-linked_value n c None e h = absurd cc
-linked_value n c (Some asked) e h = absurd cc
-linked_value n c (Some (linked peer link)) e h = record { peer = peer; link = link; at = e }
-linked_value n c (Some (closing peer)) e h = absurd cc
+linked_value n c o e h = grind arith
 
 linked_by : (n : ℕ) (c : Carrier) (b : Bool) → nat_lt c.given n ≡ b → progress_of (place_at n c) ≡ in_use → IsLinkedAt n c
 linked_by n c true e h = let no : not_yet ≡ in_use = sym (ap (λ (b : Bool). progress_of (if◌then◌else◌ {A = Place} b never (was_given (value_at n c.live)))) e) ∙ h in absurd cc
@@ -540,41 +480,24 @@ moved_then laws s p b t packet h old alive pa a d same f =
 -- a message that comes to a session makes of it what the session makes of what it hears
 agrees_left : (x : Standing) (m : Message) → kind_of (message_in m) ≡ carrier.agree → after_message x.state m ≡ (react x opened).next.state
 agrees_left x agree k = left_is x opened
-agrees_left x ask k = cc
-agrees_left x (unit u) k = cc
-agrees_left x (deny why) k = cc
-agrees_left x (bye why) k = cc
-agrees_left x over k = cc
+agrees_left x m k = cc
 
 denies_left : (x : Standing) (reason : ℕ) (m : Message) → kind_of (message_in m) ≡ carrier.deny reason → after_message x.state m ≡ (react x (refused reason)).next.state
 denies_left x reason (deny why) k =
     let same : why ≡ reason = cc in
     left_is x (refused why) ∙ ap (λ (r : ℕ). (react x (refused r)).next.state) same
-denies_left x reason ask k = cc
-denies_left x reason agree k = cc
-denies_left x reason (unit u) k = cc
-denies_left x reason (bye why) k = cc
-denies_left x reason over k = cc
+denies_left x reason m k = cc
 
 tells_left : (x : Standing) (octets : List ℕ) (m : Message) → kind_of (message_in m) ≡ carrier.message [] → after_message x.state m ≡ (react x (heard_by (tells octets) m)).next.state
 tells_left x octets (unit u) k = left_is x (taken (said_of u))
-tells_left x octets ask k = cc
-tells_left x octets agree k = cc
-tells_left x octets (deny why) k = cc
-tells_left x octets (bye why) k = cc
-tells_left x octets over k = cc
+tells_left x octets m k = cc
 
 hears_calm : (row : Row) (x : Standing) (m : Message) (ms : List Message) → is_heard row ≡ true → kind_of (message_in m) ≡ kind_of (got_in row) → StaysCalm (after_message x.state m) ms → StaysCalm (react x (heard_by row m)).next.state ms
 hears_calm agrees x m ms e k calm = subst (λ (s : SessionState). StaysCalm s ms) (agrees_left x m k) calm
 hears_calm (denies reason) x m ms e k calm = subst (λ (s : SessionState). StaysCalm s ms) (denies_left x reason m k) calm
 hears_calm (tells octets) x m ms e k calm = subst (λ (s : SessionState). StaysCalm s ms) (tells_left x octets m k) calm
 hears_calm (leaves reason) x m ms e k calm = over_stays (react x broken_off).next ms (is_lost x)
-hears_calm quiet x m ms e k calm = absurd (no_way e)
-hears_calm still x m ms e k calm = absurd (no_way e)
-hears_calm begins x m ms e k calm = absurd (no_way e)
-hears_calm (refuses reason) x m ms e k calm = absurd (no_way e)
-hears_calm (ignores octets) x m ms e k calm = absurd (no_way e)
-hears_calm (ends last) x m ms e k calm = absurd (no_way e)
+hears_calm row x m ms e k calm = cc
 
 -- what is still under way to it
 pub rest_then : (s : Side) (p : TwoEnds) (b : Between) (t : Tables) (packet : List ℕ) (h : Held) → (pa : PacketActs (terms_at p) (is_caller s) (carriers_of p) b packet h.octets) → (v : ArrivesAt s p b t packet h pa) →

@@ -1,5 +1,5 @@
 -- A message arrives, and a session makes its move: what it sends is not handed over yet, and nothing is closed yet.
-use Rattle.std.proofs.Common.{◌≡◌, ◌≢◌, ℕ, ◌≤◌, Bool, true, false, List, [], ◌∷◌, Option, Some, None, IfSome, option_map, refl, sym, ap, subst, ◌∙◌}
+use Rattle.std.proofs.Common.{◌≡◌, ◌≢◌, ℕ, ◌≤◌, Bool, true, false, List, [], ◌∷◌, Option, Some, None, IfSome, option_map, refl, sym, ap, subst, ◌∙◌, arith}
 use Rattle.osi_tpkt.specs.Held.{Held}
 use Rattle.osi_carrier.specs.Place.{place_at}
 use Rattle.osi_carrier.specs.Rows.{Rows, value_at}
@@ -53,49 +53,11 @@ is_move row = false
 alone_is : (x y : carrier.Message) → x ∷ [] ≡ y ∷ [] → x ≡ y
 alone_is x y e = cc
 
-turn_agrees : (broken : Bool) (terms : worlds.Terms) (keep : ℕ) (x : Standing) (channel : List Message) (peer : Seat) (m : Message) → kind_of (message_in m) ≡ carrier.agree →
-    message_taken broken terms keep worlds.waiting (record { own = seat_now worlds.waiting x channel; peer = peer }) m ≡ hears broken worlds.linked opened (record { own = seat_now worlds.waiting x channel; peer = peer })
-turn_agrees broken terms keep x channel peer agree e = refl
-turn_agrees broken terms keep x channel peer ask e = cc
-turn_agrees broken terms keep x channel peer (unit u) e = cc
-turn_agrees broken terms keep x channel peer (deny why) e = cc
-turn_agrees broken terms keep x channel peer (bye why) e = cc
-turn_agrees broken terms keep x channel peer over e = cc
-
-turn_denies : (broken : Bool) (terms : worlds.Terms) (keep : ℕ) (x : Standing) (channel : List Message) (peer : Seat) (reason : ℕ) (m : Message) → kind_of (message_in m) ≡ carrier.deny reason →
-    message_taken broken terms keep worlds.waiting (record { own = seat_now worlds.waiting x channel; peer = peer }) m ≡ hears broken worlds.gone (refused reason) (record { own = seat_now worlds.waiting x channel; peer = peer })
-turn_denies broken terms keep x channel peer reason (deny why) e =
-    let same : why ≡ reason = cc in
-    ap (λ (k : ℕ). hears broken worlds.gone (refused k) (record { own = seat_now worlds.waiting x channel; peer = peer })) same
-turn_denies broken terms keep x channel peer reason ask e = cc
-turn_denies broken terms keep x channel peer reason (unit u) e = cc
-turn_denies broken terms keep x channel peer reason agree e = cc
-turn_denies broken terms keep x channel peer reason (bye why) e = cc
-turn_denies broken terms keep x channel peer reason over e = cc
-
-turn_tells : (broken : Bool) (terms : worlds.Terms) (keep : ℕ) (x : Standing) (channel : List Message) (peer : Seat) (octets : List ℕ) (m : Message) → kind_of (message_in m) ≡ carrier.message [] →
-    message_taken broken terms keep worlds.linked (record { own = seat_now worlds.linked x channel; peer = peer }) m ≡ hears broken worlds.linked (heard_by (tells octets) m) (record { own = seat_now worlds.linked x channel; peer = peer })
-turn_tells broken terms keep x channel peer octets (unit u) e = refl
-turn_tells broken terms keep x channel peer octets ask e = cc
-turn_tells broken terms keep x channel peer octets agree e = cc
-turn_tells broken terms keep x channel peer octets (deny why) e = cc
-turn_tells broken terms keep x channel peer octets (bye why) e = cc
-turn_tells broken terms keep x channel peer octets over e = cc
-
 turn_by : (broken : Bool) (terms : worlds.Terms) (keep : ℕ) (row : Row) (x : Standing) (channel : List Message) (peer : Seat) (m : Message) (got : carrier.Message) → is_move row ≡ true →
     arrived_in row ≡ got ∷ [] → kind_of (message_in m) ≡ kind_of got →
     message_taken broken terms keep (transport_by (before row)) (record { own = seat_now (transport_by (before row)) x channel; peer = peer }) m ≡
     hears broken (transport_by (after row)) (heard_by row m) (record { own = seat_now (transport_by (before row)) x channel; peer = peer })
-turn_by broken terms keep agrees x channel peer m got is e a = turn_agrees broken terms keep x channel peer m (a ∙ ap kind_of (sym (alone_is _ got e)))
-turn_by broken terms keep (denies reason) x channel peer m got is e a = turn_denies broken terms keep x channel peer reason m (a ∙ ap kind_of (sym (alone_is _ got e)))
-turn_by broken terms keep (tells octets) x channel peer m got is e a = turn_tells broken terms keep x channel peer octets m (a ∙ ap kind_of (sym (alone_is _ got e)))
-turn_by broken terms keep quiet x channel peer m got is e a = cc
-turn_by broken terms keep still x channel peer m got is e a = cc
-turn_by broken terms keep begins x channel peer m got is e a = cc
-turn_by broken terms keep (refuses reason) x channel peer m got is e a = cc
-turn_by broken terms keep (leaves reason) x channel peer m got is e a = cc
-turn_by broken terms keep (ignores octets) x channel peer m got is e a = cc
-turn_by broken terms keep (ends last) x channel peer m got is e a = cc
+turn_by broken terms keep row x channel peer m got is e a = grind arith
 
 -- the turn, where the move sends this
 abbrev pub turn_then : Row → Input → Bool → Option Meaning → Standing → List Message → List Message → TableLine → Turn
@@ -113,28 +75,10 @@ turn_moves broken terms keep row l m xs got f is e a =
     ∙ turn_by broken terms keep row l.own.session l.own.channel (record l.peer { channel = xs }) m got is e a
 
 stays_in_use : (row : Row) → is_move row ≡ true → leaves_use (before row) (after row) ≡ false
-stays_in_use agrees e = refl
-stays_in_use (denies reason) e = refl
-stays_in_use (tells octets) e = refl
-stays_in_use quiet e = cc
-stays_in_use still e = cc
-stays_in_use begins e = cc
-stays_in_use (refuses reason) e = cc
-stays_in_use (leaves reason) e = cc
-stays_in_use (ignores octets) e = cc
-stays_in_use (ends m) e = cc
+stays_in_use row e = grind arith
 
 sends_none : (row : Row) (broken : Bool) (channel : List Message) → is_move row ≡ true → sends_then row broken channel ≡ channel
-sends_none agrees broken channel e = refl
-sends_none (denies reason) broken channel e = refl
-sends_none (tells octets) broken channel e = refl
-sends_none quiet broken channel e = cc
-sends_none still broken channel e = cc
-sends_none begins broken channel e = cc
-sends_none (refuses reason) broken channel e = cc
-sends_none (leaves reason) broken channel e = cc
-sends_none (ignores octets) broken channel e = cc
-sends_none (ends m) broken channel e = cc
+sends_none row broken channel e = grind arith
 
 -- the step of the tables
 pub step_moves : (t : Tables) (s : Side) (n : ℕ) (keep : ℕ → ℕ) (row : Row) (l : TableLine) (m : Message) (xs : List Message) (got : carrier.Message) → end_of (side_in s) t ≡ None →

@@ -59,19 +59,8 @@ says_in : (s : State) (c : Call) → AllHold (needs s c) → IsSendable (sends s
 says_in s (Accept requirements serial sides sizes octets) needed sendable h =
     (profile_small requirements (both_right _ (is_profile requirements) needed.0), asker_small (answered_sizes s.sizes sizes) sendable.sized, answerer_small (answered_sizes s.sizes sizes) sendable.sized, h)
 says_in s (Refuse octets) needed sendable h = (reason_small octets, h)
-says_in s (Data octets) needed sendable h = h
-says_in s (Give tokens) needed sendable h = tt
-says_in s (Please tokens octets) needed sendable h = h
-says_in s (Minor confirm octets) needed sendable h = h
-says_in s (MinorConfirm n octets) needed sendable h = h
-says_in s (Major octets) needed sendable h = h
-says_in s (MajorConfirm octets) needed sendable h = h
-says_in s (Restart n wishes octets) needed sendable h = h
-says_in s (RestartConfirm sides octets) needed sendable h = h
-says_in s (Release octets) needed sendable h = h
-says_in s (ReleaseAccept octets) needed sendable h = h
-says_in s (ReleaseRefuse octets) needed sendable h = h
 says_in s (Abort octets) needed sendable h = (omega arith, h)
+says_in s c needed sendable h = search
 
 -- what an accepted call sends
 pub call_in_octets : (s : State) (c : Call) (x : Step) → Passed s c x → IsSendable x.sent → IsOctets (octets_of c) → IsInOctets x.sent

@@ -31,10 +31,7 @@ use Rattle.osi_pair.proofs.StandingListens.{as_made}
 -- its session was this, and makes this move; what that sends goes within the size of the session
 pub session_moves : (n : ℕ) (heard : words.Input) (e : End) (line : Line) (l : Listener) (m : words.Move) → value_at n e.lines ≡ Some line → line.session ≡ Some l → words.react l heard ≡ m →
     to_session n heard e ≡ record { carrier = answers n (limit_for l heard) m e.carrier; lines = put n (line_after (noted l heard line) m) e.lines }
-session_moves n heard e line l m here is so =
-    ap (λ (o : Option Line). by_line n o heard e) here
-    ∙ ap (λ (o : Option Listener). record { carrier = carrier_by n o heard e.carrier; lines = put n (line_by line o heard) e.lines }) is
-    ∙ ap (λ (m : words.Move). record { carrier = answers n (limit_for l heard) m e.carrier; lines = put n (line_after (noted l heard line) m) e.lines }) so
+session_moves n heard e line l m here is so = cc
 
 -- that of the session of the tables, which sends by itself
 pub session_acts : (n : ℕ) (heard : words.Input) (input : Input) (e : End) (line : Line) (l : Listener) (x : Standing) → value_at n e.lines ≡ Some line → line.session ≡ Some l → words.react l heard ≡ as_made (react x input) →
@@ -46,10 +43,7 @@ session_acts n heard input e line l x here is so alone =
 -- ---- open connections
 
 open_same : (q : ℕ) (c d : Carrier) → c.ended ≡ None → d.ended ≡ None → value_at q c.live ≡ value_at q d.live → is_open q c ≡ is_open q d
-open_same q c d e f h =
-    ap (λ (x : Option EndReason). is_some (if◌then◌else◌ {A = Option (ℕ × Link)} (is_some x) None (link_of (value_at q c.live)))) e
-    ∙ ap (λ (o : Option Connection). is_some (link_of o)) h
-    ∙ sym (ap (λ (x : Option EndReason). is_some (if◌then◌else◌ {A = Option (ℕ × Link)} (is_some x) None (link_of (value_at q d.live)))) f)
+open_same q c d e f h = cc
 
 links_by : (b : Bool) (n q : ℕ) (e : End) (c : Carrier) (line was : Line) (m : words.Move) (y : Listener) → (q == n) ≡ b → IsInOrder e → e.carrier.ended ≡ None → c.ended ≡ None →
     ((r : ℕ) → r ≢ n → value_at r c.live ≡ value_at r e.carrier.live) → value_at n e.lines ≡ Some was → (needs_link m.next.state.phase ≡ true → is_open n c ≡ true) →

@@ -1,6 +1,6 @@
 -- A packet is taken at an end with which no session acts, or one begins: it is no step of the tables, or one
 -- delivery.
-use Rattle.std.proofs.Common.{◌≡◌, ℕ, ◌≤◌, Bool, true, false, List, [], ◌∷◌, ◌++◌, Option, Some, None, option_map, refl, sym, ap, subst, ◌∙◌, ◌⊎◌, inl, inr}
+use Rattle.std.proofs.Common.{◌≡◌, ℕ, ◌≤◌, Bool, true, false, List, [], ◌∷◌, ◌++◌, Option, Some, None, option_map, refl, sym, ap, subst, ◌∙◌, ◌⊎◌, inl, inr, arith}
 use Rattle.std.specs.List.{AllByRecursion}
 use Rattle.std.proofs.lemmas.List.{append-nil}
 use Rattle.osi_tpkt.specs.Held.{Held}
@@ -43,10 +43,10 @@ use Rattle.osi_pair.specs.declared.sides.Side.{Side}
 use Rattle.osi_pair.specs.declared.sides.Side.TheVariants.{Left, Right}
 use Rattle.osi_pair.proofs.StandingArrived.{CarrierLaws, PacketActs, packet_acts}
 use Rattle.osi_pair.proofs.StandingBegins.{asks_same, begun_lines, begun_waits, begins_unit, new_at}
-use Rattle.osi_pair.proofs.StandingFinish.{terms_at, DidAt, is_agree, last_is, order_of}
+use Rattle.osi_pair.proofs.StandingFinish.{terms_at, DidAt, is_agree, last_is, order_of, was_at}
 use Rattle.osi_pair.proofs.StandingHeard.{carried_out, nothing_heard, one_told, lasting}
 use Rattle.osi_pair.proofs.StandingRests.{is_awaited, rests, sends_then}
-use Rattle.osi_pair.proofs.StandingResting.{acted_end, did_at, same_row, was_at, is_rest, EndThen, quiet_unit, rest_unit, FoundLine, line_at, back_none, back_one, back_alone, back_then, over_holds, over_stays}
+use Rattle.osi_pair.proofs.StandingResting.{acted_end, did_at, same_row, is_rest, EndThen, quiet_unit, rest_unit, FoundLine, line_at, back_none, back_one, back_alone, back_then, over_holds, over_stays}
 use Rattle.osi_pair.proofs.StandingRows.{Row, quiet, still, begins, refuses, agrees, denies, tells, leaves, ignores, ends, before, after, arrived_in, told_for, is_row}
 use Rattle.osi_pair.proofs.StandingTurned.{with_holding, turned_pair, turned_stands, IsSeen}
 use Rattle.osi_pair.proofs.StandingWays.{Alone, is_tsdu}
@@ -56,6 +56,7 @@ use Rattle.osi_pair.specs.Sides.{other}
 use Rattle.osi_between.specs.Messages.{kind_of as message_kind}
 use Rattle.osi_session.specs.declared.state.State.{State as SessionState}
 use Rattle.osi_machine.specs.Calm.{after_message, StaysCalm}
+use Rattle.osi_pair.proofs.StandingBreak.{run_behind}
 
 -- what is proved of two carriers and of one end
 pub record PacketLaws : Type 0 where
@@ -102,14 +103,7 @@ same_role laws Right p b t e h n old alive d lasts =
 -- it is in order behind the packet
 order_then : PacketLaws → (s : Side) (p : TwoEnds) (b : Between) (t : Tables) (u : Value) (e : End) → Stands p b t → (end_at s p).end.carrier.ended ≡ None → IsSendable u → attends (carries_out u (end_at s p).end) ≡ e → e.carrier.ended ≡ None →
     e.carrier.events ≡ [] → RiseFrom 0 e.lines → IsInOrder e
-order_then laws s p b t u e old alive sendable is lasts heard rising =
-    let was = order_of s p b t old alive in
-    record {
-      heard = heard;
-      sound = subst IsSound is (laws.sound (end_at s p).end u sendable alive (λ x. was.heard) (λ x. was.sound)) lasts;
-      rising = rising;
-      came = subst (λ (x : End). AllCameAbout x.lines) is (laws.came (end_at s p).end u sendable was.came);
-    }
+order_then laws s p b t u e old alive sendable is lasts heard rising = grind arith
 
 -- ---- no session acts
 
@@ -148,12 +142,6 @@ record IsRestRow (row : Row) (n : ℕ) : Type 0 where
   awaited : is_awaited row ≡ false
   stays : leaves_use (before row) (after row) ≡ false
   told : told_for n row ≡ []
-
-quiet_row : (n : ℕ) → IsQuietRow quiet n
-quiet_row n = record { none = refl; same = refl; rest = refl; agree = refl; stays = refl; sends = λ b c. refl; told = refl }
-
-still_row : (n : ℕ) → IsQuietRow still n
-still_row n = record { none = refl; same = refl; rest = refl; agree = refl; stays = refl; sends = λ b c. refl; told = refl }
 
 refuses_row : (n reason : ℕ) → IsRestRow (refuses reason) n
 refuses_row n reason = record { got = carrier.ask; one = refl; rest = refl; resting = refl; agree = refl; awaited = refl; stays = refl; told = refl }
@@ -302,7 +290,7 @@ calm_then s p b t n row l ms old alive stood i shuts =
     let now : progress_of (place_at n (end_at s p).end.carrier) ≡ shutting = ap (λ (c : State). progress_of (place_at n c)) (sym (was_at s p b t old alive)) ∙ stood ∙ shuts in
     over_stays l.own.session ms ((session_of_seat n (end_at s p) l.own shutting now i.here).over_now refl)
 
-stood_at : (s : Side) (p : TwoEnds) (b : Between) (packet : List ℕ) (h : Held) → (pa : PacketActs (terms_at p) (is_caller s) (carriers_of p) b packet h.octets) →
+pub stood_at : (s : Side) (p : TwoEnds) (b : Between) (packet : List ℕ) (h : Held) → (pa : PacketActs (terms_at p) (is_caller s) (carriers_of p) b packet h.octets) →
     progress_of (place_at (reference_of pa.unit) (last_of (is_caller s) b)) ≡ before pa.did.row
 stood_at Left p b packet h pa = pa.did.stood
 stood_at Right p b packet h pa = pa.did.stood
@@ -361,16 +349,7 @@ is_heard (leaves reason) = true
 is_heard row = false
 
 quiet_told : (n : ℕ) (row : Row) → told_for n row ≡ [] → is_heard row ≡ false
-quiet_told n quiet e = refl
-quiet_told n still e = refl
-quiet_told n begins e = cc
-quiet_told n (refuses reason) e = refl
-quiet_told n agrees e = cc
-quiet_told n (denies reason) e = cc
-quiet_told n (tells octets) e = cc
-quiet_told n (leaves reason) e = cc
-quiet_told n (ignores octets) e = refl
-quiet_told n (ends m) e = refl
+quiet_told n row e = grind arith
 
 -- which of the three a row is, of which no session hears
 abbrev RestsAt : Row → ℕ → Type 0
@@ -379,44 +358,15 @@ RestsAt row n = ((reason : ℕ) × (row ≡ refuses reason)) ⊎ (((m : carrier.
 abbrev Kind : Row → ℕ → Type 0
 Kind row n = IsQuietRow row n ⊎ (RestsAt row n ⊎ (row ≡ begins))
 
-not_heard : true ≡ false → ⊥
-not_heard e = cc
-
 kind_of : (n : ℕ) (row : Row) → is_heard row ≡ false → Kind row n
-kind_of n quiet e = inl (quiet_row n)
-kind_of n still e = inl (still_row n)
-kind_of n begins e = inr (inr refl)
-kind_of n (refuses reason) e = inr (inl (inl (reason, refl)))
-kind_of n (ignores octets) e = inr (inl (inr (inr (octets, refl))))
-kind_of n (ends m) e = inr (inl (inr (inl (m, refl))))
-kind_of n agrees e = absurd (not_heard e)
-kind_of n (denies reason) e = absurd (not_heard e)
-kind_of n (tells octets) e = absurd (not_heard e)
-kind_of n (leaves reason) e = absurd (not_heard e)
+kind_of n row e = grind arith
 
 -- what ends a connection that is closing is no TSDU
 ends_kind : (terms : Terms) (m : carrier.Message) → is_row terms (ends m) → is_tsdu m ≡ false
-ends_kind by_two (carrier.bye reason) is = refl
-ends_kind by_two carrier.over is = refl
-ends_kind by_two carrier.ask is = absurd is
-ends_kind by_two carrier.agree is = absurd is
-ends_kind by_two (carrier.deny why) is = absurd is
-ends_kind by_two (carrier.message octets) is = absurd is
-ends_kind by_zero (carrier.bye reason) is = refl
-ends_kind by_zero carrier.over is = refl
-ends_kind by_zero carrier.ask is = absurd is
-ends_kind by_zero carrier.agree is = absurd is
-ends_kind by_zero (carrier.deny why) is = absurd is
-ends_kind by_zero (carrier.message octets) is = absurd is
-ends_kind (refusing reason) m is = absurd is
+ends_kind terms m is = grind arith
 
 asks_stays : (m : Message) → message_kind (message_in m) ≡ carrier.ask → is_leaving m ≡ false
-asks_stays (unit u) k = refl
-asks_stays ask k = refl
-asks_stays agree k = refl
-asks_stays (deny r) k = refl
-asks_stays (bye r) k = cc
-asks_stays over k = cc
+asks_stays m k = grind arith
 
 resting_packet : PacketLaws → (s : Side) (p : TwoEnds) (b : Between) (t : Tables) (packet : List ℕ) (h : Held) → Stands p b t → (end_at s p).end.carrier.ended ≡ None →
     (pa : PacketActs (terms_at p) (is_caller s) (carriers_of p) b packet h.octets) → RestsAt pa.did.row (reference_of pa.unit) → StandsBehind s p t packet h
@@ -474,19 +424,11 @@ unheard_packet laws s p b t packet h old alive pa e = by_kind laws s p b t packe
 
 -- ---- at a list of steps
 
-pub run_behind : (t : Tables) (xs ys : List Step) → run t (xs ++ ys) ≡ run (run t xs) ys
-run_behind t [] ys = refl
-run_behind t (x ∷ xs) ys = run_behind (step t x) xs ys
-
 -- deliveries have no number
 numbered_behind : (s : machine.Side) (xs ys : List Step) → AllByRecursion HasNumber xs → AreDeliveries s ys → AllByRecursion HasNumber (xs ++ ys)
-numbered_behind s [] [] a d = tt
 numbered_behind s [] (delivers q r keep ∷ ys) a d = (tt, numbered_behind s [] ys tt d.1)
-numbered_behind s [] (connects o ∷ ys) a d = absurd d
-numbered_behind s [] (calls q r c ∷ ys) a d = absurd d
-numbered_behind s [] (breaks k l ∷ ys) a d = absurd d
-numbered_behind s [] (ends_side q e keep ∷ ys) a d = absurd d
 numbered_behind s (x ∷ xs) ys a d = (a.0, numbered_behind s xs ys a.1 d)
+numbered_behind s xs ys a d = search
 
 pub terms_then : (s : Side) (p : TwoEnds) (a : End) (h : Held) → a.carrier.local ≡ (end_at s p).end.carrier.local → terms_at (with_holding s a h p) ≡ terms_at p
 terms_then Left p a h e = ap (λ (l : Local). terms_of l p.right.end.carrier.local) e

@@ -33,6 +33,7 @@ use Rattle.osi_pair.proofs.StandingShown.{shown_pair}
 use Rattle.osi_pair.proofs.StandingTurned.{with_holding, holding_here}
 use Rattle.osi_pair.proofs.Waiting.{none_waits}
 use Rattle.osi_pair.specs.Reaching.{reach_after}
+use Rattle.osi_stack.proofs.Pieces.{none_of}
 
 -- THE LAWS OF ONE PACKET. Where two ends stand at a list of steps, and a side that lasts takes the packet that
 -- it holds first, or finds no memory for it, or ends for want of memory, they stand at that list followed by
@@ -86,13 +87,9 @@ still_waits ((r, line) ∷ lines) e =
     ap (λ (w : List Shown). not (length w == 0) || waits lines) (none_first (λ shown. (r, shown)) line.waiting (waiting_in lines) e)
     ∙ still_waits lines (none_second (λ shown. (r, shown)) line.waiting (waiting_in lines) e)
 
-lasts_of : (o : Option EndReason) → is_some o ≡ false → o ≡ None
-lasts_of None e = refl
-lasts_of (Some reason) e = cc
-
 -- an end that does not stop lasts, and nothing waits
 pub stops_not : (e : End) → stops e ≡ false → e.carrier.ended ≡ None
-stops_not e h = lasts_of e.carrier.ended (or_first (is_some e.carrier.ended) (waits e.lines) h)
+stops_not e h = none_of e.carrier.ended (or_first (is_some e.carrier.ended) (waits e.lines) h)
 
 pub stops_quiet : (e : End) → stops e ≡ false → waiting_in e.lines ≡ []
 stops_quiet e h = none_waiting e.lines (or_second (is_some e.carrier.ended) (waits e.lines) h)
@@ -134,36 +131,10 @@ held_at law Right p steps h at same =
 
 -- ---- what arrives
 
-end_there : (who : machine.Side) (t : Tables) (why : Ending) (keep : ℕ → ℕ) → end_of who (after_end who why keep t) ≡ Some why
-end_there machine.Left t why keep = refl
-end_there machine.Right t why keep = refl
-
-over_by : (who : machine.Side) (t : Tables) (keep : ℕ → ℕ) (o : Option Ending) → end_of who t ≡ o → end_of who (step t (ends_side who no_memory keep)) ≡ None → ⊥
-over_by who t keep None e h =
-    let is : step t (ends_side who no_memory keep) ≡ after_end who no_memory keep t = ap (λ (o : Option Ending). if is_some o || false then t else after_end who no_memory keep t) e in
-    let two : Some no_memory ≡ None = sym (end_there who t no_memory keep) ∙ ap (end_of who) (sym is) ∙ h in
-    cc
-over_by who t keep (Some why) e h =
-    let is : step t (ends_side who no_memory keep) ≡ t = ap (λ (o : Option Ending). if is_some o || false then t else after_end who no_memory keep t) e in
-    let two : Some why ≡ None = sym e ∙ ap (end_of who) (sym is) ∙ h in
-    cc
-
-over_then : (who taker : machine.Side) (t : Tables) (reason : Ending) (keep : ℕ → ℕ) (more : List Step) → AreArrivals who (ends_side taker reason keep ∷ more) →
-    end_of who (run (step t (ends_side taker reason keep)) more) ≡ None → ⊥
-over_then who taker t reason keep more are h =
-    over_by who t keep (end_of who t) refl
-    (ap (λ (q : machine.Side). end_of who (step t (ends_side q no_memory keep))) (sym are.0)
-    ∙ ap (λ (r : Ending). end_of who (step t (ends_side taker r keep))) (sym are.1)
-    ∙ ap (λ (l : List Step). end_of who (run (step t (ends_side taker reason keep)) l)) (sym are.2) ∙ h)
-
 -- where the side lasts, deliveries
 arrivals_alive : (who : machine.Side) (t : Tables) (more : List Step) → AreArrivals who more → end_of who (run t more) ≡ None → AreDeliveries who more
-arrivals_alive who t [] are e = tt
 arrivals_alive who t (delivers taker r keep ∷ more) are e = (are.0, arrivals_alive who (step t (delivers taker r keep)) more are.1 e)
-arrivals_alive who t (ends_side taker reason keep ∷ more) are e = absurd (over_then who taker t reason keep more are e)
-arrivals_alive who t (connects o ∷ more) are e = absurd are
-arrivals_alive who t (calls q r c ∷ more) are e = absurd are
-arrivals_alive who t (breaks k l ∷ more) are e = absurd are
+arrivals_alive who t more are e = grind arith
 
 pub alive_deliveries : (s : Side) (p : TwoEnds) (steps more : List Step) → StandsAt p (steps ++ more) → (end_at s p).end.carrier.ended ≡ None → AreArrivals (side_in s) more →
     AreDeliveries (side_in s) more
@@ -173,12 +144,8 @@ alive_deliveries s p steps more at alive are =
     (ap (end_of (side_in s)) (sym (run_behind first steps more)) ∙ lasting_in s p at.now (run first (steps ++ more)) at.stands alive)
 
 deliveries_then : (who : machine.Side) (xs ys : List Step) → AreDeliveries who xs → AreArrivals who ys → AreArrivals who (xs ++ ys)
-deliveries_then who [] ys are more = more
 deliveries_then who (delivers taker r keep ∷ xs) ys are more = (are.0, deliveries_then who xs ys are.1 more)
-deliveries_then who (ends_side taker reason keep ∷ xs) ys are more = absurd are
-deliveries_then who (connects o ∷ xs) ys are more = absurd are
-deliveries_then who (calls q r c ∷ xs) ys are more = absurd are
-deliveries_then who (breaks k l ∷ xs) ys are more = absurd are
+deliveries_then who xs ys are more = search
 
 -- deliveries, and then what arrives more
 pub join_arrivals : (s : Side) (p : TwoEnds) (steps more : List Step) → AreDeliveries (side_in s) more → StandsAtArrivals s p (steps ++ more) → StandsAtArrivals s p steps

@@ -38,9 +38,9 @@ use Rattle.osi_pair.specs.Telling.{waiting_in}
 use Rattle.osi_pair.specs.declared.sides.Side.{Side}
 use Rattle.osi_pair.proofs.StandingFinish.{TablesAfter, OtherSessions, is_agree, order_of, finish, known_then}
 use Rattle.osi_pair.proofs.StandingHeard.{one_told, lasting}
-use Rattle.osi_pair.proofs.StandingMoved.{MovingLaws, PacketAt, PartArrives, opened_then, lives_then, open_at, pa_stood, seat_transport}
+use Rattle.osi_pair.proofs.StandingMoved.{MovingLaws, PacketAt, PartArrives, opened_then, lives_then, open_at, seat_transport}
 use Rattle.osi_pair.proofs.StandingOrder.{session_moves, moves_order}
-use Rattle.osi_pair.proofs.StandingPacket.{ActsAt, acts_at, same_role, quiet_of}
+use Rattle.osi_pair.proofs.StandingPacket.{ActsAt, acts_at, same_role, quiet_of, stood_at}
 use Rattle.osi_pair.proofs.StandingQuiet.{put_waits}
 use Rattle.osi_pair.proofs.StandingRests.{tables_rest, sends_then}
 use Rattle.osi_pair.proofs.StandingResting.{acted_end, did_at, same_row, out_row, back_then, other_lines, line_same}
@@ -149,7 +149,7 @@ part_unit laws s p b t packet h old alive pa v f =
     let waits : waiting_in lines ≡ [] = put_waits n (part_line s p b t packet h pa v) v.kept.line (rests (joining v.joins.now x)) (end_at s p).end.lines refl (quiet_of s p b t old) v.kept.here in
     let steady : leaves_use (before d.row) (after d.row) ≡ false = ap (λ (r : Row). leaves_use (before r) (after r)) row in
     let tr : l.own.transport ≡ transport_by (after d.row) =
-    seat_transport s p b t n pa.did.row l old alive (pa_stood s p b packet h pa) v.stands ∙ ap (λ (r : Row). transport_by (before r)) v.is ∙ ap (λ (r : Row). transport_by (after r)) (sym row) in
+    seat_transport s p b t n pa.did.row l old alive (stood_at s p b packet h pa) v.stands ∙ ap (λ (r : Row). transport_by (before r)) v.is ∙ ap (λ (r : Row). transport_by (after r)) (sym row) in
     finish s p b t t e h n [] l x l.own.channel l.peer.channel old alive d f.lasts f.local (same_role laws.packet s p b t e h n old alive d f.lasts) pa.first.given (laws.packet.behind _ _ d.now d.between)
     (part_order laws s p b t packet h old alive pa v f) waits (part_others s p b t packet h pa v) (subst (λ (r : Row). HasSession n lines (after r) x) (sym row) (part_has s p b t packet h pa v octets)) v.stands
     (record {

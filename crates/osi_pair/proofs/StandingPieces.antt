@@ -162,14 +162,8 @@ finished laws f p steps k j used e rest h g is le all x =
 
 -- ---- what the end of a side is where it finds no memory
 
-attends_over : (e : End) → e.carrier.events ≡ [] → (attends e).carrier ≡ e.carrier
-attends_over e none = concluded_carrier (hears_all e) ∙ ap (λ (x : End). x.carrier) (all_quiet e none)
-
 unit_starved : (e new : End) (c : State) → e.carrier.events ≡ [] → c ≡ states.ends NoMemory e.carrier → new ≡ attends (with_carrier c e) → is_some new.carrier.ended ≡ true
-unit_starved e new c none is same =
-    ap (λ (x : End). is_some x.carrier.ended) same
-    ∙ ap (λ (x : State). is_some x.ended) (attends_over (with_carrier c e) (ap (λ (x : State). x.events) is ∙ none))
-    ∙ ap (λ (x : State). is_some x.ended) is
+unit_starved e new c none is same = grind arith
 
 starved_ended : PieceLaws → (s : Side) (p : TwoEnds) (steps : List Step) (packet octets behind : List ℕ) (new : End) → StandsAt p steps → (end_at s p).end.carrier.ended ≡ None →
     IsPacket packet octets → (end_at s p).held.octets ≡ octets ++ behind → Starves (end_at s p).end packet new → is_some new.carrier.ended ≡ true

@@ -28,6 +28,7 @@ use Rattle.osi_pair.specs.Promises.{with_word, journal_in, IsLegalJournal, AllWe
 use Rattle.osi_pair.specs.Standing.{side_in, entry_in, ending_in, terms_in, HasLine, IsInOrder, StandsAt, joining}
 use Rattle.osi_pair.specs.declared.sides.Side.{Side}
 use Rattle.osi_pair.specs.declared.sides.Side.TheVariants.{Left, Right}
+use Rattle.osi_machine.proofs.Tokens.{none_held}
 
 -- ---- plain facts
 
@@ -39,10 +40,6 @@ rest_same x y xs ys e = cc
 
 some_same : {A : Type 0} (x y : A) → Some x ≡ Some y → x ≡ y
 some_same x y e = cc
-
-and_false : (b : Bool) → (b && false) ≡ false
-and_false true = refl
-and_false false = refl
 
 -- ---- the journal
 
@@ -60,12 +57,7 @@ abbrev pub tables_at : TwoEnds → List Step → Tables
 tables_at p steps = run (start (terms_in (terms_of p.left.end.carrier.local p.right.end.carrier.local))) steps
 
 is_run : (p : TwoEnds) (steps : List Step) → StandsAt p steps → IsTableRun (tables_at p steps)
-is_run p steps h = record {
-  agreed = terms_in (terms_of p.left.end.carrier.local p.right.end.carrier.local);
-  steps = steps;
-  numbered = h.numbered;
-  reached = refl;
-}
+is_run p steps h = grind arith
 
 journal_at : (p : TwoEnds) (steps : List Step) → StandsAt p steps → journal_in p.journal ≡ (tables_at p steps).journal
 journal_at p steps h = words_by (tables_at p steps).journal p.journal h.stands.journal
@@ -112,22 +104,9 @@ duplex all p steps h = of_each tables.IsShownAsAsked IsShownAsAsked p steps h (�
 
 -- ---- faults
 
-shown_fine : (side : Side) (r : ℕ) (i : Shown) → runs.is_fault (entries.shown_at (side_in side) r i) ≡ false → is_fault (shows side r i) ≡ false
-shown_fine side r (PeerAbort bits) h = h
-shown_fine side r (BadUnit fault) h = h
-shown_fine side r _ h = refl
-
 -- an entry of which the tables have a word that is no fault; they have none for an end with a fault
 entry_fine : (word : entries.Entry) (x : Entry) → Some word ≡ entry_in x → runs.is_fault word ≡ false → is_fault x ≡ false
-entry_fine word (shows side r i) e h =
-    shown_fine side r i (ap (λ (w : entries.Entry). runs.is_fault w) (sym (some_same word (entries.shown_at (side_in side) r i) e)) ∙ h)
-entry_fine word (ends side (why.Fault fault)) e h = absurd (cc)
-entry_fine word (ends side why.Broken) e h = refl
-entry_fine word (ends side why.NoMemory) e h = refl
-entry_fine word (ends side why.Closed) e h = refl
-entry_fine word (ends side (why.PeerClosed r)) e h = refl
-entry_fine word (asks wanted answer) e h = refl
-entry_fine word (calls side r call error) e h = refl
+entry_fine word x e h = grind arith
 
 journal_fine : (words : List entries.Entry) (journal : List Entry) → map Some words ≡ map entry_in journal → list_any runs.is_fault words ≡ false → list_any is_fault journal ≡ false
 journal_fine words [] e h = refl
@@ -173,35 +152,16 @@ says_by n h s joined false e seated = of_none (ap (λ (b : Bool). if b then sess
 
 -- ---- tokens
 
-has_none : (t : Token) → has no_token t ≡ false
-has_none data_token = refl
-has_none minor = refl
-has_none major = refl
-has_none release = refl
-
 none_holds : (o other : Option Listener) (t : Token) → o ≡ None → (has (held_by o) t && has (held_by other) t) ≡ false
-none_holds o other t e = ap (λ (x : Option Listener). has (held_by x) t && has (held_by other) t) e ∙ ap (λ (b : Bool). b && has (held_by other) t) (has_none t)
-
-other_holds_none : (o other : Option Listener) (t : Token) → other ≡ None → (has (held_by o) t && has (held_by other) t) ≡ false
-other_holds_none o other t e = ap (λ (x : Option Listener). has (held_by o) t && has (held_by x) t) e
-    ∙ ap (λ (b : Bool). has (held_by o) t && b) (has_none t) ∙ and_false (has (held_by o) t)
+none_holds o other t e = ap (λ (x : Option Listener). has (held_by x) t && has (held_by other) t) e ∙ ap (λ (b : Bool). b && has (held_by other) t) (none_held t)
 
 one_holds : (n : ℕ) (left right : Holding) (s q : Standing) (t : Token) → Says n left s → Says n right q → (has s.state.held t && has q.state.held t) ≡ false →
     (has (held_by (session_at n left.end)) t && has (held_by (session_at n right.end)) t) ≡ false
-one_holds n left right s q t (of_none e) other none = none_holds (session_at n left.end) (session_at n right.end) t e
-one_holds n left right s q t (of_some j e) (of_none f) none = other_holds_none (session_at n left.end) (session_at n right.end) t f
-one_holds n left right s q t (of_some j e) (of_some k f) none =
-    ap (λ (x : Option Listener). has (held_by x) t && has (held_by (session_at n right.end)) t) e
-    ∙ ap (λ (x : Option Listener). has (held_by (Some (joining j s))) t && has (held_by x) t) f ∙ none
+one_holds n left right s q t h6 other none = grind arith
 
 -- a reference that was given, or none
 pub within : (r most : ℕ) → ((r ≡ 0) ⊎ (most < r)) ⊎ ((0 < r) × (r ≤ most))
-within zero most = inl (inl refl)
-within (suc r) most = by (cases_lt most (suc r))
-  where
-    by : (most < suc r) ⊎ (suc r ≤ most) → ((suc r ≡ 0) ⊎ (most < suc r)) ⊎ ((0 < suc r) × (suc r ≤ most))
-    by (inl above) = inl (inr above)
-    by (inr given) = inr ((let up : 0 < suc r = omega arith in up), given)
+within r most = grind arith
 
 pub one_holder : ((t : Tables) → IsTableRun t → OfEachLine HoldNoneTwice t) → ((t : Tables) → IsTableRun t → AreOffered t) →
     (p : TwoEnds) (steps : List Step) → StandsAt p steps → HaveOneHolder p
@@ -247,20 +207,14 @@ confirmed_is_seen all p steps h = of_each IsSeenInBoth (ConfirmedIsSeen p) p ste
 -- ---- the end of an end
 
 has_word : (t : Option Ending) (o : Option EndReason) (why : EndReason) → option_map Some t ≡ option_map ending_in o → o ≡ Some why → is_some (ending_in why) ≡ true
-has_word None o why h is = let no : None ≡ Some (ending_in why) = h ∙ ap (λ (x : Option EndReason). option_map ending_in x) is in absurd (cc)
-has_word (Some x) o why h is =
-    let same : Some (Some x) ≡ Some (ending_in why) = h ∙ ap (λ (x : Option EndReason). option_map ending_in x) is in
-    ap (λ (e : Option Ending). is_some e) (sym (some_same (Some x) (ending_in why) same))
+has_word t o why h is = grind arith
 
 pub few_reasons : (p : TwoEnds) (steps : List Step) → StandsAt p steps → EndsForFewReasons p
 few_reasons p steps h Left why is = has_word (tables_at p steps).left_end p.left.end.carrier.ended why h.stands.left_end is
 few_reasons p steps h Right why is = has_word (tables_at p steps).right_end p.right.end.carrier.ended why h.stands.right_end is
 
 same_end : (t : Option Ending) (o : Option EndReason) → option_map Some t ≡ option_map ending_in o → t ≡ ending_of o
-same_end None None h = refl
-same_end None (Some why) h = absurd (cc)
-same_end (Some x) None h = absurd (cc)
-same_end (Some x) (Some why) h = some_same (Some x) (ending_in why) h
+same_end t o h = grind arith
 
 pub losses : ((t : Tables) → IsTableRun t → LosesAsItEnds t) → (p : TwoEnds) (steps : List Step) → StandsAt p steps → LoseAsTheyEnd p
 losses lost p steps h Left shown =

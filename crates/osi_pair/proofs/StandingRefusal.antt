@@ -164,11 +164,7 @@ error_by_tests class over waits many up profile long =
 
 -- the tests behind those of the class
 by_room : (g : ℕ) (many up profile long : Bool) → answer_in (answer_with g (error_by_tests (Some Two) false false many up profile long)) ≡ Some (by_tests false true false false many up profile long)
-by_room g true up profile long = refl
-by_room g false true profile long = refl
-by_room g false false false long = refl
-by_room g false false true true = refl
-by_room g false false true false = refl
+by_room g many up profile long = grind arith
 
 by_none : (g : ℕ) (over waits many up profile long : Bool) → answer_in (answer_with g (error_by_tests None over waits many up profile long)) ≡ Some (by_tests over false waits false many up profile long)
 by_none g true waits many up profile long = refl
@@ -188,10 +184,7 @@ by_two g false waits other many up profile long = by_room g many up profile long
 caller_error : (c : Connect) (s : Carrier) (class : Option Class) → s.is_caller ≡ true → s.class ≡ class →
     after_open (may_connect s) (terms_error c)
     ≡ after_open (if is_some s.ended then Some opening.Ended else or_else (class_error class s.live) (room_error s)) (terms_error c)
-caller_error c s class caller is =
-    ap (λ (b : Bool). after_open (if◌then◌else◌ {A = Option OpenError} (not b) (Some opening.NotCaller)
-    (if◌then◌else◌ {A = Option OpenError} (is_some s.ended) (Some opening.Ended) (or_else (class_error s.class s.live) (room_error s)))) (terms_error c)) caller
-    ∙ ap (λ (k : Option Class). after_open (if◌then◌else◌ {A = Option OpenError} (is_some s.ended) (Some opening.Ended) (or_else (class_error k s.live) (room_error s))) (terms_error c)) is
+caller_error c s class caller is = cc
 
 error_is : (c : Connect) (s : Carrier) (class : Option Class) → s.is_caller ≡ true → s.class ≡ class →
     after_open (may_connect s) (terms_error c)
@@ -200,37 +193,15 @@ error_is c s None caller is = caller_error c s None caller is
 error_is c s (Some Zero) caller is = caller_error c s (Some Zero) caller is
 error_is c s (Some Two) caller is = caller_error c s (Some Two) caller is
 
-long_same : (o : Option (List ℕ)) → is_long_selector o ≡ is_long_address o
-long_same None = refl
-long_same (Some octets) = refl
-
-long_is : (c : Connect) → machine.is_long (offer_in (asked_of c)) ≡ is_long c
-long_is c =
-    ap (λ (b : Bool). b || (is_long_selector (called_octets c) || not (nat_le (length c.user_data.now) 10240))) (long_same (calling_octets c))
-    ∙ ap (λ (b : Bool). is_long_address (calling_octets c) || (b || not (nat_le (length c.user_data.now) 10240))) (long_same (called_octets c))
-
 refusal_is : (t : Tables) (c : Connect) (known : Option worlds.Class) (over waits many up : Bool) → t.known ≡ known → is_some t.left_end ≡ over →
     list_any is_waiting (map transport_of t.lines) ≡ waits → nat_le 64 (live_count (map transport_of t.lines)) ≡ many → nat_le 65535 (length (map transport_of t.lines)) ≡ up →
     refusal t (offer_in (asked_of c)) ≡ by_tests over (is_known known) waits (is_class_0 known) many up (is_profile (unit_bits c.requirements)) (is_long c)
-refusal_is t c known over waits many up k o w m u =
-    ap (λ (x : Bool). by_tests x (is_known t.known) (list_any is_waiting (map transport_of t.lines)) (is_class_0 t.known) (nat_le 64 (live_count (map transport_of t.lines)))
-    (nat_le 65535 (length (map transport_of t.lines))) (is_profile (unit_bits c.requirements)) (machine.is_long (offer_in (asked_of c)))) o
-    ∙ ap (λ (x : Option worlds.Class). by_tests over (is_known x) (list_any is_waiting (map transport_of t.lines)) (is_class_0 x) (nat_le 64 (live_count (map transport_of t.lines)))
-    (nat_le 65535 (length (map transport_of t.lines))) (is_profile (unit_bits c.requirements)) (machine.is_long (offer_in (asked_of c)))) k
-    ∙ ap (λ (x : Bool). by_tests over (is_known known) x (is_class_0 known) (nat_le 64 (live_count (map transport_of t.lines)))
-    (nat_le 65535 (length (map transport_of t.lines))) (is_profile (unit_bits c.requirements)) (machine.is_long (offer_in (asked_of c)))) w
-    ∙ ap (λ (x : Bool). by_tests over (is_known known) waits (is_class_0 known) x
-    (nat_le 65535 (length (map transport_of t.lines))) (is_profile (unit_bits c.requirements)) (machine.is_long (offer_in (asked_of c)))) m
-    ∙ ap (λ (x : Bool). by_tests over (is_known known) waits (is_class_0 known) many x (is_profile (unit_bits c.requirements)) (machine.is_long (offer_in (asked_of c)))) u
-    ∙ ap (λ (x : Bool). by_tests over (is_known known) waits (is_class_0 known) many up (is_profile (unit_bits c.requirements)) x) (long_is c)
+refusal_is t c known over waits many up k o w m u = cc
 
 -- ---- at two ends that stand
 
 some_same : (x : Option Ending) (y : Option EndReason) → option_map Some x ≡ option_map ending_in y → is_some x ≡ is_some y
-some_same None None e = refl
-some_same None (Some y) e = cc
-some_same (Some x) None e = cc
-some_same (Some x) (Some y) e = refl
+some_same x y e = grind arith
 
 -- before a class holds, each that is live awaits its answer
 abbrev pub Awaits : Type 0
@@ -279,14 +250,7 @@ alive_by g c p b t class waits s is lasts any same count =
 -- an end that has ended
 over_answer : (g : ℕ) (c : Connect) (p : TwoEnds) (b : Between) (t : Tables) (reason : EndReason) → Stands p b t → p.left.end.carrier.ended ≡ Some reason →
     answer_in (answer_with g (connect_error c p.left.end)) ≡ Some (refusal t (offer_in (asked_of c)))
-over_answer g c p b t reason s is =
-    let e : Carrier = p.left.end.carrier in
-    let over : is_some t.left_end ≡ true = some_same t.left_end e.ended s.left_end ∙ ap is_some is in
-    let ended : is_some e.ended ≡ true = ap is_some is in
-    ap (λ (o : Option ConnectError). answer_in (answer_with g o)) (caller_error c e e.class s.caller refl
-    ∙ ap (λ (x : Bool). after_open (if◌then◌else◌ {A = Option OpenError} x (Some opening.Ended) (or_else (class_error e.class e.live) (room_error e))) (terms_error c)) ended)
-    ∙ sym (ap Some (refusal_is t c t.known true (list_any is_waiting (map transport_of t.lines)) (nat_le 64 (live_count (map transport_of t.lines))) (nat_le 65535 (length (map transport_of t.lines)))
-    refl over refl refl refl))
+over_answer g c p b t reason s is = grind arith
 
 pub refusal_same : Awaits → (g : ℕ) (c : Connect) (p : TwoEnds) (b : Between) (t : Tables) (ended : Option EndReason) → Stands p b t → p.left.end.carrier.ended ≡ ended →
     answer_in (answer_with g (connect_error c p.left.end)) ≡ Some (refusal t (offer_in (asked_of c)))

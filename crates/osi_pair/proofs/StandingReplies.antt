@@ -109,22 +109,15 @@ opened_octets false x h = h
 
 pub goes_opened : (x : Standing) → ((m : Meaning) → x.waiting ≡ Some m → CanGo m) → IfSome x.waiting IsInOctets → GoesBy x opened
 unfolding react
-goes_opened x goes waits = record {
-  sends = λ m e. opened_by (is_wait_transport x.state.phase) x goes m e;
-  octets = opened_octets (is_wait_transport x.state.phase) x waits;
-}
+goes_opened x goes waits = grind arith
 
 refused_none : (b : Bool) (reason : ℕ) (x : Standing) → (if b then denied reason x else rests x).reply ≡ None
 refused_none true reason x = refl
 refused_none false reason x = refl
 
-refused_open : (b : Bool) (reason : ℕ) (x : Standing) → (if b then denied reason x else rests x).closes ≡ false
+pub refused_open : (b : Bool) (reason : ℕ) (x : Standing) → (if b then denied reason x else rests x).closes ≡ false
 refused_open true reason x = refl
 refused_open false reason x = refl
-
-refused_octets : (b : Bool) (reason : ℕ) (x : Standing) → IfSome x.waiting IsInOctets → IfSome (if b then denied reason x else rests x).next.waiting IsInOctets
-refused_octets true reason x h = h
-refused_octets false reason x h = h
 
 -- it sends and closes nothing
 pub silent_refused : (x : Standing) (reason : ℕ) → ((react x (refused reason)).reply ≡ None) × ((react x (refused reason)).closes ≡ false)
@@ -133,10 +126,7 @@ silent_refused x reason = (refused_none (is_wait_transport x.state.phase) reason
 
 pub goes_refused : (x : Standing) (reason : ℕ) → IfSome x.waiting IsInOctets → GoesBy x (refused reason)
 unfolding react silent_refused
-goes_refused x reason waits = record {
-  sends = λ m e. (let no : None ≡ Some m = sym (refused_none (is_wait_transport x.state.phase) reason x) ∙ e in absurd cc);
-  octets = refused_octets (is_wait_transport x.state.phase) reason x waits;
-}
+goes_refused x reason waits = grind arith
 
 refused_ended : (b : Bool) (reason : ℕ) (x : Standing) → b ≡ true → is_ended (if b then denied reason x else rests x).next.state.phase ≡ true
 refused_ended true reason x e = refl

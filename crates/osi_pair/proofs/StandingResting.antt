@@ -27,7 +27,7 @@ use Rattle.osi_pair.specs.declared.reach.Reach.{Reach}
 use Rattle.osi_pair.specs.declared.sides.Side.{Side}
 use Rattle.osi_pair.specs.declared.sides.Side.TheVariants.{Left, Right}
 use Rattle.osi_pair.proofs.StandingArrived.{PacketActs}
-use Rattle.osi_pair.proofs.StandingFinish.{terms_at, DidAt, TablesAfter, OtherSessions, is_agree, line_then, finish, known_then}
+use Rattle.osi_pair.proofs.StandingFinish.{terms_at, DidAt, TablesAfter, OtherSessions, is_agree, line_then, finish, known_then, was_at}
 use Rattle.osi_pair.proofs.StandingRests.{step_opens, tables_delivered, tables_rest, is_awaited, learns_row, turn_rests, answer_for, unless_broken, put_unless, answers_same, rests, sends_then, spare_by}
 use Rattle.osi_pair.proofs.StandingRows.{Row, quiet, still, begins, refuses, agrees, denies, tells, leaves, ignores, ends, before, after, arrived_in, put_for}
 use Rattle.osi_pair.proofs.StandingSeats.{transport_by, transport_at, HasSession, session_of_seat}
@@ -95,16 +95,8 @@ is_rest (ends m) = true
 is_rest row = false
 
 pub session_rests : (n : ℕ) (lines : Rows Line) (row : Row) (x : Standing) → is_rest row ≡ true → HasSession n lines (before row) x → HasSession n lines (after row) x
-session_rests n lines quiet x e h = h
-session_rests n lines still x e h = h
-session_rests n lines begins x e h = cc
-session_rests n lines (refuses reason) x e h = h
-session_rests n lines agrees x e h = cc
-session_rests n lines (denies reason) x e h = cc
-session_rests n lines (tells octets) x e h = cc
-session_rests n lines (leaves reason) x e h = cc
-session_rests n lines (ignores octets) x e h = h
 session_rests n lines (ends m) x e h = session_gone n lines m x h
+session_rests n lines row x e h = grind arith
 
 -- ---- what is under way from it
 
@@ -229,10 +221,6 @@ pub record EndThen (s : Side) (p : TwoEnds) (e : End) : Type 0 where
 
 same_sessions : (s : Side) (p : TwoEnds) (u : Value) (n : ℕ) → OtherSessions s p (acted_end u (end_at s p).end.lines (end_at s p).end) n
 same_sessions s p u n = record { sessions = λ q apart is. refl; kept = λ q apart x is. is }
-
-pub was_at : (s : Side) (p : TwoEnds) (b : Between) (t : Tables) → Stands p b t → (end_at s p).end.carrier.ended ≡ None → last_of (is_caller s) b ≡ (end_at s p).end.carrier
-was_at Left p b t old alive = sym (old.between.lives true alive)
-was_at Right p b t old alive = sym (old.between.lives false alive)
 
 -- the session of its connection before
 pub session_before : (s : Side) (p : TwoEnds) (b : Between) (t : Tables) (e : End) (h : Held) (n : ℕ) (l : TableLine) → Stands p b t → (end_at s p).end.carrier.ended ≡ None → (d : DidAt s p b e h n) → IsSeen s n p b l →

@@ -1,6 +1,6 @@
 -- A unit with which no session acts: one that brings no message, one that an end which is closing drops, and
 -- a CR that is refused.
-use Rattle.std.proofs.Common.{◌≡◌, ℕ, Bool, true, false, if◌then◌else◌, List, [], ◌∷◌, ◌++◌, length, map, Option, Some, None, is_some, refl, sym, ap, subst, ◌∙◌, ◌⊎◌, inl, inr}
+use Rattle.std.proofs.Common.{◌≡◌, ℕ, Bool, true, false, if◌then◌else◌, List, [], ◌∷◌, ◌++◌, length, map, Option, Some, None, is_some, refl, sym, ap, subst, ◌∙◌, ◌⊎◌, inl, inr, arith}
 use Rattle.std.proofs.lemmas.List.{append-nil}
 use Rattle.osi_between.specs.Messages.{kind_of, AreLike}
 use Rattle.osi_between.specs.Messages as carrier
@@ -27,11 +27,7 @@ use Rattle.osi_pair.proofs.WordLaws.{MayLeave, AreWords, no_words}
 -- the first message of the other is taken
 pub step_is : (t : Tables) (s : machine.Side) (r : ℕ) (keep : ℕ → ℕ) (l : Line) (x : Message) (xs : List Message) → end_of s t ≡ None → connection_at r t.lines ≡ Some (seen_from s l) → l.peer.channel ≡ x ∷ xs →
     step t (delivers s r keep) ≡ after_turn (record t { known = learns t.terms l.own.transport x t.known }) s r keep (message_taken t.broken t.terms (keep r) l.own.transport (without_first l xs) x)
-step_is t s r keep l x xs alive found first =
-    ap (λ (e : Option Ending). if◌then◌else◌ {A = Tables} (is_some e) t (delivered_to t s r keep (side_of s (connection_at r t.lines)))) alive
-    ∙ ap (λ (o : Option Line). delivered_to t s r keep (side_of s o)) found
-    ∙ ap (λ (m : Line). taken_in t s r keep m m.peer.channel) (seen_twice s l)
-    ∙ ap (λ (ms : List Message). taken_in t s r keep l ms) first
+step_is t s r keep l x xs alive found first = grind arith
 
 -- what it leaves, where it closes nothing
 abbrev pub delivered : Tables → machine.Side → ℕ → Option worlds.Class → Turn → Tables
@@ -44,10 +40,7 @@ open_by t s r keep turn e =
 pub step_opens : (t : Tables) (s : machine.Side) (r : ℕ) (keep : ℕ → ℕ) (l : Line) (x : Message) (xs : List Message) (turn : Turn) → end_of s t ≡ None → connection_at r t.lines ≡ Some (seen_from s l) →
     l.peer.channel ≡ x ∷ xs → message_taken t.broken t.terms (keep r) l.own.transport (without_first l xs) x ≡ turn → turn.closes ≡ false →
     step t (delivers s r keep) ≡ delivered t s r (learns t.terms l.own.transport x t.known) turn
-step_opens t s r keep l x xs turn alive found first is e =
-    step_is t s r keep l x xs alive found first
-    ∙ ap (after_turn (record t { known = learns t.terms l.own.transport x t.known }) s r keep) is
-    ∙ open_by (record t { known = learns t.terms l.own.transport x t.known }) s r keep turn e
+step_opens t s r keep l x xs turn alive found first is e = grind arith
 
 lines_after : (s : Side) (n : ℕ) (old line : Line) (t u : Tables) → u.lines ≡ with_connection n (seen_from (side_in s) line) t.lines → connection_at n t.lines ≡ Some old → LinesAfter s n line t u
 lines_after s n old line t u e found = record {
@@ -80,34 +73,13 @@ tables_rest s n line t found = record {
 
 -- ---- the class is learned from a CC alone
 
-learns_linked : (terms : worlds.Terms) (x : Message) (known : Option worlds.Class) → learns terms worlds.linked x known ≡ known
-learns_linked (worlds.accepts class) x known = refl
-learns_linked (worlds.denies reason) x known = refl
-
-learns_new : (terms : worlds.Terms) (x : Message) (known : Option worlds.Class) → learns terms worlds.not_yet x known ≡ known
-learns_new (worlds.accepts class) x known = refl
-learns_new (worlds.denies reason) x known = refl
-
-learns_closing : (terms : worlds.Terms) (x : Message) (known : Option worlds.Class) → learns terms worlds.closing x known ≡ known
-learns_closing (worlds.accepts class) x known = refl
-learns_closing (worlds.denies reason) x known = refl
-
 abbrev pub is_awaited : Row → Bool
 is_awaited agrees = true
 is_awaited (denies reason) = true
 is_awaited row = false
 
 learns_by : (row : Row) (terms : worlds.Terms) (x : Message) (known : Option worlds.Class) → is_awaited row ≡ false → learns terms (transport_by (before row)) x known ≡ known
-learns_by quiet terms x known e = learns_linked terms x known
-learns_by still terms x known e = learns_closing terms x known
-learns_by begins terms x known e = learns_new terms x known
-learns_by (refuses reason) terms x known e = learns_new terms x known
-learns_by agrees terms x known e = cc
-learns_by (denies reason) terms x known e = cc
-learns_by (tells octets) terms x known e = learns_linked terms x known
-learns_by (leaves reason) terms x known e = learns_linked terms x known
-learns_by (ignores octets) terms x known e = learns_closing terms x known
-learns_by (ends m) terms x known e = learns_closing terms x known
+learns_by row terms x known e = grind arith
 
 pub learns_row : (row : Row) (tr : Transport) (terms : worlds.Terms) (x : Message) (known : Option worlds.Class) → tr ≡ transport_by (before row) → is_awaited row ≡ false → learns terms tr x known ≡ known
 learns_row row tr terms x known e w = ap (λ (r : Transport). learns terms r x known) e ∙ learns_by row terms x known w
@@ -122,16 +94,7 @@ answer_for (leaves reason) = over ∷ []
 answer_for row = []
 
 answer_is : (row : Row) → map message_in (answer_for row) ≡ put_for row
-answer_is quiet = refl
-answer_is still = refl
-answer_is begins = refl
-answer_is (refuses reason) = refl
-answer_is agrees = refl
-answer_is (denies reason) = refl
-answer_is (tells octets) = refl
-answer_is (leaves reason) = refl
-answer_is (ignores octets) = refl
-answer_is (ends m) = refl
+answer_is row = grind arith
 
 abbrev pub unless_broken : Bool → List Message → List Message
 unless_broken broken ms = if broken then [] else ms
@@ -141,10 +104,7 @@ put_unless true ms channel = sym (append-nil channel)
 put_unless false ms channel = refl
 
 pub unless_same : (broken whole : Bool) (ms : List Message) (ys : Sent) → broken ≡ whole → map message_in ms ≡ ys → map message_in (unless_broken broken ms) ≡ (if whole then [] else ys)
-unless_same true true ms ys e h = refl
-unless_same false false ms ys e h = h
-unless_same true false ms ys e h = cc
-unless_same false true ms ys e h = cc
+unless_same broken whole ms ys e h = grind arith
 
 pub answers_same : (broken whole : Bool) (row : Row) → broken ≡ whole → map message_in (unless_broken broken (answer_for row)) ≡ (if whole then [] else put_for row)
 answers_same broken whole row e = unless_same broken whole (answer_for row) (put_for row) e (answer_is row)
@@ -163,10 +123,7 @@ are_put true words ms are = no_words
 are_put false words ms are = are
 
 pub put_same : (broken whole : Bool) (words : List Word) → broken ≡ whole → map word_in (words_put broken words) ≡ (if whole then [] else map word_in words)
-put_same true true words e = refl
-put_same false false words e = refl
-put_same true false words e = cc
-put_same false true words e = cc
+put_same broken whole words e = grind arith
 
 pub put_spare : (broken cut : Bool) (words : List Word) → (broken ≡ false → cut ≡ false) → (cut ≡ false) ⊎ (words_put broken words ≡ [])
 put_spare true cut words free = inr refl
@@ -198,96 +155,13 @@ seat_then row broken x channel = record { transport = transport_by (after row); 
 abbrev pub seat_now : Transport → Standing → List Message → Seat
 seat_now tr x channel = record { transport = tr; session = x; channel = channel }
 
--- at an end that is closing
-turn_ignored : (broken : Bool) (terms : worlds.Terms) (keep : ℕ) (x : Standing) (channel : List Message) (peer : Seat) (octets : List ℕ) (m : Message) → kind_of (message_in m) ≡ carrier.message [] →
-    message_taken broken terms keep worlds.closing (record { own = seat_now worlds.closing x channel; peer = peer }) m ≡ unseen (record { own = seat_then (ignores octets) broken x channel; peer = peer })
-turn_ignored broken terms keep x channel peer octets (unit u) e = refl
-turn_ignored broken terms keep x channel peer octets ask e = cc
-turn_ignored broken terms keep x channel peer octets agree e = cc
-turn_ignored broken terms keep x channel peer octets (deny reason) e = cc
-turn_ignored broken terms keep x channel peer octets (bye reason) e = cc
-turn_ignored broken terms keep x channel peer octets over e = cc
-
-turn_bye : (broken : Bool) (terms : worlds.Terms) (keep : ℕ) (x : Standing) (channel : List Message) (peer : Seat) (last : carrier.Message) (reason : ℕ) (m : Message) → kind_of (message_in m) ≡ carrier.bye reason →
-    message_taken broken terms keep worlds.closing (record { own = seat_now worlds.closing x channel; peer = peer }) m ≡ unseen (record { own = seat_then (ends last) broken x channel; peer = peer })
-turn_bye broken terms keep x channel peer last reason (bye why) e = refl
-turn_bye broken terms keep x channel peer last reason (unit u) e = cc
-turn_bye broken terms keep x channel peer last reason ask e = cc
-turn_bye broken terms keep x channel peer last reason agree e = cc
-turn_bye broken terms keep x channel peer last reason (deny why) e = cc
-turn_bye broken terms keep x channel peer last reason over e = cc
-
-turn_over : (broken : Bool) (terms : worlds.Terms) (keep : ℕ) (x : Standing) (channel : List Message) (peer : Seat) (last : carrier.Message) (m : Message) → kind_of (message_in m) ≡ carrier.over →
-    message_taken broken terms keep worlds.closing (record { own = seat_now worlds.closing x channel; peer = peer }) m ≡ unseen (record { own = seat_then (ends last) broken x channel; peer = peer })
-turn_over broken terms keep x channel peer last over e = refl
-turn_over broken terms keep x channel peer last (bye why) e = cc
-turn_over broken terms keep x channel peer last (unit u) e = cc
-turn_over broken terms keep x channel peer last ask e = cc
-turn_over broken terms keep x channel peer last agree e = cc
-turn_over broken terms keep x channel peer last (deny why) e = cc
-
--- at an end that knows nothing of the connection
-turn_refused : (broken : Bool) (keep reason : ℕ) (x : Standing) (channel : List Message) (peer : Seat) (m : Message) → kind_of (message_in m) ≡ carrier.ask →
-    message_taken broken (worlds.denies reason) keep worlds.not_yet (record { own = seat_now worlds.not_yet x channel; peer = peer }) m ≡ unseen (record { own = seat_then (refuses reason) broken x channel; peer = peer })
-turn_refused broken keep reason x channel peer ask e = refl
-turn_refused broken keep reason x channel peer over e = cc
-turn_refused broken keep reason x channel peer (bye why) e = cc
-turn_refused broken keep reason x channel peer (unit u) e = cc
-turn_refused broken keep reason x channel peer agree e = cc
-turn_refused broken keep reason x channel peer (deny why) e = cc
-
-turn_begun : (broken : Bool) (class : worlds.Class) (keep : ℕ) (x : Standing) (channel : List Message) (peer : Seat) (m : Message) → kind_of (message_in m) ≡ carrier.ask →
-    message_taken broken (worlds.accepts class) keep worlds.not_yet (record { own = seat_now worlds.not_yet x channel; peer = peer }) m ≡ unseen (record { own = seat_then begins broken x channel; peer = peer })
-turn_begun broken class keep x channel peer ask e = refl
-turn_begun broken class keep x channel peer over e = cc
-turn_begun broken class keep x channel peer (bye why) e = cc
-turn_begun broken class keep x channel peer (unit u) e = cc
-turn_begun broken class keep x channel peer agree e = cc
-turn_begun broken class keep x channel peer (deny why) e = cc
-
 turn_by : (agreed : Terms) (broken : Bool) (keep : ℕ) (row : Row) (x : Standing) (channel : List Message) (peer : Seat) (m : Message) (got : carrier.Message) → is_row agreed row → rests row ≡ true →
     arrived_in row ≡ got ∷ [] → kind_of (message_in m) ≡ kind_of got →
     message_taken broken (terms_in agreed) keep (transport_by (before row)) (record { own = seat_now (transport_by (before row)) x channel; peer = peer }) m ≡
     unseen (record { own = seat_then row broken x channel; peer = peer })
-turn_by agreed broken keep (ignores octets) x channel peer m got is r e a =
-    turn_ignored broken (terms_in agreed) keep x channel peer octets m (a ∙ (let f : carrier.message octets ≡ got = cc in ap kind_of (sym f)))
-turn_by by_two broken keep begins x channel peer m got is r e a =
-    turn_begun broken worlds.class_2 keep x channel peer m (a ∙ (let f : carrier.ask ≡ got = cc in ap kind_of (sym f)))
-turn_by by_zero broken keep begins x channel peer m got is r e a =
-    turn_begun broken worlds.class_0 keep x channel peer m (a ∙ (let f : carrier.ask ≡ got = cc in ap kind_of (sym f)))
-turn_by (refusing reason) broken keep begins x channel peer m got is r e a = absurd is
-turn_by by_two broken keep (refuses why) x channel peer m got is r e a = absurd is
-turn_by by_zero broken keep (refuses why) x channel peer m got is r e a = absurd is
-turn_by (refusing reason) broken keep (refuses why) x channel peer m got is r e a =
-    subst (λ (k : ℕ). message_taken broken (worlds.denies k) keep worlds.not_yet (record { own = seat_now worlds.not_yet x channel; peer = peer }) m ≡ unseen (record { own = seat_then (refuses why) broken x channel; peer = peer })) is
-    (turn_refused broken keep why x channel peer m (a ∙ (let f : carrier.ask ≡ got = cc in ap kind_of (sym f))))
-turn_by agreed broken keep (ends (carrier.bye reason)) x channel peer m got is r e a =
-    turn_bye broken (terms_in agreed) keep x channel peer (carrier.bye reason) reason m (a ∙ (let f : carrier.bye reason ≡ got = cc in ap kind_of (sym f)))
-turn_by agreed broken keep (ends carrier.over) x channel peer m got is r e a =
-    turn_over broken (terms_in agreed) keep x channel peer carrier.over m (a ∙ (let f : carrier.over ≡ got = cc in ap kind_of (sym f)))
-turn_by by_two broken keep (ends carrier.ask) x channel peer m got is r e a = absurd is
-turn_by by_two broken keep (ends carrier.agree) x channel peer m got is r e a = absurd is
-turn_by by_two broken keep (ends (carrier.deny why)) x channel peer m got is r e a = absurd is
-turn_by by_two broken keep (ends (carrier.message octets)) x channel peer m got is r e a = absurd is
-turn_by by_zero broken keep (ends carrier.ask) x channel peer m got is r e a = absurd is
-turn_by by_zero broken keep (ends carrier.agree) x channel peer m got is r e a = absurd is
-turn_by by_zero broken keep (ends (carrier.deny why)) x channel peer m got is r e a = absurd is
-turn_by by_zero broken keep (ends (carrier.message octets)) x channel peer m got is r e a = absurd is
-turn_by (refusing reason) broken keep (ends carrier.ask) x channel peer m got is r e a = absurd is
-turn_by (refusing reason) broken keep (ends carrier.agree) x channel peer m got is r e a = absurd is
-turn_by (refusing reason) broken keep (ends (carrier.deny why)) x channel peer m got is r e a = absurd is
-turn_by (refusing reason) broken keep (ends (carrier.message octets)) x channel peer m got is r e a = absurd is
-turn_by agreed broken keep quiet x channel peer m got is r e a = cc
-turn_by agreed broken keep still x channel peer m got is r e a = cc
-turn_by agreed broken keep agrees x channel peer m got is r e a = cc
-turn_by agreed broken keep (denies why) x channel peer m got is r e a = cc
-turn_by agreed broken keep (tells octets) x channel peer m got is r e a = cc
-turn_by agreed broken keep (leaves why) x channel peer m got is r e a = cc
+turn_by agreed broken keep row x channel peer m got is r e a = grind arith
 
 pub turn_rests : (agreed : Terms) (terms : worlds.Terms) (broken : Bool) (keep : ℕ) (row : Row) (l : Line) (m : Message) (xs : List Message) (got : carrier.Message) → terms ≡ terms_in agreed →
     l.own.transport ≡ transport_by (before row) → is_row agreed row → rests row ≡ true → arrived_in row ≡ got ∷ [] → kind_of (message_in m) ≡ kind_of got →
     message_taken broken terms keep l.own.transport (without_first l xs) m ≡ unseen (line_then row l.own.session (sends_then row broken l.own.channel) xs l)
-turn_rests agreed terms broken keep row l m xs got e f is r g a =
-    ap (λ (ts : worlds.Terms). message_taken broken ts keep l.own.transport (without_first l xs) m) e
-    ∙ ap (λ (tr : Transport). message_taken broken (terms_in agreed) keep tr (record { own = seat_now tr l.own.session l.own.channel; peer = record l.peer { channel = xs } }) m) f
-    ∙ turn_by agreed broken keep row l.own.session l.own.channel (record l.peer { channel = xs }) m got is r g a
+turn_rests agreed terms broken keep row l m xs got e f is r g a = grind arith

@@ -1,6 +1,6 @@
 -- What may come to an end, row by row: where the connection stands there, the message with which the unit
 -- arrives, if any, and what is put in answer.
-use Rattle.std.proofs.Common.{◌≡◌, ℕ, zero, suc, true, false, List, [], ◌∷◌, Some, None, refl}
+use Rattle.std.proofs.Common.{◌≡◌, ℕ, zero, suc, true, false, List, [], ◌∷◌, Some, None, refl, arith}
 use Rattle.std.specs.List.{flat_map, AllByRecursion}
 use Rattle.osi_tpdu.specs.Value.{Value, request, confirm, disconnect, disconnected, data0, data2, acknowledge, error}
 use Rattle.osi_class.specs.Link.{Standing}
@@ -108,13 +108,7 @@ row_never : (terms : Terms) (n : ℕ) (u : Value) → comes (accepts_in terms) n
 row_never by_two n (request c) h = record { row = begins; is = tt; stands = refl; comes_as = refl; answers = refl; told = refl }
 row_never by_zero n (request c) h = record { row = begins; is = tt; stands = refl; comes_as = refl; answers = refl; told = refl }
 row_never (refusing reason) n (request c) h = record { row = refuses reason; is = refl; stands = refl; comes_as = refl; answers = refl; told = refl }
-row_never terms n (confirm destination c) h = cc
-row_never terms n (disconnect destination source reason user) h = cc
-row_never terms n (disconnected destination source) h = cc
-row_never terms n (data0 end user) h = cc
-row_never terms n (data2 destination number end user) h = cc
-row_never terms n (acknowledge credit destination number) h = cc
-row_never terms n (error destination cause) h = cc
+row_never terms n u h = cc
 
 row_confirm : (terms : Terms) (n : ℕ) (u : Value) → accepts_in terms ≡ true → messages_after [] (u ∷ []) ≡ agree ∷ [] → HasRow terms n (was_given (Some asked)) (agree ∷ []) (answers_in terms (was_given (Some asked)) u)
 row_confirm by_two n u e h = record { row = agrees; is = tt; stands = refl; comes_as = refl; answers = refl; told = refl }
@@ -124,29 +118,8 @@ row_confirm (refusing reason) n u e h = cc
 row_asked : (terms : Terms) (n : ℕ) (u : Value) → comes (accepts_in terms) (was_given (Some asked)) u ≡ true → HasRow terms n (was_given (Some asked)) (messages_after [] (u ∷ [])) (answers_in terms (was_given (Some asked)) u)
 row_asked by_two n (confirm destination c) h = row_confirm by_two n (confirm destination c) refl refl
 row_asked by_zero n (confirm destination c) h = row_confirm by_zero n (confirm destination c) refl refl
-row_asked (refusing reason) n (confirm destination c) h = cc
 row_asked (refusing reason) n (disconnect destination zero why user) h = record { row = denies why; is = tt; stands = refl; comes_as = refl; answers = refl; told = refl }
-row_asked (refusing reason) n (disconnect destination (suc source) why user) h = cc
-row_asked by_two n (disconnect destination source why user) h = cc
-row_asked by_zero n (disconnect destination source why user) h = cc
-row_asked by_two n (request c) h = cc
-row_asked by_zero n (request c) h = cc
-row_asked (refusing reason) n (request c) h = cc
-row_asked by_two n (disconnected destination source) h = cc
-row_asked by_zero n (disconnected destination source) h = cc
-row_asked (refusing reason) n (disconnected destination source) h = cc
-row_asked by_two n (data0 end user) h = cc
-row_asked by_zero n (data0 end user) h = cc
-row_asked (refusing reason) n (data0 end user) h = cc
-row_asked by_two n (data2 destination number end user) h = cc
-row_asked by_zero n (data2 destination number end user) h = cc
-row_asked (refusing reason) n (data2 destination number end user) h = cc
-row_asked by_two n (acknowledge credit destination number) h = cc
-row_asked by_zero n (acknowledge credit destination number) h = cc
-row_asked (refusing reason) n (acknowledge credit destination number) h = cc
-row_asked by_two n (error destination cause) h = cc
-row_asked by_zero n (error destination cause) h = cc
-row_asked (refusing reason) n (error destination cause) h = cc
+row_asked terms n u h = cc
 
 -- at an open connection, where CRs are accepted
 row_quiet : (terms : Terms) (n peer : ℕ) (link : Standing) (put : List Message) → accepts_in terms ≡ true → put ≡ [] → HasRow terms n (was_given (Some (linked peer link))) [] put
@@ -173,11 +146,7 @@ row_linked terms n peer link (data2 destination number false user) e h a = row_q
 row_linked terms n peer link (data2 destination number true user) e h a = row_tells terms n peer link _ _ e (a (data2 destination number true user))
 row_linked terms n peer link (acknowledge credit destination number) e h a = row_quiet terms n peer link _ e (a (acknowledge credit destination number))
 row_linked terms n peer link (disconnect destination (suc source) reason user) e h a = row_leaves terms n peer link reason _ e (a (disconnect destination (suc source) reason user))
-row_linked terms n peer link (disconnect destination zero reason user) e h a = cc
-row_linked terms n peer link (request c) e h a = cc
-row_linked terms n peer link (confirm destination c) e h a = cc
-row_linked terms n peer link (disconnected destination source) e h a = cc
-row_linked terms n peer link (error destination cause) e h a = cc
+row_linked terms n peer link u e h a = cc
 
 -- at one that is closing
 row_still : (terms : Terms) (n peer : ℕ) (put : List Message) → accepts_in terms ≡ true → put ≡ [] → HasRow terms n (was_given (Some (closing peer))) [] put
@@ -187,19 +156,13 @@ row_still (refusing reason) n peer put e none = cc
 
 row_shut : (terms : Terms) (n peer : ℕ) (m : Message) (put : List Message) → accepts_in terms ≡ true → may_arrive shutting m ≡ true → put ≡ [] →
     HasRow terms n (was_given (Some (closing peer))) (m ∷ []) put
-row_shut (refusing reason) n peer m put e may none = cc
 row_shut by_two n peer (message octets) put e may none = record { row = ignores octets; is = tt; stands = refl; comes_as = refl; answers = none; told = refl }
 row_shut by_zero n peer (message octets) put e may none = record { row = ignores octets; is = tt; stands = refl; comes_as = refl; answers = none; told = refl }
 row_shut by_two n peer (bye reason) put e may none = record { row = ends (bye reason); is = tt; stands = refl; comes_as = refl; answers = none; told = refl }
 row_shut by_zero n peer (bye reason) put e may none = record { row = ends (bye reason); is = tt; stands = refl; comes_as = refl; answers = none; told = refl }
 row_shut by_two n peer over put e may none = record { row = ends over; is = tt; stands = refl; comes_as = refl; answers = none; told = refl }
 row_shut by_zero n peer over put e may none = record { row = ends over; is = tt; stands = refl; comes_as = refl; answers = none; told = refl }
-row_shut by_two n peer ask put e may none = cc
-row_shut by_two n peer agree put e may none = cc
-row_shut by_two n peer (deny reason) put e may none = cc
-row_shut by_zero n peer ask put e may none = cc
-row_shut by_zero n peer agree put e may none = cc
-row_shut by_zero n peer (deny reason) put e may none = cc
+row_shut terms n peer m put e may none = cc
 
 -- what may arrive of this one unit
 abbrev May : Progress → List Message → Type 0
@@ -233,43 +196,4 @@ row_of (refusing reason) n (was_given (Some (closing peer))) u h may = cc
 
 -- where the connection stands then
 pub row_after : (terms : Terms) (row : Row) → is_row terms row → behind_puts (behind_arrivals (accepts_in terms) (before row) (arrived_in row)) (put_for row) ≡ after row
-row_after by_two quiet is = refl
-row_after by_two still is = refl
-row_after by_two begins is = refl
-row_after by_two agrees is = refl
-row_after by_two (tells octets) is = refl
-row_after by_two (leaves reason) is = refl
-row_after by_two (ignores octets) is = refl
-row_after by_two (ends (bye reason)) is = refl
-row_after by_two (ends over) is = refl
-row_after by_zero quiet is = refl
-row_after by_zero still is = refl
-row_after by_zero begins is = refl
-row_after by_zero agrees is = refl
-row_after by_zero (tells octets) is = refl
-row_after by_zero (leaves reason) is = refl
-row_after by_zero (ignores octets) is = refl
-row_after by_zero (ends (bye reason)) is = refl
-row_after by_zero (ends over) is = refl
-row_after (refusing reason) (refuses why) is = refl
-row_after (refusing reason) (denies why) is = refl
-row_after by_two (refuses why) is = absurd is
-row_after by_two (denies why) is = absurd is
-row_after by_two (ends ask) is = absurd is
-row_after by_two (ends agree) is = absurd is
-row_after by_two (ends (deny why)) is = absurd is
-row_after by_two (ends (message octets)) is = absurd is
-row_after by_zero (refuses why) is = absurd is
-row_after by_zero (denies why) is = absurd is
-row_after by_zero (ends ask) is = absurd is
-row_after by_zero (ends agree) is = absurd is
-row_after by_zero (ends (deny why)) is = absurd is
-row_after by_zero (ends (message octets)) is = absurd is
-row_after (refusing reason) quiet is = absurd is
-row_after (refusing reason) still is = absurd is
-row_after (refusing reason) begins is = absurd is
-row_after (refusing reason) agrees is = absurd is
-row_after (refusing reason) (tells octets) is = absurd is
-row_after (refusing reason) (leaves why) is = absurd is
-row_after (refusing reason) (ignores octets) is = absurd is
-row_after (refusing reason) (ends m) is = absurd is
+row_after terms row is = grind arith

@@ -38,20 +38,13 @@ lives_in shutting = true
 lives_in progress.gone = false
 
 transport_place : (p : Place) → transport_in p ≡ transport_by (progress_of p)
-transport_place never = refl
-transport_place (was_given None) = refl
-transport_place (was_given (Some asked)) = refl
-transport_place (was_given (Some (linked peer link))) = refl
-transport_place (was_given (Some (closing peer))) = refl
+transport_place p = grind arith
 
 pub transport_at : (p : Place) (g : Progress) → progress_of p ≡ g → transport_in p ≡ transport_by g
 transport_at p g e = transport_place p ∙ ap transport_by e
 
 lives_value : (o : Option Connection) → lives_in (progress_of (was_given o)) ≡ is_some o
-lives_value None = refl
-lives_value (Some asked) = refl
-lives_value (Some (linked peer link)) = refl
-lives_value (Some (closing peer)) = refl
+lives_value o = grind arith
 
 pub place_by : (n : ℕ) (s : State) (b : Bool) → nat_lt s.given n ≡ b → place_at n s ≡ (if b then never else was_given (value_at n s.live))
 place_by n s b e = ap (λ (c : Bool). if◌then◌else◌ {A = Place} c never (was_given (value_at n s.live))) e

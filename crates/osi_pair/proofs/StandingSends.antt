@@ -1,5 +1,5 @@
 -- An end sends a unit on an open connection: the tables put it.
-use Rattle.std.proofs.Common.{◌≡◌, ℕ, Bool, true, false, List, [], ◌∷◌, Some, None, is_some, refl, sym, ap, subst, ◌∙◌}
+use Rattle.std.proofs.Common.{◌≡◌, ℕ, Bool, true, false, List, [], ◌∷◌, Some, None, is_some, refl, sym, ap, subst, ◌∙◌, arith}
 use Rattle.osi_tpkt.specs.Octets.{IsOctets}
 use Rattle.osi_class.specs.Between.{IsShortTsdu}
 use Rattle.osi_class.specs.Link.{Standing as Link}
@@ -24,7 +24,7 @@ use Rattle.osi_pair.specs.Sides.{other}
 use Rattle.osi_pair.specs.Standing.{side_in, is_caller, carriers_of, IsInOrder, Stands, HasJoined}
 use Rattle.osi_pair.specs.declared.sides.Side.{Side}
 use Rattle.osi_pair.specs.declared.sides.Side.TheVariants.{Left, Right}
-use Rattle.osi_pair.proofs.StandingActed.{ActsOn, CarrierActs, end_with, pair_with, ways_at, acted_line, acted_stands, seen_at, session_in_use, stood_in_use, stands_now, live_place, OutNow}
+use Rattle.osi_pair.proofs.StandingActed.{ActsOn, CarrierActs, end_with, pair_with, ways_at, acted_line, acted_stands, seen_at, session_in_use, stood_in_use, stands_now, OutNow, acted_by}
 use Rattle.osi_pair.proofs.StandingActs.{StandsOn}
 use Rattle.osi_pair.proofs.StandingArrived.{CarrierLaws}
 use Rattle.osi_pair.proofs.StandingCall.{open_is, sent_is}
@@ -35,49 +35,31 @@ use Rattle.osi_pair.proofs.StandingSeats.{transport_at}
 use Rattle.osi_pair.proofs.StandingTurned.{IsSeen, with_holding, GoesTo}
 use Rattle.osi_pair.proofs.StandingWays.{out_keeps}
 use Rattle.osi_pair.proofs.StandingCut.{cut_none, end_out}
+use Rattle.osi_between.proofs.JoinedMoves.{given_live}
+use Rattle.osi_pair.proofs.StandingPacket.{both_carrier}
 
 -- ---- the carrier
 
 pub sent_acts : (n : ℕ) (tsdu : List ℕ) (c : State) (peer : ℕ) (link : Link) → c.ended ≡ None → value_at n c.live ≡ Some (linked peer link) → ActsOn n in_use c (sent n tsdu c)
-sent_acts n tsdu c peer link alive at =
-    let k = sent_is n tsdu c peer link (open_is n c peer link alive at) in
-    record {
-      is_caller = k.is_caller;
-      local = k.local;
-      class = k.class;
-      given = k.given;
-      lasts = k.ended ∙ alive;
-      connection = linked k.peer k.link;
-      live = k.live;
-      progress = refl;
-    }
+sent_acts n tsdu c peer link alive at = grind arith
 
 abbrev pub SendActs : Side → TwoEnds → Between → ℕ → List ℕ → Type 0
 SendActs s p b n tsdu = CarrierActs s p b n in_use (sent n tsdu (end_at s p).end.carrier) (carrier.message tsdu ∷ [])
 
 pub send_acts : CarrierLaws → (s : Side) (p : TwoEnds) (b : Between) (t : Tables) (n peer : ℕ) (link : Link) (tsdu : List ℕ) → Stands p b t → (end_at s p).end.carrier.ended ≡ None →
     value_at n (end_at s p).end.carrier.live ≡ Some (linked peer link) → IsShortTsdu tsdu → IsOctets tsdu → SendActs s p b n tsdu
-send_acts laws Left p b t n peer link tsdu old alive at short octets =
-    let a = laws.handed_in (terms_at p) true (carriers_of p) b n peer link tsdu old.between alive at short octets in
+send_acts laws s p b t n peer link tsdu old alive at short octets =
+    let c = both_carrier s p in
+    let a = acted_by s p b n (terms_at p) (sent n tsdu) (carrier.message tsdu ∷ [])
+    (laws.handed_in (terms_at p) (is_caller s) (carriers_of p) b n peer link tsdu old.between (ap (λ (x : State). x.ended) c ∙ alive) (ap (λ (x : State). value_at n x.live) c ∙ at) short octets) in
     record {
-      on = sent_acts n tsdu p.left.end.carrier peer link alive at;
+      on = sent_acts n tsdu (end_at s p).end.carrier peer link alive at;
       was = linked peer link;
       at = at;
       used = refl;
       now = a.now;
       between = a.between;
-      ways = ways_at Left n p (pair_with Left (sent n tsdu p.left.end.carrier) p) b a.now (carrier.message tsdu ∷ []) a.carries;
-    }
-send_acts laws Right p b t n peer link tsdu old alive at short octets =
-    let a = laws.handed_in (terms_at p) false (carriers_of p) b n peer link tsdu old.between alive at short octets in
-    record {
-      on = sent_acts n tsdu p.right.end.carrier peer link alive at;
-      was = linked peer link;
-      at = at;
-      used = refl;
-      now = a.now;
-      between = a.between;
-      ways = ways_at Right n p (pair_with Right (sent n tsdu p.right.end.carrier) p) b a.now (carrier.message tsdu ∷ []) a.carries;
+      ways = ways_at s n p (pair_with s (sent n tsdu (end_at s p).end.carrier) p) b a.now (carrier.message tsdu ∷ []) a.carries;
     }
 
 -- ---- what is under way from it
@@ -119,7 +101,7 @@ sends_stand laws s p b t n peer link m l old alive at short octets found order =
     let i = seen_at s p b t n l old found in
     let x = session_in_use s p b t n (linked peer link) l old alive at refl i in
     let open_now : l.own.transport ≡ worlds.linked =
-    i.here.transport ∙ transport_at (place_at n (end_at s p).end.carrier) in_use (ap progress_of (live_place n (end_at s p).end.carrier (linked peer link) (order_of s p b t old alive).sound.orderly at)) in
+    i.here.transport ∙ transport_at (place_at n (end_at s p).end.carrier) in_use (ap progress_of (given_live n (end_at s p).end.carrier (linked peer link) (order_of s p b t old alive).sound.orderly at)) in
     subst (λ (y : Line). StandsOn (pair_with s c p) (stays t (side_in s) n y)) (line_sends t.broken m l open_now)
     (acted_stands s p b t n in_use c (carrier.message (written m) ∷ []) (put t.broken (unit m ∷ []) l.own.channel) l old alive a order found x (out_sends s p b t n m l old alive a order i))
 

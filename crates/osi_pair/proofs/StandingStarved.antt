@@ -1,5 +1,5 @@
 -- Memory is wanted for what the carrier of an end told: how two ends stand then, by what arrived.
-use Rattle.std.proofs.Common.{◌≡◌, ℕ, Bool, true, false, not, ◌||◌, if◌then◌else◌, List, [], ◌∷◌, ◌++◌, map, take, Option, None, IfSome, refl, sym, ap, subst, ◌∙◌, ◌⊎◌, inl, inr}
+use Rattle.std.proofs.Common.{◌≡◌, ℕ, Bool, true, false, not, ◌||◌, if◌then◌else◌, List, [], ◌∷◌, ◌++◌, map, take, Option, None, IfSome, refl, sym, ap, subst, ◌∙◌, ◌⊎◌, inl, inr, arith}
 use Rattle.std.specs.List.{list_any}
 use Rattle.std.proofs.lemmas.List.{append-nil}
 use Rattle.osi_tpkt.specs.Held.{Held}
@@ -79,12 +79,6 @@ record IsLone (row : Row) : Type 0 where
   stays : leaves_use (before row) (after row) ≡ false
   sends : (broken : Bool) (channel : List Message) → sends_then row broken channel ≡ channel
 
-tells_lone : (octets : List ℕ) → IsLone (tells octets)
-tells_lone octets = record { given = refl; agree = refl; stays = refl; sends = λ b c. refl }
-
-denies_lone : (reason : ℕ) → IsLone (denies reason)
-denies_lone reason = record { given = refl; agree = refl; stays = refl; sends = λ b c. refl }
-
 lone_shown : PacketLaws → TakeLaws → (s : Side) (p : TwoEnds) (b : Between) (t : Tables) (packet : List ℕ) (h held : Held) → Stands p b t → IsTableRun t → (end_at s p).end.carrier.ended ≡ None →
     (pa : PacketActs (terms_at p) (is_caller s) (carriers_of p) b packet h.octets) → IsLone pa.did.row → StandsShown s p t (lost_end NoMemory (told_all pa.unit (end_at s p).end).carrier (end_at s p).end.lines) held
 lone_shown laws takes s p b t packet h held old run alive pa lone =
@@ -138,11 +132,7 @@ begins_shown laws takes s p b t packet h held old run alive pa begun =
 -- ---- a CC: the session sends its CN, which the end takes away
 
 wait_shows : (q : Phase) → is_wait_transport q ≡ true → shows_loss q ≡ true
-wait_shows q h = shows_of (shows_loss q) (excluded is_wait_transport (λ x. not (shows_loss x)) refl q h)
-  where
-    shows_of : (b : Bool) → not b ≡ false → b ≡ true
-    shows_of true e = refl
-    shows_of false e = cc
+wait_shows q h = grind arith
 
 shown_nothing_by : (b : Bool) (x : Standing) → (if b then begun x else stays_so x).shown ≡ []
 shown_nothing_by true x = refl
@@ -212,12 +202,7 @@ agrees_shown laws takes s p b t packet h held old run alive pa agreed =
 -- ---- a DR that closes: a DC is put in answer
 
 bye_is : (m : Message) (reason : ℕ) → kind_of (message_in m) ≡ carrier.bye reason → m ≡ bye reason
-bye_is (bye why) reason e = let same : why ≡ reason = cc in ap bye same
-bye_is ask reason e = absurd cc
-bye_is agree reason e = absurd cc
-bye_is (unit u) reason e = absurd cc
-bye_is (deny why) reason e = absurd cc
-bye_is over reason e = absurd cc
+bye_is m reason e = grind arith
 
 -- what the tables do
 abbrev left_turn : Bool → ℕ → Line → Turn
@@ -332,16 +317,7 @@ abbrev TellsOne : ℕ → Row → Type 0
 TellsOne n row = IsLone row ⊎ ((row ≡ begins) ⊎ ((row ≡ agrees) ⊎ ((reason : ℕ) × (row ≡ leaves reason))))
 
 tells_one : (n : ℕ) (row : Row) (x : Happening) → told_for n row ≡ x ∷ [] → TellsOne n row
-tells_one n quiet x e = absurd cc
-tells_one n still x e = absurd cc
-tells_one n begins x e = inr (inl refl)
-tells_one n (refuses reason) x e = absurd cc
-tells_one n agrees x e = inr (inr (inl refl))
-tells_one n (denies reason) x e = inl (denies_lone reason)
-tells_one n (tells octets) x e = inl (tells_lone octets)
-tells_one n (leaves reason) x e = inr (inr (inr (reason, refl)))
-tells_one n (ignores octets) x e = absurd cc
-tells_one n (ends m) x e = absurd cc
+tells_one n row x e = grind arith
 
 pub record StarveLaws : Type 0 where
   pub packet : PacketLaws

@@ -1,5 +1,5 @@
 -- A packet is taken: how two ends stand at a list of steps, when its users were shown what came of it.
-use Rattle.std.proofs.Common.{◌≡◌, ℕ, false, List, [], ◌∷◌, ◌++◌, Option, None, refl, sym, ap, subst, ◌∙◌}
+use Rattle.std.proofs.Common.{◌≡◌, ℕ, false, List, [], ◌∷◌, ◌++◌, Option, None, refl, sym, ap, subst, ◌∙◌, arith}
 use Rattle.std.specs.List.{AllByRecursion}
 use Rattle.osi_tpkt.specs.Held.{Held}
 use Rattle.osi_tpkt.specs.Packet.{IsPacket}
@@ -22,20 +22,17 @@ use Rattle.osi_pair.specs.Telling.{waiting_in, quieted, told_entries}
 use Rattle.osi_pair.specs.declared.sides.Side.{Side}
 use Rattle.osi_pair.proofs.StandingArrived.{PacketActs, packet_acts}
 use Rattle.osi_pair.proofs.StandingFinish.{terms_at, order_of}
-use Rattle.osi_pair.proofs.StandingPacket.{PacketLaws, StandsBehind, is_heard, unheard_packet, terms_then, run_behind, both_carrier, both_held}
+use Rattle.osi_pair.proofs.StandingPacket.{PacketLaws, StandsBehind, is_heard, unheard_packet, terms_then, both_carrier, both_held}
 use Rattle.osi_pair.proofs.StandingQuiet.{quiet_same}
 use Rattle.osi_pair.proofs.StandingShown.{shown_pair, StandsShown}
 use Rattle.osi_pair.proofs.StandingTurned.{with_holding, turned_pair}
+use Rattle.osi_pair.proofs.StandingBreak.{run_behind}
 
 -- ---- nothing is shown
 
 are_arrivals : (s : machine.Side) (xs : List Step) → AreDeliveries s xs → AreArrivals s xs
-are_arrivals s [] d = tt
 are_arrivals s (delivers q r keep ∷ xs) d = (d.0, are_arrivals s xs d.1)
-are_arrivals s (connects o ∷ xs) d = absurd d
-are_arrivals s (calls q r c ∷ xs) d = absurd d
-are_arrivals s (breaks k l ∷ xs) d = absurd d
-are_arrivals s (ends_side q e keep ∷ xs) d = absurd d
+are_arrivals s xs d = search
 
 -- an end that lasts, and of which nothing waits
 pub shown_nothing : (s : Side) (p : TwoEnds) (e : End) (h : Held) (n : ℕ) → e.carrier.ended ≡ None → waiting_in e.lines ≡ [] → shown_pair s e h p ≡ turned_pair s e h n [] p
@@ -70,19 +67,13 @@ is_run p steps at = record { agreed = _; steps = steps; numbered = at.numbered; 
 
 -- what arrives has no number
 numbered_then : (s : machine.Side) (xs ys : List Step) → AllByRecursion HasNumber xs → AreArrivals s ys → AllByRecursion HasNumber (xs ++ ys)
-numbered_then s [] [] a d = tt
 numbered_then s [] (delivers q r keep ∷ ys) a d = (tt, numbered_then s [] ys tt d.1)
 numbered_then s [] (ends_side q e keep ∷ ys) a d = subst (λ (l : List Step). AllByRecursion HasNumber (ends_side q e keep ∷ l)) (sym d.2) (tt, tt)
-numbered_then s [] (connects o ∷ ys) a d = absurd d
-numbered_then s [] (calls q r c ∷ ys) a d = absurd d
-numbered_then s [] (breaks k l ∷ ys) a d = absurd d
 numbered_then s (x ∷ xs) ys a d = (a.0, numbered_then s xs ys a.1 d)
+numbered_then s xs ys a d = search
 
 terms_shown : (s : Side) (p : TwoEnds) (e : End) (h : Held) → e.carrier.local ≡ (end_at s p).end.carrier.local → terms_at (shown_pair s e h p) ≡ terms_at p
-terms_shown s p e h same = terms_noted s p e h ∙ terms_then s p (record e { lines = quieted e.lines }) h same
-  where
-    terms_noted : (s : Side) (p : TwoEnds) (e : End) (h : Held) → terms_at (shown_pair s e h p) ≡ terms_at (with_holding s (record e { lines = quieted e.lines }) h p)
-    terms_noted s p e h = refl
+terms_shown s p e h same = grind arith
 
 pub arrivals_at : (s : Side) (p : TwoEnds) (steps : List Step) (e : End) (h : Held) → StandsAt p steps → StandsShown s p (tables_at p steps) e h → StandsAtArrivals s (shown_pair s e h p) steps
 arrivals_at s p steps e h at x =

@@ -1,5 +1,5 @@
 -- A packet is taken by an end that lasts: however it is heard, two ends stand at what arrived.
-use Rattle.std.proofs.Common.{◌≡◌, ℕ, Bool, true, false, List, ◌++◌, None, refl, ◌⊎◌, inl, inr}
+use Rattle.std.proofs.Common.{◌≡◌, ℕ, Bool, true, false, List, ◌++◌, None, refl, ◌⊎◌, inl, inr, arith}
 use Rattle.osi_tpkt.specs.Held.{Held}
 use Rattle.osi_tpkt.specs.Packet.{IsPacket}
 use Rattle.osi_carrier.specs.declared.ends.EndReason.TheVariants.{NoMemory}
@@ -31,16 +31,7 @@ use Rattle.osi_pair.proofs.StandingParts.{part_shown}
 
 -- a session hears of it: it makes its move, or its connection is lost
 heard_kind : (row : Row) → is_heard row ≡ true → (is_move row ≡ true) ⊎ ((reason : ℕ) × (row ≡ leaves reason))
-heard_kind agrees e = inl refl
-heard_kind (denies reason) e = inl refl
-heard_kind (tells octets) e = inl refl
-heard_kind (leaves reason) e = inr (reason, refl)
-heard_kind quiet e = cc
-heard_kind still e = cc
-heard_kind begins e = cc
-heard_kind (refuses reason) e = cc
-heard_kind (ignores octets) e = cc
-heard_kind (ends m) e = cc
+heard_kind row e = grind arith
 
 heard_shown : MovingLaws → AnswerLaws → (s : Side) (p : TwoEnds) (b : Between) (t : Tables) (packet : List ℕ) (h : Held) → Stands p b t → IsTableRun t → (end_at s p).end.carrier.ended ≡ None →
     (pa : PacketActs (terms_at p) (is_caller s) (carriers_of p) b packet h.octets) → ArrivesAt s p b t packet h pa → ((is_move pa.did.row ≡ true) ⊎ ((reason : ℕ) × (pa.did.row ≡ leaves reason))) →

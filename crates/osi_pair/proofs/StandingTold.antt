@@ -1,5 +1,5 @@
 -- A side that is told of the break ends as the machine says.
-use Rattle.std.proofs.Common.{◌≡◌, refl, sym, ◌∙◌, ap, subst, ℕ, Bool, true, if◌then◌else◌, not, ◌||◌, List, [], ◌∷◌, ◌++◌, Option, Some, None, option_map, is_some}
+use Rattle.std.proofs.Common.{◌≡◌, refl, sym, ◌∙◌, ap, subst, ℕ, Bool, true, if◌then◌else◌, not, ◌||◌, List, [], ◌∷◌, ◌++◌, Option, Some, None, option_map, is_some, arith}
 use Rattle.std.specs.List.{AllByRecursion}
 use Rattle.osi_carrier.specs.Rows.{Rows}
 use Rattle.osi_carrier.specs.declared.ends.EndReason.{EndReason}
@@ -14,11 +14,11 @@ use Rattle.osi_stack.specs.Calls.{breaks}
 use Rattle.osi_stack.specs.Hearing as hearing
 use Rattle.osi_stack.specs.State.{End, Holding}
 use Rattle.osi_stack.specs.State as stack
-use Rattle.osi_between.specs.Terms.{terms_of}
+use Rattle.osi_between.specs.Terms.{terms_of, Terms}
 use Rattle.osi_pair.specs.Ends.{TwoEnds, end_at}
 use Rattle.osi_pair.specs.Entries.{Entry, ends}
 use Rattle.osi_pair.specs.Events.{HearsOfBreak, TellsBreak}
-use Rattle.osi_pair.specs.Standing.{terms_in, ending_in, Stands, StandsAt, StandsAtEnd, StandsAtTold}
+use Rattle.osi_pair.specs.Standing.{terms_in, ending_in, Stands, StandsAt, StandsAtEnd, StandsAtTold, side_in}
 use Rattle.osi_pair.specs.Telling.{shown_entries, told_entries, ShowsFirst}
 use Rattle.osi_pair.specs.declared.reach.Reach.{Reach}
 use Rattle.osi_pair.specs.declared.sides.Side.{Side}
@@ -27,12 +27,10 @@ use Rattle.osi_pair.proofs.StandingBreak.{run_behind}
 use Rattle.osi_pair.proofs.StandingAhead.{TakeLaws, takes_from}
 use Rattle.osi_pair.proofs.StandingEnded.{ended_holding, ended_pair, may_end, shown_then, ended_stands}
 use Rattle.osi_pair.proofs.StandingLost.{none_kept, IsTold}
+use Rattle.osi_pair.specs.Sides.{other}
+use Rattle.osi_pair.proofs.StandingPacket.{lasting_in}
 
 -- ---- the step
-
-none_of : (o : Option Ending) → option_map Some o ≡ None → o ≡ None
-none_of None e = refl
-none_of (Some x) e = cc
 
 one_end : (who : machine.Side) (t : Tables) (keep : ℕ → ℕ) → end_of who t ≡ None → t.broken ≡ true → run t (entries.ends who told_of_break keep ∷ []) ≡ after_end who told_of_break keep t
 one_end who t keep none broken =
@@ -42,11 +40,35 @@ one_end who t keep none broken =
 abbrev told_end : Holding → Rows stack.Line → Holding
 told_end h lines = ended_holding Broken h.end.carrier lines h.held
 
-abbrev told_left : TwoEnds → Rows stack.Line → List Entry → TwoEnds
-told_left p lines journal = ended_pair Left Broken p.left.end.carrier lines p.left.held journal p
+abbrev told_pair : Side → TwoEnds → Rows stack.Line → List Entry → TwoEnds
+told_pair s p lines journal = ended_pair s Broken (end_at s p).end.carrier lines (end_at s p).held journal p
 
-abbrev told_right : TwoEnds → Rows stack.Line → List Entry → TwoEnds
-told_right p lines journal = ended_pair Right Broken p.right.end.carrier lines p.right.held journal p
+terms_told : (s : Side) (p : TwoEnds) (lines : Rows stack.Line) (journal : List Entry) →
+    terms_of (told_pair s p lines journal).left.end.carrier.local (told_pair s p lines journal).right.end.carrier.local ≡ terms_of p.left.end.carrier.local p.right.end.carrier.local
+terms_told Left p lines journal = refl
+terms_told Right p lines journal = refl
+
+same_two : (p q : TwoEnds) → p.left ≡ q.left → p.right ≡ q.right → p.reach ≡ q.reach → p.journal ≡ q.journal → p ≡ q
+same_two p q left right reach journal =
+    ap (λ (x : Holding). record p { left = x }) left ∙ ap (λ (x : Holding). record q { right = x; reach = p.reach; journal = p.journal }) right
+    ∙ ap (λ (x : Option Reach). record q { reach = x; journal = p.journal }) reach ∙ ap (λ (x : List Entry). record q { journal = x }) journal
+
+-- two ends are what their sides are
+pair_is : (s : Side) (p q : TwoEnds) → end_at s p ≡ end_at s q → end_at (other s) p ≡ end_at (other s) q → p.reach ≡ q.reach → p.journal ≡ q.journal → p ≡ q
+pair_is Left p q own there reach journal = same_two p q own there reach journal
+pair_is Right p q own there reach journal = same_two p q there own reach journal
+
+told_here : (s : Side) (p : TwoEnds) (lines : Rows stack.Line) (journal : List Entry) → told_end (end_at s p) lines ≡ end_at s (told_pair s p lines journal)
+told_here Left p lines journal = refl
+told_here Right p lines journal = refl
+
+told_there : (s : Side) (p : TwoEnds) (lines : Rows stack.Line) (journal : List Entry) → end_at (other s) p ≡ end_at (other s) (told_pair s p lines journal)
+told_there Left p lines journal = refl
+told_there Right p lines journal = refl
+
+told_rest : (s : Side) (p : TwoEnds) (lines : Rows stack.Line) (journal : List Entry) → (p.reach ≡ (told_pair s p lines journal).reach) × (journal ≡ (told_pair s p lines journal).journal)
+told_rest Left p lines journal = (refl, refl)
+told_rest Right p lines journal = (refl, refl)
 
 -- ---- at a list of steps
 
@@ -54,45 +76,23 @@ numbered_told : (who : machine.Side) (keep : ℕ → ℕ) (xs : List Step) → A
 numbered_told who keep [] a = (tt, tt)
 numbered_told who keep (x ∷ xs) a = (a.0, numbered_told who keep xs a.1)
 
-left_at : TakeLaws → (p : TwoEnds) (steps : List Step) (lines : Rows stack.Line) (first : List (ℕ × Shown)) (journal : List Entry) → StandsAt p steps → is_some p.reach ≡ true →
-    p.left.end.carrier.ended ≡ None → IsTold p.left lines first → journal ≡ p.journal ++ (shown_entries Left first ++ ends Left Broken ∷ []) →
-    StandsAtEnd Left (told_left p lines journal) steps
-left_at laws p steps lines first journal s broken none told said =
+ended_at : TakeLaws → (s : Side) (p : TwoEnds) (steps : List Step) (lines : Rows stack.Line) (first : List (ℕ × Shown)) (journal : List Entry) → StandsAt p steps → is_some p.reach ≡ true →
+    (end_at s p).end.carrier.ended ≡ None → IsTold (end_at s p) lines first → journal ≡ p.journal ++ (shown_entries s first ++ ends s Broken ∷ []) → StandsAtEnd s (told_pair s p lines journal) steps
+ended_at laws s p steps lines first journal at broken none told said =
     let begin : Tables = start (terms_in (terms_of p.left.end.carrier.local p.right.end.carrier.local)) in
     let t = run begin steps in
-    let tabled : IsTableRun t = record { agreed = _; steps = steps; numbered = s.numbered; reached = refl } in
-    let done = ended_stands Left p s.now t t p.left.end p.left.held s.now Broken told_of_break lines p.left.held first journal s.stands (may_end Left p s.now t s.stands (takes_from laws Left t tabled) none) refl
-    (λ n. none_kept n p.left.end.lines lines told.same) (shown_then Left p s.now t lines first s.stands none told) said in
-    let keep = done.keep in
-    let lasts : end_of machine.Left t ≡ None = none_of t.left_end (s.stands.left_end ∙ ap (option_map ending_in) none) in
-    let is = one_end machine.Left t keep lasts (s.stands.broken ∙ broken) in
+    let h = end_at s p in
+    let tabled : IsTableRun t = record { agreed = _; steps = steps; numbered = at.numbered; reached = refl } in
+    let done = ended_stands s p at.now t t h.end h.held at.now Broken told_of_break lines h.held first journal at.stands (may_end s p at.now t at.stands (takes_from laws s t tabled) none) refl
+    (λ n. none_kept n h.end.lines lines told.same) (shown_then s p at.now t lines first at.stands none told) said in
+    let is = one_end (side_in s) t done.keep (lasting_in s p at.now t at.stands none) (at.stands.broken ∙ broken) in
     record {
-      keep = keep;
+      keep = done.keep;
       stands = record {
-        numbered = numbered_told machine.Left keep steps s.numbered;
-        now = s.now;
-        stands = subst (Stands (told_left p lines journal) s.now) (sym (run_behind begin steps (entries.ends machine.Left told_of_break keep ∷ []) ∙ is)) done.stands;
-      };
-    }
-
-right_at : TakeLaws → (p : TwoEnds) (steps : List Step) (lines : Rows stack.Line) (first : List (ℕ × Shown)) (journal : List Entry) → StandsAt p steps → is_some p.reach ≡ true →
-    p.right.end.carrier.ended ≡ None → IsTold p.right lines first → journal ≡ p.journal ++ (shown_entries Right first ++ ends Right Broken ∷ []) →
-    StandsAtEnd Right (told_right p lines journal) steps
-right_at laws p steps lines first journal s broken none told said =
-    let begin : Tables = start (terms_in (terms_of p.left.end.carrier.local p.right.end.carrier.local)) in
-    let t = run begin steps in
-    let tabled : IsTableRun t = record { agreed = _; steps = steps; numbered = s.numbered; reached = refl } in
-    let done = ended_stands Right p s.now t t p.right.end p.right.held s.now Broken told_of_break lines p.right.held first journal s.stands (may_end Right p s.now t s.stands (takes_from laws Right t tabled) none) refl
-    (λ n. none_kept n p.right.end.lines lines told.same) (shown_then Right p s.now t lines first s.stands none told) said in
-    let keep = done.keep in
-    let lasts : end_of machine.Right t ≡ None = none_of t.right_end (s.stands.right_end ∙ ap (option_map ending_in) none) in
-    let is = one_end machine.Right t keep lasts (s.stands.broken ∙ broken) in
-    record {
-      keep = keep;
-      stands = record {
-        numbered = numbered_told machine.Right keep steps s.numbered;
-        now = s.now;
-        stands = subst (Stands (told_right p lines journal) s.now) (sym (run_behind begin steps (entries.ends machine.Right told_of_break keep ∷ []) ∙ is)) done.stands;
+        numbered = numbered_told (side_in s) done.keep steps at.numbered;
+        now = at.now;
+        stands = subst (λ (k : Terms). Stands (told_pair s p lines journal) at.now (run (start (terms_in k)) (steps ++ entries.ends (side_in s) told_of_break done.keep ∷ []))) (sym (terms_told s p lines journal))
+            (subst (Stands (told_pair s p lines journal) at.now) (sym (run_behind begin steps (entries.ends (side_in s) told_of_break done.keep ∷ []) ∙ is)) done.stands);
       };
     }
 
@@ -106,43 +106,20 @@ record Heard (who : Side) (old new : Holding) (before after : List Entry) : Type
   says : after ≡ before ++ (shown_entries who first ++ ends who Broken ∷ [])
 
 heard : (who : Side) (old new : Holding) (before after : List Entry) → old.end.carrier.ended ≡ None → HearsOfBreak who old before new after → Heard who old new before after
-heard who old new before after none h =
-    let breaks_are : breaks old.end ≡ hearing.ends Broken old.end = ap (λ (o : Option EndReason). if is_some o then old.end else hearing.ends Broken old.end) none in
-    let shown : ShowsFirst (record old { end = hearing.ends Broken old.end }) h.first new = subst (λ (e : End). ShowsFirst (record old { end = e }) h.first new) breaks_are h.shows in
-    record {
-      first = h.first;
-      told = record { shown = shown.shown; same = shown.lines; most = shown.most };
-      is = shown.rest;
-      says = h.says ∙ ap (λ (o : Option EndReason). before ++ told_entries who o new.end.carrier.ended h.first) none
-          ∙ ap (λ (x : Holding). before ++ told_entries who None x.end.carrier.ended h.first) shown.rest;
-    }
+heard who old new before after none h = grind arith
 
 told_by : TakeLaws → (who : Side) (old new : TwoEnds) (steps : List Step) (o : Option EndReason) → (end_at who old).end.carrier.ended ≡ o → StandsAt old steps → is_some old.reach ≡ true →
     TellsBreak who old new → StandsAtTold o who new steps
-told_by laws Left old new steps (Some reason) e s broken h =
+told_by laws who old new steps (Some reason) e s broken h =
     let same = h.told.over (ap is_some e) in
-    subst (λ (x : Holding). StandsAt (record new { left = x }) steps) (sym same.0)
-    (subst (λ (x : Holding). StandsAt (record new { left = old.left; right = x }) steps) (sym h.other)
-    (subst (λ (x : Option Reach). StandsAt (record new { left = old.left; right = old.right; reach = x }) steps) (sym h.reach)
-    (subst (λ (x : List Entry). StandsAt (record old { journal = x }) steps) (sym same.1) s)))
-told_by laws Right old new steps (Some reason) e s broken h =
-    let same = h.told.over (ap is_some e) in
-    subst (λ (x : Holding). StandsAt (record new { right = x }) steps) (sym same.0)
-    (subst (λ (x : Holding). StandsAt (record new { right = old.right; left = x }) steps) (sym h.other)
-    (subst (λ (x : Option Reach). StandsAt (record new { left = old.left; right = old.right; reach = x }) steps) (sym h.reach)
-    (subst (λ (x : List Entry). StandsAt (record old { journal = x }) steps) (sym same.1) s)))
-told_by laws Left old new steps None e s broken h =
-    let now = heard Left old.left new.left old.journal new.journal e (h.told.hears e) in
-    subst (λ (x : Holding). StandsAtEnd Left (record new { left = x }) steps) (sym now.is)
-    (subst (λ (x : Holding). StandsAtEnd Left (record new { left = told_end old.left new.left.end.lines; right = x }) steps) (sym h.other)
-    (subst (λ (x : Option Reach). StandsAtEnd Left (record (told_left old new.left.end.lines new.journal) { reach = x }) steps) (sym h.reach)
-    (left_at laws old steps new.left.end.lines now.first new.journal s broken e now.told now.says)))
-told_by laws Right old new steps None e s broken h =
-    let now = heard Right old.right new.right old.journal new.journal e (h.told.hears e) in
-    subst (λ (x : Holding). StandsAtEnd Right (record new { right = x }) steps) (sym now.is)
-    (subst (λ (x : Holding). StandsAtEnd Right (record new { right = told_end old.right new.right.end.lines; left = x }) steps) (sym h.other)
-    (subst (λ (x : Option Reach). StandsAtEnd Right (record (told_right old new.right.end.lines new.journal) { reach = x }) steps) (sym h.reach)
-    (right_at laws old steps new.right.end.lines now.first new.journal s broken e now.told now.says)))
+    subst (λ (x : TwoEnds). StandsAt x steps) (sym (pair_is who new old same.0 h.other h.reach same.1)) s
+told_by laws who old new steps None e s broken h =
+    let now = heard who (end_at who old) (end_at who new) old.journal new.journal e (h.told.hears e) in
+    let lines = (end_at who new).end.lines in
+    let rest = told_rest who old lines new.journal in
+    subst (λ (x : TwoEnds). StandsAtEnd who x steps)
+    (sym (pair_is who new (told_pair who old lines new.journal) (now.is ∙ told_here who old lines new.journal) (h.other ∙ told_there who old lines new.journal) (h.reach ∙ rest.0) rest.1))
+    (ended_at laws who old steps lines now.first new.journal s broken e now.told now.says)
 
 pub told_at : TakeLaws → (who : Side) (old new : TwoEnds) (steps : List Step) → StandsAt old steps → is_some old.reach ≡ true → TellsBreak who old new →
     StandsAtTold (end_at who old).end.carrier.ended who new steps

@@ -1,5 +1,5 @@
 -- Where one end acts for one connection, two ends stand as they should.
-use Rattle.std.proofs.Common.{◌≡◌, ◌≢◌, ℕ, ◌≤◌, ◌==◌, Bool, true, false, if◌then◌else◌, List, [], ◌∷◌, ◌++◌, length, map, Option, Some, None, is_some, option_map, refl, sym, ap, subst, ◌∙◌}
+use Rattle.std.proofs.Common.{◌≡◌, ◌≢◌, ℕ, ◌≤◌, ◌==◌, Bool, true, false, if◌then◌else◌, List, [], ◌∷◌, ◌++◌, length, map, Option, Some, None, is_some, option_map, refl, sym, ap, subst, ◌∙◌, not}
 use Rattle.std.proofs.lemmas.Bool.{eqb-true, eq-eqb}
 use Rattle.std.proofs.lemmas.List.{map-append}
 use Rattle.osi_tpkt.specs.Held.{Held}
@@ -29,6 +29,7 @@ use Rattle.osi_pair.proofs.StandingWays.{way_same}
 use Rattle.osi_between.specs.Progress.{Progress}
 use Rattle.osi_machine.specs.Worlds.{Message}
 use Rattle.osi_session.specs.declared.state.State.{State as SessionState}
+use Rattle.osi_pair.proofs.StandingSeats.{live_session}
 
 -- ---- a connection, seen from one of its sides
 
@@ -63,6 +64,14 @@ pub holding_there : (s : Side) (e : End) (h : Held) (p : TwoEnds) → end_at (ot
 holding_there Left e h p = refl
 holding_there Right e h p = refl
 
+pub other_role : (s : Side) → is_caller (other s) ≡ not (is_caller s)
+other_role Left = refl
+other_role Right = refl
+
+pub still_there : (s : Side) (b c : Between) → last_of (not (is_caller s)) c ≡ last_of (not (is_caller s)) b → last_of (is_caller (other s)) c ≡ last_of (is_caller (other s)) b
+still_there Left b c e = e
+still_there Right b c e = e
+
 -- what is under way to the other end, and to this one
 abbrev pub GoesTo : Side → Holding → ℕ → TwoEnds → Between → Progress → SessionState → List Message → Type 0
 GoesTo s taker n p b g x ms = AreUnderWay taker.end.carrier.ended g (is_cut (is_caller s) (carriers_of p)) (HasJoined n taker) x ms (under_way (is_caller s) n (carriers_of p) b)
@@ -85,9 +94,6 @@ pub record Others (s : Side) (p : TwoEnds) (b : Between) (e : End) (h : Held) (c
   pub last : (q : ℕ) → q ≢ n → place_at q (last_of (is_caller s) c) ≡ place_at q (last_of (is_caller s) b)
   pub there : (q : ℕ) → place_at q (last_of (is_caller (other s)) c) ≡ place_at q (last_of (is_caller (other s)) b)
 
-live_session : (q : ℕ) (e : End) → is_some (value_at q e.carrier.live) ≡ true → session_at q e ≡ kept_at q e.lines
-live_session q e h = ap (λ (b : Bool). if◌then◌else◌ {A = Option Listener} b (kept_at q e.lines) None) h
-
 other_seated : (s : Side) (p : TwoEnds) (b : Between) (e : End) (h : Held) (c : Between) (n q : ℕ) (seat : Seat) → q ≢ n → Others s p b e h c n → IsSeated q (end_at s p) seat →
     IsSeated q (record { end = e; held = h }) seat
 other_seated s p b e h c n q seat apart o i = record {
@@ -102,7 +108,7 @@ other_seated s p b e h c n q seat apart o i = record {
   octets = i.octets;
 }
 
-other_seen : (s : Side) (p : TwoEnds) (b : Between) (e : End) (h : Held) (c : Between) (n q : ℕ) (l : Line) → q ≢ n → (end_at s p).end.carrier.ended ≡ None → Others s p b e h c n →
+pub other_seen : (s : Side) (p : TwoEnds) (b : Between) (e : End) (h : Held) (c : Between) (n q : ℕ) (l : Line) → q ≢ n → (end_at s p).end.carrier.ended ≡ None → Others s p b e h c n →
     IsSeen s q p b l → IsSeen s q (with_holding s e h p) c l
 other_seen s p b e h c n q l apart alive o i =
     let p2 = with_holding s e h p in

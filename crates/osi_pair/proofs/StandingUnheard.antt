@@ -22,48 +22,15 @@ use Rattle.osi_pair.proofs.StandingArrived.{PacketActs}
 use Rattle.osi_pair.proofs.StandingAhead.{TakesFrom}
 use Rattle.osi_pair.proofs.StandingEnded.{EndingLine, MayEnd, whole_line}
 use Rattle.osi_pair.proofs.StandingEnding.{IsPlaced, given_place}
-use Rattle.osi_pair.proofs.StandingFinish.{terms_at, DidAt, TablesAfter, refs_row, given_not_new, last_is}
+use Rattle.osi_pair.proofs.StandingFinish.{terms_at, DidAt, TablesAfter, refs_row, given_not_new, last_is, was_at, given_after}
 use Rattle.osi_pair.proofs.StandingPacket.{PacketLaws, same_role, acts_at}
-use Rattle.osi_pair.proofs.StandingResting.{acted_end, was_at}
+use Rattle.osi_pair.proofs.StandingResting.{acted_end}
 use Rattle.osi_pair.proofs.StandingRows.{before, after}
 use Rattle.osi_pair.proofs.StandingSeats.{transport_by, transport_at}
 use Rattle.osi_pair.proofs.StandingCut.{end_out}
 use Rattle.osi_pair.proofs.StandingTurned.{seen, seen_twice, with_holding, LinesAfter, out_there}
 use Rattle.osi_pair.proofs.StandingWays.{way_same}
 use Rattle.osi_pair.specs.Sides.{other}
-
--- ---- references and the class
-
-record GivenAfter (s : Side) (p : TwoEnds) (t : Tables) (e : End) (h : Held) (c : Between) : Type 0 where
-  given : (with_holding s e h p).left.end.carrier.given ≡ p.left.end.carrier.given
-  given_back : (with_holding s e h p).right.end.carrier.given ≤ length t.lines
-  given_then : c.caller.given ≡ (with_holding s e h p).left.end.carrier.given
-  class_then : c.caller.class ≡ (with_holding s e h p).left.end.carrier.class
-
-given_after : (s : Side) (p : TwoEnds) (b : Between) (t : Tables) (e : End) (h : Held) (n : ℕ) → Stands p b t → (end_at s p).end.carrier.ended ≡ None → (d : DidAt s p b e h n) → e.carrier.ended ≡ None →
-    n ≤ b.caller.given → d.now.called.given ≤ d.now.caller.given → GivenAfter s p t e h d.now
-given_after Left p b t e h n old alive d lasts named behind =
-    let last = last_is Left p b e h n d lasts in
-    let new : before d.row ≡ not_yet → ⊥ = λ f. given_not_new n b.caller (nat_lt b.caller.given n) refl named (d.stood ∙ f) in
-    let refs = refs_row (terms_at p) d.row d.is new in
-    let same : d.now.caller.given ≡ b.caller.given = let more = d.given in omega arith in
-    record {
-      given = ap (λ (c : State). c.given) (sym last) ∙ same ∙ old.given_then;
-      given_back = old.given_back;
-      given_then = ap (λ (c : State). c.given) last;
-      class_then = ap (λ (c : State). c.class) last;
-    }
-given_after Right p b t e h n old alive d lasts named behind =
-    let last = last_is Right p b e h n d lasts in
-    let there : d.now.caller.given ≡ p.left.end.carrier.given = d.given_there ∙ old.given_then in
-    let here : d.now.called.given ≡ e.carrier.given = ap (λ (c : State). c.given) last in
-    let count = old.given in
-    record {
-      given = refl;
-      given_back = omega arith;
-      given_then = there;
-      class_then = d.class_there ∙ old.class_then;
-    }
 
 -- ---- its connections
 

@@ -165,16 +165,7 @@ HasStarved e u told new = (new ≡ hearing.ends NoMemory e) ⊎ IsUnheard e u to
 
 -- at most one thing is told
 few_told : (n : ℕ) (row : Row) → (told_for n row ≡ []) ⊎ ((x : Happening) × (told_for n row ≡ x ∷ []))
-few_told n quiet = inl refl
-few_told n still = inl refl
-few_told n begins = inr (_, refl)
-few_told n (refuses reason) = inl refl
-few_told n agrees = inr (_, refl)
-few_told n (denies reason) = inr (_, refl)
-few_told n (tells octets) = inr (_, refl)
-few_told n (leaves reason) = inr (_, refl)
-few_told n (ignores octets) = inl refl
-few_told n (ends m) = inl refl
+few_told n row = grind arith
 
 -- for what the one event does there was no memory
 one_by : (k : ℕ) (e new : End) (event first : Happening) (more : List Happening) → e.carrier.events ≡ event ∷ [] → (hears_times k e).carrier.events ≡ first ∷ more →

@@ -1,5 +1,5 @@
 -- What is under way, as the messages of the tables and as those between two carriers, where one end acts.
-use Rattle.std.proofs.Common.{◌≡◌, ℕ, zero, suc, Bool, true, false, ◌||◌, ◌≤◌, ◌⊎◌, inl, inr, List, [], ◌∷◌, ◌++◌, length, map, take, drop, Option, Some, None, refl, sym, ap, subst, ◌∙◌, append_assoc}
+use Rattle.std.proofs.Common.{◌≡◌, ℕ, zero, suc, Bool, true, false, ◌||◌, ◌≤◌, ◌⊎◌, inl, inr, List, [], ◌∷◌, ◌++◌, length, map, take, drop, Option, Some, None, refl, sym, ap, subst, ◌∙◌, append_assoc, arith}
 use Rattle.std.proofs.Math.Seq.{take-append_seam}
 use Rattle.std.proofs.lemmas.List.{length-map, map-append, append-nil, take-append-drop}
 use Rattle.osi_carrier.specs.Place.{Place, never, was_given, connection_in}
@@ -33,11 +33,7 @@ Sent = List carrier.Message
 -- ---- alike
 
 pub same_alike : (g : Progress) (xs ys : Sent) → xs ≡ ys → AreAlike g xs ys
-same_alike not_yet xs ys h = h
-same_alike awaiting xs ys h = h
-same_alike in_use xs ys h = h
-same_alike shutting xs ys h = ap (map kind_of) h
-same_alike progress.gone xs ys h = ap (map kind_of) h
+same_alike g xs ys h = grind arith
 
 alike_append : (g : Progress) (xs ys zs : Sent) → AreAlike g xs ys → AreAlike g (xs ++ zs) (ys ++ zs)
 alike_append not_yet xs ys zs h = ap (λ l. l ++ zs) h
@@ -66,18 +62,20 @@ alike_take progress.gone xs ys gone h = kinds_take xs ys gone h
 -- ---- where one place stays
 
 pub alike_like : (p : Place) (xs ys zs : Sent) → AreAlike (progress_of p) xs ys → AreLike (connection_in p) ys zs → AreAlike (progress_of p) xs zs
-alike_like never xs ys zs h k = h ∙ k
-alike_like (was_given None) xs ys zs h k = h ∙ ap (map kind_of) k
-alike_like (was_given (Some asked)) xs ys zs h k = h ∙ k
-alike_like (was_given (Some (linked peer link))) xs ys zs h k = h ∙ k
-alike_like (was_given (Some (closing peer))) xs ys zs h k = h ∙ k
+alike_like p xs ys zs h k = grind arith
 
 pub alike_back : (p : Place) (xs ys zs : Sent) → AreAlike (progress_of p) xs zs → AreLike (connection_in p) ys zs → AreAlike (progress_of p) xs ys
-alike_back never xs ys zs h k = h ∙ sym k
-alike_back (was_given None) xs ys zs h k = h ∙ ap (map kind_of) (sym k)
-alike_back (was_given (Some asked)) xs ys zs h k = h ∙ sym k
-alike_back (was_given (Some (linked peer link))) xs ys zs h k = h ∙ sym k
-alike_back (was_given (Some (closing peer))) xs ys zs h k = h ∙ sym k
+alike_back p xs ys zs h k = grind arith
+
+pub alike_trans : (g : Progress) (xs ys zs : Sent) → AreAlike g xs ys → AreAlike g ys zs → AreAlike g xs zs
+alike_trans g xs ys zs h k = grind arith
+
+-- messages that are like at a connection are alike there
+pub like_alike : (p : Place) (xs ys : Sent) → AreLike (connection_in p) xs ys → AreAlike (progress_of p) xs ys
+like_alike p xs ys h = alike_like p xs xs ys (same_alike (progress_of p) xs xs refl) h
+
+pub alike_at : (g h : Progress) (xs ys : Sent) → g ≡ h → AreAlike g xs ys → AreAlike h xs ys
+alike_at g h xs ys e a = subst (λ (x : Progress). AreAlike x xs ys) e a
 
 -- ---- the same words
 
@@ -88,16 +86,7 @@ About = Option (List ℕ) → Type 0
 -- they are under way to a taker that is this far, and whose session is this
 pub as_now : (o q : Option EndReason) (g h : Progress) (c d : Bool) (H K : About) (x y : State) (ms : List Message) (xs ys : Sent) → (w : AreUnderWay o g c H x ms xs) → (d ≡ false → c ≡ false) →
     ((b : Option (List ℕ)) → H b → K b) → (StaysCalm x ms → StaysCalm y ms) → (q ≡ None → AreAlike h (map word_in w.words) ys) → AreUnderWay q h d K y ms ys
-as_now o q g h c d H K x y ms xs ys w cut holds calms alike = record {
-  words = w.words;
-  begun = w.begun;
-  alike = alike;
-  joined = w.joined;
-  order = w.order;
-  finished = λ e. w.finished (cut e);
-  calm = λ e. calms (w.calm e);
-  held = holds w.begun w.held;
-}
+as_now o q g h c d H K x y ms xs ys w cut holds calms alike = grind arith
 
 -- what is under way is the same, and the session is
 pub way_same : (o q : Option EndReason) (g k : Progress) (c d : Bool) (H K : About) (x : State) (ms : List Message) (xs ys : Sent) → (q ≡ None → o ≡ None) → k ≡ g → (d ≡ false → c ≡ false) →
@@ -305,31 +294,7 @@ shuts g = false
 
 -- nothing arrived
 back_stays : (g : Progress) (new : Place) (xs ys zs : Sent) → (shuts g ≡ true → shuts (progress_of new) ≡ true) → AreAlike g xs ys → AreLike (connection_in new) ys zs → AreAlike (progress_of new) xs zs
-back_stays not_yet never xs ys zs s h k = h ∙ k
-back_stays not_yet (was_given None) xs ys zs s h k = ap (map kind_of) (h ∙ k)
-back_stays not_yet (was_given (Some asked)) xs ys zs s h k = h ∙ k
-back_stays not_yet (was_given (Some (linked peer link))) xs ys zs s h k = h ∙ k
-back_stays not_yet (was_given (Some (closing peer))) xs ys zs s h k = ap (map kind_of) h ∙ k
-back_stays awaiting never xs ys zs s h k = h ∙ k
-back_stays awaiting (was_given None) xs ys zs s h k = ap (map kind_of) (h ∙ k)
-back_stays awaiting (was_given (Some asked)) xs ys zs s h k = h ∙ k
-back_stays awaiting (was_given (Some (linked peer link))) xs ys zs s h k = h ∙ k
-back_stays awaiting (was_given (Some (closing peer))) xs ys zs s h k = ap (map kind_of) h ∙ k
-back_stays in_use never xs ys zs s h k = h ∙ k
-back_stays in_use (was_given None) xs ys zs s h k = ap (map kind_of) (h ∙ k)
-back_stays in_use (was_given (Some asked)) xs ys zs s h k = h ∙ k
-back_stays in_use (was_given (Some (linked peer link))) xs ys zs s h k = h ∙ k
-back_stays in_use (was_given (Some (closing peer))) xs ys zs s h k = ap (map kind_of) h ∙ k
-back_stays shutting (was_given None) xs ys zs s h k = h ∙ ap (map kind_of) k
-back_stays shutting (was_given (Some (closing peer))) xs ys zs s h k = h ∙ k
-back_stays shutting never xs ys zs s h k = let no_way = s refl in cc
-back_stays shutting (was_given (Some asked)) xs ys zs s h k = let no_way = s refl in cc
-back_stays shutting (was_given (Some (linked peer link))) xs ys zs s h k = let no_way = s refl in cc
-back_stays progress.gone (was_given None) xs ys zs s h k = h ∙ ap (map kind_of) k
-back_stays progress.gone (was_given (Some (closing peer))) xs ys zs s h k = h ∙ k
-back_stays progress.gone never xs ys zs s h k = let no_way = s refl in cc
-back_stays progress.gone (was_given (Some asked)) xs ys zs s h k = let no_way = s refl in cc
-back_stays progress.gone (was_given (Some (linked peer link))) xs ys zs s h k = let no_way = s refl in cc
+back_stays g new xs ys zs s h k = grind arith
 
 -- the first of them
 record SplitWords (g h : Progress) (words : List Word) (m : carrier.Message) (rest : Sent) : Type 0 where
@@ -362,11 +327,7 @@ split shutting ms m rest h = split_kinds shutting ms m rest (λ xs ys e. e) h
 split progress.gone ms m rest h = split_kinds progress.gone ms m rest (λ xs ys e. e) h
 
 alike_kind : (g : Progress) (x y : carrier.Message) → AreAlike g (x ∷ []) (y ∷ []) → kind_of x ≡ kind_of y
-alike_kind not_yet x y h = let e : x ≡ y = cc in ap kind_of e
-alike_kind awaiting x y h = let e : x ≡ y = cc in ap kind_of e
-alike_kind in_use x y h = let e : x ≡ y = cc in ap kind_of e
-alike_kind shutting x y h = cc
-alike_kind progress.gone x y h = cc
+alike_kind g x y h = grind arith
 
 -- what becomes of the way where this has begun then, to a session that is this then
 abbrev pub BehindFirst : Progress → Bool → Option (List ℕ) → State → List Message → Sent → Type 0
@@ -430,12 +391,7 @@ abbrev pub Comes : Progress → Progress → Bool → About → State → List M
 Comes g h d H x ms m rest = Split g h d H x ms m rest ⊎ PartFirst g h d H x ms m rest
 
 follows : (b : Option (List ℕ)) (m : Message) → MayFollow b m → is_leaving m ≡ false → b ≡ None
-follows b (unit u) h e = h
-follows b ask h e = h
-follows b agree h e = h
-follows b (deny r) h e = h
-follows b (bye r) h e = cc
-follows b over h e = cc
+follows b m h e = grind arith
 
 -- where nothing is ahead of it
 calm_now : (x : State) (ms : List Message) → ms ≡ [] → StaysCalm x ms → IsCalm x
@@ -519,15 +475,7 @@ is_tsdu (carrier.message octets) = true
 is_tsdu m = false
 
 pub no_part : (g : Progress) (octets : List ℕ) (m : carrier.Message) → is_tsdu m ≡ false → AreAlike g (carrier.message octets ∷ []) (m ∷ []) → ⊥
-no_part g octets m e is = no_kind m e (alike_kind g (carrier.message octets) m is)
-  where
-    no_kind : (m : carrier.Message) → is_tsdu m ≡ false → carrier.message [] ≡ kind_of m → ⊥
-    no_kind (carrier.message octets) e k = cc
-    no_kind carrier.ask e k = cc
-    no_kind carrier.agree e k = cc
-    no_kind (carrier.deny r) e k = cc
-    no_kind (carrier.bye r) e k = cc
-    no_kind carrier.over e k = cc
+no_part g octets m e is = grind arith
 
 pub record Alone (g h : Progress) (d : Bool) (H : About) (x : State) (ms : List Message) (m : carrier.Message) (rest : Sent) : Type 0 where
   pub first : Message
@@ -544,44 +492,11 @@ alone_of g h d H x ms m rest e (inl s) = elim s.how [
 ]
 alone_of g h d H x ms m rest e (inr q) = absurd (no_part g (part_octets q.place q.octets) m e q.is)
 
--- by row
-same_then : (g : Progress) (xs ys zs : Sent) → AreAlike g xs ys → ys ≡ zs → AreAlike g xs zs
-same_then g xs ys zs h k = subst (λ (l : Sent). AreAlike g xs l) k h
-
-shut_before : (row : Row) → after row ≡ shutting → before row ≡ shutting
-shut_before quiet e = cc
-shut_before still e = refl
-shut_before begins e = cc
-shut_before (refuses reason) e = cc
-shut_before agrees e = cc
-shut_before (denies reason) e = cc
-shut_before (tells octets) e = cc
-shut_before (leaves reason) e = cc
-shut_before (ignores octets) e = refl
-shut_before (ends m) e = cc
-
-kinds_over : (g : Progress) (xs ys zs : Sent) → g ≡ shutting → AreAlike g xs ys → map kind_of ys ≡ map kind_of zs → AreAlike g xs zs
-kinds_over g xs ys zs e h k =
-    subst (λ (x : Progress). AreAlike x xs zs) (sym e) (let one : map kind_of xs ≡ map kind_of ys = subst (λ (x : Progress). AreAlike x xs ys) e h in one ∙ k)
-
 row_over : (row : Row) (new : Place) (xs ys zs : Sent) → progress_of new ≡ after row → AreAlike (before row) xs ys → AreLike (connection_in new) ys zs → AreAlike (before row) xs zs
-row_over row never xs ys zs e h k = same_then (before row) xs ys zs h k
-row_over row (was_given None) xs ys zs e h k = same_then (before row) xs ys zs h k
-row_over row (was_given (Some asked)) xs ys zs e h k = same_then (before row) xs ys zs h k
-row_over row (was_given (Some (linked peer link))) xs ys zs e h k = same_then (before row) xs ys zs h k
-row_over row (was_given (Some (closing peer))) xs ys zs e h k = kinds_over (before row) xs ys zs (shut_before row (sym e)) h k
+row_over row new xs ys zs e h k = grind arith
 
 row_up : (row : Row) (xs ys : Sent) → AreAlike (before row) xs ys → AreAlike (after row) xs ys
-row_up quiet xs ys h = h
-row_up still xs ys h = h
-row_up begins xs ys h = h
-row_up (refuses reason) xs ys h = h
-row_up agrees xs ys h = h
-row_up (denies reason) xs ys h = ap (map kind_of) h
-row_up (tells octets) xs ys h = h
-row_up (leaves reason) xs ys h = ap (map kind_of) h
-row_up (ignores octets) xs ys h = h
-row_up (ends m) xs ys h = h
+row_up row xs ys h = grind arith
 
 -- a message arrived
 comes_first : (row : Row) (old new : Place) (words : List Word) (m : carrier.Message) (ys rest : Sent) → progress_of old ≡ before row → progress_of new ≡ after row →

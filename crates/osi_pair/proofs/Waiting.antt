@@ -1,5 +1,5 @@
 -- What waits for the users, one by one.
-use Rattle.std.proofs.Common.{◌≡◌, ◌∙◌, ℕ, List, [], ◌∷◌, ◌++◌, map, Some, None, refl, sym, ap}
+use Rattle.std.proofs.Common.{◌≡◌, ◌∙◌, ℕ, List, [], ◌∷◌, ◌++◌, map, Some, None, refl, sym, ap, arith}
 use Rattle.osi_carrier.specs.Rows.{Rows}
 use Rattle.osi_session.specs.Shown.{Shown}
 use Rattle.osi_stack.specs.Calls.{first_by, first_shown, rest_by, without_first}
@@ -24,20 +24,7 @@ pub record IsNext (lines : Rows Line) (p : ℕ × Shown) (rest : Rows Line) : Ty
 next_by : (r : ℕ) (line : Line) (lines : Rows Line) (p : ℕ × Shown) (w : List Shown) → line.waiting ≡ w →
     first_by r w (first_shown lines) ≡ Some p → (first_shown lines ≡ Some p → IsNext lines p (without_first lines)) →
     IsNext ((r, line) ∷ lines) p (rest_by r line w lines (without_first lines))
-next_by r line lines p [] is e more =
-    let m = more e in
-    record {
-      shown = ap (λ (w : List Shown). map (λ shown. (r, shown)) w ++ waiting_in lines) is ∙ m.shown
-          ∙ sym (ap (λ (w : List Shown). p ∷ (map (λ shown. (r, shown)) w ++ waiting_in (without_first lines))) is);
-      quiet = ap (λ (rows : Rows Line). (r, record line { waiting = [] }) ∷ rows) m.quiet;
-    }
-next_by r line lines p (shown ∷ w) is e more =
-    let here : (r, shown) ≡ p = cc in
-    record {
-      shown = ap (λ (w : List Shown). map (λ shown. (r, shown)) w ++ waiting_in lines) is
-          ∙ ap (λ (q : ℕ × Shown). q ∷ (map (λ shown. (r, shown)) w ++ waiting_in lines)) here;
-      quiet = refl;
-    }
+next_by r line lines p w is e more = grind arith
 
 -- the first is shown
 pub next_is : (lines : Rows Line) (p : ℕ × Shown) → first_shown lines ≡ Some p → IsNext lines p (without_first lines)

@@ -53,12 +53,7 @@ order_back b (part Last o ∷ xs) ys h = order_back None xs ys h.2
 
 -- what stands by itself
 pub may_follow : (m : Message) → MayFollow None m
-may_follow (unit m) = refl
-may_follow ask = refl
-may_follow agree = refl
-may_follow (deny r) = refl
-may_follow (bye r) = tt
-may_follow over = tt
+may_follow m = grind arith
 
 pub whole_order : (ms : List Message) → AreInOrder None (map whole ms)
 whole_order [] = tt
@@ -91,15 +86,11 @@ next_more b x left ms (inr other) = inr other
 
 pub next_is : (b : List ℕ) (words : List Word) → AreInOrder (Some b) words → Next b (left_of (Some b) words) (joins (Some b) words)
 next_is b [] h = inr (inr (record { none = refl; begins = tt }))
-next_is b (whole (unit m) ∷ words) h = let no : Some b ≡ None = h.0 in cc
-next_is b (whole ask ∷ words) h = let no : Some b ≡ None = h.0 in cc
-next_is b (whole agree ∷ words) h = let no : Some b ≡ None = h.0 in cc
-next_is b (whole (deny r) ∷ words) h = let no : Some b ≡ None = h.0 in cc
 next_is b (whole (bye r) ∷ words) h = inr (inl refl)
 next_is b (whole over ∷ words) h = inr (inl refl)
-next_is b (part First x ∷ words) h = let no : Some b ≡ None = h.0 in cc
 next_is b (part Last x ∷ words) h = inl (record { rest = x; others = joins None words; is = refl })
 next_is b (part Middle x ∷ words) h = next_more b x (left_of (Some (b ++ x)) words) (joins (Some (b ++ x)) words) (next_is (b ++ x) words h.2)
+next_is b _ h = let no : Some b ≡ None = h.0 in cc
 
 -- ---- what is under way
 

@@ -33,10 +33,6 @@ record AreRest (begun : List ℕ) (words : List Word) (all : List ℕ) : Type 0 
   order : AreInOrder (Some begun) words
 
 rest_is : (begun : List ℕ) (words : Words) → AreLater words → length (begun ++ joined words) ≤ most_data → AreRest begun (map word_of words) (begun ++ joined words)
-rest_is begun [] later short = absurd later
-rest_is begun (sent.says m ∷ words) later short = absurd later
-rest_is begun (sent.part First octets ∷ words) later short = absurd later
-rest_is begun (sent.part Last octets ∷ next ∷ words) later short = absurd later
 rest_is begun (sent.part Last octets ∷ []) later short =
     let alone : octets ++ [] ≡ octets = append-nil octets in
     record {
@@ -54,16 +50,14 @@ rest_is begun (sent.part Middle octets ∷ words) later short =
       left = more.left;
       order = (tt, fits, more.order);
     }
+rest_is begun words later short = search
 
 parts_are : (words : Words) → AreParts words → length (joined words) ≤ most_data → AreWords (map word_of words) (unit (DT (joined words)) ∷ [])
-parts_are [] parts short = absurd parts
-parts_are (sent.says m ∷ words) parts short = absurd parts
-parts_are (sent.part Middle octets ∷ words) parts short = absurd parts
-parts_are (sent.part Last octets ∷ words) parts short = absurd parts
 parts_are (sent.part First octets ∷ words) parts short =
     let more = rest_is octets words parts short in
     let fits : length octets ≤ most_data = omega (arith, short, length-append octets (joined words)) in
     record { joined = more.joined; left = more.left; order = (refl, fits, more.order) }
+parts_are words parts short = search
 
 -- ---- a message
 
