@@ -100,15 +100,12 @@ open_place side r p steps h lasts o =
     given_live r (end_at side p).end.carrier (linked o.peer o.link) (order_of side p h.now (tables_at p steps) h.stands lasts).sound.orderly o.live
 
 last_now : (side : Side) (p : TwoEnds) (steps : List Step) (h : StandsAt p steps) → (end_at side p).end.carrier.ended ≡ None → (end_at side p).end.carrier ≡ last_of (is_caller side) h.now
-last_now Left p steps h lasts = h.stands.between.lives true lasts
-last_now Right p steps h lasts = h.stands.between.lives false lasts
+last_now side p steps h lasts = grind arith
 
 -- while the taker has it open, what is under way to it is the same by the tables
 open_alike : (side : Side) (r : ℕ) (p : TwoEnds) (steps : List Step) (h : StandsAt p steps) → (end_at side p).end.carrier.ended ≡ None → IsOpenAt r (end_at side p).end
     → (some others : List carrier.Message) → AreAlike (progress_of (place_at r (last_of (is_caller side) h.now))) some others → some ≡ others
-open_alike side r p steps h lasts o some others alike =
-    subst (λ (g : Progress). AreAlike g some others)
-    (ap (λ (s : State). progress_of (place_at r s)) (sym (last_now side p steps h lasts)) ∙ ap progress_of (open_place side r p steps h lasts o)) alike
+open_alike side r p steps h lasts o some others alike = grind arith
 
 front_none : (xs ys : List ℕ) → xs ++ ys ≡ [] → xs ≡ []
 front_none [] ys e = refl
@@ -238,8 +235,6 @@ joined_at_rest p steps h rest =
     (subst (λ (l : List Value). AreJoinedBy terms h.now.caller h.now.called (h.now.going ++ h.now.going_lost) l) coming h.stands.between.joined)))
 
 none_begun_at : Empties → (side : Side) (p : TwoEnds) (steps : List Step) → StandsAt p steps → Resting p → (r : ℕ) (x : Connection) → value_at r (end_at side p).end.carrier.live ≡ Some x → begun_by x ≡ 0
-none_begun_at empties side p steps h rest r asked at = refl
-none_begun_at empties side p steps h rest r (closing peer) at = refl
 none_begun_at empties Left p steps h rest r (linked peer link) at =
     let terms = terms_of p.left.end.carrier.local p.right.end.carrier.local in
     let there = open_there terms p.left.end.carrier p.right.end.carrier r peer link (joined_at_rest p steps h rest) at in
@@ -248,15 +243,10 @@ none_begun_at empties Right p steps h rest r (linked peer link) at =
     let terms = terms_of p.left.end.carrier.local p.right.end.carrier.local in
     let here = open_here terms p.left.end.carrier p.right.end.carrier r peer link (joined_at_rest p steps h rest) at in
     ap length (empties terms (carriers_of p) h.now r here.peer peer here.link link h.stands.between (at_rest p steps h rest) here.live at).links.begun_there
-
--- a session that has joined something is at an open connection
-linked_of : (n : ℕ) (e : End) (o : Option Connection) → value_at n e.carrier.live ≡ o → is_some (link_of o) ≡ true → IsOpenAt n e
-linked_of n e o at h = grind arith
+none_begun_at empties side p steps h rest r x at = grind arith
 
 open_linked : (n : ℕ) (e : End) → e.carrier.ended ≡ None → is_open n e.carrier ≡ true → IsOpenAt n e
-open_linked n e lasts h =
-    linked_of n e (value_at n e.carrier.live) refl
-    (sym (ap (λ (x : Option EndReason). is_some (if◌then◌else◌ {A = Option (ℕ × Standing)} (is_some x) None (link_of (value_at n e.carrier.live)))) lasts) ∙ h)
+open_linked n e lasts h = grind arith
 
 joined_open : (n : ℕ) (e : End) (l : Listener) → IsInOrder e → e.carrier.ended ≡ None → kept_at n e.lines ≡ Some l → is_some l.joined ≡ true → IsOpenAt n e
 joined_open n e l order lasts at some =

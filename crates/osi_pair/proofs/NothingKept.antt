@@ -78,17 +78,13 @@ one_linked : (n : ℕ) (s : State) (x : Standing) → n ≡ 1 → s.live ≡ (1,
 one_linked n s x e live = record { peer = 1; link = x; live = ap (value_at n) live ∙ ap (λ (m : ℕ). value_at m ((1, linked 1 x) ∷ [])) e }
 
 zero_there : (s r : State) (n p : ℕ) (x : Standing) (g : zero.ZeroCourse) → zero.HasOne s (zero.at_end true g) → zero.HasOne r (zero.at_end false g) → value_at n s.live ≡ Some (linked p x) → IsLinkedAt n r
-zero_there s r n p x zero.unasked one other at = absurd (not_here s n (linked p x) one at)
-zero_there s r n p x (zero.asking c) one other at = absurd (not_asked s n p x one at)
-zero_there s r n p x (zero.accepting c l) one other at = absurd (not_asked s n p x one at)
 zero_there s r n p x (zero.talking l) one other at = one_linked n r l.right (at_one s n (linked 1 l.left) (linked p x) one at).reference other.live
+zero_there s r n p x g one other at = grind arith
 
 zero_here : (s r : State) (n p : ℕ) (x : Standing) (g : zero.ZeroCourse) → zero.HasOne s (zero.at_end true g) → zero.HasOne r (zero.at_end false g) → [] ≡ zero.from_end false r.local g →
     value_at n r.live ≡ Some (linked p x) → IsLinkedAt n s
-zero_here s r n p x zero.unasked one other back at = absurd (not_here r n (linked p x) other at)
-zero_here s r n p x (zero.asking c) one other back at = absurd (not_here r n (linked p x) other at)
-zero_here s r n p x (zero.accepting c l) one other back at = absurd (cc)
 zero_here s r n p x (zero.talking l) one other back at = one_linked n s l.left (at_one r n (linked 1 l.right) (linked p x) other at).reference one.live
+zero_here s r n p x g one other back at = grind arith
 
 -- whatever they come to
 pub open_there : (terms : Terms) (s r : State) (n p : ℕ) (x : Standing) → AreJoinedBy terms s r [] [] → value_at n s.live ≡ Some (linked p x) → IsLinkedAt n r
@@ -145,9 +141,7 @@ behind_by r q line lines l rise at = by (r == q) refl
     by false e = at
 
 none_of : (live : Bool) (session : Option Listener) → ((l : Listener) → live ≡ true → session ≡ Some l → l.joined ≡ None) → (if live then joined_of session else 0) ≡ 0
-none_of false session all = refl
-none_of true None all = refl
-none_of true (Some l) all = ap (λ (joined : Option (List ℕ)). length (joined_octets joined)) (all l refl refl)
+none_of live session all = grind arith
 
 pub none_joined : (n : ℕ) (live : Rows Connection) (lines : Rows Line) → RiseFrom n lines →
     ((r : ℕ) (l : Listener) → is_some (value_at r live) ≡ true → kept_at r lines ≡ Some l → l.joined ≡ None) → joined_in live lines ≡ 0

@@ -29,7 +29,7 @@ use Rattle.osi_pair.specs.declared.sides.Side.TheVariants.{Left, Right}
 use Rattle.osi_pair.proofs.StandingActs.{StandsOn, there, of_end}
 use Rattle.osi_pair.proofs.StandingFinish.{terms_at, order_of, was_at, GivenAfter}
 use Rattle.osi_pair.proofs.StandingSeats.{transport_by, HasSession, place_by, session_of_seat, seat_of_session}
-use Rattle.osi_pair.proofs.StandingTurned.{IsSeen, seen, seen_twice, with_holding, holding_here, holding_there, Others, LinesAfter, Turned, turned_pair, turned_stands, out_there, back_here, GoesTo, other_role, still_there}
+use Rattle.osi_pair.proofs.StandingTurned.{IsSeen, seen, seen_twice, with_holding, holding_here, holding_there, Others, LinesAfter, Turned, turned_pair, turned_stands, out_there, back_here, GoesTo, still_there}
 use Rattle.osi_pair.proofs.StandingWays.{shuts, back_waits}
 use Rattle.osi_pair.proofs.StandingCut.{end_back}
 use Rattle.osi_session.specs.declared.state.State.{State as SessionState}
@@ -72,17 +72,9 @@ pub record WaysAt (s : Side) (n : ℕ) (p new : TwoEnds) (b c : Between) (put : 
   pub there : last_of (is_caller (other s)) c ≡ last_of (is_caller (other s)) b
 
 pub ways_at : (s : Side) (n : ℕ) (p new : TwoEnds) (b c : Between) (put : List carrier.Message) → Carries (terms_at p) (is_caller s) n (carriers_of p) (carriers_of new) b c [] put → WaysAt s n p new b c put
-ways_at s n p new b c put k = record {
-  stays = k.stays;
-  gone = k.gone;
-  came = rw (other_role s) (subst (λ (l : List carrier.Message). AreLike (connection_in (place_at n (last_of (is_caller s) c))) (under_way (not (is_caller s)) n (carriers_of p) b) (l ++ under_way (not (is_caller s)) n (carriers_of new) c)) k.brings.is k.came);
-  before = rw (other_role s) k.before;
-  after = rw (other_role s) k.after;
-  keeps = k.keeps;
-  others = k.others;
-  other_places = k.other_places;
-  there = still_there s b c k.there;
-}
+ways_at s n p new b c put k =
+    let came = subst (λ (l : List carrier.Message). AreLike (connection_in (place_at n (last_of (is_caller s) c))) (under_way (not (is_caller s)) n (carriers_of p) b) (l ++ under_way (not (is_caller s)) n (carriers_of new) c)) k.brings.is k.came in
+    grind arith
 
 -- the carrier of a side acts, of the two that the ends are
 pub acted_by : (s : Side) (p : TwoEnds) (b : Between) (n : ℕ) (terms : Terms) (f : State → State) (put : List carrier.Message) →
@@ -102,8 +94,7 @@ pub record CarrierActs (s : Side) (p : TwoEnds) (b : Between) (n : ℕ) (g : Pro
   pub ways : WaysAt s n p (pair_with s c p) b now put
 
 last_now : (s : Side) (p : TwoEnds) (b : Between) (n : ℕ) (g : Progress) (c : State) (put : List carrier.Message) → (a : CarrierActs s p b n g c put) → last_of (is_caller s) a.now ≡ c
-last_now Left p b n g c put a = sym (a.between.lives true a.on.lasts)
-last_now Right p b n g c put a = sym (a.between.lives false a.on.lasts)
+last_now s p b n g c put a = grind arith
 
 -- how far the connection was, and is
 pub stood_in_use : (s : Side) (p : TwoEnds) (b : Between) (t : Tables) (n : ℕ) (g : Progress) (c : State) (put : List carrier.Message) → Stands p b t → (end_at s p).end.carrier.ended ≡ None → CarrierActs s p b n g c put →
@@ -131,15 +122,7 @@ other_place q n g old new a apart = by_rows (nat_lt old.given q) refl
     by_rows b e = place_by q new b (same ∙ e) ∙ ap (λ (o : Option Connection). if◌then◌else◌ {A = Place} b never (was_given o)) (ap (value_at q) a.live ∙ put_other q n a.connection old.live apart) ∙ sym (place_by q old b e)
 
 others_stay : (s : Side) (p : TwoEnds) (b : Between) (n : ℕ) (g : Progress) (c : State) (put : List carrier.Message) → (a : CarrierActs s p b n g c put) → Others s p b (end_with s c p) (end_at s p).held a.now n
-others_stay s p b n g c ms a = record {
-  places = λ q apart. other_place q n g (end_at s p).end.carrier c a.on apart;
-  lives = λ q apart. ap (value_at q) a.on.live ∙ put_other q n a.on.connection (end_at s p).end.carrier.live apart;
-  sessions = λ q apart lives. refl;
-  kept = λ q apart x h. h;
-  ways = a.ways.others;
-  last = a.ways.other_places;
-  there = λ q. ap (place_at q) a.ways.there;
-}
+others_stay s p b n g c ms a = grind (arith, other_place, put_other, there)
 
 -- ---- the connection
 
@@ -180,11 +163,7 @@ seen_acts s p b t n g c put channel l old alive a order i x out =
 -- ---- two ends
 
 lines_stay : (s : Side) (n : ℕ) (l line : Line) (t : Tables) → connection_at n t.lines ≡ Some (seen_from (side_in s) l) → LinesAfter s n line t (stays t (side_in s) n line)
-lines_stay s n l line t found = record {
-  count = with_count n t.lines (seen_from (side_in s) line);
-  found = with_same n t.lines (seen_from (side_in s) l) (seen_from (side_in s) line) found;
-  others = λ q apart. with_other q n t.lines (seen_from (side_in s) line) apart;
-}
+lines_stay s n l line t found = grind (arith, with_count, with_same, with_other)
 
 -- An end that lasts has acted for a connection: of its carrier no more is said than that it keeps this.
 pub record Keeps (old new : State) : Type 0 where
@@ -199,44 +178,20 @@ kept_given : (s : Side) (p : TwoEnds) (b : Between) (t : Tables) (e : End) (h : 
 kept_given Left p b t e h c old k between there =
     let last = sym (between.lives true k.lasts) in
     record { given = k.given; given_back = old.given_back; given_then = ap (λ (x : State). x.given) last; class_then = ap (λ (x : State). x.class) last }
-kept_given Right p b t e h c old k between there = record {
-  given = refl;
-  given_back = subst (λ (m : ℕ). m ≤ length t.lines) (sym k.given) old.given_back;
-  given_then = ap (λ (x : State). x.given) there ∙ old.given_then;
-  class_then = ap (λ (x : State). x.class) there ∙ old.class_then;
-}
+kept_given Right p b t e h c old k between there = grind arith
 
 kept_known : (s : Side) (p : TwoEnds) (b : Between) (t : Tables) (e : End) (h : Held) → Stands p b t → Keeps (end_at s p).end.carrier e.carrier → t.known ≡ option_map class_in (with_holding s e h p).left.end.carrier.class
-kept_known Left p b t e h old k = old.known ∙ ap (option_map class_in) (sym k.class)
-kept_known Right p b t e h old k = old.known
+kept_known s p b t e h old k = grind arith
 
 pub turned_by : (s : Side) (p : TwoEnds) (b : Between) (t : Tables) (e : End) (h : Held) (c : Between) (n : ℕ) (l line : Line) → Stands p b t → Keeps (end_at s p).end.carrier e.carrier →
     AreBetween (terms_at p) (carriers_of (with_holding s e h p)) c → connection_at n t.lines ≡ Some (seen_from (side_in s) l) → IsSeen s n (with_holding s e h p) c line → Others s p b e h c n →
     last_of (is_caller (other s)) c ≡ last_of (is_caller (other s)) b → IsInOrder e → waiting_in e.lines ≡ [] → Turned s p b t e h c (stays t (side_in s) n line) n []
 turned_by s p b t e h c n l line old k between found i o there order quiet =
     let g = kept_given s p b t e h c old k between there in
-    record {
-      between = between;
-      lasts = k.lasts;
-      local = k.local;
-      is_caller = k.is_caller;
-      known = kept_known s p b t e h old k;
-      given = g.given;
-      given_then = g.given_then;
-      class_then = g.class_then;
-      given_back = g.given_back;
-      terms = refl;
-      broken = refl;
-      left_end = refl;
-      right_end = refl;
-      journal = sym (append-nil t.journal);
-      line = line;
-      lines = lines_stay s n l line t found;
-      is = i;
-      others = o;
-      order = order;
-      quiet = quiet;
-    }
+    let known = kept_known s p b t e h old k in
+    let journal = sym (append-nil t.journal) in
+    let lines = lines_stay s n l line t found in
+    search
 
 pub nothing_noted : (s : Side) (e : End) (p : TwoEnds) (n : ℕ) → turned_pair s e (end_at s p).held n [] p ≡ with_holding s e (end_at s p).held p
 nothing_noted Left e p n = ap (λ (j : List Entry). record (with_holding Left e p.left.held p) { journal = j }) (append-nil p.journal)
@@ -251,8 +206,7 @@ seen_at s p b t n l old found =
 -- the session of an open connection
 pub session_in_use : (s : Side) (p : TwoEnds) (b : Between) (t : Tables) (n : ℕ) (x : Connection) (l : Line) → Stands p b t → (end_at s p).end.carrier.ended ≡ None → value_at n (end_at s p).end.carrier.live ≡ Some x →
     progress_in (Some x) ≡ in_use → IsSeen s n p b l → HasSession n (end_at s p).end.lines in_use l.own.session
-session_in_use s p b t n x l old alive at used i =
-    session_of_seat n (end_at s p) l.own in_use (ap progress_of (given_live n (end_at s p).end.carrier x (order_of s p b t old alive).sound.orderly at) ∙ used) i.here
+session_in_use s p b t n x l old alive at used i = grind arith
 
 pub acted_stands : (s : Side) (p : TwoEnds) (b : Between) (t : Tables) (n : ℕ) (g : Progress) (c : State) (put : List carrier.Message) (channel : List Message) (l : Line) → Stands p b t →
     (end_at s p).end.carrier.ended ≡ None → (a : CarrierActs s p b n g c put) → IsInOrder (end_with s c p) → connection_at n t.lines ≡ Some (seen_from (side_in s) l) →

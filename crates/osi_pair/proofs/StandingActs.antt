@@ -20,7 +20,7 @@ use Rattle.osi_stack.specs.State.{Holding}
 use Rattle.osi_pair.specs.Ends.{TwoEnds, end_at, noted}
 use Rattle.osi_pair.specs.Entries.{Entry}
 use Rattle.osi_pair.specs.Sides.{other}
-use Rattle.osi_pair.specs.Standing.{is_caller, terms_in, carriers_of, entry_in, AreAlike, IsUnderWay, IsInOrder, IsLine, Stands, StandsAt, Goes, word_in, HasJoined}
+use Rattle.osi_pair.specs.Standing.{is_caller, terms_in, carriers_of, entry_in, AreAlike, IsUnderWay, IsInOrder, IsLine, Stands, StandsAt, Goes, word_in, HasJoined, HasLine}
 use Rattle.osi_pair.specs.Telling.{waiting_in}
 use Rattle.osi_pair.specs.Words.{Word}
 use Rattle.osi_pair.specs.declared.reach.Reach.{Reach}
@@ -28,7 +28,7 @@ use Rattle.osi_pair.specs.declared.sides.Side.{Side}
 use Rattle.osi_pair.specs.declared.sides.Side.TheVariants.{Left, Right}
 use Rattle.osi_pair.proofs.StandingCut.{cut_none, cut_out, cut_back}
 use Rattle.osi_pair.proofs.StandingRests.{unless_broken, put_unless, words_put, are_put, put_same, put_spare}
-use Rattle.osi_pair.proofs.StandingWays.{as_now, out_puts, same_alike, alike_trans, alike_at, like_alike}
+use Rattle.osi_pair.proofs.StandingWays.{as_now, out_puts, same_alike, alike_trans, like_alike}
 use Rattle.osi_pair.proofs.StandingTurned.{GoesTo}
 use Rattle.osi_pair.proofs.WordLaws.{AreWords}
 use Rattle.osi_machine.specs.Calm.{StaysCalm}
@@ -64,8 +64,7 @@ out_way terms Right r p new b c words more channel broken seat to are k reach no
 
 -- nothing arrived
 came_same : (g h : Progress) (ch old now arrived : List carrier.Message) → g ≡ h → arrived ≡ [] → AreAlike g ch old → AreAlike h old (arrived ++ now) → AreAlike h ch now
-came_same g h ch old now arrived e none was came =
-    alike_trans h ch old now (alike_at g h ch old e was) (alike_trans h old (arrived ++ now) now came (same_alike h (arrived ++ now) now (ap (λ (l : List carrier.Message). l ++ now) none)))
+came_same g h ch old now arrived e none was came = grind arith
 
 pub back_way : (terms : Terms) (side : Side) (r : ℕ) (p new : TwoEnds) (b c : Between) (messages : List carrier.Message) (seat to now : Seat) →
     (k : Carries terms (is_caller side) r (carriers_of p) (carriers_of new) b c [] messages) →
@@ -86,9 +85,7 @@ back_way terms Right r p new b c messages seat to now k same there alive reach h
 -- ---- places
 
 pub place_given : (r : ℕ) (c : Carrier) → r ≤ c.given → place_at r c ≡ was_given (value_at r c.live)
-place_given r c h =
-    let no : nat_lt c.given r ≡ false = grind (arith, nat_tests) in
-    ap (λ (b : Bool). if◌then◌else◌ {A = Place} b never (was_given (value_at r c.live))) no
+place_given r c h = grind arith
 
 pub place_ahead : (r : ℕ) (c : Carrier) → c.given < r → place_at r c ≡ never
 place_ahead r c h = ap (λ (b : Bool). if◌then◌else◌ {A = Place} b never (was_given (value_at r c.live))) (lt-ltb c.given r h)
@@ -137,28 +134,11 @@ says_more es js x e h is =
     ∙ sym (map-append entry_in js (e ∷ []))
 
 pub more_said : (p : TwoEnds) (b : Between) (t : Tables) (e : Entry) (x : entries.Entry) → entry_in e ≡ Some x → Stands p b t → Stands (noted (e ∷ []) p) b (noted_in (x ∷ []) t)
-more_said p b t e x is s = record {
-  between = s.between;
-  terms = s.terms;
-  broken = s.broken;
-  caller = s.caller;
-  left_end = s.left_end;
-  right_end = s.right_end;
-  known = s.known;
-  journal = says_more t.journal p.journal x e s.journal is;
-  given = s.given;
-  given_then = s.given_then;
-  class_then = s.class_then;
-  given_back = s.given_back;
-  lines = λ n a c. let h = s.lines n a c in record { line = h.line; found = h.found; is = record { left = h.is.left; right = h.is.right; rightward = h.is.rightward; leftward = h.is.leftward } };
-  over_left = s.over_left;
-  over_right = s.over_right;
-  lost_right = s.lost_right;
-  order_left = s.order_left;
-  order_right = s.order_right;
-  quiet_left = s.quiet_left;
-  quiet_right = s.quiet_right;
-}
+more_said p b t e x is s =
+    let journal = says_more t.journal p.journal x e s.journal is in
+    let lines : (n : ℕ) → 0 < n → n ≤ length t.lines → HasLine n (noted (e ∷ []) p) b (noted_in (x ∷ []) t) = λ n a c.
+    let h = s.lines n a c in record { line = h.line; found = h.found; is = record { left = h.is.left; right = h.is.right; rightward = h.is.rightward; leftward = h.is.leftward } } in
+    grind arith
 
 -- ---- one more step
 

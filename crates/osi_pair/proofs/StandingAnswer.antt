@@ -41,15 +41,9 @@ line_error (Some l) call = seat_error l.own call
 
 -- ---- a session that is over
 
-ended_over : (p : Phase) → is_ended p ≡ true → is_over p ≡ true
-ended_over Ended e = refl
-ended_over _ e = absurd cc
-
 pub ended_refuses : (s : Standing) (call : Call) → is_ended s.state.phase ≡ true → (react s (called call)).error ≡ Some error.Ended
 unfolding react allowed
-ended_refuses s call e =
-    let rest : Answer = if◌then◌else◌ {A = Answer} (not (may_call s.state.phase call)) (Err error.BadState) (sized (nat_le (length (octets_of call)) (most_of call) && fits_limit s.state call (sends s.state call)) (met s.state call)) in
-    ap (λ (b : Bool). (answered s (if◌then◌else◌ {A = Answer} b (Err error.Ended) rest)).error) (ended_over s.state.phase e)
+ended_refuses s call e = grind arith
 
 -- ---- a reference
 
@@ -63,15 +57,13 @@ by_given : (r : ℕ) (call : Call) (e : End) (b : Bool) → has_given r e.carrie
 by_given r call e b h = ap (λ (x : Bool). if◌then◌else◌ {A = Option CallError} (not x) (Some error.NoSuchConnection) (session_error (session_at r e) call)) h
 
 pub no_such : (r : ℕ) (call : Call) (e : End) → e.carrier.given < r → table_error r call e ≡ Some error.NoSuchConnection
-no_such r call e h = by_given r call e false (not_given r e.carrier h)
+no_such r call e h = grind arith
 
 pub session_gone : (r : ℕ) (e : End) → value_at r e.carrier.live ≡ None → session_at r e ≡ None
 session_gone r e h = ap (λ (o : Option Connection). if◌then◌else◌ {A = Option Listener} (is_some o) (session_in (value_at r e.lines)) None) h
 
 live_given : (x : Connection) → is_given (transport_in (was_given (Some x))) ≡ true
-live_given asked = refl
-live_given (linked peer link) = refl
-live_given (closing peer) = refl
+live_given x = grind arith
 
 seat_by : (r : ℕ) (h : Holding) (seat : Seat) (call : Call) (o : Option Connection) → 0 < r → r ≤ h.end.carrier.given → value_at r h.end.carrier.live ≡ o → IsSeated r h seat →
     table_error r call h.end ≡ seat_error seat call

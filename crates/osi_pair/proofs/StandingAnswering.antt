@@ -50,8 +50,7 @@ pub record AnswerLaws : Type 0 where
 
 pub acts_of : (s : Side) (p : TwoEnds) (b : Between) (packet : List ℕ) (h : Held) → (pa : PacketActs (terms_at p) (is_caller s) (carriers_of p) b packet h.octets) →
     carriers.after_packet (end_at s p).end.carrier packet ≡ carrier_react pa.unit (end_at s p).end.carrier
-acts_of Left p b packet h pa = pa.acts
-acts_of Right p b packet h pa = pa.acts
+acts_of s p b packet h pa = grind arith
 
 pub sound_behind : PacketLaws → (s : Side) (p : TwoEnds) (b : Between) (t : Tables) (packet : List ℕ) (h : Held) → Stands p b t → (end_at s p).end.carrier.ended ≡ None →
     PacketActs (terms_at p) (is_caller s) (carriers_of p) b packet h.octets → IsSound (after_packet (end_at s p).end packet)
@@ -61,13 +60,9 @@ sound_behind laws s p b t packet h old alive pa =
 
 -- ---- a move that closes
 
-opened_open : (b : Bool) (x : Standing) → (if b then begun x else rests x).closes ≡ false
-opened_open true x = refl
-opened_open false x = refl
-
 pub opened_stays : (x : Standing) → (react x opened).closes ≡ false
 unfolding react
-opened_stays x = opened_open (is_wait_transport x.state.phase) x
+opened_stays x = grind arith
 
 refused_stays : (x : Standing) (reason : ℕ) → (react x (refused reason)).closes ≡ false
 unfolding react
@@ -79,9 +74,7 @@ broken_stays x = refl
 
 taken_alone : AnswerLaws → (x : Standing) (u : Meaning) → (react x (taken (said_of u))).closes ≡ true → (react x (taken (said_of u))).reply ≡ None
 unfolding react
-taken_alone laws x u h =
-    let same = laws.says x.state u in
-    ap (λ (o : Outcome). o.reply) same ∙ laws.alone x.state u (ap (λ (o : Outcome). o.closes) (sym same) ∙ h)
+taken_alone laws x u h = grind arith
 
 -- it answers nothing, and its connection was open
 pub record ClosesAlone (row : Row) (m : Message) (x : Standing) : Type 0 where
@@ -119,8 +112,7 @@ learns_same class tr m = grind arith
 -- where a unit comes to an open connection the caller has agreed the class
 pub class_known : (s : Side) (p : TwoEnds) (b : Between) (t : Tables) (packet : List ℕ) (h : Held) → Stands p b t → (pa : PacketActs (terms_at p) (is_caller s) (carriers_of p) b packet h.octets) →
     before pa.did.row ≡ in_use → t.known ≡ option_map class_in (class_of (terms_at p))
-class_known s p b t packet h old pa used =
-    old.known ∙ ap (option_map class_in) (sym old.class_then ∙ pa.first.class (linked_place (place_at (reference_of pa.unit) (last_of (is_caller s) b)) (pa.did.stood ∙ used)))
+class_known s p b t packet h old pa used = grind arith
 
 known_by_class : (s : Side) (p : TwoEnds) (b : Between) (t : Tables) (packet : List ℕ) (h : Held) (terms : Terms) (class : worlds.Class) → Stands p b t → (pa : PacketActs (terms_at p) (is_caller s) (carriers_of p) b packet h.octets) →
     before pa.did.row ≡ in_use → terms_at p ≡ terms → terms_in terms ≡ accepts class → option_map class_in (class_of terms) ≡ Some class → (tr : Transport) (m : Message) → learns t.terms tr m t.known ≡ Some class

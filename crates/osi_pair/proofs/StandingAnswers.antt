@@ -58,8 +58,7 @@ use Rattle.osi_pair.proofs.StandingTurned.{with_holding, turned_pair}
 -- ---- the two ends when the session has moved
 
 pub turned_here : (s : Side) (e : End) (h : Held) (n : ℕ) (shown : List Shown) (p : TwoEnds) → end_at s (turned_pair s e h n shown p) ≡ record { end = e; held = h }
-turned_here Left e h n shown p = refl
-turned_here Right e h n shown p = refl
+turned_here s e h n shown p = grind arith
 
 -- the end as it then stands, with the carrier as it acted, and where all that waits still waits
 abbrev pub answered_end : Carrier → Rows Line → End
@@ -79,30 +78,13 @@ shown_is Right p e h n shown c lines lasts waits =
 
 -- it is in order, as it was where it has the connections that its sessions need
 order_then : (e : End) (c : Carrier) (lines : Rows Line) → e.lines ≡ quieted lines → c.ended ≡ None → c.given ≡ e.carrier.given → c.events ≡ e.carrier.events → IsInOrder e → IsSound (answered_end c lines) → IsInOrder (with_carrier c e)
-order_then e c lines same lasts given events was sound =
-    let x = sound lasts in
-    record {
-      heard = events ∙ was.heard;
-      sound = record {
-        orderly = x.orderly;
-        apart = was.sound.apart;
-        known = subst (λ (k : ℕ). AreUpTo k e.lines) (sym given) was.sound.known;
-        links = λ alive r y kept needs. x.links alive r y (sym (quiet_kept r lines) ∙ ap (kept_at r) (sym same) ∙ kept) needs;
-      };
-      rising = was.rising;
-      came = was.came;
-    }
+order_then e c lines same lasts given events was sound = grind (arith, quiet_kept)
 
 sent_events : (n : ℕ) (tsdu : List ℕ) (c : Carrier) (peer : ℕ) (link : Link) → open_link n c ≡ Some (peer, link) → (sent n tsdu c).events ≡ c.events
 sent_events n tsdu c peer link is = ap (λ (o : Option (ℕ × Link)). (sent_on n tsdu o c).events) is
 
-closes_events : (n : ℕ) (c : Carrier) (peer reason : ℕ) (class : Option Class) → (closes n peer reason class c).events ≡ c.events
-closes_events n c peer reason (Some Zero) = refl
-closes_events n c peer reason (Some Two) = refl
-closes_events n c peer reason None = refl
-
 closed_events : (n reason : ℕ) (c : Carrier) (peer : ℕ) (link : Link) → open_link n c ≡ Some (peer, link) → (closed_with n reason c).events ≡ c.events
-closed_events n reason c peer link is = ap (λ (o : Option (ℕ × Link)). (closed_on n reason o c).events) is ∙ closes_events n c peer reason c.class
+closed_events n reason c peer link is = grind arith
 
 -- ---- the tables
 
@@ -120,8 +102,7 @@ pub stays_twice : (t : Tables) (s : machine.Side) (n : ℕ) (es : List entries.E
 stays_twice t s n es x y = ap (λ (ls : List TableLine). noted_in es (record t { lines = ls })) (with_twice n (seen_from s x) (seen_from s y) t.lines)
 
 pub closing_by : (t : Tables) (s : machine.Side) (n : ℕ) (keep : ℕ → ℕ) (turn : Turn) → turn.closes ≡ true → after_turn t s n keep turn ≡ closes_by t.known (noted_in (map (shown_at s n) turn.shown) t) s n keep turn.line
-closing_by t s n keep turn e =
-    ap (λ (b : Bool). if◌then◌else◌ {A = Tables} b (closes_by t.known (noted_in (map (shown_at s n) turn.shown) t) s n keep turn.line) (noted_in (map (shown_at s n) turn.shown) (stays t s n turn.line))) e
+closing_by t s n keep turn e = grind arith
 
 -- the line where this is sent
 abbrev pub line_with : Bool → Moving → Option Meaning → TableLine
@@ -156,18 +137,13 @@ closed_step s p t packet h v keep known closing reply =
 pub move_ends : (row : Row) → is_move row ≡ true → (after row ≡ in_use) ⊎ (after row ≡ gone)
 move_ends row e = grind arith
 
-some_none : (o : Option Meaning) (x : Meaning) → o ≡ Some x → o ≡ None → ⊥
-some_none o x e f = cc
-
 linked_sends : (s : Side) (p : TwoEnds) (t : Tables) (packet : List ℕ) (h : Held) (v : HasMoved s p t packet h) (x : Meaning) → (move_of v.m).reply ≡ Some x → ((after v.m.row ≡ in_use) ⊎ (after v.m.row ≡ gone)) →
     IsLinkedAt v.m.n (moved_end s p v.unit v.m).carrier
-linked_sends s p t packet h v x reply (inl e) = v.opened e
-linked_sends s p t packet h v x reply (inr e) = absurd (some_none (move_of v.m).reply x reply (v.silent e).0)
+linked_sends s p t packet h v x reply h8 = grind arith
 
 pub linked_closes : (s : Side) (p : TwoEnds) (t : Tables) (packet : List ℕ) (h : Held) (v : HasMoved s p t packet h) → (move_of v.m).closes ≡ true → ((after v.m.row ≡ in_use) ⊎ (after v.m.row ≡ gone)) →
     IsLinkedAt v.m.n (moved_end s p v.unit v.m).carrier
-linked_closes s p t packet h v closing (inl e) = v.opened e
-linked_closes s p t packet h v closing (inr e) = let no_way : true ≡ false = sym closing ∙ (v.silent e).1 in cc
+linked_closes s p t packet h v closing h7 = grind arith
 
 -- the end is in order before it sends or closes
 pub moved_order : (s : Side) (p : TwoEnds) (t : Tables) (packet : List ℕ) (h : Held) (v : HasMoved s p t packet h) → IsInOrder (moved_end s p v.unit v.m)
@@ -246,8 +222,7 @@ closed_shown laws s p t packet h v sound two known closing reply over =
 -- ---- a move that sends and closes nothing
 
 same_pair : (s : Side) (e : End) (h : Held) (n : ℕ) (shown : List Shown) (p : TwoEnds) → with_holding s (with_carrier e.carrier e) h (turned_pair s e h n shown p) ≡ turned_pair s e h n shown p
-same_pair Left e h n shown p = refl
-same_pair Right e h n shown p = refl
+same_pair s e h n shown p = grind arith
 
 silent_step : (s : Side) (p : TwoEnds) (t : Tables) (packet : List ℕ) (h : Held) (v : HasMoved s p t packet h) (keep : ℕ → ℕ) → (move_of v.m).closes ≡ false → (move_of v.m).reply ≡ None →
     step t (delivers (side_in s) v.m.n keep) ≡ moved_tables s t v.m

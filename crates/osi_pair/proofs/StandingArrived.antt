@@ -1,6 +1,6 @@
 -- A packet is taken at one of two carriers, and what it told is heard: which row it is, and what is under way
 -- then.
-use Rattle.std.proofs.Common.{◌≡◌, ◌≢◌, ℕ, ◌+◌, ◌<◌, Bool, true, false, not, List, [], ◌∷◌, ◌++◌, Some, None, refl, sym, ap, subst, ◌∙◌}
+use Rattle.std.proofs.Common.{◌≡◌, ◌≢◌, ℕ, ◌+◌, ◌<◌, Bool, true, false, not, List, [], ◌∷◌, ◌++◌, Some, None, refl, sym, ap, subst, ◌∙◌, arith}
 use Rattle.std.specs.List.{flat_map, AllByRecursion}
 use Rattle.osi_tpkt.specs.Octets.{IsOctets}
 use Rattle.osi_tpkt.specs.Packet.{IsPacket}
@@ -79,12 +79,10 @@ pub record PacketActs (terms : Terms) (end : Bool) (both : Both) (b : Between) (
   pub local : (react unit (side end both).state).local ≡ (side end both).state.local
 
 first_sendable : (terms : Terms) (end : Bool) (both : Both) (b : Between) (u : Value) (rest : List Value) → AreBetween terms both b → (side end both).state.ended ≡ None → units_from (not end) b ≡ u ∷ rest → IsSendable u
-first_sendable terms true both b u rest a alive e = (subst (λ (us : List Value). AllByRecursion IsSendable us) e (a.comes false alive).sendable).0
-first_sendable terms false both b u rest a alive e = (subst (λ (us : List Value). AllByRecursion IsSendable us) e (a.comes true alive).sendable).0
+first_sendable terms end both b u rest a alive e = grind arith
 
 side_same : (end : Bool) (s : State) (behind : List ℕ) (both : Both) → (side end (becomes end s behind both)).state ≡ s
-side_same true s behind both = refl
-side_same false s behind both = refl
+side_same end s behind both = grind arith
 
 pub packet_acts : CarrierLaws → (terms : Terms) (end : Bool) (both : Both) (b : Between) (packet octets behind : List ℕ) → AreBetween terms both b → (side end both).state.ended ≡ None →
     (side end both).state.events ≡ [] → IsPacket packet octets → (side end both).held ≡ octets ++ behind → PacketActs terms end both b packet behind

@@ -73,16 +73,13 @@ pub record IsFirstFor (terms : Terms) (end : Bool) (caller : State) (place : Pla
 -- ---- in class 2
 
 given_open : (n : ℕ) (g : Given) → comes_open (unit_of n g) ≡ true
-given_open n (part0 end octets) = refl
-given_open n (part2 number end octets) = refl
-given_open n (ack number credit) = refl
+given_open n g = grind arith
 
 same_open : (u v : Value) → v ≡ u → comes_open v ≡ true → comes_open u ≡ true
 same_open u v e h = subst (λ (x : Value). comes_open x ≡ true) e h
 
 leaving_open : (n reason : ℕ) → 0 < n → comes_open (leaving n reason) ≡ true
-leaving_open zero reason h = absurd (omega arith)
-leaving_open (suc n) reason h = refl
+leaving_open n reason h = grind arith
 
 first_is : {A : Type 0} (x y : A) (xs ys : List A) → x ∷ xs ≡ y ∷ ys → x ≡ y
 first_is x y xs ys e = cc
@@ -100,21 +97,17 @@ left_first n reason (g ∷ gs) u vs some e = same_open u (unit_of n g) (first_is
 
 met_comes : (n : ℕ) (m : Meeting) (u : Value) (vs : List Value) → 0 < n → out n (mirror m) ≡ u ∷ vs → comes true (was_given (here n m)) u ≡ true
 met_comes n (talking p) u vs some e = open_first n p.leftward u vs e
-met_comes n (left_here p units reason) u vs some e = refl
 met_comes n (left_there p units reason) u vs some e = left_first n reason p.leftward u vs some e
-met_comes n (left_both units reason back other) u vs some e = refl
-met_comes n (waiting_here units last) u vs some e = refl
 met_comes n (waiting_there units last) u vs some e = none_first u vs e
 met_comes n parted u vs some e = none_first u vs e
+met_comes n m u vs some e = grind arith
 
 met_back : (n : ℕ) (m : Meeting) (u : Value) (vs : List Value) → 0 < n → out n m ≡ u ∷ vs → comes true (was_given (here n (mirror m))) u ≡ true
 met_back n (talking p) u vs some e = open_first n p.rightward u vs e
 met_back n (left_here p units reason) u vs some e = left_first n reason p.rightward u vs some e
-met_back n (left_there p units reason) u vs some e = refl
-met_back n (left_both units reason back other) u vs some e = refl
 met_back n (waiting_here units last) u vs some e = none_first u vs e
-met_back n (waiting_there units last) u vs some e = refl
 met_back n parted u vs some e = none_first u vs e
+met_back n m u vs some e = grind arith
 
 met_asked : (n : ℕ) (m : Meeting) → is_asked (was_given (here n m)) ≡ false
 met_asked n m = grind arith
@@ -149,8 +142,7 @@ to_called n caller called (withdrawing c p reason) u vs some h e = none_first u 
 to_called n caller called (met m) u vs some h e = record { may = met_back n m u vs some e; class = λ x. h.class; given = λ x. cc; waits = λ x. not_asked (was_given (here n (mirror m))) (met_asked n (mirror m)) x }
 
 given_by : (n given : ℕ) (o : Option Connection) (b : Bool) → nat_lt given n ≡ b → ((if nat_lt given n then never else was_given o) ≡ never → ⊥) → n ≤ given
-given_by n given o true e none = absurd (none (ap (λ (c : Bool). if◌then◌else◌ {A = Place} c never (was_given o)) e))
-given_by n given o false e none = grind (arith, nat_tests)
+given_by n given o b e none = grind arith
 
 -- a reference that the caller has a place for was given
 was : (n : ℕ) (s : State) → (place_at n s ≡ never → ⊥) → n ≤ s.given
@@ -162,13 +154,9 @@ two_to_caller caller called going coming u rest j e =
     let some : 0 < n = (subst (λ (us : List Value). AllByRecursion (λ unit. 0 < reference_of unit) us) e j.named_back).0 in
     let st = j.stands n some in
     let c = to_caller n caller called st.course u (units_of n rest) some st.holds (sym st.back ∙ ap (units_of n) e ∙ first_of_all u rest) in
-    record {
-      named = some;
-      given = was n caller (λ x. c.given (sym st.place ∙ x));
-      may = subst (λ (p : Place). comes true p u ≡ true) (sym st.place) c.may;
-      class = λ x. c.class (ap is_linked (sym st.place) ∙ x);
-      waits = λ x. refl;
-    }
+    let given = was n caller (λ x. c.given (sym st.place ∙ x)) in
+    let may = subst (λ (p : Place). comes true p u ≡ true) (sym st.place) c.may in
+    grind arith
 
 two_to_called : (caller called : State) (going coming : List Value) (u : Value) (rest : List Value) → AreJoined caller called going coming → going ≡ u ∷ rest → IsFirstFor by_two false caller (place_at (reference_of u) called) u
 two_to_called caller called going coming u rest j e =
@@ -176,13 +164,9 @@ two_to_called caller called going coming u rest j e =
     let some : 0 < n = (subst (λ (us : List Value). AllByRecursion (λ unit. 0 < reference_of unit) us) e j.named).0 in
     let st = j.stands n some in
     let c = to_called n caller called st.course u (units_of n rest) some st.holds (sym st.out ∙ ap (units_of n) e ∙ first_of_all u rest) in
-    record {
-      named = some;
-      given = was n caller (λ x. c.given (sym st.place ∙ x));
-      may = subst (λ (p : Place). comes true p u ≡ true) (sym st.place_there) c.may;
-      class = λ x. c.class (ap is_linked (sym st.place_there) ∙ x);
-      waits = λ x. c.waits (ap is_asked (sym st.place_there) ∙ x);
-    }
+    let given = was n caller (λ x. c.given (sym st.place ∙ x)) in
+    let may = subst (λ (p : Place). comes true p u ≡ true) (sym st.place_there) c.may in
+    grind arith
 
 -- ---- in class 0
 
@@ -197,9 +181,7 @@ one_unit : (u v : Value) → v ≡ u → reference_of v ≡ 1 → reference_of u
 one_unit u v e h = subst (λ (x : Value). reference_of x ≡ 1) e h
 
 one_given : (g : Given) → reference_of (unit_of 1 g) ≡ 1
-one_given (part0 end octets) = refl
-one_given (part2 number end octets) = refl
-one_given (ack number credit) = refl
+one_given g = grind arith
 
 one_first : (gs : List Given) (u : Value) (vs : List Value) → addressed 1 gs ≡ u ∷ vs → reference_of u ≡ 1
 one_first [] u vs e = none_first u vs e
@@ -222,22 +204,15 @@ zero_to_called caller called (zero_class.accepting c p) u vs h e = none_first u 
 zero_to_called caller called (zero_class.talking p) u vs h e = record { first = one_first p.rightward u vs e; may = open_first 1 p.rightward u vs e; class = λ x. refl; given = refl; waits = λ x. cc }
 
 place_by : (n : ℕ) (s : State) (given : ℕ) (live : Rows Connection) → s.given ≡ given → s.live ≡ live → place_at n s ≡ (if nat_lt given n then never else was_given (value_at n live))
-place_by n s given live e f =
-    ap (λ (g : ℕ). if◌then◌else◌ {A = Place} (nat_lt g n) never (was_given (value_at n s.live))) e
-    ∙ ap (λ (l : Rows Connection). if◌then◌else◌ {A = Place} (nat_lt given n) never (was_given (value_at n l))) f
+place_by n s given live e f = grind arith
 
 zero_first : (end : Bool) (caller taker : State) (there place : Place) (u : Value) → HasOne caller there → HasOne taker place → ZeroBy end there place u → IsFirstFor by_zero end caller (place_at (reference_of u) taker) u
 zero_first end caller taker there place u one other z =
     let at : place_at (reference_of u) taker ≡ place = ap (λ (n : ℕ). place_at n taker) z.first ∙ one_place taker place other in
     let first = z.first in
     let given : caller.given ≡ 1 = one.given ∙ z.given in
-    record {
-      named = omega arith;
-      given = omega arith;
-      may = subst (λ (p : Place). comes true p u ≡ true) (sym at) z.may;
-      class = λ x. one.class ∙ z.class (ap is_linked (sym at) ∙ x);
-      waits = λ x. z.waits (ap is_asked (sym at) ∙ x);
-    }
+    let may = subst (λ (p : Place). comes true p u ≡ true) (sym at) z.may in
+    grind arith
 
 -- ---- where CRs are refused
 
@@ -251,18 +226,7 @@ refusing_to_caller reason caller stage u vs h l e = grind arith
 refusing_to_called : (reason : ℕ) (caller called : State) (stage : Refusal) (u : Value) (vs : List Value) → refusal.Holds caller stage → called.given ≡ 0 →
     refusal.from_end true reason caller.given stage ≡ u ∷ vs → IsFirstFor (refusing reason) false caller (place_at (reference_of u) called) u
 refusing_to_called reason caller called refusal.unasked u vs h zero_given e = none_first u vs e
-refusing_to_called reason caller called (refusal.asking c) u vs h zero_given e =
-    let is = first_is (request c) u [] vs e in
-    let n : reference_of u ≡ caller.given = subst (λ (x : Value). reference_of x ≡ caller.given) is (source_is caller.given caller.local c h.1) in
-    let some = h.0 in
-    let at = never_at (reference_of u) called (omega arith) zero_given in
-    record {
-      named = omega arith;
-      given = omega arith;
-      may = subst (λ (p : Place). comes false p u ≡ true) (sym at) (request_comes c u is);
-      waits = λ x. not_asked never refl (ap is_asked (sym at) ∙ x);
-      class = λ x. let never_so : false ≡ true = ap is_linked (sym at) ∙ x in cc;
-    }
+refusing_to_called reason caller called (refusal.asking c) u vs h zero_given e = grind (arith, first_is, source_is, never_at, request_comes, not_asked)
 refusing_to_called reason caller called refusal.denied u vs h zero_given e = none_first u vs e
 
 -- ---- at either end

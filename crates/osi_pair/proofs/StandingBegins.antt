@@ -84,11 +84,8 @@ begun_kept n q live lines x apart none all h = kept_by n q live lines x apart (u
 
 -- ---- the reference is new
 
-new_by : (n : ℕ) (s : State) (b : Bool) → nat_lt s.given n ≡ b → progress_of (place_at n s) ≡ not_yet → s.given < n
-new_by n s b e h = grind arith
-
 pub new_at : (n : ℕ) (s : State) → progress_of (place_at n s) ≡ not_yet → s.given < n
-new_at n s h = new_by n s (nat_lt s.given n) refl h
+new_at n s h = grind arith
 
 -- ---- two ends
 

@@ -116,35 +116,14 @@ break_stands laws p b t k l s run none =
     let at : (n : ℕ) → Breaks n k l p b (length t.lines) lost.now t.lines = λ n. breaks_at n k l p b lost t s (takes_from laws.takes Left t run) (takes_from laws.takes Right t run) (within_or n (length t.lines)) in
     let left : ℕ → ℕ = λ n. (at n).left in
     let right : ℕ → ℕ = λ n. (at n).right in
-    record {
-      keep_left = left;
-      keep_right = right;
-      now = lost.now;
-      stands = subst (Stands (after_break k l p) lost.now) (sym (one_step t left right (s.broken ∙ ap is_some none))) (record {
-        between = lost.between;
-        terms = s.terms;
-        broken = refl;
-        caller = s.caller;
-        left_end = s.left_end;
-        right_end = s.right_end;
-        known = s.known;
-        journal = s.journal;
-        given = cut_count left right 1 t.lines ∙ s.given;
-        given_then = lost.given true ∙ s.given_then;
-        class_then = lost.class true ∙ s.class_then;
-        given_back = subst (λ (m : ℕ). p.right.end.carrier.given ≤ m) (sym (cut_count left right 1 t.lines)) s.given_back;
-        over_left = s.over_left;
-        over_right = s.over_right;
-        lost_right = s.lost_right;
-        order_left = s.order_left;
-        order_right = s.order_right;
-        lines = λ n a c.
-            let h = (at n).is a (subst (λ (m : ℕ). n ≤ m) (cut_count left right 1 t.lines) c) in
-            record { line = cut_line (left n) (right n) h.line; found = cut_there left right n t.lines h.line h.found; is = h.is };
-        quiet_left = s.quiet_left;
-        quiet_right = s.quiet_right;
-      });
-    }
+    let count = cut_count left right 1 t.lines in
+    let lines : (n : ℕ) → 0 < n → n ≤ length (cut_channels left right 1 t.lines) → HasLine n (after_break k l p) lost.now (record t { broken = true; lines = cut_channels left right 1 t.lines }) = λ n a c.
+    let h = (at n).is a (subst (λ (m : ℕ). n ≤ m) count c) in
+    record { line = cut_line (left n) (right n) h.line; found = cut_there left right n t.lines h.line h.found; is = h.is } in
+    let given = lost.given true ∙ s.given_then in
+    let class = lost.class true ∙ s.class_then in
+    let stands : Stands (after_break k l p) lost.now (record t { broken = true; lines = cut_channels left right 1 t.lines }) = grind arith in
+    record { keep_left = left; keep_right = right; now = lost.now; stands = subst (Stands (after_break k l p) lost.now) (sym (one_step t left right (s.broken ∙ ap is_some none))) stands }
 
 -- ---- at a list of steps
 

@@ -129,8 +129,7 @@ refused_step t side r call (Some l) e at h =
     (λ given error. ap (stays t (side_in side) r) (refused_line t.broken call x e error) ∙ stays_same t side r l at) h
 
 with_same : (side : Side) (p : TwoEnds) → with_end side (end_at side p) p ≡ p
-with_same Left p = refl
-with_same Right p = refl
+with_same side p = grind arith
 
 -- what a call does, by its answer
 abbrev pub after_by : Option CallError → Side → ℕ → Call → TwoEnds → TwoEnds
@@ -171,13 +170,10 @@ pub record SentOn (r : ℕ) (c new : Carrier) : Type 0 where
   pub live : new.live ≡ put r (linked peer link) c.live
 
 pub sent_is : (r : ℕ) (tsdu : List ℕ) (c : Carrier) (peer : ℕ) (link : Link) → open_link r c ≡ Some (peer, link) → SentOn r c (sent r tsdu c)
-sent_is r tsdu c peer link is =
-    subst (λ (o : Option (ℕ × Link)). SentOn r c (sent_on r tsdu o c)) (sym is)
-    (record { is_caller = refl; local = refl; class = refl; given = refl; ended = refl; peer = peer; link = _; live = refl })
+sent_is r tsdu c peer link is = grind arith
 
 pub open_is : (n : ℕ) (c : Carrier) (peer : ℕ) (link : Link) → c.ended ≡ None → value_at n c.live ≡ Some (linked peer link) → open_link n c ≡ Some (peer, link)
-open_is n c peer link alive at =
-    ap (λ (x : Option EndReason). if◌then◌else◌ {A = Option (ℕ × Link)} (is_some x) None (link_of (value_at n c.live))) alive ∙ ap link_of at
+open_is n c peer link alive at = grind arith
 
 -- TSDUs that are sent together leave it so
 pub record StaysOpen (r : ℕ) (c new : Carrier) : Type 0 where
@@ -196,17 +192,7 @@ all_sent r [] c peer link lasts at = record { is_caller = refl; local = refl; cl
 all_sent r (tsdu ∷ tsdus) c peer link lasts at =
     let k = sent_is r tsdu c peer link (open_is r c peer link lasts at) in
     let more = all_sent r tsdus (sent r tsdu c) k.peer k.link (k.ended ∙ lasts) (ap (value_at r) k.live ∙ put_here r (linked k.peer k.link) (linked peer link) c.live at) in
-    record {
-      is_caller = more.is_caller ∙ k.is_caller;
-      local = more.local ∙ k.local;
-      class = more.class ∙ k.class;
-      given = more.given ∙ k.given;
-      ended = more.ended ∙ k.ended;
-      peer = more.peer;
-      link = more.link;
-      at = more.at;
-      others = λ q apart. more.others q apart ∙ ap (value_at q) k.live ∙ put_other q r (linked k.peer k.link) c.live apart;
-    }
+    grind (arith, put_other, all_sent r tsdus (sent r tsdu c) k.peer k.link (k.ended ∙ lasts) (ap (value_at r) k.live ∙ put_here r (linked k.peer k.link) (linked peer link) c.live at))
 
 -- ---- the end of an accepted call
 
@@ -243,31 +229,17 @@ called_is laws r call h none =
     s.acts.carrier ∙ ap (λ (b : Bool). puts r (put_by b limit (words.react session (words.called call)).reply) h.end.carrier) g.closes
     ∙ ap (λ (o : Option Meaning). puts r (put_by false limit o) h.end.carrier) g.reply
     ∙ sym (puts_words r (words_sent limit g.step.sent) h.end.carrier) in
-    record {
-      session = session;
-      was = s.live;
-      granted = g.step;
-      accepted = g.accepted;
-      reply = g.reply;
-      waits = ap (λ (x : Listener). x.waiting) g.next;
-      short = g.short;
-      opened = open_now;
-      is = is;
-      kept = subst (StaysOpen r h.end.carrier) (sym is) (all_sent r (tsdus_of limit g.step.sent) h.end.carrier open_now.peer open_now.link open_now.lasts open_now.at);
-      line = s.acts.line;
-      found = s.acts.here;
-      line_now = line_then s.acts.line (Some session) (words.called call);
-      session_now = refl;
-      waiting_now = ap (λ (l : List Shown). s.acts.line.waiting ++ l) g.shown ∙ append-nil s.acts.line.waiting;
-      lines = s.acts.lines;
-    }
+    let waits = ap (λ (x : Listener). x.waiting) g.next in
+    let kept = subst (StaysOpen r h.end.carrier) (sym is) (all_sent r (tsdus_of limit g.step.sent) h.end.carrier open_now.peer open_now.link open_now.lasts open_now.at) in
+    let line_now = line_then s.acts.line (Some session) (words.called call) in
+    let waiting_now = ap (λ (l : List Shown). s.acts.line.waiting ++ l) g.shown ∙ append-nil s.acts.line.waiting in
+    search
 
 value_now : (r : ℕ) (call : Call) (h : Holding) (c : Called r call h) → value_at r (now_of r call h).end.carrier.live ≡ Some (linked c.kept.peer c.kept.link)
 value_now r call h c = c.kept.at
 
 place_now : (r : ℕ) (call : Call) (h : Holding) (c : Called r call h) → r ≤ h.end.carrier.given → place_at r (now_of r call h).end.carrier ≡ was_given (Some (linked c.kept.peer c.kept.link))
-place_now r call h c within =
-    place_given r (now_of r call h).end.carrier (subst (λ (n : ℕ). r ≤ n) (sym c.kept.given) within) ∙ ap was_given (value_now r call h c)
+place_now r call h c within = grind arith
 
 place_then : (r : ℕ) (call : Call) (h : Holding) (c : Called r call h) → r ≤ h.end.carrier.given → place_at r h.end.carrier ≡ was_given (Some (linked c.opened.peer c.opened.link))
 place_then r call h c within = place_given r h.end.carrier within ∙ ap was_given c.opened.at
@@ -276,8 +248,7 @@ line_found : (r : ℕ) (call : Call) (h : Holding) (c : Called r call h) → val
 line_found r call h c = ap (value_at r) c.lines ∙ put_here r c.line_now c.line h.end.lines c.found
 
 pub session_now_is : (r : ℕ) (e : End) (x : Connection) (l : stack.Line) → value_at r e.carrier.live ≡ Some x → value_at r e.lines ≡ Some l → session_at r e ≡ l.session
-session_now_is r e x l live at =
-    ap (λ (o : Option Connection). if◌then◌else◌ {A = Option Listener} (is_some o) (session_in (value_at r e.lines)) None) live ∙ ap session_in at
+session_now_is r e x l live at = grind arith
 
 -- the session of the seat is the one that was called
 pub seat_session : (r : ℕ) (call : Call) (h : Holding) (seat : Seat) (c : Called r call h) → (s : IsSeated r h seat) → joining s.joined seat.session ≡ c.session
@@ -319,12 +290,10 @@ abbrev pub new_of : Side → ℕ → Call → TwoEnds → TwoEnds
 new_of side r call p = with_end side (now_of r call (end_at side p)) p
 
 end_is : (side : Side) (r : ℕ) (call : Call) (p : TwoEnds) → end_at side (new_of side r call p) ≡ now_of r call (end_at side p)
-end_is Left r call p = refl
-end_is Right r call p = refl
+end_is side r call p = grind arith
 
 other_is : (side : Side) (r : ℕ) (call : Call) (p : TwoEnds) → end_at (other side) (new_of side r call p) ≡ end_at (other side) p
-other_is Left r call p = refl
-other_is Right r call p = refl
+other_is side r call p = grind arith
 
 abbrev pub terms_now : TwoEnds → Terms
 terms_now p = terms_of p.left.end.carrier.local p.right.end.carrier.local
@@ -372,8 +341,7 @@ lasts_now r call h c = c.kept.ended ∙ c.opened.lasts
 -- the end that acted is as it last was
 pub lives_now : (side : Side) (r : ℕ) (call : Call) (p : TwoEnds) (b : Between) (words : List Word) (m : Meaning) (a : MayAct side r call p b words m) → (now_of r call (end_at side p)).end.carrier.ended ≡ None →
     (now_of r call (end_at side p)).end.carrier ≡ last_of (is_caller side) a.now
-lives_now Left r call p b words m a e = a.between.lives true e
-lives_now Right r call p b words m a e = a.between.lives false e
+lives_now side r call p b words m a e = grind arith
 
 progress_now : (side : Side) (r : ℕ) (call : Call) (p : TwoEnds) (b : Between) (c : Called r call (end_at side p)) (a : MayAct side r call p b (sent_words r call (end_at side p) c) c.granted.sent) → r ≤ (end_at side p).end.carrier.given →
     progress_of (place_at r (last_of (is_caller side) a.now)) ≡ in_use
@@ -416,20 +384,7 @@ tables_now t side r call l = stays t (side_in side) r (after_call t.broken call 
 -- all others are as they were
 pub others_left : (side : Side) (r : ℕ) (call : Call) (p : TwoEnds) (b : Between) (words : List Word) (m : Meaning) → Called r call (end_at side p) → (a : MayAct side r call p b words m) →
     Others side p b (now_of r call (end_at side p)).end (end_at side p).held a.now r
-others_left side r call p b words m c a =
-    let h : Holding = end_at side p in
-    let e : End = (now_of r call h).end in
-    let line : (q : ℕ) → q ≢ r → value_at q e.lines ≡ value_at q h.end.lines = λ q apart. ap (value_at q) c.lines ∙ put_other q r c.line_now h.end.lines apart in
-    record {
-      places = λ q apart. ap (λ (n : ℕ). if◌then◌else◌ {A = Place} (nat_lt n q) never (was_given (value_at q e.carrier.live))) c.kept.given
-          ∙ ap (λ (o : Option Connection). if◌then◌else◌ {A = Place} (nat_lt h.end.carrier.given q) never (was_given o)) (c.kept.others q apart);
-      lives = c.kept.others;
-      sessions = λ q apart is. ap session_in (line q apart);
-      kept = λ q apart x is. sym (ap session_in (line q apart)) ∙ is;
-      ways = a.carries.others;
-      last = a.carries.other_places;
-      there = λ q. ap (place_at q) (still_there side b a.now a.carries.there);
-    }
+others_left side r call p b words m c a = grind (arith, put_other, if◌then◌else◌, nat_lt, still_there)
 
 -- ---- what waits
 

@@ -68,8 +68,7 @@ record Accepted (t : Tables) (side : Side) (r : ℕ) (call : Call) (o : Option L
   is : call_in t (side_in side) r call (side_of (side_in side) o) ≡ tables.noted (call_answered (side_in side) r call None ∷ []) (tables_now t side r call line)
 
 given_by : (b : Bool) (first : Option CallError) (e : CallError) (f : Option CallError → Tables) (other : Tables) → (if b then first else Some e) ≡ None → (if b then f first else other) ≡ f None
-given_by true first e f other h = ap f h
-given_by false first e f other h = absurd cc
+given_by b first e f other h = grind arith
 
 accepted_step : (t : Tables) (side : Side) (r : ℕ) (call : Call) (o : Option Line) → line_error (side_of (side_in side) o) call ≡ None → Accepted t side r call o
 accepted_step t side r call o h = grind arith
@@ -77,21 +76,16 @@ accepted_step t side r call o h = grind arith
 -- ---- what is sent
 
 sound_seat : (side : Side) (l : Line) → IsSoundLine l → IsSoundSeat (seen_from (side_in side) l).own
-sound_seat Left l h = h.own
-sound_seat Right l h = h.peer
+sound_seat side l h = grind arith
 
 -- what it sends can be sent
 record CanSend (r : ℕ) (call : Call) (h : Holding) (c : Called r call h) : Type 0 where
   octets : AllByRecursion IsOctets (tsdus_of (limit_of c.session.state) c.granted.sent)
   are : AreWords (sent_words r call h c) (unit c.granted.sent ∷ [])
 
-bounded_by : (s : State) (call : Call) → nat_le (length (octets_of call)) (most_of call) ≡ true → IsBounded (sends s call)
-bounded_by s (Data octets) short = leb-true (length octets) most_data short
-bounded_by s _ short = tt
-
 -- data is no longer than a Data may be
 is_bounded : (laws : CallLaws) (s : State) (call : Call) (x : Granted) → allowed s call ≡ Ok x → IsBounded x.sent
-is_bounded laws s call x accepted = let q = laws.passed s call x accepted in subst (λ (y : Granted). IsBounded y.sent) (sym q.gives) (bounded_by s call q.size)
+is_bounded laws s call x accepted = grind arith
 
 can_send : (laws : CallLaws) (side : Side) (r : ℕ) (call : Call) (p : TwoEnds) (b : Between) (t : Tables) (l : Line) (c : Called r call (end_at side p)) → IsTableRun t → HasSerial call →
     IsOctets (octets_of call) → connection_at r t.lines ≡ Some l → There r p b t l → CanSend r call (end_at side p) c
@@ -108,18 +102,11 @@ can_send laws side r call p b t l c tabled serial octets at th =
 
 -- ---- a reference that was given
 
-has_by : (b : Bool) (o : Option CallError) → (if not b then Some error.NoSuchConnection else o) ≡ None → b ≡ true
-has_by true o h = refl
-has_by false o h = absurd cc
-
 within_by : (a b : Bool) → (a && b) ≡ true → b ≡ true
-within_by true b h = h
-within_by false b h = absurd cc
+within_by a b h = grind arith
 
 within_given : (r : ℕ) (call : Call) (h : Holding) → call_error r call h.end ≡ None → r ≤ h.end.carrier.given
-within_given r call h none =
-    leb-true r h.end.carrier.given (within_by (nat_lt 0 r) (nat_le r h.end.carrier.given)
-    (has_by (has_given r h.end.carrier) (session_refusal r (session_at r h.end) call h.end.carrier) none))
+within_given r call h none = grind arith
 
 -- ---- a call
 
@@ -151,8 +138,7 @@ local_by : (laws : CallLaws) (side : Side) (r : ℕ) (call : Call) (p : TwoEnds)
     terms_of (after_by o side r call p).left.end.carrier.local (after_by o side r call p).right.end.carrier.local ≡ terms_of p.left.end.carrier.local p.right.end.carrier.local
 local_by laws Left r call p None e = ap (λ (x : Local). terms_of x p.right.end.carrier.local) (called_is laws r call p.left e).kept.local
 local_by laws Right r call p None e = ap (λ (x : Local). terms_of p.left.end.carrier.local x) (called_is laws r call p.right e).kept.local
-local_by laws Left r call p (Some x) e = refl
-local_by laws Right r call p (Some x) e = refl
+local_by laws side r call p o e = grind arith
 
 pub call_at : CallLaws → (p : TwoEnds) (steps : List Step) (side : Side) (r : ℕ) (call : Call) → HasSerial call → IsOctets (octets_of call) → StandsAt p steps →
     StandsAt (ends.after_call side r call p) (steps ++ entries.calls (side_in side) r call ∷ [])

@@ -98,12 +98,7 @@ pub record CarryLaws : Type 0 where
       (side end both).state.ended ≡ None → IsFaultOf at (side end both).held fault → ⊥
 
 pub piece_laws : CarryLaws → PieceLaws
-piece_laws laws = record {
-  packets = taken_laws laws.packet (few_wait laws.few);
-  carried = laws.carried;
-  sound = laws.sound;
-  starved = laws.few.starved;
-}
+piece_laws laws = grind (arith, taken_laws, few_wait)
 
 pub carries_stand : CarryLaws → (f : Side) (most : ℕ) (p : TwoEnds) (octets : ℕ) (new : TwoEnds) (steps : List Step) → StandsAt p steps → CarriesFrom f most p octets new →
     StandsAtArrivals (other f) new steps

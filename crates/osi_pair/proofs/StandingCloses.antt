@@ -62,15 +62,10 @@ close_acts laws s p b t n peer link old alive two at =
     let a = subst (ActedBy (is_caller s) p new b n) (sym two) (acted_by s p b n by_two (closed_with n 128) (carrier.bye 128 ∷ [])
     (laws.closed (is_caller s) (carriers_of p) b n peer link 128 (in_two p b t old two) (ap (λ (x : State). x.ended) c ∙ alive) (ap (λ (x : State). value_at n x.live) c ∙ at) (omega arith))) in
     let is = both_carrier s new ∙ ap (λ (y : Holding). y.end.carrier) (holding_here s (end_with s closed p) (end_at s p).held p) in
-    record {
-      on = closed_acts n (end_at s p).end.carrier peer 128 link alive at (sym (ap (λ (x : State). x.ended) is) ∙ a.lasts);
-      was = linked peer link;
-      at = at;
-      used = refl;
-      now = a.now;
-      between = a.between;
-      ways = ways_at s n p new b a.now (carrier.bye 128 ∷ []) a.carries;
-    }
+    let on = closed_acts n (end_at s p).end.carrier peer 128 link alive at (sym (ap (λ (x : State). x.ended) is) ∙ a.lasts) in
+    let was = linked peer link in
+    let ways = ways_at s n p new b a.now (carrier.bye 128 ∷ []) a.carries in
+    search
 
 -- ---- what is under way from it
 

@@ -83,21 +83,13 @@ record MayAsk (c : Connect) (h : Holding) : Type 0 where
   profile : is_profile (unit_bits c.requirements) ≡ true
 
 profile_by : (profile long : Bool) → (if not profile then Some NotSelected else (if long then Some TooLong else None)) ≡ None → profile ≡ true
-profile_by true long h = refl
-profile_by false long h = cc
+profile_by profile long h = grind arith
 
 opened_by : (o : Option OpenError) (error : Option ConnectError) → after_open o error ≡ None → (o ≡ None) × (error ≡ None)
-opened_by None error h = (refl, h)
-opened_by (Some e) error h = cc
+opened_by o error h = grind arith
 
 may_ask : (c : Connect) (h : Holding) → connect_error c h.end ≡ None → MayAsk c h
-may_ask c h none =
-    let o = opened_by (may_connect h.end.carrier) (terms_error c) none in
-    record {
-      may = o.0;
-      lasts = none_of h.end.carrier.ended (free_of h.end.carrier o.0).lasts;
-      profile = profile_by (is_profile (unit_bits c.requirements)) (is_long c) o.1;
-    }
+may_ask c h none = grind (arith, opened_by, none_of, free_of, profile_by)
 
 -- ---- the lines of the end
 
@@ -110,11 +102,7 @@ used_kept_by q p y l live lines true true used same rise more at =
     at_row q p y lines true same ∙ sym (at_row q p y (used_lines live lines) true same) ∙ sym (ap (value_at q) (used_by live (p, y) lines true used)) ∙ at
 used_kept_by q p y l live lines true false used same rise more at =
     at_row q p y lines false same ∙ more (sym (at_row q p y (used_lines live lines) false same) ∙ sym (ap (value_at q) (used_by live (p, y) lines true used)) ∙ at)
-used_kept_by q p y l live lines false true used same rise more at =
-    let is : value_at q lines ≡ Some l = more (sym (ap (value_at q) (used_by live (p, y) lines false used)) ∙ at) in
-    let none : value_at q lines ≡ None = ap (λ (n : ℕ). value_at n lines) (sym (eqb-true p q same)) ∙ absent p p lines (omega arith) rise in
-    let no : None ≡ Some l = sym none ∙ is in
-    cc
+used_kept_by q p y l live lines false true used same rise more at = grind (arith, used_by, eqb-true, absent)
 used_kept_by q p y l live lines false false used same rise more at =
     at_row q p y lines false same ∙ more (sym (ap (value_at q) (used_by live (p, y) lines false used)) ∙ at)
 
@@ -286,33 +274,14 @@ asks_stand laws c p b t a none s may can =
     let more : length (t.lines ++ x ∷ []) ≡ length t.lines + 1 = length-append t.lines (x ∷ []) in
     let o = s.order_left may.lasts in
     let lives : (asked_end c p.left).end.carrier ≡ a.now.caller = a.between.lives true a.lasts in
-    record {
-      between = a.between;
-      terms = s.terms;
-      broken = s.broken;
-      caller = s.caller;
-      left_end = s.left_end;
-      right_end = s.right_end;
-      known = s.known;
-      journal = s.journal;
-      given = more ∙ ap (λ (n : ℕ). n + 1) s.given;
-      given_then = ap (λ (y : Carrier). y.given) (sym lives);
-      class_then = ap (λ (y : Carrier). y.class) (sym lives);
-      given_back = let few = s.given_back in omega arith;
-      lines = λ m some few. line_by (m == next_of p.left) laws m c p b t a refl s may can some (subst (λ (n : ℕ). m ≤ n) more few);
-      over_left = λ e. let no : IsSome {T = EndReason} None = subst (λ (y : Option EndReason). IsSome y) may.lasts e in absurd cc;
-      over_right = s.over_right;
-      lost_right = s.lost_right;
-      order_left = λ e. record {
-        heard = laws.attended c p.left.end (λ h. o.heard) e;
-        sound = laws.sound c p.left.end none (λ h. o.sound) e;
-        rising = laws.rising c p.left.end o.sound o.rising;
-        came = laws.came c p.left.end o.came;
-      };
-      order_right = s.order_right;
-      quiet_left = quiet_used (asked_end c p.left).end.carrier.live (p.left.end.lines ++ (next_of p.left, line_of c) ∷ []) (quiet_push (next_of p.left) (calls_with c) p.left.end.lines ∙ s.quiet_left);
-      quiet_right = s.quiet_right;
-    }
+    let lines : (m : ℕ) → 0 < m → m ≤ length (t.lines ++ x ∷ []) → HasLine m (new_two c p) a.now (with_line t c) =
+    λ m some few. line_by (m == next_of p.left) laws m c p b t a refl s may can some (subst (λ (n : ℕ). m ≤ n) more few) in
+    let heard = laws.attended c p.left.end (λ h. o.heard) in
+    let sound = laws.sound c p.left.end none (λ h. o.sound) in
+    let rising = laws.rising c p.left.end o.sound o.rising in
+    let came = laws.came c p.left.end o.came in
+    let quiet_left = quiet_used (asked_end c p.left).end.carrier.live (p.left.end.lines ++ (next_of p.left, line_of c) ∷ []) (quiet_push (next_of p.left) (calls_with c) p.left.end.lines ∙ s.quiet_left) in
+    grind arith
 
 -- ---- the step
 
@@ -347,8 +316,7 @@ connect_by laws c p b t None is can s =
     }
 
 local_by : (c : Connect) (p : TwoEnds) (o : Option ConnectError) → terms_of (connected_by o c p.left).end.carrier.local p.right.end.carrier.local ≡ terms_of p.left.end.carrier.local p.right.end.carrier.local
-local_by c p None = refl
-local_by c p (Some e) = refl
+local_by c p o = grind arith
 
 pub connect_at : ConnectLaws → (p : TwoEnds) (steps : List Step) (c : Connect) → CanBeAsked c → StandsAt p steps → StandsAt (after_connect c p) (steps ++ connecting (offer_in (asked_of c)) ∷ [])
 connect_at laws p steps c can s =

@@ -15,26 +15,17 @@ use Rattle.osi_stack.proofs.Lifting.{or_first}
 cut_by : (s : Side) (p : TwoEnds) → is_cut (is_caller s) (carriers_of p) ≡ (is_some p.reach || is_some (end_at s p).end.carrier.ended)
 cut_by s p = grind arith
 
-none_false : (a b c : Bool) → c ≡ false → (a || b) ≡ false → (a || c) ≡ false
-none_false true b c e h = h
-none_false false b c e h = e
-
 -- where an end acts that lasts, nothing new is cut of what is under way from it
 pub cut_out : (s : Side) (p new : TwoEnds) → new.reach ≡ p.reach → (end_at s p).end.carrier.ended ≡ None → is_cut (is_caller s) (carriers_of new) ≡ false → is_cut (is_caller s) (carriers_of p) ≡ false
-cut_out s p new reach alive h =
-    let reached : is_some p.reach ≡ false = sym (ap is_some reach) ∙ or_first (is_some new.reach) (is_some (end_at s new).end.carrier.ended) (sym (cut_by s new) ∙ h) in
-    cut_by s p ∙ none_false (is_some p.reach) false (is_some (end_at s p).end.carrier.ended) (ap is_some alive) (ap (λ (b : Bool). b || false) reached)
+cut_out s p new reach alive h = grind arith
 
 -- nor to it
 pub cut_back : (s : Side) (p new : TwoEnds) → new.reach ≡ p.reach → end_at (other s) new ≡ end_at (other s) p → is_cut (is_caller (other s)) (carriers_of new) ≡ false → is_cut (is_caller (other s)) (carriers_of p) ≡ false
-cut_back s p new reach there h =
-    cut_by (other s) p ∙ ap (λ (r : Option Reach). is_some r || is_some (end_at (other s) p).end.carrier.ended) (sym reach)
-    ∙ ap (λ (y : Holding). is_some new.reach || is_some y.end.carrier.ended) (sym there) ∙ sym (cut_by (other s) new) ∙ h
+cut_back s p new reach there h = grind arith
 
 -- where nothing is broken nothing is cut of what is under way from an end that lasts
 pub cut_none : (s : Side) (p : TwoEnds) (broken : Bool) → broken ≡ is_some p.reach → (end_at s p).end.carrier.ended ≡ None → broken ≡ false → is_cut (is_caller s) (carriers_of p) ≡ false
-cut_none s p broken is alive e =
-    cut_by s p ∙ none_false (is_some p.reach) false (is_some (end_at s p).end.carrier.ended) (ap is_some alive) (ap (λ (b : Bool). b || false) (sym is ∙ e))
+cut_none s p broken is alive e = grind arith
 
 pub cut_broken : (s : Side) (p new : TwoEnds) (broken : Bool) → broken ≡ is_some p.reach → new.reach ≡ p.reach → broken ≡ true → is_cut (is_caller s) (carriers_of new) ≡ true
 cut_broken s p new broken is reach e = cut_by s new ∙ ap (λ (b : Bool). b || is_some (end_at s new).end.carrier.ended) (ap is_some reach ∙ sym is ∙ e)
@@ -42,18 +33,13 @@ cut_broken s p new broken is reach e = cut_by s new ∙ ap (λ (b : Bool). b || 
 -- ---- an end is another
 
 pub reach_same : (s : Side) (h : Holding) (p : TwoEnds) → (with_end s h p).reach ≡ p.reach
-reach_same Left h p = refl
-reach_same Right h p = refl
-
-there_same : (s : Side) (h : Holding) (p : TwoEnds) → end_at (other s) (with_end s h p) ≡ end_at (other s) p
-there_same Left h p = refl
-there_same Right h p = refl
+reach_same s h p = grind arith
 
 pub end_out : (s : Side) (h : Holding) (p : TwoEnds) → (end_at s p).end.carrier.ended ≡ None → is_cut (is_caller s) (carriers_of (with_end s h p)) ≡ false → is_cut (is_caller s) (carriers_of p) ≡ false
 end_out s h p alive = cut_out s p (with_end s h p) (reach_same s h p) alive
 
 pub end_back : (s : Side) (h : Holding) (p : TwoEnds) → is_cut (is_caller (other s)) (carriers_of (with_end s h p)) ≡ false → is_cut (is_caller (other s)) (carriers_of p) ≡ false
-end_back s h p = cut_back s p (with_end s h p) (reach_same s h p) (there_same s h p)
+end_back s h p = grind arith
 
 -- ---- references that were given, or not
 
@@ -61,13 +47,10 @@ abbrev pub IsWithin : ℕ → ℕ → Type 0
 IsWithin n most = ((n ≡ 0) ⊎ (most < n)) ⊎ ((0 < n) × (n ≤ most))
 
 within_by : (n most : ℕ) (fits : Bool) → nat_le n most ≡ fits → IsWithin n most
-within_by zero most fits e = inl (inl refl)
-within_by (suc n) most true e = inr (omega arith, leb-true (suc n) most e)
-within_by (suc n) most false e = inl (inr (leb-false (suc n) most e))
+within_by n most fits e = grind arith
 
 pub within_or : (n most : ℕ) → IsWithin n most
 within_or n most = within_by n most (nat_le n most) refl
 
 pub outside_not : (n most : ℕ) → ((n ≡ 0) ⊎ (most < n)) → 0 < n → n ≤ most → ⊥
-outside_not n most (inl none) some few = omega arith
-outside_not n most (inr more) some few = omega arith
+outside_not n most h2 some few = grind arith

@@ -27,7 +27,7 @@ use Rattle.osi_stack.proofs.Lifting.{both}
 use Rattle.osi_pair.specs.Ends.{TwoEnds, end_at}
 use Rattle.osi_pair.specs.Entries.{Entry, ends}
 use Rattle.osi_pair.specs.Sides.{other}
-use Rattle.osi_pair.specs.Standing.{side_in, ending_in, terms_in, class_in, entry_in, carriers_of, IsSeated, IsUnderWay, IsLine, Stands, AreUnderWay, HasJoined}
+use Rattle.osi_pair.specs.Standing.{side_in, ending_in, terms_in, class_in, entry_in, carriers_of, IsSeated, IsUnderWay, IsLine, Stands, AreUnderWay, HasJoined, HasLine}
 use Rattle.osi_pair.specs.Telling.{waiting_in, quieted, shown_entries}
 use Rattle.osi_pair.specs.declared.sides.Side.{Side}
 use Rattle.osi_pair.specs.declared.sides.Side.TheVariants.{Left, Right}
@@ -95,8 +95,7 @@ right_between : (terms : Terms) (reason : EndReason) (held : List ℕ) (both : B
 right_between terms reason held both b h = grind arith
 
 none_there : (n : ℕ) (a last : State) (seat : Seat) → a ≡ last → IsPlaced n a seat → is_given seat.transport ≡ false → connection_in (place_at n last) ≡ None
-none_there n a last seat same i given =
-    ap (λ (x : State). connection_in (place_at n x)) (sym same) ∙ never_given n a (not_of (nat_lt a.given n) false (sym given ∙ i.given))
+none_there n a last seat same i given = grind arith
 
 -- what becomes of a line
 record HasEnds (s : Side) (p : TwoEnds) (u : Tables) (c : Between) (keep n : ℕ) : Type 0 where
@@ -185,69 +184,29 @@ ended_stands Left p b t u e h c reason ending lines held first journal s m is no
     let at : (n : ℕ) → Ends Left q u c (length t.lines) n = λ n. left_at p u e h c reason lines held journal (length t.lines) n (m.between.lives true m.lasts) none m.takes m.lines (within_or n (length t.lines)) in
     let keep : ℕ → ℕ = λ n. (at n).keep in
     let count = ended_count machine.Left keep 1 u.lines ∙ m.count in
-    record {
-      keep = keep;
-      stands = record {
-        between = subst (λ (l : Local). AreBetween (terms_of l p.right.end.carrier.local) (carriers_of q) c) (sym m.local)
-            (left_between (terms_at p) reason held.octets (carriers_of (with_holding Left e h p)) c m.between);
-        terms = m.terms ∙ s.terms ∙ ap (λ (l : Local). terms_in (terms_of l p.right.end.carrier.local)) (sym m.local);
-        broken = m.broken ∙ s.broken;
-        left_end = ap Some (sym is);
-        right_end = ap (option_map Some) m.right_end ∙ s.right_end;
-        known = m.known;
-        journal = journal_on u.journal (shown_in_order machine.Left 1 u.lines) (entries.ended machine.Left ending) p.journal (shown_entries Left first) (ends Left reason)
-            (ap (map Some) m.journal ∙ s.journal) says.says (sym (ap (option_map (entries.ended machine.Left)) is)) ∙ ap (map entry_in) (sym said);
-        given = count ∙ s.given ∙ sym m.given;
-        caller = m.role ∙ s.caller;
-        given_then = m.given_then;
-        class_then = m.class_then;
-        given_back = subst (λ (k : ℕ). p.right.end.carrier.given ≤ k) (sym count) s.given_back;
-        lines = λ n a x.
-            let l = (at n).is a (subst (λ (k : ℕ). n ≤ k) count x) in
-            record { line = ended_line (keep n) l.line; found = ended_at_line machine.Left keep n u.lines l.line l.found; is = l.is };
-        over_left = λ x. refl;
-        over_right = s.over_right;
-        lost_right = s.lost_right;
-        order_left = λ x. cc;
-        order_right = s.order_right;
-        quiet_left = says.quiet;
-        quiet_right = s.quiet_right;
-      };
-    }
+    let between = subst (λ (l : Local). AreBetween (terms_of l p.right.end.carrier.local) (carriers_of q) c) (sym m.local) (left_between (terms_at p) reason held.octets (carriers_of (with_holding Left e h p)) c m.between) in
+    let terms = m.terms ∙ s.terms ∙ ap (λ (l : Local). terms_in (terms_of l p.right.end.carrier.local)) (sym m.local) in
+    let journal_now = journal_on u.journal (shown_in_order machine.Left 1 u.lines) (entries.ended machine.Left ending) p.journal (shown_entries Left first) (ends Left reason)
+    (ap (map Some) m.journal ∙ s.journal) says.says (sym (ap (option_map (entries.ended machine.Left)) is)) ∙ ap (map entry_in) (sym said) in
+    let right_end = ap (option_map Some) m.right_end ∙ s.right_end in
+    let there : (n : ℕ) → 0 < n → n ≤ length (after_end (side_in Left) ending keep u).lines → HasLine n q c (after_end (side_in Left) ending keep u) = λ n a x.
+    let l = (at n).is a (subst (λ (k : ℕ). n ≤ k) count x) in record { line = ended_line (keep n) l.line; found = ended_at_line machine.Left keep n u.lines (l.line) l.found; is = l.is } in
+    let stands : Stands q c (after_end (side_in Left) ending keep u) = grind arith in
+    record { keep = keep; stands = stands }
 ended_stands Right p b t u e h c reason ending lines held first journal s m is none says said =
     let q = ended_pair Right reason e.carrier lines held journal p in
     let at : (n : ℕ) → Ends Right q u c (length t.lines) n = λ n. right_at p u e h c reason lines held journal (length t.lines) n (m.between.lives false m.lasts) none m.takes m.lines (within_or n (length t.lines)) in
     let keep : ℕ → ℕ = λ n. (at n).keep in
     let count = ended_count machine.Right keep 1 u.lines ∙ m.count in
-    record {
-      keep = keep;
-      stands = record {
-        between = subst (λ (l : Local). AreBetween (terms_of p.left.end.carrier.local l) (carriers_of q) c) (sym m.local)
-            (right_between (terms_at p) reason held.octets (carriers_of (with_holding Right e h p)) c m.between);
-        terms = m.terms ∙ s.terms ∙ ap (λ (l : Local). terms_in (terms_of p.left.end.carrier.local l)) (sym m.local);
-        broken = m.broken ∙ s.broken;
-        left_end = ap (option_map Some) m.left_end ∙ s.left_end;
-        right_end = ap Some (sym is);
-        known = m.known;
-        journal = journal_on u.journal (shown_in_order machine.Right 1 u.lines) (entries.ended machine.Right ending) p.journal (shown_entries Right first) (ends Right reason)
-            (ap (map Some) m.journal ∙ s.journal) says.says (sym (ap (option_map (entries.ended machine.Right)) is)) ∙ ap (map entry_in) (sym said);
-        given = count ∙ s.given;
-        caller = s.caller;
-        given_then = m.given_then;
-        class_then = m.class_then;
-        given_back = subst (λ (k : ℕ). e.carrier.given ≤ k) (sym count) m.given_back;
-        lines = λ n a x.
-            let l = (at n).is a (subst (λ (k : ℕ). n ≤ k) count x) in
-            record { line = turned (ended_line (keep n) l.line); found = ended_at_line machine.Right keep n u.lines (turned l.line) l.found; is = l.is };
-        over_left = s.over_left;
-        over_right = λ x. refl;
-        lost_right = λ x n. none n;
-        order_left = s.order_left;
-        order_right = λ x. cc;
-        quiet_left = s.quiet_left;
-        quiet_right = says.quiet;
-      };
-    }
+    let between = subst (λ (l : Local). AreBetween (terms_of p.left.end.carrier.local l) (carriers_of q) c) (sym m.local) (right_between (terms_at p) reason held.octets (carriers_of (with_holding Right e h p)) c m.between) in
+    let terms = m.terms ∙ s.terms ∙ ap (λ (l : Local). terms_in (terms_of p.left.end.carrier.local l)) (sym m.local) in
+    let journal_now = journal_on u.journal (shown_in_order machine.Right 1 u.lines) (entries.ended machine.Right ending) p.journal (shown_entries Right first) (ends Right reason)
+    (ap (map Some) m.journal ∙ s.journal) says.says (sym (ap (option_map (entries.ended machine.Right)) is)) ∙ ap (map entry_in) (sym said) in
+    let left_end = ap (option_map Some) m.left_end ∙ s.left_end in
+    let there : (n : ℕ) → 0 < n → n ≤ length (after_end (side_in Right) ending keep u).lines → HasLine n q c (after_end (side_in Right) ending keep u) = λ n a x.
+    let l = (at n).is a (subst (λ (k : ℕ). n ≤ k) count x) in record { line = turned (ended_line (keep n) l.line); found = ended_at_line machine.Right keep n u.lines (turned l.line) l.found; is = l.is } in
+    let stands : Stands q c (after_end (side_in Right) ending keep u) = grind arith in
+    record { keep = keep; stands = stands }
 
 -- ---- an end at which nothing arrived
 
@@ -262,44 +221,12 @@ still_line : (s : Side) (p : TwoEnds) (b : Between) (t : Tables) (n : ℕ) (l : 
 still_line s p b t n l found i out = whole_line s p t (end_at s p).end (end_at s p).held b n l found (placed_seat n (end_at s p) l.own i.here) i.there out
 
 pub may_end : (s : Side) (p : TwoEnds) (b : Between) (t : Tables) → Stands p b t → TakesFrom s t → (end_at s p).end.carrier.ended ≡ None → MayEnd s p t t (end_at s p).end (end_at s p).held b
-may_end Left p b t s takes none = record {
-  between = s.between;
-  lasts = none;
-  local = refl;
-  role = refl;
-  terms = refl;
-  broken = refl;
-  left_end = refl;
-  right_end = refl;
-  journal = refl;
-  count = refl;
-  given = refl;
-  given_back = s.given_back;
-  known = s.known;
-  given_then = s.given_then;
-  class_then = s.class_then;
-  takes = takes;
-  lines = λ n a x. (let l = s.lines n a x in still_line Left p b t n l.line l.found (seen Left n p b l.line l.is) l.is.rightward);
-}
-may_end Right p b t s takes none = record {
-  between = s.between;
-  lasts = none;
-  local = refl;
-  role = refl;
-  terms = refl;
-  broken = refl;
-  left_end = refl;
-  right_end = refl;
-  journal = refl;
-  count = refl;
-  given = refl;
-  given_back = s.given_back;
-  known = s.known;
-  given_then = s.given_then;
-  class_then = s.class_then;
-  takes = takes;
-  lines = λ n a x. (let l = s.lines n a x in still_line Right p b t n (turned l.line) l.found (seen Right n p b l.line l.is) l.is.leftward);
-}
+may_end Left p b t s takes none =
+    let lines : (n : ℕ) → 0 < n → n ≤ length t.lines → EndingLine Left p t p.left.end p.left.held b n = λ n a x. (let l = s.lines n a x in still_line Left p b t n l.line l.found (seen Left n p b l.line l.is) l.is.rightward) in
+    grind arith
+may_end Right p b t s takes none =
+    let lines : (n : ℕ) → 0 < n → n ≤ length t.lines → EndingLine Right p t p.right.end p.right.held b n = λ n a x. (let l = s.lines n a x in still_line Right p b t n (turned l.line) l.found (seen Right n p b l.line l.is) l.is.leftward) in
+    grind arith
 
 -- what its users are shown then
 pub shown_then : (s : Side) (p : TwoEnds) (b : Between) (t : Tables) (lines : Rows stack.Line) (first : List (ℕ × Shown)) → Stands p b t → (end_at s p).end.carrier.ended ≡ None →
@@ -318,11 +245,7 @@ quiet_twice [] = refl
 quiet_twice ((r, line) ∷ lines) = ap (λ (rows : Rows stack.Line). (r, record line { waiting = [] }) ∷ rows) (quiet_twice lines)
 
 told_all_of : (h : Holding) → IsTold h (quieted (all_lost h.end.lines)) (waiting_in (all_lost h.end.lines))
-told_all_of h = record {
-  shown = sym (append-nil (waiting_in (all_lost h.end.lines))) ∙ ap (λ (l : List (ℕ × Shown)). waiting_in (all_lost h.end.lines) ++ l) (sym (quiet_waits (all_lost h.end.lines)));
-  same = quiet_twice (all_lost h.end.lines);
-  most = inl (quiet_waits (all_lost h.end.lines));
-}
+told_all_of h = grind (arith, append-nil, quiet_waits, quiet_twice)
 
 pub all_shown_then : (s : Side) (p : TwoEnds) (b : Between) (t : Tables) → Stands p b t → (end_at s p).end.carrier.ended ≡ None →
     SaysAll s (quieted (all_lost (end_at s p).end.lines)) (waiting_in (all_lost (end_at s p).end.lines)) t

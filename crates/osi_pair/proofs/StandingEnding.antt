@@ -43,8 +43,7 @@ abbrev pub ended_line : ℕ → Line → Line
 ended_line keep l = record l { own = ended_seat (is_given l.own.transport) keep l.own }
 
 line_by : (b : Bool) (keep : ℕ) (l : Line) → is_given l.own.transport ≡ b → ends_there keep l ≡ record l { own = ended_seat b keep l.own }
-line_by true keep l e = ap (λ (b : Bool). if b then record l { own = ended_seat true keep l.own } else l) e
-line_by false keep l e = ap (λ (b : Bool). if b then record l { own = ended_seat true keep l.own } else l) e
+line_by b keep l e = grind arith
 
 line_ends : (keep : ℕ) (l : Line) → ends_there keep l ≡ ended_line keep l
 line_ends keep l = line_by (is_given l.own.transport) keep l refl
@@ -55,21 +54,14 @@ pub record IsPlaced (n : ℕ) (c : State) (seat : Seat) : Type 0 where
   pub awaiting : seat.transport ≡ not_yet → seat.session ≡ awaits
   pub octets : IfSome seat.session.waiting IsInOctets
 
-given_value : (o : Option Connection) → is_given (transport_in (was_given o)) ≡ true
-given_value o = grind arith
-
 given_by : (o : Option Connection) (never_given : Bool) → is_given (transport_in (if never_given then never else was_given o)) ≡ not never_given
-given_by o true = refl
-given_by o false = given_value o
+given_by o never_given = grind arith
 
 pub given_place : (n : ℕ) (c : State) → is_given (transport_in (place_at n c)) ≡ not (nat_lt c.given n)
 given_place n c = given_by (value_at n c.live) (nat_lt c.given n)
 
 pub placed_seat : (n : ℕ) (h : Holding) (seat : Seat) → IsSeated n h seat → IsPlaced n h.end.carrier seat
 placed_seat n h seat i = record { given = ap is_given i.transport ∙ given_place n h.end.carrier; awaiting = i.awaiting; octets = i.octets }
-
-ungiven : (t : Transport) → is_given t ≡ false → t ≡ not_yet
-ungiven t e = grind arith
 
 -- the end of a carrier leaves what was given
 pub record HasEnded (c : State) (new : Holding) : Type 0 where
@@ -81,9 +73,7 @@ place_ended : (n : ℕ) (c : State) (new : Holding) (b : Bool) → HasEnded c ne
 place_ended n c new b h e = cc
 
 not_live : (n : ℕ) (live : Rows Connection) → live ≡ [] → is_some (value_at n live) ≡ true → ⊥
-not_live n live none some =
-    let no : false ≡ true = sym (ap (λ (rows : Rows Connection). is_some (value_at n rows)) none) ∙ some in
-    cc
+not_live n live none some = grind arith
 
 not_kept : (n : ℕ) (new : Holding) (s : Listener) → kept_at n new.end.lines ≡ None → kept_at n new.end.lines ≡ Some s → ⊥
 not_kept n new s none some = let no : None ≡ Some s = sym none ∙ some in cc
@@ -93,30 +83,11 @@ unfolding react
 still_waiting s = refl
 
 pub not_of : (b : Bool) (x : Bool) → x ≡ not b → b ≡ not x
-not_of true x e = ap not (sym e)
-not_of false x e = ap not (sym e)
+not_of b x e = grind arith
 
 seat_ends_by : (n : ℕ) (c : State) (new : Holding) (seat : Seat) (b : Bool) (keep : ℕ) → is_given seat.transport ≡ b → HasEnded c new → IsPlaced n c seat → IsSeated n new (ended_seat b keep seat)
-seat_ends_by n c new seat true keep e ended s = record {
-  joined = None;
-  transport = ap transport_in (sym (place_ended n c new false ended (not_of (nat_lt c.given n) true (sym e ∙ s.given))));
-  live = λ some. absurd (not_live n new.end.carrier.live ended.live some);
-  kept = λ x is. absurd (not_kept n new x (ended.none n) is);
-  over_now = λ t. is_over seat.session;
-  awaiting = λ t. cc;
-  octets = subst (λ (o : Option Meaning). IfSome o IsInOctets) (sym (still_waiting seat.session)) s.octets;
-}
-seat_ends_by n c new seat false keep e ended s =
-    let t : seat.transport ≡ not_yet = ungiven seat.transport e in
-    record {
-      joined = None;
-      transport = t ∙ ap transport_in (sym (place_ended n c new true ended (not_of (nat_lt c.given n) false (sym e ∙ s.given))));
-      live = λ some. absurd (not_live n new.end.carrier.live ended.live some);
-      kept = λ x is. absurd (not_kept n new x (ended.none n) is);
-      over_now = λ over. (let no : false ≡ true = sym (ap is_parting t) ∙ over in cc);
-      awaiting = s.awaiting;
-      octets = s.octets;
-    }
+seat_ends_by n c new seat true keep e ended s = grind (arith, place_ended, not_of, nat_lt, not_live, not_kept, is_over, still_waiting)
+seat_ends_by n c new seat false keep e ended s = grind arith
 
 pub seat_ends : (n : ℕ) (c : State) (new : Holding) (seat : Seat) (keep : ℕ) → HasEnded c new → IsPlaced n c seat → IsSeated n new (ended_seat (is_given seat.transport) keep seat)
 seat_ends n c new seat keep ended s = seat_ends_by n c new seat (is_given seat.transport) keep refl ended s
@@ -161,29 +132,18 @@ front_cut o c n units cut =
     record { gone = f.0; parts = f.1 ∙ ap (λ (l : List Value). messages_after (begun_at o) l ++ f.0) (sym (append-nil (units_of n units))) }
 
 pub way_cut : (end : Bool) (n : ℕ) (old new : Both) (b : Between) → is_cut end new ≡ true → Front (under_way end n old b) (under_way end n new b)
-way_cut end n old new b cut =
-    let o = connection_in (place_at n (last_of (not end) b)) in
-    let c = connection_in (place_at n (last_of end b)) in
-    subst (λ (t : Bool). Front (under_way end n old b) (messages_after (begun_at o) (units_of n (units_from end b) ++ to_come t c))) (sym cut)
-    (front_cut o c n (units_from end b) (is_cut end old))
-
--- nothing is still to be cut where no connection is there
-none_to_come : (s t : Bool) (c : Option Connection) → c ≡ None → to_come s c ≡ to_come t c
-none_to_come s t c e = grind arith
+way_cut end n old new b cut = grind (arith, not, front_cut)
 
 pub way_none : (end : Bool) (n : ℕ) (old new : Both) (b : Between) → connection_in (place_at n (last_of end b)) ≡ None → under_way end n old b ≡ under_way end n new b
-way_none end n old new b none =
-    ap (λ (l : List Value). messages_after (begun_at (connection_in (place_at n (last_of (not end) b)))) (units_of n (units_from end b) ++ l))
-    (none_to_come (is_cut end old) (is_cut end new) (connection_in (place_at n (last_of end b))) none)
+way_none end n old new b none = grind arith
 
 pub never_given : (n : ℕ) (c : State) → nat_lt c.given n ≡ true → connection_in (place_at n c) ≡ None
 never_given n c e = ap (λ (b : Bool). connection_in (if◌then◌else◌ {A = Place} b never (was_given (value_at n c.live)))) e
 
 -- what is left of it, of whatever was put behind
 take_front : (k : ℕ) (xs ys : List Message) → k ≤ length xs → take k (xs ++ ys) ≡ take k xs
-take_front zero xs ys h = refl
-take_front (suc k) [] ys h = absurd (omega arith)
 take_front (suc k) (x ∷ xs) ys h = ap (λ (l : List Message). x ∷ l) (take_front k xs ys (omega arith))
+take_front k xs ys h = grind arith
 
 -- so much of it is left
 pub record EndsWith (o : Option EndReason) (g : Progress) (H : Option (List ℕ) → Type 0) (x : Session) (given : Bool) (seat : Seat) (new : List between.Message) : Type 0 where
@@ -202,12 +162,7 @@ way_ended o g c H x true seat kept more old new parts none takes f same w =
       keep = y.keep;
       way = subst (λ (l : List Message). AreUnderWay o g true H x l new) (sym (ap (take y.keep) parts ∙ take_front y.keep kept more y.fits)) y.way;
     }
-way_ended o g c H x false seat kept more old new parts none takes f same w =
-    let all : seat.channel ≡ kept = parts ∙ ap (λ (l : List Message). kept ++ l) (none refl) ∙ append-nil kept in
-    record {
-      keep = 0;
-      way = subst (λ (l : List Message). AreUnderWay o g true H x l new) (sym all) (as_now o o g g c true H H x x kept old new w (λ e. cc) (λ b held. held) (λ calm. calm) (λ e. subst (λ (l : List between.Message). AreAlike g (map word_in w.words) l) (same refl) (w.alike e)));
-    }
+way_ended o g c H x false seat kept more old new parts none takes f same w = grind (arith, append-nil, as_now, map)
 
 pub cut_by_end : (end : Bool) (both : Both) → is_some (side end both).state.ended ≡ true → is_cut end both ≡ true
 cut_by_end end both e = grind arith

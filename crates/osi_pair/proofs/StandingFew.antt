@@ -70,28 +70,20 @@ abbrev FewIn : ℕ → Result Units SpduFault → Type 0
 FewIn n (Ok us) = length us ≤ n
 FewIn n (Err fault) = Unit {0}
 
-few_then : (n : ℕ) (next : Next) (r : Result Units SpduFault) → FewIn n r → FewIn (suc n) (r >>= λ others. Ok (next.unit ∷ others))
-few_then n next (Ok us) few = omega arith
-few_then n next (Err fault) few = tt
-
 few_next : (n : ℕ) (r : Result Next SpduFault) → ((next : Next) → FewIn n (behind_at n next.end next.rest)) →
     FewIn (suc n) (r >>= λ next. (behind_at n next.end next.rest >>= λ others. Ok (next.unit ∷ others)))
-few_next n (Ok next) few = few_then n next (behind_at n next.end next.rest) (few next)
-few_next n (Err fault) few = tt
+few_next n r few = grind arith
 
 few_behind : (room at : ℕ) (octets : List ℕ) → FewIn room (behind_at room at octets)
 unfolding behind_at
-few_behind room at [] = omega arith
-few_behind zero at (si ∷ octets) = tt
 few_behind (suc room) at (si ∷ octets) = few_next room (next_at at (si ∷ octets)) (λ next. few_behind room next.end next.rest)
+few_behind room at octets = grind arith
 
 few_one : (at : ℕ) (octets : List ℕ) (unit : Contents) → FewIn 17 (ended at octets unit)
-few_one at [] unit = omega arith
-few_one at (b ∷ octets) unit = tt
+few_one at octets unit = grind arith
 
 few_more : (unit : Contents) (r : Result Units SpduFault) → FewIn 16 r → FewIn 17 (r >>= λ behind. Ok (unit ∷ behind))
-few_more unit (Ok us) few = omega arith
-few_more unit (Err fault) few = tt
+few_more unit r few = grind arith
 
 few_continued : (c : Category) (unit : Placed) → FewIn 17 (continued c unit)
 few_continued Zero unit = few_more (contents_of unit []) (behind_at 16 unit.end unit.rest) (few_behind 16 unit.end unit.rest)
@@ -120,17 +112,9 @@ few_said : (octets : List ℕ) → FewSaid (said_at octets)
 unfolding said_at
 few_said octets = few_said_by (tsdu_at octets) (few_units octets)
 
-bad_shows : (b : Bool) (fault : UnitFault) → length (if◌then◌else◌ {A = List Shown} b [] (BadUnit fault ∷ [])) ≤ 17
-bad_shows true fault = omega arith
-bad_shows false fault = omega arith
-
-fault_shows_by : (b : Bool) (s : State) (fault : UnitFault) → length (if b then nothing s else bad s fault).shown ≤ 17
-fault_shows_by true s fault = omega arith
-fault_shows_by false s fault = bad_shows (is_wait_cn s.phase) fault
-
 fault_shows : (s : State) (fault : SpduFault) → length (respond_fault s fault).shown ≤ 17
 unfolding respond_fault
-fault_shows s fault = fault_shows_by (is_over s.phase) s (Spelling fault)
+fault_shows s fault = grind arith
 
 came_shows : (x : Listener) (r : Result Words SpduFault) → FewSaid r → length (react x (came_as r)).shown ≤ 17
 unfolding react
@@ -138,8 +122,7 @@ came_shows x (Ok said) few = let shown = words_show (taker_of x) said in omega a
 came_shows x (Err fault) few = fault_shows x.state fault
 
 rest_shows : (b : Bool) (x y : Move) → length x.shown ≤ 17 → length y.shown ≤ 17 → length (if b then x else y).shown ≤ 17
-rest_shows true x y h k = h
-rest_shows false x y h k = k
+rest_shows b x y h k = grind arith
 
 opened_shows : (x : Listener) → length (react x inputs.opened).shown ≤ 17
 unfolding react
@@ -168,18 +151,7 @@ with_length r w = length-map w (λ (x : Shown). (r, x))
 
 lost_behind : (lines : Rows Line) → length (waiting_in (all_lost lines)) ≡ length (waiting_in lines) + length (lost_in lines)
 lost_behind [] = refl
-lost_behind ((r, line) ∷ lines) =
-    let more = lost_behind lines in
-    let w = line.waiting in
-    let l = shown_at_loss line.session in
-    let all : length (with_reference r (w ++ l) ++ waiting_in (all_lost lines)) ≡ length (with_reference r (w ++ l)) + length (waiting_in (all_lost lines)) =
-    length-append (with_reference r (w ++ l)) (waiting_in (all_lost lines)) in
-    let first : length (with_reference r (w ++ l)) ≡ length w + length l = with_length r (w ++ l) ∙ length-append w l in
-    let waits : length (with_reference r w ++ waiting_in lines) ≡ length (with_reference r w) + length (waiting_in lines) = length-append (with_reference r w) (waiting_in lines) in
-    let waits_first = with_length r w in
-    let lost : length (lost_of r line ++ lost_in lines) ≡ length (lost_of r line) + length (lost_in lines) = length-append (lost_of r line) (lost_in lines) in
-    let lost_first : length (lost_of r line) ≡ length l = with_length r l in
-    omega arith
+lost_behind ((r, line) ∷ lines) = grind (arith, length, length-append, with_length, lost_of, lost_in, lost_behind lines)
 
 concluded_by : (e : End) (live : Rows Connection) (b : Bool) → RiseFrom 0 e.lines → AreLive e.lines live → length live ≤ 64 → length (waiting_in e.lines) ≤ 17 →
     length (waiting_in (if b then record e { lines = all_lost e.lines } else e).lines) ≤ 81
@@ -263,13 +235,7 @@ live_lines Right p b t old alive =
 
 heard_of : (s : Side) (p : TwoEnds) (b : Between) (t : Tables) (u : Value) (n : ℕ) → Stands p b t → (end_at s p).end.carrier.ended ≡ None → IsSome (value_at n (end_at s p).end.carrier.live) →
     Hearing (told_all u (end_at s p).end) (end_at s p).end.carrier.live n
-heard_of s p b t u n old alive here = record {
-  quiet = quiet_of s p b t old;
-  rise = (order_of s p b t old alive).rising;
-  all = live_lines s p b t old alive;
-  most = (order_of s p b t old alive).sound.orderly.live;
-  here = here;
-}
+heard_of s p b t u n old alive here = grind (arith, quiet, quiet_of, order_of, live_lines)
 
 -- what a session hears
 record HasInput (n : ℕ) (row : Row) : Type 0 where
@@ -292,11 +258,7 @@ input_of n row h = cc
 -- a connection that was asked for is there
 opens_few : (n : ℕ) (e : End) (live : Rows Connection) (o : Option Line) → value_at n e.lines ≡ o → e.carrier.ended ≡ None → Hearing e live n →
     length (waiting_in (concludes (opens n o e)).lines) ≤ 81
-opens_few n e live None is lasts h =
-    let new = joins n awaits e in
-    let same : waiting_in (concludes new).lines ≡ [] = ap (λ (x : End). waiting_in x.lines) (lasting new lasts) ∙ begun_waits n e.carrier.live e.lines h.quiet in
-    let none : length (waiting_in (concludes new).lines) ≡ 0 = ap length same in
-    omega arith
+opens_few n e live None is lasts h = grind (arith, lasting, begun_waits, quiet, length)
 opens_few n e live (Some line) is lasts h =
     subst (λ (o : Option Line). length (waiting_in (concludes (by_line n o inputs.opened e)).lines) ≤ 81) (sym is)
     (moved_few n inputs.opened e live (Some line) is h opened_shows)

@@ -81,12 +81,10 @@ last_is Left p b e h n d lasts = sym (d.between.lives true lasts)
 last_is Right p b e h n d lasts = sym (d.between.lives false lasts)
 
 pub was_at : (s : Side) (p : TwoEnds) (b : Between) (t : Tables) → Stands p b t → (end_at s p).end.carrier.ended ≡ None → last_of (is_caller s) b ≡ (end_at s p).end.carrier
-was_at Left p b t old alive = sym (old.between.lives true alive)
-was_at Right p b t old alive = sym (old.between.lives false alive)
+was_at s p b t old alive = grind arith
 
 pub order_of : (s : Side) (p : TwoEnds) (b : Between) (t : Tables) → Stands p b t → (end_at s p).end.carrier.ended ≡ None → IsInOrder (end_at s p).end
-order_of Left p b t old alive = old.order_left alive
-order_of Right p b t old alive = old.order_right alive
+order_of s p b t old alive = grind arith
 
 others_then : (s : Side) (p : TwoEnds) (b : Between) (t : Tables) (e : End) (h : Held) (n : ℕ) → Stands p b t → (end_at s p).end.carrier.ended ≡ None → (d : DidAt s p b e h n) → e.carrier.ended ≡ None →
     IsInOrder e → OtherSessions s p e n → Others s p b e h d.now n
@@ -135,23 +133,13 @@ given_after Left p b t e h n old alive d lasts named behind =
     let new : before d.row ≡ not_yet → ⊥ = λ f. given_not_new n b.caller (nat_lt b.caller.given n) refl named (d.stood ∙ f) in
     let refs = refs_row (terms_at p) d.row d.is new in
     let same : d.now.caller.given ≡ b.caller.given = let more = d.given in omega arith in
-    record {
-      given = ap (λ (c : State). c.given) (sym last) ∙ same ∙ old.given_then;
-      given_back = old.given_back;
-      given_then = ap (λ (c : State). c.given) last;
-      class_then = ap (λ (c : State). c.class) last;
-    }
+    grind arith
 given_after Right p b t e h n old alive d lasts named behind =
     let last = last_is Right p b e h n d lasts in
     let there : d.now.caller.given ≡ p.left.end.carrier.given = d.given_there ∙ old.given_then in
     let here : d.now.called.given ≡ e.carrier.given = ap (λ (c : State). c.given) last in
     let count = old.given in
-    record {
-      given = refl;
-      given_back = omega arith;
-      given_then = there;
-      class_then = d.class_there ∙ old.class_then;
-    }
+    grind arith
 
 -- of an end that took a unit all that is said of one that acted
 pub finish : (s : Side) (p : TwoEnds) (b : Between) (t u : Tables) (e : End) (h : Held) (n : ℕ) (shown : List Shown) (l : Line) (x : Standing) (channel back : List Message) → Stands p b t →
@@ -161,28 +149,9 @@ pub finish : (s : Side) (p : TwoEnds) (b : Between) (t u : Tables) (e : End) (h 
     Turned s p b t e h d.now u n shown
 finish s p b t u e h n shown l x channel back old alive d lasts local role named behind order none o hs i w a known =
     let g = given_after s p b t e h n old alive d lasts named behind in
-    record {
-      between = d.between;
-      lasts = lasts;
-      local = local;
-      is_caller = role;
-      known = known;
-      given = g.given;
-      given_then = g.given_then;
-      class_then = g.class_then;
-      given_back = g.given_back;
-      terms = a.terms;
-      broken = a.broken;
-      left_end = a.left_end;
-      right_end = a.right_end;
-      journal = a.journal;
-      line = line_then d.row x channel back l;
-      lines = a.lines;
-      is = seen_then s p b t e h n l x channel back d lasts order hs i w;
-      others = others_then s p b t e h n old alive d lasts order o;
-      order = order;
-      quiet = none;
-    }
+    let is = seen_then s p b t e h n l x channel back d lasts order hs i w in
+    let others = others_then s p b t e h n old alive d lasts order o in
+    search
 
 -- ---- the class
 

@@ -1,5 +1,5 @@
 -- Octets of a side are handed over to the other: no step of the machine.
-use Rattle.std.proofs.Common.{◌≡◌, ℕ, ◌≤◌, Bool, true, false, not, List, ◌++◌, length, take, Option, Some, None, is_some, option_map, IfSome, refl, sym, ap, subst, ◌∙◌, arith, ◌||◌}
+use Rattle.std.proofs.Common.{◌≡◌, ℕ, ◌≤◌, Bool, true, false, not, List, ◌++◌, length, take, Option, Some, None, is_some, option_map, IfSome, refl, sym, ap, subst, ◌∙◌, arith, ◌||◌, ◌<◌}
 use Rattle.std.proofs.lemmas.List.{length-take}
 use Rattle.osi_tpkt.specs.Held.{Held}
 use Rattle.osi_between.specs.Between.{Between, Both, AreBetween, IsOnTheWay, Same, side, with_side, last_of, units_from, lost_from, arriving, reach_of, within_reach, reach_less, under_way, handed_over, is_cut}
@@ -12,7 +12,7 @@ use Rattle.osi_stack.specs.State.{End, Holding}
 use Rattle.osi_pair.specs.Ends.{TwoEnds, end_at, with_end, reachable}
 use Rattle.osi_pair.specs.Reaching.{within, reach_after}
 use Rattle.osi_pair.specs.Sides.{other}
-use Rattle.osi_pair.specs.Standing.{is_caller, carriers_of, IsSeated, IsInOrder, terms_in, Stands, StandsAt, HasJoined}
+use Rattle.osi_pair.specs.Standing.{is_caller, carriers_of, IsSeated, IsInOrder, terms_in, Stands, StandsAt, HasJoined, HasLine}
 use Rattle.osi_pair.specs.declared.reach.Reach.{Reach}
 use Rattle.osi_pair.specs.declared.sides.Side.{Side}
 use Rattle.osi_pair.specs.declared.sides.Side.TheVariants.{Left, Right}
@@ -114,16 +114,13 @@ arriving_count Left p = count_left p.reach p.left.end.carrier.outgoing
 arriving_count Right p = count_right p.reach p.right.end.carrier.outgoing
 
 less_left : (k : ℕ) (o : Option Reach) → reach_less true k (reach_in o) ≡ reach_in (reach_after Left k o)
-less_left k None = refl
-less_left k (Some r) = refl
+less_left k o = grind arith
 
 less_right : (k : ℕ) (o : Option Reach) → reach_less false k (reach_in o) ≡ reach_in (reach_after Right k o)
-less_right k None = refl
-less_right k (Some r) = refl
+less_right k o = grind arith
 
 still_reach : (f : Side) (k : ℕ) (o : Option Reach) → is_some (reach_after f k o) ≡ is_some o
-still_reach f k None = refl
-still_reach f k (Some r) = refl
+still_reach f k o = grind arith
 
 handed_cut : (f s : Side) (k : ℕ) (h : Held) (p : TwoEnds) → is_cut (is_caller s) (carriers_of (handed f k h p)) ≡ false → is_cut (is_caller s) (carriers_of p) ≡ false
 handed_cut f s k h p e = grind arith
@@ -146,42 +143,25 @@ handed_left law p b t k h old le more =
     λ n. same.under true n ∙ ap (λ (r : Option (ℕ × ℕ)). under_way true n (record (handed_over true k (carriers_of p)) { reach = r }) same.now) (less_left k p.reach) in
     let coming : (n : ℕ) → under_way false n (carriers_of p) b ≡ under_way false n (carriers_of new) same.now =
     λ n. same.under false n ∙ ap (λ (r : Option (ℕ × ℕ)). under_way false n (record (handed_over true k (carriers_of p)) { reach = r }) same.now) (less_left k p.reach) in
+    let between = held_between (terms_at p) false reached same.now h.octets there more in
+    let broken = old.broken ∙ sym (still_reach Left k p.reach) in
+    let given_then = same.given true ∙ old.given_then in
+    let class_then = same.class true ∙ old.class_then in
+    let lines : (n : ℕ) → 0 < n → n ≤ length t.lines → HasLine n new same.now t = λ n a c.
+    let was = old.lines n a c in
     record {
-      now = same.now;
-      stands = record {
-        between = held_between (terms_at p) false reached same.now h.octets there more;
-        terms = old.terms;
-        broken = old.broken ∙ sym (still_reach Left k p.reach);
-        caller = old.caller;
-        left_end = old.left_end;
-        right_end = old.right_end;
-        known = old.known;
-        journal = old.journal;
-        given = old.given;
-        given_then = same.given true ∙ old.given_then;
-        class_then = same.class true ∙ old.class_then;
-        given_back = old.given_back;
-        lines = λ n a c.
-            let was = old.lines n a c in
-            record {
-              line = was.line;
-              found = was.found;
-              is = record {
-                left = seat_sent n k p.left was.line.own was.is.left;
-                right = seat_held n p.right h was.line.peer was.is.right;
-                rightward = way_same _ _ _ _ _ _ (HasJoined n p.right) (HasJoined n new.right) _ _ _ _ (λ e. e) (ap progress_of (same.stays false n)) (handed_cut Left Left k h p) (λ x held. held) (going n) was.is.rightward;
-                leftward = way_same _ _ _ _ _ _ (HasJoined n p.left) (HasJoined n new.left) _ _ _ _ (λ e. e) (ap progress_of (same.stays true n)) (handed_cut Left Right k h p) (λ x held. held) (coming n) was.is.leftward;
-              };
-            };
-        over_left = old.over_left;
-        over_right = old.over_right;
-        lost_right = old.lost_right;
-        order_left = λ e. order_sent k p.left.end (old.order_left e);
-        order_right = old.order_right;
-        quiet_left = old.quiet_left;
-        quiet_right = old.quiet_right;
+      line = was.line;
+      found = was.found;
+      is = record {
+        left = seat_sent n k p.left was.line.own was.is.left;
+        right = seat_held n p.right h was.line.peer was.is.right;
+        rightward = way_same _ _ _ _ _ _ (HasJoined n p.right) (HasJoined n new.right) _ _ _ _ (λ e. e) (ap progress_of (same.stays false n)) (handed_cut Left Left k h p) (λ x held. held) (going n) was.is.rightward;
+        leftward = way_same _ _ _ _ _ _ (HasJoined n p.left) (HasJoined n new.left) _ _ _ _ (λ e. e) (ap progress_of (same.stays true n)) (handed_cut Left Right k h p) (λ x held. held) (coming n) was.is.leftward;
       };
-    }
+    } in
+    let order : (e : End) → IsInOrder e → IsInOrder (carried k e) = λ e. order_sent k e in
+    let stands : Stands new same.now t = grind arith in
+    record { now = same.now; stands = stands }
 
 handed_right : CarriedLaw → (p : TwoEnds) (b : Between) (t : Tables) (k : ℕ) (h : Held) → Stands p b t → k ≤ length (arriving false (carriers_of p)) → HoldsMore Right k h p →
     StandsHanded (handed Right k h p) t
@@ -195,42 +175,25 @@ handed_right law p b t k h old le more =
     λ n. same.under true n ∙ ap (λ (r : Option (ℕ × ℕ)). under_way true n (record (handed_over false k (carriers_of p)) { reach = r }) same.now) (less_right k p.reach) in
     let coming : (n : ℕ) → under_way false n (carriers_of p) b ≡ under_way false n (carriers_of new) same.now =
     λ n. same.under false n ∙ ap (λ (r : Option (ℕ × ℕ)). under_way false n (record (handed_over false k (carriers_of p)) { reach = r }) same.now) (less_right k p.reach) in
+    let between = held_between (terms_at p) true reached same.now h.octets there more in
+    let broken = old.broken ∙ sym (still_reach Right k p.reach) in
+    let given_then = same.given true ∙ old.given_then in
+    let class_then = same.class true ∙ old.class_then in
+    let lines : (n : ℕ) → 0 < n → n ≤ length t.lines → HasLine n new same.now t = λ n a c.
+    let was = old.lines n a c in
     record {
-      now = same.now;
-      stands = record {
-        between = held_between (terms_at p) true reached same.now h.octets there more;
-        terms = old.terms;
-        broken = old.broken ∙ sym (still_reach Right k p.reach);
-        caller = old.caller;
-        left_end = old.left_end;
-        right_end = old.right_end;
-        known = old.known;
-        journal = old.journal;
-        given = old.given;
-        given_then = same.given true ∙ old.given_then;
-        class_then = same.class true ∙ old.class_then;
-        given_back = old.given_back;
-        lines = λ n a c.
-            let was = old.lines n a c in
-            record {
-              line = was.line;
-              found = was.found;
-              is = record {
-                left = seat_held n p.left h was.line.own was.is.left;
-                right = seat_sent n k p.right was.line.peer was.is.right;
-                rightward = way_same _ _ _ _ _ _ (HasJoined n p.right) (HasJoined n new.right) _ _ _ _ (λ e. e) (ap progress_of (same.stays false n)) (handed_cut Right Left k h p) (λ x held. held) (going n) was.is.rightward;
-                leftward = way_same _ _ _ _ _ _ (HasJoined n p.left) (HasJoined n new.left) _ _ _ _ (λ e. e) (ap progress_of (same.stays true n)) (handed_cut Right Right k h p) (λ x held. held) (coming n) was.is.leftward;
-              };
-            };
-        over_left = old.over_left;
-        over_right = old.over_right;
-        lost_right = old.lost_right;
-        order_left = old.order_left;
-        order_right = λ e. order_sent k p.right.end (old.order_right e);
-        quiet_left = old.quiet_left;
-        quiet_right = old.quiet_right;
+      line = was.line;
+      found = was.found;
+      is = record {
+        left = seat_held n p.left h was.line.own was.is.left;
+        right = seat_sent n k p.right was.line.peer was.is.right;
+        rightward = way_same _ _ _ _ _ _ (HasJoined n p.right) (HasJoined n new.right) _ _ _ _ (λ e. e) (ap progress_of (same.stays false n)) (handed_cut Right Left k h p) (λ x held. held) (going n) was.is.rightward;
+        leftward = way_same _ _ _ _ _ _ (HasJoined n p.left) (HasJoined n new.left) _ _ _ _ (λ e. e) (ap progress_of (same.stays true n)) (handed_cut Right Right k h p) (λ x held. held) (coming n) was.is.leftward;
       };
-    }
+    } in
+    let order : (e : End) → IsInOrder e → IsInOrder (carried k e) = λ e. order_sent k e in
+    let stands : Stands new same.now t = grind arith in
+    record { now = same.now; stands = stands }
 
 -- ---- at a list of steps
 

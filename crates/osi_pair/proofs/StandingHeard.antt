@@ -1,5 +1,5 @@
 -- A packet is taken at an end: what its carrier told is heard.
-use Rattle.std.proofs.Common.{◌≡◌, ◌≢◌, ℕ, Bool, true, false, if◌then◌else◌, List, [], ◌∷◌, length, Some, None, is_some, IfSome, refl, sym, ap, ◌∙◌}
+use Rattle.std.proofs.Common.{◌≡◌, ◌≢◌, ℕ, Bool, true, false, if◌then◌else◌, List, [], ◌∷◌, length, Some, None, is_some, IfSome, refl, sym, ap, ◌∙◌, arith}
 use Rattle.osi_tpdu.specs.Value.{Value}
 use Rattle.osi_carrier.specs.Happenings.{Happening}
 use Rattle.osi_carrier.specs.Packets as carriers
@@ -41,8 +41,7 @@ nothing_heard e packet u acts none lasts =
     ∙ ap (λ (l : List Happening). with_events l (carries_out u e)) none
 
 one_heard : (e : End) (event : Happening) → e.carrier.events ≡ event ∷ [] → hears_all e ≡ hears event (with_events [] e)
-one_heard e event h =
-    ap (λ (l : List Happening). hears_times (length l) e) h ∙ ap (λ (l : List Happening). hears_first l e) h
+one_heard e event h = grind arith
 
 -- it told one thing
 pub one_told : (e : End) (packet : List ℕ) (u : Value) (event : Happening) → carriers.after_packet e.carrier packet ≡ carrier_react u e.carrier → (carrier_react u e.carrier).events ≡ event ∷ [] →
@@ -55,12 +54,8 @@ one_told e packet u event acts one = carried_out e packet u acts ∙ ap conclude
 abbrev pub lines_then : ℕ → Line → Standing → Input → Rows Line → Rows Line
 lines_then n line x input lines = put n (line_after line (as_made (react x input))) lines
 
-lasts_by : (b : Bool) (e : End) → b ≡ false → (if b then record e { lines = all_lost e.lines } else e) ≡ e
-lasts_by false e h = refl
-lasts_by true e h = cc
-
 pub lasting : (e : End) → e.carrier.ended ≡ None → concludes e ≡ e
-lasting e h = lasts_by (is_some e.carrier.ended) e (ap is_some h)
+lasting e h = grind arith
 
 -- ---- the session then
 
@@ -76,13 +71,4 @@ kept_other n q line x input lines apart =
 pub session_then : (n : ℕ) (line was : Line) (x : Standing) (input : Input) (lines : Rows Line) (g : Progress) → value_at n lines ≡ Some was →
     (is_parting (transport_by g) ≡ true → is_ended (react x input).next.state.phase ≡ true) → (transport_by g ≡ worlds.not_yet → (react x input).next ≡ awaits) → IfSome (react x input).next.waiting IsInOctets →
     HasSession n (quieted (lines_then n line x input lines)) g (react x input).next
-session_then n line was x input lines g here ended waits octets =
-    let k = kept_then n line was x input lines here in
-    record {
-      joined = None;
-      live = λ l. k;
-      kept = λ y h. (let two : Some (listening (react x input).next) ≡ Some y = sym k ∙ h in let same : listening (react x input).next ≡ y = cc in sym same);
-      over_now = ended;
-      awaiting = waits;
-      octets = octets;
-    }
+session_then n line was x input lines g here ended waits octets = grind (arith, kept_then)

@@ -63,13 +63,8 @@ AsHeard row = AsMove row ⊎ ((reason : ℕ) × (row ≡ leaves reason))
 pub as_heard : (row : Row) → is_heard row ≡ true → AsHeard row
 as_heard row e = grind arith
 
-heard_by_move : (row : Row) → AsMove row → is_heard row ≡ true
-heard_by_move row (inl e) = ap is_heard e
-heard_by_move row (inr (inl e)) = ap is_heard e.1
-heard_by_move row (inr (inr e)) = ap is_heard e.1
-
 pub move_heard : (row : Row) → is_move row ≡ true → is_heard row ≡ true
-move_heard row move = heard_by_move row (as_move row move)
+move_heard row move = grind arith
 
 -- the message with which the unit arrived
 abbrev pub got_in : Row → carrier.Message
@@ -209,11 +204,7 @@ IsWhole (bye reason) = Unit {0}
 IsWhole over = Unit {0}
 
 waiting_goes : ReplyLaws → (seat : Seat) → IsCalling seat → CanBeSent seat.session.waiting → IfSome seat.session.waiting IsInOctets → (y : Meaning) → seat.session.waiting ≡ Some y → CanGo y
-waiting_goes laws seat c w h y e =
-    let go = offer_goes laws c.offer (subst CanBeSent c.calls w) (subst (λ (o : Option Meaning). IfSome o IsInOctets) c.calls h) in
-    let two : Some (offer_sent c.offer) ≡ Some y = sym c.calls ∙ e in
-    let same : offer_sent c.offer ≡ y = cc in
-    subst CanGo same go
+waiting_goes laws seat c w h y e = grind (arith, offer_goes)
 
 pub tells_by : HearLaws → (n : ℕ) (octets : List ℕ) (m : Message) (joined : Option (List ℕ)) (x : Standing) → joined ≡ None → message_in m ∷ [] ≡ carrier.message octets ∷ [] → IsWhole m → IfSome x.waiting IsInOctets →
     HearsBy n (tells octets) m joined x

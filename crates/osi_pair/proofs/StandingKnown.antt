@@ -40,9 +40,7 @@ asked_place q e = grind arith
 -- ---- a CC
 
 agreed_class : (terms : Terms) (held : Option Class) → is_row terms agrees → class_behind_all (class_of terms) held (carrier.agree ∷ []) ≡ class_of terms
-agreed_class by_two held is = refl
-agreed_class by_zero held is = refl
-agreed_class (refusing reason) held is = absurd is
+agreed_class terms held is = grind arith
 
 -- the caller has the class then
 class_agreed : (s : Side) (p : TwoEnds) (b : Between) (e : End) (h : Held) (n : ℕ) → (d : DidAt s p b e h n) → e.carrier.ended ≡ None → d.row ≡ agrees → is_caller s ≡ true →
@@ -52,21 +50,15 @@ class_agreed Left p b e h n d lasts same caller =
     ∙ agreed_class (terms_at p) b.caller.class (subst (λ (r : Row). is_row (terms_at p) r) same d.is)
 class_agreed Right p b e h n d lasts same caller = absurd (let no : false ≡ true = caller in cc)
 
-learned_by : (terms : Terms) (m : Message) (known : Option worlds.Class) → is_row terms agrees → kind_of (message_in m) ≡ carrier.agree → learns (terms_in terms) worlds.waiting m known ≡ option_map class_in (class_of terms)
-learned_by terms m known is e = grind arith
-
 -- and the tables learn it
 learned : (t : Tables) (l : Line) (m : Message) (terms : Terms) → t.terms ≡ terms_in terms → l.own.transport ≡ worlds.waiting → is_row terms agrees → kind_of (message_in m) ≡ carrier.agree →
     learns t.terms l.own.transport m t.known ≡ option_map class_in (class_of terms)
-learned t l m terms e tr is alike =
-    ap (λ (x : worlds.Terms). learns x l.own.transport m t.known) e ∙ ap (λ (x : Transport). learns (terms_in terms) x m t.known) tr ∙ learned_by terms m t.known is alike
+learned t l m terms e tr is alike = grind arith
 
 -- ---- a DR that refuses
 
 denied_by : (terms : Terms) (reason : ℕ) (tr : Transport) (m : Message) (known : Option worlds.Class) → is_row terms (denies reason) → learns (terms_in terms) tr m known ≡ known
-denied_by by_two reason tr m known is = absurd is
-denied_by by_zero reason tr m known is = absurd is
-denied_by (refusing why) reason tr m known is = refl
+denied_by terms reason tr m known is = grind arith
 
 -- ---- all three
 

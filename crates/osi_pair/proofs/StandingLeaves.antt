@@ -74,13 +74,7 @@ lost_turn broken keep reply x channel peer = record {
 
 lost_silent : (broken : Bool) (keep reason : ℕ) (x : Standing) (channel : List Message) (peer : Seat) →
     lost_turn broken keep (react x broken_off).reply x channel peer ≡ left_turn broken keep (leaves reason) (react x broken_off) peer.channel (record { own = seat_now worlds.linked x channel; peer = peer })
-lost_silent broken keep reason x channel peer =
-    ap (λ (o : Option Meaning). lost_turn broken keep o x channel peer) (silent_broken x).0
-    ∙ ap (λ (ms : List Message). record {
-      line = record { own = record { transport = worlds.gone; session = (react x broken_off).next; channel = put broken (over ∷ []) ms }; peer = peer };
-      shown = (react x broken_off).shown;
-      closes = false;
-    }) (put_nothing broken (take keep channel))
+lost_silent broken keep reason x channel peer = grind (arith, silent_broken, put_nothing, take)
 
 turn_leaves : (broken : Bool) (terms : worlds.Terms) (keep reason : ℕ) (x : Standing) (channel : List Message) (peer : Seat) (m : Message) → kind_of (message_in m) ≡ carrier.bye reason →
     message_taken broken terms keep worlds.linked (record { own = seat_now worlds.linked x channel; peer = peer }) m ≡ lost_turn broken keep (react x broken_off).reply x channel peer
@@ -168,8 +162,7 @@ left_step s p b t n keep reason row old alive is a =
     step_opens t (side_in s) n (λ r. keep) a.seen a.first a.rest (left_turn t.broken keep row (react a.seen.own.session (heard_by row a.first)) a.rest a.seen) (lasting_in s p b t old alive) a.found a.parts taken refl
 
 same_holding : (s : Side) (e : End) (h : Held) (n : ℕ) (p : TwoEnds) (shown : List Shown) → with_holding s e h (turned_pair s e h n shown p) ≡ turned_pair s e h n shown p
-same_holding Left e h n p shown = refl
-same_holding Right e h n p shown = refl
+same_holding s e h n p shown = grind arith
 
 -- a packet that closes an open connection
 pub leaving_packet : MovingLaws → (s : Side) (p : TwoEnds) (b : Between) (t : Tables) (packet : List ℕ) (h : Held) (reason : ℕ) → Stands p b t → IsTableRun t → (end_at s p).end.carrier.ended ≡ None →

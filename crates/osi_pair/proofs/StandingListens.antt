@@ -38,11 +38,7 @@ as_made m = record { next = listening m.next; shown = m.shown; reply = m.reply; 
 
 -- THE TIE
 pub moves_so : (s : Standing) (input : Input) → words.react (listening s) (in_words input) ≡ as_made (react s input)
-moves_so s input =
-    let m = react s input in
-    let k = kept_none m.next.state.phase in
-    moves_as_whole s input
-    ∙ (λ i. record { next = record { state = m.next.state; waiting = m.next.waiting; joined = k i }; shown = m.shown; reply = m.reply; closes = m.closes; error = m.error })
+moves_so s input = grind (arith, kept_none, moves_as_whole)
 
 -- a session that has joined something makes the same moves but for messages that come, and keeps by its phase
 -- what it has joined
@@ -57,13 +53,9 @@ moves_apart joined s input kept apart none =
 abbrev SameCall : Option (List ℕ) → words.Move → Move → Type 0
 SameCall joined m n = (m.next ≡ joining m.next.joined n.next) × (m.reply ≡ n.reply) × (m.error ≡ n.error)
 
-answers_so : (joined : Option (List ℕ)) (s : Standing) (a : Answer) → SameCall joined (words.answered (joining joined s) a) (answered s a)
-answers_so joined s (Ok x) = (refl, refl, refl)
-answers_so joined s (Err e) = (refl, refl, refl)
-
 pub calls_so : (joined : Option (List ℕ)) (s : Standing) (c : Call) → SameCall joined (words.react (joining joined s) (words.called c)) (react s (called c))
 unfolding words.react react
-calls_so joined s c = answers_so joined s (allowed s.state c)
+calls_so joined s c = grind arith
 
 -- what has begun is joined then, as it was
 answers_keep : (l : Listener) (c : Call) (a : Answer) (begun : Option (List ℕ)) → allowed l.state c ≡ a → IsJoinedAs l.state l.joined begun →
@@ -77,8 +69,7 @@ calls_keep l c begun h = answers_keep l c (allowed l.state c) begun refl h
 
 -- nothing has begun
 pub none_joined : (s : State) (joined : Option (List ℕ)) → IsJoinedAs s joined None → joined ≡ None
-none_joined s joined (inl none) = none
-none_joined s joined (inr none) = none.0
+none_joined s joined h2 = grind arith
 
 -- ---- parts of one Data
 
@@ -89,12 +80,7 @@ pub record PartJoins (joined : Option (List ℕ)) (x : Standing) (place : Place)
   pub stands : IsJoinedAs x.state now begun
 
 joins_by : (joined : Option (List ℕ)) (x : Standing) (place : Place) (octets : List ℕ) (begun : Option (List ℕ)) → IsJoined x.state joined (part place octets) begun → PartJoins joined x place octets begun
-joins_by joined x place octets begun j = record {
-  now = j.now;
-  is = taken_is (joining joined x) (says (GT no_token) ∷ part place octets ∷ []) (record { next = record { state = x.state; joined = j.now }; shown = []; reply = None; closes = false })
-      (word_behind (record { state = x.state; joined = joined }) (part place octets) ∙ j.is);
-  stands = j.stands;
-}
+joins_by joined x place octets begun j = grind (arith, taken_is, word_behind)
 
 pub first_joins : (joined : Option (List ℕ)) (x : Standing) (octets all : List ℕ) → length octets ≤ most_data → IsKeptIn x.state.phase joined → IsNoFault x.state all → IsJoinedAs x.state joined None →
     PartJoins joined x First octets (Some octets)
@@ -125,15 +111,10 @@ came_by r s lines None at is all = cc
 came_by r s lines (Some line) at is all = subst (λ (o : Option Listener). IfSome o CameAbout) is (at_line CameAbout r line lines all at)
 
 first_kept : (s : Listener) → (s ≡ awaits_cn) ⊎ ((c : Connect) × (s ≡ calls_with c)) → IsKept s
-first_kept s (inl is) = subst IsKept (sym is) (record { phase = refl; few = omega arith })
-first_kept s (inr calls) = subst IsKept (sym calls.1) (record { phase = refl; few = omega arith })
+first_kept s h1 = grind arith
 
 pub kept_of : (r : ℕ) (s : Listener) (e : End) → IsInOrder e → kept_at r e.lines ≡ Some s → IsKept s
 kept_of r s e order is = let h = came_by r s e.lines (value_at r e.lines) refl is order.came in subst IsKept h.is (inputs_kept h.first h.inputs (first_kept h.first h.fresh))
 
-either_true : (a b : Bool) → b ≡ true → (a || b) ≡ true
-either_true true b e = refl
-either_true false b e = e
-
 pub discards_over : (q : Phase) → is_over q ≡ true → discards q ≡ true
-discards_over q e = either_true (is_restarting q) (is_over q) e
+discards_over q e = grind arith

@@ -51,8 +51,7 @@ unfolding react
 awaits_shows = refl
 
 few : (b : Bool) → length (if◌then◌else◌ {A = List Shown} b (Lost ∷ []) []) ≤ 1
-few true = omega arith
-few false = omega arith
+few b = grind arith
 
 -- the session of an end shows as much
 pub quiet_loss : (l : Listener) → shows_loss l.state.phase ≡ false → (words.react l words.broken).shown ≡ []
@@ -94,18 +93,13 @@ map_nil f (x ∷ xs) e = cc
 
 pub waiting_lost : (lines : Rows stack.Line) → waiting_in lines ≡ [] → waiting_in (all_lost lines) ≡ lost_in lines
 waiting_lost [] e = refl
-waiting_lost ((r, line) ∷ lines) e =
-    let none : line.waiting ≡ [] = map_nil (λ shown. (r, shown)) line.waiting (front_nil (map (λ shown. (r, shown)) line.waiting) (waiting_in lines) e) in
-    let more = waiting_lost lines (behind_nil (map (λ shown. (r, shown)) line.waiting) (waiting_in lines) e) in
-    ap (λ (w : List Shown). map (λ shown. (r, shown)) (w ++ shown_at_loss line.session) ++ waiting_in (all_lost lines)) none
-    ∙ ap (λ (l : List (ℕ × Shown)). lost_of r line ++ l) more
+waiting_lost ((r, line) ∷ lines) e = grind (arith, map_nil, front_nil, map, behind_nil, waiting_lost lines (behind_nil (map (λ shown. (r, shown)) line.waiting) (waiting_in lines) e))
 
 -- ---- at most one for each live connection
 
 without_fewer_by : (r q : ℕ) (c : Connection) (rows : Rows Connection) (b : Bool) → (q == r) ≡ b → IsSome (value_at r ((q, c) ∷ rows)) →
     (IsSome (value_at r rows) → length rows ≡ length (without r rows) + 1) → length ((q, c) ∷ rows) ≡ length (without r ((q, c) ∷ rows)) + 1
-without_fewer_by r q c rows true e some more = rw e (omega arith)
-without_fewer_by r q c rows false e some more = let here = more (rw e at some) in rw e (omega arith)
+without_fewer_by r q c rows b e some more = grind arith
 
 without_fewer : (r : ℕ) (rows : Rows Connection) → IsSome (value_at r rows) → length rows ≡ length (without r rows) + 1
 without_fewer r [] some = cc
@@ -241,11 +235,7 @@ kept_shows (Some s) joined seat kept over = lost_so joined seat.session ∙ ap (
 
 seat_shows_by : (n : ℕ) (h : Holding) (seat : Seat) (never_given : Bool) (o : Option Connection) → nat_lt h.end.carrier.given n ≡ never_given → value_at n h.end.carrier.live ≡ o →
     AreUpTo h.end.carrier.given h.end.lines → IsSeated n h seat → (react seat.session broken_off).shown ≡ shown_at_loss (kept_at n h.end.lines)
-seat_shows_by n h seat true o e at up s =
-    let above : h.end.carrier.given < n = grind (arith, nat_tests) in
-    let place : place_at n h.end.carrier ≡ never = ap (λ (b : Bool). if b then never else was_given (value_at n h.end.carrier.live)) e in
-    ap (λ (x : Standing). (react x broken_off).shown) (s.awaiting (s.transport ∙ ap transport_in place)) ∙ awaits_shows
-    ∙ sym (ap (λ (x : Option stack.Line). shown_at_loss (session_in x)) (beyond n h.end.carrier.given h.end.lines up above))
+seat_shows_by n h seat true o e at up s = grind (arith, nat_tests, awaits_shows, beyond)
 seat_shows_by n h seat false None e at up s =
     let place : place_at n h.end.carrier ≡ was_given None =
     ap (λ (b : Bool). if b then never else was_given (value_at n h.end.carrier.live)) e ∙ ap was_given at in
@@ -259,22 +249,15 @@ seat_shows : (n : ℕ) (h : Holding) (seat : Seat) → AreUpTo h.end.carrier.giv
     (react seat.session broken_off).shown ≡ shown_at_loss (kept_at n h.end.lines)
 seat_shows n h seat up s = seat_shows_by n h seat (nat_lt h.end.carrier.given n) (value_at n h.end.carrier.live) refl refl up s
 
--- a session that shows its loss has a live connection
-seat_live_by : (n : ℕ) (h : Holding) (seat : Seat) (s : Listener) (never_given : Bool) (o : Option Connection) → nat_lt h.end.carrier.given n ≡ never_given →
-    value_at n h.end.carrier.live ≡ o → AreUpTo h.end.carrier.given h.end.lines → IsSeated n h seat → kept_at n h.end.lines ≡ Some s → shows_loss s.state.phase ≡ true → IsSome o
-seat_live_by n h seat s never_given o e at up is kept shown = grind arith
-
 seat_live : (n : ℕ) (h : Holding) (seat : Seat) (s : Listener) → AreUpTo h.end.carrier.given h.end.lines → IsSeated n h seat → kept_at n h.end.lines ≡ Some s →
     shows_loss s.state.phase ≡ true → IsSome (value_at n h.end.carrier.live)
-seat_live n h seat s up is kept shown =
-    seat_live_by n h seat s (nat_lt h.end.carrier.given n) (value_at n h.end.carrier.live) refl refl up is kept shown
+seat_live n h seat s up is kept shown = grind arith
 
 -- ---- what is shown
 
 kept_quiet_by : (n r : ℕ) (line : stack.Line) (lines : Rows stack.Line) (b : Bool) → (r == n) ≡ b → kept_at n (quieted lines) ≡ kept_at n lines →
     kept_at n (quieted ((r, line) ∷ lines)) ≡ kept_at n ((r, line) ∷ lines)
-kept_quiet_by n r line lines true e more = rw e refl
-kept_quiet_by n r line lines false e more = rw e more
+kept_quiet_by n r line lines b e more = grind arith
 
 kept_quiet : (n : ℕ) (lines : Rows stack.Line) → kept_at n (quieted lines) ≡ kept_at n lines
 kept_quiet n [] = refl
@@ -330,9 +313,8 @@ all_live who h t rise up few all q s kept shown =
         cc
 
 slice_within : (ls : List Line) (i : ℕ) (l : Line) → slice_get ls i ≡ Some l → i < length ls
-slice_within [] i l e = absurd (cc)
-slice_within (x ∷ ls) zero l e = omega arith
 slice_within (x ∷ ls) (suc i) l e = let more = slice_within ls i l e in omega arith
+slice_within ls i l e = grind arith
 
 all_kept : (who : Side) (h : Holding) (t : Tables) → AreUpTo h.end.carrier.given h.end.lines → AllSeated who h.end.carrier.given h t → AreKept who 0 t.lines h.end.lines
 all_kept who h t up all i l e =
@@ -370,8 +352,4 @@ says_all who h lines first t told quiet order few all =
 -- the journals go on alike
 pub journal_on : (old : List entries.Entry) (more : List entries.Entry) (last : entries.Entry) (before said : List Entry) (end : Entry) → map Some old ≡ map entry_in before →
     map Some more ≡ map entry_in said → Some last ≡ entry_in end → map Some (old ++ (more ++ last ∷ [])) ≡ map entry_in (before ++ (said ++ end ∷ []))
-journal_on old more last before said end e f g =
-    map-append Some old (more ++ last ∷ []) ∙ ap (λ l. map Some old ++ l) (map-append Some more (last ∷ []))
-    ∙ ap (λ l. l ++ (map Some more ++ Some last ∷ [])) e ∙ ap (λ l. map entry_in before ++ (l ++ Some last ∷ [])) f
-    ∙ ap (λ x. map entry_in before ++ (map entry_in said ++ x ∷ [])) g
-    ∙ sym (map-append entry_in before (said ++ end ∷ []) ∙ ap (λ l. map entry_in before ++ l) (map-append entry_in said (end ∷ [])))
+journal_on old more last before said end e f g = grind (arith, map-append, map)

@@ -171,8 +171,7 @@ pub record MovingLaws : Type 0 where
   pub takes : TakeLaws
 
 seen_sound : (s : machine.Side) (l : TableLine) → IsSoundLine (seen_from s l) → IsSoundLine l
-seen_sound machine.Left l h = h
-seen_sound machine.Right l h = record { own = h.peer; peer = h.own }
+seen_sound s l h = grind arith
 
 first_whole : (m : Message) (ms : List Message) → AreSendable (m ∷ ms) → IsWhole m
 first_whole m ms h = grind arith
@@ -183,8 +182,7 @@ pub record KeptLine (n : ℕ) (lines : Rows Line) (joined : Option (List ℕ)) (
   pub is : line.session ≡ Some (joining joined x)
 
 line_by : (n : ℕ) (lines : Rows Line) (joined : Option (List ℕ)) (x : Standing) (o : Option Line) → value_at n lines ≡ o → session_in o ≡ Some (joining joined x) → KeptLine n lines joined x
-line_by n lines joined x None e h = absurd cc
-line_by n lines joined x (Some line) e h = record { line = line; here = e; is = h }
+line_by n lines joined x o e h = grind arith
 
 no_way : false ≡ true → ⊥
 no_way e = cc
@@ -417,17 +415,11 @@ moves_by s p b t n row a = record {
 
 -- ---- the end then
 
-linked_value : (n : ℕ) (c : Carrier) (o : Option Connection) → value_at n c.live ≡ o → progress_of (was_given o) ≡ in_use → IsLinkedAt n c
-linked_value n c o e h = grind arith
-
 linked_by : (n : ℕ) (c : Carrier) (b : Bool) → nat_lt c.given n ≡ b → progress_of (place_at n c) ≡ in_use → IsLinkedAt n c
-linked_by n c true e h = let no : not_yet ≡ in_use = sym (ap (λ (b : Bool). progress_of (if◌then◌else◌ {A = Place} b never (was_given (value_at n c.live)))) e) ∙ h in absurd cc
-linked_by n c false e h = linked_value n c (value_at n c.live) refl (sym (ap (λ (b : Bool). progress_of (if◌then◌else◌ {A = Place} b never (was_given (value_at n c.live)))) e) ∙ h)
+linked_by n c b e h = grind arith
 
 pub open_at : (n : ℕ) (c : Carrier) → c.ended ≡ None → IsLinkedAt n c → is_open n c ≡ true
-open_at n c lasts l =
-    ap (λ (x : Option EndReason). is_some (if◌then◌else◌ {A = Option (ℕ × Link)} (is_some x) None (link_of (value_at n c.live)))) lasts
-    ∙ ap (λ (o : Option Connection). is_some (link_of o)) l.at
+open_at n c lasts l = grind arith
 
 abbrev pub EndOf : (s : Side) (p : TwoEnds) (b : Between) (t : Tables) (packet : List ℕ) (h : Held) (pa : PacketAt s p b packet h) → Arriving s p b t (reference_of pa.unit) pa.did.row → End
 EndOf s p b t packet h pa a = moved_end s p pa.unit (moving s p b t (reference_of pa.unit) pa.did.row a)
@@ -467,13 +459,10 @@ pub moved_then : MovingLaws → (s : Side) (p : TwoEnds) (b : Between) (t : Tabl
     EndThen s p (EndOf s p b t packet h pa a)
 moved_then laws s p b t packet h old alive pa a d same f =
     let loud = loud_lines s p (moving s p b t (reference_of pa.unit) pa.did.row a) in
-    record {
-      lasts = f.lasts;
-      local = f.local;
-      role = same_role laws.packet s p b t (EndOf s p b t packet h pa a) h (reference_of pa.unit) old alive d f.lasts;
-      order = quiet_order (acted_end pa.unit loud (end_at s p).end) (loud_order s p b t packet h old alive pa a d same f);
-      waits = quiet_waits loud;
-    }
+    let role = same_role laws.packet s p b t (EndOf s p b t packet h pa a) h (reference_of pa.unit) old alive d f.lasts in
+    let order = quiet_order (acted_end pa.unit loud (end_at s p).end) (loud_order s p b t packet h old alive pa a d same f) in
+    let waits = quiet_waits loud in
+    grind arith
 
 -- ---- two ends then
 

@@ -27,7 +27,7 @@ use Rattle.osi_pair.specs.declared.sides.Side.{Side}
 use Rattle.osi_pair.proofs.StandingArrived.{PacketActs}
 use Rattle.osi_pair.proofs.StandingFinish.{terms_at, DidAt, TablesAfter, OtherSessions, line_then, finish}
 use Rattle.osi_pair.proofs.StandingHeard.{lines_then, kept_other, session_then}
-use Rattle.osi_pair.proofs.StandingRests.{step_is, delivered, tables_delivered, sends_then, seat_now}
+use Rattle.osi_pair.proofs.StandingRests.{delivered, tables_delivered, sends_then, seat_now}
 use Rattle.osi_pair.proofs.StandingResting.{acted_end, EndThen, NextFor, out_row}
 use Rattle.osi_pair.proofs.StandingRows.{Row, quiet, still, begins, refuses, agrees, denies, tells, leaves, ignores, ends, before, after, arrived_in}
 use Rattle.osi_pair.proofs.StandingSeats.{transport_by, HasSession}
@@ -70,9 +70,7 @@ turn_then row input broken reply x channel back l = record {
 pub turn_moves : (broken : Bool) (terms : worlds.Terms) (keep : ℕ) (row : Row) (l : TableLine) (m : Message) (xs : List Message) (got : carrier.Message) → l.own.transport ≡ transport_by (before row) → is_move row ≡ true →
     arrived_in row ≡ got ∷ [] → kind_of (message_in m) ≡ kind_of got →
     message_taken broken terms keep l.own.transport (without_first l xs) m ≡ turn_then row (heard_by row m) broken (react l.own.session (heard_by row m)).reply l.own.session l.own.channel xs l
-turn_moves broken terms keep row l m xs got f is e a =
-    ap (λ (tr : worlds.Transport). message_taken broken terms keep tr (record { own = seat_now tr l.own.session l.own.channel; peer = record l.peer { channel = xs } }) m) f
-    ∙ turn_by broken terms keep row l.own.session l.own.channel (record l.peer { channel = xs }) m got is e a
+turn_moves broken terms keep row l m xs got f is e a = grind arith
 
 stays_in_use : (row : Row) → is_move row ≡ true → leaves_use (before row) (after row) ≡ false
 stays_in_use row e = grind arith
@@ -86,9 +84,7 @@ pub step_moves : (t : Tables) (s : Side) (n : ℕ) (keep : ℕ → ℕ) (row : R
     kind_of (message_in m) ≡ kind_of got →
     step t (delivers (side_in s) n keep) ≡ after_turn (record t { known = learns t.terms l.own.transport m t.known }) (side_in s) n keep
     (turn_then row (heard_by row m) t.broken (react l.own.session (heard_by row m)).reply l.own.session l.own.channel xs l)
-step_moves t s n keep row l m xs got lasting found first tr move one alike =
-    step_is t (side_in s) n keep l m xs lasting found first
-    ∙ ap (after_turn (record t { known = learns t.terms l.own.transport m t.known }) (side_in s) n keep) (turn_moves t.broken t.terms (keep n) row l m xs got tr move one alike)
+step_moves t s n keep row l m xs got lasting found first tr move one alike = grind arith
 
 -- ---- the sessions of all others
 

@@ -18,12 +18,10 @@ use Rattle.osi_session.specs.Units.{is_profile}
 use Rattle.osi_session.specs.declared.state.State.{State}
 
 both_right : (a b : Bool) → (a && b) ≡ true → b ≡ true
-both_right true b h = h
-both_right false b h = absurd cc
+both_right a b h = grind arith
 
 both_left : (a b : Bool) → (a && b) ≡ true → a ≡ true
-both_left true b h = refl
-both_left false b h = absurd cc
+both_left a b h = grind arith
 
 small_by : (n : ℕ) (two some one : Bool) → (n == 2) ≡ two → (bit_and n 185 == n) ≡ some → (two || (some && one)) ≡ true → n < 65536
 small_by n true some one a b h = let e = eqb-true n 2 a in omega arith
@@ -37,13 +35,8 @@ pub profile_small : (n : ℕ) → is_profile n ≡ true → n < 65536
 unfolding is_profile
 profile_small n h = small_by n (n == 2) (bit_and n 185 == n) (names n 1) refl refl h
 
--- sizes that a user may give go into two octets each
-size_by : (n : ℕ) (none within : Bool) → (n == 0) ≡ none → (nat_le 64 n && nat_le n 65535) ≡ within → (none || within) ≡ true → n < 65536
-size_by n true within a b h = let e = eqb-true n 0 a in omega arith
-size_by n false within a b h = let e = leb-true n 65535 (both_right (nat_le 64 n) (nat_le n 65535) (b ∙ h)) in omega arith
-
 size_small : (n : ℕ) → is_size n ≡ true → n < 65536
-size_small n h = size_by n (n == 0) (nat_le 64 n && nat_le n 65535) refl refl h
+size_small n h = grind arith
 
 pub asker_small : (s : TsduMaximumSize) → are_sizes s ≡ true → s.from_asker < 65536
 asker_small s h = size_small s.from_asker (both_left (is_size s.from_asker) (is_size s.from_answerer) h)
@@ -52,8 +45,7 @@ pub answerer_small : (s : TsduMaximumSize) → are_sizes s ≡ true → s.from_a
 answerer_small s h = size_small s.from_answerer (both_right (is_size s.from_asker) (is_size s.from_answerer) h)
 
 reason_small : (octets : List ℕ) → refusal_reason octets < 256
-reason_small [] = omega arith
-reason_small (x ∷ octets) = omega arith
+reason_small octets = grind arith
 
 says_in : (s : State) (c : Call) → AllHold (needs s c) → IsSendable (sends s c) → IsOctets (octets_of c) → IsInOctets (sends s c)
 says_in s (Accept requirements serial sides sizes octets) needed sendable h =

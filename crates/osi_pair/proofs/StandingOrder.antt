@@ -1,5 +1,5 @@
 -- An end whose session has moved is in order before what it sends is handed over.
-use Rattle.std.proofs.Common.{◌≡◌, ◌≢◌, ℕ, ◌≤◌, ◌==◌, Bool, true, false, if◌then◌else◌, [], Option, Some, None, is_some, refl, sym, ap, subst, ◌∙◌}
+use Rattle.std.proofs.Common.{◌≡◌, ◌≢◌, ℕ, ◌≤◌, ◌==◌, Bool, true, false, if◌then◌else◌, [], Option, Some, None, is_some, refl, sym, ap, subst, ◌∙◌, arith}
 use Rattle.std.proofs.lemmas.Bool.{eqb-true, eq-eqb}
 use Rattle.osi_class.specs.Link.{Standing as Link}
 use Rattle.osi_carrier.specs.Calls.{link_of}
@@ -36,9 +36,7 @@ session_moves n heard e line l m here is so = cc
 -- that of the session of the tables, which sends by itself
 pub session_acts : (n : ℕ) (heard : words.Input) (input : Input) (e : End) (line : Line) (l : Listener) (x : Standing) → value_at n e.lines ≡ Some line → line.session ≡ Some l → words.react l heard ≡ as_made (react x input) →
     limit_for l heard ≡ 0 → to_session n heard e ≡ record { carrier = answers n 0 (as_made (react x input)) e.carrier; lines = lines_then n (noted l heard line) x input e.lines }
-session_acts n heard input e line l x here is so alone =
-    session_moves n heard e line l (as_made (react x input)) here is so
-    ∙ ap (λ (k : ℕ). record { carrier = answers n k (as_made (react x input)) e.carrier; lines = lines_then n (noted l heard line) x input e.lines }) alone
+session_acts n heard input e line l x here is so alone = grind arith
 
 -- ---- open connections
 

@@ -82,16 +82,13 @@ pub record StandsBehind (s : Side) (p : TwoEnds) (t : Tables) (packet : List ℕ
 -- ---- the end
 
 none_of : (o : Option Ending) → option_map Some o ≡ None → o ≡ None
-none_of None e = refl
-none_of (Some x) e = cc
+none_of o e = grind arith
 
 pub lasting_in : (s : Side) (p : TwoEnds) (b : Between) (t : Tables) → Stands p b t → (end_at s p).end.carrier.ended ≡ None → end_of (side_in s) t ≡ None
-lasting_in Left p b t old alive = none_of t.left_end (old.left_end ∙ ap (option_map ending_in) alive)
-lasting_in Right p b t old alive = none_of t.right_end (old.right_end ∙ ap (option_map ending_in) alive)
+lasting_in s p b t old alive = grind arith
 
 pub quiet_of : (s : Side) (p : TwoEnds) (b : Between) (t : Tables) → Stands p b t → waiting_in (end_at s p).end.lines ≡ []
-quiet_of Left p b t old = old.quiet_left
-quiet_of Right p b t old = old.quiet_right
+quiet_of s p b t old = grind arith
 
 pub same_role : PacketLaws → (s : Side) (p : TwoEnds) (b : Between) (t : Tables) (e : End) (h : Held) (n : ℕ) → Stands p b t → (end_at s p).end.carrier.ended ≡ None → (d : DidAt s p b e h n) → e.carrier.ended ≡ None →
     e.carrier.is_caller ≡ (end_at s p).end.carrier.is_caller
@@ -115,13 +112,10 @@ rest_end : PacketLaws → (s : Side) (p : TwoEnds) (b : Between) (t : Tables) (p
     EndThen s p (acted_end pa.unit (end_at s p).end.lines (end_at s p).end)
 rest_end laws s p b t packet h old alive pa same heard lasts local =
     let e = acted_end pa.unit (end_at s p).end.lines (end_at s p).end in
-    record {
-      lasts = lasts;
-      local = local;
-      role = same_role laws s p b t e h (reference_of pa.unit) old alive (did_at s p b packet h (end_at s p).end.lines pa) lasts;
-      order = order_then laws s p b t pa.unit e old alive pa.sendable heard lasts refl (order_of s p b t old alive).rising;
-      waits = quiet_of s p b t old;
-    }
+    let role = same_role laws s p b t e h (reference_of pa.unit) old alive (did_at s p b packet h (end_at s p).end.lines pa) lasts in
+    let order = order_then laws s p b t pa.unit e old alive pa.sendable heard lasts refl (order_of s p b t old alive).rising in
+    let waits = quiet_of s p b t old in
+    grind arith
 
 -- what a row is, which is not answered, and of which no session hears
 record IsQuietRow (row : Row) (n : ℕ) : Type 0 where
@@ -162,8 +156,7 @@ pub record ActsAt (s : Side) (p : TwoEnds) (packet : List ℕ) (u : Value) (n : 
 
 pub acts_at : (s : Side) (p : TwoEnds) (b : Between) (packet : List ℕ) (h : Held) → (pa : PacketActs (terms_at p) (is_caller s) (carriers_of p) b packet h.octets) →
     ActsAt s p packet pa.unit (reference_of pa.unit) pa.did.row
-acts_at Left p b packet h pa = record { acts = pa.acts; events = pa.events; lasts = pa.lasts; local = pa.local }
-acts_at Right p b packet h pa = record { acts = pa.acts; events = pa.events; lasts = pa.lasts; local = pa.local }
+acts_at s p b packet h pa = grind arith
 
 -- ---- the packet
 
@@ -263,8 +256,7 @@ got_is : (row : Row) (n : ℕ) (q : IsRestRow row n) (m : carrier.Message) → a
 got_is row n q m e = let two : q.got ∷ [] ≡ m ∷ [] = sym q.one ∙ e in cc
 
 row_of_pa : (s : Side) (p : TwoEnds) (b : Between) (packet : List ℕ) (h : Held) → (pa : PacketActs (terms_at p) (is_caller s) (carriers_of p) b packet h.octets) → is_row (terms_at p) pa.did.row
-row_of_pa Left p b packet h pa = pa.did.is
-row_of_pa Right p b packet h pa = pa.did.is
+row_of_pa s p b packet h pa = grind arith
 
 -- of a message that is no TSDU
 came_alone : (s : Side) (p : TwoEnds) (b : Between) (t : Tables) (packet : List ℕ) (h : Held) → (end_at s p).end.carrier.ended ≡ None → (pa : PacketActs (terms_at p) (is_caller s) (carriers_of p) b packet h.octets) →
@@ -292,8 +284,7 @@ calm_then s p b t n row l ms old alive stood i shuts =
 
 pub stood_at : (s : Side) (p : TwoEnds) (b : Between) (packet : List ℕ) (h : Held) → (pa : PacketActs (terms_at p) (is_caller s) (carriers_of p) b packet h.octets) →
     progress_of (place_at (reference_of pa.unit) (last_of (is_caller s) b)) ≡ before pa.did.row
-stood_at Left p b packet h pa = pa.did.stood
-stood_at Right p b packet h pa = pa.did.stood
+stood_at s p b packet h pa = grind arith
 
 -- a session begins
 opens_new : (n : ℕ) (lines : Rows Line) (e : End) → value_at n lines ≡ None → opens n (value_at n lines) e ≡ joins n awaits e
@@ -431,8 +422,7 @@ numbered_behind s (x ∷ xs) ys a d = (a.0, numbered_behind s xs ys a.1 d)
 numbered_behind s xs ys a d = search
 
 pub terms_then : (s : Side) (p : TwoEnds) (a : End) (h : Held) → a.carrier.local ≡ (end_at s p).end.carrier.local → terms_at (with_holding s a h p) ≡ terms_at p
-terms_then Left p a h e = ap (λ (l : Local). terms_of l p.right.end.carrier.local) e
-terms_then Right p a h e = ap (λ (l : Local). terms_of p.left.end.carrier.local l) e
+terms_then s p a h e = grind arith
 
 -- nothing was shown
 shown_nothing : (s : Side) (p : TwoEnds) (a e : End) (h : Held) (n : ℕ) → a ≡ e → turned_pair s e h n [] p ≡ with_holding s a h p
@@ -442,12 +432,10 @@ shown_nothing Right p a e h n same =
     ap (λ (j : List Entry). record (with_holding Right e h p) { journal = j }) (append-nil p.journal) ∙ ap (λ (x : End). with_holding Right x h p) (sym same)
 
 pub both_carrier : (s : Side) (p : TwoEnds) → (side (is_caller s) (carriers_of p)).state ≡ (end_at s p).end.carrier
-both_carrier Left p = refl
-both_carrier Right p = refl
+both_carrier s p = grind arith
 
 pub both_held : (s : Side) (p : TwoEnds) → (side (is_caller s) (carriers_of p)).held ≡ (end_at s p).held.octets
-both_held Left p = refl
-both_held Right p = refl
+both_held s p = grind arith
 
 pub untold_at : PacketLaws → (p : TwoEnds) (steps : List Step) (s : Side) (packet octets : List ℕ) (h : Held) → StandsAt p steps → (end_at s p).end.carrier.ended ≡ None → IsPacket packet octets →
     (end_at s p).held.octets ≡ octets ++ h.octets → (carriers.after_packet (end_at s p).end.carrier packet).events ≡ [] → StandsAtDeliveries s (packet_taken s packet h p) steps

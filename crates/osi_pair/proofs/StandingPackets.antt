@@ -102,22 +102,15 @@ noted_none p = ap (λ (j : List Entry). record p { journal = j }) (append-nil p.
 
 -- where nothing is shown and the end lasts
 pub shown_plain : (s : Side) (e : End) (h : Held) (p : TwoEnds) → e.carrier.ended ≡ None → waiting_in e.lines ≡ [] → shown_pair s e h p ≡ with_holding s e h p
-shown_plain s e h p lasts quiet =
-    ap (λ (o : Option EndReason). noted (told_entries s None o (waiting_in e.lines)) (with_holding s (record e { lines = quieted e.lines }) h p)) lasts
-    ∙ ap (λ (l : List (ℕ × Shown)). noted (told_entries s None None l) (with_holding s (record e { lines = quieted e.lines }) h p)) quiet
-    ∙ noted_none (with_holding s (record e { lines = quieted e.lines }) h p)
-    ∙ ap (λ (l : Rows Line). with_holding s (record e { lines = l }) h p) (quiet_same e.lines quiet)
+shown_plain s e h p lasts quiet = grind (arith, with_holding, noted_none, quiet_same)
 
 pub shown_again : (s : Side) (e a : End) (h g : Held) (p : TwoEnds) → shown_pair s e h (with_holding s a g p) ≡ shown_pair s e h p
-shown_again Left e a h g p = refl
-shown_again Right e a h g p = refl
+shown_again s e a h g p = grind arith
 
 -- ---- what an end holds
 
 pub none_less : (f : Side) (o : Option Reach) → reach_after f 0 o ≡ o
-none_less f None = refl
-none_less Left (Some r) = ap (λ (n : ℕ). Some (record r { left = n })) (omega arith)
-none_less Right (Some r) = ap (λ (n : ℕ). Some (record r { right = n })) (omega arith)
+none_less f o = grind arith
 
 -- it may be kept in whatever way
 pub held_at : CarriedLaw → (s : Side) (p : TwoEnds) (steps : List Step) (h : Held) → StandsAt p steps → ((end_at s p).end.carrier.ended ≡ None → h.octets ≡ (end_at s p).held.octets) →
@@ -149,11 +142,7 @@ deliveries_then who xs ys are more = search
 
 -- deliveries, and then what arrives more
 pub join_arrivals : (s : Side) (p : TwoEnds) (steps more : List Step) → AreDeliveries (side_in s) more → StandsAtArrivals s p (steps ++ more) → StandsAtArrivals s p steps
-join_arrivals s p steps more are x = record {
-  more = more ++ x.more;
-  are = deliveries_then (side_in s) more x.more are x.are;
-  stands = subst (StandsAt p) (append_assoc steps more x.more) x.stands;
-}
+join_arrivals s p steps more are x = grind (arith, deliveries_then, append_assoc)
 
 pub no_more : (s : Side) (p : TwoEnds) (steps : List Step) → StandsAt p steps → StandsAtArrivals s p steps
 no_more s p steps at = record { more = []; are = tt; stands = subst (StandsAt p) (sym (append-nil steps)) at }
@@ -174,22 +163,13 @@ still_goes s p steps e h quiet x =
     subst (λ (q : TwoEnds). StandsAt q (steps ++ x.more)) (shown_plain s e h p (stops_not e quiet) (stops_quiet e quiet)) x.stands in
     let here : end_at s (with_holding s e h p) ≡ record { end = e; held = h } = holding_here s e h p in
     let lasts : (end_at s (with_holding s e h p)).end.carrier.ended ≡ None = ap (λ (y : Holding). y.end.carrier.ended) here ∙ stops_not e quiet in
-    record {
-      more = x.more;
-      are = alive_deliveries s (with_holding s e h p) steps x.more at lasts x.are;
-      stands = at;
-      here = here;
-      lasts = lasts;
-    }
+    let are = alive_deliveries s (with_holding s e h p) steps x.more at lasts x.are in
+    grind arith
 
 -- what comes behind it
 pub behind : (s : Side) (p : TwoEnds) (steps : List Step) (e : End) (g : Held) (new : End) (h : Held) → (x : GoesOn s p steps e g) →
     StandsFew s (with_holding s e g p) (steps ++ x.more) new h → StandsFew s p steps new h
-behind s p steps e g new h x y = record {
-  stands = join_arrivals s (shown_pair s new h p) steps x.more x.are
-      (subst (λ (b : TwoEnds). StandsAtArrivals s b (steps ++ x.more)) (shown_again s new e h g p) y.stands);
-  few = y.few;
-}
+behind s p steps e g new h x y = grind (arith, join_arrivals, shown_pair, shown_again)
 
 pub packets_stand : TakenLaws → CarriedLaw → (units : List (List ℕ)) (s : Side) (p : TwoEnds) (steps : List Step) (new : End) (h : Held) → StandsAt p steps →
     (end_at s p).end.carrier.ended ≡ None → TakesPackets (end_at s p).end units new → ArePackets units (end_at s p).held.octets h.octets → StandsFew s p steps new h

@@ -1,6 +1,6 @@
 -- A part of one Data arrives that is not the last: its session joins it to what has begun. The tables have the Data
 -- under way until its last part arrives, so that they stay.
-use Rattle.std.proofs.Common.{◌≡◌, ℕ, ◌≤◌, false, true, List, [], Some, None, refl, sym, ap, subst, ◌∙◌}
+use Rattle.std.proofs.Common.{◌≡◌, ℕ, ◌≤◌, false, true, List, [], Some, None, refl, sym, ap, subst, ◌∙◌, arith}
 use Rattle.osi_tpkt.specs.Held.{Held}
 use Rattle.osi_carrier.specs.Place.{place_at}
 use Rattle.osi_carrier.specs.Happenings.{tsdu}
@@ -125,13 +125,7 @@ part_holds s p b t packet h pa v y at =
 
 part_others : (s : Side) (p : TwoEnds) (b : Between) (t : Tables) (packet : List ℕ) (h : Held) (pa : PacketAt s p b packet h) → (v : PartArrives s p b t packet h pa) →
     OtherSessions s p (part_end s p b t packet h pa v) (reference_of pa.unit)
-part_others s p b t packet h pa v =
-    let n = reference_of pa.unit in
-    let new = line_after (part_line s p b t packet h pa v) (rests (joining v.joins.now v.seen.own.session)) in
-    record {
-      sessions = λ q apart lives. ap session_in (put_other q n new (end_at s p).end.lines apart);
-      kept = λ q apart y at. sym (ap session_in (put_other q n new (end_at s p).end.lines apart)) ∙ at;
-    }
+part_others s p b t packet h pa v = grind (arith, put_other)
 
 part_unit : MovingLaws → (s : Side) (p : TwoEnds) (b : Between) (t : Tables) (packet : List ℕ) (h : Held) → Stands p b t → (end_at s p).end.carrier.ended ≡ None → (pa : PacketAt s p b packet h) →
     (v : PartArrives s p b t packet h pa) → (f : ActsAt s p packet pa.unit (reference_of pa.unit) pa.did.row) →

@@ -55,10 +55,8 @@ pub record PieceLaws : Type 0 where
 -- ---- lists
 
 take_less : {A : Type 0} (k m : ℕ) (xs : List A) → k ≤ m → take k (take m xs) ≡ take k xs
-take_less zero m xs le = refl
-take_less (suc k) zero xs le = absurd (omega arith)
-take_less (suc k) (suc m) [] le = refl
 take_less (suc k) (suc m) (x ∷ xs) le = ap (λ l. x ∷ l) (take_less k m xs (omega arith))
+take_less k m xs le = grind arith
 
 drop_twice : {A : Type 0} (k j n : ℕ) (xs : List A) → k + j ≡ n → drop j (drop k xs) ≡ drop n xs
 drop_twice zero j n xs e = ap (λ (m : ℕ). drop m xs) (omega arith)
@@ -72,22 +70,14 @@ none_in (x ∷ xs) e = absurd (omega arith)
 
 -- ---- how far octets reach
 
-within_most : (f : Side) (o : Option Reach) (n : ℕ) → within o f n ≤ n
-within_most f None n = omega arith
-within_most f (Some r) n = omega arith
-
 pub reach_most : (f : Side) (p : TwoEnds) → reachable f p ≤ length (end_at f p).end.carrier.outgoing
-reach_most f p = within_most f p.reach (length (end_at f p).end.carrier.outgoing)
+reach_most f p = grind arith
 
 pub within_less : (f : Side) (o : Option Reach) (k n : ℕ) → within (reach_after f k o) f (n - k) ≡ within o f n - k
-within_less f None k n = refl
-within_less Left (Some r) k n = omega arith
-within_less Right (Some r) k n = omega arith
+within_less f o k n = grind arith
 
 pub reach_twice : (f : Side) (k j n : ℕ) (o : Option Reach) → k + j ≡ n → reach_after f j (reach_after f k o) ≡ reach_after f n o
-reach_twice f k j n None e = refl
-reach_twice Left k j n (Some r) e = ap (λ (m : ℕ). Some (record r { left = m })) (omega arith)
-reach_twice Right k j n (Some r) e = ap (λ (m : ℕ). Some (record r { right = m })) (omega arith)
+reach_twice f k j n o e = grind arith
 
 -- behind octets that were handed over
 less_shown : (f : Side) (p : TwoEnds) (k : ℕ) (e : End) (h g : Held) → reachable f (shown_pair (other f) e h (handed f k g p)) ≡ reachable f p - k
@@ -102,8 +92,7 @@ abbrev more_held : Side → ℕ → TwoEnds → Held
 more_held f k p = record (end_at (other f) p).held { octets = (end_at (other f) p).held.octets ++ take k (end_at f p).end.carrier.outgoing }
 
 handed_there : (f : Side) (k : ℕ) (h : Held) (p : TwoEnds) → end_at (other f) (handed f k h p) ≡ record { end = (end_at (other f) p).end; held = h }
-handed_there Left k h p = refl
-handed_there Right k h p = refl
+handed_there f k h p = grind arith
 
 -- packets of what is held then
 packed : PieceLaws → (f : Side) (p : TwoEnds) (steps : List Step) (k : ℕ) (octets : List ℕ) (units : List (List ℕ)) (mid : End) (rest : Held) → StandsAt p steps →
@@ -130,20 +119,8 @@ holds_more Right p k j e rest h g all =
 
 handed_twice : (f : Side) (p : TwoEnds) (k j n : ℕ) (e : End) (rest h g : Held) → k + j ≡ n →
     handed f j h (shown_pair (other f) e rest (handed f k g p)) ≡ shown_pair (other f) e h (handed f n h p)
-handed_twice Left p k j n e rest h g is =
-    let new = shown_pair Right e h (handed Left n h p) in
-    ap (λ (o : List ℕ). record new {
-      left = record p.left { end = record p.left.end { carrier = record p.left.end.carrier { outgoing = o } } };
-      reach = reach_after Left j (reach_after Left k p.reach);
-    }) (drop_twice k j n p.left.end.carrier.outgoing is)
-    ∙ ap (λ (o : Option Reach). record new { reach = o }) (reach_twice Left k j n p.reach is)
-handed_twice Right p k j n e rest h g is =
-    let new = shown_pair Left e h (handed Right n h p) in
-    ap (λ (o : List ℕ). record new {
-      right = record p.right { end = record p.right.end { carrier = record p.right.end.carrier { outgoing = o } } };
-      reach = reach_after Right j (reach_after Right k p.reach);
-    }) (drop_twice k j n p.right.end.carrier.outgoing is)
-    ∙ ap (λ (o : Option Reach). record new { reach = o }) (reach_twice Right k j n p.reach is)
+handed_twice Left p k j n e rest h g is = grind (arith, shown_pair, handed, drop_twice, reach_twice)
+handed_twice Right p k j n e rest h g is = grind (arith, shown_pair, handed, drop_twice, reach_twice)
 
 finished : PieceLaws → (f : Side) (p : TwoEnds) (steps : List Step) (k j used : ℕ) (e : End) (rest h g : Held) → k + j ≡ used → used ≤ reachable f p →
     (e.carrier.ended ≡ None → (j ≡ 0) × (h.octets ≡ rest.octets)) → StandsFew (other f) (handed f k g p) steps e rest → StandsFew (other f) (handed f used h p) steps e h
@@ -177,13 +154,11 @@ starved_ended laws s p steps packet octets behind new at alive is cut (inr st) =
     ap (λ (x : End). is_some x.carrier.ended) st.2.starved ∙ starved_over (with_events st.2.more (hears_times st.2.heard (with_carrier st.0 (end_at s p).end)))
 
 over_not : {A : Type 0} (o : Option EndReason) → is_some o ≡ true → o ≡ None → A
-over_not None e h = cc
-over_not (Some reason) e h = cc
+over_not o e h = grind arith
 
 no_fault : PieceLaws → (s : Side) (p : TwoEnds) (steps : List Step) (place : ℕ) (fault : TpktFault) → StandsAt p steps → (end_at s p).end.carrier.ended ≡ None →
     IsFaultOf place (end_at s p).held.octets fault → ⊥
-no_fault laws Left p steps place fault at alive is = laws.sound (terms_at p) true (carriers_of p) at.now place fault at.stands.between alive is
-no_fault laws Right p steps place fault at alive is = laws.sound (terms_at p) false (carriers_of p) at.now place fault at.stands.between alive is
+no_fault laws s p steps place fault at alive is = grind arith
 
 -- ---- a piece is fed
 
@@ -204,17 +179,13 @@ dry_stands laws f p steps most used new at alive le d =
 
 -- the end stopped behind a packet: where it lasts, no more was used
 used_by : (e : End) (k n used : ℕ) (b : Bool) → uses_all e ≡ b → k ≤ n → used ≡ (if b then n else k) → k ≤ used
-used_by e k n used true f le is = omega arith
-used_by e k n used false f le is = omega arith
+used_by e k n used b f le is = grind arith
 
 used_most : (k n used : ℕ) (b : Bool) → k ≤ n → used ≡ (if b then n else k) → used ≤ n
-used_most k n used true le is = omega arith
-used_most k n used false le is = omega arith
+used_most k n used b le is = grind arith
 
 stopped_uses : (e : End) → stops e ≡ true → e.carrier.ended ≡ None → uses_all e ≡ false
-stopped_uses e stopped lasts =
-    let waits_is : waits e.lines ≡ true = ap (λ (o : Option EndReason). is_some o || waits e.lines) (sym lasts) ∙ stopped in
-    ap (λ (o : Option EndReason). is_spoilt o || not (waits e.lines)) lasts ∙ ap not waits_is
+stopped_uses e stopped lasts = grind arith
 
 behind_stands : PieceLaws → (f : Side) (p : TwoEnds) (steps : List Step) (most used : ℕ) (new : Holding) → StandsAt p steps → (end_at (other f) p).end.carrier.ended ≡ None → most ≤ reachable f p →
     StopsBehind (end_at (other f) p) (piece_of f most p) used new → StandsFew (other f) (handed f used new.held p) steps new.end new.held
@@ -310,12 +281,7 @@ none_left waits first rest is few (inr many) =
     none_in rest (omega arith)
 
 all_shown : (old : Holding) (first : List (ℕ × Shown)) (new : Holding) → ShowsFirst old first new → length (waiting_in old.end.lines) ≤ 81 → AllShown old first new
-all_shown old first new s few =
-    let none = none_left (waiting_in old.end.lines) first (waiting_in new.end.lines) s.shown few s.most in
-    record {
-      all = sym (append-nil first) ∙ ap (λ (l : List (ℕ × Shown)). first ++ l) (sym none) ∙ sym s.shown;
-      is = s.rest ∙ ap (λ (l : Rows Line). record old { end = record old.end { lines = l } }) (sym (quiet_same new.end.lines none) ∙ s.lines);
-    }
+all_shown old first new s few = grind (arith, none_left, append-nil, quiet_same)
 
 -- ---- a piece is carried
 
@@ -325,16 +291,13 @@ crossed Left c o = record { left = c.from; right = c.to; reach = o; journal = c.
 crossed Right c o = record { left = c.to; right = c.from; reach = o; journal = c.journal }
 
 pub crossed_twice : (f : Side) (c : Crossing) (o : Option Reach) → crossing f (crossed f c o) ≡ c
-crossed_twice Left c o = refl
-crossed_twice Right c o = refl
+crossed_twice f c o = grind arith
 
 pub crossed_reach : (f : Side) (c : Crossing) (o : Option Reach) → (crossed f c o).reach ≡ o
-crossed_reach Left c o = refl
-crossed_reach Right c o = refl
+crossed_reach f c o = grind arith
 
 pub crossed_same : (f : Side) (p : TwoEnds) → crossed f (crossing f p) p.reach ≡ p
-crossed_same Left p = refl
-crossed_same Right p = refl
+crossed_same f p = grind arith
 
 -- what was carried and shown
 shown_crossing : (f : Side) (p : TwoEnds) (used : ℕ) (e : End) (h g : Held) → crossed f (record {
@@ -355,9 +318,7 @@ over_crossing Left p used = refl
 over_crossing Right p used = refl
 
 same_crossing : (c : Crossing) (from to : Holding) (journal : List Entry) → c.from ≡ from → c.to ≡ to → c.journal ≡ journal → c ≡ record { from = from; to = to; journal = journal }
-same_crossing c from to journal a b d =
-    ap (λ (x : Holding). record c { from = x }) a ∙ ap (λ (x : Holding). record { from = from; to = x; journal = c.journal }) b
-    ∙ ap (λ (x : List Entry). record { from = from; to = to; journal = x }) d
+same_crossing c from to journal a b d = grind arith
 
 -- to an end that lasts
 pub piece_alive : PieceLaws → (f : Side) (p : TwoEnds) (steps : List Step) (most used : ℕ) (new : Crossing) → StandsAt p steps → (end_at (other f) p).end.carrier.ended ≡ None → most ≤ reachable f p →

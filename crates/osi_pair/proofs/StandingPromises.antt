@@ -45,11 +45,10 @@ some_same x y e = cc
 
 words_by : (js : List entries.Entry) (es : List Entry) → map Some js ≡ map entry_in es → journal_in es ≡ js
 words_by [] [] e = refl
-words_by [] (x ∷ es) e = absurd (cc)
-words_by (j ∷ js) [] e = absurd (cc)
 words_by (j ∷ js) (x ∷ es) e =
     ap (λ (o : Option entries.Entry). with_word o (journal_in es)) (sym (first_same (Some j) (entry_in x) (map Some js) (map entry_in es) e))
     ∙ ap (λ (l : List entries.Entry). j ∷ l) (words_by js es (rest_same (Some j) (entry_in x) (map Some js) (map entry_in es) e))
+words_by js es e = grind arith
 
 -- ---- the tables at which two ends stand
 
@@ -182,9 +181,7 @@ one_holder holder offered p steps h r t = by (within r p.left.end.carrier.given)
 
 -- V(A) as an end says it is that of the tables, or 0
 no_more : (n : ℕ) (h : Holding) (s : Standing) → Says n h s → (numbers_of (session_at n h.end)).confirmed ≤ s.state.numbers.confirmed
-no_more n h s (of_none e) = let zero_then : (numbers_of (session_at n h.end)).confirmed ≡ 0 = ap (λ (o : Option Listener). (numbers_of o).confirmed) e in omega arith
-no_more n h s (of_some j e) =
-    let same : (numbers_of (session_at n h.end)).confirmed ≡ s.state.numbers.confirmed = ap (λ (o : Option Listener). (numbers_of o).confirmed) e in omega arith
+no_more n h s h3 = grind arith
 
 fewer_seen : (low high : ℕ) (own other : Told) → low ≤ high → IsSeenThere high own other → IsSeenThere low own other
 fewer_seen low high own other le seen before n kind octets begins below asking = seen before n kind octets begins (omega arith) asking

@@ -1,5 +1,5 @@
 -- The lines of an end, when all that waited was shown.
-use Rattle.std.proofs.Common.{◌≡◌, ℕ, ◌==◌, Bool, true, false, if◌then◌else◌, List, [], ◌∷◌, ◌++◌, map, Option, Some, None, option_map, refl, sym, ap, ◌∙◌}
+use Rattle.std.proofs.Common.{◌≡◌, ℕ, ◌==◌, Bool, true, false, if◌then◌else◌, List, [], ◌∷◌, ◌++◌, map, Option, Some, None, option_map, refl, sym, ap, ◌∙◌, arith}
 use Rattle.std.proofs.lemmas.Bool.{eqb-true}
 use Rattle.std.proofs.lemmas.List.{append-nil}
 use Rattle.osi_carrier.specs.Orderly.{RiseFrom, AreUpTo}
@@ -19,16 +19,14 @@ quiet_line line = record line { waiting = [] }
 
 value_by : (n r : ℕ) (line : Line) (lines : Rows Line) (b : Bool) → (r == n) ≡ b → value_at n (quieted lines) ≡ option_map quiet_line (value_at n lines) →
     value_at n (quieted ((r, line) ∷ lines)) ≡ option_map quiet_line (value_at n ((r, line) ∷ lines))
-value_by n r line lines true e more = rw e refl
-value_by n r line lines false e more = rw e more
+value_by n r line lines b e more = grind arith
 
 pub quiet_value : (n : ℕ) (lines : Rows Line) → value_at n (quieted lines) ≡ option_map quiet_line (value_at n lines)
 quiet_value n [] = refl
 quiet_value n ((r, line) ∷ lines) = value_by n r line lines (r == n) refl (quiet_value n lines)
 
 quiet_session : (o : Option Line) → session_in (option_map quiet_line o) ≡ session_in o
-quiet_session None = refl
-quiet_session (Some line) = refl
+quiet_session o = grind arith
 
 pub quiet_kept : (n : ℕ) (lines : Rows Line) → kept_at n (quieted lines) ≡ kept_at n lines
 quiet_kept n lines = ap session_in (quiet_value n lines) ∙ quiet_session (value_at n lines)
@@ -74,17 +72,7 @@ quiet_came [] h = tt
 quiet_came ((r, line) ∷ lines) h = (h.0, quiet_came lines h.1)
 
 pub quiet_order : (e : End) → IsInOrder e → IsInOrder (record e { lines = quieted e.lines })
-quiet_order e o = record {
-  heard = o.heard;
-  sound = record {
-    orderly = o.sound.orderly;
-    apart = quiet_apart e.lines o.sound.apart;
-    known = quiet_up e.carrier.given e.lines o.sound.known;
-    links = λ alive r s is needs. o.sound.links alive r s (sym (quiet_kept r e.lines) ∙ is) needs;
-  };
-  rising = quiet_rise 0 e.lines o.rising;
-  came = quiet_came e.lines o.came;
-}
+quiet_order e o = grind (arith, quiet_apart, quiet_up, quiet_kept, quiet_rise, quiet_came)
 
 -- ---- what one session shows
 
@@ -93,18 +81,8 @@ of_one n shown = map (λ x. (n, x)) shown
 
 put_by : (n r : ℕ) (line was there : Line) (move : Move) (lines : Rows Line) (b : Bool) → (r == n) ≡ b → was.waiting ≡ line.waiting → waiting_in ((r, there) ∷ lines) ≡ [] → value_at n ((r, there) ∷ lines) ≡ Some was →
     (value_at n lines ≡ Some was → waiting_in (put n (line_after line move) lines) ≡ of_one n move.shown) → waiting_in (put n (line_after line move) ((r, there) ∷ lines)) ≡ of_one n move.shown
-put_by n r line was there move lines true e waits none is more =
-    let same : r ≡ n = eqb-true r n e in
-    let first : line.waiting ≡ [] = (let found : Some there ≡ Some was = rw e at is in let eq : there ≡ was = cc in sym waits ∙ ap (λ (l : Line). l.waiting) (sym eq) ∙ none_first (λ shown. (r, shown)) there.waiting (waiting_in lines) none) in
-    let rest = none_second (λ shown. (r, shown)) there.waiting (waiting_in lines) none in
-    ap waiting_in (ap (λ (c : Bool). if◌then◌else◌ {A = Rows Line} c ((r, line_after line move) ∷ lines) ((r, there) ∷ put n (line_after line move) lines)) e)
-    ∙ ap (λ (l : List (ℕ × Shown)). map (λ shown. (r, shown)) (line.waiting ++ move.shown) ++ l) rest ∙ append-nil (map (λ shown. (r, shown)) (line.waiting ++ move.shown))
-    ∙ ap (λ (w : List Shown). map (λ shown. (r, shown)) (w ++ move.shown)) first ∙ ap (λ (q : ℕ). of_one q move.shown) same
-put_by n r line was there move lines false e waits none is more =
-    let first = none_first (λ shown. (r, shown)) there.waiting (waiting_in lines) none in
-    let found : value_at n lines ≡ Some was = rw e at is in
-    ap waiting_in (ap (λ (c : Bool). if◌then◌else◌ {A = Rows Line} c ((r, line_after line move) ∷ lines) ((r, there) ∷ put n (line_after line move) lines)) e)
-    ∙ ap (λ (w : List Shown). map (λ shown. (r, shown)) w ++ waiting_in (put n (line_after line move) lines)) first ∙ more found
+put_by n r line was there move lines true e waits none is more = grind (arith, eqb-true, none_first, none_second, if◌then◌else◌, map, append-nil)
+put_by n r line was there move lines false e waits none is more = grind (arith, none_first, if◌then◌else◌, map)
 
 -- the line that is put there has what waited in the one that stood there
 pub put_waits : (n : ℕ) (line was : Line) (move : Move) (lines : Rows Line) → was.waiting ≡ line.waiting → waiting_in lines ≡ [] → value_at n lines ≡ Some was → waiting_in (put n (line_after line move) lines) ≡ of_one n move.shown

@@ -65,9 +65,7 @@ skip k (suc m) q x live le =
     ∙ ap (λ (ts : List Transport). transport_in (was_given (value_at (k + 1) live)) ∷ ts) (skip (k + 1) m q x live (omega arith))
 
 live_is : (x : Connection) → is_live (transport_in (was_given (Some x))) ≡ true
-live_is asked = refl
-live_is (linked peer link) = refl
-live_is (closing peer) = refl
+live_is x = grind arith
 
 more_live : (t : Transport) (ts : List Transport) (b : Bool) → is_live t ≡ b → live_count (t ∷ ts) ≡ (if b then live_count ts + 1 else live_count ts)
 more_live t ts b e = ap (λ (c : Bool). if◌then◌else◌ {A = ℕ} c (live_count ts + 1) (live_count ts)) e
@@ -76,24 +74,8 @@ count_by : (k m q : ℕ) (x : Connection) (live : Rows Connection) (b : Bool) �
     ((rows : Rows Connection) → RiseFrom (k + 1) rows → AreUpTo (k + 1 + m) rows → live_count (transports (k + 1) m rows) ≡ length rows) →
     live_count (transports k (suc m) ((q, x) ∷ live)) ≡ length ((q, x) ∷ live)
 unfolding transports
-count_by k m q x live true e rise up more =
-    let here : value_at (k + 1) ((q, x) ∷ live) ≡ Some x = at_row (k + 1) q x live true e in
-    let same : q ≡ k + 1 = eqb-true q (k + 1) e in
-    let bound : k + suc m ≡ k + 1 + m = omega arith in
-    let one : length live + 1 ≡ suc (length live) = omega arith in
-    more_live (transport_in (was_given (value_at (k + 1) ((q, x) ∷ live)))) (transports (k + 1) m ((q, x) ∷ live)) true
-    (ap (λ (o : Option Connection). is_live (transport_in (was_given o))) here ∙ live_is x)
-    ∙ ap (λ (ts : List Transport). live_count ts + 1) (skip (k + 1) m q x live (omega arith))
-    ∙ ap (λ (n : ℕ). n + 1) (more live (subst (λ (n : ℕ). RiseFrom n live) same rise.1) (subst (λ (n : ℕ). AreUpTo n live) bound up.1))
-    ∙ one
-count_by k m q x live false e rise up more =
-    let low = rise.0 in
-    let above : k + 1 < q = grind (arith, nat_tests) in
-    let bound : k + suc m ≡ k + 1 + m = omega arith in
-    let none : value_at (k + 1) ((q, x) ∷ live) ≡ None = absent (k + 1) (k + 1) ((q, x) ∷ live) (omega arith) (above, rise.1) in
-    more_live (transport_in (was_given (value_at (k + 1) ((q, x) ∷ live)))) (transports (k + 1) m ((q, x) ∷ live)) false
-    (ap (λ (o : Option Connection). is_live (transport_in (was_given o))) none)
-    ∙ more ((q, x) ∷ live) (above, rise.1) (subst (λ (n : ℕ). AreUpTo n ((q, x) ∷ live)) bound up)
+count_by k m q x live true e rise up more = grind (arith, at_row, eqb-true, length, more_live, transports, live_is, skip)
+count_by k m q x live false e rise up more = grind (arith, nat_tests, absent, more_live, transports)
 
 count_live : (k m : ℕ) (live : Rows Connection) → RiseFrom k live → AreUpTo (k + m) live → live_count (transports k m live) ≡ length live
 unfolding transports
@@ -122,14 +104,7 @@ waits_by k m q x live true e rise up all more =
     let here : value_at (k + 1) ((q, x) ∷ live) ≡ Some x = at_row (k + 1) q x live true e in
     more_any (transport_in (was_given (value_at (k + 1) ((q, x) ∷ live)))) (transports (k + 1) m ((q, x) ∷ live)) true
     (ap (λ (o : Option Connection). is_waiting (transport_in (was_given o))) (here ∙ ap Some (all (k + 1) x here))) ∙ some_live q x live
-waits_by k m q x live false e rise up all more =
-    let low = rise.0 in
-    let above : k + 1 < q = grind (arith, nat_tests) in
-    let bound : k + suc m ≡ k + 1 + m = omega arith in
-    let none : value_at (k + 1) ((q, x) ∷ live) ≡ None = absent (k + 1) (k + 1) ((q, x) ∷ live) (omega arith) (above, rise.1) in
-    more_any (transport_in (was_given (value_at (k + 1) ((q, x) ∷ live)))) (transports (k + 1) m ((q, x) ∷ live)) false
-    (ap (λ (o : Option Connection). is_waiting (transport_in (was_given o))) none)
-    ∙ more ((q, x) ∷ live) (above, rise.1) (subst (λ (n : ℕ). AreUpTo n ((q, x) ∷ live)) bound up) all
+waits_by k m q x live false e rise up all more = grind (arith, nat_tests, absent, more_any, transports)
 
 any_waits : (k m : ℕ) (live : Rows Connection) → RiseFrom k live → AreUpTo (k + m) live → AllAsked live → list_any is_waiting (transports k m live) ≡ nat_lt 0 (length live)
 unfolding transports
@@ -162,36 +137,18 @@ error_by_tests class over waits many up profile long =
     after_open (if over then Some opening.Ended else or_else (by_class class waits) (if many then Some opening.TooMany else (if up then Some opening.ReferencesUsedUp else None)))
     (if not profile then Some NotSelected else (if long then Some TooLong else None))
 
--- the tests behind those of the class
-by_room : (g : ℕ) (many up profile long : Bool) → answer_in (answer_with g (error_by_tests (Some Two) false false many up profile long)) ≡ Some (by_tests false true false false many up profile long)
-by_room g many up profile long = grind arith
-
-by_none : (g : ℕ) (over waits many up profile long : Bool) → answer_in (answer_with g (error_by_tests None over waits many up profile long)) ≡ Some (by_tests over false waits false many up profile long)
-by_none g true waits many up profile long = refl
-by_none g false true many up profile long = refl
-by_none g false false many up profile long = by_room g many up profile long
-
 by_zero : (g : ℕ) (over waits other many up profile long : Bool) → answer_in (answer_with g (error_by_tests (Some Zero) over waits many up profile long)) ≡ Some (by_tests over true other true many up profile long)
-by_zero g true waits other many up profile long = refl
-by_zero g false waits other many up profile long = refl
+by_zero g over waits other many up profile long = grind arith
 
 by_two : (g : ℕ) (over waits other many up profile long : Bool) → answer_in (answer_with g (error_by_tests (Some Two) over waits many up profile long)) ≡ Some (by_tests over true other false many up profile long)
-by_two g true waits other many up profile long = refl
-by_two g false waits other many up profile long = by_room g many up profile long
+by_two g over waits other many up profile long = grind arith
 
 -- ---- what each makes of them
-
-caller_error : (c : Connect) (s : Carrier) (class : Option Class) → s.is_caller ≡ true → s.class ≡ class →
-    after_open (may_connect s) (terms_error c)
-    ≡ after_open (if is_some s.ended then Some opening.Ended else or_else (class_error class s.live) (room_error s)) (terms_error c)
-caller_error c s class caller is = cc
 
 error_is : (c : Connect) (s : Carrier) (class : Option Class) → s.is_caller ≡ true → s.class ≡ class →
     after_open (may_connect s) (terms_error c)
     ≡ error_by_tests class (is_some s.ended) (nat_lt 0 (length s.live)) (nat_le 64 (length s.live)) (nat_le 65535 s.given) (is_profile (unit_bits c.requirements)) (is_long c)
-error_is c s None caller is = caller_error c s None caller is
-error_is c s (Some Zero) caller is = caller_error c s (Some Zero) caller is
-error_is c s (Some Two) caller is = caller_error c s (Some Two) caller is
+error_is c s class caller is = grind arith
 
 refusal_is : (t : Tables) (c : Connect) (known : Option worlds.Class) (over waits many up : Bool) → t.known ≡ known → is_some t.left_end ≡ over →
     list_any is_waiting (map transport_of t.lines) ≡ waits → nat_le 64 (live_count (map transport_of t.lines)) ≡ many → nat_le 65535 (length (map transport_of t.lines)) ≡ up →
@@ -229,9 +186,7 @@ lines_are p b t s i l at = by_fit (nat_le (suc i) (length t.lines)) refl
 
 tests : (g : ℕ) (class : Option Class) (over some waits many up profile long : Bool) → (class ≡ None → waits ≡ some) → answer_in (answer_with g (error_by_tests class over some many up profile long))
     ≡ Some (by_tests over (is_known (option_map class_in class)) waits (is_class_0 (option_map class_in class)) many up profile long)
-tests g None over some waits many up profile long h = by_none g over some many up profile long ∙ ap (λ (w : Bool). Some (by_tests over false w false many up profile long)) (sym (h refl))
-tests g (Some Zero) over some waits many up profile long h = by_zero g over some waits many up profile long
-tests g (Some Two) over some waits many up profile long h = by_two g over some waits many up profile long
+tests g class over some waits many up profile long h = grind arith
 
 -- what both come to while the left end lasts, by the class
 alive_by : (g : ℕ) (c : Connect) (p : TwoEnds) (b : Between) (t : Tables) (class : Option Class) (waits : Bool) → Stands p b t → p.left.end.carrier.class ≡ class → p.left.end.carrier.ended ≡ None →

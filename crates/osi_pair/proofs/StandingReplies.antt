@@ -55,9 +55,7 @@ accept_answer = record { none = refl; octets = tt }
 -- ---- a unit
 
 aborting_none : (s : State) (u : Meaning) → (in_aborting s u).reply ≡ None
-aborting_none s (AB bits octets) = refl
-aborting_none s AA = refl
-aborting_none s u = refl
+aborting_none s u = grind arith
 
 ended_answer : (s : State) (u m : Meaning) → (in_ended s u).reply ≡ Some m → IsAnswer m
 ended_answer s (AB bits octets) m e = same_answer AA m accept_answer e
@@ -100,42 +98,31 @@ unfolding react
 goes_taken laws x u waits = record { sends = λ m e. taken_goes laws x.state u m e; octets = waits }
 
 opened_by : (b : Bool) (x : Standing) → ((m : Meaning) → x.waiting ≡ Some m → CanGo m) → (m : Meaning) → (if b then begun x else rests x).reply ≡ Some m → CanGo m
-opened_by true x goes m e = goes m e
-opened_by false x goes m e = absurd cc
+opened_by b x goes m e = grind arith
 
 opened_octets : (b : Bool) (x : Standing) → IfSome x.waiting IsInOctets → IfSome (if b then begun x else rests x).next.waiting IsInOctets
-opened_octets true x h = tt
-opened_octets false x h = h
+opened_octets b x h = grind arith
 
 pub goes_opened : (x : Standing) → ((m : Meaning) → x.waiting ≡ Some m → CanGo m) → IfSome x.waiting IsInOctets → GoesBy x opened
 unfolding react
 goes_opened x goes waits = grind arith
 
-refused_none : (b : Bool) (reason : ℕ) (x : Standing) → (if b then denied reason x else rests x).reply ≡ None
-refused_none true reason x = refl
-refused_none false reason x = refl
-
 pub refused_open : (b : Bool) (reason : ℕ) (x : Standing) → (if b then denied reason x else rests x).closes ≡ false
-refused_open true reason x = refl
-refused_open false reason x = refl
+refused_open b reason x = grind arith
 
 -- it sends and closes nothing
 pub silent_refused : (x : Standing) (reason : ℕ) → ((react x (refused reason)).reply ≡ None) × ((react x (refused reason)).closes ≡ false)
 unfolding react
-silent_refused x reason = (refused_none (is_wait_transport x.state.phase) reason x, refused_open (is_wait_transport x.state.phase) reason x)
+silent_refused x reason = grind arith
 
 pub goes_refused : (x : Standing) (reason : ℕ) → IfSome x.waiting IsInOctets → GoesBy x (refused reason)
 unfolding react silent_refused
 goes_refused x reason waits = grind arith
 
-refused_ended : (b : Bool) (reason : ℕ) (x : Standing) → b ≡ true → is_ended (if b then denied reason x else rests x).next.state.phase ≡ true
-refused_ended true reason x e = refl
-refused_ended false reason x e = absurd cc
-
 -- a session that waited has ended then
 pub ended_refused : (x : Standing) (reason : ℕ) → is_wait_transport x.state.phase ≡ true → is_ended (react x (refused reason)).next.state.phase ≡ true
 unfolding react
-ended_refused x reason e = refused_ended (is_wait_transport x.state.phase) reason x e
+ended_refused x reason e = grind arith
 
 -- it is lost
 pub silent_broken : (x : Standing) → ((react x broken).reply ≡ None) × ((react x broken).closes ≡ false)

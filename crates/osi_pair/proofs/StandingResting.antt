@@ -100,12 +100,8 @@ session_rests n lines row x e h = grind arith
 
 -- ---- what is under way from it
 
-map_some : {A B : Type 0} (f : A → B) (o : Option A) → is_some (option_map f o) ≡ is_some o
-map_some f None = refl
-map_some f (Some x) = refl
-
 pub broken_is : (p : TwoEnds) (b : Between) (t : Tables) → Stands p b t → t.broken ≡ is_some (carriers_of p).reach
-broken_is p b t old = old.broken ∙ sym (map_some (λ (x : Reach). (x.left, x.right)) p.reach)
+broken_is p b t old = grind arith
 
 none_sent : (broken : Bool) (channel : List Message) → channel ≡ channel ++ unless_broken broken []
 none_sent true channel = sym (append-nil channel)

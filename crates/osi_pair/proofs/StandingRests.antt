@@ -24,18 +24,12 @@ use Rattle.osi_pair.proofs.WordLaws.{MayLeave, AreWords, no_words}
 
 -- ---- a delivery of the tables
 
--- the first message of the other is taken
-pub step_is : (t : Tables) (s : machine.Side) (r : ℕ) (keep : ℕ → ℕ) (l : Line) (x : Message) (xs : List Message) → end_of s t ≡ None → connection_at r t.lines ≡ Some (seen_from s l) → l.peer.channel ≡ x ∷ xs →
-    step t (delivers s r keep) ≡ after_turn (record t { known = learns t.terms l.own.transport x t.known }) s r keep (message_taken t.broken t.terms (keep r) l.own.transport (without_first l xs) x)
-step_is t s r keep l x xs alive found first = grind arith
-
 -- what it leaves, where it closes nothing
 abbrev pub delivered : Tables → machine.Side → ℕ → Option worlds.Class → Turn → Tables
 delivered t s r known turn = noted (map (shown_at s r) turn.shown) (stays (record t { known = known }) s r turn.line)
 
 pub open_by : (t : Tables) (s : machine.Side) (r : ℕ) (keep : ℕ → ℕ) (turn : Turn) → turn.closes ≡ false → after_turn t s r keep turn ≡ noted (map (shown_at s r) turn.shown) (stays t s r turn.line)
-open_by t s r keep turn e =
-    ap (λ (b : Bool). if◌then◌else◌ {A = Tables} b (closes_by t.known (noted (map (shown_at s r) turn.shown) t) s r keep turn.line) (noted (map (shown_at s r) turn.shown) (stays t s r turn.line))) e
+open_by t s r keep turn e = grind arith
 
 pub step_opens : (t : Tables) (s : machine.Side) (r : ℕ) (keep : ℕ → ℕ) (l : Line) (x : Message) (xs : List Message) (turn : Turn) → end_of s t ≡ None → connection_at r t.lines ≡ Some (seen_from s l) →
     l.peer.channel ≡ x ∷ xs → message_taken t.broken t.terms (keep r) l.own.transport (without_first l xs) x ≡ turn → turn.closes ≡ false →
@@ -43,33 +37,17 @@ pub step_opens : (t : Tables) (s : machine.Side) (r : ℕ) (keep : ℕ → ℕ) 
 step_opens t s r keep l x xs turn alive found first is e = grind arith
 
 lines_after : (s : Side) (n : ℕ) (old line : Line) (t u : Tables) → u.lines ≡ with_connection n (seen_from (side_in s) line) t.lines → connection_at n t.lines ≡ Some old → LinesAfter s n line t u
-lines_after s n old line t u e found = record {
-  count = ap length e ∙ with_count n t.lines (seen_from (side_in s) line);
-  found = ap (connection_at n) e ∙ with_same n t.lines old (seen_from (side_in s) line) found;
-  others = λ q apart. ap (connection_at q) e ∙ with_other q n t.lines (seen_from (side_in s) line) apart;
-}
+lines_after s n old line t u e found = grind (arith, length, with_count, with_same, with_other)
 
 pub tables_delivered : (s : Side) (n : ℕ) (old : Line) (t : Tables) (known : Option worlds.Class) (turn : Turn) → connection_at n t.lines ≡ Some old →
     TablesAfter s n t (delivered t (side_in s) n known turn) turn.shown turn.line
-tables_delivered s n old t known turn found = record {
-  terms = refl;
-  broken = refl;
-  left_end = refl;
-  right_end = refl;
-  journal = refl;
-  lines = lines_after s n old turn.line t (delivered t (side_in s) n known turn) refl found;
-}
+tables_delivered s n old t known turn found =
+    let lines = lines_after s n old turn.line t (delivered t (side_in s) n known turn) refl found in
+    grind arith
 
 -- the tables are as they were
 pub tables_rest : (s : Side) (n : ℕ) (line : Line) (t : Tables) → connection_at n t.lines ≡ Some (seen_from (side_in s) line) → TablesAfter s n t t [] line
-tables_rest s n line t found = record {
-  terms = refl;
-  broken = refl;
-  left_end = refl;
-  right_end = refl;
-  journal = sym (append-nil t.journal);
-  lines = record { count = refl; found = found; others = λ q apart. refl };
-}
+tables_rest s n line t found = grind (arith, append-nil)
 
 -- ---- the class is learned from a CC alone
 
@@ -78,11 +56,8 @@ is_awaited agrees = true
 is_awaited (denies reason) = true
 is_awaited row = false
 
-learns_by : (row : Row) (terms : worlds.Terms) (x : Message) (known : Option worlds.Class) → is_awaited row ≡ false → learns terms (transport_by (before row)) x known ≡ known
-learns_by row terms x known e = grind arith
-
 pub learns_row : (row : Row) (tr : Transport) (terms : worlds.Terms) (x : Message) (known : Option worlds.Class) → tr ≡ transport_by (before row) → is_awaited row ≡ false → learns terms tr x known ≡ known
-learns_row row tr terms x known e w = ap (λ (r : Transport). learns terms r x known) e ∙ learns_by row terms x known w
+learns_row row tr terms x known e w = grind arith
 
 -- ---- what is put
 
@@ -92,9 +67,6 @@ answer_for begins = agree ∷ []
 answer_for (refuses reason) = deny reason ∷ []
 answer_for (leaves reason) = over ∷ []
 answer_for row = []
-
-answer_is : (row : Row) → map message_in (answer_for row) ≡ put_for row
-answer_is row = grind arith
 
 abbrev pub unless_broken : Bool → List Message → List Message
 unless_broken broken ms = if broken then [] else ms
@@ -107,32 +79,28 @@ pub unless_same : (broken whole : Bool) (ms : List Message) (ys : Sent) → brok
 unless_same broken whole ms ys e h = grind arith
 
 pub answers_same : (broken whole : Bool) (row : Row) → broken ≡ whole → map message_in (unless_broken broken (answer_for row)) ≡ (if whole then [] else put_for row)
-answers_same broken whole row e = unless_same broken whole (answer_for row) (put_for row) e (answer_is row)
+answers_same broken whole row e = grind arith
 
 -- nothing is put where something of what is under way was cut
 pub spare_by : (broken cut : Bool) (ms : List Message) → (broken ≡ false → cut ≡ false) → (cut ≡ false) ⊎ (unless_broken broken ms ≡ [])
-spare_by true cut ms free = inr refl
-spare_by false cut ms free = inl (free refl)
+spare_by broken cut ms free = grind arith
 
 -- the words of what is put
 abbrev pub words_put : Bool → List Word → List Word
 words_put broken words = if broken then [] else words
 
 pub are_put : (broken : Bool) (words : List Word) (ms : List Message) → AreWords words ms → AreWords (words_put broken words) (unless_broken broken ms)
-are_put true words ms are = no_words
-are_put false words ms are = are
+are_put broken words ms are = grind arith
 
 pub put_same : (broken whole : Bool) (words : List Word) → broken ≡ whole → map word_in (words_put broken words) ≡ (if whole then [] else map word_in words)
 put_same broken whole words e = grind arith
 
 pub put_spare : (broken cut : Bool) (words : List Word) → (broken ≡ false → cut ≡ false) → (cut ≡ false) ⊎ (words_put broken words ≡ [])
-put_spare true cut words free = inr refl
-put_spare false cut words free = inl (free refl)
+put_spare broken cut words free = grind arith
 
 -- what is put where its sender leaves
 pub leave_by : (broken cut : Bool) (m : Message) → MayLeave m → (broken ≡ true → cut ≡ true) → IsLeave (unless_broken broken (m ∷ [])) ⊎ ((cut ≡ true) × (unless_broken broken (m ∷ []) ≡ []))
-leave_by true cut m may all = inr (all refl, refl)
-leave_by false cut m may all = inl (record { m = m; is = refl; leaves = may })
+leave_by broken cut m may all = grind arith
 
 -- ---- the turns of rows in which no session acts
 

@@ -185,14 +185,12 @@ pub row_of : (terms : Terms) (n : ℕ) (place : Place) (u : Value) → comes (ac
     AllByRecursion (λ m. may_arrive (progress_of place) m ≡ true) (messages_after (begun_at (connection_in place)) (u ∷ [])) →
     HasRow terms n place (messages_after (begun_at (connection_in place)) (u ∷ [])) (answers_in terms place u)
 row_of terms n never u h may = row_never terms n u h
-row_of terms n (was_given None) u h may = cc
 row_of terms n (was_given (Some asked)) u h may = row_asked terms n u h
 row_of by_two n (was_given (Some (linked peer link))) u h may = row_linked by_two n peer link u refl h (λ v. refl)
 row_of by_zero n (was_given (Some (linked peer link))) u h may = row_linked by_zero n peer link u refl h (λ v. refl)
-row_of (refusing reason) n (was_given (Some (linked peer link))) u h may = cc
 row_of by_two n (was_given (Some (closing peer))) u h may = row_closing by_two n peer u [] refl may refl
 row_of by_zero n (was_given (Some (closing peer))) u h may = row_closing by_zero n peer u [] refl may refl
-row_of (refusing reason) n (was_given (Some (closing peer))) u h may = cc
+row_of terms n place u h may = grind arith
 
 -- where the connection stands then
 pub row_after : (terms : Terms) (row : Row) → is_row terms row → behind_puts (behind_arrivals (accepts_in terms) (before row) (arrived_in row)) (put_for row) ≡ after row

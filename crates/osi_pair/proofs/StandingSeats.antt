@@ -37,11 +37,8 @@ lives_in in_use = true
 lives_in shutting = true
 lives_in progress.gone = false
 
-transport_place : (p : Place) → transport_in p ≡ transport_by (progress_of p)
-transport_place p = grind arith
-
 pub transport_at : (p : Place) (g : Progress) → progress_of p ≡ g → transport_in p ≡ transport_by g
-transport_at p g e = transport_place p ∙ ap transport_by e
+transport_at p g e = grind arith
 
 lives_value : (o : Option Connection) → lives_in (progress_of (was_given o)) ≡ is_some o
 lives_value o = grind arith
@@ -49,20 +46,12 @@ lives_value o = grind arith
 pub place_by : (n : ℕ) (s : State) (b : Bool) → nat_lt s.given n ≡ b → place_at n s ≡ (if b then never else was_given (value_at n s.live))
 place_by n s b e = ap (λ (c : Bool). if◌then◌else◌ {A = Place} c never (was_given (value_at n s.live))) e
 
-live_by : (n : ℕ) (s : State) (b : Bool) → nat_lt s.given n ≡ b → lives_in (progress_of (place_at n s)) ≡ true → is_some (value_at n s.live) ≡ true
-live_by n s true e h = let no_way : false ≡ true = sym (ap (λ p. lives_in (progress_of p)) (place_by n s true e)) ∙ h in cc
-live_by n s false e h = sym (lives_value (value_at n s.live)) ∙ sym (ap (λ p. lives_in (progress_of p)) (place_by n s false e)) ∙ h
-
 -- where it lives there is a row
 pub live_there : (n : ℕ) (s : State) → lives_in (progress_of (place_at n s)) ≡ true → is_some (value_at n s.live) ≡ true
-live_there n s h = live_by n s (nat_lt s.given n) refl h
+live_there n s h = grind arith
 
 lives_by : (n : ℕ) (s : State) (b : Bool) → nat_lt s.given n ≡ b → IsOrderly s → is_some (value_at n s.live) ≡ true → lives_in (progress_of (place_at n s)) ≡ true
-lives_by n s true e o h =
-    let above : s.given < n = grind (arith, nat_tests) in
-    let none = beyond n s.given s.live o.up_to above in
-    let no_way : false ≡ true = sym (ap is_some none) ∙ h in
-    cc
+lives_by n s true e o h = grind (arith, nat_tests, beyond, is_some)
 lives_by n s false e o h = ap (λ p. lives_in (progress_of p)) (place_by n s false e) ∙ lives_value (value_at n s.live) ∙ h
 
 pub lives_there : (n : ℕ) (s : State) → IsOrderly s → is_some (value_at n s.live) ≡ true → lives_in (progress_of (place_at n s)) ≡ true
@@ -95,25 +84,8 @@ pub live_session : (n : ℕ) (e : End) → is_some (value_at n e.carrier.live) �
 live_session n e h = ap (λ (b : Bool). if◌then◌else◌ {A = Option Listener} b (session_in (value_at n e.lines)) None) h
 
 pub session_of_seat : (n : ℕ) (h : Holding) (seat : Seat) (g : Progress) → progress_of (place_at n h.end.carrier) ≡ g → IsSeated n h seat → HasSession n h.end.lines g seat.session
-session_of_seat n h seat g e i =
-    let tr : seat.transport ≡ transport_by g = i.transport ∙ transport_at (place_at n h.end.carrier) g e in
-    record {
-      joined = i.joined;
-      live = λ l. (let is = live_there n h.end.carrier (ap lives_in e ∙ l) in sym (live_session n h.end is) ∙ i.live is);
-      kept = i.kept;
-      over_now = λ o. i.over_now (ap is_parting tr ∙ o);
-      awaiting = λ a. i.awaiting (tr ∙ a);
-      octets = i.octets;
-    }
+session_of_seat n h seat g e i = grind (arith, transport_at, live_there, live_session)
 
 pub seat_of_session : (n : ℕ) (e : End) (h : Held) (g : Progress) (x : Standing) (channel : List Message) → IsOrderly e.carrier → progress_of (place_at n e.carrier) ≡ g → HasSession n e.lines g x →
     IsSeated n (record { end = e; held = h }) (record { transport = transport_by g; session = x; channel = channel })
-seat_of_session n e h g x channel o p s = record {
-  joined = s.joined;
-  transport = sym (transport_at (place_at n e.carrier) g p);
-  live = λ is. live_session n e is ∙ s.live (ap lives_in (sym p) ∙ lives_there n e.carrier o is);
-  kept = s.kept;
-  over_now = s.over_now;
-  awaiting = s.awaiting;
-  octets = s.octets;
-}
+seat_of_session n e h g x channel o p s = grind (arith, transport_at, live_session, lives_there)

@@ -52,15 +52,10 @@ send_acts laws s p b t n peer link tsdu old alive at short octets =
     let c = both_carrier s p in
     let a = acted_by s p b n (terms_at p) (sent n tsdu) (carrier.message tsdu ∷ [])
     (laws.handed_in (terms_at p) (is_caller s) (carriers_of p) b n peer link tsdu old.between (ap (λ (x : State). x.ended) c ∙ alive) (ap (λ (x : State). value_at n x.live) c ∙ at) short octets) in
-    record {
-      on = sent_acts n tsdu (end_at s p).end.carrier peer link alive at;
-      was = linked peer link;
-      at = at;
-      used = refl;
-      now = a.now;
-      between = a.between;
-      ways = ways_at s n p (pair_with s (sent n tsdu (end_at s p).end.carrier) p) b a.now (carrier.message tsdu ∷ []) a.carries;
-    }
+    let on = sent_acts n tsdu (end_at s p).end.carrier peer link alive at in
+    let was = linked peer link in
+    let ways = ways_at s n p (pair_with s (sent n tsdu (end_at s p).end.carrier) p) b a.now (carrier.message tsdu ∷ []) a.carries in
+    search
 
 -- ---- what is under way from it
 
@@ -87,8 +82,7 @@ out_sends s p b t n m l old alive a order i =
 -- ---- two ends
 
 line_sends : (broken : Bool) (m : Meaning) (l : Line) → l.own.transport ≡ worlds.linked → acted_line in_use (put broken (unit m ∷ []) l.own.channel) l ≡ puts broken (unit m ∷ []) l
-line_sends broken m l e =
-    ap (λ (tr : Transport). record { own = record { transport = tr; session = l.own.session; channel = put broken (unit m ∷ []) l.own.channel }; peer = l.peer }) (sym e)
+line_sends broken m l e = grind arith
 
 -- an end sends a unit, and is in order then
 pub sends_stand : CarrierLaws → (s : Side) (p : TwoEnds) (b : Between) (t : Tables) (n peer : ℕ) (link : Link) (m : Meaning) (l : Line) → Stands p b t → (end_at s p).end.carrier.ended ≡ None →

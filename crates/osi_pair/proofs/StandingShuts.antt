@@ -50,13 +50,8 @@ use Rattle.osi_pair.proofs.StandingTurned.{turned_pair}
 
 -- ---- one connection
 
-given_one : (place : Place) → given_in place ≤ 1
-given_one never = omega arith
-given_one (was_given o) = omega arith
-
 one_given : (end : Bool) (both : Both) (b : Between) → AreBetween by_zero both b → (last_of end b).given ≤ 1
-one_given true both b a = subst (λ (k : ℕ). k ≤ 1) (sym a.joined.one.given) (given_one _)
-one_given false both b a = subst (λ (k : ℕ). k ≤ 1) (sym a.joined.one_called.given) (given_one _)
+one_given end both b a = grind arith
 
 -- no second line
 abbrev IsAlone : Rows Line → Type 0
@@ -65,18 +60,12 @@ IsAlone (x ∷ []) = Unit {0}
 IsAlone (x ∷ (y ∷ lines)) = ⊥
 
 alone_by : (k : ℕ) (lines : Rows Line) → k ≤ 1 → RiseFrom 0 (quieted lines) → AreUpTo k (quieted lines) → IsAlone lines
-alone_by k [] most rise up = tt
-alone_by k (x ∷ []) most rise up = tt
-alone_by k ((r, l) ∷ ((q, m) ∷ lines)) most rise up = let low = rise.0 in let next = rise.1.0 in let high = up.1.0 in omega arith
+alone_by k lines most rise up = grind arith
 
 -- what waits, and then what its session shows where it is lost
 alone_shows : (lines : Rows Line) → IsAlone lines → waiting_in (all_lost lines) ≡ waiting_in lines ++ waiting_in (all_lost (quieted lines))
 alone_shows [] alone = refl
-alone_shows ((r, l) ∷ []) alone =
-    let name : Shown → ℕ × Shown = λ x. (r, x) in
-    append-nil (map name (l.waiting ++ shown_at_loss l.session)) ∙ map-append name l.waiting (shown_at_loss l.session)
-    ∙ ap (λ (w : List (ℕ × Shown)). w ++ map name (shown_at_loss l.session)) (sym (append-nil (map name l.waiting)))
-    ∙ ap (λ (w : List (ℕ × Shown)). (map name l.waiting ++ []) ++ w) (sym (append-nil (map name (shown_at_loss l.session))))
+alone_shows ((r, l) ∷ []) alone = grind (arith, append-nil, map, map-append)
 alone_shows (x ∷ (y ∷ lines)) alone = absurd alone
 
 -- ---- the two ends
@@ -115,8 +104,7 @@ zero_stands Right p a lines h n shown now t old takes lasts waits alone =
 -- ---- the carrier
 
 given_of : (s : Side) (p : TwoEnds) (e : End) (h : Held) (n : ℕ) (shown : List Shown) (now : Between) → AreBetween by_zero (carriers_of (turned_pair s e h n shown p)) now → e.carrier.ended ≡ None → e.carrier.given ≤ 1
-given_of Left p e h n shown now a lasts = subst (λ (c : State). c.given ≤ 1) (sym (a.lives true lasts)) (one_given true _ now a)
-given_of Right p e h n shown now a lasts = subst (λ (c : State). c.given ≤ 1) (sym (a.lives false lasts)) (one_given false _ now a)
+given_of s p e h n shown now a lasts = grind arith
 
 closes_carrier : CarrierLaws → (s : Side) (p : TwoEnds) (e : End) (h : Held) (n : ℕ) (shown : List Shown) (now : Between) (peer : ℕ) (link : Link) → AreBetween by_zero (carriers_of (turned_pair s e h n shown p)) now →
     e.carrier.ended ≡ None → value_at n e.carrier.live ≡ Some (linked peer link) → closed_with n 128 e.carrier ≡ carriers.ends Closed e.carrier

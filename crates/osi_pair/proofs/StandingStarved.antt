@@ -131,33 +131,17 @@ begins_shown laws takes s p b t packet h held old run alive pa begun =
 
 -- ---- a CC: the session sends its CN, which the end takes away
 
-wait_shows : (q : Phase) → is_wait_transport q ≡ true → shows_loss q ≡ true
-wait_shows q h = grind arith
-
-shown_nothing_by : (b : Bool) (x : Standing) → (if b then begun x else stays_so x).shown ≡ []
-shown_nothing_by true x = refl
-shown_nothing_by false x = refl
-
 opened_shows : (x : Standing) → (react x opened).shown ≡ []
 unfolding react
-opened_shows x = shown_nothing_by (is_wait_transport x.state.phase) x
-
-octets_by : (b : Bool) (x : Standing) → IfSome x.waiting IsInOctets → IfSome (if b then begun x else stays_so x).next.waiting IsInOctets
-octets_by true x h = tt
-octets_by false x h = h
+opened_shows x = grind arith
 
 opened_octets : (x : Standing) → IfSome x.waiting IsInOctets → IfSome (react x opened).next.waiting IsInOctets
 unfolding react
-opened_octets x h = octets_by (is_wait_transport x.state.phase) x h
-
-loss_by : (b : Bool) (x : Standing) → is_wait_transport x.state.phase ≡ b → (react ((if b then begun x else stays_so x).next) broken_off).shown ≡ (react x broken_off).shown
-unfolding react
-loss_by true x e = ap (λ (b : Bool). if◌then◌else◌ {A = List Shown} b (Lost ∷ []) []) (sym (wait_shows x.state.phase e))
-loss_by false x e = refl
+opened_octets x h = grind arith
 
 opened_loses : (x : Standing) → (react (react x opened).next broken_off).shown ≡ (react x broken_off).shown
 unfolding react
-opened_loses x = loss_by (is_wait_transport x.state.phase) x refl
+opened_loses x = grind arith
 
 agrees_shown : PacketLaws → TakeLaws → (s : Side) (p : TwoEnds) (b : Between) (t : Tables) (packet : List ℕ) (h held : Held) → Stands p b t → IsTableRun t → (end_at s p).end.carrier.ended ≡ None →
     (pa : PacketActs (terms_at p) (is_caller s) (carriers_of p) b packet h.octets) → pa.did.row ≡ agrees → StandsShown s p t (lost_end NoMemory (told_all pa.unit (end_at s p).end).carrier (end_at s p).end.lines) held
@@ -201,9 +185,6 @@ agrees_shown laws takes s p b t packet h held old run alive pa agreed =
 
 -- ---- a DR that closes: a DC is put in answer
 
-bye_is : (m : Message) (reason : ℕ) → kind_of (message_in m) ≡ carrier.bye reason → m ≡ bye reason
-bye_is m reason e = grind arith
-
 -- what the tables do
 abbrev left_turn : Bool → ℕ → Line → Turn
 left_turn broken keep l = record {
@@ -214,8 +195,7 @@ left_turn broken keep l = record {
 
 turn_leaves : (broken : Bool) (terms : worlds.Terms) (keep reason : ℕ) (tr : worlds.Transport) (l : Line) (m : Message) → tr ≡ worlds.linked → kind_of (message_in m) ≡ carrier.bye reason →
     message_taken broken terms keep tr l m ≡ left_turn broken keep l
-turn_leaves broken terms keep reason tr l m e f =
-    ap (λ (x : worlds.Transport). message_taken broken terms keep x l m) e ∙ ap (λ (x : Message). message_taken broken terms keep worlds.linked l x) (bye_is m reason f)
+turn_leaves broken terms keep reason tr l m e f = grind arith
 
 silent_loss : (x : Standing) → (react x broken_off).reply ≡ None
 unfolding react
@@ -238,8 +218,7 @@ any_last P (x ∷ es) e h = ap (λ (b : Bool). P x || b) (any_last P es e h) ∙
     or_true false = refl
 
 own_side : (s : machine.Side) → is_side s s ≡ true
-own_side machine.Left = refl
-own_side machine.Right = refl
+own_side s = grind arith
 
 shows_by : (x : Standing) → shows_loss x.state.phase ≡ true → (react x broken_off).shown ≡ Lost ∷ []
 unfolding react
@@ -248,19 +227,14 @@ shows_by x e = ap (λ (b : Bool). if◌then◌else◌ {A = List Shown} b (Lost �
 none_lost_by : (who : machine.Side) (n : ℕ) (x : Standing) (u : Tables) (es : List Entry) (b : Bool) → shows_loss x.state.phase ≡ b → LosesAsItEnds u → end_of who u ≡ None →
     u.journal ≡ es ++ map (shown_at who n) (react x broken_off).shown → (react x broken_off).shown ≡ []
 none_lost_by who n x u es false e law none says = quiet_shows x e
-none_lost_by who n x u es true e law none says =
-    let journal : u.journal ≡ es ++ shown_at who n Lost ∷ [] = says ∙ ap (λ (l : List Shown). es ++ map (shown_at who n) l) (shows_by x e) in
-    let lost : list_any (is_loss who) u.journal ≡ true = ap (list_any (is_loss who)) journal ∙ any_last (is_loss who) es (shown_at who n Lost) (own_side who) in
-    let no_way : false ≡ true = sym (ap loses none) ∙ law who lost in
-    absurd cc
+none_lost_by who n x u es true e law none says = grind (arith, map, shows_by, any_last, own_side)
 
 none_lost : (who : machine.Side) (n : ℕ) (x : Standing) (u : Tables) (es : List Entry) → LosesAsItEnds u → end_of who u ≡ None → u.journal ≡ es ++ map (shown_at who n) (react x broken_off).shown →
     (react x broken_off).shown ≡ []
 none_lost who n x u es law none says = none_lost_by who n x u es (shows_loss x.state.phase) refl law none says
 
 end_after : (s : Side) (t : Tables) (n : ℕ) (known : Option worlds.Class) (turn : Turn) → end_of (side_in s) (delivered t (side_in s) n known turn) ≡ end_of (side_in s) t
-end_after Left t n known turn = refl
-end_after Right t n known turn = refl
+end_after s t n known turn = grind arith
 
 leaves_shown : PacketLaws → TakeLaws → LosesLate → (s : Side) (p : TwoEnds) (b : Between) (t : Tables) (packet : List ℕ) (h held : Held) → Stands p b t → IsTableRun t → (end_at s p).end.carrier.ended ≡ None →
     (pa : PacketActs (terms_at p) (is_caller s) (carriers_of p) b packet h.octets) → (reason : ℕ) → pa.did.row ≡ leaves reason →

@@ -33,9 +33,7 @@ use Rattle.osi_pair.proofs.StandingPacket.{lasting_in}
 -- ---- the step
 
 one_end : (who : machine.Side) (t : Tables) (keep : ℕ → ℕ) → end_of who t ≡ None → t.broken ≡ true → run t (entries.ends who told_of_break keep ∷ []) ≡ after_end who told_of_break keep t
-one_end who t keep none broken =
-    ap (λ (b : Bool). if b then t else after_end who told_of_break keep t)
-    (ap (λ (o : Option Ending). is_some o || not t.broken) none ∙ ap not broken)
+one_end who t keep none broken = grind arith
 
 abbrev told_end : Holding → Rows stack.Line → Holding
 told_end h lines = ended_holding Broken h.end.carrier lines h.held
@@ -45,30 +43,20 @@ told_pair s p lines journal = ended_pair s Broken (end_at s p).end.carrier lines
 
 terms_told : (s : Side) (p : TwoEnds) (lines : Rows stack.Line) (journal : List Entry) →
     terms_of (told_pair s p lines journal).left.end.carrier.local (told_pair s p lines journal).right.end.carrier.local ≡ terms_of p.left.end.carrier.local p.right.end.carrier.local
-terms_told Left p lines journal = refl
-terms_told Right p lines journal = refl
-
-same_two : (p q : TwoEnds) → p.left ≡ q.left → p.right ≡ q.right → p.reach ≡ q.reach → p.journal ≡ q.journal → p ≡ q
-same_two p q left right reach journal =
-    ap (λ (x : Holding). record p { left = x }) left ∙ ap (λ (x : Holding). record q { right = x; reach = p.reach; journal = p.journal }) right
-    ∙ ap (λ (x : Option Reach). record q { reach = x; journal = p.journal }) reach ∙ ap (λ (x : List Entry). record q { journal = x }) journal
+terms_told s p lines journal = grind arith
 
 -- two ends are what their sides are
 pair_is : (s : Side) (p q : TwoEnds) → end_at s p ≡ end_at s q → end_at (other s) p ≡ end_at (other s) q → p.reach ≡ q.reach → p.journal ≡ q.journal → p ≡ q
-pair_is Left p q own there reach journal = same_two p q own there reach journal
-pair_is Right p q own there reach journal = same_two p q there own reach journal
+pair_is s p q own there reach journal = grind arith
 
 told_here : (s : Side) (p : TwoEnds) (lines : Rows stack.Line) (journal : List Entry) → told_end (end_at s p) lines ≡ end_at s (told_pair s p lines journal)
-told_here Left p lines journal = refl
-told_here Right p lines journal = refl
+told_here s p lines journal = grind arith
 
 told_there : (s : Side) (p : TwoEnds) (lines : Rows stack.Line) (journal : List Entry) → end_at (other s) p ≡ end_at (other s) (told_pair s p lines journal)
-told_there Left p lines journal = refl
-told_there Right p lines journal = refl
+told_there s p lines journal = grind arith
 
 told_rest : (s : Side) (p : TwoEnds) (lines : Rows stack.Line) (journal : List Entry) → (p.reach ≡ (told_pair s p lines journal).reach) × (journal ≡ (told_pair s p lines journal).journal)
-told_rest Left p lines journal = (refl, refl)
-told_rest Right p lines journal = (refl, refl)
+told_rest s p lines journal = grind arith
 
 -- ---- at a list of steps
 

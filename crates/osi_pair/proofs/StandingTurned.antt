@@ -1,5 +1,5 @@
 -- Where one end acts for one connection, two ends stand as they should.
-use Rattle.std.proofs.Common.{◌≡◌, ◌≢◌, ℕ, ◌≤◌, ◌==◌, Bool, true, false, if◌then◌else◌, List, [], ◌∷◌, ◌++◌, length, map, Option, Some, None, is_some, option_map, refl, sym, ap, subst, ◌∙◌, not}
+use Rattle.std.proofs.Common.{◌≡◌, ◌≢◌, ℕ, ◌≤◌, ◌==◌, Bool, true, false, if◌then◌else◌, List, [], ◌∷◌, ◌++◌, length, map, Option, Some, None, is_some, option_map, refl, sym, ap, subst, ◌∙◌, not, ◌<◌, arith}
 use Rattle.std.proofs.lemmas.Bool.{eqb-true, eq-eqb}
 use Rattle.std.proofs.lemmas.List.{map-append}
 use Rattle.osi_tpkt.specs.Held.{Held}
@@ -48,8 +48,7 @@ unseen Left n p b l h = record { left = h.here; right = h.there; rightward = h.o
 unseen Right n p b l h = record { left = h.there; right = h.here; rightward = h.back; leftward = h.out }
 
 pub seen_twice : (s : machine.Side) (l : Line) → seen_from s (seen_from s l) ≡ l
-seen_twice machine.Left l = refl
-seen_twice machine.Right l = refl
+seen_twice s l = grind arith
 
 -- ---- the end of a side is another
 
@@ -57,20 +56,13 @@ abbrev pub with_holding : Side → End → Held → TwoEnds → TwoEnds
 with_holding s e h p = with_end s (record { end = e; held = h }) p
 
 pub holding_here : (s : Side) (e : End) (h : Held) (p : TwoEnds) → end_at s (with_holding s e h p) ≡ record { end = e; held = h }
-holding_here Left e h p = refl
-holding_here Right e h p = refl
+holding_here s e h p = grind arith
 
 pub holding_there : (s : Side) (e : End) (h : Held) (p : TwoEnds) → end_at (other s) (with_holding s e h p) ≡ end_at (other s) p
-holding_there Left e h p = refl
-holding_there Right e h p = refl
-
-pub other_role : (s : Side) → is_caller (other s) ≡ not (is_caller s)
-other_role Left = refl
-other_role Right = refl
+holding_there s e h p = grind arith
 
 pub still_there : (s : Side) (b c : Between) → last_of (not (is_caller s)) c ≡ last_of (not (is_caller s)) b → last_of (is_caller (other s)) c ≡ last_of (is_caller (other s)) b
-still_there Left b c e = e
-still_there Right b c e = e
+still_there s b c e = grind arith
 
 -- what is under way to the other end, and to this one
 abbrev pub GoesTo : Side → Holding → ℕ → TwoEnds → Between → Progress → SessionState → List Message → Type 0
@@ -96,17 +88,9 @@ pub record Others (s : Side) (p : TwoEnds) (b : Between) (e : End) (h : Held) (c
 
 other_seated : (s : Side) (p : TwoEnds) (b : Between) (e : End) (h : Held) (c : Between) (n q : ℕ) (seat : Seat) → q ≢ n → Others s p b e h c n → IsSeated q (end_at s p) seat →
     IsSeated q (record { end = e; held = h }) seat
-other_seated s p b e h c n q seat apart o i = record {
-  joined = i.joined;
-  transport = i.transport ∙ ap transport_in (sym (o.places q apart));
-  live = λ is.
-      let was : is_some (value_at q (end_at s p).end.carrier.live) ≡ true = ap is_some (sym (o.lives q apart)) ∙ is in
-      live_session q e is ∙ o.sessions q apart is ∙ sym (live_session q (end_at s p).end was) ∙ i.live was;
-  kept = λ x k. i.kept x (o.kept q apart x k);
-  over_now = i.over_now;
-  awaiting = i.awaiting;
-  octets = i.octets;
-}
+other_seated s p b e h c n q seat apart o i =
+    let transport = i.transport ∙ ap transport_in (sym (o.places q apart)) in
+    grind arith
 
 pub other_seen : (s : Side) (p : TwoEnds) (b : Between) (e : End) (h : Held) (c : Between) (n q : ℕ) (l : Line) → q ≢ n → (end_at s p).end.carrier.ended ≡ None → Others s p b e h c n →
     IsSeen s q p b l → IsSeen s q (with_holding s e h p) c l
@@ -191,51 +175,23 @@ turned_pair s e h n shown p = noted (shown_entries s (map (λ x. (n, x)) shown))
 
 pub turned_stands : (s : Side) (p : TwoEnds) (b : Between) (t : Tables) (e : End) (h : Held) (c : Between) (u : Tables) (n : ℕ) (shown : List Shown) → Stands p b t →
     (end_at s p).end.carrier.ended ≡ None → Turned s p b t e h c u n shown → Stands (turned_pair s e h n shown p) c u
-turned_stands Left p b t e h c u n shown old alive x = record {
-  between = subst (λ (l : Local). AreBetween (terms_of l p.right.end.carrier.local) (carriers_of (with_holding Left e h p)) c) (sym x.local) x.between;
-  terms = x.terms ∙ old.terms ∙ ap (λ (l : Local). terms_in (terms_of l p.right.end.carrier.local)) (sym x.local);
-  broken = x.broken ∙ old.broken;
-  caller = x.is_caller ∙ old.caller;
-  left_end = ap (option_map Some) x.left_end ∙ old.left_end ∙ ap (option_map ending_in) (alive ∙ sym x.lasts);
-  right_end = ap (option_map Some) x.right_end ∙ old.right_end;
-  known = x.known;
-  journal = ap (map Some) x.journal ∙ says_more Left n shown t.journal p.journal old.journal;
-  given = x.lines.count ∙ old.given ∙ sym x.given;
-  given_then = x.given_then;
-  class_then = x.class_then;
-  given_back = subst (λ (k : ℕ). p.right.end.carrier.given ≤ k) (sym x.lines.count) x.given_back;
-  lines = λ q some le. (let was = old.lines q some (subst (λ (k : ℕ). q ≤ k) x.lines.count le) in
-      let l = lines_by Left p b e h c n q x.line t u (q == n) refl alive x.others x.is x.lines was in
-      record { line = l.line; found = l.found; is = record { left = l.is.left; right = l.is.right; rightward = l.is.rightward; leftward = l.is.leftward } });
-  over_left = λ is. (let no_way = ap is_some (sym x.lasts) ∙ is in cc);
-  over_right = old.over_right;
-  lost_right = old.lost_right;
-  order_left = λ is. x.order;
-  order_right = old.order_right;
-  quiet_left = x.quiet;
-  quiet_right = old.quiet_right;
-}
-turned_stands Right p b t e h c u n shown old alive x = record {
-  between = subst (λ (l : Local). AreBetween (terms_of p.left.end.carrier.local l) (carriers_of (with_holding Right e h p)) c) (sym x.local) x.between;
-  terms = x.terms ∙ old.terms ∙ ap (λ (l : Local). terms_in (terms_of p.left.end.carrier.local l)) (sym x.local);
-  broken = x.broken ∙ old.broken;
-  caller = old.caller;
-  left_end = ap (option_map Some) x.left_end ∙ old.left_end;
-  right_end = ap (option_map Some) x.right_end ∙ old.right_end ∙ ap (option_map ending_in) (alive ∙ sym x.lasts);
-  known = x.known;
-  journal = ap (map Some) x.journal ∙ says_more Right n shown t.journal p.journal old.journal;
-  given = x.lines.count ∙ old.given ∙ sym x.given;
-  given_then = x.given_then;
-  class_then = x.class_then;
-  given_back = subst (λ (k : ℕ). e.carrier.given ≤ k) (sym x.lines.count) x.given_back;
-  lines = λ q some le. (let was = old.lines q some (subst (λ (k : ℕ). q ≤ k) x.lines.count le) in
-      let l = lines_by Right p b e h c n q x.line t u (q == n) refl alive x.others x.is x.lines was in
-      record { line = l.line; found = l.found; is = record { left = l.is.left; right = l.is.right; rightward = l.is.rightward; leftward = l.is.leftward } });
-  over_left = old.over_left;
-  over_right = λ is. (let no_way = ap is_some (sym x.lasts) ∙ is in cc);
-  lost_right = λ is n. (let no_way = ap is_some (sym x.lasts) ∙ is in cc);
-  order_left = old.order_left;
-  order_right = λ is. x.order;
-  quiet_left = old.quiet_left;
-  quiet_right = x.quiet;
-}
+turned_stands Left p b t e h c u n shown old alive x =
+    let between = subst (λ (l : Local). AreBetween (terms_of l p.right.end.carrier.local) (carriers_of (with_holding Left e h p)) c) (sym x.local) x.between in
+    let terms = x.terms ∙ old.terms ∙ ap (λ (l : Local). terms_in (terms_of l p.right.end.carrier.local)) (sym x.local) in
+    let left_end = ap (option_map Some) x.left_end ∙ old.left_end ∙ ap (option_map ending_in) (alive ∙ sym x.lasts) in
+    let right_end = ap (option_map Some) x.right_end ∙ old.right_end in
+    let journal = ap (map Some) x.journal ∙ says_more Left n shown t.journal p.journal old.journal in
+    let lines : (q : ℕ) → 0 < q → q ≤ length u.lines → HasLine q (turned_pair Left e h n shown p) c u = λ q some le. (let was = old.lines q some (subst (λ (k : ℕ). q ≤ k) x.lines.count le) in
+    let l = lines_by Left p b e h c n q x.line t u (q == n) refl alive x.others x.is x.lines was in
+    record { line = l.line; found = l.found; is = record { left = l.is.left; right = l.is.right; rightward = l.is.rightward; leftward = l.is.leftward } }) in
+    grind arith
+turned_stands Right p b t e h c u n shown old alive x =
+    let between = subst (λ (l : Local). AreBetween (terms_of p.left.end.carrier.local l) (carriers_of (with_holding Right e h p)) c) (sym x.local) x.between in
+    let terms = x.terms ∙ old.terms ∙ ap (λ (l : Local). terms_in (terms_of p.left.end.carrier.local l)) (sym x.local) in
+    let left_end = ap (option_map Some) x.left_end ∙ old.left_end in
+    let right_end = ap (option_map Some) x.right_end ∙ old.right_end ∙ ap (option_map ending_in) (alive ∙ sym x.lasts) in
+    let journal = ap (map Some) x.journal ∙ says_more Right n shown t.journal p.journal old.journal in
+    let lines : (q : ℕ) → 0 < q → q ≤ length u.lines → HasLine q (turned_pair Right e h n shown p) c u = λ q some le. (let was = old.lines q some (subst (λ (k : ℕ). q ≤ k) x.lines.count le) in
+    let l = lines_by Right p b e h c n q x.line t u (q == n) refl alive x.others x.is x.lines was in
+    record { line = l.line; found = l.found; is = record { left = l.is.left; right = l.is.right; rightward = l.is.rightward; leftward = l.is.leftward } }) in
+    grind arith

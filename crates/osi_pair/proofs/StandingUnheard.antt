@@ -1,5 +1,5 @@
 -- An end whose carrier acted for a unit of which no session heard may end.
-use Rattle.std.proofs.Common.{◌≡◌, ◌≢◌, ℕ, ◌≤◌, ◌==◌, Bool, true, false, nat_lt, List, [], length, Some, None, IfSome, option_map, refl, sym, ap, subst, ◌∙◌, arith}
+use Rattle.std.proofs.Common.{◌≡◌, ◌≢◌, ℕ, ◌≤◌, ◌==◌, Bool, true, false, nat_lt, List, [], length, Some, None, IfSome, option_map, refl, sym, ap, subst, ◌∙◌, arith, ◌<◌}
 use Rattle.std.proofs.lemmas.Bool.{eqb-true, eq-eqb}
 use Rattle.std.proofs.lemmas.List.{append-nil}
 use Rattle.osi_tpkt.specs.Held.{Held}
@@ -81,22 +81,7 @@ acted_may_end laws s p b t u packet h line old alive pa d a l known takes =
     let e = acted_end pa.unit (end_at s p).end.lines (end_at s p).end in
     let f = acts_at s p b packet h pa in
     let g = given_after s p b t e h n old alive d f.lasts pa.first.given (laws.behind _ _ d.now d.between) in
-    record {
-      between = d.between;
-      lasts = f.lasts;
-      local = f.local;
-      role = same_role laws s p b t e h n old alive d f.lasts;
-      terms = a.terms;
-      broken = a.broken;
-      left_end = a.left_end;
-      right_end = a.right_end;
-      journal = a.journal ∙ append-nil t.journal;
-      count = a.lines.count;
-      given = g.given;
-      given_back = g.given_back;
-      known = known;
-      given_then = g.given_then;
-      class_then = g.class_then;
-      takes = takes;
-      lines = λ q some le. ending_by s p b t u e h n q line (q == n) refl old alive d f.lasts a.lines l (old.lines q some le);
-    }
+    let role = same_role laws s p b t e h n old alive d f.lasts in
+    let journal = a.journal ∙ append-nil t.journal in
+    let lines : (q : ℕ) → 0 < q → q ≤ length t.lines → EndingLine s p u e h d.now q = λ q some le. ending_by s p b t u e h n q line (q == n) refl old alive d f.lasts a.lines l (old.lines q some le) in
+    search

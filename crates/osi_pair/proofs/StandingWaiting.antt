@@ -1,5 +1,5 @@
 -- A side whose transport connection waits to be agreed to: its session waits too, with the CN of what was asked for.
-use Rattle.std.proofs.Common.{◌≡◌, ℕ, true, Option, Some, None, sym, ap, subst, ◌∙◌}
+use Rattle.std.proofs.Common.{◌≡◌, ℕ, true, Option, Some, None, sym, ap, subst, ◌∙◌, arith}
 use Rattle.osi_machine.specs.AsTables.{IsTableRun}
 use Rattle.osi_machine.specs.Core.{Offer, offer_sent}
 use Rattle.osi_machine.specs.Core as machine
@@ -18,15 +18,8 @@ pub record IsCalling (x : Seat) : Type 0 where
   pub offer : Offer
   pub calls : x.session.waiting ≡ Some (offer_sent offer)
 
-calls_here : (w : World) (a : Option Meaning) → IsSeated w a → w.own.transport ≡ waiting → IsCalling (seat_of w a)
-calls_here w a i e = record { phase = ap (λ (k : Kept). is_wait_transport k.phase) (i.called e); offer = w.offer; calls = i.calls e }
-
-calls_own : (l : Line) (w : World) → Tabled l w → l.own.transport ≡ waiting → IsCalling l.own
-calls_own l w h e = subst (λ (x : Line). IsCalling x.own) (sym h.same) (calls_here w h.first h.seated.own (sym (ap (λ (x : Line). x.own.transport) h.same) ∙ e))
-
 calls_seen : (s : machine.Side) (l : Line) (w : World) → Tabled l w → (seen_from s l).own.transport ≡ waiting → IsCalling (seen_from s l).own
-calls_seen machine.Left l w h e = calls_own l w h e
-calls_seen machine.Right l w h e = calls_own _ _ (turned_tabled l w h) e
+calls_seen s l w h e = grind arith
 
 calls_at : (s : machine.Side) (l : Line) (o : Option World) → At (Some l) o → (seen_from s l).own.transport ≡ waiting → IsCalling (seen_from s l).own
 calls_at s l (Some w) h e = calls_seen s l w h e

@@ -49,12 +49,10 @@ use Rattle.osi_pair.proofs.StandingTurned.{seen_twice, LinesAfter}
 -- ---- the step
 
 pub end_step : (who : machine.Side) (t : Tables) (keep : ℕ → ℕ) → end_of who t ≡ None → step t (entries.ends who no_memory keep) ≡ after_end who no_memory keep t
-end_step who t keep none =
-    ap (λ (b : Bool). if b then t else after_end who no_memory keep t) (ap (λ (o : Option Ending). is_some o || false) none)
+end_step who t keep none = grind arith
 
 same_end : (s : Side) (p : TwoEnds) (t u : Tables) (e : End) (h : Held) (c : Between) → MayEnd s p t u e h c → end_of (side_in s) u ≡ end_of (side_in s) t
-same_end Left p t u e h c m = m.left_end
-same_end Right p t u e h c m = m.right_end
+same_end s p t u e h c m = grind arith
 
 -- an end that may end is shown to have found no memory
 pub alone_shown : (s : Side) (p : TwoEnds) (b : Between) (t : Tables) (e : End) (h : Held) (c : Between) (lines : Rows stack.Line) (held : Held) → Stands p b t → MayEnd s p t t e h c →
@@ -97,25 +95,15 @@ order_same : (who : machine.Side) (r : ℕ) (ls ms : List Line) → length ms �
     ((i : ℕ) (l m : Line) → slice_get ls i ≡ Some l → slice_get ms i ≡ Some m → (react (seen_from who m).own.session broken_off).shown ≡ (react (seen_from who l).own.session broken_off).shown) →
     shown_in_order who r ms ≡ shown_in_order who r ls
 order_same who r [] [] long all = refl
-order_same who r [] (m ∷ ms) long all = absurd (omega arith)
-order_same who r (l ∷ ls) [] long all = absurd (omega arith)
 order_same who r (l ∷ ls) (m ∷ ms) long all =
     ap (λ (w : List Shown). map (shown_at who r) w ++ shown_in_order who (r + 1) ms) (all 0 l m refl refl)
     ∙ ap (λ (es : List entries.Entry). map (shown_at who r) (react (seen_from who l).own.session broken_off).shown ++ es) (order_same who (r + 1) ls ms (omega arith) (λ i x y. all (suc i) x y))
+order_same who r ls ms long all = grind arith
 
 shows_by : (s : Side) (n i : ℕ) (line l x y : Line) (t u : Tables) (same : Bool) → (suc i == n) ≡ same → LinesAfter s n line t u → connection_at n t.lines ≡ Some (seen_from (side_in s) l) →
     (react line.own.session broken_off).shown ≡ (react l.own.session broken_off).shown → slice_get t.lines i ≡ Some x → slice_get u.lines i ≡ Some y →
     (react (seen_from (side_in s) y).own.session broken_off).shown ≡ (react (seen_from (side_in s) x).own.session broken_off).shown
-shows_by s n i line l x y t u true f a found shows at now =
-    let is : suc i ≡ n = eqb-true (suc i) n f in
-    let there : Some (seen_from (side_in s) l) ≡ Some x = sym found ∙ ap (λ (q : ℕ). connection_at q t.lines) (sym is) ∙ at in
-    let behind : Some (seen_from (side_in s) line) ≡ Some y = sym a.found ∙ ap (λ (q : ℕ). connection_at q u.lines) (sym is) ∙ now in
-    let first : seen_from (side_in s) l ≡ x = cc in
-    let second : seen_from (side_in s) line ≡ y = cc in
-    ap (λ (m : Line). (react (seen_from (side_in s) m).own.session broken_off).shown) (sym second)
-    ∙ ap (λ (m : Line). (react m.own.session broken_off).shown) (seen_twice (side_in s) line) ∙ shows
-    ∙ ap (λ (m : Line). (react m.own.session broken_off).shown) (sym (seen_twice (side_in s) l))
-    ∙ ap (λ (m : Line). (react (seen_from (side_in s) m).own.session broken_off).shown) first
+shows_by s n i line l x y t u true f a found shows at now = grind arith
 shows_by s n i line l x y t u false f a found shows at now =
     let apart : suc i ≢ n = λ same. (let no_way : true ≡ false = sym (eq-eqb (suc i) n same) ∙ f in cc) in
     let both : Some y ≡ Some x = sym now ∙ a.others (suc i) apart ∙ at in
@@ -186,18 +174,13 @@ told_starved : (e new : End) (u : Value) (told : List Happening) → (carrier_re
 told_starved e new u told events lasts out (inl none) = never_starved (with_carrier (carrier_react u e.carrier) e) new (events ∙ none) out
 told_starved e new u told events lasts out (inr one) =
     let at = with_carrier (carrier_react u e.carrier) e in
-    record {
-      event = one.0;
-      one = one.1;
-      is = one_by out.heard at new one.0 out.event out.more (events ∙ one.1) out.waits out.needed out.starved
-          ∙ ap (λ (c : State). record { carrier = c; lines = all_lost e.lines }) (lasting_ends (told_all u e).carrier lasts);
-    }
+    let is = one_by out.heard at new one.0 out.event out.more (events ∙ one.1) out.waits out.needed out.starved
+    ∙ ap (λ (c : State). record { carrier = c; lines = all_lost e.lines }) (lasting_ends (told_all u e).carrier lasts) in
+    grind arith
 
 -- the carrier did nothing
 none_done : (e : End) (c : State) → e.carrier.events ≡ [] → c ≡ carriers.ends NoMemory e.carrier → attends (with_carrier c e) ≡ hearing.ends NoMemory e
-none_done e c none is =
-    let over : End = record e { carrier = carriers.ends NoMemory e.carrier } in
-    ap (λ (x : State). attends (with_carrier x e)) is ∙ ap concludes (all_quiet over none)
+none_done e c none is = grind arith
 
 pub has_starved : WantLaws → (s : Side) (p : TwoEnds) (b : Between) (t : Tables) (packet octets : List ℕ) (h : Held) (new : End) → Stands p b t → (end_at s p).end.carrier.ended ≡ None →
     IsPacket packet octets → (end_at s p).held.octets ≡ octets ++ h.octets → (pa : PacketActs (terms_at p) (is_caller s) (carriers_of p) b packet h.octets) → Starves (end_at s p).end packet new →

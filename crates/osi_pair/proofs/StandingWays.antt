@@ -43,9 +43,8 @@ alike_append shutting xs ys zs h = map-append kind_of xs zs ∙ ap (λ l. l ++ m
 alike_append progress.gone xs ys zs h = map-append kind_of xs zs ∙ ap (λ l. l ++ map kind_of zs) h ∙ sym (map-append kind_of ys zs)
 
 pub map_take : {A B : Type 0} (f : A → B) (k : ℕ) (xs : List A) → map f (take k xs) ≡ take k (map f xs)
-map_take f zero xs = refl
-map_take f (suc k) [] = refl
 map_take f (suc k) (x ∷ xs) = ap (λ r. f x ∷ r) (map_take f k xs)
+map_take f k xs = grind arith
 
 kinds_take : (xs ys gone : Sent) → map kind_of xs ≡ map kind_of (ys ++ gone) → map kind_of (take (length ys) xs) ≡ map kind_of ys
 kinds_take xs ys gone h =
@@ -74,9 +73,6 @@ alike_trans g xs ys zs h k = grind arith
 pub like_alike : (p : Place) (xs ys : Sent) → AreLike (connection_in p) xs ys → AreAlike (progress_of p) xs ys
 like_alike p xs ys h = alike_like p xs xs ys (same_alike (progress_of p) xs xs refl) h
 
-pub alike_at : (g h : Progress) (xs ys : Sent) → g ≡ h → AreAlike g xs ys → AreAlike h xs ys
-alike_at g h xs ys e a = subst (λ (x : Progress). AreAlike x xs ys) e a
-
 -- ---- the same words
 
 -- what is said of the taker by what has begun
@@ -91,9 +87,7 @@ as_now o q g h c d H K x y ms xs ys w cut holds calms alike = grind arith
 -- what is under way is the same, and the session is
 pub way_same : (o q : Option EndReason) (g k : Progress) (c d : Bool) (H K : About) (x : State) (ms : List Message) (xs ys : Sent) → (q ≡ None → o ≡ None) → k ≡ g → (d ≡ false → c ≡ false) →
     ((b : Option (List ℕ)) → H b → K b) → xs ≡ ys → AreUnderWay o g c H x ms xs → AreUnderWay q k d K x ms ys
-way_same o q g k c d H K x ms xs ys lasts e cut holds f w =
-    as_now o q g k c d H K x x ms xs ys w cut holds (λ calm. calm)
-    (λ z. subst (λ (y : Progress). AreAlike y (map word_in w.words) ys) (sym e) (subst (λ (l : Sent). AreAlike g (map word_in w.words) l) f (w.alike (lasts z))))
+way_same o q g k c d H K x ms xs ys lasts e cut holds f w = grind arith
 
 -- nothing is
 pub none_under_way : (q : Option EndReason) (g : Progress) (c : Bool) (H : About) (x : State) (xs : Sent) → H None → (q ≡ None → AreAlike g [] xs) → AreUnderWay q g c H x [] xs
@@ -101,8 +95,7 @@ none_under_way q g c H x xs held alike =
     record { words = []; begun = None; alike = alike; joined = refl; order = tt; finished = λ e. refl; calm = λ e. absurd e; held = held }
 
 no_begun : {A : Type 0} (b : Option (List ℕ)) → b ≡ None → IsBegun b → A
-no_begun None e h = absurd h
-no_begun (Some x) e h = cc
+no_begun b e h = grind arith
 
 -- to a taker that has ended it matters no more in which words it goes
 pub over_way : (q : Option EndReason) (g : Progress) (c : Bool) (H : About) (x : State) (ms : List Message) (xs : Sent) → H None → (q ≡ None → ⊥) → AreUnderWay q g c H x ms xs
@@ -135,26 +128,11 @@ keeps_whole : (o : Option EndReason) (p : Place) (c d : Bool) (H : About) (x : S
     (o ≡ None → AreAlike (progress_of p) (map word_in w.words) stays) → AreLike (connection_in p) new (stays ++ put) → map word_in more ≡ put → AreUnderWay o (progress_of p) d H x (ms ++ puts) new
 keeps_whole o p c d H x ms puts more old new stays put w uncut are first after same =
     let y = put_words w.begun w.words more puts w.order (w.finished uncut) are in
-    record {
-      words = w.words ++ more;
-      begun = w.begun;
-      alike = λ e. put_alike p w.words more stays put new (first e) after same;
-      joined = y.0 ∙ ap (λ (l : List Message). l ++ puts) w.joined;
-      order = y.2;
-      finished = λ e. y.1;
-      calm = λ e. no_begun (left_of w.begun (w.words ++ more)) y.1 e;
-      held = w.held;
-    }
+    grind (arith, put_alike, after, no_begun)
 
 keeps_same : (o : Option EndReason) (p : Place) (c d : Bool) (H : About) (x : State) (ms puts : List Message) (more : List Word) (old new stays put : Sent) → (w : AreUnderWay o (progress_of p) c H x ms old) → more ≡ [] → (d ≡ false → c ≡ false) → AreWords more puts →
     (o ≡ None → AreAlike (progress_of p) (map word_in w.words) stays) → AreLike (connection_in p) new (stays ++ put) → map word_in more ≡ put → AreUnderWay o (progress_of p) d H x (ms ++ puts) new
-keeps_same o p c d H x ms puts more old new stays put w none cut are first after same =
-    let nothing : [] ≡ put = sym (ap (map word_in) none) ∙ same in
-    let left : stays ++ put ≡ stays = ap (λ (l : Sent). stays ++ l) (sym nothing) ∙ append-nil stays in
-    let no_message : puts ≡ [] = sym are.joined ∙ ap (joins None) none in
-    subst (λ (l : List Message). AreUnderWay o (progress_of p) d H x l new) (sym (ap (λ (l : List Message). ms ++ l) no_message ∙ append-nil ms))
-    (as_now o o (progress_of p) (progress_of p) c d H H x x ms old new w cut (λ b held. held) (λ calm. calm)
-    (λ e. alike_back p (map word_in w.words) new stays (first e) (subst (λ (l : Sent). AreLike (connection_in p) new l) left after)))
+keeps_same o p c d H x ms puts more old new stays put w none cut are first after same = grind (arith, after, map, append-nil, as_now, alike_back)
 
 -- nothing of it is lost, and something is put behind it, but nothing where what is under way was cut
 pub out_puts : (o : Option EndReason) (p : Place) (c d : Bool) (H : About) (x : State) (ms puts : List Message) (more : List Word) (old new stays gone put : Sent) → AreUnderWay o (progress_of p) c H x ms old → AreWords more puts → (c ≡ false) ⊎ (more ≡ []) →
@@ -168,8 +146,7 @@ out_puts o p c d H x ms puts more old new stays gone put w are spare cut before 
     ]
 
 spare_wholes : (c : Bool) (puts : List Message) → (c ≡ false) ⊎ (puts ≡ []) → (c ≡ false) ⊎ (map whole puts ≡ [])
-spare_wholes c puts (inl uncut) = inl uncut
-spare_wholes c puts (inr nothing) = inr (ap (map whole) nothing)
+spare_wholes c puts h2 = grind arith
 
 -- messages that go by themselves
 pub out_keeps : (o : Option EndReason) (p : Place) (c d : Bool) (H : About) (x : State) (ms puts : List Message) (old new stays gone put : Sent) → AreUnderWay o (progress_of p) c H x ms old → (c ≡ false) ⊎ (puts ≡ []) → (d ≡ false → c ≡ false) →
@@ -244,19 +221,7 @@ leave_at o p c d H x ms m k old new stays put w goes first now_is same =
     let gone = drop k w.words in
     let parts : kept ++ gone ≡ w.words = take-append-drop k w.words in
     let y = leave_behind w.begun kept gone m (subst (AreInOrder w.begun) (sym parts) w.order) goes in
-    record {
-      keep = length (joins w.begun kept);
-      way = record {
-        words = kept ++ whole m ∷ [];
-        begun = w.begun;
-        alike = λ e. put_alike p kept (whole m ∷ []) stays put new (first e) now_is same;
-        joined = y.0 ∙ ap (λ (l : List Message). take (length (joins w.begun kept)) l ++ m ∷ []) (ap (joins w.begun) parts ∙ w.joined);
-        order = y.2;
-        finished = λ e. y.1;
-        calm = λ e. no_begun (left_of w.begun (kept ++ whole m ∷ [])) y.1 e;
-        held = w.held;
-      };
-    }
+    grind (arith, length, put_alike, take, no_begun)
 
 -- what is put where the sender leaves: a message of that kind, or nothing where what is under way was cut
 pub record IsLeave (puts : List Message) : Type 0 where
@@ -291,10 +256,6 @@ abbrev pub shuts : Progress → Bool
 shuts shutting = true
 shuts progress.gone = true
 shuts g = false
-
--- nothing arrived
-back_stays : (g : Progress) (new : Place) (xs ys zs : Sent) → (shuts g ≡ true → shuts (progress_of new) ≡ true) → AreAlike g xs ys → AreLike (connection_in new) ys zs → AreAlike (progress_of new) xs zs
-back_stays g new xs ys zs s h k = grind arith
 
 -- the first of them
 record SplitWords (g h : Progress) (words : List Word) (m : carrier.Message) (rest : Sent) : Type 0 where
@@ -439,7 +400,6 @@ split_way g h d H x ms m rest begun (part First o) others is stays joined order 
   stays = record { words = others; begun = Some o; alike = λ e. stays; joined = joined; order = order.2; finished = finished; calm = calm; held = refl };
   next = part_next x o others ms joined order.2 calm;
 })
-split_way g h d H x ms m rest None (part Middle o) others is stays joined order finished calm held = absurd order.0
 split_way g h d H x ms m rest (Some b) (part Middle o) others is stays joined order finished calm held = inr (record {
   place = Middle;
   octets = o;
@@ -450,7 +410,6 @@ split_way g h d H x ms m rest (Some b) (part Middle o) others is stays joined or
   stays = record { words = others; begun = Some (b ++ o); alike = λ e. stays; joined = joined; order = order.2; finished = finished; calm = calm; held = refl };
   next = part_next x (b ++ o) others ms joined order.2 calm;
 })
-split_way g h d H x ms m rest None (part Last o) others is stays joined order finished calm held = absurd order.0
 split_way g h d H x ms m rest (Some b) (part Last o) others is stays joined order finished calm held = inl (record {
   first = unit (DT (b ++ o));
   others = joins None others;
@@ -468,6 +427,7 @@ split_way g h d H x ms m rest (Some b) (part Last o) others is stays joined orde
     held = refl;
   };
 })
+split_way g h d H x ms m rest begun first others is stays joined order finished calm held = grind arith
 
 -- a message that is no TSDU comes by itself
 abbrev pub is_tsdu : carrier.Message → Bool
@@ -515,5 +475,4 @@ back_comes row o old new c d H x ms m ys rest e f w lasts cut k =
 -- nothing did
 pub back_waits : (o q : Option EndReason) (g : Progress) (new : Place) (c d : Bool) (H K : About) (x : State) (ms : List Message) (ys zs : Sent) → (shuts g ≡ true → shuts (progress_of new) ≡ true) →
     AreUnderWay o g c H x ms ys → o ≡ None → (d ≡ false → c ≡ false) → ((b : Option (List ℕ)) → H b → K b) → AreLike (connection_in new) ys zs → AreUnderWay q (progress_of new) d K x ms zs
-back_waits o q g new c d H K x ms ys zs shut w lasts cut holds k =
-    as_now o q g (progress_of new) c d H K x x ms ys zs w cut holds (λ calm. calm) (λ e. back_stays g new (map word_in w.words) ys zs shut (w.alike lasts) k)
+back_waits o q g new c d H K x ms ys zs shut w lasts cut holds k = grind arith

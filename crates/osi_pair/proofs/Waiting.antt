@@ -8,8 +8,7 @@ use Rattle.osi_pair.specs.Telling.{waiting_in, quieted}
 
 none_by : (r : ℕ) (w : List Shown) (lines : Rows Line) → first_by r w (first_shown lines) ≡ None →
     (first_shown lines ≡ None → waiting_in lines ≡ []) → map (λ shown. (r, shown)) w ++ waiting_in lines ≡ []
-none_by r [] lines e more = more e
-none_by r (shown ∷ w) lines e more = cc
+none_by r w lines e more = grind arith
 
 -- where nothing is shown first, nothing waits
 pub none_waits : (lines : Rows Line) → first_shown lines ≡ None → waiting_in lines ≡ []
@@ -33,8 +32,7 @@ next_is ((r, line) ∷ lines) p e = next_by r line lines p line.waiting refl e (
 
 same_by : (r : ℕ) (line : Line) (lines : Rows Line) (w : List Shown) → first_by r w (first_shown lines) ≡ None →
     (first_shown lines ≡ None → without_first lines ≡ lines) → rest_by r line w lines (without_first lines) ≡ (r, line) ∷ lines
-same_by r line lines [] e more = ap (λ (rows : Rows Line). (r, line) ∷ rows) (more e)
-same_by r line lines (shown ∷ w) e more = cc
+same_by r line lines w e more = grind arith
 
 -- where nothing waits, nothing is taken away
 pub none_taken : (lines : Rows Line) → first_shown lines ≡ None → without_first lines ≡ lines

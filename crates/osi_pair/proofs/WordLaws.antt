@@ -121,24 +121,18 @@ wholes ms = record { joined = joins_whole ms; left = whole_left ms; order = whol
 -- they are put behind words of which none is lost
 pub put_words : (b : Option (List ℕ)) (words more : List Word) (ms : List Message) → AreInOrder b words → left_of b words ≡ None → AreWords more ms →
     (joins b (words ++ more) ≡ joins b words ++ ms) × (left_of b (words ++ more) ≡ None) × AreInOrder b (words ++ more)
-put_words b words more ms h e are = (
-  joins_append b words more ∙ ap (λ (x : Option (List ℕ)). joins b words ++ joins x more) e ∙ ap (λ (r : List Message). joins b words ++ r) are.joined,
-  left_append b words more ∙ ap (λ (x : Option (List ℕ)). left_of x more) e ∙ are.left,
-  order_append b words more h (subst (λ (x : Option (List ℕ)). AreInOrder x more) (sym e) are.order),
-)
+put_words b words more ms h e are = grind (arith, joins_append, left_append, order_append)
 
 -- a message by which the sender leaves, behind a front of them
 abbrev pub MayLeave : Message → Type 0
 MayLeave m = (b : Option (List ℕ)) → MayFollow b m
 
 any_behind : (xs ys : List Message) → list_any is_leaving ys ≡ true → list_any is_leaving (xs ++ ys) ≡ true
-any_behind [] ys e = e
 any_behind (unit u ∷ xs) ys e = any_behind xs ys e
 any_behind (ask ∷ xs) ys e = any_behind xs ys e
 any_behind (agree ∷ xs) ys e = any_behind xs ys e
 any_behind (deny r ∷ xs) ys e = any_behind xs ys e
-any_behind (bye r ∷ xs) ys e = refl
-any_behind (over ∷ xs) ys e = refl
+any_behind xs ys e = grind arith
 
 -- Of a front of them that leaves a Data unfinished: the whole of it was among the messages, or its sender has left, or
 -- the messages are the same.
@@ -171,9 +165,4 @@ front_of b kept gone h some =
 
 pub leave_behind : (b : Option (List ℕ)) (kept gone : List Word) (m : Message) → AreInOrder b (kept ++ gone) → MayLeave m →
     (joins b (kept ++ whole m ∷ []) ≡ take (length (joins b kept)) (joins b (kept ++ gone)) ++ m ∷ []) × (left_of b (kept ++ whole m ∷ []) ≡ None) × AreInOrder b (kept ++ whole m ∷ [])
-leave_behind b kept gone m h leaves =
-    let cut : take (length (joins b kept)) (joins b (kept ++ gone)) ≡ joins b kept = (cut_behind b kept gone h).0 in (
-      joins_append b kept (whole m ∷ []) ∙ ap (λ (l : List Message). l ++ m ∷ []) (sym cut),
-      left_append b kept (whole m ∷ []),
-      order_append b kept (whole m ∷ []) (order_front b kept gone h) (leaves (left_of b kept), tt),
-    )
+leave_behind b kept gone m h leaves = grind (arith, take, length, cut_behind, joins_append, left_append, order_append, order_front)

@@ -33,23 +33,13 @@ record AreRest (begun : List ℕ) (words : List Word) (all : List ℕ) : Type 0 
   order : AreInOrder (Some begun) words
 
 rest_is : (begun : List ℕ) (words : Words) → AreLater words → length (begun ++ joined words) ≤ most_data → AreRest begun (map word_of words) (begun ++ joined words)
-rest_is begun (sent.part Last octets ∷ []) later short =
-    let alone : octets ++ [] ≡ octets = append-nil octets in
-    record {
-      joined = ap (λ (o : List ℕ). unit (DT (begun ++ o)) ∷ []) (sym alone);
-      left = refl;
-      order = (tt, subst (λ (o : List ℕ). length (begun ++ o) ≤ most_data) alone short, tt);
-    }
+rest_is begun (sent.part Last octets ∷ []) later short = grind (arith, append-nil, length)
 rest_is begun (sent.part Middle octets ∷ words) later short =
     let front : begun ++ (octets ++ joined words) ≡ (begun ++ octets) ++ joined words = sym (append_assoc begun octets (joined words)) in
     let all = subst (λ (o : List ℕ). length o ≤ most_data) front short in
     let more = rest_is (begun ++ octets) words later all in
     let fits : length (begun ++ octets) ≤ most_data = omega (arith, all, length-append (begun ++ octets) (joined words)) in
-    record {
-      joined = more.joined ∙ ap (λ (o : List ℕ). unit (DT o) ∷ []) (sym front);
-      left = more.left;
-      order = (tt, fits, more.order);
-    }
+    grind arith
 rest_is begun words later short = search
 
 parts_are : (words : Words) → AreParts words → length (joined words) ≤ most_data → AreWords (map word_of words) (unit (DT (joined words)) ∷ [])
@@ -61,14 +51,9 @@ parts_are words parts short = search
 
 -- ---- a message
 
-alone_if : (b : Bool) (m : Meaning) (parts : Words) → not b ≡ false → (if b then sent.says m ∷ [] else parts) ≡ sent.says m ∷ []
-alone_if true m parts h = refl
-alone_if false m parts h = absurd cc
-
 word_alone : (limit : ℕ) (m : Meaning) → is_parted limit m ≡ false → words_sent limit m ≡ sent.says m ∷ []
 unfolding words_sent
-word_alone limit (DT octets) h = alone_if (is_whole limit octets) (DT octets) (parts_of (pieces (length octets) (limit - 7) octets)) h
-word_alone limit _ h = refl
+word_alone limit m h = grind arith
 
 -- what the crate below says of parts
 pub record PartLaws : Type 0 where
