@@ -1,58 +1,23 @@
 -- What one session took is how what the other sent begins; and it is all of it where nothing is under way.
 use Rattle.std.proofs.Common.{◌≡◌, refl, sym, ◌∙◌, ap, subst, ℕ, ◌<◌, ◌≤◌, Bool, true, false, List, [], ◌∷◌, ◌++◌, length, map, Option, Some, None, option_map, is_some, inl, inr, ◌⊎◌, arith, if◌then◌else◌}
-use Rattle.std.proofs.lemmas.List.{append-nil}
-use Rattle.std.specs.List.{AllByRecursion}
-use Rattle.osi_tpkt.proofs.Fronts.{completed_partial, partial_not_whole}
-use Rattle.osi_tpkt.specs.Packet.{IsPartial, packet_of}
-use Rattle.osi_tpdu.specs.Value.{Value}
 use Rattle.osi_tpdu.specs.Writing.{written}
 use Rattle.osi_carrier.proofs.Coming.{unit_packet}
 use Rattle.osi_carrier.specs.Coming.{IsSendable}
-use Rattle.osi_carrier.specs.Calls.{begun_by, kept_in, link_of}
-use Rattle.osi_carrier.specs.Place.{was_given, place_at}
-use Rattle.osi_carrier.specs.Rows.{value_at}
-use Rattle.osi_carrier.specs.State.{Connection, State, asked, linked, closing, packets}
-use Rattle.osi_between.specs.Between.{Both, Between, AreBetween, IsOnTheWay, AreJoinedBy, arriving, reach_of, within_reach, last_of, lost_from, units_from, under_way, IsStill, IsAllThere, is_cut}
-use Rattle.osi_between.specs.Course.{progress_of}
 use Rattle.osi_between.specs.Messages as carrier
-use Rattle.osi_between.specs.Progress.{Progress}
 use Rattle.osi_session.specs.declared.state.State.{State as Session}
-use Rattle.osi_between.specs.Terms.{Terms, terms_of}
 use Rattle.osi_class.specs.Link.{Standing}
 use Rattle.osi_machine.specs.Core as machine
 use Rattle.osi_machine.specs.Floor.{Meaning}
-use Rattle.osi_machine.specs.Machine.{Step}
 use Rattle.osi_machine.specs.Sayings.{units_in, is_parting, IsHeardAsSaid}
-use Rattle.osi_machine.specs.Tables.{side_of, turned}
-use Rattle.osi_machine.specs.Worlds.{Message}
 use Rattle.osi_machine.specs.Worlds as worlds
-use Rattle.osi_session.specs.Listening.{Listener}
-use Rattle.osi_stack.specs.Messages.{kept_at}
-use Rattle.osi_stack.specs.State.{session_at, joined_of, joined_in, End}
-use Rattle.osi_pair.specs.Ends.{TwoEnds, end_at}
-use Rattle.osi_pair.specs.Promises.{sent_by, taken_by, AreTakenInOrder, AreAtRest, IsOpenAt, kept_at as kept_by, begun_of, kept_of, IsAllTaken}
-use Rattle.osi_pair.specs.Reached.{HoldLess}
-use Rattle.osi_pair.specs.Sides.{other}
-use Rattle.osi_pair.specs.Standing.{terms_in, is_caller, transport_in, carriers_of, AreAlike, HasLine, StandsAt, AreUnderWay, word_in, HasJoined, IsInOrder}
-use Rattle.osi_pair.specs.declared.reach.Reach.{Reach}
-use Rattle.osi_pair.specs.declared.sides.Side.{Side}
-use Rattle.osi_pair.specs.declared.sides.Side.TheVariants.{Left, Right}
+use Rattle.osi_pair.specs.Promises.{sent_by, kept_at as kept_by}
+use Rattle.osi_pair.proofs.Vocabulary.{append-nil, AllByRecursion, completed_partial, partial_not_whole, IsPartial, packet_of, Value, begun_by, kept_in, link_of, was_given, place_at, value_at, Connection, State, asked, linked, closing, packets, Both, Between, AreBetween, IsOnTheWay, AreJoinedBy, arriving, reach_of, within_reach, last_of, lost_from, units_from, under_way, IsStill, IsAllThere, is_cut, progress_of, Progress, Terms, terms_of, Step, side_of, turned, Message, Listener, kept_at, session_at, joined_of, joined_in, End, TwoEnds, end_at, taken_by, AreTakenInOrder, AreAtRest, IsOpenAt, begun_of, kept_of, IsAllTaken, HoldLess, other, terms_in, is_caller, transport_in, carriers_of, AreAlike, HasLine, StandsAt, AreUnderWay, word_in, HasJoined, IsInOrder, Reach, Side, Left, Right, EndReason, Word, joins, left_of, IsJoinedAs, joined_octets, may_hold, joined_holds, implied, needs_link, is_open, given_live}
 use Rattle.osi_pair.proofs.NothingKept.{open_there, open_here, none_begun, none_joined as all_none_joined}
 use Rattle.osi_pair.proofs.StandingFinish.{order_of}
 use Rattle.osi_pair.proofs.StandingPromises.{tables_at, line_at, outside_by, within}
 use Rattle.osi_pair.proofs.StandingSeats.{live_session}
 use Rattle.osi_pair.proofs.StandingCut.{cut_none}
-use Rattle.osi_carrier.specs.declared.ends.EndReason.{EndReason}
-use Rattle.osi_pair.specs.Words.{Word, joins, left_of}
 use Rattle.osi_pair.proofs.StandingListens.{none_joined, kept_of as session_kept}
-use Rattle.osi_session.specs.Kept.{IsJoinedAs}
-use Rattle.osi_session.specs.Joining.{joined_octets}
-use Rattle.osi_session.specs.Phases.{may_hold}
-use Rattle.osi_session.proofs.JoinedLaws.{joined_holds}
-use Rattle.osi_session.proofs.PhaseLaws.{implied}
-use Rattle.osi_stack.specs.Links.{needs_link}
-use Rattle.osi_carrier.specs.Told.{is_open}
-use Rattle.osi_between.proofs.JoinedMoves.{given_live}
 
 -- two ends at rest, each of which holds less than a packet
 record Resting (p : TwoEnds) : Type 0 where

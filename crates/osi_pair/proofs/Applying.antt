@@ -1,14 +1,7 @@
 -- What an event that is applied or refused leaves.
 use Rattle.std.proofs.Common.{◌≡◌, List, Result, Ok, Err, OnOk, OnErr, IfOk, None, sym, subst}
-use Rattle.osi_machine.specs.Machine.{Step}
-use Rattle.osi_pair.specs.Advancing.{CanHappen, StandsAfter}
-use Rattle.osi_pair.specs.Ends.{TwoEnds}
-use Rattle.osi_pair.specs.Events.{misfit, Does, CarriesAsMuch, CarriesWhereQuiet}
-use Rattle.osi_pair.specs.Reached.{IsReached}
-use Rattle.osi_pair.specs.Standing.{StandsAt}
-use Rattle.osi_pair.specs.declared.events.Applied.{Applied}
-use Rattle.osi_pair.specs.declared.events.Event.{Event}
 use Rattle.osi_pair.specs.declared.faults.PairError.{PairError}
+use Rattle.osi_pair.proofs.Vocabulary.{Step, CanHappen, StandsAfter, TwoEnds, misfit, Does, CarriesAsMuch, CarriesWhereQuiet, IsReached, StandsAt, Applied, Event}
 use Rattle.osi_pair.proofs.CarryingAll.{carries_as_much}
 use Rattle.osi_pair.proofs.Reaching.{reached_event}
 use Rattle.osi_pair.proofs.StandingEvent.{EventLaws, event_stands}

@@ -1,18 +1,8 @@
 -- At two ends that stand at a list of steps no indication waits, and so nothing holds up a carry.
 use Rattle.std.proofs.Common.{◌≡◌, ◌∙◌, ℕ, Bool, false, not, ◌||◌, ◌==◌, List, [], ◌∷◌, ◌++◌, map, length, min, refl, ap, subst}
-use Rattle.osi_carrier.specs.Rows.{Rows}
-use Rattle.osi_session.specs.Shown.{Shown}
-use Rattle.osi_stack.specs.State.{Line, waits}
-use Rattle.osi_pair.specs.Ends.{TwoEnds, end_at, reachable}
-use Rattle.osi_pair.specs.Events.{Moves, CarriesAsMuch, CarriesWhereQuiet}
-use Rattle.osi_pair.specs.Reached.{IsReached}
-use Rattle.osi_pair.specs.Sides.{other}
-use Rattle.osi_pair.specs.Telling.{waiting_in}
-use Rattle.osi_pair.specs.declared.events.Applied.{Applied}
-use Rattle.osi_pair.specs.declared.events.Event.{Event}
-use Rattle.osi_pair.specs.declared.events.Event.TheVariants.{Connect, Call, Carry, Break, Told}
-use Rattle.osi_pair.specs.declared.sides.Side.{Side}
-use Rattle.osi_pair.specs.declared.sides.Side.TheVariants.{Left, Right}
+use Rattle.osi_stack.specs.State.{Line}
+use Rattle.osi_pair.specs.declared.events.Event.TheVariants.{Call}
+use Rattle.osi_pair.proofs.Vocabulary.{Rows, Shown, waits, TwoEnds, end_at, reachable, Moves, CarriesAsMuch, CarriesWhereQuiet, IsReached, other, waiting_in, Applied, Event, Connect, Carry, Break, Told, Side, Left, Right}
 use Rattle.osi_pair.proofs.StandingPackets.{still_waits}
 
 quiet_at : (side : Side) (p : TwoEnds) → IsReached p → waits (end_at side p).end.lines ≡ false

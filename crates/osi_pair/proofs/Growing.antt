@@ -1,19 +1,8 @@
 -- The journal only grows.
 use Rattle.std.proofs.Common.{◌≡◌, ◌∙◌, ℕ, List, [], ◌∷◌, ◌++◌, Option, Some, None, IsSome, refl, sym, ap, subst}
-use Rattle.std.proofs.lemmas.List.{append_assoc, append-nil}
-use Rattle.osi_carrier.specs.declared.ends.EndReason.{EndReason}
-use Rattle.osi_pair.specs.Carrying.{Crossing, CarriesPieces, crossing}
-use Rattle.osi_pair.specs.Ends.{TwoEnds, end_at, after_call}
-use Rattle.osi_pair.specs.Entries.{Entry, calls}
-use Rattle.osi_pair.specs.Events.{Does, IsToldOfBreak, Adds}
-use Rattle.osi_pair.specs.Telling.{told_entries}
-use Rattle.osi_pair.specs.declared.events.Event.{Event}
-use Rattle.osi_pair.specs.declared.events.Event.TheVariants.{Connect, Call, Carry, Break, Told}
-use Rattle.osi_pair.specs.declared.sides.Side.{Side}
-use Rattle.osi_pair.specs.declared.sides.Side.TheVariants.{Left, Right}
-use Rattle.osi_session.specs.Calls.{Call as Asked, called_by}
-use Rattle.osi_stack.specs.Calls.{call_error}
-use Rattle.osi_stack.specs.State.{Holding}
+use Rattle.osi_pair.specs.Entries.{calls}
+use Rattle.osi_pair.specs.declared.events.Event.TheVariants.{Call}
+use Rattle.osi_pair.proofs.Vocabulary.{append_assoc, append-nil, EndReason, Crossing, CarriesPieces, crossing, TwoEnds, end_at, after_call, Entry, Does, IsToldOfBreak, Adds, told_entries, Event, Connect, Carry, Break, Told, Side, Left, Right, Call as Asked, called_by, call_error, Holding}
 
 adds_none : (old new : List Entry) → new ≡ old → Adds old new
 adds_none old new same = record { more = []; is = same ∙ sym (append-nil old) }

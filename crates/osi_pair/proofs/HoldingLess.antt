@@ -1,27 +1,10 @@
 -- Between two events each end holds less than a packet.
 use Rattle.std.proofs.Common.{◌≡◌, ◌∙◌, ℕ, Bool, true, false, ◌||◌, List, [], ◌∷◌, take, Option, Some, None, is_some, IsSome, inl, inr, refl, sym, ap, subst}
-use Rattle.osi_class.specs.declared.terms.Local.{Local}
-use Rattle.osi_carrier.specs.declared.ends.EndReason.{EndReason}
-use Rattle.osi_session.specs.Calls.{Call as Asked, called_by}
-use Rattle.osi_session.specs.declared.faults.CallError.{CallError}
-use Rattle.osi_stack.specs.Calls.{connect_error, call_error}
-use Rattle.osi_stack.specs.Feeding.{Feeds, Goes}
-use Rattle.osi_stack.specs.State.{Holding, waits}
+use Rattle.osi_stack.specs.Feeding.{Goes}
 use Rattle.osi_stack.specs.declared.connecting.Connect.{Connect as Wanted}
-use Rattle.osi_stack.specs.declared.connecting.ConnectError.{ConnectError}
-use Rattle.osi_tpkt.proofs.Fronts.{empty_partial}
-use Rattle.osi_tpkt.specs.Packet.{IsPartial}
 use Rattle.osi_tpkt.specs.declared.cutting.Fed.{Fed}
-use Rattle.osi_pair.specs.Carrying.{Crossing, CarriesPieces, crossing}
-use Rattle.osi_pair.specs.Ends.{TwoEnds, fresh_ends, end_at, connected_by, called_by_error, after_connect, after_call, after_break}
-use Rattle.osi_pair.specs.Entries.{Entry}
-use Rattle.osi_pair.specs.Events.{Does, IsToldOfBreak}
-use Rattle.osi_pair.specs.Reached.{HoldLess}
-use Rattle.osi_pair.specs.Sides.{other}
-use Rattle.osi_pair.specs.declared.events.Event.{Event}
-use Rattle.osi_pair.specs.declared.events.Event.TheVariants.{Connect, Call, Carry, Break, Told}
-use Rattle.osi_pair.specs.declared.sides.Side.{Side}
-use Rattle.osi_pair.specs.declared.sides.Side.TheVariants.{Left, Right}
+use Rattle.osi_pair.specs.declared.events.Event.TheVariants.{Call}
+use Rattle.osi_pair.proofs.Vocabulary.{Local, EndReason, Call as Asked, called_by, CallError, connect_error, call_error, Feeds, Holding, waits, ConnectError, empty_partial, IsPartial, Crossing, CarriesPieces, crossing, TwoEnds, fresh_ends, end_at, connected_by, called_by_error, after_connect, after_call, after_break, Entry, Does, IsToldOfBreak, HoldLess, other, Event, Connect, Carry, Break, Told, Side, Left, Right}
 
 -- an end holds less than a packet
 abbrev pub HoldsLess : Holding → Type 0

@@ -1,5 +1,6 @@
 pub mod AllTaken
 pub mod NothingKept
+mod Vocabulary
 pub mod Waiting
 pub mod Showing
 pub mod Pieces

@@ -1,30 +1,12 @@
 -- Where nothing is on the way between two ends, a connection that is open at one is open at the other, and
 -- nothing of what came is kept.
 use Rattle.std.proofs.Common.{◌≡◌, refl, sym, ◌∙◌, ap, subst, ℕ, ◌+◌, Bool, true, false, ◌==◌, nat_lt, if◌then◌else◌, List, [], ◌∷◌, ◌++◌, length, Option, Some, None, is_some, arith}
-use Rattle.std.proofs.lemmas.Bool.{eqb-true, eq-eqb}
-use Rattle.std.proofs.lemmas.List.Sums.{sum_by-cons}
-use Rattle.osi_tpdu.specs.Value.{Value}
-use Rattle.osi_class.specs.Between.{swapped}
 use Rattle.osi_class.specs.Link.{Standing}
-use Rattle.osi_class.specs.declared.terms.Local.{Local}
-use Rattle.osi_carrier.proofs.Apart.{absent}
-use Rattle.osi_carrier.specs.Calls.{begun_by, kept_in}
-use Rattle.osi_carrier.specs.Place.{Place, never, was_given, place_at}
-use Rattle.osi_carrier.specs.Orderly.{RiseFrom}
-use Rattle.osi_carrier.specs.Rows.{Rows, value_at}
-use Rattle.osi_carrier.specs.State.{Connection, State, linked}
-use Rattle.osi_between.proofs.JoinedMoves.{given_live, within_given}
 use Rattle.osi_between.proofs.Refusals.{none_open}
 use Rattle.osi_between.proofs.ZeroLaws.{at_one, not_here, not_asked}
-use Rattle.osi_between.specs.Between.{AreJoinedBy}
-use Rattle.osi_between.specs.Course.{Course, unasked, asking, accepting, withdrawing, met, at_end, from_end}
-use Rattle.osi_between.specs.Meeting.{talking, left_here, left_there, left_both, waiting_here, waiting_there, parted}
-use Rattle.osi_between.specs.Terms.{Terms, by_two, by_zero, refusing}
 use Rattle.osi_between.specs.Zero as zero
-use Rattle.osi_session.specs.Joining.{joined_octets}
-use Rattle.osi_session.specs.Listening.{Listener}
-use Rattle.osi_stack.specs.Messages.{kept_at}
-use Rattle.osi_stack.specs.State.{Line, session_in, joined_of, joined_live, joined_in}
+use Rattle.osi_stack.specs.State.{Line}
+use Rattle.osi_pair.proofs.Vocabulary.{eqb-true, eq-eqb, sum_by-cons, Value, swapped, Local, absent, begun_by, kept_in, Place, never, was_given, place_at, RiseFrom, Rows, value_at, Connection, State, linked, given_live, within_given, AreJoinedBy, Course, unasked, asking, accepting, withdrawing, met, at_end, from_end, talking, left_here, left_there, left_both, waiting_here, waiting_there, parted, Terms, by_two, by_zero, refusing, joined_octets, Listener, kept_at, session_in, joined_of, joined_live, joined_in}
 
 -- ---- a connection that is open at one end
 

@@ -1,12 +1,9 @@
 -- Pieces are carried one after the other.
 use Rattle.std.proofs.Common.{◌≡◌, ◌∙◌, ℕ, ◌+◌, ◌-◌, Bool, true, false, List, [], ◌∷◌, sum, map, Result, Ok, Err, OnOk, OnErr, is_err, refl, sym, ap, subst}
 use Rattle.std.proofs.Math.Nat.{add_comm}
-use Rattle.std.proofs.lemmas.List.Sums.{sum_by-cons}
-use Rattle.osi_stack.specs.State.{Holding}
-use Rattle.osi_pair.specs.Carrying.{Crossing, CarriesPiece, Carries}
-use Rattle.osi_pair.specs.Entries.{entry_by}
+use Rattle.osi_pair.specs.Carrying.{Carries}
 use Rattle.osi_pair.specs.declared.entries.Entry.{Entry}
-use Rattle.osi_pair.specs.declared.sides.Side.{Side}
+use Rattle.osi_pair.proofs.Vocabulary.{sum_by-cons, Holding, Crossing, CarriesPiece, entry_by, Side}
 
 pub carries_more : (side : Side) (most carried used : ℕ) (old mid new : Crossing) → Carries side most old carried mid →
     CarriesPiece side (most - carried) mid used new → Carries side most old (carried + used) new

@@ -1,15 +1,7 @@
 -- Two ends at which an event has come to be.
 use Rattle.std.proofs.Common.{◌≡◌, ℕ, List, Option, Some, None}
-use Rattle.osi_carrier.specs.declared.ends.EndReason.{EndReason}
-use Rattle.osi_machine.specs.Machine.{Step}
-use Rattle.osi_pair.specs.Advancing.{CanHappen, StandsAfter}
-use Rattle.osi_pair.specs.Ends.{TwoEnds, end_at}
-use Rattle.osi_pair.specs.Events.{misfit, Does}
-use Rattle.osi_pair.specs.Reached.{HoldLess, IsReached}
-use Rattle.osi_pair.specs.Standing.{StandsAt, StandsAtTold}
-use Rattle.osi_pair.specs.declared.events.Event.{Event}
-use Rattle.osi_pair.specs.declared.events.Event.TheVariants.{Connect, Call, Carry, Break, Told}
-use Rattle.osi_pair.specs.declared.sides.Side.{Side}
+use Rattle.osi_pair.specs.declared.events.Event.TheVariants.{Call}
+use Rattle.osi_pair.proofs.Vocabulary.{EndReason, Step, CanHappen, StandsAfter, TwoEnds, end_at, misfit, Does, HoldLess, IsReached, StandsAt, StandsAtTold, Event, Connect, Carry, Break, Told, Side}
 use Rattle.osi_pair.proofs.HoldingLess.{event_less}
 use Rattle.osi_pair.proofs.StandingEvent.{EventLaws, event_stands}
 

@@ -1,17 +1,7 @@
 -- Events that happen one after the other, and their steps of the machine.
 use Rattle.std.proofs.Common.{List, [], ◌∷◌, ◌++◌, Option, Some, None, refl, sym, subst}
-use Rattle.std.proofs.lemmas.List.{append_assoc, append-nil}
-use Rattle.osi_carrier.specs.declared.ends.EndReason.{EndReason}
-use Rattle.osi_machine.specs.Machine.{Step, connects, calls, breaks, ends, told_of_break}
-use Rattle.osi_session.specs.Calls.{called_by}
-use Rattle.osi_pair.specs.Advancing.{StandsAfter}
-use Rattle.osi_pair.specs.Asked.{asked_of}
-use Rattle.osi_pair.specs.Ends.{TwoEnds, end_at}
-use Rattle.osi_pair.specs.Running.{Happens, HappenAll, AreStepsOf, StandsBehind, RunsThrough}
-use Rattle.osi_pair.specs.Standing.{side_in, offer_in, StandsAt, StandsAtTold}
-use Rattle.osi_pair.specs.declared.events.Event.{Event}
-use Rattle.osi_pair.specs.declared.events.Event.TheVariants.{Connect, Call, Carry, Break, Told}
-use Rattle.osi_pair.specs.declared.sides.Side.{Side}
+use Rattle.osi_pair.specs.declared.events.Event.TheVariants.{Call}
+use Rattle.osi_pair.proofs.Vocabulary.{append_assoc, append-nil, EndReason, Step, connects, calls, breaks, ends, told_of_break, called_by, StandsAfter, asked_of, TwoEnds, end_at, Happens, HappenAll, AreStepsOf, StandsBehind, RunsThrough, side_in, offer_in, StandsAt, StandsAtTold, Event, Connect, Carry, Break, Told, Side}
 
 -- one more event happens
 pub happen_more : (events : List Event) (event : Event) (old mid new : TwoEnds) → HappenAll events old mid → Happens event mid new →

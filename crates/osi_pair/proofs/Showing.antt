@@ -1,14 +1,8 @@
 -- Indications are shown one after the other.
 use Rattle.std.proofs.Common.{◌≡◌, ◌∙◌, ℕ, ◌+◌, List, [], ◌∷◌, ◌++◌, length, Option, Some, None, refl, sym, ap, ap₂, subst, inl, inr}
-use Rattle.std.proofs.lemmas.List.{append_assoc, append-nil, length-append, map-append}
-use Rattle.osi_carrier.specs.Rows.{Rows}
-use Rattle.osi_carrier.specs.declared.ends.EndReason.{EndReason}
-use Rattle.osi_session.specs.Shown.{Shown}
-use Rattle.osi_stack.specs.Calls.{first_shown, without_first}
-use Rattle.osi_stack.specs.State.{Line, Holding}
-use Rattle.osi_pair.specs.Entries.{Entry, shows}
-use Rattle.osi_pair.specs.Telling.{waiting_in, quieted, shown_entries, end_entries, told_entries, Tells}
-use Rattle.osi_pair.specs.declared.sides.Side.{Side}
+use Rattle.osi_stack.specs.Calls.{without_first}
+use Rattle.osi_stack.specs.State.{Line}
+use Rattle.osi_pair.proofs.Vocabulary.{append_assoc, append-nil, length-append, map-append, Rows, EndReason, Shown, first_shown, Holding, Entry, shows, waiting_in, quieted, shown_entries, end_entries, told_entries, Tells, Side}
 use Rattle.osi_pair.proofs.Waiting.{none_waits, none_taken, next_is}
 
 -- so many were shown

@@ -1,31 +1,9 @@
 -- The carrier of an end acts for a connection that is open there: nothing is taken, and its session makes no
 -- move. How two ends stand then.
 use Rattle.std.proofs.Common.{◌≡◌, ◌≢◌, ℕ, ◌<◌, ◌≤◌, Bool, true, false, nat_lt, if◌then◌else◌, List, [], ◌++◌, length, Option, Some, None, option_map, refl, sym, ap, subst, ◌∙◌, arith, not}
-use Rattle.std.proofs.lemmas.Bool.Decides.{nat_tests}
-use Rattle.std.proofs.lemmas.List.{append-nil}
-use Rattle.osi_carrier.specs.Place.{Place, never, was_given, place_at, connection_in}
-use Rattle.osi_carrier.specs.Orderly.{IsOrderly}
-use Rattle.osi_carrier.specs.Rows.{value_at, put}
-use Rattle.osi_carrier.specs.State.{Connection, State}
-use Rattle.osi_carrier.proofs.Apart.{beyond, put_here}
-use Rattle.osi_carrier.proofs.AtReferences.{put_other}
-use Rattle.osi_between.specs.Between.{Between, AreBetween, Carries, last_of, under_way, put_in, is_cut, Acted, becomes, side}
-use Rattle.osi_between.specs.Course.{progress_of}
-use Rattle.osi_between.specs.Messages.{AreLike}
+use Rattle.osi_carrier.specs.Rows.{put}
 use Rattle.osi_between.specs.Messages as carrier
-use Rattle.osi_between.specs.Progress.{Progress, in_use, progress_in, leaves_use}
-use Rattle.osi_machine.specs.Machine.{connection_at}
-use Rattle.osi_machine.specs.Tables.{Line, Tables, seen_from, stays}
-use Rattle.osi_machine.specs.Worlds.{Message}
-use Rattle.osi_machine.proofs.Places.{with_same, with_other, with_count, none_there}
-use Rattle.osi_stack.specs.Hearing.{with_carrier}
-use Rattle.osi_stack.specs.State.{End, Holding}
-use Rattle.osi_pair.specs.Ends.{TwoEnds, end_at}
-use Rattle.osi_pair.specs.Entries.{Entry}
-use Rattle.osi_pair.specs.Sides.{other}
-use Rattle.osi_pair.specs.Standing.{side_in, is_caller, class_in, carriers_of, IsSeated, IsInOrder, Stands, Goes, HasJoined}
-use Rattle.osi_pair.specs.declared.sides.Side.{Side}
-use Rattle.osi_pair.specs.declared.sides.Side.TheVariants.{Left, Right}
+use Rattle.osi_pair.proofs.Vocabulary.{nat_tests, append-nil, Place, never, was_given, place_at, connection_in, IsOrderly, value_at, Connection, State, beyond, put_here, put_other, Between, AreBetween, Carries, last_of, under_way, put_in, is_cut, Acted, becomes, side, progress_of, AreLike, Progress, in_use, progress_in, leaves_use, connection_at, Line, Tables, seen_from, stays, Message, with_same, with_other, with_count, none_there, with_carrier, End, Holding, TwoEnds, end_at, Entry, other, side_in, is_caller, class_in, carriers_of, IsSeated, IsInOrder, Stands, Goes, HasJoined, Side, Left, Right, given_live, Held, Terms, waiting_in}
 use Rattle.osi_pair.proofs.StandingActs.{StandsOn, there, of_end}
 use Rattle.osi_pair.proofs.StandingFinish.{terms_at, order_of, was_at, GivenAfter}
 use Rattle.osi_pair.proofs.StandingSeats.{transport_by, HasSession, place_by, session_of_seat, seat_of_session}
@@ -33,10 +11,6 @@ use Rattle.osi_pair.proofs.StandingTurned.{IsSeen, seen, seen_twice, with_holdin
 use Rattle.osi_pair.proofs.StandingWays.{shuts, back_waits}
 use Rattle.osi_pair.proofs.StandingCut.{end_back}
 use Rattle.osi_session.specs.declared.state.State.{State as SessionState}
-use Rattle.osi_between.proofs.JoinedMoves.{given_live}
-use Rattle.osi_tpkt.specs.Held.{Held}
-use Rattle.osi_between.specs.Terms.{Terms}
-use Rattle.osi_pair.specs.Telling.{waiting_in}
 
 -- ---- the carrier
 

@@ -1,37 +1,14 @@
 -- What an end that acted for a connection leaves under way for it, and two ends whose journal says more.
 use Rattle.std.proofs.Common.{◌≡◌, refl, sym, ◌∙◌, ap, subst, ℕ, zero, suc, ◌<◌, ◌≤◌, Bool, true, false, nat_le, nat_lt, if◌then◌else◌, List, [], ◌∷◌, ◌++◌, length, map, Option, Some, None, option_map, is_some, IsSome, arith}
-use Rattle.std.proofs.lemmas.Bool.{lt-ltb, leb-true, leb-false}
-use Rattle.std.proofs.lemmas.Bool.Decides.{nat_tests}
-use Rattle.std.proofs.lemmas.List.{map-append}
-use Rattle.std.specs.List.{AllByRecursion}
-use Rattle.osi_carrier.specs.Place.{Place, never, was_given, place_at}
-use Rattle.osi_carrier.specs.Rows.{value_at}
-use Rattle.osi_carrier.specs.State.{State as Carrier}
-use Rattle.osi_between.specs.Between.{Between, Carries, last_of, under_way, put_in, is_cut}
-use Rattle.osi_between.specs.Course.{progress_of}
 use Rattle.osi_between.specs.Messages as carrier
-use Rattle.osi_between.specs.Progress.{Progress}
-use Rattle.osi_between.specs.Terms.{Terms, terms_of}
-use Rattle.osi_machine.specs.Machine.{connection_at, Step, HasNumber}
 use Rattle.osi_machine.specs.Machine as entries
-use Rattle.osi_machine.specs.Tables.{Seat, Line, Tables, noted as noted_in, step, run, start}
-use Rattle.osi_machine.specs.Worlds.{Message, put}
-use Rattle.osi_stack.specs.State.{Holding}
-use Rattle.osi_pair.specs.Ends.{TwoEnds, end_at, noted}
-use Rattle.osi_pair.specs.Entries.{Entry}
-use Rattle.osi_pair.specs.Sides.{other}
-use Rattle.osi_pair.specs.Standing.{is_caller, terms_in, carriers_of, entry_in, AreAlike, IsUnderWay, IsInOrder, IsLine, Stands, StandsAt, Goes, word_in, HasJoined, HasLine}
-use Rattle.osi_pair.specs.Telling.{waiting_in}
-use Rattle.osi_pair.specs.Words.{Word}
-use Rattle.osi_pair.specs.declared.reach.Reach.{Reach}
-use Rattle.osi_pair.specs.declared.sides.Side.{Side}
-use Rattle.osi_pair.specs.declared.sides.Side.TheVariants.{Left, Right}
+use Rattle.osi_machine.specs.Tables.{noted as noted_in}
+use Rattle.osi_pair.proofs.Vocabulary.{lt-ltb, leb-true, leb-false, nat_tests, map-append, AllByRecursion, Place, never, was_given, place_at, value_at, State as Carrier, Between, Carries, last_of, under_way, put_in, is_cut, progress_of, Progress, Terms, terms_of, connection_at, Step, HasNumber, Seat, Line, Tables, step, run, start, Message, put, Holding, TwoEnds, end_at, noted, Entry, other, is_caller, terms_in, carriers_of, entry_in, AreAlike, IsUnderWay, IsInOrder, IsLine, Stands, StandsAt, Goes, word_in, HasJoined, HasLine, waiting_in, Word, Reach, Side, Left, Right, StaysCalm}
 use Rattle.osi_pair.proofs.StandingCut.{cut_none, cut_out, cut_back}
 use Rattle.osi_pair.proofs.StandingRests.{unless_broken, put_unless, words_put, are_put, put_same, put_spare}
 use Rattle.osi_pair.proofs.StandingWays.{as_now, out_puts, same_alike, alike_trans, like_alike}
 use Rattle.osi_pair.proofs.StandingTurned.{GoesTo}
 use Rattle.osi_pair.proofs.WordLaws.{AreWords}
-use Rattle.osi_machine.specs.Calm.{StaysCalm}
 
 -- ---- what is under way from the end that acted
 

@@ -1,14 +1,7 @@
 -- What the tables say of the sessions to which something is under way from a side.
 use Rattle.std.proofs.Common.{◌≡◌, ◌≢◌, ℕ, ◌==◌, Bool, true, false, Some, refl, sym, ap, subst, ◌∙◌}
-use Rattle.std.proofs.lemmas.Bool.{eqb-true, eq-eqb}
-use Rattle.osi_machine.specs.AsTables.{IsTableRun, AtEachSide, IsOverWhenLeft}
-use Rattle.osi_machine.specs.Calm.{IsNoFaultBehind}
 use Rattle.osi_machine.specs.Core as machine
-use Rattle.osi_machine.specs.Machine.{connection_at}
-use Rattle.osi_machine.specs.Tables.{Line, Tables, turned, seen_from}
-use Rattle.osi_pair.specs.Standing.{side_in}
-use Rattle.osi_pair.specs.declared.sides.Side.{Side}
-use Rattle.osi_pair.specs.declared.sides.Side.TheVariants.{Left, Right}
+use Rattle.osi_pair.proofs.Vocabulary.{eqb-true, eq-eqb, IsTableRun, AtEachSide, IsOverWhenLeft, IsNoFaultBehind, connection_at, Line, Tables, turned, seen_from, side_in, Side, Left, Right}
 use Rattle.osi_pair.proofs.StandingTurned.{seen_twice, LinesAfter}
 use Rattle.osi_pair.proofs.StandingWays.{Takes}
 

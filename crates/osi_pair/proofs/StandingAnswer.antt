@@ -1,32 +1,10 @@
 -- A call is answered as the machine answers it.
 use Rattle.std.proofs.Common.{◌≡◌, refl, sym, ◌∙◌, ap, subst, ℕ, zero, suc, ◌<◌, ◌≤◌, ◌&&◌, Bool, true, false, not, nat_le, nat_lt, if◌then◌else◌, length, Option, Some, None, is_some, IsSome, Err, arith}
-use Rattle.std.proofs.lemmas.Bool.{lt-ltb, le-leb, leb-true, leb-false}
-use Rattle.std.proofs.lemmas.Bool.Decides.{nat_tests}
-use Rattle.osi_carrier.specs.Place.{was_given, place_at}
-use Rattle.osi_carrier.specs.Rows.{value_at}
-use Rattle.osi_carrier.specs.State.{Connection, asked, linked, closing, State as Carrier}
-use Rattle.osi_carrier.specs.declared.ends.EndReason.{EndReason}
-use Rattle.osi_between.specs.Between.{Between}
-use Rattle.osi_machine.specs.Machine.{connection_at, is_given}
-use Rattle.osi_machine.specs.Tables.{Seat, Line, Tables, seen_from, side_of}
 use Rattle.osi_machine.specs.Worlds.{gone, not_yet}
-use Rattle.osi_session.specs.Allowed.{Answer, may_call, octets_of, most_of, sends, met, sized, allowed}
-use Rattle.osi_session.specs.Calls.{Call, HasSerial}
-use Rattle.osi_session.specs.Listening.{Listener}
-use Rattle.osi_session.specs.Moves.{Standing, called, answered, react}
-use Rattle.osi_session.specs.Phases.{is_ended, is_over}
-use Rattle.osi_session.specs.Sizes.{fits_limit}
-use Rattle.osi_session.specs.declared.faults.CallError.{CallError}
+use Rattle.osi_session.specs.Allowed.{met}
 use Rattle.osi_session.specs.declared.faults.CallError.TheVariants as error
-use Rattle.osi_session.specs.declared.phases.Phase.{Phase}
 use Rattle.osi_session.specs.declared.phases.Phase.TheVariants.{Ended}
-use Rattle.osi_stack.specs.Calls.{has_given, session_refusal, session_error, call_error, table_error}
-use Rattle.osi_stack.specs.Folds.{AllCameAbout}
-use Rattle.osi_stack.specs.Links.{Soundness}
-use Rattle.osi_stack.specs.State.{End, Holding, session_in, session_at}
-use Rattle.osi_pair.specs.Ends.{TwoEnds, end_at}
-use Rattle.osi_pair.specs.Standing.{side_in, transport_in, is_parting, IsSeated, Stands}
-use Rattle.osi_pair.specs.declared.sides.Side.{Side}
+use Rattle.osi_pair.proofs.Vocabulary.{lt-ltb, le-leb, leb-true, leb-false, nat_tests, was_given, place_at, value_at, Connection, asked, linked, closing, State as Carrier, EndReason, Between, connection_at, is_given, Seat, Line, Tables, seen_from, side_of, Answer, may_call, octets_of, most_of, sends, sized, allowed, Call, HasSerial, Listener, Standing, called, answered, react, is_ended, is_over, fits_limit, CallError, Phase, has_given, session_refusal, session_error, call_error, table_error, AllCameAbout, Soundness, End, Holding, session_in, session_at, TwoEnds, end_at, side_in, transport_in, is_parting, IsSeated, Stands, Side}
 use Rattle.osi_pair.proofs.StandingActs.{OfEnd, of_end, there, NoneBeyond, place_given, place_ahead}
 use Rattle.osi_pair.proofs.StandingListens.{calls_so}
 use Rattle.osi_pair.proofs.StandingTurned.{seen}

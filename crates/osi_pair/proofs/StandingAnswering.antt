@@ -1,32 +1,11 @@
 -- A packet with which a session moves: what is known of the move and of the end behind it, where the session
 -- answers, or closes its connection of class 2.
 use Rattle.std.proofs.Common.{◌≡◌, ℕ, Bool, true, false, if◌then◌else◌, List, Option, Some, None, option_map, refl, sym, ap, subst, ◌∙◌, ◌⊎◌, inl, inr, arith}
-use Rattle.osi_tpkt.specs.Held.{Held}
-use Rattle.osi_carrier.specs.Place.{Place, never, was_given, place_at}
 use Rattle.osi_carrier.specs.Packets as carriers
 use Rattle.osi_carrier.specs.React.{react as carrier_react}
-use Rattle.osi_carrier.specs.State.{asked, linked, closing}
-use Rattle.osi_between.specs.Addresses.{reference_of}
-use Rattle.osi_between.specs.Between.{Between, last_of}
-use Rattle.osi_between.specs.Course.{progress_of}
-use Rattle.osi_between.specs.Progress.{in_use}
-use Rattle.osi_between.specs.Terms.{Terms, by_two, by_zero, refusing, class_of}
-use Rattle.osi_machine.specs.Machine.{learns}
-use Rattle.osi_machine.specs.Tables.{Tables}
-use Rattle.osi_machine.specs.Worlds.{Message, Transport, unit, ask, agree, deny, bye, over, accepts}
 use Rattle.osi_machine.specs.Worlds as worlds
-use Rattle.osi_message.specs.Meanings.{Meaning}
-use Rattle.osi_message.specs.Sendable.{said_of}
-use Rattle.osi_session.specs.Moves.{Input, opened, refused, taken, broken, Standing, begun, denied, rests, react, after_input}
-use Rattle.osi_session.specs.Phases.{is_wait_transport, is_ended}
-use Rattle.osi_session.specs.Respond.{Outcome, respond, respond_unit}
 use Rattle.osi_session.specs.declared.state.State.{State}
-use Rattle.osi_stack.specs.Hearing.{after_packet}
-use Rattle.osi_stack.specs.Links.{IsSound}
-use Rattle.osi_pair.specs.Ends.{TwoEnds, end_at}
-use Rattle.osi_pair.specs.Standing.{is_caller, class_in, terms_in, carriers_of, Stands}
-use Rattle.osi_pair.specs.declared.sides.Side.{Side}
-use Rattle.osi_pair.specs.declared.sides.Side.TheVariants.{Left, Right}
+use Rattle.osi_pair.proofs.Vocabulary.{Held, Place, never, was_given, place_at, asked, linked, closing, reference_of, Between, last_of, progress_of, in_use, Terms, by_two, by_zero, refusing, class_of, learns, Tables, Message, Transport, unit, ask, agree, deny, bye, over, accepts, Meaning, said_of, Input, opened, refused, taken, broken, Standing, begun, denied, rests, react, after_input, is_wait_transport, is_ended, Outcome, respond, respond_unit, after_packet, IsSound, TwoEnds, end_at, is_caller, class_in, terms_in, carriers_of, Stands, Side, Left, Right}
 use Rattle.osi_pair.proofs.StandingAnswers.{answered_shown, closed_shown, silent_shown}
 use Rattle.osi_pair.proofs.StandingArrived.{PacketActs}
 use Rattle.osi_pair.proofs.StandingArriving.{is_linked}

@@ -1,42 +1,13 @@
 -- A session moved, and sends a unit, or closes its connection of class 2: how two ends stand when that was done,
 -- and its user was shown what the move shows.
 use Rattle.std.proofs.Common.{◌≡◌, ℕ, ◌≤◌, zero, suc, Bool, true, false, if◌then◌else◌, List, [], ◌∷◌, ◌++◌, length, map, Option, Some, None, refl, sym, ap, subst, ◌∙◌, ◌⊎◌, inl, inr, arith}
-use Rattle.std.proofs.lemmas.List.{append-nil}
-use Rattle.osi_tpkt.specs.Held.{Held}
-use Rattle.osi_carrier.specs.Calls.{open_link, sent, sent_on, closes, closed_on, closed_with}
-use Rattle.osi_carrier.specs.Orderly.{AreUpTo}
-use Rattle.osi_carrier.specs.Rows.{Rows}
-use Rattle.osi_carrier.specs.State.{State as Carrier}
-use Rattle.osi_carrier.specs.declared.ends.EndReason.{EndReason}
-use Rattle.osi_between.specs.Progress.{in_use, gone}
-use Rattle.osi_between.specs.Terms.{by_two}
 use Rattle.osi_class.specs.Link.{Standing as Link}
-use Rattle.osi_class.specs.declared.terms.Class.{Class}
-use Rattle.osi_class.specs.declared.terms.Class.TheVariants.{Zero, Two}
 use Rattle.osi_machine.specs.Core as machine
-use Rattle.osi_machine.specs.Machine.{connection_at, delivers, shown_at, replaced, with_connection}
 use Rattle.osi_machine.specs.Machine as entries
-use Rattle.osi_machine.specs.Tables.{Line as TableLine, Turn, Tables, seen_from, stays, puts, closed, closes_by, noted as noted_in, after_turn, step}
-use Rattle.osi_machine.specs.Worlds.{Message, unit, put, replied}
+use Rattle.osi_machine.specs.Tables.{closed, noted as noted_in}
 use Rattle.osi_machine.specs.Worlds as worlds
-use Rattle.osi_message.specs.Meanings.{Meaning}
-use Rattle.osi_message.specs.Parting.{tsdus_sent}
-use Rattle.osi_message.specs.Written.{written}
-use Rattle.osi_session.specs.Phases.{is_ended}
-use Rattle.osi_session.specs.Shown.{Shown}
-use Rattle.osi_stack.specs.Hearing.{after_packet, concludes, with_carrier}
-use Rattle.osi_stack.specs.Links.{IsSound}
-use Rattle.osi_stack.specs.Messages.{kept_at}
-use Rattle.osi_stack.specs.Moving.{answers}
-use Rattle.osi_stack.specs.State.{Line, End, Holding}
-use Rattle.osi_stack.specs.Transport.{answers_by}
-use Rattle.osi_stack.proofs.Handing.{hands_none, handed, sent_by_itself}
-use Rattle.osi_pair.specs.Ends.{TwoEnds, end_at}
-use Rattle.osi_pair.specs.Entries.{Entry}
-use Rattle.osi_pair.specs.Standing.{side_in, IsInOrder, Stands}
-use Rattle.osi_pair.specs.Telling.{waiting_in, quieted, shown_entries, end_entries, told_entries}
-use Rattle.osi_pair.specs.declared.sides.Side.{Side}
-use Rattle.osi_pair.specs.declared.sides.Side.TheVariants.{Left, Right}
+use Rattle.osi_stack.specs.State.{Line}
+use Rattle.osi_pair.proofs.Vocabulary.{append-nil, Held, open_link, sent, sent_on, closes, closed_on, closed_with, AreUpTo, Rows, State as Carrier, EndReason, in_use, gone, by_two, Class, Zero, Two, connection_at, delivers, shown_at, replaced, with_connection, Line as TableLine, Turn, Tables, seen_from, stays, puts, closes_by, after_turn, step, Message, unit, put, replied, Meaning, tsdus_sent, written, is_ended, Shown, after_packet, concludes, with_carrier, IsSound, kept_at, answers, End, Holding, answers_by, hands_none, handed, sent_by_itself, TwoEnds, end_at, Entry, side_in, IsInOrder, Stands, waiting_in, quieted, shown_entries, end_entries, told_entries, Side, Left, Right}
 use Rattle.osi_pair.proofs.StandingActs.{StandsOn}
 use Rattle.osi_pair.proofs.StandingArrived.{CarrierLaws}
 use Rattle.osi_pair.proofs.StandingCall.{put_nothing}

@@ -1,29 +1,15 @@
 -- Which unit can come first to an end, by where its connection stands there.
 use Rattle.std.proofs.Common.{◌≡◌, ℕ, zero, suc, ◌<◌, ◌≤◌, Bool, true, false, not, ◌&&◌, List, [], ◌∷◌, ◌++◌, nat_lt, Option, Some, None, refl, sym, ap, subst, ◌∙◌, arith, if◌then◌else◌}
-use Rattle.std.specs.List.{AllByRecursion}
-use Rattle.std.proofs.lemmas.Bool.{eq-eqb}
-use Rattle.std.proofs.lemmas.Bool.Decides.{nat_tests}
-use Rattle.osi_tpdu.specs.Value.{Value, Connect, request, confirm, disconnect, data0, data2, acknowledge}
-use Rattle.osi_class.specs.Link.{Given, part0, part2, ack, unit_of}
-use Rattle.osi_class.specs.declared.terms.Class.TheVariants.{Zero, Two}
-use Rattle.osi_class.specs.declared.terms.Local.{Local}
-use Rattle.osi_carrier.specs.Place.{Place, never, was_given, place_at}
+use Rattle.osi_tpdu.specs.Value.{Connect}
 use Rattle.osi_carrier.specs.Negotiation.{proposal_by, proposes_two}
-use Rattle.osi_carrier.specs.Rows.{Rows, value_at}
-use Rattle.osi_carrier.specs.State.{Connection, asked, linked, closing, State}
-use Rattle.osi_between.specs.Addresses.{reference_of, units_of}
-use Rattle.osi_between.specs.Between.{Both, Between, last_of, units_from, AreJoinedBy, AreBetween}
-use Rattle.osi_between.specs.Course.{Course, unasked, asking, accepting, withdrawing, met, at_end, from_end, Holds}
 use Rattle.osi_between.specs.Joined.{AreJoined}
-use Rattle.osi_between.specs.Meeting.{Meeting, talking, left_here, left_there, left_both, waiting_here, waiting_there, parted, mirror, here, addressed, leaving, out}
 use Rattle.osi_between.specs.Refusing.{AreRefusing, Refusal, rows_in}
 use Rattle.osi_between.specs.Refusing as refusal
-use Rattle.osi_between.specs.Terms.{Terms, by_two, by_zero, refusing, accepts_in, class_of, IsProposed}
-use Rattle.osi_between.specs.Zero.{AreJoinedZero, ZeroCourse, HasOne, given_in}
 use Rattle.osi_between.specs.Zero as zero_class
 use Rattle.osi_between.proofs.Addressing.{first_of_all}
 use Rattle.osi_between.proofs.Proposals.{source_is}
 use Rattle.osi_between.proofs.Zeros.{one_place}
+use Rattle.osi_pair.proofs.Vocabulary.{AllByRecursion, eq-eqb, nat_tests, Value, request, confirm, disconnect, data0, data2, acknowledge, Given, part0, part2, ack, unit_of, Zero, Two, Local, Place, never, was_given, place_at, Rows, value_at, Connection, asked, linked, closing, State, reference_of, units_of, Both, Between, last_of, units_from, AreJoinedBy, AreBetween, Course, unasked, asking, accepting, withdrawing, met, at_end, from_end, Holds, Meeting, talking, left_here, left_there, left_both, waiting_here, waiting_there, parted, mirror, here, addressed, leaving, out, Terms, by_two, by_zero, refusing, accepts_in, class_of, IsProposed, AreJoinedZero, ZeroCourse, HasOne, given_in}
 
 -- ---- by place
 

@@ -1,33 +1,10 @@
 -- A CR arrives and is accepted: the connection has a new session, which awaits a CN.
 use Rattle.std.proofs.Common.{◌≡◌, ◌≢◌, ℕ, ◌<◌, ◌≤◌, Bool, true, false, if◌then◌else◌, List, [], ◌∷◌, ◌++◌, map, Option, Some, None, is_some, nat_lt, refl, sym, ap, subst, ◌∙◌, inl, inr, arith}
-use Rattle.std.proofs.lemmas.Bool.Decides.{nat_tests}
-use Rattle.osi_tpkt.specs.Held.{Held}
-use Rattle.osi_tpdu.specs.Value.{Value}
-use Rattle.osi_carrier.specs.Place.{Place, never, was_given, place_at}
-use Rattle.osi_carrier.specs.Rows.{Rows, value_at}
-use Rattle.osi_carrier.specs.State.{Connection, State, asked, linked, closing}
-use Rattle.osi_carrier.proofs.Apart.{push_here, beyond}
-use Rattle.osi_carrier.proofs.AtReferences.{push_other}
-use Rattle.osi_between.specs.Addresses.{reference_of}
-use Rattle.osi_between.specs.Between.{Between}
-use Rattle.osi_between.specs.Course.{progress_of}
 use Rattle.osi_between.specs.Messages as carrier
-use Rattle.osi_between.specs.Progress.{not_yet, in_use, leaves_use}
-use Rattle.osi_machine.specs.Machine.{delivers, learns}
-use Rattle.osi_machine.specs.Tables.{Tables, seen_from, end_of, step, unseen}
 use Rattle.osi_machine.specs.Tables as tables
-use Rattle.osi_session.specs.Listening.{Listener}
-use Rattle.osi_session.specs.Moves.{Standing}
 use Rattle.osi_session.specs.Sessions.{awaits}
-use Rattle.osi_stack.specs.Links.{AreApart}
-use Rattle.osi_stack.specs.Messages.{told_all, kept_at}
-use Rattle.osi_stack.specs.State.{Line, session_in, is_used, used_lines, fresh_line}
-use Rattle.osi_stack.proofs.Linking.{used_by, used_at, Stays, apart_push}
-use Rattle.osi_stack.proofs.Moves.{used_live}
-use Rattle.osi_pair.specs.Ends.{TwoEnds, end_at}
-use Rattle.osi_pair.specs.Standing.{side_in, is_caller, carriers_of, message_in, Stands}
-use Rattle.osi_pair.specs.Telling.{waiting_in}
-use Rattle.osi_pair.specs.declared.sides.Side.{Side}
+use Rattle.osi_stack.specs.State.{Line}
+use Rattle.osi_pair.proofs.Vocabulary.{nat_tests, Held, Value, Place, never, was_given, place_at, Rows, value_at, Connection, State, asked, linked, closing, push_here, beyond, push_other, reference_of, Between, progress_of, not_yet, in_use, leaves_use, delivers, learns, Tables, seen_from, end_of, step, unseen, Listener, Standing, AreApart, told_all, kept_at, session_in, is_used, used_lines, fresh_line, used_by, used_at, Stays, apart_push, used_live, TwoEnds, end_at, side_in, is_caller, carriers_of, message_in, Stands, waiting_in, Side, after_message, StaysCalm, kind_of, Message, unit, ask, agree, deny, bye, over}
 use Rattle.osi_pair.proofs.StandingArrived.{PacketActs}
 use Rattle.osi_pair.proofs.StandingFinish.{terms_at, DidAt, TablesAfter, line_then, is_agree, last_is, order_of, finish, known_then, was_at}
 use Rattle.osi_pair.proofs.StandingRests.{step_opens, tables_delivered, is_awaited, learns_row, rests, turn_rests, sends_then}
@@ -35,9 +12,6 @@ use Rattle.osi_pair.proofs.StandingResting.{acted_end, line_at, EndThen, NextFor
 use Rattle.osi_pair.proofs.StandingRows.{Row, begins, before, after, arrived_in}
 use Rattle.osi_pair.proofs.StandingSeats.{transport_by, lives_in, live_there, HasSession}
 use Rattle.osi_session.specs.declared.state.State.{State as SessionState}
-use Rattle.osi_machine.specs.Calm.{after_message, StaysCalm}
-use Rattle.osi_between.specs.Messages.{kind_of}
-use Rattle.osi_machine.specs.Worlds.{Message, unit, ask, agree, deny, bye, over}
 use Rattle.osi_pair.proofs.StandingQuiet.{none_first, none_second}
 
 -- ---- lines with a new one, of which those are dropped that are of no use

@@ -1,29 +1,12 @@
 -- A break is a break of the machine.
 use Rattle.std.proofs.Common.{◌≡◌, refl, sym, ◌∙◌, ap, subst, ℕ, zero, suc, ◌+◌, ◌≤◌, Bool, true, false, if◌then◌else◌, List, [], ◌∷◌, ◌++◌, length, map, take, min, Option, Some, None, option_map, is_some, arith, ◌<◌, inl, inr}
-use Rattle.std.specs.List.{AllByRecursion, slice_get}
-use Rattle.osi_class.specs.declared.terms.Local.{Local}
-use Rattle.osi_carrier.specs.Place.{place_at}
-use Rattle.osi_between.specs.Between.{Between, Both, AreBetween, Lost, under_way, broken_at, fresh_both, fresh_between, is_cut}
-use Rattle.osi_between.specs.Course.{progress_of}
-use Rattle.osi_between.specs.Messages.{kind_of}
+use Rattle.osi_between.specs.Between.{Lost}
 use Rattle.osi_between.specs.Messages as carrier
-use Rattle.osi_between.specs.Progress.{Progress}
-use Rattle.osi_between.specs.Terms.{Terms, terms_of}
-use Rattle.osi_machine.specs.Machine.{connection_at, Step, breaks, HasNumber}
-use Rattle.osi_machine.specs.AsTables.{IsTableRun}
-use Rattle.osi_machine.specs.Tables.{Seat, Line, Tables, turned, cut_channels, step, run, start}
 use Rattle.osi_session.specs.declared.state.State.{State}
-use Rattle.osi_machine.specs.Worlds.{Message}
-use Rattle.osi_pair.specs.Ends.{TwoEnds, sent_by, after_break, fresh_ends}
-use Rattle.osi_pair.specs.Standing.{terms_in, carriers_of, AreAlike, IsSeated, IsLine, IsInOrder, Stands, StandsAt, StandsAtBreak, AreUnderWay, word_in, HasLine, HasJoined}
-use Rattle.osi_stack.specs.Links.{IsSound}
-use Rattle.osi_stack.specs.State.{Holding, fresh_end}
-use Rattle.osi_pair.specs.declared.sides.Side.TheVariants.{Left, Right}
+use Rattle.osi_pair.proofs.Vocabulary.{AllByRecursion, slice_get, Local, place_at, Between, Both, AreBetween, under_way, broken_at, fresh_both, fresh_between, is_cut, progress_of, kind_of, Progress, Terms, terms_of, connection_at, Step, breaks, HasNumber, IsTableRun, Seat, Line, Tables, turned, cut_channels, step, run, start, Message, TwoEnds, sent_by, after_break, fresh_ends, terms_in, carriers_of, AreAlike, IsSeated, IsLine, IsInOrder, Stands, StandsAt, StandsAtBreak, AreUnderWay, word_in, HasLine, HasJoined, IsSound, Holding, fresh_end, Left, Right, EndReason, cut_there, cut_count}
 use Rattle.osi_pair.proofs.StandingAhead.{TakeLaws, TakesFrom, takes_from}
 use Rattle.osi_pair.proofs.StandingWays.{Takes, Front, front_at, map_take, alike_take}
 use Rattle.osi_pair.proofs.StandingCut.{IsWithin, outside_not, within_or}
-use Rattle.osi_carrier.specs.declared.ends.EndReason.{EndReason}
-use Rattle.osi_machine.proofs.Places.{cut_there, cut_count}
 
 -- what is proved of two carriers
 pub record BreakLaws : Type 0 where

@@ -1,62 +1,21 @@
 -- A call of the user of an end is a call of the machine.
 use Rattle.std.proofs.Common.{◌≡◌, ◌≢◌, refl, sym, ◌∙◌, ap, subst, ℕ, zero, suc, ◌<◌, ◌≤◌, ◌==◌, Bool, true, false, nat_lt, if◌then◌else◌, List, [], ◌∷◌, ◌++◌, length, map, Option, Some, None, is_some, IsSome, IfSome, Ok, Err, arith}
-use Rattle.std.proofs.lemmas.Bool.{eqb-true, eq-eqb}
-use Rattle.std.proofs.lemmas.List.{append-nil}
-use Rattle.std.specs.List.{AllByRecursion, slice_get}
-use Rattle.osi_tpkt.specs.Octets.{IsOctets}
-use Rattle.osi_class.specs.Between.{IsShortTsdu}
 use Rattle.osi_class.specs.Link.{Standing as Link}
-use Rattle.osi_carrier.specs.Calls.{open_link, link_of, sent, sent_on, sent_all}
-use Rattle.osi_carrier.specs.Place.{Place, never, was_given, place_at}
-use Rattle.osi_carrier.specs.Orderly.{RiseFrom}
-use Rattle.osi_carrier.specs.Rows.{Rows, value_at, put}
-use Rattle.osi_carrier.specs.State.{Connection, asked, linked, closing, State as Carrier}
-use Rattle.osi_carrier.specs.declared.ends.EndReason.{EndReason}
-use Rattle.osi_carrier.proofs.Apart.{put_here}
-use Rattle.osi_carrier.proofs.AtReferences.{put_other}
-use Rattle.osi_between.specs.Between.{Both, Between, AreBetween, Acted, Carries, becomes, last_of}
+use Rattle.osi_carrier.specs.Rows.{put}
 use Rattle.osi_between.specs.Between as two
-use Rattle.osi_between.specs.Course.{progress_of}
 use Rattle.osi_between.specs.Messages as carrier
-use Rattle.osi_between.specs.Progress.{Progress, in_use, leaves_use}
-use Rattle.osi_between.specs.Terms.{Terms, terms_of}
-use Rattle.osi_machine.specs.AsTables.{IsTableRun, AreSoundLines}
-use Rattle.osi_machine.specs.Machine.{connection_at, with_connection, call_answered, is_given, replaced}
 use Rattle.osi_machine.specs.Machine as entries
-use Rattle.osi_machine.specs.Tables.{Seat, Line, Tables, seen_from, side_of, stays, made, after_call, call_in, step}
+use Rattle.osi_machine.specs.Tables.{after_call}
 use Rattle.osi_machine.specs.Tables as tables
-use Rattle.osi_machine.specs.Worlds.{Message, unit, replied}
 use Rattle.osi_machine.specs.Worlds as worlds
-use Rattle.osi_message.specs.InOctets.{IsInOctets}
-use Rattle.osi_message.specs.Meanings.{Meaning}
-use Rattle.osi_message.specs.Sendable.{IsSendable}
-use Rattle.osi_message.specs.Parting.{words_sent, tsdus_of}
-use Rattle.osi_session.specs.Allowed.{Step, Answer, allowed, octets_of, Passed}
-use Rattle.osi_session.specs.Calls.{Call, HasSerial}
-use Rattle.osi_session.specs.Listening.{Listener}
+use Rattle.osi_session.specs.Allowed.{Step}
 use Rattle.osi_session.specs.Listening as words
-use Rattle.osi_session.specs.Moves.{called, answered, react}
-use Rattle.osi_session.specs.Shown.{Shown}
-use Rattle.osi_session.specs.Sizes.{limit_of}
 use Rattle.osi_session.specs.Sound.{IsSound as IsSoundState}
-use Rattle.osi_session.specs.declared.faults.CallError.{CallError}
 use Rattle.osi_session.specs.declared.state.State.{State}
-use Rattle.osi_stack.specs.Calls.{call_error}
-use Rattle.osi_stack.specs.Folds.{AllCameAbout}
-use Rattle.osi_stack.specs.Links.{IsSound}
-use Rattle.osi_stack.specs.Messages.{puts, put_by, Says, kept_at}
-use Rattle.osi_stack.specs.Moving.{line_by as line_then, to_session}
-use Rattle.osi_stack.specs.State.{End, Holding, session_in, session_at, IsAttended}
+use Rattle.osi_stack.specs.Messages.{puts}
 use Rattle.osi_stack.specs.State as stack
-use Rattle.osi_stack.proofs.Handing.{puts_words}
-use Rattle.osi_pair.specs.Ends.{TwoEnds, end_at, with_end, noted, called_by_error}
 use Rattle.osi_pair.specs.Entries.{calls}
-use Rattle.osi_pair.specs.Sides.{other}
-use Rattle.osi_pair.specs.Standing.{side_in, is_caller, carriers_of, transport_in, is_parting, IsSeated, IsLine, HasLine, IsInOrder, Stands, HasJoined, joining, word_in}
-use Rattle.osi_pair.specs.Telling.{waiting_in}
-use Rattle.osi_pair.specs.Words.{Word}
-use Rattle.osi_pair.specs.declared.sides.Side.{Side}
-use Rattle.osi_pair.specs.declared.sides.Side.TheVariants.{Left, Right}
+use Rattle.osi_pair.proofs.Vocabulary.{eqb-true, eq-eqb, append-nil, AllByRecursion, slice_get, IsOctets, IsShortTsdu, open_link, link_of, sent, sent_on, sent_all, Place, never, was_given, place_at, RiseFrom, Rows, value_at, Connection, asked, linked, closing, State as Carrier, EndReason, put_here, put_other, Both, Between, AreBetween, Acted, Carries, becomes, last_of, progress_of, Progress, in_use, leaves_use, Terms, terms_of, IsTableRun, AreSoundLines, connection_at, with_connection, call_answered, is_given, replaced, Seat, Line, Tables, seen_from, side_of, stays, made, call_in, step, Message, unit, replied, IsInOctets, Meaning, IsSendable, words_sent, tsdus_of, Answer, allowed, octets_of, Passed, Call, HasSerial, Listener, called, answered, react, Shown, limit_of, CallError, call_error, AllCameAbout, IsSound, put_by, Says, kept_at, line_by as line_then, to_session, End, Holding, session_in, session_at, IsAttended, puts_words, TwoEnds, end_at, with_end, noted, called_by_error, other, side_in, is_caller, carriers_of, transport_in, is_parting, IsSeated, IsLine, HasLine, IsInOrder, Stands, HasJoined, joining, word_in, waiting_in, Word, Side, Left, Right, IsJoinedAs, called_calm}
 use Rattle.osi_pair.proofs.StandingActs.{out_way, back_way, place_given, OfEnd, of_end, NoneBeyond, more_said, StandsOn}
 use Rattle.osi_pair.proofs.StandingAnswer.{line_error, Answered}
 use Rattle.osi_pair.proofs.StandingListens.{calls_so, calls_keep}
@@ -64,8 +23,6 @@ use Rattle.osi_pair.proofs.StandingCut.{reach_same}
 use Rattle.osi_pair.proofs.StandingSeats.{live_session}
 use Rattle.osi_pair.proofs.WordLaws.{AreWords}
 use Rattle.osi_pair.proofs.WordsSent.{PartLaws, word_of, carried_words}
-use Rattle.osi_session.specs.Kept.{IsJoinedAs}
-use Rattle.osi_machine.proofs.CalmLaws.{called_calm}
 use Rattle.osi_pair.proofs.StandingTurned.{IsSeen, seen_twice, Others, still_there}
 
 -- what the crates below say

@@ -1,41 +1,16 @@
 -- Two ends stand after a call as the tables do after theirs.
 use Rattle.std.proofs.Common.{◌≡◌, refl, sym, ◌∙◌, ap, subst, ℕ, ◌≤◌, ◌==◌, ◌&&◌, Bool, true, false, not, nat_le, nat_lt, if◌then◌else◌, List, [], ◌∷◌, ◌++◌, length, Option, Some, None, Ok, option_map, IsSome, arith}
-use Rattle.std.proofs.lemmas.Bool.{leb-true}
-use Rattle.std.specs.List.{AllByRecursion}
-use Rattle.osi_tpkt.specs.Octets.{IsOctets}
-use Rattle.osi_class.specs.declared.terms.Local.{Local}
-use Rattle.osi_carrier.specs.State.{State as Carrier}
-use Rattle.osi_carrier.specs.declared.ends.EndReason.{EndReason}
-use Rattle.osi_between.specs.Between.{Between, AreBetween}
-use Rattle.osi_between.specs.Terms.{terms_of}
-use Rattle.osi_machine.specs.AsTables.{IsTableRun, IsSoundSeat, IsSoundLine}
-use Rattle.osi_machine.specs.Machine.{connection_at, with_connection, call_answered, is_given, Step}
 use Rattle.osi_machine.specs.Machine as entries
-use Rattle.osi_machine.specs.Tables.{Seat, Line, Tables, seen_from, side_of, after_call, call_in, step, run}
+use Rattle.osi_machine.specs.Tables.{after_call}
 use Rattle.osi_machine.specs.Tables as tables
-use Rattle.osi_machine.specs.Worlds.{unit}
-use Rattle.osi_message.specs.Sendable.{IsSendable}
-use Rattle.osi_message.specs.Parting.{tsdus_of}
-use Rattle.osi_session.specs.Allowed.{Step as Granted, allowed, octets_of, most_of, sends}
-use Rattle.osi_session.specs.Calls.{Call, Data, HasSerial}
-use Rattle.osi_session.specs.Listening.{Listener}
-use Rattle.osi_session.specs.Moves.{called, react}
-use Rattle.osi_session.specs.Sizes.{limit_of}
+use Rattle.osi_session.specs.Allowed.{Step as Granted}
 use Rattle.osi_session.specs.Sound.{IsSound as IsSoundState}
 use Rattle.osi_session.specs.declared.state.State.{State}
 use Rattle.osi_session.proofs.SentLaws.{limit_sized}
-use Rattle.osi_session.specs.declared.faults.CallError.{CallError}
 use Rattle.osi_session.specs.declared.faults.CallError.TheVariants as error
-use Rattle.osi_stack.specs.Calls.{has_given, session_refusal, call_error}
-use Rattle.osi_stack.specs.Messages.{kept_at}
-use Rattle.osi_stack.specs.State.{Holding, session_at, End}
-use Rattle.osi_pair.specs.Ends.{TwoEnds, end_at}
 use Rattle.osi_pair.specs.Ends as ends
 use Rattle.osi_pair.specs.Entries.{calls}
-use Rattle.osi_pair.specs.Standing.{side_in, terms_in, class_in, ending_in, carriers_of, Stands, StandsAt}
-use Rattle.osi_pair.specs.Words.{most_data}
-use Rattle.osi_pair.specs.declared.sides.Side.{Side}
-use Rattle.osi_pair.specs.declared.sides.Side.TheVariants.{Left, Right}
+use Rattle.osi_pair.proofs.Vocabulary.{leb-true, AllByRecursion, IsOctets, Local, State as Carrier, EndReason, Between, AreBetween, terms_of, IsTableRun, IsSoundSeat, IsSoundLine, connection_at, with_connection, call_answered, is_given, Step, Seat, Line, Tables, seen_from, side_of, call_in, step, run, unit, IsSendable, tsdus_of, allowed, octets_of, most_of, sends, Call, Data, HasSerial, Listener, called, react, limit_of, CallError, has_given, session_refusal, call_error, kept_at, Holding, session_at, End, TwoEnds, end_at, side_in, terms_in, class_in, ending_in, carriers_of, Stands, StandsAt, most_data, Side, Left, Right}
 use Rattle.osi_pair.proofs.StandingActs.{There, there, more_said, StandsOn, begun_with, one_step, of_end}
 use Rattle.osi_pair.proofs.StandingAnswer.{line_error, answer_same}
 use Rattle.osi_pair.proofs.StandingCall.{CallLaws, refused_stands, after_by, now_of, new_of, tables_now, Called, called_is, seat_session, sent_words, MayAct, acted_at, lasts_now, quiet_now, order_now, line_acts, others_left}

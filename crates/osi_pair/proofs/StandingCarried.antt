@@ -1,24 +1,7 @@
 -- Octets that are carried leave two ends where they stand: what arrives with them are deliveries, and perhaps an end
 -- for want of memory.
 use Rattle.std.proofs.Common.{◌≡◌, ℕ, ◌+◌, ◌-◌, ◌≤◌, Bool, List, [], ◌∷◌, ◌++◌, length, sum, min, Option, Some, None, refl, sym, ap, subst, ◌∙◌, arith}
-use Rattle.std.proofs.lemmas.List.{length-drop}
-use Rattle.std.proofs.lemmas.List.Sums.{sum_by-cons}
-use Rattle.osi_tpkt.specs.Packet.{IsFaultOf}
-use Rattle.osi_tpkt.specs.declared.faults.TpktFault.{TpktFault}
-use Rattle.osi_carrier.specs.declared.ends.EndReason.{EndReason}
-use Rattle.osi_between.specs.Between.{Both, Between, AreBetween, side}
-use Rattle.osi_between.specs.Terms.{Terms}
-use Rattle.osi_machine.specs.Machine.{Step}
-use Rattle.osi_stack.specs.Calls.{carried}
-use Rattle.osi_stack.specs.State.{Holding}
-use Rattle.osi_pair.specs.Carrying.{Crossing, CarriesPiece, CarriesPieces, CarriesFrom, crossing}
-use Rattle.osi_pair.specs.Ends.{TwoEnds, end_at, reachable}
-use Rattle.osi_pair.specs.Reaching.{within, reach_after}
-use Rattle.osi_pair.specs.Sides.{other}
-use Rattle.osi_pair.specs.Standing.{StandsAt, StandsAtArrivals}
-use Rattle.osi_pair.specs.declared.reach.Reach.{Reach}
-use Rattle.osi_pair.specs.declared.sides.Side.{Side}
-use Rattle.osi_pair.specs.declared.sides.Side.TheVariants.{Left, Right}
+use Rattle.osi_pair.proofs.Vocabulary.{length-drop, sum_by-cons, IsFaultOf, TpktFault, EndReason, Both, Between, AreBetween, side, Terms, Step, carried, Holding, Crossing, CarriesPiece, CarriesPieces, CarriesFrom, crossing, TwoEnds, end_at, reachable, within, reach_after, other, StandsAt, StandsAtArrivals, Reach, Side, Left, Right}
 use Rattle.osi_pair.proofs.StandingFew.{FewLaws, few_wait}
 use Rattle.osi_pair.proofs.StandingHanded.{CarriedLaw}
 use Rattle.osi_pair.proofs.StandingPackets.{PacketStands, taken_laws, none_less, alive_deliveries, join_arrivals, no_more}

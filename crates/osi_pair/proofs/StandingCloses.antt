@@ -2,30 +2,10 @@
 -- what was written.
 use Rattle.std.proofs.Common.{◌≡◌, ℕ, Bool, true, false, List, [], ◌∷◌, take, Option, Some, None, is_some, refl, sym, subst, arith, ap, ◌∙◌}
 use Rattle.osi_class.specs.Link.{Standing as Link}
-use Rattle.osi_class.specs.declared.terms.Class.{Class}
-use Rattle.osi_class.specs.declared.terms.Class.TheVariants.{Zero, Two}
-use Rattle.osi_carrier.specs.Calls.{closes, closed_on, closed_with}
-use Rattle.osi_carrier.specs.Place.{place_at}
-use Rattle.osi_carrier.specs.Rows.{value_at}
-use Rattle.osi_carrier.specs.State.{State, linked, closing}
-use Rattle.osi_between.specs.Between.{Between, AreBetween, Acted, last_of, under_way, put_in, is_cut}
-use Rattle.osi_between.specs.Course.{progress_of}
 use Rattle.osi_between.specs.Messages as carrier
-use Rattle.osi_between.specs.Progress.{in_use, shutting}
-use Rattle.osi_between.specs.Terms.{Terms, by_two}
-use Rattle.osi_machine.specs.Machine.{connection_at}
-use Rattle.osi_machine.specs.Tables.{Line, Tables, seen_from, stays, closed}
-use Rattle.osi_machine.specs.Worlds.{Message, bye, put}
-use Rattle.osi_session.specs.Phases.{is_ended}
-use Rattle.osi_session.specs.Moves.{Standing}
-use Rattle.osi_stack.specs.Hearing.{with_carrier}
-use Rattle.osi_stack.specs.State.{Holding, Line as StackLine}
-use Rattle.osi_carrier.specs.Rows.{Rows}
-use Rattle.osi_pair.specs.Ends.{TwoEnds, end_at}
-use Rattle.osi_pair.specs.Sides.{other}
-use Rattle.osi_pair.specs.Standing.{side_in, is_caller, carriers_of, IsInOrder, Stands, HasJoined}
-use Rattle.osi_pair.specs.declared.sides.Side.{Side}
-use Rattle.osi_pair.specs.declared.sides.Side.TheVariants.{Left, Right}
+use Rattle.osi_machine.specs.Tables.{closed}
+use Rattle.osi_stack.specs.State.{Line as StackLine}
+use Rattle.osi_pair.proofs.Vocabulary.{Class, Zero, Two, closes, closed_on, closed_with, place_at, value_at, State, linked, closing, Between, AreBetween, Acted, last_of, under_way, put_in, is_cut, progress_of, in_use, shutting, Terms, by_two, connection_at, Line, Tables, seen_from, stays, Message, bye, put, is_ended, Standing, with_carrier, Holding, Rows, TwoEnds, end_at, other, side_in, is_caller, carriers_of, IsInOrder, Stands, HasJoined, Side, Left, Right}
 use Rattle.osi_pair.proofs.StandingActed.{ActsOn, CarrierActs, end_with, pair_with, ways_at, acted_stands, seen_at, session_in_use, OutNow, acted_by}
 use Rattle.osi_pair.proofs.StandingActs.{StandsOn}
 use Rattle.osi_pair.proofs.StandingArrived.{CarrierLaws}

@@ -1,59 +1,18 @@
 -- Who asks for a connection asks the machine.
 use Rattle.std.proofs.Common.{◌≡◌, ◌≢◌, refl, sym, ◌∙◌, ap, subst, ℕ, suc, ◌+◌, ◌<◌, ◌≤◌, ◌==◌, Bool, true, false, not, if◌then◌else◌, List, [], ◌∷◌, ◌++◌, length, length-append, map, Option, Some, None, option_map, is_some, IsSome, Ok, Err, arith, inl, nat_le}
-use Rattle.std.proofs.lemmas.Bool.{eqb-true, eq-eqb, leb-true, leb-false}
-use Rattle.std.proofs.lemmas.Bool.Decides.{nat_tests}
-use Rattle.osi_tpdu.specs.Limits.{tsap_octets}
-use Rattle.osi_carrier.specs.Calls.{may_connect, asks}
-use Rattle.osi_carrier.specs.Place.{was_given, place_at}
-use Rattle.osi_carrier.specs.Orderly.{RiseFrom}
-use Rattle.osi_carrier.specs.Rows.{Rows, value_at}
-use Rattle.osi_carrier.specs.State.{Connection, asked, State as Carrier}
-use Rattle.osi_carrier.specs.declared.ends.EndReason.{EndReason}
-use Rattle.osi_carrier.specs.declared.faults.OpenError.{OpenError}
-use Rattle.osi_carrier.proofs.Apart.{push_here, absent, beyond}
-use Rattle.osi_carrier.proofs.AtReferences.{push_other}
-use Rattle.osi_carrier.proofs.Effects.{free_of}
-use Rattle.osi_between.specs.Between.{Both, Between, AreBetween, Acted, becomes, under_way, is_cut}
-use Rattle.osi_between.specs.Course.{progress_of, IsTsap}
+use Rattle.osi_carrier.specs.Calls.{asks}
 use Rattle.osi_between.specs.Messages as carrier
-use Rattle.osi_between.specs.Progress.{Progress, not_yet, awaiting, leaves_use}
-use Rattle.osi_between.specs.Terms.{Terms, terms_of}
-use Rattle.osi_machine.specs.Core.{Offer}
-use Rattle.osi_machine.specs.Machine.{Step, connects as connecting, connection_at, connect_answered, Refusal}
-use Rattle.osi_machine.specs.Tables.{Line, Tables, asked_with, refusal, asked_in, calling, step, run}
 use Rattle.osi_machine.specs.Tables as tables
-use Rattle.osi_machine.specs.Worlds.{ask}
-use Rattle.osi_session.specs.Listening.{Listener}
-use Rattle.osi_session.specs.Shown.{Shown}
-use Rattle.osi_session.specs.Units.{is_profile}
-use Rattle.osi_spdu.specs.Fields.{unit_bits}
-use Rattle.osi_spdu.specs.Sizes.{named_by}
-use Rattle.osi_stack.specs.Calls.{is_long, terms_error, after_open, connect_error, calls_with, connects}
-use Rattle.osi_stack.specs.Folds.{AllCameAbout}
-use Rattle.osi_stack.specs.Links.{Soundness, IsSound}
-use Rattle.osi_stack.specs.Messages.{kept_at}
-use Rattle.osi_stack.specs.State.{End, Holding, session_in, is_used, used_lines, IsAttended, fresh_line}
+use Rattle.osi_stack.specs.Calls.{connects}
 use Rattle.osi_stack.specs.State as stack
 use Rattle.osi_stack.specs.declared.connecting.Connect.{Connect}
-use Rattle.osi_stack.specs.declared.connecting.ConnectError.{ConnectError}
-use Rattle.osi_stack.specs.declared.connecting.ConnectError.TheVariants.{NotSelected, TooLong}
-use Rattle.osi_stack.proofs.Linking.{used_by}
-use Rattle.osi_stack.proofs.Moves.{used_live}
-use Rattle.osi_stack.proofs.Rising.{rise_push}
-use Rattle.osi_pair.specs.Asked.{asked_of, CanBeAsked}
-use Rattle.osi_pair.specs.Ends.{TwoEnds, noted, connected_by, answer_with, after_connect}
-use Rattle.osi_pair.specs.Entries.{asks as asked_entry}
-use Rattle.osi_pair.specs.Standing.{carriers_of, transport_in, offer_in, answer_in, refusal_in, IsSeated, IsLine, HasLine, IsInOrder, Stands, StandsAt, HasJoined}
-use Rattle.osi_pair.specs.Words.{whole}
+use Rattle.osi_pair.proofs.Vocabulary.{eqb-true, eq-eqb, leb-true, leb-false, nat_tests, tsap_octets, may_connect, was_given, place_at, RiseFrom, Rows, value_at, Connection, asked, State as Carrier, EndReason, OpenError, push_here, absent, beyond, push_other, free_of, Both, Between, AreBetween, Acted, becomes, under_way, is_cut, progress_of, IsTsap, Progress, not_yet, awaiting, leaves_use, Terms, terms_of, Offer, Step, connects as connecting, connection_at, connect_answered, Refusal, Line, Tables, asked_with, refusal, asked_in, calling, step, run, ask, Listener, Shown, is_profile, unit_bits, named_by, is_long, terms_error, after_open, connect_error, calls_with, AllCameAbout, Soundness, IsSound, kept_at, End, Holding, session_in, is_used, used_lines, IsAttended, fresh_line, ConnectError, NotSelected, TooLong, used_by, used_live, rise_push, asked_of, CanBeAsked, TwoEnds, noted, connected_by, answer_with, after_connect, asks as asked_entry, carriers_of, transport_in, offer_in, answer_in, refusal_in, IsSeated, IsLine, HasLine, IsInOrder, Stands, StandsAt, HasJoined, whole, waiting_in, Left, none_of}
 use Rattle.osi_pair.proofs.WordLaws.{wholes}
-use Rattle.osi_pair.specs.Telling.{waiting_in}
-use Rattle.osi_pair.specs.declared.sides.Side.TheVariants.{Left}
 use Rattle.osi_pair.proofs.StandingActs.{out_way, place_given, place_ahead, more_said, StandsOn, begun_with, one_step}
 use Rattle.osi_pair.proofs.StandingCall.{session_now_is}
 use Rattle.osi_pair.proofs.StandingOctets.{profile_small, asker_small, answerer_small}
 use Rattle.osi_pair.proofs.StandingRefusal.{Awaits, refusal_same}
 use Rattle.osi_pair.proofs.StandingWays.{none_under_way, same_alike, alike_trans, like_alike}
-use Rattle.osi_stack.proofs.Pieces.{none_of}
 use Rattle.osi_pair.proofs.StandingTurned.{seen, unseen, Others, other_seen}
 
 -- what the crates below say

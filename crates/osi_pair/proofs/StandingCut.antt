@@ -1,15 +1,6 @@
 -- Where something of what is under way was cut off.
 use Rattle.std.proofs.Common.{◌≡◌, refl, sym, ap, ◌∙◌, ℕ, zero, suc, ◌<◌, ◌≤◌, nat_le, ◌⊎◌, inl, inr, Bool, true, false, ◌||◌, Option, Some, None, option_map, is_some, arith}
-use Rattle.std.proofs.lemmas.Bool.{leb-true, leb-false}
-use Rattle.osi_between.specs.Between.{is_cut}
-use Rattle.osi_stack.specs.State.{Holding}
-use Rattle.osi_pair.specs.Ends.{TwoEnds, end_at, with_end}
-use Rattle.osi_pair.specs.Sides.{other}
-use Rattle.osi_pair.specs.Standing.{is_caller, carriers_of}
-use Rattle.osi_pair.specs.declared.reach.Reach.{Reach}
-use Rattle.osi_pair.specs.declared.sides.Side.{Side}
-use Rattle.osi_pair.specs.declared.sides.Side.TheVariants.{Left, Right}
-use Rattle.osi_stack.proofs.Lifting.{or_first}
+use Rattle.osi_pair.proofs.Vocabulary.{leb-true, leb-false, is_cut, Holding, TwoEnds, end_at, with_end, other, is_caller, carriers_of, Reach, Side, Left, Right, or_first}
 
 -- by what reaches, and by the end that sends
 cut_by : (s : Side) (p : TwoEnds) → is_cut (is_caller s) (carriers_of p) ≡ (is_some p.reach || is_some (end_at s p).end.carrier.ended)

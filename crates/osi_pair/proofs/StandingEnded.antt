@@ -1,36 +1,12 @@
 -- An end that comes is an end of the machine, whatever its reason.
 use Rattle.std.proofs.Common.{◌≡◌, refl, sym, ◌∙◌, ap, subst, ℕ, ◌<◌, ◌≤◌, Bool, true, false, not, List, [], ◌∷◌, ◌++◌, length, map, nat_lt, Some, None, option_map, inl, arith, inr}
-use Rattle.std.specs.Prelude.{IfSome}
-use Rattle.std.proofs.lemmas.List.{append-nil}
-use Rattle.osi_tpkt.specs.Held.{Held}
-use Rattle.osi_carrier.specs.Place.{place_at, connection_in}
-use Rattle.osi_carrier.specs.Rows.{Rows}
-use Rattle.osi_carrier.specs.State.{State}
 use Rattle.osi_carrier.specs.State as carriers
-use Rattle.osi_between.specs.Between.{Between, Both, AreBetween, IsOnTheWay, under_way, side, last_of, units_from, lost_from, arriving, reach_of, is_cut}
-use Rattle.osi_between.specs.Course.{progress_of}
-use Rattle.osi_between.specs.Terms.{Terms, terms_of}
-use Rattle.osi_class.specs.declared.terms.Local.{Local}
-use Rattle.osi_carrier.specs.declared.ends.EndReason.{EndReason}
 use Rattle.osi_machine.specs.Core as machine
-use Rattle.osi_machine.specs.Machine.{Ending, connection_at, is_given}
 use Rattle.osi_machine.specs.Machine as entries
-use Rattle.osi_machine.specs.Tables.{Seat, Line, Tables, turned, seen_from, shown_in_order, after_end}
-use Rattle.osi_machine.specs.Worlds.{Message}
-use Rattle.osi_session.specs.Shown.{Shown}
-use Rattle.osi_stack.specs.Hearing.{all_lost}
 use Rattle.osi_stack.specs.Hearing as hearing
-use Rattle.osi_stack.specs.Messages.{kept_at}
-use Rattle.osi_stack.specs.State.{End, Holding}
 use Rattle.osi_stack.specs.State as stack
-use Rattle.osi_stack.proofs.Lifting.{both}
-use Rattle.osi_pair.specs.Ends.{TwoEnds, end_at}
-use Rattle.osi_pair.specs.Entries.{Entry, ends}
-use Rattle.osi_pair.specs.Sides.{other}
-use Rattle.osi_pair.specs.Standing.{side_in, ending_in, terms_in, class_in, entry_in, carriers_of, IsSeated, IsUnderWay, IsLine, Stands, AreUnderWay, HasJoined, HasLine}
-use Rattle.osi_pair.specs.Telling.{waiting_in, quieted, shown_entries}
-use Rattle.osi_pair.specs.declared.sides.Side.{Side}
-use Rattle.osi_pair.specs.declared.sides.Side.TheVariants.{Left, Right}
+use Rattle.osi_pair.specs.Entries.{ends}
+use Rattle.osi_pair.proofs.Vocabulary.{IfSome, append-nil, Held, place_at, connection_in, Rows, State, Between, Both, AreBetween, IsOnTheWay, under_way, side, last_of, units_from, lost_from, arriving, reach_of, is_cut, progress_of, Terms, terms_of, Local, EndReason, Ending, connection_at, is_given, Seat, Line, Tables, turned, seen_from, shown_in_order, after_end, Message, Shown, all_lost, kept_at, End, Holding, both, TwoEnds, end_at, Entry, other, side_in, ending_in, terms_in, class_in, entry_in, carriers_of, IsSeated, IsUnderWay, IsLine, Stands, AreUnderWay, HasJoined, HasLine, waiting_in, quieted, shown_entries, Side, Left, Right}
 use Rattle.osi_pair.proofs.StandingLost.{none_kept, IsTold, AllSeated, SaysAll, says_all, journal_on}
 use Rattle.osi_pair.proofs.StandingQuiet.{quiet_waits}
 use Rattle.osi_pair.proofs.StandingFinish.{terms_at}

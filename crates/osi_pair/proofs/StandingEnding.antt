@@ -1,35 +1,14 @@
 -- What becomes of a connection whose end comes: its seat, its line, and what is under way from it.
 use Rattle.std.proofs.Common.{◌≡◌, refl, sym, ◌∙◌, ap, subst, ℕ, zero, suc, ◌+◌, ◌≤◌, Bool, true, false, if◌then◌else◌, ◌||◌, not, List, [], ◌∷◌, ◌++◌, length, map, take, nat_lt, Option, Some, None, is_some, arith}
-use Rattle.std.specs.List.{slice_get}
-use Rattle.std.specs.Prelude.{IfSome}
-use Rattle.std.proofs.lemmas.List.{append-nil}
-use Rattle.osi_tpdu.specs.Value.{Value}
-use Rattle.osi_carrier.specs.Place.{Place, never, was_given, place_at, connection_in}
-use Rattle.osi_carrier.specs.Rows.{Rows, value_at}
-use Rattle.osi_carrier.specs.State.{Connection, asked, linked, closing, State}
-use Rattle.osi_between.specs.Addresses.{units_of}
-use Rattle.osi_between.specs.Between.{Between, Both, is_cut, to_come, under_way, side, last_of, units_from}
-use Rattle.osi_between.specs.Messages.{kind_of, messages_after, begun_at}
 use Rattle.osi_between.specs.Messages as between
-use Rattle.osi_between.specs.Progress.{Progress}
 use Rattle.osi_between.proofs.MessageLaws.{messages_front}
 use Rattle.osi_machine.specs.Core as machine
-use Rattle.osi_machine.specs.Machine.{connection_at, is_given}
-use Rattle.osi_machine.specs.Tables.{Seat, Line, awaits, seen_from, ends_there, ended_lines}
-use Rattle.osi_machine.specs.Worlds.{Message, Transport, not_yet, waiting, gone}
+use Rattle.osi_machine.specs.Worlds.{not_yet, gone}
 use Rattle.osi_machine.specs.Worlds as worlds
-use Rattle.osi_message.specs.InOctets.{IsInOctets}
-use Rattle.osi_message.specs.Meanings.{Meaning}
-use Rattle.osi_session.specs.Listening.{Listener}
-use Rattle.osi_session.specs.Moves.{Standing, broken as broken_off, react}
 use Rattle.osi_session.specs.declared.state.State.{State as Session}
-use Rattle.osi_stack.specs.Messages.{kept_at}
-use Rattle.osi_stack.specs.State.{Holding}
-use Rattle.osi_stack.proofs.Lifting.{both}
-use Rattle.osi_pair.specs.Standing.{AreAlike, is_parting, transport_in, IsSeated, AreUnderWay, word_in}
+use Rattle.osi_pair.proofs.Vocabulary.{slice_get, IfSome, append-nil, Value, Place, never, was_given, place_at, connection_in, Rows, value_at, Connection, asked, linked, closing, State, units_of, Between, Both, is_cut, to_come, under_way, side, last_of, units_from, kind_of, messages_after, begun_at, Progress, connection_at, is_given, Seat, Line, awaits, seen_from, ends_there, ended_lines, Message, Transport, waiting, IsInOctets, Meaning, Listener, Standing, broken as broken_off, react, kept_at, Holding, both, AreAlike, is_parting, transport_in, IsSeated, AreUnderWay, word_in, EndReason}
 use Rattle.osi_pair.proofs.StandingWays.{Takes, front_takes, as_now, map_take, alike_take}
 use Rattle.osi_pair.proofs.StandingWays as ways
-use Rattle.osi_carrier.specs.declared.ends.EndReason.{EndReason}
 use Rattle.osi_pair.proofs.StandingLost.{is_over}
 
 -- ---- a side that has ended

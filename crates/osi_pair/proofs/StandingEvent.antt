@@ -1,29 +1,14 @@
 -- What an event is to two ends that stand.
 use Rattle.std.proofs.Common.{◌≡◌, refl, sym, subst, ℕ, zero, suc, ◌<◌, ◌≤◌, ◌&&◌, Bool, true, false, List, [], ◌∷◌, ◌++◌, length, take, Option, Some, None, is_some, arith}
-use Rattle.osi_spdu.specs.Sizes.{named_by, are_sizes}
 use Rattle.osi_spdu.specs.declared.sizes.TsduSizes.{TsduSizes}
-use Rattle.osi_tpkt.specs.Octets.{IsOctets}
-use Rattle.osi_tpdu.specs.Limits.{tsap_octets}
 use Rattle.osi_tpdu.specs.declared.tsaps.Tsap.{Tsap}
-use Rattle.osi_machine.specs.Machine.{Step, connects, calls}
-use Rattle.osi_session.specs.Allowed.{octets_of}
-use Rattle.osi_session.specs.Calls.{Call as Asked, HasSerial, called_by}
 use Rattle.osi_session.specs.Calls as call
 use Rattle.osi_session.specs.declared.requests.Request.{Request}
 use Rattle.osi_session.specs.declared.requests.Request.TheVariants as request
 use Rattle.osi_stack.specs.declared.connecting.Connect.{Connect as Wanted}
-use Rattle.osi_pair.specs.Advancing.{CanHappen, StandsAfter}
-use Rattle.osi_pair.specs.Asked.{asked_of, CanBeAsked}
 use Rattle.osi_pair.specs.Asked as here
-use Rattle.osi_pair.specs.Carrying.{CarriesFrom}
-use Rattle.osi_pair.specs.Ends.{TwoEnds, end_at, after_connect, after_call, after_break}
-use Rattle.osi_pair.specs.Events.{TellsBreak, misfit, misfit_break, misfit_told, Does}
-use Rattle.osi_pair.specs.Sides.{other}
-use Rattle.osi_pair.specs.Standing.{side_in, offer_in, StandsAt, StandsAtArrivals, StandsAtBreak, StandsAtTold}
-use Rattle.osi_pair.specs.declared.events.Event.{Event}
-use Rattle.osi_pair.specs.declared.events.Event.TheVariants.{Connect, Call, Carry, Break, Told}
-use Rattle.osi_pair.specs.declared.reach.Reach.{Reach}
-use Rattle.osi_pair.specs.declared.sides.Side.{Side}
+use Rattle.osi_pair.specs.declared.events.Event.TheVariants.{Call}
+use Rattle.osi_pair.proofs.Vocabulary.{named_by, are_sizes, IsOctets, tsap_octets, Step, connects, calls, octets_of, Call as Asked, HasSerial, called_by, CanHappen, StandsAfter, asked_of, CanBeAsked, CarriesFrom, TwoEnds, end_at, after_connect, after_call, after_break, TellsBreak, misfit, misfit_break, misfit_told, Does, other, side_in, offer_in, StandsAt, StandsAtArrivals, StandsAtBreak, StandsAtTold, Event, Connect, Carry, Break, Told, Reach, Side}
 
 -- ---- what is asked for
 

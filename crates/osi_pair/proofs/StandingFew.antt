@@ -1,56 +1,25 @@
 -- Of what comes of one packet no more than 81 indications wait: 17 of one TSDU, and a loss for each of 64 connections.
 use Rattle.std.proofs.Common.{◌≡◌, ◌≢◌, ℕ, zero, suc, ◌+◌, ◌≤◌, ◌==◌, ◌⊎◌, inl, inr, Bool, true, false, if◌then◌else◌, List, [], ◌∷◌, ◌++◌, length, map, nat_lt, Option, Some, None, is_some, IsSome, Result, Ok, Err, refl, sym, ap, subst, ◌∙◌, arith}
-use Rattle.std.proofs.lemmas.Bool.{eqb-true, eq-eqb}
-use Rattle.std.proofs.lemmas.List.{length-append, length-map}
-use Rattle.osi_tpkt.specs.Held.{Held}
-use Rattle.osi_tpkt.specs.Packet.{IsPacket}
-use Rattle.osi_tpdu.specs.Value.{Value}
-use Rattle.osi_carrier.specs.Place.{never, was_given, place_at}
-use Rattle.osi_carrier.specs.Happenings.{Happening, opened, refused, tsdu, closed}
-use Rattle.osi_carrier.specs.Orderly.{RiseFrom}
+use Rattle.osi_carrier.specs.Happenings.{opened, refused}
 use Rattle.osi_carrier.specs.Packets as carriers
 use Rattle.osi_carrier.specs.React.{react as carrier_react}
-use Rattle.osi_carrier.specs.Rows.{Rows, value_at, put}
-use Rattle.osi_carrier.specs.State.{Connection, asked, linked, closing, State as Carrier}
+use Rattle.osi_carrier.specs.Rows.{put}
 use Rattle.osi_carrier.specs.State as states
-use Rattle.osi_carrier.specs.declared.ends.EndReason.TheVariants.{NoMemory}
-use Rattle.osi_carrier.proofs.AtReferences.{put_other, put_rise}
-use Rattle.osi_between.specs.Addresses.{reference_of}
-use Rattle.osi_between.specs.Between.{Both, Between, AreBetween, side}
-use Rattle.osi_between.specs.Course.{progress_of}
-use Rattle.osi_between.specs.Progress.{Progress, awaiting, in_use, shutting}
-use Rattle.osi_between.specs.Terms.{Terms}
-use Rattle.osi_machine.specs.Tables.{Tables}
-use Rattle.osi_message.specs.Reading.{word, said_at, said_if_read}
-use Rattle.osi_message.specs.Words.{Words}
-use Rattle.osi_session.specs.Listening.{Input, Listener, Move, begun, denied, rests, taker_of, came, came_as, react}
+use Rattle.osi_session.specs.Listening.{Input, Move, begun, denied, rests, react}
 use Rattle.osi_session.specs.Listening as inputs
-use Rattle.osi_session.specs.Phases.{shows_loss, is_wait_transport, is_wait_cn, is_over}
-use Rattle.osi_session.specs.Respond.{nothing, bad, respond_fault}
 use Rattle.osi_session.specs.declared.faults.UnitFault.{UnitFault}
 use Rattle.osi_session.specs.declared.faults.UnitFault.TheVariants.{Spelling}
 use Rattle.osi_session.specs.declared.state.State.{State}
 use Rattle.osi_session.specs.Sessions.{awaits}
-use Rattle.osi_session.specs.Shown.{Shown, BadUnit}
 use Rattle.osi_session.proofs.ShownLaws.{words_show}
-use Rattle.osi_spdu.specs.Known.{Contents, Units}
 use Rattle.osi_spdu.specs.Reading.{◌>>=◌, Next, Placed, next_at, unit_at, behind_at, ended, continued, contents_of, tsdu_at}
 use Rattle.osi_spdu.specs.Kinds.{category_of}
 use Rattle.osi_spdu.specs.declared.kinds.Category.{Category}
 use Rattle.osi_spdu.specs.declared.kinds.Category.TheVariants.{Zero, One, Two}
 use Rattle.osi_spdu.specs.declared.faults.SpduFault.{SpduFault}
-use Rattle.osi_stack.specs.Hearing.{after_packet, attends, concludes, hears, hears_all, hears_first, hears_next, hears_times, all_lost, opens, starves, with_carrier, with_events, shown_at_loss, RunsOut, Starves}
-use Rattle.osi_stack.specs.Messages.{kept_at, told_all}
-use Rattle.osi_stack.specs.Moving.{noted, line_by, to_session, by_line}
-use Rattle.osi_stack.specs.Needs.{needs_memory}
-use Rattle.osi_stack.specs.State.{Line, End, joins, session_in}
-use Rattle.osi_stack.proofs.Events.{all_quiet, never_starved}
-use Rattle.osi_stack.proofs.Keeping.{hears_keep}
-use Rattle.osi_pair.specs.Ends.{TwoEnds, end_at}
-use Rattle.osi_pair.specs.Standing.{is_caller, carriers_of, Stands}
-use Rattle.osi_pair.specs.Telling.{waiting_in}
-use Rattle.osi_pair.specs.declared.sides.Side.{Side}
-use Rattle.osi_pair.specs.declared.sides.Side.TheVariants.{Left, Right}
+use Rattle.osi_stack.specs.Moving.{noted}
+use Rattle.osi_stack.specs.State.{Line, joins}
+use Rattle.osi_pair.proofs.Vocabulary.{eqb-true, eq-eqb, length-append, length-map, Held, IsPacket, Value, never, was_given, place_at, Happening, tsdu, closed, RiseFrom, Rows, value_at, Connection, asked, linked, closing, State as Carrier, NoMemory, put_other, put_rise, reference_of, Both, Between, AreBetween, side, progress_of, Progress, awaiting, in_use, shutting, Terms, Tables, word, said_at, said_if_read, Words, Listener, taker_of, came, came_as, shows_loss, is_wait_transport, is_wait_cn, is_over, nothing, bad, respond_fault, Shown, BadUnit, Contents, Units, after_packet, attends, concludes, hears, hears_all, hears_first, hears_next, hears_times, all_lost, opens, starves, with_carrier, with_events, shown_at_loss, RunsOut, Starves, kept_at, told_all, line_by, to_session, by_line, needs_memory, End, session_in, all_quiet, never_starved, hears_keep, TwoEnds, end_at, is_caller, carriers_of, Stands, waiting_in, Side, Left, Right}
 use Rattle.osi_pair.proofs.StandingArrived.{PacketActs}
 use Rattle.osi_pair.proofs.StandingBegins.{begun_waits}
 use Rattle.osi_pair.proofs.StandingFinish.{terms_at, order_of, was_at}

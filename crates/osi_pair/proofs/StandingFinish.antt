@@ -1,31 +1,8 @@
 -- An end took a unit of a connection: what is left to say of its carrier, where its session is known.
 use Rattle.std.proofs.Common.{◌≡◌, ◌≢◌, ℕ, ◌<◌, ◌≤◌, Bool, true, false, nat_lt, if◌then◌else◌, List, [], ◌++◌, map, Option, Some, None, is_some, option_map, refl, sym, ap, subst, ◌∙◌, arith, length}
-use Rattle.std.proofs.lemmas.Bool.Decides.{nat_tests}
-use Rattle.osi_tpkt.specs.Held.{Held}
-use Rattle.osi_class.specs.declared.terms.Class.{Class}
-use Rattle.osi_carrier.specs.Place.{Place, never, was_given, place_at}
-use Rattle.osi_carrier.specs.Rows.{value_at}
-use Rattle.osi_carrier.specs.State.{Connection, State, asked, linked, closing}
-use Rattle.osi_between.specs.Between.{Between, last_of}
-use Rattle.osi_between.specs.Course.{progress_of}
 use Rattle.osi_between.specs.Messages.{bye, over}
 use Rattle.osi_between.specs.Messages as carrier
-use Rattle.osi_between.specs.Progress.{Progress, not_yet, references_for, class_behind_all}
-use Rattle.osi_between.specs.Terms.{Terms, by_two, by_zero, refusing, accepts_in, class_of, terms_of}
-use Rattle.osi_machine.specs.Machine.{shown_at}
-use Rattle.osi_machine.specs.Tables.{Line, Tables}
-use Rattle.osi_machine.specs.Worlds.{Message}
-use Rattle.osi_session.specs.Listening.{Listener}
-use Rattle.osi_session.specs.Moves.{Standing}
-use Rattle.osi_session.specs.Shown.{Shown}
-use Rattle.osi_stack.specs.Messages.{kept_at}
-use Rattle.osi_stack.specs.State.{End, Holding}
-use Rattle.osi_pair.specs.Ends.{TwoEnds, end_at}
-use Rattle.osi_pair.specs.Sides.{other}
-use Rattle.osi_pair.specs.Standing.{side_in, is_caller, class_in, carriers_of, Goes, IsSeated, IsInOrder, Stands}
-use Rattle.osi_pair.specs.Telling.{waiting_in}
-use Rattle.osi_pair.specs.declared.sides.Side.{Side}
-use Rattle.osi_pair.specs.declared.sides.Side.TheVariants.{Left, Right}
+use Rattle.osi_pair.proofs.Vocabulary.{nat_tests, Held, Class, Place, never, was_given, place_at, value_at, Connection, State, asked, linked, closing, Between, last_of, progress_of, Progress, not_yet, references_for, class_behind_all, Terms, by_two, by_zero, refusing, accepts_in, class_of, terms_of, shown_at, Line, Tables, Message, Listener, Standing, Shown, kept_at, End, Holding, TwoEnds, end_at, other, side_in, is_caller, class_in, carriers_of, Goes, IsSeated, IsInOrder, Stands, waiting_in, Side, Left, Right}
 use Rattle.osi_pair.proofs.StandingArrived.{UnitActs}
 use Rattle.osi_pair.proofs.StandingRows.{Row, quiet, still, begins, refuses, agrees, denies, tells, leaves, ignores, ends, before, after, arrived_in, put_for, is_row}
 use Rattle.osi_pair.proofs.StandingSeats.{transport_by, value_same, HasSession, seat_of_session}

@@ -1,24 +1,8 @@
 -- Octets of a side are handed over to the other: no step of the machine.
 use Rattle.std.proofs.Common.{◌≡◌, ℕ, ◌≤◌, Bool, true, false, not, List, ◌++◌, length, take, Option, Some, None, is_some, option_map, IfSome, refl, sym, ap, subst, ◌∙◌, arith, ◌||◌, ◌<◌}
-use Rattle.std.proofs.lemmas.List.{length-take}
-use Rattle.osi_tpkt.specs.Held.{Held}
-use Rattle.osi_between.specs.Between.{Between, Both, AreBetween, IsOnTheWay, Same, side, with_side, last_of, units_from, lost_from, arriving, reach_of, within_reach, reach_less, under_way, handed_over, is_cut}
-use Rattle.osi_between.specs.Course.{progress_of}
-use Rattle.osi_between.specs.Terms.{Terms}
-use Rattle.osi_machine.specs.Machine.{Step}
-use Rattle.osi_machine.specs.Tables.{Seat, Tables, run, start}
-use Rattle.osi_stack.specs.Calls.{carried}
-use Rattle.osi_stack.specs.State.{End, Holding}
-use Rattle.osi_pair.specs.Ends.{TwoEnds, end_at, with_end, reachable}
-use Rattle.osi_pair.specs.Reaching.{within, reach_after}
-use Rattle.osi_pair.specs.Sides.{other}
-use Rattle.osi_pair.specs.Standing.{is_caller, carriers_of, IsSeated, IsInOrder, terms_in, Stands, StandsAt, HasJoined, HasLine}
-use Rattle.osi_pair.specs.declared.reach.Reach.{Reach}
-use Rattle.osi_pair.specs.declared.sides.Side.{Side}
-use Rattle.osi_pair.specs.declared.sides.Side.TheVariants.{Left, Right}
+use Rattle.osi_pair.proofs.Vocabulary.{length-take, Held, Between, Both, AreBetween, IsOnTheWay, Same, side, with_side, last_of, units_from, lost_from, arriving, reach_of, within_reach, reach_less, under_way, handed_over, is_cut, progress_of, Terms, Step, Seat, Tables, run, start, carried, End, Holding, TwoEnds, end_at, with_end, reachable, within, reach_after, other, is_caller, carriers_of, IsSeated, IsInOrder, terms_in, Stands, StandsAt, HasJoined, HasLine, Reach, Side, Left, Right, EndReason}
 use Rattle.osi_pair.proofs.StandingFinish.{terms_at}
 use Rattle.osi_pair.proofs.StandingWays.{way_same}
-use Rattle.osi_carrier.specs.declared.ends.EndReason.{EndReason}
 
 -- ---- what an end holds
 

@@ -1,28 +1,11 @@
 -- A packet is taken at an end: what its carrier told is heard.
 use Rattle.std.proofs.Common.{◌≡◌, ◌≢◌, ℕ, Bool, true, false, if◌then◌else◌, List, [], ◌∷◌, length, Some, None, is_some, IfSome, refl, sym, ap, ◌∙◌, arith}
-use Rattle.osi_tpdu.specs.Value.{Value}
-use Rattle.osi_carrier.specs.Happenings.{Happening}
 use Rattle.osi_carrier.specs.Packets as carriers
 use Rattle.osi_carrier.specs.React.{react as carrier_react}
-use Rattle.osi_carrier.specs.Rows.{Rows, value_at, put}
-use Rattle.osi_carrier.specs.State.{State as Carrier}
-use Rattle.osi_between.specs.Progress.{Progress}
-use Rattle.osi_message.specs.InOctets.{IsInOctets}
-use Rattle.osi_session.specs.Moves.{Input, Standing, react}
-use Rattle.osi_session.specs.Phases.{is_ended}
-use Rattle.osi_session.specs.Whole.{listening}
-use Rattle.osi_machine.specs.Tables.{awaits}
+use Rattle.osi_carrier.specs.Rows.{put}
 use Rattle.osi_machine.specs.Worlds as worlds
-use Rattle.osi_stack.specs.Coming.{carries_out}
-use Rattle.osi_stack.specs.Hearing.{after_packet, attends, concludes, hears, hears_all, hears_times, hears_first, with_carrier, with_events, all_lost}
-use Rattle.osi_stack.specs.Messages.{told_all, kept_at}
-use Rattle.osi_stack.specs.Moving.{line_after}
-use Rattle.osi_stack.specs.State.{Line, End, session_in}
-use Rattle.osi_carrier.proofs.Apart.{put_here}
-use Rattle.osi_carrier.proofs.AtReferences.{put_other}
-use Rattle.osi_stack.proofs.Lifting.{quiet_attends, packet_is}
-use Rattle.osi_pair.specs.Standing.{is_parting}
-use Rattle.osi_pair.specs.Telling.{quieted}
+use Rattle.osi_stack.specs.State.{Line}
+use Rattle.osi_pair.proofs.Vocabulary.{Value, Happening, Rows, value_at, State as Carrier, Progress, IsInOctets, Input, Standing, react, is_ended, listening, awaits, carries_out, after_packet, attends, concludes, hears, hears_all, hears_times, hears_first, with_carrier, with_events, all_lost, told_all, kept_at, line_after, End, session_in, put_here, put_other, quiet_attends, packet_is, is_parting, quieted}
 use Rattle.osi_pair.proofs.StandingListens.{as_made}
 use Rattle.osi_pair.proofs.StandingQuiet.{quiet_kept}
 use Rattle.osi_pair.proofs.StandingResting.{acted_end}

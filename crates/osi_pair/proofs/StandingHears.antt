@@ -1,34 +1,12 @@
 -- A message arrives of which a session hears: what the carrier tells, and what happens to the session, row by row.
 use Rattle.std.proofs.Common.{◌≡◌, ℕ, true, false, List, [], ◌∷◌, Option, Some, None, IfSome, refl, sym, ap, subst, ◌∙◌, ◌⊎◌, inl, inr, ◌++◌, arith}
-use Rattle.osi_spdu.specs.Known.{Units}
-use Rattle.osi_carrier.specs.Happenings.{Happening, opened, refused, tsdu, closed}
-use Rattle.osi_carrier.specs.Rows.{value_at}
+use Rattle.osi_carrier.specs.Happenings.{opened, refused}
 use Rattle.osi_between.specs.Messages as carrier
-use Rattle.osi_between.specs.Progress.{in_use, gone}
-use Rattle.osi_machine.specs.Core.{offer_sent}
-use Rattle.osi_machine.specs.Tables.{Seat, awaits}
-use Rattle.osi_machine.specs.Worlds.{Message, unit, ask, agree, deny, bye, over}
 use Rattle.osi_machine.specs.Worlds as worlds
-use Rattle.osi_message.specs.InOctets.{IsInOctets}
-use Rattle.osi_message.specs.Meanings.{Meaning, DT}
-use Rattle.osi_message.specs.Reading.{said_by_units}
-use Rattle.osi_message.specs.Sendable.{words_of, IsSendable, said_of}
-use Rattle.osi_message.specs.Written.{written}
-use Rattle.osi_session.specs.Listening.{came}
 use Rattle.osi_session.specs.Listening as words
-use Rattle.osi_session.specs.Moves.{Input, taken, Standing, react}
 use Rattle.osi_session.specs.Moves as session
-use Rattle.osi_session.specs.Phases.{is_ended}
-use Rattle.osi_session.specs.Runs.{HasNumbersInWords}
-use Rattle.osi_session.specs.Sessions.{CanBeSent}
-use Rattle.osi_session.proofs.PhaseLaws.{excluded}
-use Rattle.osi_stack.specs.Hearing.{hears, opens}
-use Rattle.osi_stack.specs.Links.{needs_link}
-use Rattle.osi_stack.specs.Moving.{limit_for, to_session}
-use Rattle.osi_stack.specs.State.{Line, End}
-use Rattle.osi_stack.proofs.Folds.{came_numbers}
-use Rattle.osi_stack.proofs.Moves.{Readings, came_is}
-use Rattle.osi_pair.specs.Standing.{message_in, is_parting, joining}
+use Rattle.osi_stack.specs.State.{Line}
+use Rattle.osi_pair.proofs.Vocabulary.{Units, Happening, tsdu, closed, value_at, in_use, gone, offer_sent, Seat, awaits, Message, unit, ask, agree, deny, bye, over, IsInOctets, Meaning, DT, said_by_units, words_of, IsSendable, said_of, written, came, Input, taken, Standing, react, is_ended, HasNumbersInWords, CanBeSent, excluded, hears, opens, needs_link, limit_for, to_session, End, came_numbers, Readings, came_is, message_in, is_parting, joining, IsKeptIn, Listener, kept_none, part_octets, Last, part_comes}
 use Rattle.osi_pair.proofs.StandingMoves.{heard_by, is_move}
 use Rattle.osi_pair.proofs.StandingPacket.{is_heard}
 use Rattle.osi_pair.proofs.StandingReplies.{CanGo, ReplyLaws, GoesBy, goes_taken, goes_opened, goes_refused, silent_refused, ended_refused, goes_broken, silent_broken, ended_broken, offer_goes}
@@ -37,13 +15,7 @@ use Rattle.osi_pair.proofs.StandingSeats.{transport_by, lives_in}
 use Rattle.osi_pair.proofs.StandingWaiting.{IsCalling}
 use Rattle.osi_pair.proofs.StandingListens.{as_made, moves_so, moves_apart}
 use Rattle.osi_session.specs.Joining.{kept_in}
-use Rattle.osi_session.specs.Kept.{IsKeptIn}
-use Rattle.osi_session.specs.Listening.{Listener}
-use Rattle.osi_session.proofs.WordLaws.{kept_none}
 use Rattle.osi_pair.proofs.StandingWays.{is_tsdu}
-use Rattle.osi_message.specs.Words.{part_octets}
-use Rattle.osi_message.specs.declared.places.Place.TheVariants.{Last}
-use Rattle.osi_session.specs.Parts.{part_comes}
 
 -- ---- which row it is
 

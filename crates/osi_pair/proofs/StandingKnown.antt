@@ -1,25 +1,9 @@
 -- The class of a connection at a message of which a session hears.
 use Rattle.std.proofs.Common.{◌≡◌, ℕ, ◌≤◌, true, false, [], ◌∷◌, Option, Some, None, option_map, refl, sym, ap, subst, ◌∙◌, inl, inr, arith}
-use Rattle.osi_tpkt.specs.Held.{Held}
-use Rattle.osi_tpdu.specs.Value.{Value}
-use Rattle.osi_class.specs.declared.terms.Class.{Class}
-use Rattle.osi_carrier.specs.Place.{Place, never, was_given, place_at}
-use Rattle.osi_carrier.specs.State.{State, asked, linked, closing}
-use Rattle.osi_between.specs.Between.{Between, last_of}
-use Rattle.osi_between.specs.Course.{progress_of}
 use Rattle.osi_between.specs.Messages as carrier
-use Rattle.osi_between.specs.Progress.{awaiting, in_use, class_behind_all}
 use Rattle.osi_between.specs.Progress as progress
-use Rattle.osi_between.specs.Terms.{Terms, by_two, by_zero, refusing, class_of}
-use Rattle.osi_machine.specs.Machine.{learns}
-use Rattle.osi_machine.specs.Tables.{Line, Tables}
-use Rattle.osi_machine.specs.Worlds.{Message, unit, ask, agree, deny, bye, over, Transport}
 use Rattle.osi_machine.specs.Worlds as worlds
-use Rattle.osi_stack.specs.State.{End}
-use Rattle.osi_pair.specs.Ends.{TwoEnds, end_at}
-use Rattle.osi_pair.specs.Standing.{is_caller, class_in, terms_in, message_in, Stands}
-use Rattle.osi_pair.specs.declared.sides.Side.{Side}
-use Rattle.osi_pair.specs.declared.sides.Side.TheVariants.{Left, Right}
+use Rattle.osi_pair.proofs.Vocabulary.{Held, Value, Class, Place, never, was_given, place_at, State, asked, linked, closing, Between, last_of, progress_of, awaiting, in_use, class_behind_all, Terms, by_two, by_zero, refusing, class_of, learns, Line, Tables, Message, unit, ask, agree, deny, bye, over, Transport, End, TwoEnds, end_at, is_caller, class_in, terms_in, message_in, Stands, Side, Left, Right, kind_of}
 use Rattle.osi_pair.proofs.StandingArriving.{is_linked, is_asked, IsFirstFor}
 use Rattle.osi_pair.proofs.StandingFinish.{terms_at, DidAt, is_agree, last_is, known_then}
 use Rattle.osi_pair.proofs.StandingHears.{AsMove, got_in}
@@ -27,7 +11,6 @@ use Rattle.osi_pair.proofs.StandingRests.{is_awaited, learns_row}
 use Rattle.osi_pair.proofs.StandingRows.{Row, agrees, denies, before, after, arrived_in, is_row}
 use Rattle.osi_pair.proofs.StandingSeats.{transport_by}
 use Rattle.osi_pair.proofs.StandingTurned.{with_holding}
-use Rattle.osi_between.specs.Messages.{kind_of}
 
 -- ---- places
 

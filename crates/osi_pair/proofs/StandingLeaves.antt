@@ -1,33 +1,9 @@
 -- A DR arrives at an open connection, which is answered by a DC: its session is lost, and the last of what was under
 -- way from it may be.
 use Rattle.std.proofs.Common.{◌≡◌, ℕ, Bool, true, false, List, [], ◌∷◌, map, take, Option, None, is_some, refl, sym, ap, subst, ◌∙◌, arith}
-use Rattle.osi_tpkt.specs.Held.{Held}
-use Rattle.osi_carrier.specs.Place.{Place, place_at}
-use Rattle.osi_carrier.specs.State.{State as Carrier}
-use Rattle.osi_between.specs.Addresses.{reference_of}
-use Rattle.osi_between.specs.Between.{Between, last_of, under_way, put_in, is_cut}
-use Rattle.osi_between.specs.Course.{progress_of}
 use Rattle.osi_between.specs.Messages as carrier
-use Rattle.osi_machine.specs.AsTables.{IsTableRun}
-use Rattle.osi_machine.specs.Machine.{delivers, learns}
-use Rattle.osi_machine.specs.Tables.{Seat, Line as TableLine, Turn, Tables, seen_from, step, without_first, message_taken}
-use Rattle.osi_machine.specs.Worlds.{Message, unit, ask, agree, deny, bye, over, Transport, put, replied}
 use Rattle.osi_machine.specs.Worlds as worlds
-use Rattle.osi_message.specs.Meanings.{Meaning}
-use Rattle.osi_message.specs.Parting.{tsdus_sent}
-use Rattle.osi_session.specs.Moves.{broken as broken_off, Standing, Move, react}
-use Rattle.osi_session.specs.Shown.{Shown}
-use Rattle.osi_stack.specs.Hearing.{after_packet, concludes}
-use Rattle.osi_stack.specs.Moving.{answers}
-use Rattle.osi_stack.specs.State.{End}
-use Rattle.osi_stack.specs.Transport.{answers_by}
-use Rattle.osi_stack.proofs.Handing.{hands_none}
-use Rattle.osi_pair.specs.Ends.{TwoEnds, end_at}
-use Rattle.osi_pair.specs.Sides.{other}
-use Rattle.osi_pair.specs.Standing.{side_in, is_caller, carriers_of, message_in, Stands, Goes, HasJoined}
-use Rattle.osi_pair.specs.Telling.{quieted}
-use Rattle.osi_pair.specs.declared.sides.Side.{Side}
-use Rattle.osi_pair.specs.declared.sides.Side.TheVariants.{Left, Right}
+use Rattle.osi_pair.proofs.Vocabulary.{Held, Place, place_at, State as Carrier, reference_of, Between, last_of, under_way, put_in, is_cut, progress_of, IsTableRun, delivers, learns, Seat, Line as TableLine, Turn, Tables, seen_from, step, without_first, message_taken, Message, unit, ask, agree, deny, bye, over, Transport, put, replied, Meaning, tsdus_sent, broken as broken_off, Standing, Move, react, Shown, after_packet, concludes, answers, End, answers_by, hands_none, TwoEnds, end_at, other, side_in, is_caller, carriers_of, message_in, Stands, Goes, HasJoined, quieted, Side, Left, Right, kind_of}
 use Rattle.osi_pair.proofs.StandingAnswers.{answered_end, shown_is}
 use Rattle.osi_pair.proofs.StandingArrived.{PacketActs}
 use Rattle.osi_pair.proofs.StandingCall.{put_nothing}
@@ -48,7 +24,6 @@ use Rattle.osi_pair.proofs.StandingShown.{StandsShown, shown_pair}
 use Rattle.osi_pair.proofs.StandingTurned.{IsSeen, with_holding, turned_pair, Turned, turned_stands, out_there, GoesTo}
 use Rattle.osi_pair.proofs.StandingWays.{out_cuts}
 use Rattle.osi_pair.proofs.StandingCut.{cut_broken, reach_same}
-use Rattle.osi_between.specs.Messages.{kind_of}
 use Rattle.osi_pair.proofs.StandingAhead.{takes_from}
 use Rattle.osi_pair.proofs.StandingWays.{Takes}
 

@@ -1,36 +1,17 @@
 -- A session of an end that has joined nothing makes the moves of the session of the tables.
 use Rattle.std.proofs.Common.{◌≡◌, Some, ap, ◌∙◌, ℕ, List, Option, None, Ok, Err, true, refl, inl, inr, false, sym, ◌++◌, ◌≤◌, length, [], ◌∷◌, Bool, ◌||◌, ◌⊎◌, IfSome, subst, arith}
 use Rattle.osi_session.specs.Listening as words
-use Rattle.osi_session.specs.Moves.{Input, Standing, Move, react, called, answered, taken}
-use Rattle.osi_session.specs.Whole.{listening, standing_of, in_words, is_apart}
-use Rattle.osi_session.proofs.WordLaws.{kept_none, moves_as_whole, others, word_behind, words_of_message}
-use Rattle.osi_session.specs.Listening.{Listener}
-use Rattle.osi_session.specs.Allowed.{Answer, allowed, most_data}
-use Rattle.osi_session.specs.Calls.{Call}
-use Rattle.osi_session.specs.Joining.{kept_in, respond_word}
-use Rattle.osi_session.specs.Kept.{IsKeptIn, IsJoinedAs, IsNoFault, IsJoined, IsKept, discards}
+use Rattle.osi_session.specs.Allowed.{most_data}
+use Rattle.osi_session.specs.Joining.{kept_in}
 use Rattle.osi_session.specs.declared.state.State.{State}
-use Rattle.osi_session.proofs.KeptLaws.{call_keeps, first_arrives, middle_arrives, last_arrives}
-use Rattle.osi_pair.specs.Standing.{joining, IsInOrder}
-use Rattle.osi_session.specs.Parts.{part_comes}
-use Rattle.osi_session.specs.Phases.{is_over, is_restarting}
 use Rattle.osi_session.proofs.MoveLaws.{taken_is}
-use Rattle.osi_message.specs.Meanings.{DT, GT}
 use Rattle.osi_message.specs.Tokens.{no_token}
-use Rattle.osi_message.specs.Sendable.{said_of, words_of}
-use Rattle.osi_message.specs.Words.{says, part}
+use Rattle.osi_message.specs.Words.{part}
 use Rattle.osi_message.specs.declared.places.Place.{Place}
-use Rattle.osi_message.specs.declared.places.Place.TheVariants.{First, Middle, Last}
-use Rattle.osi_session.specs.declared.phases.Phase.{Phase}
-use Rattle.osi_session.proofs.JoinedLaws.{inputs_kept}
-use Rattle.osi_stack.specs.Folds.{CameAbout, AllCameAbout}
-use Rattle.osi_stack.specs.Calls.{calls_with}
-use Rattle.osi_stack.specs.Messages.{kept_at}
-use Rattle.osi_stack.specs.State.{Line, End, session_in}
+use Rattle.osi_stack.specs.State.{Line}
 use Rattle.osi_stack.specs.declared.connecting.Connect.{Connect}
-use Rattle.osi_stack.proofs.Folds.{at_line}
-use Rattle.osi_carrier.specs.Rows.{Rows, value_at}
 use Rattle.osi_session.specs.Sessions.{awaits as awaits_cn}
+use Rattle.osi_pair.proofs.Vocabulary.{Input, Standing, Move, react, called, answered, taken, listening, standing_of, in_words, is_apart, kept_none, moves_as_whole, others, word_behind, words_of_message, Listener, Answer, allowed, Call, respond_word, IsKeptIn, IsJoinedAs, IsNoFault, IsJoined, IsKept, discards, call_keeps, first_arrives, middle_arrives, last_arrives, joining, IsInOrder, part_comes, is_over, is_restarting, DT, GT, said_of, words_of, says, First, Middle, Last, Phase, inputs_kept, CameAbout, AllCameAbout, calls_with, kept_at, End, session_in, at_line, Rows, value_at}
 
 -- a move of the session of the tables, as that of the end makes it
 abbrev pub as_made : Move → words.Move

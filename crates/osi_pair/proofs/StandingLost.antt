@@ -1,37 +1,10 @@
 -- What the users of a side are shown that loses all its connections: no more than the machine says, and in
 -- its order.
 use Rattle.std.proofs.Common.{◌≡◌, ◌≢◌, refl, sym, ◌∙◌, ap, subst, ℕ, zero, suc, ◌+◌, ◌<◌, ◌≤◌, ◌==◌, Bool, true, false, if◌then◌else◌, List, [], ◌∷◌, ◌++◌, length, map, nat_lt, nat_le, Option, Some, None, is_some, IsSome, inl, inr, ◌⊎◌, arith}
-use Rattle.std.specs.List.{slice_get}
-use Rattle.std.proofs.lemmas.Bool.{eqb-true, eq-eqb}
-use Rattle.std.proofs.lemmas.Bool.Decides.{nat_tests}
-use Rattle.std.proofs.lemmas.List.{append-nil, length-map, map-append, length-append}
-use Rattle.osi_carrier.specs.Place.{never, was_given, place_at}
-use Rattle.osi_carrier.specs.Orderly.{RiseFrom, AreUpTo}
-use Rattle.osi_carrier.specs.Rows.{Rows, value_at, without}
-use Rattle.osi_carrier.specs.State.{Connection}
-use Rattle.osi_carrier.proofs.Apart.{absent, beyond}
-use Rattle.osi_carrier.proofs.AtReferences.{without_other}
-use Rattle.osi_between.specs.Between.{side}
-use Rattle.osi_machine.specs.Machine.{connection_at, shown_at}
 use Rattle.osi_machine.specs.Machine as entries
-use Rattle.osi_machine.specs.Tables.{Seat, Line, Tables, awaits, seen_from, shown_in_order}
-use Rattle.osi_session.specs.Listening.{Listener}
 use Rattle.osi_session.specs.Listening as words
-use Rattle.osi_session.specs.Moves.{Standing, broken as broken_off, react}
-use Rattle.osi_session.specs.Phases.{is_ended, shows_loss}
-use Rattle.osi_session.specs.Shown.{Shown, Lost}
-use Rattle.osi_session.specs.declared.phases.Phase.{Phase}
-use Rattle.osi_session.proofs.PhaseLaws.{excluded}
-use Rattle.osi_stack.specs.Hearing.{shown_at_loss, all_lost}
-use Rattle.osi_stack.specs.Messages.{kept_at}
-use Rattle.osi_stack.specs.State.{Holding, session_in, session_at}
 use Rattle.osi_stack.specs.State as stack
-use Rattle.osi_stack.proofs.Lifting.{both}
-use Rattle.osi_stack.proofs.Moves.{are_lost}
-use Rattle.osi_pair.specs.Entries.{Entry}
-use Rattle.osi_pair.specs.Standing.{entry_in, side_in, is_parting, transport_in, IsSeated, IsInOrder, joining}
-use Rattle.osi_pair.specs.Telling.{waiting_in, quieted, shown_entries}
-use Rattle.osi_pair.specs.declared.sides.Side.{Side}
+use Rattle.osi_pair.proofs.Vocabulary.{slice_get, eqb-true, eq-eqb, nat_tests, append-nil, length-map, map-append, length-append, never, was_given, place_at, RiseFrom, AreUpTo, Rows, value_at, without, Connection, absent, beyond, without_other, side, connection_at, shown_at, Seat, Line, Tables, awaits, seen_from, shown_in_order, Listener, Standing, broken as broken_off, react, is_ended, shows_loss, Shown, Lost, Phase, excluded, shown_at_loss, all_lost, kept_at, Holding, session_in, session_at, both, are_lost, Entry, entry_in, side_in, is_parting, transport_in, IsSeated, IsInOrder, joining, waiting_in, quieted, shown_entries, Side}
 
 -- ---- a session that is lost
 

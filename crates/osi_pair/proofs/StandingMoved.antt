@@ -1,43 +1,13 @@
 -- A message arrived of which a session heard: how two ends stand when the session has made its move, and nothing
 -- of what it sends was handed to the carrier, and nothing was closed.
 use Rattle.std.proofs.Common.{◌≡◌, ◌≢◌, ℕ, ◌<◌, ◌≤◌, Bool, true, false, nat_lt, if◌then◌else◌, List, [], ◌∷◌, length, map, Option, Some, None, is_some, option_map, refl, sym, ap, subst, ◌∙◌, arith, ◌⊎◌, inl, inr, IfSome, ◌++◌}
-use Rattle.osi_tpkt.specs.Held.{Held}
-use Rattle.osi_tpdu.specs.Value.{Value}
 use Rattle.osi_class.specs.Link.{Standing as Link}
-use Rattle.osi_carrier.specs.Calls.{link_of}
-use Rattle.osi_carrier.specs.Place.{Place, never, was_given, place_at}
-use Rattle.osi_carrier.specs.Orderly.{IsOrderly}
 use Rattle.osi_carrier.specs.React.{react as carrier_react}
-use Rattle.osi_carrier.specs.Rows.{Rows, value_at}
-use Rattle.osi_carrier.specs.State.{Connection, State as Carrier, asked, linked, closing}
-use Rattle.osi_carrier.specs.Told.{is_open}
-use Rattle.osi_carrier.specs.declared.ends.EndReason.{EndReason}
-use Rattle.osi_carrier.proofs.Effects.{orderly_unit, orderly_same}
-use Rattle.osi_between.specs.Addresses.{reference_of}
-use Rattle.osi_between.specs.Between.{Between, under_way, is_cut, last_of}
-use Rattle.osi_between.specs.Course.{progress_of}
-use Rattle.osi_between.specs.Progress.{not_yet, in_use, gone, Progress, awaiting}
-use Rattle.osi_between.specs.Terms.{class_of}
-use Rattle.osi_machine.specs.AsTables.{IsTableRun, AreSoundLines, IsSoundLine, AreSendable, is_leaving}
 use Rattle.osi_machine.specs.Core as machine
-use Rattle.osi_machine.specs.Machine.{connection_at, delivers, learns}
-use Rattle.osi_machine.specs.Tables.{Line as TableLine, Turn, Tables, seen_from, after_turn, step}
-use Rattle.osi_machine.specs.Worlds.{Message, unit, ask, agree, deny, bye, over, put, replied}
 use Rattle.osi_machine.specs.Worlds as worlds
-use Rattle.osi_machine.proofs.CoreLaws.{SessionLaws}
-use Rattle.osi_message.specs.Meanings.{Meaning, DT}
-use Rattle.osi_session.specs.Moves.{Input, Standing, Move, taken, opened, refused, broken as broken_off, react}
-use Rattle.osi_session.specs.Whole.{listening}
-use Rattle.osi_stack.specs.Hearing.{after_packet, concludes}
-use Rattle.osi_stack.specs.Messages.{told_all, kept_at}
-use Rattle.osi_stack.specs.Moving.{answers, noted}
-use Rattle.osi_stack.specs.State.{Line, End, session_in}
-use Rattle.osi_stack.proofs.Soundness.{packet_rises}
-use Rattle.osi_pair.specs.Ends.{TwoEnds, end_at}
-use Rattle.osi_pair.specs.Sides.{other}
-use Rattle.osi_pair.specs.Standing.{side_in, is_caller, class_in, carriers_of, message_in, AreAlike, IsInOrder, Stands, Goes, joining, HasJoined}
-use Rattle.osi_pair.specs.Telling.{waiting_in, quieted}
-use Rattle.osi_pair.specs.declared.sides.Side.{Side}
+use Rattle.osi_stack.specs.Moving.{noted}
+use Rattle.osi_stack.specs.State.{Line}
+use Rattle.osi_pair.proofs.Vocabulary.{Held, Value, link_of, Place, never, was_given, place_at, IsOrderly, Rows, value_at, Connection, State as Carrier, asked, linked, closing, is_open, EndReason, orderly_unit, orderly_same, reference_of, Between, under_way, is_cut, last_of, progress_of, not_yet, in_use, gone, Progress, awaiting, class_of, IsTableRun, AreSoundLines, IsSoundLine, AreSendable, is_leaving, connection_at, delivers, learns, Line as TableLine, Turn, Tables, seen_from, after_turn, step, Message, unit, ask, agree, deny, bye, over, put, replied, SessionLaws, Meaning, DT, Input, Standing, Move, taken, opened, refused, broken as broken_off, react, listening, after_packet, concludes, told_all, kept_at, answers, End, session_in, packet_rises, TwoEnds, end_at, other, side_in, is_caller, class_in, carriers_of, message_in, AreAlike, IsInOrder, Stands, Goes, joining, HasJoined, waiting_in, quieted, Side, IsNoFault, IsJoinedAs, Listener, kind_of, IsInOctets, part_octets, First, Middle, Last, Left, Right, after_message, StaysCalm, left_is, said_of}
 use Rattle.osi_pair.proofs.StandingArrived.{PacketActs}
 use Rattle.osi_pair.proofs.StandingFinish.{terms_at, DidAt, line_then, last_is, order_of, was_at}
 use Rattle.osi_pair.proofs.StandingHeard.{lines_then, kept_then, one_told}
@@ -55,21 +25,11 @@ use Rattle.osi_pair.proofs.StandingRows.{Row, before, after, arrived_in, quiet, 
 use Rattle.osi_pair.proofs.StandingSeats.{transport_by, value_same, HasSession, lives_in, session_of_seat, transport_at}
 use Rattle.osi_pair.proofs.StandingTurned.{IsSeen, with_holding, turned_pair, turned_stands}
 use Rattle.osi_pair.proofs.StandingWaiting.{is_calling}
-use Rattle.osi_session.specs.Kept.{IsNoFault, IsJoinedAs}
-use Rattle.osi_session.specs.Listening.{Listener}
 use Rattle.osi_message.specs.declared.places.Place.{Place as PartPlace}
 use Rattle.osi_between.specs.Messages as carrier
 use Rattle.osi_pair.proofs.StandingWays.{NextOf, Comes, BehindFirst, IsAlone, IsLast, Begins, GoesOn, is_tsdu, no_part}
-use Rattle.osi_between.specs.Messages.{kind_of}
-use Rattle.osi_message.specs.InOctets.{IsInOctets}
-use Rattle.osi_message.specs.Words.{part_octets}
-use Rattle.osi_message.specs.declared.places.Place.TheVariants.{First, Middle, Last}
 use Rattle.osi_session.specs.Allowed.{most_data}
-use Rattle.osi_pair.specs.declared.sides.Side.TheVariants.{Left, Right}
 use Rattle.osi_session.specs.declared.state.State.{State as SessionState}
-use Rattle.osi_machine.specs.Calm.{after_message, StaysCalm}
-use Rattle.osi_machine.proofs.CalmLaws.{left_is}
-use Rattle.osi_message.specs.Sendable.{said_of}
 use Rattle.osi_pair.proofs.StandingAhead.{TakeLaws, TakesFrom, takes_from, takes_here, takes_then}
 use Rattle.osi_pair.proofs.StandingLost.{is_over as is_lost}
 

@@ -1,29 +1,10 @@
 -- A message arrives, and a session makes its move: what it sends is not handed over yet, and nothing is closed yet.
 use Rattle.std.proofs.Common.{◌≡◌, ◌≢◌, ℕ, ◌≤◌, Bool, true, false, List, [], ◌∷◌, Option, Some, None, IfSome, option_map, refl, sym, ap, subst, ◌∙◌, arith}
-use Rattle.osi_tpkt.specs.Held.{Held}
-use Rattle.osi_carrier.specs.Place.{place_at}
-use Rattle.osi_carrier.specs.Rows.{Rows, value_at}
-use Rattle.osi_between.specs.Addresses.{reference_of}
-use Rattle.osi_between.specs.Between.{Between, last_of}
-use Rattle.osi_between.specs.Course.{progress_of}
 use Rattle.osi_between.specs.Messages as carrier
-use Rattle.osi_between.specs.Progress.{leaves_use}
-use Rattle.osi_machine.specs.Machine.{connection_at, delivers, learns}
-use Rattle.osi_machine.specs.Tables.{Seat, Line as TableLine, Turn, Tables, awaits, seen_from, end_of, after_turn, step, hears, without_first, message_taken}
-use Rattle.osi_machine.specs.Worlds.{Message, unit, ask, agree, deny, bye, over, put, replied}
+use Rattle.osi_machine.specs.Tables.{hears}
 use Rattle.osi_machine.specs.Worlds as worlds
-use Rattle.osi_message.specs.InOctets.{IsInOctets}
-use Rattle.osi_message.specs.Sendable.{said_of}
-use Rattle.osi_message.specs.Meanings.{Meaning}
-use Rattle.osi_session.specs.Moves.{Input, taken, opened, refused, broken as broken_off, Standing, Move, react}
-use Rattle.osi_session.specs.Phases.{is_ended}
-use Rattle.osi_stack.specs.Messages.{kept_at}
-use Rattle.osi_stack.specs.State.{Line, End}
-use Rattle.osi_pair.specs.Ends.{TwoEnds, end_at}
-use Rattle.osi_pair.specs.Sides.{other}
-use Rattle.osi_pair.specs.Standing.{side_in, is_caller, class_in, carriers_of, message_in, is_parting, Stands, Goes}
-use Rattle.osi_pair.specs.Telling.{quieted}
-use Rattle.osi_pair.specs.declared.sides.Side.{Side}
+use Rattle.osi_stack.specs.State.{Line}
+use Rattle.osi_pair.proofs.Vocabulary.{Held, place_at, Rows, value_at, reference_of, Between, last_of, progress_of, leaves_use, connection_at, delivers, learns, Seat, Line as TableLine, Turn, Tables, awaits, seen_from, end_of, after_turn, step, without_first, message_taken, Message, unit, ask, agree, deny, bye, over, put, replied, IsInOctets, said_of, Meaning, Input, taken, opened, refused, broken as broken_off, Standing, Move, react, is_ended, kept_at, End, TwoEnds, end_at, other, side_in, is_caller, class_in, carriers_of, message_in, is_parting, Stands, Goes, quieted, Side, kind_of}
 use Rattle.osi_pair.proofs.StandingArrived.{PacketActs}
 use Rattle.osi_pair.proofs.StandingFinish.{terms_at, DidAt, TablesAfter, OtherSessions, line_then, finish}
 use Rattle.osi_pair.proofs.StandingHeard.{lines_then, kept_other, session_then}
@@ -32,7 +13,6 @@ use Rattle.osi_pair.proofs.StandingResting.{acted_end, EndThen, NextFor, out_row
 use Rattle.osi_pair.proofs.StandingRows.{Row, quiet, still, begins, refuses, agrees, denies, tells, leaves, ignores, ends, before, after, arrived_in}
 use Rattle.osi_pair.proofs.StandingSeats.{transport_by, HasSession}
 use Rattle.osi_pair.proofs.StandingTurned.{IsSeen, with_holding}
-use Rattle.osi_between.specs.Messages.{kind_of}
 
 -- ---- the turn of the tables
 

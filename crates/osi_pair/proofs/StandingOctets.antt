@@ -1,21 +1,11 @@
 -- What a call and an offer send goes into octets.
 use Rattle.std.proofs.Common.{◌≡◌, refl, sym, ◌∙◌, subst, ℕ, ◌<◌, ◌==◌, ◌&&◌, ◌||◌, Bool, true, false, List, [], ◌∷◌, arith}
-use Rattle.std.proofs.lemmas.Bool.{eqb-true, leb-true}
-use Rattle.std.specs.Prelude.{nat_le}
 use Rattle.std.proofs.lemmas.Nat.{and_le_r}
 use Rattle.std.specs.Int.RustNames.{bit_and}
-use Rattle.osi_spdu.specs.Sizes.{are_sizes}
-use Rattle.osi_spdu.specs.Values.{is_size}
 use Rattle.osi_spdu.specs.declared.fields.TsduMaximumSize.{TsduMaximumSize}
-use Rattle.osi_tpkt.specs.Octets.{IsOctets}
-use Rattle.osi_message.specs.InOctets.{IsInOctets}
-use Rattle.osi_message.specs.Sendable.{IsSendable}
-use Rattle.osi_message.specs.Reading.{names}
-use Rattle.osi_session.specs.Allowed.{Step, AllHold, needs, sends, refusal_reason, octets_of, Passed}
-use Rattle.osi_session.specs.Calls.{Call, Accept, Refuse, Data, Give, Please, Minor, MinorConfirm, Major, MajorConfirm, Restart, RestartConfirm, Release, ReleaseAccept, ReleaseRefuse, Abort}
-use Rattle.osi_session.specs.Sizes.{answered_sizes}
-use Rattle.osi_session.specs.Units.{is_profile}
+use Rattle.osi_session.specs.Allowed.{Step}
 use Rattle.osi_session.specs.declared.state.State.{State}
+use Rattle.osi_pair.proofs.Vocabulary.{eqb-true, leb-true, nat_le, are_sizes, is_size, IsOctets, IsInOctets, IsSendable, names, AllHold, needs, sends, refusal_reason, octets_of, Passed, Call, Accept, Refuse, Data, Give, Please, Minor, MinorConfirm, Major, MajorConfirm, Restart, RestartConfirm, Release, ReleaseAccept, ReleaseRefuse, Abort, answered_sizes, is_profile}
 
 both_right : (a b : Bool) → (a && b) ≡ true → b ≡ true
 both_right a b h = grind arith

@@ -1,28 +1,11 @@
 -- An end whose session has moved is in order before what it sends is handed over.
 use Rattle.std.proofs.Common.{◌≡◌, ◌≢◌, ℕ, ◌≤◌, ◌==◌, Bool, true, false, if◌then◌else◌, [], Option, Some, None, is_some, refl, sym, ap, subst, ◌∙◌, arith}
-use Rattle.std.proofs.lemmas.Bool.{eqb-true, eq-eqb}
 use Rattle.osi_class.specs.Link.{Standing as Link}
-use Rattle.osi_carrier.specs.Calls.{link_of}
-use Rattle.osi_carrier.specs.Orderly.{IsOrderly}
-use Rattle.osi_carrier.specs.Rows.{value_at, put}
-use Rattle.osi_carrier.specs.State.{Connection, State as Carrier}
-use Rattle.osi_carrier.specs.Told.{is_open}
-use Rattle.osi_carrier.specs.declared.ends.EndReason.{EndReason}
-use Rattle.osi_carrier.proofs.Apart.{put_here}
-use Rattle.osi_carrier.proofs.AtReferences.{put_other, put_rise, put_up}
-use Rattle.osi_session.specs.Listening.{Listener}
+use Rattle.osi_carrier.specs.Rows.{put}
 use Rattle.osi_session.specs.Listening as words
-use Rattle.osi_session.specs.Moves.{Input, Standing, react}
-use Rattle.osi_session.specs.Runs.{HasNumbersInWords}
-use Rattle.osi_stack.specs.Folds.{CameAbout, AllCameAbout}
-use Rattle.osi_stack.specs.Links.{needs_link}
-use Rattle.osi_stack.specs.Messages.{kept_at}
-use Rattle.osi_stack.specs.Moving.{limit_for, answers, noted, line_by, line_after, carrier_by, by_line, to_session}
-use Rattle.osi_stack.specs.State.{Line, End, session_in}
-use Rattle.osi_stack.proofs.Folds.{session_all, came_moves}
-use Rattle.osi_stack.proofs.Linking.{apart_put}
-use Rattle.osi_stack.proofs.Soundness.{up_more}
-use Rattle.osi_pair.specs.Standing.{IsInOrder}
+use Rattle.osi_stack.specs.Moving.{noted}
+use Rattle.osi_stack.specs.State.{Line}
+use Rattle.osi_pair.proofs.Vocabulary.{eqb-true, eq-eqb, link_of, IsOrderly, value_at, Connection, State as Carrier, is_open, EndReason, put_here, put_other, put_rise, put_up, Listener, Input, Standing, react, HasNumbersInWords, CameAbout, AllCameAbout, needs_link, kept_at, limit_for, answers, line_by, line_after, carrier_by, by_line, to_session, End, session_in, session_all, came_moves, apart_put, up_more, IsInOrder}
 use Rattle.osi_pair.proofs.StandingHeard.{lines_then}
 use Rattle.osi_pair.proofs.StandingListens.{as_made}
 

@@ -1,46 +1,15 @@
 -- A packet is taken at an end with which no session acts, or one begins: it is no step of the tables, or one
 -- delivery.
 use Rattle.std.proofs.Common.{◌≡◌, ℕ, ◌≤◌, Bool, true, false, List, [], ◌∷◌, ◌++◌, Option, Some, None, option_map, refl, sym, ap, subst, ◌∙◌, ◌⊎◌, inl, inr, arith}
-use Rattle.std.specs.List.{AllByRecursion}
-use Rattle.std.proofs.lemmas.List.{append-nil}
-use Rattle.osi_tpkt.specs.Held.{Held}
-use Rattle.osi_tpkt.specs.Packet.{IsPacket}
-use Rattle.osi_tpdu.specs.Value.{Value}
 use Rattle.osi_carrier.specs.Coming.{IsSendable}
-use Rattle.osi_carrier.specs.Place.{place_at}
 use Rattle.osi_carrier.specs.Happenings.{opened}
 use Rattle.osi_carrier.specs.Packets as carriers
-use Rattle.osi_carrier.specs.Orderly.{RiseFrom}
 use Rattle.osi_carrier.specs.React.{react as carrier_react}
-use Rattle.osi_carrier.specs.Rows.{Rows, value_at}
-use Rattle.osi_carrier.specs.State.{State}
-use Rattle.osi_between.specs.Addresses.{reference_of}
-use Rattle.osi_between.specs.Between.{Both, side, Between, last_of, AreBetween, is_cut, under_way}
-use Rattle.osi_between.specs.Course.{progress_of}
 use Rattle.osi_between.specs.Messages as carrier
-use Rattle.osi_between.specs.Progress.{leaves_use, not_yet, shutting}
-use Rattle.osi_between.specs.Terms.{Terms, terms_of, by_two, by_zero, refusing}
-use Rattle.osi_class.specs.declared.terms.Local.{Local}
-use Rattle.osi_carrier.proofs.Apart.{beyond}
 use Rattle.osi_machine.specs.Core as machine
-use Rattle.osi_machine.specs.Machine.{Ending, Step, connects, calls, delivers, breaks, HasNumber}
-use Rattle.osi_machine.specs.Machine.{ends as ends_side}
-use Rattle.osi_machine.specs.Tables.{Line as TableLine, Tables, end_of, step, run, start}
-use Rattle.osi_machine.specs.Worlds.{Message, unit, ask, agree, deny, bye, over}
 use Rattle.osi_session.specs.Sessions.{awaits}
-use Rattle.osi_stack.specs.Coming.{after_unit, carries_out}
-use Rattle.osi_stack.specs.Folds.{AllCameAbout}
-use Rattle.osi_stack.specs.Hearing.{after_packet, attends, concludes, opens}
-use Rattle.osi_stack.specs.Links.{IsSound}
-use Rattle.osi_stack.specs.Messages.{told_all}
-use Rattle.osi_stack.specs.State.{Line, End, IsAttended, joins}
-use Rattle.osi_stack.proofs.Rising.{rise_joins}
-use Rattle.osi_pair.specs.Ends.{TwoEnds, end_at}
-use Rattle.osi_pair.specs.Entries.{Entry}
-use Rattle.osi_pair.specs.Standing.{side_in, is_caller, terms_in, ending_in, carriers_of, packet_taken, AreDeliveries, StandsAtDeliveries, IsInOrder, Stands, StandsAt, Goes, HasJoined, message_in}
-use Rattle.osi_pair.specs.Telling.{waiting_in}
-use Rattle.osi_pair.specs.declared.sides.Side.{Side}
-use Rattle.osi_pair.specs.declared.sides.Side.TheVariants.{Left, Right}
+use Rattle.osi_stack.specs.State.{Line, joins}
+use Rattle.osi_pair.proofs.Vocabulary.{AllByRecursion, append-nil, Held, IsPacket, Value, place_at, RiseFrom, Rows, value_at, State, reference_of, Both, side, Between, last_of, AreBetween, is_cut, under_way, progress_of, leaves_use, not_yet, shutting, Terms, terms_of, by_two, by_zero, refusing, Local, beyond, Ending, Step, connects, calls, delivers, breaks, HasNumber, ends as ends_side, Line as TableLine, Tables, end_of, step, run, start, Message, unit, ask, agree, deny, bye, over, after_unit, carries_out, AllCameAbout, after_packet, attends, concludes, opens, IsSound, told_all, End, IsAttended, rise_joins, TwoEnds, end_at, Entry, side_in, is_caller, terms_in, ending_in, carriers_of, packet_taken, AreDeliveries, StandsAtDeliveries, IsInOrder, Stands, StandsAt, Goes, HasJoined, message_in, waiting_in, Side, Left, Right, is_leaving, other, kind_of as message_kind, after_message, StaysCalm}
 use Rattle.osi_pair.proofs.StandingArrived.{CarrierLaws, PacketActs, packet_acts}
 use Rattle.osi_pair.proofs.StandingBegins.{asks_same, begun_lines, begun_waits, begins_unit, new_at}
 use Rattle.osi_pair.proofs.StandingFinish.{terms_at, DidAt, is_agree, last_is, order_of, was_at}
@@ -51,11 +20,7 @@ use Rattle.osi_pair.proofs.StandingRows.{Row, quiet, still, begins, refuses, agr
 use Rattle.osi_pair.proofs.StandingTurned.{with_holding, turned_pair, turned_stands, IsSeen}
 use Rattle.osi_pair.proofs.StandingWays.{Alone, is_tsdu}
 use Rattle.osi_pair.proofs.StandingSeats.{session_of_seat}
-use Rattle.osi_machine.specs.AsTables.{is_leaving}
-use Rattle.osi_pair.specs.Sides.{other}
-use Rattle.osi_between.specs.Messages.{kind_of as message_kind}
 use Rattle.osi_session.specs.declared.state.State.{State as SessionState}
-use Rattle.osi_machine.specs.Calm.{after_message, StaysCalm}
 use Rattle.osi_pair.proofs.StandingBreak.{run_behind}
 
 -- what is proved of two carriers and of one end

@@ -1,29 +1,10 @@
 -- Packets that an end takes one after the other, of which none stops but perhaps the last.
 use Rattle.std.proofs.Common.{◌≡◌, ℕ, ◌≤◌, ◌==◌, ◌||◌, false, not, List, [], ◌∷◌, ◌++◌, length, Option, Some, None, is_some, refl, sym, ap, subst, ◌∙◌, if◌then◌else◌, arith}
-use Rattle.std.proofs.lemmas.List.{append-nil, append_assoc}
-use Rattle.osi_tpkt.specs.Held.{Held}
-use Rattle.osi_tpkt.specs.Packet.{IsPacket}
-use Rattle.osi_tpkt.specs.Stream.{ArePackets}
-use Rattle.osi_carrier.specs.Rows.{Rows}
-use Rattle.osi_carrier.specs.declared.ends.EndReason.{EndReason}
-use Rattle.osi_carrier.specs.declared.ends.EndReason.TheVariants.{NoMemory}
 use Rattle.osi_machine.specs.Core as machine
-use Rattle.osi_machine.specs.Machine.{Ending, no_memory, Step, connects, calls, delivers, breaks}
-use Rattle.osi_machine.specs.Machine.{ends as ends_side}
-use Rattle.osi_machine.specs.Tables.{Tables, end_of, after_end, step, run, start}
-use Rattle.osi_session.specs.Shown.{Shown}
-use Rattle.osi_stack.specs.Feeding.{TakesPackets, stops}
-use Rattle.osi_stack.specs.Hearing.{after_packet, ends, Starves}
-use Rattle.osi_stack.specs.State.{Line, End, Holding, waits}
+use Rattle.osi_stack.specs.Hearing.{ends}
+use Rattle.osi_stack.specs.State.{Line}
 use Rattle.osi_stack.proofs.FirstShown.{quiet_none}
-use Rattle.osi_stack.proofs.Lifting.{or_first, or_second}
-use Rattle.osi_pair.specs.Ends.{TwoEnds, end_at, noted}
-use Rattle.osi_pair.specs.Entries.{Entry}
-use Rattle.osi_pair.specs.Standing.{side_in, terms_in, AreDeliveries, AreArrivals, StandsAt, StandsAtArrivals}
-use Rattle.osi_pair.specs.Telling.{waiting_in, quieted, told_entries}
-use Rattle.osi_pair.specs.declared.reach.Reach.{Reach}
-use Rattle.osi_pair.specs.declared.sides.Side.{Side}
-use Rattle.osi_pair.specs.declared.sides.Side.TheVariants.{Left, Right}
+use Rattle.osi_pair.proofs.Vocabulary.{append-nil, append_assoc, Held, IsPacket, ArePackets, Rows, EndReason, NoMemory, Ending, no_memory, Step, connects, calls, delivers, breaks, ends as ends_side, Tables, end_of, after_end, step, run, start, Shown, TakesPackets, stops, after_packet, Starves, End, Holding, waits, or_first, or_second, TwoEnds, end_at, noted, Entry, side_in, terms_in, AreDeliveries, AreArrivals, StandsAt, StandsAtArrivals, waiting_in, quieted, told_entries, Reach, Side, Left, Right, reach_after, none_of}
 use Rattle.osi_pair.proofs.StandingBreak.{run_behind}
 use Rattle.osi_pair.proofs.StandingFinish.{terms_at}
 use Rattle.osi_pair.proofs.StandingHanded.{CarriedLaw, with_held, handed_at}
@@ -32,8 +13,6 @@ use Rattle.osi_pair.proofs.StandingQuiet.{none_first, none_second, quiet_same}
 use Rattle.osi_pair.proofs.StandingShown.{shown_pair}
 use Rattle.osi_pair.proofs.StandingTurned.{with_holding, holding_here}
 use Rattle.osi_pair.proofs.Waiting.{none_waits}
-use Rattle.osi_pair.specs.Reaching.{reach_after}
-use Rattle.osi_stack.proofs.Pieces.{none_of}
 
 -- THE LAWS OF ONE PACKET. Where two ends stand at a list of steps, and a side that lasts takes the packet that
 -- it holds first, or finds no memory for it, or ends for want of memory, they stand at that list followed by

@@ -1,41 +1,14 @@
 -- A part of one Data arrives that is not the last: its session joins it to what has begun. The tables have the Data
 -- under way until its last part arrives, so that they stay.
 use Rattle.std.proofs.Common.{◌≡◌, ℕ, ◌≤◌, false, true, List, [], Some, None, refl, sym, ap, subst, ◌∙◌, arith}
-use Rattle.osi_tpkt.specs.Held.{Held}
-use Rattle.osi_carrier.specs.Place.{place_at}
-use Rattle.osi_carrier.specs.Happenings.{tsdu}
-use Rattle.osi_carrier.specs.Orderly.{IsOrderly}
 use Rattle.osi_carrier.specs.React.{react as carrier_react}
-use Rattle.osi_carrier.specs.Rows.{Rows, put}
-use Rattle.osi_carrier.specs.State.{State as Carrier}
-use Rattle.osi_carrier.proofs.Apart.{put_here}
-use Rattle.osi_carrier.proofs.AtReferences.{put_other}
-use Rattle.osi_carrier.proofs.Effects.{orderly_unit, orderly_same}
-use Rattle.osi_between.specs.Addresses.{reference_of}
-use Rattle.osi_between.specs.Between.{Between, last_of}
-use Rattle.osi_between.specs.Course.{progress_of}
-use Rattle.osi_between.specs.Progress.{leaves_use}
-use Rattle.osi_machine.specs.Tables.{Line as TableLine, Tables}
-use Rattle.osi_machine.specs.Worlds.{Message}
+use Rattle.osi_carrier.specs.Rows.{put}
 use Rattle.osi_machine.specs.Worlds as worlds
-use Rattle.osi_message.specs.Words.{part_octets}
-use Rattle.osi_session.specs.Kept.{IsJoinedAs}
-use Rattle.osi_session.specs.Listening.{Listener, came, came_as, rests}
+use Rattle.osi_session.specs.Listening.{rests}
 use Rattle.osi_session.specs.Listening as words
-use Rattle.osi_session.specs.Parts.{part_comes}
-use Rattle.osi_session.specs.Runs.{HasNumbersInWords}
-use Rattle.osi_stack.specs.Hearing.{after_packet, concludes}
-use Rattle.osi_stack.specs.Messages.{told_all, kept_at}
-use Rattle.osi_stack.specs.Moving.{noted, line_after, to_session}
-use Rattle.osi_stack.specs.State.{Line, End, session_in}
-use Rattle.osi_stack.proofs.Folds.{came_numbers}
-use Rattle.osi_stack.proofs.Handing.{hands_none}
-use Rattle.osi_stack.proofs.Soundness.{packet_rises}
-use Rattle.osi_pair.specs.Ends.{TwoEnds, end_at}
-use Rattle.osi_pair.specs.Sides.{other}
-use Rattle.osi_pair.specs.Standing.{is_caller, joining, HasJoined, Goes, IsInOrder, Stands}
-use Rattle.osi_pair.specs.Telling.{waiting_in}
-use Rattle.osi_pair.specs.declared.sides.Side.{Side}
+use Rattle.osi_stack.specs.Moving.{noted}
+use Rattle.osi_stack.specs.State.{Line}
+use Rattle.osi_pair.proofs.Vocabulary.{Held, place_at, tsdu, IsOrderly, Rows, State as Carrier, put_here, put_other, orderly_unit, orderly_same, reference_of, Between, last_of, progress_of, leaves_use, Line as TableLine, Tables, Message, part_octets, IsJoinedAs, Listener, came, came_as, part_comes, HasNumbersInWords, after_packet, concludes, told_all, kept_at, line_after, to_session, End, session_in, came_numbers, hands_none, packet_rises, TwoEnds, end_at, other, is_caller, joining, HasJoined, Goes, IsInOrder, Stands, waiting_in, Side}
 use Rattle.osi_pair.proofs.StandingFinish.{TablesAfter, OtherSessions, is_agree, order_of, finish, known_then}
 use Rattle.osi_pair.proofs.StandingHeard.{one_told, lasting}
 use Rattle.osi_pair.proofs.StandingMoved.{MovingLaws, PacketAt, PartArrives, opened_then, lives_then, open_at, seat_transport}

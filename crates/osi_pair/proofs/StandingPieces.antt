@@ -1,39 +1,12 @@
 -- Pieces of the stream that are fed to an end one after the other, and what comes of them is shown.
 use Rattle.std.proofs.Common.{◌≡◌, ℕ, zero, suc, ◌+◌, ◌-◌, ◌≤◌, ◌⊎◌, inl, inr, Bool, true, false, not, ◌||◌, List, [], ◌∷◌, ◌++◌, length, take, drop, Option, Some, None, is_some, refl, sym, ap, subst, ◌∙◌, if◌then◌else◌, arith}
-use Rattle.std.proofs.Math.Seq.{drop-nil}
-use Rattle.std.proofs.lemmas.List.{append-nil, length-append, length-take, length-drop}
-use Rattle.osi_tpkt.specs.Held.{Held}
-use Rattle.osi_tpkt.specs.Packet.{IsPacket, IsFaultOf}
-use Rattle.osi_tpkt.specs.Stream.{ArePackets, offset_of}
-use Rattle.osi_tpkt.specs.declared.faults.TpktFault.{TpktFault}
 use Rattle.osi_carrier.specs.Packets as carriers
-use Rattle.osi_carrier.specs.Packets.{is_spoilt}
-use Rattle.osi_carrier.specs.State.{State}
 use Rattle.osi_carrier.specs.State as states
-use Rattle.osi_carrier.specs.Rows.{Rows}
-use Rattle.osi_carrier.specs.declared.ends.EndReason.{EndReason}
-use Rattle.osi_carrier.specs.declared.ends.EndReason.TheVariants.{NoMemory}
-use Rattle.osi_between.specs.Between.{Both, Between, AreBetween, side}
-use Rattle.osi_between.specs.Terms.{Terms}
-use Rattle.osi_machine.specs.Machine.{Step}
-use Rattle.osi_machine.specs.Tables.{run, start}
-use Rattle.osi_session.specs.Shown.{Shown}
-use Rattle.osi_stack.specs.Calls.{carried}
-use Rattle.osi_stack.specs.Feeding.{TakesPackets, stops, uses_all, RunsDry, StopsBehind, Refuses, FindsNoMemory, Goes}
-use Rattle.osi_stack.specs.Hearing.{attends, ends, hears_all, hears_times, with_events, with_carrier, Starves}
-use Rattle.osi_stack.specs.State.{Line, End, Holding, waits}
-use Rattle.osi_stack.proofs.Events.{all_quiet, concluded_carrier, starved_over}
+use Rattle.osi_stack.specs.Feeding.{Goes}
+use Rattle.osi_stack.specs.Hearing.{ends}
+use Rattle.osi_stack.specs.State.{Line}
 use Rattle.osi_stack.proofs.Rooms.{found_how}
-use Rattle.osi_pair.specs.Carrying.{Crossing, CarriesPiece, crossing}
-use Rattle.osi_pair.specs.Ends.{TwoEnds, end_at, reachable}
-use Rattle.osi_pair.specs.Entries.{Entry}
-use Rattle.osi_pair.specs.Reaching.{within, reach_after}
-use Rattle.osi_pair.specs.Sides.{other}
-use Rattle.osi_pair.specs.Standing.{terms_in, carriers_of, StandsAt, StandsAtArrivals}
-use Rattle.osi_pair.specs.Telling.{waiting_in, quieted, told_entries, ShowsFirst}
-use Rattle.osi_pair.specs.declared.reach.Reach.{Reach}
-use Rattle.osi_pair.specs.declared.sides.Side.{Side}
-use Rattle.osi_pair.specs.declared.sides.Side.TheVariants.{Left, Right}
+use Rattle.osi_pair.proofs.Vocabulary.{drop-nil, append-nil, length-append, length-take, length-drop, Held, IsPacket, IsFaultOf, ArePackets, offset_of, TpktFault, is_spoilt, State, Rows, EndReason, NoMemory, Both, Between, AreBetween, side, Terms, Step, run, start, Shown, carried, TakesPackets, stops, uses_all, RunsDry, StopsBehind, Refuses, FindsNoMemory, attends, hears_all, hears_times, with_events, with_carrier, Starves, End, Holding, waits, all_quiet, concluded_carrier, starved_over, Crossing, CarriesPiece, crossing, TwoEnds, end_at, reachable, Entry, within, reach_after, other, terms_in, carriers_of, StandsAt, StandsAtArrivals, waiting_in, quieted, told_entries, ShowsFirst, Reach, Side, Left, Right}
 use Rattle.osi_pair.proofs.StandingFinish.{terms_at, order_of}
 use Rattle.osi_pair.proofs.StandingHanded.{CarriedLaw, handed, HoldsMore, handed_at}
 use Rattle.osi_pair.proofs.StandingPacket.{quiet_of}

@@ -1,34 +1,14 @@
 -- Two ends that stand at a list of steps promise what the machine promises.
 use Rattle.std.proofs.Common.{◌≡◌, refl, sym, ◌∙◌, ap, subst, ℕ, zero, suc, ◌<◌, ◌≤◌, Bool, true, false, ◌&&◌, List, [], ◌∷◌, map, Option, Some, None, option_map, is_some, IsSome, inl, inr, ◌⊎◌, if◌then◌else◌, arith}
-use Rattle.std.proofs.lemmas.Bool.{cases_lt, or_parts}
-use Rattle.std.specs.List.{list_any}
-use Rattle.osi_carrier.proofs.Apart.{absent, beyond}
-use Rattle.osi_carrier.specs.Rows.{Rows, value_at}
-use Rattle.osi_carrier.specs.State.{Connection}
-use Rattle.osi_carrier.specs.declared.ends.EndReason.{EndReason}
 use Rattle.osi_carrier.specs.declared.ends.EndReason.TheVariants as why
-use Rattle.osi_between.specs.Terms.{terms_of}
-use Rattle.osi_machine.specs.AsTables.{IsTableRun, OfEachLine, HoldNoneTwice, AreAgreed, IsSeenInBoth, TellsNoFault, LosesAsItEnds, AreOffered, offers_in}
 use Rattle.osi_machine.specs.AsTables as tables
-use Rattle.osi_machine.specs.Floor.{State, Token, data_token, minor, major, release, has, no_token}
-use Rattle.osi_machine.specs.Machine.{Ending, IsLegal, Step, connection_at}
+use Rattle.osi_machine.specs.Floor.{State}
 use Rattle.osi_machine.specs.Machine as entries
-use Rattle.osi_machine.specs.Runs.{is_loss, loses}
 use Rattle.osi_machine.specs.Runs as runs
-use Rattle.osi_machine.specs.Tables.{Tables, run, start}
 use Rattle.osi_machine.specs.Views.{Told, told_of}
-use Rattle.osi_session.specs.Listening.{Listener}
-use Rattle.osi_session.specs.Moves.{Standing}
-use Rattle.osi_session.specs.Shown.{Shown, PeerAbort, BadUnit}
-use Rattle.osi_stack.specs.Calls.{held_by, numbers_of}
-use Rattle.osi_stack.specs.State.{Holding, session_at, session_in}
-use Rattle.osi_pair.specs.Ends.{TwoEnds, end_at}
-use Rattle.osi_pair.specs.Entries.{Entry, asks, calls, shows, ends}
-use Rattle.osi_pair.specs.Promises.{with_word, journal_in, IsLegalJournal, AllWereAskedFor, OfEachConnection, HaveOneHolder, AgreeUnlessDuplex, IsShownAsAsked, IsSeenThere, confirmed_at, ConfirmedIsSeen, is_fault, HasNoFault, EndsForFewReasons, ending_of, LoseAsTheyEnd}
-use Rattle.osi_pair.specs.Standing.{side_in, entry_in, ending_in, terms_in, HasLine, IsInOrder, StandsAt, joining}
-use Rattle.osi_pair.specs.declared.sides.Side.{Side}
-use Rattle.osi_pair.specs.declared.sides.Side.TheVariants.{Left, Right}
+use Rattle.osi_pair.specs.Entries.{calls, ends}
 use Rattle.osi_machine.proofs.Tokens.{none_held}
+use Rattle.osi_pair.proofs.Vocabulary.{cases_lt, or_parts, list_any, absent, beyond, Rows, value_at, Connection, EndReason, terms_of, IsTableRun, OfEachLine, HoldNoneTwice, AreAgreed, IsSeenInBoth, TellsNoFault, LosesAsItEnds, AreOffered, offers_in, Token, data_token, minor, major, release, has, no_token, Ending, IsLegal, Step, connection_at, is_loss, loses, Tables, run, start, Listener, Standing, Shown, PeerAbort, BadUnit, held_by, numbers_of, Holding, session_at, session_in, TwoEnds, end_at, Entry, asks, shows, with_word, journal_in, IsLegalJournal, AllWereAskedFor, OfEachConnection, HaveOneHolder, AgreeUnlessDuplex, IsShownAsAsked, IsSeenThere, confirmed_at, ConfirmedIsSeen, is_fault, HasNoFault, EndsForFewReasons, ending_of, LoseAsTheyEnd, side_in, entry_in, ending_in, terms_in, HasLine, IsInOrder, StandsAt, joining, Side, Left, Right}
 
 -- ---- plain facts
 

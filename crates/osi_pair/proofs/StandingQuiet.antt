@@ -1,18 +1,9 @@
 -- The lines of an end, when all that waited was shown.
 use Rattle.std.proofs.Common.{◌≡◌, ℕ, ◌==◌, Bool, true, false, if◌then◌else◌, List, [], ◌∷◌, ◌++◌, map, Option, Some, None, option_map, refl, sym, ap, ◌∙◌, arith}
-use Rattle.std.proofs.lemmas.Bool.{eqb-true}
-use Rattle.std.proofs.lemmas.List.{append-nil}
-use Rattle.osi_carrier.specs.Orderly.{RiseFrom, AreUpTo}
-use Rattle.osi_carrier.specs.Rows.{Rows, value_at, put}
+use Rattle.osi_carrier.specs.Rows.{put}
 use Rattle.osi_session.specs.Listening.{Move}
-use Rattle.osi_session.specs.Shown.{Shown}
-use Rattle.osi_stack.specs.Folds.{AllCameAbout}
-use Rattle.osi_stack.specs.Links.{AreApart}
-use Rattle.osi_stack.specs.Messages.{kept_at}
-use Rattle.osi_stack.specs.Moving.{line_after}
-use Rattle.osi_stack.specs.State.{Line, End, session_in}
-use Rattle.osi_pair.specs.Standing.{IsInOrder}
-use Rattle.osi_pair.specs.Telling.{waiting_in, quieted}
+use Rattle.osi_stack.specs.State.{Line}
+use Rattle.osi_pair.proofs.Vocabulary.{eqb-true, append-nil, RiseFrom, AreUpTo, Rows, value_at, Shown, AllCameAbout, AreApart, kept_at, line_after, End, session_in, IsInOrder, waiting_in, quieted}
 
 abbrev pub quiet_line : Line → Line
 quiet_line line = record line { waiting = [] }

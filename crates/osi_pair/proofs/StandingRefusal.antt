@@ -1,36 +1,10 @@
 -- Who asks for a connection is answered as the machine answers him.
 use Rattle.std.proofs.Common.{◌≡◌, refl, sym, ◌∙◌, ap, subst, ℕ, zero, suc, ◌+◌, ◌<◌, ◌≤◌, ◌==◌, ◌&&◌, ◌||◌, Bool, true, false, not, nat_le, nat_lt, if◌then◌else◌, List, [], ◌∷◌, length, map, Option, Some, None, option_map, is_some, arith}
-use Rattle.std.proofs.lemmas.Bool.{eqb-true}
-use Rattle.std.proofs.lemmas.Bool.Decides.{nat_tests}
-use Rattle.std.proofs.lemmas.List.{length-map}
-use Rattle.std.specs.List.{list_any, slice_get}
-use Rattle.osi_class.specs.declared.terms.Class.{Class}
-use Rattle.osi_class.specs.declared.terms.Class.TheVariants.{Zero, Two}
-use Rattle.osi_carrier.specs.Calls.{may_connect, class_error, room_error, or_else}
-use Rattle.osi_carrier.specs.Place.{was_given}
-use Rattle.osi_carrier.specs.Orderly.{RiseFrom, AreUpTo}
-use Rattle.osi_carrier.specs.Rows.{Rows, value_at}
-use Rattle.osi_carrier.specs.State.{Connection, asked, linked, closing, State as Carrier}
-use Rattle.osi_carrier.specs.declared.ends.EndReason.{EndReason}
-use Rattle.osi_carrier.specs.declared.faults.OpenError.{OpenError}
 use Rattle.osi_carrier.specs.declared.faults.OpenError.TheVariants as opening
-use Rattle.osi_carrier.proofs.Apart.{absent}
-use Rattle.osi_between.specs.Between.{Both, Between, AreBetween}
-use Rattle.osi_between.specs.Terms.{Terms, terms_of}
-use Rattle.osi_machine.specs.Machine.{Ending, Refusal, has_ended, negotiating, one_connection, too_many, references_used_up, not_selected, too_long, connection_at, is_waiting, is_live, is_known, is_class_0, live_count, is_long_selector, refusal_by}
 use Rattle.osi_machine.specs.Machine as machine
-use Rattle.osi_machine.specs.Tables.{Line, Tables, refusal, transport_of}
-use Rattle.osi_machine.specs.Worlds.{Transport}
 use Rattle.osi_machine.specs.Worlds as worlds
-use Rattle.osi_spdu.specs.Fields.{unit_bits}
-use Rattle.osi_session.specs.Units.{is_profile}
-use Rattle.osi_stack.specs.Calls.{calling_octets, called_octets, is_long_address, is_long, terms_error, after_open, connect_error}
 use Rattle.osi_stack.specs.declared.connecting.Connect.{Connect}
-use Rattle.osi_stack.specs.declared.connecting.ConnectError.{ConnectError}
-use Rattle.osi_stack.specs.declared.connecting.ConnectError.TheVariants.{NotSelected, TooLong}
-use Rattle.osi_pair.specs.Asked.{asked_of}
-use Rattle.osi_pair.specs.Ends.{TwoEnds, answer_with}
-use Rattle.osi_pair.specs.Standing.{transport_in, class_in, ending_in, offer_in, answer_in, carriers_of, Stands}
+use Rattle.osi_pair.proofs.Vocabulary.{eqb-true, nat_tests, length-map, list_any, slice_get, Class, Zero, Two, may_connect, class_error, room_error, or_else, was_given, RiseFrom, AreUpTo, Rows, value_at, Connection, asked, linked, closing, State as Carrier, EndReason, OpenError, absent, Both, Between, AreBetween, Terms, terms_of, Ending, Refusal, has_ended, negotiating, one_connection, too_many, references_used_up, not_selected, too_long, connection_at, is_waiting, is_live, is_known, is_class_0, live_count, is_long_selector, refusal_by, Line, Tables, refusal, transport_of, Transport, unit_bits, is_profile, calling_octets, called_octets, is_long_address, is_long, terms_error, after_open, connect_error, ConnectError, NotSelected, TooLong, asked_of, TwoEnds, answer_with, transport_in, class_in, ending_in, offer_in, answer_in, carriers_of, Stands}
 use Rattle.osi_pair.proofs.StandingActs.{place_given}
 
 -- ---- the live connections are those of the lines

@@ -1,19 +1,10 @@
 -- What a session answers, as octets of a TSDU.
 use Rattle.std.proofs.Common.{◌≡◌, ◌<◌, ◌≤◌, ℕ, ◌&&◌, Bool, true, false, not, if◌then◌else◌, [], length, Some, None, IfSome, refl, sym, ap, subst, ◌∙◌, arith}
-use Rattle.osi_tpkt.specs.Octets.{IsOctets}
-use Rattle.osi_machine.specs.Core.{Offer, offer_sent}
-use Rattle.osi_message.specs.InOctets.{IsInOctets}
-use Rattle.osi_message.specs.Meanings.{Meaning, CN, RF, AB, AA}
-use Rattle.osi_message.specs.Reading.{Said}
-use Rattle.osi_message.specs.Sendable.{said_of, IsSendable}
-use Rattle.osi_message.specs.Written.{unit_of, written}
-use Rattle.osi_session.specs.Moves.{Input, opened, refused, broken, taken, Standing, begun, denied, rests, react}
-use Rattle.osi_session.specs.Phases.{is_wait_transport, is_aborting, is_ended}
-use Rattle.osi_session.specs.Respond.{Outcome, in_aborting, in_ended, reply_for, respond, respond_unit, Verdict, over, dropped, faulty, fine, verdict, enacted}
-use Rattle.osi_session.specs.Units.{functional_units, has_data}
-use Rattle.osi_spdu.specs.Sizes.{are_sizes}
+use Rattle.osi_message.specs.Written.{unit_of}
+use Rattle.osi_session.specs.Respond.{over}
 use Rattle.osi_session.specs.declared.state.State.{State}
 use Rattle.osi_stack.proofs.Shortness.{SpduLaws, sent_short}
+use Rattle.osi_pair.proofs.Vocabulary.{IsOctets, Offer, offer_sent, IsInOctets, Meaning, CN, RF, AB, AA, Said, said_of, IsSendable, written, Input, opened, refused, broken, taken, Standing, begun, denied, rests, react, is_wait_transport, is_aborting, is_ended, Outcome, in_aborting, in_ended, reply_for, respond, respond_unit, Verdict, dropped, faulty, fine, verdict, enacted, functional_units, has_data, are_sizes}
 
 -- what is sent can be handed to the carrier
 pub record CanGo (x : Meaning) : Type 0 where

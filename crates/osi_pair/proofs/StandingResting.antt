@@ -1,31 +1,8 @@
 -- Two ends stand as they should behind a unit with which no session acts.
 use Rattle.std.proofs.Common.{◌≡◌, ℕ, ◌<◌, ◌≤◌, Bool, true, false, List, [], ◌∷◌, ◌++◌, Option, Some, None, is_some, option_map, refl, sym, ap, subst, ◌∙◌, arith, inr}
-use Rattle.std.proofs.lemmas.List.{append-nil}
-use Rattle.osi_tpkt.specs.Held.{Held}
-use Rattle.osi_tpdu.specs.Value.{Value}
-use Rattle.osi_carrier.specs.Place.{Place, place_at, connection_in}
-use Rattle.osi_carrier.specs.Rows.{Rows}
-use Rattle.osi_carrier.specs.State.{State}
-use Rattle.osi_between.specs.Addresses.{reference_of}
-use Rattle.osi_between.specs.Between.{Between, last_of, under_way, put_in, is_cut}
-use Rattle.osi_between.specs.Course.{progress_of}
-use Rattle.osi_between.specs.Messages.{AreLike, kind_of}
 use Rattle.osi_between.specs.Messages as carrier
-use Rattle.osi_between.specs.Progress.{Progress, leaves_use}
-use Rattle.osi_machine.specs.Machine.{connection_at, delivers, learns}
-use Rattle.osi_machine.specs.Tables.{Line as TableLine, Tables, seen_from, end_of, step, unseen}
-use Rattle.osi_machine.specs.Worlds.{Message}
-use Rattle.osi_session.specs.Moves.{Standing}
-use Rattle.osi_session.specs.Shown.{Shown}
-use Rattle.osi_stack.specs.Messages.{told_all, kept_at}
-use Rattle.osi_stack.specs.State.{Line, End}
-use Rattle.osi_pair.specs.Ends.{TwoEnds, end_at}
-use Rattle.osi_pair.specs.Sides.{other}
-use Rattle.osi_pair.specs.Standing.{side_in, is_caller, carriers_of, IsInOrder, Stands, Goes, HasJoined, joining, is_parting, message_in}
-use Rattle.osi_pair.specs.Telling.{waiting_in}
-use Rattle.osi_pair.specs.declared.reach.Reach.{Reach}
-use Rattle.osi_pair.specs.declared.sides.Side.{Side}
-use Rattle.osi_pair.specs.declared.sides.Side.TheVariants.{Left, Right}
+use Rattle.osi_stack.specs.State.{Line}
+use Rattle.osi_pair.proofs.Vocabulary.{append-nil, Held, Value, Place, place_at, connection_in, Rows, State, reference_of, Between, last_of, under_way, put_in, is_cut, progress_of, AreLike, kind_of, Progress, leaves_use, connection_at, delivers, learns, Line as TableLine, Tables, seen_from, end_of, step, unseen, Message, Standing, Shown, told_all, kept_at, End, TwoEnds, end_at, other, side_in, is_caller, carriers_of, IsInOrder, Stands, Goes, HasJoined, joining, is_parting, message_in, waiting_in, Reach, Side, Left, Right, Listener, discards, is_ended, is_over, implied, gone_is, StaysCalm, over_calm}
 use Rattle.osi_pair.proofs.StandingArrived.{PacketActs}
 use Rattle.osi_pair.proofs.StandingFinish.{terms_at, DidAt, TablesAfter, OtherSessions, is_agree, line_then, finish, known_then, was_at}
 use Rattle.osi_pair.proofs.StandingRests.{step_opens, tables_delivered, tables_rest, is_awaited, learns_row, turn_rests, answer_for, unless_broken, put_unless, answers_same, rests, sends_then, spare_by}
@@ -34,15 +11,8 @@ use Rattle.osi_pair.proofs.StandingSeats.{transport_by, transport_at, HasSession
 use Rattle.osi_pair.proofs.StandingTurned.{IsSeen, seen, seen_twice, with_holding, Turned, GoesTo, out_there, back_here}
 use Rattle.osi_pair.proofs.StandingWays.{shuts, out_keeps, back_comes, back_waits, Comes, Alone, alone_of, is_tsdu, BehindFirst, behind_first}
 use Rattle.osi_pair.proofs.StandingCut.{cut_none, end_out, end_back}
-use Rattle.osi_session.specs.Listening.{Listener}
 use Rattle.osi_pair.proofs.StandingListens.{kept_of, discards_over}
-use Rattle.osi_session.specs.Kept.{discards}
-use Rattle.osi_session.specs.Phases.{is_ended, is_over}
-use Rattle.osi_session.proofs.PhaseLaws.{implied}
-use Rattle.osi_session.proofs.KeptLaws.{gone_is}
 use Rattle.osi_session.specs.declared.state.State.{State as SessionState}
-use Rattle.osi_machine.specs.Calm.{StaysCalm}
-use Rattle.osi_machine.proofs.CalmLaws.{over_calm}
 
 -- ---- the end that took the unit
 

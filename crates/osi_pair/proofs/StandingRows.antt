@@ -1,18 +1,11 @@
 -- What may come to an end, row by row: where the connection stands there, the message with which the unit
 -- arrives, if any, and what is put in answer.
 use Rattle.std.proofs.Common.{◌≡◌, ℕ, zero, suc, true, false, List, [], ◌∷◌, Some, None, refl, arith}
-use Rattle.std.specs.List.{flat_map, AllByRecursion}
-use Rattle.osi_tpdu.specs.Value.{Value, request, confirm, disconnect, disconnected, data0, data2, acknowledge, error}
 use Rattle.osi_class.specs.Link.{Standing}
-use Rattle.osi_carrier.specs.Place.{Place, never, was_given, connection_in}
-use Rattle.osi_carrier.specs.Happenings.{Happening, opened, refused, tsdu, closed}
-use Rattle.osi_carrier.specs.State.{asked, linked, closing}
-use Rattle.osi_between.specs.Between.{told_of, answers_in}
-use Rattle.osi_between.specs.Course.{progress_of}
-use Rattle.osi_between.specs.Messages.{Message, ask, agree, deny, message, bye, over, messages_after, begun_at}
-use Rattle.osi_between.specs.Progress.{Progress, not_yet, awaiting, in_use, shutting, behind_arrivals, behind_puts, may_arrive}
+use Rattle.osi_carrier.specs.Happenings.{opened, refused}
+use Rattle.osi_between.specs.Messages.{Message, ask, agree, deny, bye, over}
 use Rattle.osi_between.specs.Progress as progress
-use Rattle.osi_between.specs.Terms.{Terms, by_two, by_zero, refusing, accepts_in}
+use Rattle.osi_pair.proofs.Vocabulary.{flat_map, AllByRecursion, Value, request, confirm, disconnect, disconnected, data0, data2, acknowledge, error, Place, never, was_given, connection_in, Happening, tsdu, closed, asked, linked, closing, told_of, answers_in, progress_of, message, messages_after, begun_at, Progress, not_yet, awaiting, in_use, shutting, behind_arrivals, behind_puts, may_arrive, Terms, by_two, by_zero, refusing, accepts_in}
 use Rattle.osi_pair.proofs.StandingArriving.{comes}
 
 pub data Row : Type 0 where

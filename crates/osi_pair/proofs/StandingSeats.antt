@@ -1,25 +1,9 @@
 -- A side of a connection: what it is by how far its connection is, and its session.
 use Rattle.std.proofs.Common.{◌≡◌, ℕ, ◌<◌, Bool, true, false, nat_lt, if◌then◌else◌, List, Option, Some, None, is_some, IfSome, refl, sym, ap, ◌∙◌, arith}
-use Rattle.std.proofs.lemmas.Bool.Decides.{nat_tests}
-use Rattle.osi_tpkt.specs.Held.{Held}
-use Rattle.osi_carrier.specs.Place.{Place, never, was_given, place_at}
-use Rattle.osi_carrier.specs.Orderly.{IsOrderly}
-use Rattle.osi_carrier.specs.Rows.{Rows, value_at}
-use Rattle.osi_carrier.specs.State.{Connection, asked, linked, closing, State}
-use Rattle.osi_carrier.proofs.Apart.{beyond}
-use Rattle.osi_between.specs.Course.{progress_of}
-use Rattle.osi_between.specs.Progress.{Progress, not_yet, awaiting, in_use, shutting}
 use Rattle.osi_between.specs.Progress as progress
-use Rattle.osi_machine.specs.Tables.{Seat, awaits}
-use Rattle.osi_machine.specs.Worlds.{Message, Transport}
 use Rattle.osi_machine.specs.Worlds as worlds
-use Rattle.osi_message.specs.InOctets.{IsInOctets}
-use Rattle.osi_session.specs.Listening.{Listener}
-use Rattle.osi_session.specs.Moves.{Standing}
-use Rattle.osi_session.specs.Phases.{is_ended}
-use Rattle.osi_stack.specs.Messages.{kept_at}
-use Rattle.osi_stack.specs.State.{Line, End, Holding, session_in, session_at}
-use Rattle.osi_pair.specs.Standing.{transport_in, is_parting, IsSeated, joining}
+use Rattle.osi_stack.specs.State.{Line}
+use Rattle.osi_pair.proofs.Vocabulary.{nat_tests, Held, Place, never, was_given, place_at, IsOrderly, Rows, value_at, Connection, asked, linked, closing, State, beyond, progress_of, Progress, not_yet, awaiting, in_use, shutting, Seat, awaits, Message, Transport, IsInOctets, Listener, Standing, is_ended, kept_at, End, Holding, session_in, session_at, transport_in, is_parting, IsSeated, joining}
 
 -- ---- by how far the connection is
 

@@ -1,29 +1,9 @@
 -- An end sends a unit on an open connection: the tables put it.
 use Rattle.std.proofs.Common.{◌≡◌, ℕ, Bool, true, false, List, [], ◌∷◌, Some, None, is_some, refl, sym, ap, subst, ◌∙◌, arith}
-use Rattle.osi_tpkt.specs.Octets.{IsOctets}
-use Rattle.osi_class.specs.Between.{IsShortTsdu}
 use Rattle.osi_class.specs.Link.{Standing as Link}
-use Rattle.osi_carrier.specs.Calls.{sent}
-use Rattle.osi_carrier.specs.Place.{place_at}
-use Rattle.osi_carrier.specs.Rows.{value_at}
-use Rattle.osi_carrier.specs.State.{State, linked}
-use Rattle.osi_between.specs.Between.{Between, last_of, under_way, put_in, is_cut}
-use Rattle.osi_between.specs.Course.{progress_of}
 use Rattle.osi_between.specs.Messages as carrier
-use Rattle.osi_between.specs.Progress.{Progress, in_use, leaves_use}
-use Rattle.osi_machine.specs.Machine.{connection_at}
-use Rattle.osi_machine.specs.Tables.{Line, Tables, seen_from, stays, puts}
-use Rattle.osi_machine.specs.Worlds.{Message, Transport, unit, put}
 use Rattle.osi_machine.specs.Worlds as worlds
-use Rattle.osi_message.specs.Meanings.{Meaning}
-use Rattle.osi_message.specs.Written.{written}
-use Rattle.osi_stack.specs.Hearing.{with_carrier}
-use Rattle.osi_stack.specs.State.{Holding}
-use Rattle.osi_pair.specs.Ends.{TwoEnds, end_at}
-use Rattle.osi_pair.specs.Sides.{other}
-use Rattle.osi_pair.specs.Standing.{side_in, is_caller, carriers_of, IsInOrder, Stands, HasJoined}
-use Rattle.osi_pair.specs.declared.sides.Side.{Side}
-use Rattle.osi_pair.specs.declared.sides.Side.TheVariants.{Left, Right}
+use Rattle.osi_pair.proofs.Vocabulary.{IsOctets, IsShortTsdu, sent, place_at, value_at, State, linked, Between, last_of, under_way, put_in, is_cut, progress_of, Progress, in_use, leaves_use, connection_at, Line, Tables, seen_from, stays, puts, Message, Transport, unit, put, Meaning, written, with_carrier, Holding, TwoEnds, end_at, other, side_in, is_caller, carriers_of, IsInOrder, Stands, HasJoined, Side, Left, Right, given_live}
 use Rattle.osi_pair.proofs.StandingActed.{ActsOn, CarrierActs, end_with, pair_with, ways_at, acted_line, acted_stands, seen_at, session_in_use, stood_in_use, stands_now, OutNow, acted_by}
 use Rattle.osi_pair.proofs.StandingActs.{StandsOn}
 use Rattle.osi_pair.proofs.StandingArrived.{CarrierLaws}
@@ -35,7 +15,6 @@ use Rattle.osi_pair.proofs.StandingSeats.{transport_at}
 use Rattle.osi_pair.proofs.StandingTurned.{IsSeen, with_holding, GoesTo}
 use Rattle.osi_pair.proofs.StandingWays.{out_keeps}
 use Rattle.osi_pair.proofs.StandingCut.{cut_none, end_out}
-use Rattle.osi_between.proofs.JoinedMoves.{given_live}
 use Rattle.osi_pair.proofs.StandingPacket.{both_carrier}
 
 -- ---- the carrier

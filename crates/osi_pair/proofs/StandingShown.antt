@@ -1,14 +1,5 @@
 -- An end took a packet, or ended: how two ends stand when its users were shown all that came of it.
-use Rattle.std.specs.Prelude.{◌≡◌, List, None}
-use Rattle.osi_tpkt.specs.Held.{Held}
-use Rattle.osi_between.specs.Between.{Between}
-use Rattle.osi_machine.specs.Machine.{Step}
-use Rattle.osi_machine.specs.Tables.{Tables, run}
-use Rattle.osi_stack.specs.State.{End}
-use Rattle.osi_pair.specs.Ends.{TwoEnds, end_at, noted}
-use Rattle.osi_pair.specs.Standing.{side_in, AreArrivals, Stands}
-use Rattle.osi_pair.specs.Telling.{waiting_in, quieted, told_entries}
-use Rattle.osi_pair.specs.declared.sides.Side.{Side}
+use Rattle.osi_pair.proofs.Vocabulary.{◌≡◌, List, None, Held, Between, Step, Tables, run, End, TwoEnds, end_at, noted, side_in, AreArrivals, Stands, waiting_in, quieted, told_entries, Side}
 use Rattle.osi_pair.proofs.StandingTurned.{with_holding}
 
 -- The end of a side, which had not ended, is this; its users were shown all that waits, and the journal says so.

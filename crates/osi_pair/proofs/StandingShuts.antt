@@ -1,37 +1,13 @@
 -- In class 0 a session closes: the end comes. There is one connection, so that what its session shows stands in
 -- the order of the tables.
 use Rattle.std.proofs.Common.{◌≡◌, ℕ, ◌≤◌, Bool, true, false, List, [], ◌∷◌, ◌++◌, map, Option, Some, None, refl, sym, ap, subst, ◌∙◌, arith}
-use Rattle.std.proofs.lemmas.List.{append-nil, append_assoc, map-append}
-use Rattle.osi_tpkt.specs.Held.{Held}
 use Rattle.osi_class.specs.Link.{Standing as Link}
-use Rattle.osi_carrier.specs.Calls.{closed_with}
-use Rattle.osi_carrier.specs.Place.{Place, never, was_given}
-use Rattle.osi_carrier.specs.Orderly.{RiseFrom, AreUpTo}
-use Rattle.osi_carrier.specs.Rows.{Rows, value_at}
-use Rattle.osi_carrier.specs.State.{State, linked}
 use Rattle.osi_carrier.specs.State as carriers
-use Rattle.osi_carrier.specs.declared.ends.EndReason.TheVariants.{Closed}
-use Rattle.osi_between.specs.Between.{Both, Between, AreBetween, last_of}
-use Rattle.osi_between.specs.Terms.{Terms, by_zero}
-use Rattle.osi_between.specs.Zero.{given_in}
-use Rattle.osi_machine.specs.Machine.{closed_here, delivers, shown_at}
-use Rattle.osi_machine.specs.Tables.{Tables, closes_by, noted as noted_in, stays, after_end, step}
-use Rattle.osi_machine.specs.Worlds.{Message}
+use Rattle.osi_machine.specs.Tables.{noted as noted_in}
 use Rattle.osi_machine.specs.Worlds as worlds
-use Rattle.osi_message.specs.Meanings.{Meaning}
-use Rattle.osi_message.specs.Parting.{tsdus_sent}
-use Rattle.osi_session.specs.Moves.{Input, react}
-use Rattle.osi_session.specs.Shown.{Shown}
-use Rattle.osi_stack.specs.Hearing.{after_packet, concludes, all_lost, shown_at_loss}
-use Rattle.osi_stack.specs.Moving.{answers}
-use Rattle.osi_stack.specs.State.{Line, End}
-use Rattle.osi_stack.specs.Transport.{answers_by}
-use Rattle.osi_pair.specs.Ends.{TwoEnds, end_at}
-use Rattle.osi_pair.specs.Entries.{Entry, ends}
-use Rattle.osi_pair.specs.Standing.{side_in, is_caller, carriers_of, Stands}
-use Rattle.osi_pair.specs.Telling.{waiting_in, quieted, shown_entries}
-use Rattle.osi_pair.specs.declared.sides.Side.{Side}
-use Rattle.osi_pair.specs.declared.sides.Side.TheVariants.{Left, Right}
+use Rattle.osi_stack.specs.State.{Line}
+use Rattle.osi_pair.specs.Entries.{ends}
+use Rattle.osi_pair.proofs.Vocabulary.{append-nil, append_assoc, map-append, Held, closed_with, Place, never, was_given, RiseFrom, AreUpTo, Rows, value_at, State, linked, Closed, Both, Between, AreBetween, last_of, Terms, by_zero, given_in, closed_here, delivers, shown_at, Tables, closes_by, stays, after_end, step, Message, Meaning, tsdus_sent, Input, react, Shown, after_packet, concludes, all_lost, shown_at_loss, answers, End, answers_by, TwoEnds, end_at, Entry, side_in, is_caller, carriers_of, Stands, waiting_in, quieted, shown_entries, Side, Left, Right}
 use Rattle.osi_pair.proofs.StandingAnswering.{AnswerLaws, closes_alone, known_zero}
 use Rattle.osi_pair.proofs.StandingAnswers.{answered_end, line_with, closing_by, move_ends, linked_closes, moved_order}
 use Rattle.osi_pair.proofs.StandingArrived.{CarrierLaws, PacketActs}

@@ -1,41 +1,11 @@
 -- Memory is wanted for what the carrier of an end told: how two ends stand then, by what arrived.
 use Rattle.std.proofs.Common.{◌≡◌, ℕ, Bool, true, false, not, ◌||◌, if◌then◌else◌, List, [], ◌∷◌, ◌++◌, map, take, Option, None, IfSome, refl, sym, ap, subst, ◌∙◌, ◌⊎◌, inl, inr, arith}
-use Rattle.std.specs.List.{list_any}
-use Rattle.std.proofs.lemmas.List.{append-nil}
-use Rattle.osi_tpkt.specs.Held.{Held}
-use Rattle.osi_tpkt.specs.Packet.{IsPacket}
-use Rattle.osi_carrier.specs.Place.{place_at}
-use Rattle.osi_carrier.specs.Happenings.{Happening}
-use Rattle.osi_carrier.specs.declared.ends.EndReason.TheVariants.{NoMemory}
-use Rattle.osi_carrier.specs.State.{State}
-use Rattle.osi_between.specs.Addresses.{reference_of}
-use Rattle.osi_between.specs.Between.{Between, last_of}
-use Rattle.osi_between.specs.Course.{progress_of}
 use Rattle.osi_between.specs.Messages as carrier
-use Rattle.osi_between.specs.Progress.{leaves_use}
-use Rattle.osi_machine.specs.AsTables.{IsTableRun, LosesAsItEnds}
 use Rattle.osi_machine.specs.Core as machine
-use Rattle.osi_machine.specs.Machine.{Entry, delivers, learns, shown_at, is_given}
-use Rattle.osi_machine.specs.Runs.{is_loss, loses}
-use Rattle.osi_machine.specs.Tables.{Line, Turn, Tables, awaits, seen_from, end_of, step, unseen, hears, puts, shortened, without_first, message_taken}
-use Rattle.osi_machine.specs.Views.{is_side}
-use Rattle.osi_machine.specs.Worlds.{Message, unit, ask, agree, deny, bye, over, put, replied}
+use Rattle.osi_machine.specs.Machine.{Entry}
+use Rattle.osi_machine.specs.Tables.{hears}
 use Rattle.osi_machine.specs.Worlds as worlds
-use Rattle.osi_message.specs.InOctets.{IsInOctets}
-use Rattle.osi_message.specs.Meanings.{Meaning}
-use Rattle.osi_session.specs.Moves.{Standing, opened, broken as broken_off, begun, rests as stays_so, react}
-use Rattle.osi_session.specs.Phases.{is_wait_transport, shows_loss}
-use Rattle.osi_session.specs.Shown.{Shown, Lost}
-use Rattle.osi_session.specs.declared.phases.Phase.{Phase}
-use Rattle.osi_session.proofs.PhaseLaws.{excluded}
-use Rattle.osi_stack.specs.Hearing.{Starves}
-use Rattle.osi_stack.specs.Messages.{told_all}
-use Rattle.osi_stack.specs.State.{End}
-use Rattle.osi_pair.specs.Ends.{TwoEnds, end_at}
-use Rattle.osi_pair.specs.Sides.{other}
-use Rattle.osi_pair.specs.Standing.{side_in, is_caller, carriers_of, message_in, Stands, Goes}
-use Rattle.osi_pair.specs.declared.sides.Side.{Side}
-use Rattle.osi_pair.specs.declared.sides.Side.TheVariants.{Left, Right}
+use Rattle.osi_pair.proofs.Vocabulary.{list_any, append-nil, Held, IsPacket, place_at, Happening, NoMemory, State, reference_of, Between, last_of, progress_of, leaves_use, IsTableRun, LosesAsItEnds, delivers, learns, shown_at, is_given, is_loss, loses, Line, Turn, Tables, awaits, seen_from, end_of, step, unseen, puts, shortened, without_first, message_taken, is_side, Message, unit, ask, agree, deny, bye, over, put, replied, IsInOctets, Meaning, Standing, opened, broken as broken_off, begun, rests as stays_so, react, is_wait_transport, shows_loss, Shown, Lost, Phase, excluded, Starves, told_all, End, TwoEnds, end_at, other, side_in, is_caller, carriers_of, message_in, Stands, Goes, Side, Left, Right, kind_of}
 use Rattle.osi_pair.proofs.StandingActs.{run_one, number_one}
 use Rattle.osi_pair.proofs.StandingAnswering.{opened_stays}
 use Rattle.osi_pair.proofs.StandingArrived.{PacketActs, packet_acts}
@@ -58,7 +28,6 @@ use Rattle.osi_pair.proofs.StandingTurned.{with_holding}
 use Rattle.osi_pair.proofs.StandingUnheard.{placed_then, acted_may_end}
 use Rattle.osi_pair.proofs.StandingWant.{alone_shown, behind_shown, ended_shown, says_then, WantLaws, has_starved}
 use Rattle.osi_pair.proofs.StandingLeaves.{out_leaves}
-use Rattle.osi_between.specs.Messages.{kind_of}
 
 -- ---- what the tables say of the other side
 

@@ -1,25 +1,8 @@
 -- A packet is taken: how two ends stand at a list of steps, when its users were shown what came of it.
 use Rattle.std.proofs.Common.{◌≡◌, ℕ, false, List, [], ◌∷◌, ◌++◌, Option, None, refl, sym, ap, subst, ◌∙◌, arith}
-use Rattle.std.specs.List.{AllByRecursion}
-use Rattle.osi_tpkt.specs.Held.{Held}
-use Rattle.osi_tpkt.specs.Packet.{IsPacket}
-use Rattle.osi_carrier.specs.Rows.{Rows}
-use Rattle.osi_carrier.specs.State.{State}
-use Rattle.osi_carrier.specs.declared.ends.EndReason.{EndReason}
-use Rattle.osi_between.specs.Between.{Between}
-use Rattle.osi_between.specs.Terms.{Terms}
-use Rattle.osi_machine.specs.AsTables.{IsTableRun}
 use Rattle.osi_machine.specs.Core as machine
-use Rattle.osi_machine.specs.Machine.{Step, connects, calls, delivers, breaks, HasNumber}
-use Rattle.osi_machine.specs.Machine.{ends as ends_side}
-use Rattle.osi_machine.specs.Tables.{Tables, run, start}
-use Rattle.osi_session.specs.Shown.{Shown}
-use Rattle.osi_stack.specs.Hearing.{after_packet}
-use Rattle.osi_stack.specs.State.{Line, End}
-use Rattle.osi_pair.specs.Ends.{TwoEnds, end_at, noted}
-use Rattle.osi_pair.specs.Standing.{side_in, is_caller, terms_in, carriers_of, AreDeliveries, AreArrivals, StandsAtArrivals, Stands, StandsAt}
-use Rattle.osi_pair.specs.Telling.{waiting_in, quieted, told_entries}
-use Rattle.osi_pair.specs.declared.sides.Side.{Side}
+use Rattle.osi_stack.specs.State.{Line}
+use Rattle.osi_pair.proofs.Vocabulary.{AllByRecursion, Held, IsPacket, Rows, State, EndReason, Between, Terms, IsTableRun, Step, connects, calls, delivers, breaks, HasNumber, ends as ends_side, Tables, run, start, Shown, after_packet, End, TwoEnds, end_at, noted, side_in, is_caller, terms_in, carriers_of, AreDeliveries, AreArrivals, StandsAtArrivals, Stands, StandsAt, waiting_in, quieted, told_entries, Side}
 use Rattle.osi_pair.proofs.StandingArrived.{PacketActs, packet_acts}
 use Rattle.osi_pair.proofs.StandingFinish.{terms_at, order_of}
 use Rattle.osi_pair.proofs.StandingPacket.{PacketLaws, StandsBehind, is_heard, unheard_packet, terms_then, both_carrier, both_held}

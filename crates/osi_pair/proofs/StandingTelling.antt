@@ -1,17 +1,7 @@
 -- A packet is taken by an end that lasts: however it is heard, two ends stand at what arrived.
 use Rattle.std.proofs.Common.{◌≡◌, ℕ, Bool, true, false, List, ◌++◌, None, refl, ◌⊎◌, inl, inr, arith}
-use Rattle.osi_tpkt.specs.Held.{Held}
-use Rattle.osi_tpkt.specs.Packet.{IsPacket}
-use Rattle.osi_carrier.specs.declared.ends.EndReason.TheVariants.{NoMemory}
-use Rattle.osi_between.specs.Between.{Between}
-use Rattle.osi_machine.specs.AsTables.{IsTableRun}
-use Rattle.osi_machine.specs.Machine.{Step}
-use Rattle.osi_machine.specs.Tables.{Tables}
-use Rattle.osi_stack.specs.Hearing.{after_packet, ends as ends_end, Starves}
-use Rattle.osi_stack.specs.State.{End}
-use Rattle.osi_pair.specs.Ends.{TwoEnds, end_at}
-use Rattle.osi_pair.specs.Standing.{is_caller, carriers_of, StandsAtArrivals, Stands, StandsAt}
-use Rattle.osi_pair.specs.declared.sides.Side.{Side}
+use Rattle.osi_stack.specs.Hearing.{ends as ends_end}
+use Rattle.osi_pair.proofs.Vocabulary.{Held, IsPacket, NoMemory, Between, IsTableRun, Step, Tables, after_packet, Starves, End, TwoEnds, end_at, is_caller, carriers_of, StandsAtArrivals, Stands, StandsAt, Side}
 use Rattle.osi_pair.proofs.StandingAnswering.{AnswerLaws, moving_packet}
 use Rattle.osi_pair.proofs.StandingArrived.{PacketActs}
 use Rattle.osi_pair.proofs.StandingFinish.{terms_at}

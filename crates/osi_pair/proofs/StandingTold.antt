@@ -1,33 +1,16 @@
 -- A side that is told of the break ends as the machine says.
 use Rattle.std.proofs.Common.{◌≡◌, refl, sym, ◌∙◌, ap, subst, ℕ, Bool, true, if◌then◌else◌, not, ◌||◌, List, [], ◌∷◌, ◌++◌, Option, Some, None, option_map, is_some, arith}
-use Rattle.std.specs.List.{AllByRecursion}
-use Rattle.osi_carrier.specs.Rows.{Rows}
-use Rattle.osi_carrier.specs.declared.ends.EndReason.{EndReason}
-use Rattle.osi_carrier.specs.declared.ends.EndReason.TheVariants.{Broken}
-use Rattle.osi_machine.specs.AsTables.{IsTableRun}
 use Rattle.osi_machine.specs.Core as machine
-use Rattle.osi_machine.specs.Machine.{Ending, told_of_break, Step, HasNumber}
 use Rattle.osi_machine.specs.Machine as entries
-use Rattle.osi_machine.specs.Tables.{Tables, end_of, after_end, run, start}
-use Rattle.osi_session.specs.Shown.{Shown}
 use Rattle.osi_stack.specs.Calls.{breaks}
 use Rattle.osi_stack.specs.Hearing as hearing
-use Rattle.osi_stack.specs.State.{End, Holding}
 use Rattle.osi_stack.specs.State as stack
-use Rattle.osi_between.specs.Terms.{terms_of, Terms}
-use Rattle.osi_pair.specs.Ends.{TwoEnds, end_at}
-use Rattle.osi_pair.specs.Entries.{Entry, ends}
-use Rattle.osi_pair.specs.Events.{HearsOfBreak, TellsBreak}
-use Rattle.osi_pair.specs.Standing.{terms_in, ending_in, Stands, StandsAt, StandsAtEnd, StandsAtTold, side_in}
-use Rattle.osi_pair.specs.Telling.{shown_entries, told_entries, ShowsFirst}
-use Rattle.osi_pair.specs.declared.reach.Reach.{Reach}
-use Rattle.osi_pair.specs.declared.sides.Side.{Side}
-use Rattle.osi_pair.specs.declared.sides.Side.TheVariants.{Left, Right}
+use Rattle.osi_pair.specs.Entries.{ends}
+use Rattle.osi_pair.proofs.Vocabulary.{AllByRecursion, Rows, EndReason, Broken, IsTableRun, Ending, told_of_break, Step, HasNumber, Tables, end_of, after_end, run, start, Shown, End, Holding, terms_of, Terms, TwoEnds, end_at, Entry, HearsOfBreak, TellsBreak, terms_in, ending_in, Stands, StandsAt, StandsAtEnd, StandsAtTold, side_in, shown_entries, told_entries, ShowsFirst, Reach, Side, Left, Right, other}
 use Rattle.osi_pair.proofs.StandingBreak.{run_behind}
 use Rattle.osi_pair.proofs.StandingAhead.{TakeLaws, takes_from}
 use Rattle.osi_pair.proofs.StandingEnded.{ended_holding, ended_pair, may_end, shown_then, ended_stands}
 use Rattle.osi_pair.proofs.StandingLost.{none_kept, IsTold}
-use Rattle.osi_pair.specs.Sides.{other}
 use Rattle.osi_pair.proofs.StandingPacket.{lasting_in}
 
 -- ---- the step

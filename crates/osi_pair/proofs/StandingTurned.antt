@@ -1,33 +1,10 @@
 -- Where one end acts for one connection, two ends stand as they should.
 use Rattle.std.proofs.Common.{◌≡◌, ◌≢◌, ℕ, ◌≤◌, ◌==◌, Bool, true, false, if◌then◌else◌, List, [], ◌∷◌, ◌++◌, length, map, Option, Some, None, is_some, option_map, refl, sym, ap, subst, ◌∙◌, not, ◌<◌, arith}
-use Rattle.std.proofs.lemmas.Bool.{eqb-true, eq-eqb}
-use Rattle.std.proofs.lemmas.List.{map-append}
-use Rattle.osi_tpkt.specs.Held.{Held}
-use Rattle.osi_carrier.specs.Place.{place_at}
-use Rattle.osi_carrier.specs.Rows.{value_at}
-use Rattle.osi_between.specs.Between.{Between, AreBetween, last_of, under_way, is_cut}
-use Rattle.osi_between.specs.Course.{progress_of}
-use Rattle.osi_between.specs.Terms.{terms_of}
-use Rattle.osi_class.specs.declared.terms.Local.{Local}
 use Rattle.osi_machine.specs.Core as machine
-use Rattle.osi_machine.specs.Machine.{shown_at, connection_at}
 use Rattle.osi_machine.specs.Machine as entries
-use Rattle.osi_machine.specs.Tables.{Seat, Line, Tables, seen_from}
-use Rattle.osi_session.specs.Listening.{Listener}
-use Rattle.osi_session.specs.Shown.{Shown}
-use Rattle.osi_stack.specs.Messages.{kept_at}
-use Rattle.osi_stack.specs.State.{End, Holding, session_at}
-use Rattle.osi_pair.specs.Ends.{TwoEnds, end_at, with_end, noted}
-use Rattle.osi_pair.specs.Entries.{Entry}
-use Rattle.osi_pair.specs.Sides.{other}
-use Rattle.osi_pair.specs.Standing.{side_in, is_caller, ending_in, terms_in, transport_in, class_in, entry_in, carriers_of, IsSeated, IsUnderWay, IsLine, HasLine, IsInOrder, Stands, HasJoined, AreUnderWay, Goes}
-use Rattle.osi_pair.specs.Telling.{waiting_in, shown_entries}
-use Rattle.osi_pair.specs.declared.sides.Side.{Side}
-use Rattle.osi_pair.specs.declared.sides.Side.TheVariants.{Left, Right}
+use Rattle.osi_pair.proofs.Vocabulary.{eqb-true, eq-eqb, map-append, Held, place_at, value_at, Between, AreBetween, last_of, under_way, is_cut, progress_of, terms_of, Local, shown_at, connection_at, Seat, Line, Tables, seen_from, Listener, Shown, kept_at, End, Holding, session_at, TwoEnds, end_at, with_end, noted, Entry, other, side_in, is_caller, ending_in, terms_in, transport_in, class_in, entry_in, carriers_of, IsSeated, IsUnderWay, IsLine, HasLine, IsInOrder, Stands, HasJoined, AreUnderWay, Goes, waiting_in, shown_entries, Side, Left, Right, Progress, Message}
 use Rattle.osi_pair.proofs.StandingCut.{end_out, end_back}
 use Rattle.osi_pair.proofs.StandingWays.{way_same}
-use Rattle.osi_between.specs.Progress.{Progress}
-use Rattle.osi_machine.specs.Worlds.{Message}
 use Rattle.osi_session.specs.declared.state.State.{State as SessionState}
 use Rattle.osi_pair.proofs.StandingSeats.{live_session}
 

@@ -1,23 +1,7 @@
 -- An end whose carrier acted for a unit of which no session heard may end.
 use Rattle.std.proofs.Common.{◌≡◌, ◌≢◌, ℕ, ◌≤◌, ◌==◌, Bool, true, false, nat_lt, List, [], length, Some, None, IfSome, option_map, refl, sym, ap, subst, ◌∙◌, arith, ◌<◌}
-use Rattle.std.proofs.lemmas.Bool.{eqb-true, eq-eqb}
-use Rattle.std.proofs.lemmas.List.{append-nil}
-use Rattle.osi_tpkt.specs.Held.{Held}
-use Rattle.osi_carrier.specs.Place.{place_at}
-use Rattle.osi_carrier.specs.State.{State}
-use Rattle.osi_between.specs.Addresses.{reference_of}
-use Rattle.osi_between.specs.Between.{Between, is_cut, under_way, last_of}
-use Rattle.osi_between.specs.Course.{progress_of}
-use Rattle.osi_between.specs.Progress.{not_yet}
-use Rattle.osi_machine.specs.Machine.{is_given}
-use Rattle.osi_machine.specs.Tables.{Seat, Line, Tables, awaits, seen_from}
 use Rattle.osi_machine.specs.Worlds as worlds
-use Rattle.osi_message.specs.InOctets.{IsInOctets}
-use Rattle.osi_stack.specs.State.{End}
-use Rattle.osi_pair.specs.Ends.{TwoEnds, end_at}
-use Rattle.osi_pair.specs.Standing.{side_in, is_caller, transport_in, class_in, carriers_of, HasLine, Stands, HasJoined}
-use Rattle.osi_pair.specs.declared.sides.Side.{Side}
-use Rattle.osi_pair.specs.declared.sides.Side.TheVariants.{Left, Right}
+use Rattle.osi_pair.proofs.Vocabulary.{eqb-true, eq-eqb, append-nil, Held, place_at, State, reference_of, Between, is_cut, under_way, last_of, progress_of, not_yet, is_given, Seat, Line, Tables, awaits, seen_from, IsInOctets, End, TwoEnds, end_at, side_in, is_caller, transport_in, class_in, carriers_of, HasLine, Stands, HasJoined, Side, Left, Right, other}
 use Rattle.osi_pair.proofs.StandingArrived.{PacketActs}
 use Rattle.osi_pair.proofs.StandingAhead.{TakesFrom}
 use Rattle.osi_pair.proofs.StandingEnded.{EndingLine, MayEnd, whole_line}
@@ -30,7 +14,6 @@ use Rattle.osi_pair.proofs.StandingSeats.{transport_by, transport_at}
 use Rattle.osi_pair.proofs.StandingCut.{end_out}
 use Rattle.osi_pair.proofs.StandingTurned.{seen, seen_twice, with_holding, LinesAfter, out_there}
 use Rattle.osi_pair.proofs.StandingWays.{way_same}
-use Rattle.osi_pair.specs.Sides.{other}
 
 -- ---- its connections
 

@@ -1,16 +1,10 @@
 -- A side whose transport connection waits to be agreed to: its session waits too, with the CN of what was asked for.
 use Rattle.std.proofs.Common.{◌≡◌, ℕ, true, Option, Some, None, sym, ap, subst, ◌∙◌, arith}
-use Rattle.osi_machine.specs.AsTables.{IsTableRun}
-use Rattle.osi_machine.specs.Core.{Offer, offer_sent}
 use Rattle.osi_machine.specs.Core as machine
-use Rattle.osi_machine.specs.Machine.{Machine, connection_at, start, run}
-use Rattle.osi_machine.specs.Tables.{Seat, Line, Tables, seen_from}
-use Rattle.osi_machine.specs.Worlds.{World, waiting, Kept}
-use Rattle.osi_machine.proofs.CoreLaws.{SessionLaws}
+use Rattle.osi_machine.specs.Machine.{start, run}
 use Rattle.osi_machine.proofs.TableLines.{IsSeated, seat_of, Tabled, turned_tabled, SaysItsUnit}
 use Rattle.osi_machine.proofs.TableRuns.{At, line_there, all_follow}
-use Rattle.osi_message.specs.Meanings.{Meaning}
-use Rattle.osi_session.specs.Phases.{is_wait_transport}
+use Rattle.osi_pair.proofs.Vocabulary.{IsTableRun, Offer, offer_sent, Machine, connection_at, Seat, Line, Tables, seen_from, World, waiting, Kept, SessionLaws, Meaning, is_wait_transport}
 use Rattle.osi_pair.proofs.StandingTurned.{seen_twice}
 
 pub record IsCalling (x : Seat) : Type 0 where

@@ -1,41 +1,13 @@
 -- Memory is wanted at an end: the step of the tables, and what becomes of a packet.
 use Rattle.std.proofs.Common.{◌≡◌, ◌≢◌, ℕ, zero, suc, ◌+◌, ◌==◌, Bool, true, false, if◌then◌else◌, ◌||◌, List, [], ◌∷◌, ◌++◌, length, map, Option, Some, None, is_some, refl, sym, ap, subst, ◌∙◌, ◌⊎◌, inl, inr, arith}
-use Rattle.std.specs.List.{slice_get}
-use Rattle.std.proofs.lemmas.Bool.{eqb-true, eq-eqb}
-use Rattle.osi_tpkt.specs.Held.{Held}
-use Rattle.osi_tpkt.specs.Packet.{IsPacket}
-use Rattle.osi_tpdu.specs.Value.{Value}
-use Rattle.osi_carrier.specs.Calls.{ended_by}
-use Rattle.osi_carrier.specs.Happenings.{Happening}
 use Rattle.osi_carrier.specs.Packets as packets
 use Rattle.osi_carrier.specs.React.{react as carrier_react}
-use Rattle.osi_carrier.specs.Rows.{Rows}
-use Rattle.osi_carrier.specs.State.{State}
 use Rattle.osi_carrier.specs.State as carriers
-use Rattle.osi_carrier.specs.declared.ends.EndReason.{EndReason}
-use Rattle.osi_carrier.specs.declared.ends.EndReason.TheVariants.{NoMemory}
-use Rattle.osi_between.specs.Addresses.{reference_of}
-use Rattle.osi_between.specs.Between.{Both, side, Between, AreBetween}
-use Rattle.osi_between.specs.Terms.{Terms}
 use Rattle.osi_machine.specs.Core as machine
-use Rattle.osi_machine.specs.Machine.{Ending, no_memory, connection_at, delivers, shown_at}
 use Rattle.osi_machine.specs.Machine as entries
-use Rattle.osi_machine.specs.Tables.{Line, Tables, seen_from, end_of, shown_in_order, after_end, step}
-use Rattle.osi_session.specs.Moves.{broken as broken_off, react}
-use Rattle.osi_session.specs.Shown.{Shown}
-use Rattle.osi_stack.specs.Hearing.{with_carrier, with_events, hears, hears_first, hears_next, hears_times, attends, concludes, starves, all_lost, RunsOut, Starves}
 use Rattle.osi_stack.specs.Hearing as hearing
-use Rattle.osi_stack.specs.Messages.{told_all}
-use Rattle.osi_stack.specs.Needs.{needs_memory}
-use Rattle.osi_stack.specs.State.{End}
 use Rattle.osi_stack.specs.State as stack
-use Rattle.osi_stack.proofs.Events.{all_quiet, never_starved}
-use Rattle.osi_stack.proofs.Keeping.{hears_keep}
-use Rattle.osi_pair.specs.Ends.{TwoEnds, end_at}
-use Rattle.osi_pair.specs.Standing.{side_in, is_caller, carriers_of, Stands}
-use Rattle.osi_pair.specs.Telling.{waiting_in, quieted}
-use Rattle.osi_pair.specs.declared.sides.Side.{Side}
-use Rattle.osi_pair.specs.declared.sides.Side.TheVariants.{Left, Right}
+use Rattle.osi_pair.proofs.Vocabulary.{slice_get, eqb-true, eq-eqb, Held, IsPacket, Value, ended_by, Happening, Rows, State, EndReason, NoMemory, reference_of, Both, side, Between, AreBetween, Terms, Ending, no_memory, connection_at, delivers, shown_at, Line, Tables, seen_from, end_of, shown_in_order, after_end, step, broken as broken_off, react, Shown, with_carrier, with_events, hears, hears_first, hears_next, hears_times, attends, concludes, starves, all_lost, RunsOut, Starves, told_all, needs_memory, End, all_quiet, never_starved, hears_keep, TwoEnds, end_at, side_in, is_caller, carriers_of, Stands, waiting_in, quieted, Side, Left, Right}
 use Rattle.osi_pair.proofs.StandingArrived.{PacketActs}
 use Rattle.osi_pair.proofs.StandingAhead.{TakesFrom}
 use Rattle.osi_pair.proofs.StandingEnded.{MayEnd, lost_end, lost_stands, may_end, all_shown_then}

@@ -1,29 +1,11 @@
 -- What is under way, as the messages of the tables and as those between two carriers, where one end acts.
 use Rattle.std.proofs.Common.{◌≡◌, ℕ, zero, suc, Bool, true, false, ◌||◌, ◌≤◌, ◌⊎◌, inl, inr, List, [], ◌∷◌, ◌++◌, length, map, take, drop, Option, Some, None, refl, sym, ap, subst, ◌∙◌, append_assoc, arith}
-use Rattle.std.proofs.Math.Seq.{take-append_seam}
-use Rattle.std.proofs.lemmas.List.{length-map, map-append, append-nil, take-append-drop}
-use Rattle.osi_carrier.specs.Place.{Place, never, was_given, connection_in}
-use Rattle.osi_carrier.specs.State.{asked, linked, closing}
-use Rattle.osi_between.specs.Course.{progress_of}
-use Rattle.osi_between.specs.Messages.{kind_of, AreLike}
 use Rattle.osi_between.specs.Messages as carrier
-use Rattle.osi_between.specs.Progress.{Progress, not_yet, awaiting, in_use, shutting}
 use Rattle.osi_between.specs.Progress as progress
-use Rattle.osi_machine.specs.Worlds.{Message, unit, ask, agree, deny, bye, over}
-use Rattle.osi_carrier.specs.declared.ends.EndReason.{EndReason}
-use Rattle.osi_pair.specs.Standing.{AreAlike, message_in, word_in, AreUnderWay}
-use Rattle.osi_machine.specs.AsTables.{IsOverWhenLeft}
-use Rattle.osi_machine.specs.Calm.{after_message, IsCalm, StaysCalm, IsNoFaultBehind}
-use Rattle.osi_machine.proofs.CalmLaws.{over_calm}
 use Rattle.osi_session.specs.declared.state.State.{State}
-use Rattle.osi_pair.specs.Words.{Word, whole, part, joins, left_of, IsBegun, AreInOrder, MayFollow, most_data}
+use Rattle.osi_pair.proofs.Vocabulary.{take-append_seam, length-map, map-append, append-nil, take-append-drop, Place, never, was_given, connection_in, asked, linked, closing, progress_of, kind_of, AreLike, Progress, not_yet, awaiting, in_use, shutting, Message, unit, ask, agree, deny, bye, over, EndReason, AreAlike, message_in, word_in, AreUnderWay, IsOverWhenLeft, after_message, IsCalm, StaysCalm, IsNoFaultBehind, over_calm, Word, whole, part, joins, left_of, IsBegun, AreInOrder, MayFollow, most_data, is_leaving, DT, part_octets, First, Middle, Last, list_any}
 use Rattle.osi_pair.proofs.WordLaws.{IsRest, Next, FrontOf, next_is, front_of, cut_behind, cut_fits, AreWords, wholes, put_words, MayLeave, leave_behind, joins_whole, whole_order, whole_left}
 use Rattle.osi_pair.proofs.StandingRows.{Row, quiet, still, begins, refuses, agrees, denies, tells, leaves, ignores, ends, before, after}
-use Rattle.osi_machine.specs.AsTables.{is_leaving}
-use Rattle.osi_message.specs.Meanings.{DT}
-use Rattle.osi_message.specs.Words.{part_octets}
-use Rattle.osi_message.specs.declared.places.Place.TheVariants.{First, Middle, Last}
-use Rattle.std.specs.List.{list_any}
 use Rattle.std.proofs.lemmas.List.Folds.{list_any-append}
 use Rattle.osi_message.specs.declared.places.Place.{Place as PartPlace}
 

@@ -1,13 +1,6 @@
 -- What is put behind words, what is cut from them, and what then is left of their messages.
 use Rattle.std.proofs.Common.{◌≡◌, refl, ◌∙◌, ap, subst, sym, ℕ, ◌≤◌, List, [], ◌∷◌, ◌++◌, length, take, map, Option, Some, None, append_assoc, ◌⊎◌, inl, inr, true, arith}
-use Rattle.std.proofs.Math.Seq.{take-append_seam}
-use Rattle.std.proofs.lemmas.List.{append-nil, length-append}
-use Rattle.osi_machine.specs.Worlds.{Message, unit, ask, agree, deny, bye, over}
-use Rattle.osi_message.specs.Meanings.{DT}
-use Rattle.osi_message.specs.declared.places.Place.TheVariants.{First, Middle, Last}
-use Rattle.osi_pair.specs.Words.{Word, whole, part, begun_octets, joins, left_of, MayFollow, IsBegun, AreInOrder}
-use Rattle.std.specs.List.{list_any}
-use Rattle.osi_machine.specs.AsTables.{is_leaving}
+use Rattle.osi_pair.proofs.Vocabulary.{take-append_seam, append-nil, length-append, Message, unit, ask, agree, deny, bye, over, DT, First, Middle, Last, Word, whole, part, begun_octets, joins, left_of, MayFollow, IsBegun, AreInOrder, list_any, is_leaving}
 
 pub joins_append : (b : Option (List ℕ)) (xs ys : List Word) → joins b (xs ++ ys) ≡ joins b xs ++ joins (left_of b xs) ys
 joins_append b [] ys = refl

@@ -1,6 +1,6 @@
 use Rattle.std.proofs.Common.{◌≡◌, ◌+◌, ◌-◌, ◌<◌, ◌≤◌, ◌⊎◌, length, map, vec_len, vec_capacity}
 use Rattle.osi_pair.specs.Carrying.{Carries}
-use Rattle.osi_pair.specs.Entries.{entry_by}
+use Rattle.osi_pair.proofs.Vocabulary.{entry_by}
 use Rattle.osi_pair.proofs.carrying.carry.Given as goal
 
 abbrev pub invariant-pieces : goal.invariant-pieces

@@ -1,8 +1,6 @@
 use Rattle.std.proofs.Common.{◌∙◌, [], ◌∷◌, map, sym, ap, arith}
-use Rattle.std.proofs.lemmas.List.{map-append}
-use Rattle.osi_session.specs.Shown.{shown_by}
-use Rattle.osi_pair.specs.Entries.{entry_by}
 use Rattle.osi_pair.specs.declared.entries.Entry.TheVariants.{Indication}
+use Rattle.osi_pair.proofs.Vocabulary.{map-append, shown_by, entry_by}
 use Rattle.osi_pair.proofs.Showing.{shown_end, shown_then}
 use Rattle.osi_pair.proofs.telling.show.Goals as goal
 

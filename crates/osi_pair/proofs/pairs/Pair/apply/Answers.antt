@@ -1,10 +1,6 @@
 use Rattle.std.proofs.Common.{List, OnOk, IfOk, subst}
-use Rattle.osi_machine.specs.Machine.{Step}
-use Rattle.osi_pair.specs.Advancing.{StandsAfter}
-use Rattle.osi_pair.specs.Ends.{TwoEnds}
-use Rattle.osi_pair.specs.Events.{CarriesAsMuch}
 use Rattle.osi_pair.specs.Memory.{ends_in}
-use Rattle.osi_pair.specs.Standing.{StandsAt}
+use Rattle.osi_pair.proofs.Vocabulary.{Step, StandsAfter, TwoEnds, CarriesAsMuch, StandsAt}
 use Rattle.osi_pair.proofs.Applying.{result_reached, result_stands, result_carries}
 use Rattle.osi_pair.proofs.StandingEvent.{EventLaws}
 use Rattle.osi_pair.proofs.pairs.Pair.apply.Goals as goal

@@ -1,7 +1,5 @@
 use Rattle.std.proofs.Common.{[], sym, subst}
-use Rattle.osi_pair.specs.Ends.{TwoEnds}
-use Rattle.osi_pair.specs.Reached.{HoldLess}
-use Rattle.osi_pair.specs.Standing.{StandsAt}
+use Rattle.osi_pair.proofs.Vocabulary.{TwoEnds, HoldLess, StandsAt}
 use Rattle.osi_pair.proofs.HoldingLess.{fresh_less}
 use Rattle.osi_pair.proofs.pairs.Pair.new.Goals as goal
 

@@ -1,11 +1,7 @@
 use Rattle.std.proofs.Common.{◌≡◌, ◌∙◌, ◌<◌, List, [], ◌∷◌, ◌++◌, take, length, Option, IfSome, refl, sym, ap, subst, arith}
-use Rattle.std.proofs.lemmas.List.{take_more, take_all}
 use Rattle.std.proofs.lemmas.Option.{slice_get_read}
-use Rattle.osi_pair.specs.Ends.{TwoEnds}
-use Rattle.osi_pair.specs.Events.{misfit, error_by_rule, WantsMemory}
-use Rattle.osi_pair.specs.Running.{HappenAll}
-use Rattle.osi_pair.specs.declared.events.Event.{Event}
 use Rattle.osi_pair.specs.declared.faults.PairError.TheVariants.{OutOfMemory}
+use Rattle.osi_pair.proofs.Vocabulary.{take_more, take_all, TwoEnds, misfit, error_by_rule, WantsMemory, HappenAll, Event}
 use Rattle.osi_pair.proofs.Running.{happen_more, runs_through}
 use Rattle.osi_pair.proofs.pairs.Pair.run.Goals as goal
 
