@@ -1,6 +1,7 @@
 pub mod Beginnings
 pub mod Blanks
 pub mod Decimals
+pub mod Frequents
 pub mod Letters
 pub mod LineEnds
 pub mod Numerals

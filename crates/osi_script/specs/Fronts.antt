@@ -1,5 +1,9 @@
 -- What a line says in front of its user data.
 use Rattle.std.specs.Prelude.{ℕ, List, Option, Some, None}
+use Rattle.osi_session.specs.Calls.{Call}
+use Rattle.osi_session.specs.Calls as call
+use Rattle.osi_script.specs.declared.fronts.Frequent.{Frequent}
+use Rattle.osi_script.specs.declared.fronts.Frequent.TheVariants as frequent
 use Rattle.osi_script.specs.declared.fronts.Front.{Front}
 use Rattle.osi_script.specs.declared.fronts.Front.TheVariants as front
 use Rattle.osi_script.specs.declared.verbs.Verb.{Verb}
@@ -14,9 +18,10 @@ abbrev pub data_behind : Verb → List (List ℕ) → Option (List ℕ)
 data_behind verb.Accept words = fourth words
 data_behind other words = last_of words
 
--- the word of a line in the place of user data
+-- the word of a line in the place of user data; of a frequent call all that stands behind what was read
 abbrev pub front_data : Front → Option (List ℕ)
 front_data (front.Carry side octets) = None
+front_data (front.Frequent side reference call text) = Some text.now
 front_data (front.Call side reference verb words) = data_behind verb (words_in words)
 front_data (front.Unread line) = data_word (words_of line.now)
 
@@ -24,9 +29,18 @@ front_data (front.Unread line) = data_word (words_of line.now)
 abbrev pub spelled : Option (List ℕ) → Option (List ℕ)
 spelled word = word >>= data_of
 
+-- a frequent call with this user data
+abbrev pub made : Frequent → List ℕ → Call
+made frequent.Data octets = call.Data octets
+made (frequent.Minor confirm) octets = call.Minor confirm octets
+made (frequent.MinorConfirm number) octets = call.MinorConfirm number octets
+
 -- what a line asks for, of which that word spells this
 abbrev pub front_command : Front → Option (List ℕ) → Option Command
 front_command (front.Carry side octets) user = Some (Carry side octets)
+front_command (front.Frequent side reference call text) user = do
+  octets ← user
+  Some (OfUser side reference (made call octets))
 front_command (front.Call side reference verb words) user = do
   call ← call_of verb (words_in words) user
   Some (OfUser side reference call)

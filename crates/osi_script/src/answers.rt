@@ -2,15 +2,17 @@
 
 ghost use Rattle.std.specs.Prelude.{◌≡◌, ◌+◌, ◌≤◌, ◌++◌, codes, length, vec_len, vec_capacity, OnOk, OnErr};
 ghost use Rattle.std.specs.Fmt.{decimal};
+ghost use Rattle.osi_script.specs.Names.{verb_name};
 ghost use Rattle.osi_script.specs.Answers.{refusal_name, line_fault_name, call_text, answer_line};
 
 use crate::names::{call_error, open_error};
 use crate::sides::Side;
-use crate::texts::{LINE, put, put_decimal, put_side};
+use crate::texts::{LINE, put, put_decimal, put_side, put_word};
 use crate::verbs::Verb;
 use osi_carrier::OpenError;
 use osi_session::CallError;
 use std::alloc::{AllocError, Global};
+use std::mem;
 
 /// Why no connection was asked for.
 #[derive(Clone, Copy, PartialEq, Eq, Debug)]
@@ -102,104 +104,130 @@ fn line_fault(fault: LineFault) -> &'static str
     }
 }
 
-/// Adds a call by its side, its connection and its verb, for which there is room.
-#[tactic(auto, unfolding(crate::specs::Answers::call_text))]
-fn put_call(text: &mut Vec<u8>, side: Side, reference: u16, verb: Verb)
-    requires { vec_len text.old + 41 ≤ vec_capacity text.old }
-    ensures items { text.new.items ≡ text.old.items ++ call_text side reference verb }
-    ensures len { vec_len text.new ≤ vec_len text.old + 41 }
-    ensures capacity { vec_capacity text.old ≤ vec_capacity text.new }
+/// Adds the word for a call, for which there is room.
+#[inline(always)]
+#[tactic(auto, unfolding(crate::specs::Names::verb_name))]
+fn put_verb(text: Vec<u8>, verb: Verb) -> Vec<u8>
+    requires { vec_len text + 14 ≤ vec_capacity text }
+    ensures items { result.items ≡ text.items ++ verb_name verb }
+    ensures len { vec_len result ≤ vec_len text + 14 }
+    ensures capacity { vec_capacity text ≤ vec_capacity result }
 {
-    put_side(text, side);
-    put_decimal(text, u64::from(reference));
-    put(text, " ");
-    put(text, verb.name());
+    match verb {
+        Verb::Data => put(text, "data"),
+        Verb::Minor => put(text, "minor"),
+        Verb::MinorConfirm => put(text, "minorconfirm"),
+        _ => put_word(text, verb.name()),
+    }
+}
+
+/// Adds a call by its side, its connection and its verb, for which there is room.
+#[inline(always)]
+#[tactic(auto, unfolding(crate::specs::Answers::call_text))]
+fn put_call(text: Vec<u8>, side: Side, reference: u16, verb: Verb) -> Vec<u8>
+    requires { vec_len text + 41 ≤ vec_capacity text }
+    ensures items { result.items ≡ text.items ++ call_text side reference verb }
+    ensures len { vec_len result ≤ vec_len text + 41 }
+    ensures capacity { vec_capacity text ≤ vec_capacity result }
+{
+    let text = put_side(text, side);
+    let text = put_decimal(text, u64::from(reference));
+    let text = put(text, " ");
+    put_verb(text, verb)
 }
 
 /// Adds the line of what is answered to a connect, for which there is room.
 #[tactic(auto, unfolding(crate::specs::Answers::answer_line, crate::specs::Answers::answer_text))]
-fn put_connecting(text: &mut Vec<u8>, reference: u16)
-    requires { vec_len text.old + 64 ≤ vec_capacity text.old }
-    ensures { text.new.items ≡ text.old.items ++ answer_line (Answer.Connecting reference) }
+fn put_connecting(text: Vec<u8>, reference: u16) -> Vec<u8>
+    requires { vec_len text + 64 ≤ vec_capacity text }
+    ensures { result.items ≡ text.items ++ answer_line (Answer.Connecting reference) }
 {
-    put(text, "left connect ok ");
-    put_decimal(text, u64::from(reference));
-    put(text, "\n");
+    let text = put(text, "left connect ok ");
+    let text = put_decimal(text, u64::from(reference));
+    put(text, "\n")
 }
 
 /// Adds the line of a connect that is refused, for which there is room.
 #[tactic(auto, unfolding(crate::specs::Answers::answer_line, crate::specs::Answers::answer_text))]
-fn put_connect_refused(text: &mut Vec<u8>, why: ConnectRefusal)
-    requires { vec_len text.old + 64 ≤ vec_capacity text.old }
-    ensures { text.new.items ≡ text.old.items ++ answer_line (Answer.ConnectRefused why) }
+fn put_connect_refused(text: Vec<u8>, why: ConnectRefusal) -> Vec<u8>
+    requires { vec_len text + 64 ≤ vec_capacity text }
+    ensures { result.items ≡ text.items ++ answer_line (Answer.ConnectRefused why) }
 {
-    put(text, "left connect refused ");
-    put(text, refusal(why));
-    put(text, "\n");
+    let text = put(text, "left connect refused ");
+    let text = put_word(text, refusal(why));
+    put(text, "\n")
 }
 
 /// Adds the line of a call that was done, for which there is room.
+#[inline(always)]
 #[tactic(auto, unfolding(crate::specs::Answers::answer_line, crate::specs::Answers::answer_text))]
-fn put_called(text: &mut Vec<u8>, side: Side, reference: u16, verb: Verb)
-    requires { vec_len text.old + 64 ≤ vec_capacity text.old }
-    ensures { text.new.items ≡ text.old.items ++ answer_line (Answer.Called side reference verb) }
+fn put_called(text: Vec<u8>, side: Side, reference: u16, verb: Verb) -> Vec<u8>
+    requires { vec_len text + 64 ≤ vec_capacity text }
+    ensures { result.items ≡ text.items ++ answer_line (Answer.Called side reference verb) }
 {
-    put_call(text, side, reference, verb);
-    put(text, " ok\n");
+    let text = put_call(text, side, reference, verb);
+    put(text, " ok\n")
 }
 
 /// Adds the line of a call that was refused, for which there is room.
 #[tactic(auto, unfolding(crate::specs::Answers::answer_line, crate::specs::Answers::answer_text))]
-fn put_call_refused(text: &mut Vec<u8>, side: Side, reference: u16, verb: Verb, error: CallError)
-    requires { vec_len text.old + 80 ≤ vec_capacity text.old }
-    ensures { text.new.items ≡ text.old.items ++ answer_line (Answer.CallRefused side reference verb error) }
+fn put_call_refused(
+    text: Vec<u8>,
+    side: Side,
+    reference: u16,
+    verb: Verb,
+    error: CallError,
+) -> Vec<u8>
+    requires { vec_len text + 80 ≤ vec_capacity text }
+    ensures { result.items ≡ text.items ++ answer_line (Answer.CallRefused side reference verb error) }
 {
-    put_call(text, side, reference, verb);
-    put(text, " refused ");
-    put(text, call_error(error));
-    put(text, "\n");
+    let text = put_call(text, side, reference, verb);
+    let text = put(text, " refused ");
+    let text = put_word(text, call_error(error));
+    put(text, "\n")
 }
 
 /// Adds the line of what was carried, for which there is room.
+#[inline(always)]
 #[tactic(auto, unfolding(crate::specs::Answers::answer_line, crate::specs::Answers::answer_text))]
-fn put_carried(text: &mut Vec<u8>, side: Side, octets: u64)
-    requires { vec_len text.old + 64 ≤ vec_capacity text.old }
-    ensures { text.new.items ≡ text.old.items ++ answer_line (Answer.Carried side octets) }
+fn put_carried(text: Vec<u8>, side: Side, octets: u64) -> Vec<u8>
+    requires { vec_len text + 64 ≤ vec_capacity text }
+    ensures { result.items ≡ text.items ++ answer_line (Answer.Carried side octets) }
 {
-    put_side(text, side);
-    put(text, "carried ");
-    put_decimal(text, octets);
-    put(text, "\n");
+    let text = put_side(text, side);
+    let text = put(text, "carried ");
+    let text = put_decimal(text, octets);
+    put(text, "\n")
 }
 
 /// Adds the line of a side that was told of the break, for which there is room.
 #[tactic(auto, unfolding(crate::specs::Answers::answer_line, crate::specs::Answers::answer_text))]
-fn put_told(text: &mut Vec<u8>, side: Side)
-    requires { vec_len text.old + 64 ≤ vec_capacity text.old }
-    ensures { text.new.items ≡ text.old.items ++ answer_line (Answer.Told side) }
+fn put_told(text: Vec<u8>, side: Side) -> Vec<u8>
+    requires { vec_len text + 64 ≤ vec_capacity text }
+    ensures { result.items ≡ text.items ++ answer_line (Answer.Told side) }
 {
-    put_side(text, side);
-    put(text, "told\n");
+    let text = put_side(text, side);
+    put(text, "told\n")
 }
 
 /// Adds the number of a line and what is wrong with it, for which there is room.
-fn put_line(text: &mut Vec<u8>, line: u64, what: &str)
+fn put_line(text: Vec<u8>, line: u64, what: &str) -> Vec<u8>
     requires short { length what.now ≤ 16 }
-    requires room { vec_len text.old + 64 ≤ vec_capacity text.old }
-    ensures { text.new.items ≡ text.old.items ++ (codes "line " ++ decimal line ++ codes " " ++ what.now ++ codes "\n") }
+    requires room { vec_len text + 64 ≤ vec_capacity text }
+    ensures { result.items ≡ text.items ++ (codes "line " ++ decimal line ++ codes " " ++ what.now ++ codes "\n") }
 {
-    put(text, "line ");
-    put_decimal(text, line);
-    put(text, " ");
-    put(text, what);
-    put(text, "\n");
+    let text = put(text, "line ");
+    let text = put_decimal(text, line);
+    let text = put(text, " ");
+    let text = put_word(text, what);
+    put(text, "\n")
 }
 
 /// Adds the line of an answer, for which there is room.
 #[tactic(auto, unfolding(crate::specs::Answers::answer_line, crate::specs::Answers::answer_text))]
-fn put_answer(text: &mut Vec<u8>, answer: &Answer)
-    requires { vec_len text.old + 160 ≤ vec_capacity text.old }
-    ensures { text.new.items ≡ text.old.items ++ answer_line answer.now }
+fn put_answer(text: Vec<u8>, answer: &Answer) -> Vec<u8>
+    requires { vec_len text + 160 ≤ vec_capacity text }
+    ensures { result.items ≡ text.items ++ answer_line answer.now }
 {
     match *answer {
         Answer::Connecting(reference) => put_connecting(text, reference),
@@ -223,12 +251,52 @@ fn put_answer(text: &mut Vec<u8>, answer: &Answer)
     }
 }
 
+/// Adds the line of any answer, for which there is room.
+#[inline(never)]
+fn push_any(alloc: Global, out: &mut Vec<u8>, answer: &Answer)
+    requires { vec_len out.old + 160 ≤ vec_capacity out.old }
+    ensures { out.new.items ≡ out.old.items ++ answer_line answer.now }
+{
+    let text = mem::replace(out, Vec::new(alloc));
+    *out = put_answer(text, answer);
+}
+
+/// Adds the line of a call that was done, for which there is room.
+#[inline(always)]
+fn push_called(alloc: Global, out: &mut Vec<u8>, side: Side, reference: u16, verb: Verb)
+    requires { vec_len out.old + 64 ≤ vec_capacity out.old }
+    ensures { out.new.items ≡ out.old.items ++ answer_line (Answer.Called side reference verb) }
+{
+    // While it is written the text is a value of this function: no octet of it can be taken for its length.
+    let text = mem::replace(out, Vec::new(alloc));
+    *out = put_called(text, side, reference, verb);
+}
+
+/// Adds the line of what was carried, for which there is room.
+#[inline(always)]
+fn push_carried(alloc: Global, out: &mut Vec<u8>, side: Side, octets: u64)
+    requires { vec_len out.old + 64 ≤ vec_capacity out.old }
+    ensures { out.new.items ≡ out.old.items ++ answer_line (Answer.Carried side octets) }
+{
+    let text = mem::replace(out, Vec::new(alloc));
+    *out = put_carried(text, side, octets);
+}
+
 /// Adds the line of an answer to a transcript, which is left as it is where there is no memory.
-pub fn push_answer(_alloc: Global, out: &mut Vec<u8>, answer: &Answer) -> Result<(), AllocError>
+#[inline(always)]
+pub fn push_answer(alloc: Global, out: &mut Vec<u8>, answer: &Answer) -> Result<(), AllocError>
     ensures ok { OnOk result (out.new.items ≡ out.old.items ++ answer_line answer.now) }
     ensures err { OnErr result (out.new.items ≡ out.old.items) }
 {
     out.reserve(LINE)?;
-    put_answer(out, answer);
+    match *answer {
+        Answer::Called {
+            side,
+            reference,
+            verb,
+        } => push_called(alloc, out, side, reference, verb),
+        Answer::Carried { side, octets } => push_carried(alloc, out, side, octets),
+        _ => push_any(alloc, out, answer),
+    }
     Ok(())
 }

@@ -13,7 +13,7 @@ use osi_session::Request;
 use osi_spdu::TokenSet;
 
 /// The greatest number that a call can name.
-const MOST: u32 = 4_294_967_295;
+pub(crate) const MOST: u32 = 4_294_967_295;
 
 #[tactic(auto, unfolding(crate::specs::Calls::accept_of))]
 fn accept<'a>(mut words: Words, octets: Option<&'a [u8]>) -> Option<Request<'a>>
@@ -152,7 +152,6 @@ fn restart_confirm<'a>(mut words: Words, octets: Option<&'a [u8]>) -> Option<Req
 }
 
 /// What a call asks for, by its verb and the words behind it, of which the one in the place of user data spells this.
-#[inline(always)]
 #[tactic(auto, unfolding(crate::specs::Calls::call_of))]
 pub(crate) fn request<'a>(verb: Verb, words: Words, octets: Option<&'a [u8]>) -> Option<Request<'a>>
     ensures { option_map called_by result

@@ -1,19 +1,33 @@
 //! What a line says in front of its user data.
 
-ghost use Rattle.std.specs.Prelude.{◌≡◌, ◌∷◌, codes, option_copied, option_map, IfSome};
+ghost use Rattle.std.specs.Prelude.{◌≡◌, ◌∷◌, Some, codes, option_copied, option_map, IfSome};
 ghost use Rattle.osi_script.specs.Names.{side_name, verb_name};
-ghost use Rattle.osi_script.specs.Words.{words_of};
-ghost use Rattle.osi_script.specs.Commands.{command_by, command_of, data_word, fourth, behind_accept};
+ghost use Rattle.osi_script.specs.Words.{words_of, data_of};
+ghost use Rattle.osi_script.specs.Calls.{call_of};
+ghost use Rattle.osi_session.specs.Calls.{called_by};
+ghost use Rattle.osi_script.specs.Commands.{Carry, command_by, command_of, data_word, fourth, behind_accept};
 ghost use Rattle.osi_script.specs.Splitting.{words_in};
-ghost use Rattle.osi_script.specs.Fronts.{front_command, front_data, data_behind, spelled};
+ghost use Rattle.osi_script.specs.Fronts.{front_command, front_data, data_behind, spelled, made};
 
-use crate::calls::request;
+use crate::calls::{MOST, request};
 use crate::commands::Command;
 use crate::reading::{MOST_OCTETS, command};
 use crate::sides::Side;
 use crate::splitting::{Words, last_word, parted};
 use crate::verbs::Verb;
-use crate::words::{is, number, verb};
+use crate::words::{answer, is, number, verb};
+use osi_session::Request;
+
+/// A call that scripts have often, without its user data.
+#[derive(Clone, Copy)]
+pub(crate) enum Frequent {
+    /// Sends data.
+    Data,
+    /// Sets a minor synchronization point, and asks for its confirmation or not.
+    Minor(bool),
+    /// Confirms the minor points up to this number.
+    MinorConfirm(u32),
+}
 
 /// What a line says, as far as it was read without its user data.
 #[derive(Clone, Copy)]
@@ -35,6 +49,17 @@ pub(crate) enum Front<'l> {
         verb: Verb,
         /// The words behind the verb.
         words: Words<'l>,
+    },
+    /// A call that scripts have often, of which all but the user data was read.
+    Frequent {
+        /// The side of the user.
+        side: Side,
+        /// The connection.
+        reference: u16,
+        /// What is asked for.
+        call: Frequent,
+        /// What stands in the place of user data, up to the end of the line.
+        text: &'l [u8],
     },
     /// A line of which nothing was read.
     Unread(&'l [u8]),
@@ -94,34 +119,109 @@ fn behind_frequent_verb(text: &[u8]) -> Option<(Verb, &[u8])>
     }
 }
 
-/// The verb that a text begins with, and the words behind it.
+/// A minor point: whether it is to be confirmed, and what stands behind that.
 #[inline(always)]
+#[tactic(auto, using(crate::proofs::Frequents::minor_read))]
+fn minor(text: &[u8]) -> Option<(Frequent, &[u8])>
+    ensures { IfSome result (λ call. call_of Verb.Minor (words_of text.now) (spelled (data_behind Verb.Minor (words_of text.now)))
+        ≡ option_map (made call.0) (data_of call.1.now)) }
+{
+    let (word, rest) = parted(text)?;
+    let confirm = answer(word)?;
+    Some((Frequent::Minor(confirm), rest))
+}
+
+/// A confirmation of minor points: its number, and what stands behind that.
+#[inline(always)]
+#[tactic(auto, using(crate::proofs::Frequents::minor_confirm_read))]
+fn minor_confirm(text: &[u8]) -> Option<(Frequent, &[u8])>
+    ensures { IfSome result (λ call. call_of Verb.MinorConfirm (words_of text.now) (spelled (data_behind Verb.MinorConfirm (words_of text.now)))
+        ≡ option_map (made call.0) (data_of call.1.now)) }
+{
+    let (word, rest) = parted(text)?;
+    let point = number(word, MOST)?;
+    Some((Frequent::MinorConfirm(point), rest))
+}
+
+/// A call that scripts have often, and what stands in the place of its user data, of the text behind its verb. A text
+/// with a blank spells no octets, as a call with a word too many asks for nothing.
+#[inline(always)]
+#[tactic(auto, using(crate::proofs::Frequents::data_read))]
+fn read_frequent(verb: Verb, text: &[u8]) -> Option<(Frequent, &[u8])>
+    ensures { IfSome result (λ call. call_of verb (words_of text.now) (spelled (data_behind verb (words_of text.now)))
+        ≡ option_map (made call.0) (data_of call.1.now)) }
+{
+    match verb {
+        Verb::Data => Some((Frequent::Data, text)),
+        Verb::Minor => minor(text),
+        Verb::MinorConfirm => minor_confirm(text),
+        _ => None,
+    }
+}
+
+/// What a frequent call asks for.
+#[inline(always)]
+fn asked<'a>(call: Frequent, user_data: &'a [u8]) -> Request<'a>
+    ensures { called_by result ≡ made call user_data.entry.now }
+{
+    match call {
+        Frequent::Data => Request::Data { user_data },
+        Frequent::Minor(confirm) => Request::Minor { confirm, user_data },
+        Frequent::MinorConfirm(number) => Request::MinorConfirm { number, user_data },
+    }
+}
+
+/// A line that calls by a verb that scripts have often.
+#[inline(always)]
+fn frequent_call(line: &[u8]) -> Option<Front<'_>>
+    ensures { IfSome result (λ front. front_command front (spelled (front_data front)) ≡ command_of line.now) }
+{
+    let (side, behind) = behind_side(line)?;
+    let (connection, rest) = parted(behind)?;
+    let (verb, words) = behind_frequent_verb(rest)?;
+    let (call, text) = read_frequent(verb, words)?;
+    let reference = number(connection, 65_535)?;
+    Some(Front::Frequent {
+        side,
+        reference: reference as u16,
+        call,
+        text,
+    })
+}
+
+/// The verb that a text begins with, and the words behind it.
 fn behind_verb(text: &[u8]) -> Option<(Verb, Words<'_>)>
     ensures { IfSome result (λ first. words_of text.now ≡ verb_name first.0 ∷ words_in first.1) }
 {
-    if let Some((verb, rest)) = behind_frequent_verb(text) {
-        return Some((verb, Words::of(rest)));
-    }
     let mut words = Words::of(text);
     let name = words.next_word()?;
     let verb = verb(name)?;
     Some((verb, words))
 }
 
-/// A line that carries octets.
+/// The side whose octets a line carries, and how many, or all where there are fewer: what most lines ask for that are no
+/// calls. `None` where a line does not begin so; it may ask for something all the same.
 #[inline(always)]
 #[tactic(auto, using(crate::proofs::Beginnings::carry_read))]
-fn carry(line: &[u8]) -> Option<Front<'_>>
-    ensures { IfSome result (λ front. front_command front (spelled (front_data front)) ≡ command_of line.now) }
+pub fn read_carry(line: &[u8]) -> Option<(Side, u32)>
+    ensures { IfSome result (λ carry. Some (Carry carry.0 carry.1) ≡ command_of line.now) }
 {
     let text = behind_carry(line)?;
     let (side, digits) = behind_side(text)?;
     let octets = number(digits, MOST_OCTETS)?;
+    Some((side, octets))
+}
+
+/// A line that carries octets.
+#[inline(always)]
+fn carry(line: &[u8]) -> Option<Front<'_>>
+    ensures { IfSome result (λ front. front_command front (spelled (front_data front)) ≡ command_of line.now) }
+{
+    let (side, octets) = read_carry(line)?;
     Some(Front::Carry { side, octets })
 }
 
 /// A line that calls.
-#[inline(always)]
 fn call(line: &[u8]) -> Option<Front<'_>>
     ensures { IfSome result (λ front. front_command front (spelled (front_data front)) ≡ command_of line.now) }
 {
@@ -135,6 +235,18 @@ fn call(line: &[u8]) -> Option<Front<'_>>
         verb,
         words,
     })
+}
+
+/// A line that calls by any verb, or of which nothing is read.
+#[inline(never)]
+#[tactic(auto, unfolding(crate::specs::Commands::command_of))]
+fn any_call<'l>(line: &'l [u8]) -> Front<'l>
+    ensures { front_command result (spelled (front_data result)) ≡ command_of line.entry.now }
+{
+    if let Some(front) = call(line) {
+        return front;
+    }
+    Front::Unread(line)
 }
 
 /// The fourth of these words.
@@ -177,7 +289,6 @@ fn data_word(line: &[u8]) -> Option<&[u8]>
 }
 
 /// The word in the place of user data, of those behind a verb.
-#[inline(always)]
 fn data_behind<'l>(verb: Verb, words: Words<'l>) -> Option<&'l [u8]>
     ensures { option_copied result ≡ data_behind verb (words_in words.entry) }
 {
@@ -197,10 +308,10 @@ impl<'l> Front<'l> {
         if let Some(front) = carry(line) {
             return front;
         }
-        if let Some(front) = call(line) {
+        if let Some(front) = frequent_call(line) {
             return front;
         }
-        Front::Unread(line)
+        any_call(line)
     }
 
     /// The word in the place of user data.
@@ -210,6 +321,7 @@ impl<'l> Front<'l> {
     {
         match *self {
             Front::Carry { .. } => None,
+            Front::Frequent { text, .. } => Some(text),
             Front::Call { verb, words, .. } => data_behind(verb, words),
             Front::Unread(line) => data_word(line),
         }
@@ -222,6 +334,37 @@ impl<'l> Front<'l> {
     {
         match *self {
             Front::Carry { side, octets } => Some(Command::Carry { side, octets }),
+            Front::Frequent {
+                side,
+                reference,
+                call,
+                ..
+            } => Some(Command::Call {
+                side,
+                reference,
+                request: asked(call, octets?),
+            }),
+            _ => self.any_command(octets),
+        }
+    }
+
+    /// What any line asks for, of which the word in the place of user data spells this.
+    #[inline(never)]
+    fn any_command<'a>(&self, octets: Option<&'a [u8]>) -> Option<Command<'a>>
+        ensures { option_map command_by result ≡ front_command self.now (option_copied octets.entry) }
+    {
+        match *self {
+            Front::Carry { side, octets } => Some(Command::Carry { side, octets }),
+            Front::Frequent {
+                side,
+                reference,
+                call,
+                ..
+            } => Some(Command::Call {
+                side,
+                reference,
+                request: asked(call, octets?),
+            }),
             Front::Call {
                 side,
                 reference,

@@ -6,6 +6,7 @@ mod answers;
 mod calls;
 mod commands;
 mod fronts;
+mod kept;
 pub mod laws;
 mod lines;
 mod names;
@@ -21,6 +22,7 @@ mod words;
 
 pub use answers::{Answer, ConnectRefusal, LineFault, push_answer};
 pub use commands::{Classes, Command};
+pub use fronts::read_carry;
 pub use lines::Line;
 pub use scripts::{first_line, is_skipped};
 pub use shown::push_indication;

@@ -5,20 +5,21 @@ ghost use Rattle.std.specs.Fmt.{decimal};
 ghost use Rattle.osi_spdu.specs.Fields.{unit_bits};
 ghost use Rattle.osi_session.specs.Shown.{shown_by, abort_shown};
 ghost use Rattle.osi_script.specs.Names.{side_name, unit_fault_name};
-ghost use Rattle.osi_script.specs.Shown.{shown_name, shown_fields, shown_octets, shown_line, number_field, octet_field, confirm_word, minor_fields, sides_field, restart_fields, units_field, serial_field, opening_fields, opened_fields, data_word, sizes_field, shown_sizes, shown_end};
+ghost use Rattle.osi_script.specs.Shown.{shown_name, shown_fields, shown_octets, shown_line, number_field, octet_field, confirm_word, minor_fields, sides_field, restart_fields, units_field, serial_field, opening_fields, opened_fields, data_word, sizes_field, shown_sizes, shown_end, data_field};
 ghost use Rattle.osi_script.specs.Texts.{data_text, digits_of};
 
 use crate::names::unit_fault;
 use crate::sides::Side;
 use crate::texts::{
     LINE, letters_of_sides, letters_of_wishes, put, put_decimal, put_hex, put_letters, put_octet,
-    put_short, put_side,
+    put_short, put_side, put_word,
 };
 use bitflags::Flags;
 use osi_message::Octets;
 use osi_session::{AbortCause, Indication, UnitFault};
 use osi_spdu::{Requirements, TsduMaximumSize};
 use std::alloc::{AllocError, Global};
+use std::mem;
 
 /// The name of an indication.
 #[tactic(auto, unfolding(crate::specs::Shown::shown_name))]
@@ -60,133 +61,153 @@ fn cause_name(cause: AbortCause) -> &'static str
     }
 }
 
-fn put_number(text: &mut Vec<u8>, number: u64)
-    requires { vec_len text.old + 21 ≤ vec_capacity text.old }
-    ensures items { text.new.items ≡ text.old.items ++ number_field number }
-    ensures len { vec_len text.new ≤ vec_len text.old + 21 }
-    ensures capacity { vec_capacity text.old ≤ vec_capacity text.new }
+/// Adds the name of an indication, for which there is room.
+#[inline(always)]
+#[tactic(auto, unfolding(crate::specs::Shown::shown_name))]
+fn put_name(text: Vec<u8>, indication: &Indication) -> Vec<u8>
+    requires { vec_len text + 18 ≤ vec_capacity text }
+    ensures items { result.items ≡ text.items ++ shown_name (shown_by indication.now) }
+    ensures len { vec_len result ≤ vec_len text + 18 }
+    ensures capacity { vec_capacity text ≤ vec_capacity result }
 {
-    put(text, " ");
-    put_decimal(text, number);
-}
-
-fn put_bits(text: &mut Vec<u8>, octet: u8)
-    requires { vec_len text.old + 64 ≤ vec_capacity text.old }
-    ensures items { text.new.items ≡ text.old.items ++ octet_field octet }
-    ensures len { vec_len text.new ≤ vec_len text.old + 64 }
-    ensures capacity { vec_capacity text.old ≤ vec_capacity text.new }
-{
-    put(text, " ");
-    put_octet(text, octet);
-}
-
-fn put_minor(text: &mut Vec<u8>, number: u32, confirm: bool)
-    requires { vec_len text.old + 64 ≤ vec_capacity text.old }
-    ensures items { text.new.items ≡ text.old.items ++ minor_fields number confirm }
-    ensures len { vec_len text.new ≤ vec_len text.old + 64 }
-    ensures capacity { vec_capacity text.old ≤ vec_capacity text.new }
-{
-    put_number(text, u64::from(number));
-    put(text, " confirm ");
-    put_confirmation(text, confirm);
-}
-
-fn put_confirmation(text: &mut Vec<u8>, confirm: bool)
-    requires { vec_len text.old + 3 ≤ vec_capacity text.old }
-    ensures items { text.new.items ≡ text.old.items ++ confirm_word confirm }
-    ensures len { vec_len text.new ≤ vec_len text.old + 3 }
-    ensures capacity { vec_capacity text.old ≤ vec_capacity text.new }
-{
-    if confirm {
-        put(text, "yes");
-    } else {
-        put(text, "no");
+    match indication {
+        Indication::Data { .. } => put(text, "Data"),
+        Indication::Minor { .. } => put(text, "Minor"),
+        Indication::MinorConfirmed { .. } => put(text, "MinorConfirmed"),
+        _ => put_word(text, name(indication)),
     }
 }
 
-fn put_sides(text: &mut Vec<u8>, letters: [u8; 4])
-    requires { vec_len text.old + 11 ≤ vec_capacity text.old }
-    ensures items { text.new.items ≡ text.old.items ++ sides_field letters }
-    ensures len { vec_len text.new ≤ vec_len text.old + 11 }
-    ensures capacity { vec_capacity text.old ≤ vec_capacity text.new }
+#[inline(always)]
+fn put_number(text: Vec<u8>, number: u64) -> Vec<u8>
+    requires { vec_len text + 21 ≤ vec_capacity text }
+    ensures items { result.items ≡ text.items ++ number_field number }
+    ensures len { vec_len result ≤ vec_len text + 21 }
+    ensures capacity { vec_capacity text ≤ vec_capacity result }
 {
-    put(text, " sides ");
-    put_letters(text, letters);
+    let text = put(text, " ");
+    put_decimal(text, number)
+}
+
+fn put_bits(text: Vec<u8>, octet: u8) -> Vec<u8>
+    requires { vec_len text + 64 ≤ vec_capacity text }
+    ensures items { result.items ≡ text.items ++ octet_field octet }
+    ensures len { vec_len result ≤ vec_len text + 64 }
+    ensures capacity { vec_capacity text ≤ vec_capacity result }
+{
+    let text = put(text, " ");
+    put_octet(text, octet)
+}
+
+#[inline(always)]
+fn put_minor(text: Vec<u8>, number: u32, confirm: bool) -> Vec<u8>
+    requires { vec_len text + 64 ≤ vec_capacity text }
+    ensures items { result.items ≡ text.items ++ minor_fields number confirm }
+    ensures len { vec_len result ≤ vec_len text + 64 }
+    ensures capacity { vec_capacity text ≤ vec_capacity result }
+{
+    let text = put_number(text, u64::from(number));
+    let text = put(text, " confirm ");
+    put_confirmation(text, confirm)
+}
+
+#[inline(always)]
+fn put_confirmation(text: Vec<u8>, confirm: bool) -> Vec<u8>
+    requires { vec_len text + 3 ≤ vec_capacity text }
+    ensures items { result.items ≡ text.items ++ confirm_word confirm }
+    ensures len { vec_len result ≤ vec_len text + 3 }
+    ensures capacity { vec_capacity text ≤ vec_capacity result }
+{
+    if confirm {
+        put(text, "yes")
+    } else {
+        put(text, "no")
+    }
+}
+
+fn put_sides(text: Vec<u8>, letters: [u8; 4]) -> Vec<u8>
+    requires { vec_len text + 11 ≤ vec_capacity text }
+    ensures items { result.items ≡ text.items ++ sides_field letters }
+    ensures len { vec_len result ≤ vec_len text + 11 }
+    ensures capacity { vec_capacity text ≤ vec_capacity result }
+{
+    let text = put(text, " sides ");
+    put_letters(text, letters)
 }
 
 #[tactic(auto, unfolding(crate::specs::Shown::restart_fields))]
-fn put_restart(text: &mut Vec<u8>, number: u32, letters: [u8; 4])
-    requires { vec_len text.old + 64 ≤ vec_capacity text.old }
-    ensures items { text.new.items ≡ text.old.items ++ restart_fields number letters }
-    ensures len { vec_len text.new ≤ vec_len text.old + 64 }
-    ensures capacity { vec_capacity text.old ≤ vec_capacity text.new }
+fn put_restart(text: Vec<u8>, number: u32, letters: [u8; 4]) -> Vec<u8>
+    requires { vec_len text + 64 ≤ vec_capacity text }
+    ensures items { result.items ≡ text.items ++ restart_fields number letters }
+    ensures len { vec_len result ≤ vec_len text + 64 }
+    ensures capacity { vec_capacity text ≤ vec_capacity result }
 {
-    put_number(text, u64::from(number));
-    put_sides(text, letters);
+    let text = put_number(text, u64::from(number));
+    put_sides(text, letters)
 }
 
-fn put_units(text: &mut Vec<u8>, units: u16)
-    requires { vec_len text.old + 11 ≤ vec_capacity text.old }
-    ensures items { text.new.items ≡ text.old.items ++ units_field units }
-    ensures len { vec_len text.new ≤ vec_len text.old + 11 }
-    ensures capacity { vec_capacity text.old ≤ vec_capacity text.new }
+fn put_units(text: Vec<u8>, units: u16) -> Vec<u8>
+    requires { vec_len text + 11 ≤ vec_capacity text }
+    ensures items { result.items ≡ text.items ++ units_field units }
+    ensures len { vec_len result ≤ vec_len text + 11 }
+    ensures capacity { vec_capacity text ≤ vec_capacity result }
 {
-    put(text, " units ");
-    put_short(text, units);
+    let text = put(text, " units ");
+    put_short(text, units)
 }
 
 #[tactic(auto, unfolding(crate::specs::Shown::serial_field))]
-fn put_serial(text: &mut Vec<u8>, serial: Option<u32>)
-    requires { vec_len text.old + 28 ≤ vec_capacity text.old }
-    ensures items { text.new.items ≡ text.old.items ++ serial_field serial }
-    ensures len { vec_len text.new ≤ vec_len text.old + 28 }
-    ensures capacity { vec_capacity text.old ≤ vec_capacity text.new }
+fn put_serial(text: Vec<u8>, serial: Option<u32>) -> Vec<u8>
+    requires { vec_len text + 28 ≤ vec_capacity text }
+    ensures items { result.items ≡ text.items ++ serial_field serial }
+    ensures len { vec_len result ≤ vec_len text + 28 }
+    ensures capacity { vec_capacity text ≤ vec_capacity result }
 {
     match serial {
         None => put(text, " serial -"),
         Some(number) => {
-            put(text, " serial ");
-            put_decimal(text, u64::from(number));
+            let text = put(text, " serial ");
+            put_decimal(text, u64::from(number))
         }
     }
 }
 
 #[tactic(auto, unfolding(crate::specs::Shown::opening_fields))]
 fn put_opening(
-    text: &mut Vec<u8>,
+    text: Vec<u8>,
     requirements: Requirements,
     serial: Option<u32>,
     letters: [u8; 4],
-)
-    requires { vec_len text.old + 64 ≤ vec_capacity text.old }
-    ensures items { text.new.items ≡ text.old.items ++ opening_fields (unit_bits requirements) serial letters }
-    ensures len { vec_len text.new ≤ vec_len text.old + 64 }
-    ensures capacity { vec_capacity text.old ≤ vec_capacity text.new }
+) -> Vec<u8>
+    requires { vec_len text + 64 ≤ vec_capacity text }
+    ensures items { result.items ≡ text.items ++ opening_fields (unit_bits requirements) serial letters }
+    ensures len { vec_len result ≤ vec_len text + 64 }
+    ensures capacity { vec_capacity text ≤ vec_capacity result }
 {
-    put_units(text, requirements.bits());
-    put_serial(text, serial);
-    put_sides(text, letters);
+    let text = put_units(text, requirements.bits());
+    let text = put_serial(text, serial);
+    put_sides(text, letters)
 }
 
-fn put_fault(text: &mut Vec<u8>, fault: UnitFault)
-    requires { vec_len text.old + 64 ≤ vec_capacity text.old }
-    ensures items { text.new.items ≡ text.old.items ++ (codes " " ++ unit_fault_name fault) }
-    ensures len { vec_len text.new ≤ vec_len text.old + 64 }
-    ensures capacity { vec_capacity text.old ≤ vec_capacity text.new }
+fn put_fault(text: Vec<u8>, fault: UnitFault) -> Vec<u8>
+    requires { vec_len text + 64 ≤ vec_capacity text }
+    ensures items { result.items ≡ text.items ++ (codes " " ++ unit_fault_name fault) }
+    ensures len { vec_len result ≤ vec_len text + 64 }
+    ensures capacity { vec_capacity text ≤ vec_capacity result }
 {
-    put(text, " ");
-    put(text, unit_fault(fault));
+    let text = put(text, " ");
+    put_word(text, unit_fault(fault))
 }
 
 #[tactic(auto, unfolding(crate::specs::Shown::shown_fields))]
-fn put_cause(text: &mut Vec<u8>, cause: AbortCause)
-    requires { vec_len text.old + 64 ≤ vec_capacity text.old }
-    ensures items { text.new.items ≡ text.old.items ++ shown_fields (abort_shown cause) }
-    ensures len { vec_len text.new ≤ vec_len text.old + 64 }
-    ensures capacity { vec_capacity text.old ≤ vec_capacity text.new }
+fn put_cause(text: Vec<u8>, cause: AbortCause) -> Vec<u8>
+    requires { vec_len text + 64 ≤ vec_capacity text }
+    ensures items { result.items ≡ text.items ++ shown_fields (abort_shown cause) }
+    ensures len { vec_len result ≤ vec_len text + 64 }
+    ensures capacity { vec_capacity text ≤ vec_capacity result }
 {
     match cause {
-        AbortCause::Lost => (),
+        AbortCause::Lost => text,
         AbortCause::Peer(bits) => put_bits(text, bits),
         AbortCause::Unit(fault) => put_fault(text, fault),
     }
@@ -194,11 +215,11 @@ fn put_cause(text: &mut Vec<u8>, cause: AbortCause)
 
 /// The fields of a connection that is asked for or accepted, for which there is room; nothing of another indication.
 #[tactic(auto, unfolding(crate::specs::Shown::opened_fields))]
-fn put_opened(text: &mut Vec<u8>, indication: &Indication)
-    requires { vec_len text.old + 64 ≤ vec_capacity text.old }
-    ensures items { text.new.items ≡ text.old.items ++ opened_fields (shown_by indication.now) }
-    ensures len { vec_len text.new ≤ vec_len text.old + 64 }
-    ensures capacity { vec_capacity text.old ≤ vec_capacity text.new }
+fn put_opened(text: Vec<u8>, indication: &Indication) -> Vec<u8>
+    requires { vec_len text + 64 ≤ vec_capacity text }
+    ensures items { result.items ≡ text.items ++ opened_fields (shown_by indication.now) }
+    ensures len { vec_len result ≤ vec_len text + 64 }
+    ensures capacity { vec_capacity text ≤ vec_capacity result }
 {
     match indication {
         Indication::Connect {
@@ -213,17 +234,18 @@ fn put_opened(text: &mut Vec<u8>, indication: &Indication)
             sides,
             ..
         } => put_opening(text, *requirements, *serial, letters_of_sides(*sides)),
-        _ => (),
+        _ => text,
     }
 }
 
-/// The fields between the name of an indication and its user data, for which there is room.
+/// The fields between the name of any indication and its user data, for which there is room.
+#[inline(never)]
 #[tactic(auto, unfolding(crate::specs::Shown::shown_fields, crate::specs::Shown::opened_fields))]
-fn put_fields(text: &mut Vec<u8>, indication: &Indication)
-    requires { vec_len text.old + 64 ≤ vec_capacity text.old }
-    ensures items { text.new.items ≡ text.old.items ++ shown_fields (shown_by indication.now) }
-    ensures len { vec_len text.new ≤ vec_len text.old + 64 }
-    ensures capacity { vec_capacity text.old ≤ vec_capacity text.new }
+fn put_any_fields(text: Vec<u8>, indication: &Indication) -> Vec<u8>
+    requires { vec_len text + 64 ≤ vec_capacity text }
+    ensures items { result.items ≡ text.items ++ shown_fields (shown_by indication.now) }
+    ensures len { vec_len result ≤ vec_len text + 64 }
+    ensures capacity { vec_capacity text ≤ vec_capacity result }
 {
     match indication {
         Indication::Connect { .. } | Indication::Connected { .. } => put_opened(text, indication),
@@ -250,11 +272,33 @@ fn put_fields(text: &mut Vec<u8>, indication: &Indication)
         | Indication::Release { .. }
         | Indication::Released { .. }
         | Indication::ReleaseRefused { .. }
-        | Indication::Aborted { .. } => (),
+        | Indication::Aborted { .. } => text,
+    }
+}
+
+/// The fields between the name of an indication and its user data, for which there is room.
+#[inline(always)]
+#[tactic(auto, unfolding(crate::specs::Shown::shown_fields))]
+fn put_fields(text: Vec<u8>, indication: &Indication) -> Vec<u8>
+    requires { vec_len text + 64 ≤ vec_capacity text }
+    ensures items { result.items ≡ text.items ++ shown_fields (shown_by indication.now) }
+    ensures len { vec_len result ≤ vec_len text + 64 }
+    ensures capacity { vec_capacity text ≤ vec_capacity result }
+{
+    match indication {
+        Indication::Data { .. } => text,
+        Indication::Minor {
+            number,
+            confirm,
+            ..
+        } => put_minor(text, *number, *confirm),
+        Indication::MinorConfirmed { number, .. } => put_number(text, u64::from(*number)),
+        _ => put_any_fields(text, indication),
     }
 }
 
 /// The user data of an indication that has some.
+#[inline(always)]
 #[tactic(auto, unfolding(crate::specs::Shown::shown_octets))]
 fn user_data(indication: &Indication) -> Option<&Octets>
     ensures { option_copied result ≡ shown_octets (shown_by indication.now) }
@@ -282,11 +326,12 @@ fn user_data(indication: &Indication) -> Option<&Octets>
 }
 
 /// What stands in front of the user data of an indication.
-fn put_data_word(text: &mut Vec<u8>, indication: &Indication)
-    requires { vec_len text.old + 6 ≤ vec_capacity text.old }
-    ensures items { text.new.items ≡ text.old.items ++ data_word (shown_by indication.now) }
-    ensures len { vec_len text.new ≤ vec_len text.old + 6 }
-    ensures capacity { vec_capacity text.old ≤ vec_capacity text.new }
+#[inline(always)]
+fn put_data_word(text: Vec<u8>, indication: &Indication) -> Vec<u8>
+    requires { vec_len text + 6 ≤ vec_capacity text }
+    ensures items { result.items ≡ text.items ++ data_word (shown_by indication.now) }
+    ensures len { vec_len result ≤ vec_len text + 6 }
+    ensures capacity { vec_capacity text ≤ vec_capacity result }
 {
     match indication {
         Indication::Data { .. } => put(text, " "),
@@ -295,6 +340,7 @@ fn put_data_word(text: &mut Vec<u8>, indication: &Indication)
 }
 
 /// Room for a line with this user data; none where so many octets cannot be counted.
+#[inline(always)]
 fn room(user_data: Option<&Octets>) -> Option<usize>
     ensures { IfSome result (λ octets. octets ≡ digits_of (option_copied user_data.entry) + 192) }
 {
@@ -305,86 +351,104 @@ fn room(user_data: Option<&Octets>) -> Option<usize>
 }
 
 /// Adds octets in hexadecimal or a dash where there is none, for which there is room.
+#[inline(always)]
 #[tactic(auto, unfolding(crate::specs::Texts::data_text))]
-fn put_data(text: &mut Vec<u8>, octets: &[u8])
-    requires { vec_len text.old + 2 * length octets.now + 1 ≤ vec_capacity text.old }
-    ensures items { text.new.items ≡ text.old.items ++ data_text octets.now }
-    ensures len { vec_len text.new ≤ vec_len text.old + 2 * length octets.now + 1 }
-    ensures capacity { vec_capacity text.old ≤ vec_capacity text.new }
+fn put_data(text: Vec<u8>, octets: &[u8]) -> Vec<u8>
+    requires { vec_len text + 2 * length octets.now + 1 ≤ vec_capacity text }
+    ensures items { result.items ≡ text.items ++ data_text octets.now }
+    ensures len { vec_len result ≤ vec_len text + 2 * length octets.now + 1 }
+    ensures capacity { vec_capacity text ≤ vec_capacity result }
 {
     if octets.is_empty() {
-        put(text, "-");
+        put(text, "-")
     } else {
-        put_hex(text, octets);
+        put_hex(text, octets)
     }
 }
 
 /// Adds how many octets a TSDU of each side may have, where one of them has a limit, for which there is room.
 #[tactic(auto, unfolding(crate::specs::Shown::sizes_field))]
-fn put_sizes(text: &mut Vec<u8>, sizes: TsduMaximumSize)
-    requires { vec_len text.old + 47 ≤ vec_capacity text.old }
-    ensures items { text.new.items ≡ text.old.items ++ sizes_field sizes }
-    ensures len { vec_len text.new ≤ vec_len text.old + 47 }
-    ensures capacity { vec_capacity text.old ≤ vec_capacity text.new }
+fn put_sizes(text: Vec<u8>, sizes: TsduMaximumSize) -> Vec<u8>
+    requires { vec_len text + 47 ≤ vec_capacity text }
+    ensures items { result.items ≡ text.items ++ sizes_field sizes }
+    ensures len { vec_len result ≤ vec_len text + 47 }
+    ensures capacity { vec_capacity text ≤ vec_capacity result }
 {
     let Some(sizes) = sizes.written() else {
-        return;
+        return text;
     };
-    put(text, " tsdu");
-    put_number(text, u64::from(sizes.from_asker));
-    put_number(text, u64::from(sizes.from_answerer));
+    let text = put(text, " tsdu");
+    let text = put_number(text, u64::from(sizes.from_asker));
+    put_number(text, u64::from(sizes.from_answerer))
 }
 
 /// Adds what stands behind the user data of a connection that is asked for or accepted, for which there is room.
+#[inline(always)]
 #[tactic(auto, unfolding(crate::specs::Shown::shown_sizes))]
-fn put_shown_sizes(text: &mut Vec<u8>, indication: &Indication)
-    requires { vec_len text.old + 47 ≤ vec_capacity text.old }
-    ensures items { text.new.items ≡ text.old.items ++ shown_sizes (shown_by indication.now) }
-    ensures len { vec_len text.new ≤ vec_len text.old + 47 }
-    ensures capacity { vec_capacity text.old ≤ vec_capacity text.new }
+fn put_shown_sizes(text: Vec<u8>, indication: &Indication) -> Vec<u8>
+    requires { vec_len text + 47 ≤ vec_capacity text }
+    ensures items { result.items ≡ text.items ++ shown_sizes (shown_by indication.now) }
+    ensures len { vec_len result ≤ vec_len text + 47 }
+    ensures capacity { vec_capacity text ≤ vec_capacity result }
 {
     match indication {
         Indication::Connect { sizes, .. } | Indication::Connected { sizes, .. } => {
             put_sizes(text, *sizes)
         }
-        _ => (),
+        _ => text,
+    }
+}
+
+/// Adds the user data of an indication, where it has some, for which there is room.
+#[inline(always)]
+fn put_user_data(text: Vec<u8>, indication: &Indication, user_data: Option<&Octets>) -> Vec<u8>
+    requires { vec_len text + digits_of (option_copied user_data) + 7 ≤ vec_capacity text }
+    ensures items { result.items ≡ text.items ++ data_field (data_word (shown_by indication.now)) (option_copied user_data.entry) }
+    ensures len { vec_len result ≤ vec_len text + digits_of (option_copied user_data.entry) + 7 }
+    ensures capacity { vec_capacity text ≤ vec_capacity result }
+{
+    match user_data {
+        None => text,
+        Some(octets) => {
+            let text = put_data_word(text, indication);
+            put_data(text, octets.as_slice())
+        }
     }
 }
 
 /// Adds the user data of an indication, where it has some, what stands behind it, and the end of its line, for which
 /// there is room.
-fn put_end(text: &mut Vec<u8>, indication: &Indication, user_data: Option<&Octets>)
+#[inline(always)]
+fn put_end(text: Vec<u8>, indication: &Indication, user_data: Option<&Octets>) -> Vec<u8>
     requires value { option_copied user_data ≡ shown_octets (shown_by indication.now) }
-    requires room { vec_len text.old + digits_of (option_copied user_data) + 64 ≤ vec_capacity text.old }
-    ensures { text.new.items ≡ text.old.items ++ (shown_end (shown_by indication.now) ++ codes "\n") }
+    requires room { vec_len text + digits_of (option_copied user_data) + 64 ≤ vec_capacity text }
+    ensures { result.items ≡ text.items ++ (shown_end (shown_by indication.now) ++ codes "\n") }
 {
-    if let Some(octets) = user_data {
-        put_data_word(text, indication);
-        put_data(text, octets.as_slice());
-    }
-    put_shown_sizes(text, indication);
-    put(text, "\n");
+    let text = put_user_data(text, indication, user_data);
+    let text = put_shown_sizes(text, indication);
+    put(text, "\n")
 }
 
 /// Adds the side, the connection and the name of an indication, for which there is room.
-fn put_head(text: &mut Vec<u8>, side: Side, reference: u16, indication: &Indication)
-    requires { vec_len text.old + 64 ≤ vec_capacity text.old }
-    ensures items { text.new.items
-        ≡ text.old.items ++ (side_name side ++ codes " " ++ decimal reference ++ codes " " ++ shown_name (shown_by indication.now)) }
-    ensures len { vec_len text.new ≤ vec_len text.old + 64 }
-    ensures capacity { vec_capacity text.old ≤ vec_capacity text.new }
+#[inline(always)]
+fn put_head(text: Vec<u8>, side: Side, reference: u16, indication: &Indication) -> Vec<u8>
+    requires { vec_len text + 64 ≤ vec_capacity text }
+    ensures items { result.items
+        ≡ text.items ++ (side_name side ++ codes " " ++ decimal reference ++ codes " " ++ shown_name (shown_by indication.now)) }
+    ensures len { vec_len result ≤ vec_len text + 64 }
+    ensures capacity { vec_capacity text ≤ vec_capacity result }
 {
-    put_side(text, side);
-    put_decimal(text, u64::from(reference));
-    put(text, " ");
-    put(text, name(indication));
+    let text = put_side(text, side);
+    let text = put_decimal(text, u64::from(reference));
+    let text = put(text, " ");
+    put_name(text, indication)
 }
 
 /// Adds the line of what the user of a side is shown of a connection to a transcript, which is left as
 /// it is where there is no memory.
 #[tactic(auto, using(crate::proofs::Pieces::line_joined), unfolding(crate::specs::Shown::shown_line, crate::specs::Shown::shown_text))]
 pub fn push_indication(
-    _alloc: Global,
+    alloc: Global,
     out: &mut Vec<u8>,
     side: Side,
     reference: u16,
@@ -399,8 +463,10 @@ pub fn push_indication(
         return Err(AllocError);
     };
     out.reserve(room)?;
-    put_head(out, side, reference, indication);
-    put_fields(out, indication);
-    put_end(out, indication, octets);
+    // While it is written the text is a value of this function: no octet of it can be taken for its length.
+    let text = mem::replace(out, Vec::new(alloc));
+    let text = put_head(text, side, reference, indication);
+    let text = put_fields(text, indication);
+    *out = put_end(text, indication, octets);
     Ok(())
 }

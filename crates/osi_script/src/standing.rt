@@ -5,11 +5,12 @@ ghost use Rattle.osi_script.specs.Standing.{standing_line, standing_numbers, sta
 
 use crate::names;
 use crate::sides::Side;
-use crate::texts::{LINE, put, put_decimal, put_octet, put_side};
+use crate::texts::{LINE, put, put_decimal, put_octet, put_side, put_word};
 use bitflags::Flags;
 use osi_session::Phase;
 use osi_spdu::TokenSet;
 use std::alloc::{AllocError, Global};
+use std::mem;
 
 /// Where a connection stands at one side.
 #[derive(Clone, Copy, PartialEq, Eq, Debug)]
@@ -31,40 +32,40 @@ pub struct Standing {
 }
 
 #[tactic(auto, unfolding(crate::specs::Standing::standing_text))]
-fn put_text(text: &mut Vec<u8>, standing: &Standing)
-    requires { vec_len text.old + 64 ≤ vec_capacity text.old }
-    ensures items { text.new.items ≡ text.old.items ++ standing_text standing.now }
-    ensures len { vec_len text.new ≤ vec_len text.old + 64 }
-    ensures capacity { vec_capacity text.old ≤ vec_capacity text.new }
+fn put_text(text: Vec<u8>, standing: &Standing) -> Vec<u8>
+    requires { vec_len text + 64 ≤ vec_capacity text }
+    ensures items { result.items ≡ text.items ++ standing_text standing.now }
+    ensures len { vec_len result ≤ vec_len text + 64 }
+    ensures capacity { vec_capacity text ≤ vec_capacity result }
 {
-    put_side(text, standing.side);
-    put_decimal(text, u64::from(standing.reference));
-    put(text, " phase ");
-    put(text, names::phase(standing.phase));
-    put(text, " held ");
-    put_octet(text, standing.held.bits());
+    let text = put_side(text, standing.side);
+    let text = put_decimal(text, u64::from(standing.reference));
+    let text = put(text, " phase ");
+    let text = put_word(text, names::phase(standing.phase));
+    let text = put(text, " held ");
+    put_octet(text, standing.held.bits())
 }
 
 #[tactic(auto, unfolding(crate::specs::Standing::standing_numbers))]
-fn put_numbers(text: &mut Vec<u8>, standing: &Standing)
-    requires { vec_len text.old + 81 ≤ vec_capacity text.old }
-    ensures items { text.new.items ≡ text.old.items ++ standing_numbers standing.now }
-    ensures len { vec_len text.new ≤ vec_len text.old + 81 }
-    ensures capacity { vec_capacity text.old ≤ vec_capacity text.new }
+fn put_numbers(text: Vec<u8>, standing: &Standing) -> Vec<u8>
+    requires { vec_len text + 81 ≤ vec_capacity text }
+    ensures items { result.items ≡ text.items ++ standing_numbers standing.now }
+    ensures len { vec_len result ≤ vec_len text + 81 }
+    ensures capacity { vec_capacity text ≤ vec_capacity result }
 {
-    put(text, " next ");
-    put_decimal(text, u64::from(standing.next_serial));
-    put(text, " below ");
-    put_decimal(text, u64::from(standing.confirmed_below));
-    put(text, " lowest ");
-    put_decimal(text, u64::from(standing.lowest_restart));
+    let text = put(text, " next ");
+    let text = put_decimal(text, u64::from(standing.next_serial));
+    let text = put(text, " below ");
+    let text = put_decimal(text, u64::from(standing.confirmed_below));
+    let text = put(text, " lowest ");
+    put_decimal(text, u64::from(standing.lowest_restart))
 }
 
 /// Adds the line of where a connection stands to a transcript, which is left as it is where there is
 /// no memory.
 #[tactic(auto, unfolding(crate::specs::Standing::standing_line))]
 pub fn push_standing(
-    _alloc: Global,
+    alloc: Global,
     out: &mut Vec<u8>,
     standing: &Standing,
 ) -> Result<(), AllocError>
@@ -72,8 +73,9 @@ pub fn push_standing(
     ensures err { OnErr result (out.new.items ≡ out.old.items) }
 {
     out.reserve(LINE)?;
-    put_text(out, standing);
-    put_numbers(out, standing);
-    put(out, "\n");
+    let text = mem::replace(out, Vec::new(alloc));
+    let text = put_text(text, standing);
+    let text = put_numbers(text, standing);
+    *out = put(text, "\n");
     Ok(())
 }

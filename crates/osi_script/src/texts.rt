@@ -14,42 +14,55 @@ use osi_spdu::{Side, TokenSetting, Wish};
 /// More octets than a line has besides its user data.
 pub(crate) const LINE: usize = 192;
 
-/// Adds octets, for which there is room. That there is room is said in code as well: so no way is kept
-/// on which the text would grow.
+/// Adds octets, for which there is room, one by one: where their number is known, as that of a word that stands in
+/// the code, they are one store or two.
 #[inline(always)]
-fn put_octets(text: &mut Vec<u8>, octets: &[u8])
-    requires { vec_len text.old + length octets.now ≤ vec_capacity text.old }
-    ensures items { text.new.items ≡ text.old.items ++ octets.now }
-    ensures len { vec_len text.new ≡ vec_len text.old + length octets.now }
-    ensures capacity { vec_capacity text.old ≤ vec_capacity text.new }
+fn put_octets(text: Vec<u8>, octets: &[u8]) -> Vec<u8>
+    requires { vec_len text + length octets.now ≤ vec_capacity text }
+    ensures items { result.items ≡ text.items ++ octets.now }
+    ensures len { vec_len result ≡ vec_len text + length octets.now }
+    ensures capacity { vec_capacity text ≤ vec_capacity result }
 {
-    if text.capacity() - text.len() < octets.len() {
-        unreachable!();
+    let mut text = text;
+    'octets: for octet in octets {
+        text.push_reserved(*octet);
     }
-    match text.extend_from_slice(octets) {
-        Ok(()) => (),
+    text
+}
+
+/// Adds one of many words, for which there is room.
+#[inline(always)]
+pub(crate) fn put_word(text: Vec<u8>, word: &str) -> Vec<u8>
+    requires { vec_len text + length word.now ≤ vec_capacity text }
+    ensures items { result.items ≡ text.items ++ word.now }
+    ensures len { vec_len result ≡ vec_len text + length word.now }
+    ensures capacity { vec_capacity text ≤ vec_capacity result }
+{
+    let mut text = text;
+    match text.extend_from_slice(word.as_bytes()) {
+        Ok(()) => text,
         Err(_) => unreachable!(),
     }
 }
 
 /// Adds a piece of text, for which there is room.
 #[inline(always)]
-pub(crate) fn put(text: &mut Vec<u8>, piece: &str)
-    requires { vec_len text.old + length piece.now ≤ vec_capacity text.old }
-    ensures items { text.new.items ≡ text.old.items ++ piece.now }
-    ensures len { vec_len text.new ≡ vec_len text.old + length piece.now }
-    ensures capacity { vec_capacity text.old ≤ vec_capacity text.new }
+pub(crate) fn put(text: Vec<u8>, piece: &str) -> Vec<u8>
+    requires { vec_len text + length piece.now ≤ vec_capacity text }
+    ensures items { result.items ≡ text.items ++ piece.now }
+    ensures len { vec_len result ≡ vec_len text + length piece.now }
+    ensures capacity { vec_capacity text ≤ vec_capacity result }
 {
-    put_octets(text, piece.as_bytes());
+    put_octets(text, piece.as_bytes())
 }
 
 /// Adds the word for a side and a blank, for which there is room.
 #[inline(always)]
-pub(crate) fn put_side(text: &mut Vec<u8>, side: End)
-    requires { vec_len text.old + 6 ≤ vec_capacity text.old }
-    ensures items { text.new.items ≡ text.old.items ++ (side_name side ++ codes " ") }
-    ensures len { vec_len text.new ≤ vec_len text.old + 6 }
-    ensures capacity { vec_capacity text.old ≤ vec_capacity text.new }
+pub(crate) fn put_side(text: Vec<u8>, side: End) -> Vec<u8>
+    requires { vec_len text + 6 ≤ vec_capacity text }
+    ensures items { result.items ≡ text.items ++ (side_name side ++ codes " ") }
+    ensures len { vec_len result ≤ vec_len text + 6 }
+    ensures capacity { vec_capacity text ≤ vec_capacity result }
 {
     match side {
         End::Left => put(text, "left "),
@@ -60,100 +73,118 @@ pub(crate) fn put_side(text: &mut Vec<u8>, side: End)
 /// Adds a digit, for which there is room.
 #[inline(always)]
 #[tactic(auto, using(std::proofs::lemmas::Fmt::decimal_digit))]
-fn put_digit(text: &mut Vec<u8>, digit: u8)
+fn put_digit(text: Vec<u8>, digit: u8) -> Vec<u8>
     requires digit { digit < 10 }
-    requires room { vec_len text.old < vec_capacity text.old }
-    ensures items { text.new.items ≡ text.old.items ++ decimal digit }
-    ensures len { vec_len text.new ≡ vec_len text.old + 1 }
-    ensures capacity { vec_capacity text.old ≤ vec_capacity text.new }
+    requires room { vec_len text < vec_capacity text }
+    ensures items { result.items ≡ text.items ++ decimal digit }
+    ensures len { vec_len result ≡ vec_len text + 1 }
+    ensures capacity { vec_capacity text ≤ vec_capacity result }
 {
-    if text.capacity() - text.len() < 1 {
-        unreachable!();
-    }
-    match text.push(b'0' + digit) {
-        Ok(()) => (),
-        Err(_) => unreachable!(),
-    }
+    let mut text = text;
+    text.push_reserved(b'0' + digit);
+    text
 }
 
 /// Adds a number of many digits in decimal, for which there is room.
-#[inline(never)]
-fn put_digits(text: &mut Vec<u8>, number: u64)
-    requires { vec_len text.old + 20 ≤ vec_capacity text.old }
-    ensures items { text.new.items ≡ text.old.items ++ decimal number }
-    ensures len { vec_len text.new ≤ vec_len text.old + 20 }
-    ensures capacity { vec_capacity text.old ≤ vec_capacity text.new }
+#[inline(always)]
+fn put_digits(text: Vec<u8>, number: u64) -> Vec<u8>
+    requires { vec_len text + 20 ≤ vec_capacity text }
+    ensures items { result.items ≡ text.items ++ decimal number }
+    ensures len { vec_len result ≤ vec_len text + 20 }
+    ensures capacity { vec_capacity text ≤ vec_capacity result }
 {
     let mut digits = itoa::Buffer::new();
-    put(text, digits.format(number));
+    put_word(text, digits.format(number))
 }
 
-/// Adds a number in decimal, for which there is room. Most numbers of a transcript have one digit or two.
+/// Adds a number of one digit or two in decimal, for which there is room.
 #[inline(always)]
-pub(crate) fn put_decimal(text: &mut Vec<u8>, number: u64)
-    requires { vec_len text.old + 20 ≤ vec_capacity text.old }
-    ensures items { text.new.items ≡ text.old.items ++ decimal number }
-    ensures len { vec_len text.new ≤ vec_len text.old + 20 }
-    ensures capacity { vec_capacity text.old ≤ vec_capacity text.new }
+#[tactic(auto, using(crate::proofs::Decimals::digits_joined))]
+fn put_tens(text: Vec<u8>, number: u64) -> Vec<u8>
+    requires number { number < 100 }
+    requires room { vec_len text + 2 ≤ vec_capacity text }
+    ensures items { result.items ≡ text.items ++ decimal number }
+    ensures len { vec_len result ≤ vec_len text + 2 }
+    ensures capacity { vec_capacity text ≤ vec_capacity result }
 {
     if number < 10 {
-        put_digit(text, number as u8);
-    } else if number < 100 {
-        put_digit(text, (number / 10) as u8);
-        put_digit(text, (number % 10) as u8);
+        return put_digit(text, number as u8);
+    }
+    let text = put_digit(text, (number / 10) as u8);
+    put_digit(text, (number % 10) as u8)
+}
+
+/// Adds a number in decimal, for which there is room. Most numbers of a transcript have few digits.
+#[inline(always)]
+#[tactic(auto, using(crate::proofs::Decimals::hundreds_joined))]
+pub(crate) fn put_decimal(text: Vec<u8>, number: u64) -> Vec<u8>
+    requires { vec_len text + 20 ≤ vec_capacity text }
+    ensures items { result.items ≡ text.items ++ decimal number }
+    ensures len { vec_len result ≤ vec_len text + 20 }
+    ensures capacity { vec_capacity text ≤ vec_capacity result }
+{
+    if number < 100 {
+        put_tens(text, number)
+    } else if number < 10_000 {
+        let text = put_tens(text, number / 100);
+        let text = put_digit(text, (number / 10 % 10) as u8);
+        put_digit(text, (number % 10) as u8)
     } else {
-        put_digits(text, number);
+        put_digits(text, number)
     }
 }
 
 /// Adds octets in hexadecimal, for which there is room.
-pub(crate) fn put_hex(text: &mut Vec<u8>, octets: &[u8])
-    requires { vec_len text.old + 2 * length octets.now ≤ vec_capacity text.old }
-    ensures items { text.new.items ≡ text.old.items ++ encode_lower octets.now }
-    ensures len { vec_len text.new ≡ vec_len text.old + 2 * length octets.now }
-    ensures capacity { vec_capacity text.old ≤ vec_capacity text.new }
+#[inline(always)]
+pub(crate) fn put_hex(text: Vec<u8>, octets: &[u8]) -> Vec<u8>
+    requires { vec_len text + 2 * length octets.now ≤ vec_capacity text }
+    ensures items { result.items ≡ text.items ++ encode_lower octets.now }
+    ensures len { vec_len result ≡ vec_len text + 2 * length octets.now }
+    ensures capacity { vec_capacity text ≤ vec_capacity result }
 {
+    let mut text = text;
     let before = text.len();
     match text.resize(before + octets.len() * 2, 0) {
         Ok(()) => (),
         Err(_) => unreachable!(),
     }
     let _ = hex::encode_to_slice(octets, &mut text[before..]);
+    text
 }
 
 /// Adds an octet in hexadecimal, for which there is room.
-pub(crate) fn put_octet(text: &mut Vec<u8>, octet: u8)
-    requires { vec_len text.old + 2 ≤ vec_capacity text.old }
-    ensures items { text.new.items ≡ text.old.items ++ encode_lower (octet ∷ []) }
-    ensures len { vec_len text.new ≡ vec_len text.old + 2 }
-    ensures capacity { vec_capacity text.old ≤ vec_capacity text.new }
+pub(crate) fn put_octet(text: Vec<u8>, octet: u8) -> Vec<u8>
+    requires { vec_len text + 2 ≤ vec_capacity text }
+    ensures items { result.items ≡ text.items ++ encode_lower (octet ∷ []) }
+    ensures len { vec_len result ≡ vec_len text + 2 }
+    ensures capacity { vec_capacity text ≤ vec_capacity result }
 {
     let mut digits = [0; 2];
     let _ = hex::encode_to_slice([octet].as_slice(), &mut digits);
-    put_octets(text, &digits);
+    put_octets(text, &digits)
 }
 
 /// Adds 16 bits in hexadecimal, for which there is room.
-pub(crate) fn put_short(text: &mut Vec<u8>, bits: u16)
-    requires { vec_len text.old + 4 ≤ vec_capacity text.old }
-    ensures items { text.new.items ≡ text.old.items ++ encode_lower (two bits) }
-    ensures len { vec_len text.new ≡ vec_len text.old + 4 }
-    ensures capacity { vec_capacity text.old ≤ vec_capacity text.new }
+pub(crate) fn put_short(text: Vec<u8>, bits: u16) -> Vec<u8>
+    requires { vec_len text + 4 ≤ vec_capacity text }
+    ensures items { result.items ≡ text.items ++ encode_lower (two bits) }
+    ensures len { vec_len result ≡ vec_len text + 4 }
+    ensures capacity { vec_capacity text ≤ vec_capacity result }
 {
     let mut digits = [0; 4];
     let octets = [(bits / 256) as u8, (bits % 256) as u8];
     let _ = hex::encode_to_slice(octets.as_slice(), &mut digits);
-    put_octets(text, &digits);
+    put_octets(text, &digits)
 }
 
 /// Adds the letters of four tokens, for which there is room.
-pub(crate) fn put_letters(text: &mut Vec<u8>, letters: [u8; 4])
-    requires { vec_len text.old + 4 ≤ vec_capacity text.old }
-    ensures items { text.new.items ≡ text.old.items ++ letters }
-    ensures len { vec_len text.new ≡ vec_len text.old + 4 }
-    ensures capacity { vec_capacity text.old ≤ vec_capacity text.new }
+pub(crate) fn put_letters(text: Vec<u8>, letters: [u8; 4]) -> Vec<u8>
+    requires { vec_len text + 4 ≤ vec_capacity text }
+    ensures items { result.items ≡ text.items ++ letters }
+    ensures len { vec_len result ≡ vec_len text + 4 }
+    ensures capacity { vec_capacity text ≤ vec_capacity result }
 {
-    put_octets(text, &letters);
+    put_octets(text, &letters)
 }
 
 fn letter_of_wish(wish: Wish) -> u8
