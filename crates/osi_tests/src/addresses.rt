@@ -1,10 +1,10 @@
 //! The addresses of connections: two connections of one port are told apart by whom they ask for.
 
-use crate::stacks::{self, Ends, asking, carry};
+use crate::stacks::{self, Ends, asking, calls, carry};
 use osi_carrier::Ref;
 use osi_class::Local;
 use osi_session::Request;
-use osi_stack::{Connect, SessionSelector, Stack};
+use osi_stack::{Addresses, Connect, SessionSelector, Stack};
 use osi_tpdu::{SizeCode, Tsap, Window};
 use std::test::Fail;
 
@@ -14,14 +14,19 @@ const ONE: [u8; 3] = [0x4F, 0x4E, 0x45];
 
 const TWO: [u8; 16] = [0x32; 16];
 
-/// Two ends of class 2.
-fn ends(rt: &HostRuntime) -> Result<Ends, Fail> {
-    let local = Local {
+/// Class 2.
+fn class_2() -> Result<Local, Fail> {
+    Ok(Local {
         class0: false,
         class2: true,
         size: SizeCode::new(10).ok_or("size")?,
         window: Window::new(4).ok_or("window")?,
-    };
+    })
+}
+
+/// Two ends of class 2.
+fn two_ends(rt: &HostRuntime) -> Result<Ends, Fail> {
+    let local = class_2()?;
     Ok(Ends {
         left: Stack::caller(rt.alloc(), local),
         right: Stack::called(rt.alloc(), local),
@@ -39,14 +44,19 @@ fn asks(left: &mut Stack, user: &[u8]) -> Result<(), Fail> {
 }
 
 /// A connection is asked for, and its CN comes.
-fn comes(ends: &mut Ends, user: &[u8]) -> Result<(), Fail> {
-    asks(&mut ends.left, user)?;
-    carry(&mut ends.left, &mut ends.right)?;
-    carry(&mut ends.right, &mut ends.left)?;
-    match carry(&mut ends.left, &mut ends.right)? {
+fn comes(left: &mut Stack, right: &mut Stack, user: &[u8]) -> Result<(), Fail> {
+    asks(left, user)?;
+    carry(left, right)?;
+    carry(right, left)?;
+    match carry(left, right)? {
         Some(0) => Ok(()),
         _ => Err(Fail::from("no indication")),
     }
+}
+
+fn two_come(left: &mut Stack, right: &mut Stack) -> Result<(), Fail> {
+    comes(left, right, &ONE)?;
+    comes(left, right, &TWO)
 }
 
 fn is_user(address: &Option<SessionSelector>, user: &[u8]) -> bool {
@@ -63,76 +73,90 @@ fn is_tsap(address: &Option<Tsap>, octets: &[u8]) -> bool {
     }
 }
 
+/// The connection was asked for of this user, by one that has no address.
+fn name(addresses: &Addresses, user: &[u8]) -> bool {
+    is_tsap(&addresses.calling_tsap, &HERE)
+        && is_user(&addresses.called_selector, user)
+        && addresses.called_tsap.is_none()
+        && addresses.calling_selector.is_none()
+}
+
+fn addresses_at(end: &Stack, connection: u16) -> Option<Addresses> {
+    end.addresses(Ref(connection))
+}
+
 /// The connection was asked for of this user.
 fn is_for(end: &Stack, connection: u16, user: &[u8]) -> Result<(), Fail> {
-    let Some(addresses) = end.addresses(Ref(connection)) else {
-        return Err(Fail::from("no addresses"));
-    };
-    if !is_tsap(&addresses.calling_tsap, &HERE) || !is_user(&addresses.called_selector, user) {
-        return Err(Fail::from("other addresses"));
+    match addresses_at(end, connection) {
+        Some(addresses) if name(&addresses, user) => Ok(()),
+        _ => Err(Fail::from("other addresses")),
     }
-    if addresses.called_tsap.is_some() || addresses.calling_selector.is_some() {
-        return Err(Fail::from("an address that nobody has"));
-    }
-    Ok(())
 }
 
 fn has_none(end: &Stack, connection: u16) -> Result<(), Fail> {
-    if end.addresses(Ref(connection)).is_some() {
+    if addresses_at(end, connection).is_some() {
         return Err(Fail::from("addresses of no connection"));
     }
     Ok(())
 }
 
+fn has_two(end: &Stack) -> Result<(), Fail> {
+    is_for(end, 1, &ONE)?;
+    is_for(end, 2, &TWO)
+}
+
+fn two_are_told_apart(left: &mut Stack, right: &mut Stack) -> Result<(), Fail> {
+    two_come(left, right)?;
+    has_two(left)?;
+    has_two(right)?;
+    has_none(right, 0)?;
+    has_none(right, 3)
+}
+
 #[test]
 fn connections_are_told_apart_by_whom_they_ask_for(rt: HostRuntime) -> Result<(), Fail> {
-    let mut ends = ends(&rt)?;
-    comes(&mut ends, &ONE)?;
-    comes(&mut ends, &TWO)?;
-    is_for(&ends.left, 1, &ONE)?;
-    is_for(&ends.left, 2, &TWO)?;
-    is_for(&ends.right, 1, &ONE)?;
-    is_for(&ends.right, 2, &TWO)?;
-    has_none(&ends.right, 0)?;
-    has_none(&ends.right, 3)
+    let mut ends = two_ends(&rt)?;
+    two_are_told_apart(&mut ends.left, &mut ends.right)
 }
 
 /// The CR of a connection comes, and not yet its CN.
-fn is_begun(ends: &mut Ends) -> Result<(), Fail> {
-    asks(&mut ends.left, &ONE)?;
-    carry(&mut ends.left, &mut ends.right)?;
-    is_for(&ends.left, 1, &ONE)?;
-    has_none(&ends.right, 1)
+fn is_begun(left: &mut Stack, right: &mut Stack) -> Result<(), Fail> {
+    asks(left, &ONE)?;
+    carry(left, right)?;
+    is_for(left, 1, &ONE)?;
+    has_none(right, 1)
 }
 
 #[test]
 fn a_connection_has_none_before_its_cn(rt: HostRuntime) -> Result<(), Fail> {
-    let mut ends = ends(&rt)?;
-    is_begun(&mut ends)
+    let mut ends = two_ends(&rt)?;
+    is_begun(&mut ends.left, &mut ends.right)
 }
 
-fn refuses(right: &mut Stack, connection: u16) -> Result<(), Fail> {
-    right.call(Ref(connection), Request::Refuse { user_data: &[] })?;
+/// The first connection is refused: an RF goes to the caller, whose DR is answered by a DC.
+fn is_refused(left: &mut Stack, right: &mut Stack) -> Result<(), Fail> {
+    calls(right, 1, Request::Refuse { user_data: &[] })?;
+    carry(right, left)?;
+    carry(left, right)?;
+    carry(right, left)?;
     Ok(())
 }
 
-/// An RF goes to the caller, whose DR is answered by a DC.
-fn is_refused(ends: &mut Ends, connection: u16) -> Result<(), Fail> {
-    refuses(&mut ends.right, connection)?;
-    carry(&mut ends.right, &mut ends.left)?;
-    carry(&mut ends.left, &mut ends.right)?;
-    carry(&mut ends.right, &mut ends.left)?;
-    Ok(())
+/// The first connection is gone, and the second is there.
+fn has_the_second(end: &Stack) -> Result<(), Fail> {
+    has_none(end, 1)?;
+    is_for(end, 2, &TWO)
+}
+
+fn one_is_gone(left: &mut Stack, right: &mut Stack) -> Result<(), Fail> {
+    two_come(left, right)?;
+    is_refused(left, right)?;
+    has_the_second(left)?;
+    has_the_second(right)
 }
 
 #[test]
 fn a_connection_that_is_gone_has_none(rt: HostRuntime) -> Result<(), Fail> {
-    let mut ends = ends(&rt)?;
-    comes(&mut ends, &ONE)?;
-    comes(&mut ends, &TWO)?;
-    is_refused(&mut ends, 1)?;
-    has_none(&ends.left, 1)?;
-    has_none(&ends.right, 1)?;
-    is_for(&ends.left, 2, &TWO)?;
-    is_for(&ends.right, 2, &TWO)
+    let mut ends = two_ends(&rt)?;
+    one_is_gone(&mut ends.left, &mut ends.right)
 }

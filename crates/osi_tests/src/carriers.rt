@@ -9,59 +9,124 @@ use osi_tpdu::{SizeCode, Window};
 use std::alloc::Global;
 use std::test::Fail;
 
-/// What an end supports, with size 0A and window 4.
-fn local(class0: bool, class2: bool) -> Result<Local, Fail> {
+/// What an end supports, both classes or neither, with size 0A and window 4.
+fn local(classes: bool) -> Result<Local, Fail> {
     Ok(Local {
-        class0,
-        class2,
+        class0: classes,
+        class2: classes,
         size: SizeCode::new(10).ok_or("size")?,
         window: Window::new(4).ok_or("window")?,
     })
 }
 
+/// An end that asks for connections.
+fn caller(rt: &HostRuntime, classes: bool) -> Result<Carrier, Fail> {
+    Ok(Carrier::caller(rt.alloc(), local(classes)?))
+}
+
+/// An end that is asked for connections.
+fn called(rt: &HostRuntime, classes: bool) -> Result<Carrier, Fail> {
+    Ok(Carrier::called(rt.alloc(), local(classes)?))
+}
+
+/// The answer where a connection is asked for.
+fn connect(carrier: &mut Carrier) -> Result<Ref, OpenError> {
+    carrier.connect(None, None)
+}
+
 /// A connection is asked for, and is given this reference.
 fn connects(carrier: &mut Carrier, reference: u16) -> Result<(), Fail> {
-    if carrier.connect(None, None)? != Ref(reference) {
+    if connect(carrier)? != Ref(reference) {
         return Err(Fail::from("another reference"));
     }
     Ok(())
 }
 
+fn may_connect(carrier: &Carrier) -> Result<(), OpenError> {
+    carrier.may_connect()
+}
+
 /// No connection may be asked for, by `may_connect` and by `connect`.
 fn refuses_to_connect(carrier: &mut Carrier, error: OpenError) -> Result<(), Fail> {
-    if carrier.may_connect() != Err(error) {
+    if may_connect(carrier) != Err(error) {
         return Err(Fail::from("another answer before connecting"));
     }
-    match carrier.connect(None, None) {
+    match connect(carrier) {
         Err(found) if found == error => Ok(()),
         _ => Err(Fail::from("another answer to connecting")),
     }
 }
 
+/// The answer where a TSDU is sent on connection 1.
+fn send(carrier: &mut Carrier, tsdu: &[u8]) -> Result<(), SendError> {
+    carrier.send(Ref(1), tsdu)
+}
+
+/// The answer where a TSDU is given away on connection 1.
+fn send_owned(carrier: &mut Carrier, tsdu: Vec<u8>) -> Result<(), SendError> {
+    carrier.send_owned(Ref(1), tsdu)
+}
+
+/// The answer where TSDUs are sent together on connection 1.
+fn send_all(carrier: &mut Carrier, tsdus: &[Vec<u8>]) -> Result<(), SendError> {
+    carrier.send_all(Ref(1), tsdus)
+}
+
+/// The answer where TSDUs are given away together on connection 1.
+fn send_all_owned(carrier: &mut Carrier, tsdus: Vec<Vec<u8>>) -> Result<(), SendError> {
+    carrier.send_all_owned(Ref(1), tsdus)
+}
+
 fn refuses_to_send(carrier: &mut Carrier, tsdu: &[u8], error: SendError) -> Result<(), Fail> {
-    match carrier.send(Ref(1), tsdu) {
+    match send(carrier, tsdu) {
         Err(found) if found == error => Ok(()),
         _ => Err(Fail::from("another answer to sending")),
     }
 }
 
-/// These octets are to be carried, no others, and are taken.
-fn writes(carrier: &mut Carrier, octets: &[u8]) -> Result<(), Fail> {
+/// These octets are to be carried, no others.
+fn has_to_carry(carrier: &Carrier, octets: &[u8]) -> Result<(), Fail> {
     if carrier.outgoing() != octets {
         return Err(Fail::from("other octets are written"));
     }
-    carrier.taken(octets.len());
     Ok(())
+}
+
+/// All that is to be carried is taken.
+fn all_is_taken(carrier: &mut Carrier) {
+    carrier.taken(carrier.outgoing().len());
+}
+
+/// These octets are to be carried, no others, and are taken.
+fn writes(carrier: &mut Carrier, octets: &[u8]) -> Result<(), Fail> {
+    has_to_carry(carrier, octets)?;
+    all_is_taken(carrier);
+    Ok(())
+}
+
+/// How many of these octets are used.
+fn uses(carrier: &mut Carrier, octets: &[u8]) -> usize {
+    carrier.feed(octets).used
+}
+
+/// Why a carrier is over, if it is.
+fn ended(carrier: &Carrier) -> Option<EndReason> {
+    carrier.ended()
 }
 
 /// All octets are used.
 fn takes(carrier: &mut Carrier, octets: &[u8]) -> Result<(), Fail> {
-    let used = carrier.feed(octets).used;
-    match carrier.ended() {
+    let used = uses(carrier, octets);
+    match ended(carrier) {
         None if used == octets.len() => Ok(()),
         Some(EndReason::NoMemory) => Err(Fail::from("out of memory")),
         _ => Err(Fail::from("octets are left")),
     }
+}
+
+/// What happened next.
+fn next(carrier: &mut Carrier) -> Option<Event> {
+    carrier.next_event()
 }
 
 /// The CR of a caller with both classes and window 3.
@@ -80,46 +145,59 @@ const CLASS_0: [u8; 14] = [
     0x03, 0x00, 0x00, 0x0E, 0x09, 0xE0, 0x00, 0x00, 0x00, 0x01, 0x00, 0xC0, 0x01, 0x0A,
 ];
 
+fn refuses_a_class(carrier: &mut Carrier) -> Result<(), Fail> {
+    takes(carrier, &BOTH_CLASSES)?;
+    writes(carrier, &NO_CLASS)
+}
+
 #[test]
 fn an_end_of_neither_class_refuses_a_request(rt: HostRuntime) -> Result<(), Fail> {
-    let mut called = Carrier::called(rt.alloc(), local(false, false)?);
-    takes(&mut called, &BOTH_CLASSES)?;
-    writes(&mut called, &NO_CLASS)
+    refuses_a_class(&mut called(&rt, false)?)
+}
+
+fn proposes_class_0(carrier: &mut Carrier) -> Result<(), Fail> {
+    connects(carrier, 1)?;
+    writes(carrier, &CLASS_0)
 }
 
 #[test]
 fn an_end_of_neither_class_proposes_class_0(rt: HostRuntime) -> Result<(), Fail> {
-    let mut caller = Carrier::caller(rt.alloc(), local(false, false)?);
-    connects(&mut caller, 1)?;
-    writes(&mut caller, &CLASS_0)
+    proposes_class_0(&mut caller(&rt, false)?)
 }
 
 #[test]
 fn a_called_end_asks_for_nothing(rt: HostRuntime) -> Result<(), Fail> {
-    let mut called = Carrier::called(rt.alloc(), local(true, true)?);
-    refuses_to_connect(&mut called, OpenError::NotCaller)
+    refuses_to_connect(&mut called(&rt, true)?, OpenError::NotCaller)
+}
+
+/// The last event is that a connection was refused, for reason 130.
+fn tells_of_a_refusal(carrier: &mut Carrier, reference: u16) -> Result<(), Fail> {
+    match next(carrier) {
+        Some(Event::Refused(Ref(found), 130)) if found == reference => Ok(()),
+        _ => Err(Fail::from("another event")),
+    }
 }
 
 /// A connection is asked for and refused.
 fn is_refused(carrier: &mut Carrier, reference: u16) -> Result<(), Fail> {
     let [high, low] = reference.to_be_bytes();
     connects(carrier, reference)?;
-    carrier.taken(carrier.outgoing().len());
+    all_is_taken(carrier);
     takes(carrier, &[3, 0, 0, 0x0B, 6, 0x80, high, low, 0, 0, 0x82])?;
-    match carrier.next_event() {
-        Some(Event::Refused(Ref(found), 130)) if found == reference => Ok(()),
-        _ => Err(Fail::from("another event")),
+    tells_of_a_refusal(carrier, reference)
+}
+
+/// Each reference is given once.
+fn references_go_on(carrier: &mut Carrier) -> Result<(), Fail> {
+    for reference in 1..=65_535u16 {
+        is_refused(carrier, reference)?;
     }
+    refuses_to_connect(carrier, OpenError::ReferencesUsedUp)
 }
 
 #[test]
 fn references_1_to_65535_are_given_once(rt: HostRuntime) -> Result<(), Fail> {
-    let mut caller = Carrier::caller(rt.alloc(), local(true, true)?);
-    for reference in 1..65_535u16 {
-        is_refused(&mut caller, reference)?;
-    }
-    is_refused(&mut caller, 65_535)?;
-    refuses_to_connect(&mut caller, OpenError::ReferencesUsedUp)
+    references_go_on(&mut caller(&rt, true)?)
 }
 
 /// The CC by which class 2 is selected, with window 4.
@@ -128,16 +206,26 @@ const CLASS_2: [u8; 17] = [
     0x00,
 ];
 
-/// A caller has connection 1 open by this CC, and nothing is to be carried.
-fn opened_by(rt: &HostRuntime, confirm: &[u8]) -> Result<Carrier, Fail> {
-    let mut caller = Carrier::caller(rt.alloc(), local(true, true)?);
-    connects(&mut caller, 1)?;
-    caller.taken(caller.outgoing().len());
-    takes(&mut caller, confirm)?;
-    match caller.next_event() {
-        Some(Event::Opened(Ref(1))) => Ok(caller),
+fn tells_of_the_opening(carrier: &mut Carrier) -> Result<(), Fail> {
+    match next(carrier) {
+        Some(Event::Opened(Ref(1))) => Ok(()),
         _ => Err(Fail::from("another event")),
     }
+}
+
+/// Connection 1 is opened by this CC, and nothing is to be carried.
+fn opens(carrier: &mut Carrier, confirm: &[u8]) -> Result<(), Fail> {
+    connects(carrier, 1)?;
+    all_is_taken(carrier);
+    takes(carrier, confirm)?;
+    tells_of_the_opening(carrier)
+}
+
+/// A caller has connection 1 open by this CC, and nothing is to be carried.
+fn opened_by(rt: &HostRuntime, confirm: &[u8]) -> Result<Carrier, Fail> {
+    let mut carrier = caller(rt, true)?;
+    opens(&mut carrier, confirm)?;
+    Ok(carrier)
 }
 
 /// A caller has connection 1 open in class 2, and nothing is to be carried.
@@ -145,20 +233,23 @@ fn opened(rt: &HostRuntime) -> Result<Carrier, Fail> {
     opened_by(rt, &CLASS_2)
 }
 
+fn sends_nothing_yet(carrier: &mut Carrier) -> Result<(), Fail> {
+    refuses_to_send(carrier, b"A", SendError::NotOpen)?;
+    connects(carrier, 1)?;
+    refuses_to_send(carrier, b"A", SendError::NotOpen)
+}
+
 #[test]
 fn a_tsdu_is_sent_on_an_open_connection_alone(rt: HostRuntime) -> Result<(), Fail> {
-    let mut caller = Carrier::caller(rt.alloc(), local(true, true)?);
-    refuses_to_send(&mut caller, b"A", SendError::NotOpen)?;
-    connects(&mut caller, 1)?;
-    refuses_to_send(&mut caller, b"A", SendError::NotOpen)
+    sends_nothing_yet(&mut caller(&rt, true)?)
 }
 
 /// Two TSDUs are sent, and a copy of them is given away: most of the first goes behind credit that has
 /// not come, and the others behind it.
 fn sends_three(carrier: &mut Carrier, alloc: Global, tsdu: &[u8]) -> Result<(), Fail> {
-    carrier.send(Ref(1), tsdu)?;
-    carrier.send(Ref(1), tsdu)?;
-    carrier.send_owned(Ref(1), Vec::from_slice(alloc, tsdu)?)?;
+    send(carrier, tsdu)?;
+    send(carrier, tsdu)?;
+    send_owned(carrier, Vec::from_slice(alloc, tsdu)?)?;
     Ok(())
 }
 
@@ -171,29 +262,19 @@ fn two_of(alloc: Global, tsdu: &[u8]) -> Result<Vec<Vec<u8>>, Fail> {
     Ok(tsdus)
 }
 
-fn sends_together(carrier: &mut Carrier, tsdus: &[Vec<u8>]) -> Result<(), Fail> {
-    carrier.send_all(Ref(1), tsdus)?;
+/// TSDUs are sent together, and given away together.
+fn sends_together(carrier: &mut Carrier, tsdus: Vec<Vec<u8>>) -> Result<(), Fail> {
+    send_all(carrier, tsdus.as_slice())?;
+    send_all_owned(carrier, tsdus)?;
     Ok(())
 }
 
-fn gives_away_together(carrier: &mut Carrier, tsdus: Vec<Vec<u8>>) -> Result<(), Fail> {
-    carrier.send_all_owned(Ref(1), tsdus)?;
-    Ok(())
-}
-
-/// A TSDU of the greatest length is sent in each way.
-fn sends_longest(carrier: &mut Carrier, alloc: Global, tsdu: &[u8]) -> Result<(), Fail> {
-    sends_three(carrier, alloc, tsdu)?;
-    let tsdus = two_of(alloc, tsdu)?;
-    sends_together(carrier, tsdus.as_slice())?;
-    gives_away_together(carrier, tsdus)
-}
-
-/// With one octet more than the greatest length.
+/// With one octet more than the greatest length: a TSDU of that length is sent in each way.
 fn lengths_go_on(carrier: &mut Carrier, alloc: Global, octets: &[u8]) -> Result<(), Fail> {
     let (longest, _) = octets.split_at_checked(1_048_576).ok_or("octets")?;
     refuses_to_send(carrier, octets, SendError::TooLong)?;
-    sends_longest(carrier, alloc, longest)
+    sends_three(carrier, alloc, longest)?;
+    sends_together(carrier, two_of(alloc, longest)?)
 }
 
 #[test]
@@ -202,39 +283,49 @@ fn a_sent_tsdu_has_at_most_1048576_octets(rt: HostRuntime) -> Result<(), Fail> {
     lengths_go_on(&mut opened(&rt)?, rt.alloc(), octets.as_slice())
 }
 
-#[test]
-fn a_fault_is_told_of_its_connection(rt: HostRuntime) -> Result<(), Fail> {
-    let mut caller = opened(&rt)?;
-    // number 5, where 0 is expected
-    takes(&mut caller, &[3, 0, 0, 0x0A, 4, 0xF0, 0, 1, 0x85, 0x5A])?;
-    writes(&mut caller, &[3, 0, 0, 0x0B, 6, 0x80, 0, 1, 0, 1, 0x85])?;
-    match caller.next_event() {
+fn tells_of_a_fault(carrier: &mut Carrier) -> Result<(), Fail> {
+    match next(carrier) {
         Some(Event::Faulted(Ref(1), LinkFault::OutOfSequence)) => Ok(()),
         _ => Err(Fail::from("another event")),
     }
 }
 
+/// A TSDU comes with number 5, where 0 is expected.
+fn fault_goes_on(carrier: &mut Carrier) -> Result<(), Fail> {
+    takes(carrier, &[3, 0, 0, 0x0A, 4, 0xF0, 0, 1, 0x85, 0x5A])?;
+    writes(carrier, &[3, 0, 0, 0x0B, 6, 0x80, 0, 1, 0, 1, 0x85])?;
+    tells_of_a_fault(carrier)
+}
+
+#[test]
+fn a_fault_is_told_of_its_connection(rt: HostRuntime) -> Result<(), Fail> {
+    fault_goes_on(&mut opened(&rt)?)
+}
+
 /// A TSDU is sent in a DT with number 0.
 fn sends(carrier: &mut Carrier) -> Result<(), Fail> {
-    carrier.send(Ref(1), b"A")?;
+    send(carrier, b"A")?;
     writes(carrier, &[3, 0, 0, 0x0A, 4, 0xF0, 0, 1, 0x80, 0x41])
 }
 
 /// A TSDU is given away, and sent in a DT with number 1.
 fn gives_away(carrier: &mut Carrier, alloc: Global) -> Result<(), Fail> {
-    let tsdu = vec![in alloc; 0x43; 1]?;
-    carrier.send_owned(Ref(1), tsdu)?;
+    send_owned(carrier, vec![in alloc; 0x43; 1]?)?;
     writes(carrier, &[3, 0, 0, 0x0A, 4, 0xF0, 0, 1, 0x81, 0x43])
 }
 
-/// A TSDU comes, which is acknowledged.
-fn hands_out(carrier: &mut Carrier) -> Result<(), Fail> {
-    takes(carrier, &[3, 0, 0, 0x0A, 4, 0xF0, 0, 1, 0x80, 0x42])?;
-    writes(carrier, &[3, 0, 0, 9, 4, 0x64, 0, 1, 1])?;
-    match carrier.next_event() {
-        Some(Event::Tsdu(Ref(1), tsdu)) if tsdu.as_slice() == b"B".as_slice() => Ok(()),
+fn hands_out(carrier: &mut Carrier, octets: &[u8]) -> Result<(), Fail> {
+    match next(carrier) {
+        Some(Event::Tsdu(Ref(1), tsdu)) if tsdu.as_slice() == octets => Ok(()),
         _ => Err(Fail::from("another event")),
     }
+}
+
+/// A TSDU comes, which is acknowledged.
+fn receives(carrier: &mut Carrier) -> Result<(), Fail> {
+    takes(carrier, &[3, 0, 0, 0x0A, 4, 0xF0, 0, 1, 0x80, 0x42])?;
+    writes(carrier, &[3, 0, 0, 9, 4, 0x64, 0, 1, 1])?;
+    hands_out(carrier, b"B")
 }
 
 /// A connection of class 2 is closed with a DR, and nothing is sent on it then.
@@ -244,13 +335,16 @@ fn closes(carrier: &mut Carrier) -> Result<(), Fail> {
     refuses_to_send(carrier, b"A", SendError::NotOpen)
 }
 
+fn carries_and_closes(carrier: &mut Carrier, alloc: Global) -> Result<(), Fail> {
+    sends(carrier)?;
+    gives_away(carrier, alloc)?;
+    receives(carrier)?;
+    closes(carrier)
+}
+
 #[test]
 fn a_connection_of_class_2_carries_and_is_closed(rt: HostRuntime) -> Result<(), Fail> {
-    let mut caller = opened(&rt)?;
-    sends(&mut caller)?;
-    gives_away(&mut caller, rt.alloc())?;
-    hands_out(&mut caller)?;
-    closes(&mut caller)
+    carries_and_closes(&mut opened(&rt)?, rt.alloc())
 }
 
 /// The CC by which class 0 is selected.
@@ -282,43 +376,63 @@ fn five(alloc: Global) -> Result<Vec<Vec<u8>>, Fail> {
 /// TSDUs are sent together. Where no memory is found nothing is written, and they are sent once more, as
 /// if they had not been.
 fn sends_all(carrier: &mut Carrier, tsdus: &[Vec<u8>]) -> Result<(), Fail> {
-    match carrier.send_all(Ref(1), tsdus) {
+    match send_all(carrier, tsdus) {
         Ok(()) => Ok(()),
-        Err(SendError::OutOfMemory) => {
-            writes(carrier, &[])?;
-            carrier.send_all(Ref(1), tsdus)?;
-            Ok(())
-        }
+        Err(SendError::OutOfMemory) => sends_once_more(carrier, tsdus),
         Err(error) => Err(Fail::from(error)),
     }
 }
 
+fn sends_once_more(carrier: &mut Carrier, tsdus: &[Vec<u8>]) -> Result<(), Fail> {
+    has_to_carry(carrier, &[])?;
+    send_all(carrier, tsdus)?;
+    Ok(())
+}
+
+fn sends_five(carrier: &mut Carrier, alloc: Global) -> Result<(), Fail> {
+    let tsdus = five(alloc)?;
+    sends_all(carrier, tsdus.as_slice())
+}
+
+fn writes_five(carrier: &mut Carrier, alloc: Global) -> Result<(), Fail> {
+    sends_five(carrier, alloc)?;
+    writes(carrier, &FIVE_IN_CLASS_0)
+}
+
 #[test]
 fn tsdus_are_sent_together_in_class_0(rt: HostRuntime) -> Result<(), Fail> {
-    let mut caller = opened_by(&rt, &CLASS_0_SELECTED)?;
-    sends_all(&mut caller, five(rt.alloc())?.as_slice())?;
-    writes(&mut caller, &FIVE_IN_CLASS_0)
+    writes_five(&mut opened_by(&rt, &CLASS_0_SELECTED)?, rt.alloc())
+}
+
+/// Four of five TSDUs go at once, and the last behind an AK with number 4 and credit 4.
+fn writes_four(carrier: &mut Carrier, alloc: Global) -> Result<(), Fail> {
+    sends_five(carrier, alloc)?;
+    writes(carrier, &FOUR_IN_CLASS_2)?;
+    takes(carrier, &[3, 0, 0, 9, 4, 0x64, 0, 1, 4])?;
+    writes(carrier, &[3, 0, 0, 0x0A, 4, 0xF0, 0, 1, 0x84, 0x45])
 }
 
 #[test]
 fn tsdus_are_sent_together_in_class_2(rt: HostRuntime) -> Result<(), Fail> {
-    let mut caller = opened(&rt)?;
-    sends_all(&mut caller, five(rt.alloc())?.as_slice())?;
-    writes(&mut caller, &FOUR_IN_CLASS_2)?;
-    // an AK: number 4, credit 4
-    takes(&mut caller, &[3, 0, 0, 9, 4, 0x64, 0, 1, 4])?;
-    writes(&mut caller, &[3, 0, 0, 0x0A, 4, 0xF0, 0, 1, 0x84, 0x45])
+    writes_four(&mut opened(&rt)?, rt.alloc())
+}
+
+fn refuses_an_empty_list(carrier: &mut Carrier) -> Result<(), Fail> {
+    if send_all(carrier, &[]) != Err(SendError::NotOpen) {
+        return Err(Fail::from("another answer to sending"));
+    }
+    Ok(())
+}
+
+fn sends_an_empty_list(carrier: &mut Carrier) -> Result<(), Fail> {
+    sends_all(carrier, &[])?;
+    writes(carrier, &[])
 }
 
 #[test]
 fn an_empty_list_is_sent_on_an_open_connection_alone(rt: HostRuntime) -> Result<(), Fail> {
-    let mut caller = Carrier::caller(rt.alloc(), local(true, true)?);
-    if caller.send_all(Ref(1), &[]) != Err(SendError::NotOpen) {
-        return Err(Fail::from("another answer to sending"));
-    }
-    let mut opened = opened(&rt)?;
-    sends_all(&mut opened, &[])?;
-    writes(&mut opened, &[])
+    refuses_an_empty_list(&mut caller(&rt, true)?)?;
+    sends_an_empty_list(&mut opened(&rt)?)
 }
 
 /// So many octets are unsent, all of them of connection 1, and so many connections are live.
@@ -335,9 +449,9 @@ fn holds_back(carrier: &Carrier, octets: usize, live: usize) -> Result<(), Fail>
 /// Six TSDUs of two octets are sent, with credit for four.
 fn sends_six(carrier: &mut Carrier) -> Result<(), Fail> {
     for _ in 0..6u8 {
-        carrier.send(Ref(1), b"AB")?;
+        send(carrier, b"AB")?;
     }
-    carrier.taken(carrier.outgoing().len());
+    all_is_taken(carrier);
     Ok(())
 }
 
@@ -355,6 +469,7 @@ fn asks_to_close(carrier: &mut Carrier) -> Result<(), Fail> {
 
 /// Credit comes for one TSDU, and then the connection is closed.
 fn credit_goes_on(carrier: &mut Carrier) -> Result<(), Fail> {
+    sends_six(carrier)?;
     holds_back(carrier, 4, 1)?;
     takes(carrier, &FOUR_TAKEN)?;
     holds_back(carrier, 2, 1)?;
@@ -366,7 +481,5 @@ fn credit_goes_on(carrier: &mut Carrier) -> Result<(), Fail> {
 
 #[test]
 fn what_credit_holds_back_is_unsent(rt: HostRuntime) -> Result<(), Fail> {
-    let mut caller = opened(&rt)?;
-    sends_six(&mut caller)?;
-    credit_goes_on(&mut caller)
+    credit_goes_on(&mut opened(&rt)?)
 }

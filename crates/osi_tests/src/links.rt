@@ -4,9 +4,10 @@ ghost use Rattle.std.specs.Prelude.{◌<◌};
 
 use osi_class::*;
 use osi_tpdu::{DataAcknowledgement, DataClass0, DataClass2, SizeCode, Tpdu, Window};
+use std::alloc::Global;
 use std::test::Fail;
 
-fn sends(link: &mut impl Link, tsdu: &[u8]) -> Result<(), Fail> {
+pub fn sends(link: &mut impl Link, tsdu: &[u8]) -> Result<(), Fail> {
     link.send_tsdu(tsdu)?;
     Ok(())
 }
@@ -34,7 +35,7 @@ fn gives_data(link: &mut impl Link, end: bool, number: u8, count: usize) -> Resu
 }
 
 /// The next unit is an AK with this number and credit.
-fn gives_ack(link: &mut impl Link, number: u8, credit: u8) -> Result<(), Fail> {
+pub fn gives_ack(link: &mut impl Link, number: u8, credit: u8) -> Result<(), Fail> {
     match link.next_out() {
         Some(
             Out::Ack {
@@ -60,7 +61,7 @@ fn hands_out(link: &mut impl Link, octets: &[u8]) -> Result<(), Fail> {
     }
 }
 
-fn is_taken(link: &mut impl Link, unit: &Tpdu<'_>) -> Result<(), Fail> {
+pub fn is_taken(link: &mut impl Link, unit: &Tpdu<'_>) -> Result<(), Fail> {
     link.take(unit)?;
     Ok(())
 }
@@ -85,7 +86,7 @@ fn acknowledgement(number: u8, credit: u8) -> Tpdu<'static>
 }
 
 /// A DT of class 2 to reference 1.
-fn data_unit(number: u8, end: bool, user: &[u8]) -> Tpdu<'_>
+pub fn data_unit(number: u8, end: bool, user: &[u8]) -> Tpdu<'_>
     requires { number < 128 }
 {
     Tpdu::Dt2(DataClass2 {
@@ -124,8 +125,7 @@ fn acks_go_on(link: &mut impl Link) -> Result<(), Fail> {
 
 #[test]
 fn class_0_takes_no_ack(rt: HostRuntime) -> Result<(), Fail> {
-    let mut link = Class0::new(rt.alloc(), None);
-    acks_go_on(&mut link)
+    acks_go_on(&mut Class0::new(rt.alloc(), None))
 }
 
 fn hands_nothing_out(link: &mut impl Link) -> Result<(), Fail> {
@@ -146,22 +146,26 @@ fn parts_go_on(link: &mut impl Link, tsdu: &[u8]) -> Result<(), Fail> {
 
 #[test]
 fn a_tsdu_is_cut_at_the_size(rt: HostRuntime) -> Result<(), Fail> {
-    let mut link = Class0::new(rt.alloc(), SizeCode::new(7));
-    let tsdu = vec![in rt.alloc(); 0x5a; 126]?;
-    parts_go_on(&mut link, tsdu.as_slice())
+    parts_go_on(&mut Class0::new(rt.alloc(), SizeCode::new(7)), &[0x5a; 126])
 }
 
 /// A TSDU of 126 octets and an empty one.
-fn two(rt: &HostRuntime) -> Result<Vec<Vec<u8>>, Fail> {
-    let mut tsdus = Vec::new(rt.alloc());
-    tsdus.push(vec![in rt.alloc(); 0x5a; 126]?)?;
-    tsdus.push(Vec::new(rt.alloc()))?;
+fn two(alloc: Global) -> Result<Vec<Vec<u8>>, Fail> {
+    let mut tsdus = Vec::new(alloc);
+    for octets in [126, 0] {
+        tsdus.push(vec![in alloc; 0x5a; octets]?)?;
+    }
     Ok(tsdus)
+}
+
+fn sends_together(link: &mut impl Link, tsdus: &[Vec<u8>]) -> Result<(), Fail> {
+    link.send_tsdus(tsdus)?;
+    Ok(())
 }
 
 fn a_list_goes_on(link: &mut impl Link, tsdus: &[Vec<u8>]) -> Result<(), Fail> {
     sends(link, b"A")?;
-    link.send_tsdus(tsdus)?;
+    sends_together(link, tsdus)?;
     gives_part(link, true, 1)?;
     gives_part(link, false, 125)?;
     gives_part(link, true, 1)?;
@@ -171,8 +175,11 @@ fn a_list_goes_on(link: &mut impl Link, tsdus: &[Vec<u8>]) -> Result<(), Fail> {
 
 #[test]
 fn tsdus_are_handed_in_together(rt: HostRuntime) -> Result<(), Fail> {
-    let mut link = Class0::new(rt.alloc(), SizeCode::new(7));
-    a_list_goes_on(&mut link, two(&rt)?.as_slice())
+    let tsdus = two(rt.alloc())?;
+    a_list_goes_on(
+        &mut Class0::new(rt.alloc(), SizeCode::new(7)),
+        tsdus.as_slice(),
+    )
 }
 
 /// Fifteen TSDUs of an octet each go out at once.
@@ -195,8 +202,7 @@ fn credit_goes_on(link: &mut impl Link) -> Result<(), Fail> {
 
 #[test]
 fn an_ack_sets_the_upper_edge(rt: HostRuntime) -> Result<(), Fail> {
-    let mut link = class_2(&rt, SizeCode::new(7), 4, 3)?;
-    credit_goes_on(&mut link)
+    credit_goes_on(&mut class_2(&rt, SizeCode::new(7), 4, 3)?)
 }
 
 #[test]
@@ -227,8 +233,7 @@ fn numbers_go_on(link: &mut impl Link, tsdu: &[u8]) -> Result<(), Fail> {
 #[test]
 fn numbers_go_round(rt: HostRuntime) -> Result<(), Fail> {
     let tsdu = vec![in rt.alloc(); 0x5a; 15_868]?;
-    let mut link = class_2(&rt, SizeCode::new(7), 1, 1)?;
-    numbers_go_on(&mut link, tsdu.as_slice())
+    numbers_go_on(&mut class_2(&rt, SizeCode::new(7), 1, 1)?, tsdu.as_slice())
 }
 
 fn window_goes_on(link: &mut impl Link) -> Result<(), Fail> {
@@ -245,8 +250,15 @@ fn window_goes_on(link: &mut impl Link) -> Result<(), Fail> {
 
 #[test]
 fn each_unit_taken_gives_one_ack(rt: HostRuntime) -> Result<(), Fail> {
-    let mut link = AnyLink::Two(class_2(&rt, None, 2, 0)?);
-    window_goes_on(&mut link)
+    window_goes_on(&mut AnyLink::Two(class_2(&rt, None, 2, 0)?))
+}
+
+/// The next TSDU has the greatest length.
+pub fn hands_the_longest_out(link: &mut impl Link) -> Result<(), Fail> {
+    match link.next_tsdu() {
+        Some(tsdu) if tsdu.len() == LONGEST_TSDU => Ok(()),
+        _ => Err(Fail::from("another TSDU")),
+    }
 }
 
 /// A link takes 16 units of 65,528 octets and one of 128, and no more than the end of that TSDU.
@@ -258,15 +270,14 @@ fn longest_goes_on(link: &mut impl Link, part: &[u8]) -> Result<(), Fail> {
     is_taken(link, &data(false, last))?;
     is_refused(link, &data(true, b"A"), LinkFault::TsduTooLong)?;
     is_taken(link, &data(true, &[]))?;
-    match link.next_tsdu() {
-        Some(tsdu) if tsdu.len() == LONGEST_TSDU => Ok(()),
-        _ => Err(Fail::from("another TSDU")),
-    }
+    hands_the_longest_out(link)
 }
 
 #[test]
 fn a_tsdu_has_at_most_1048576_octets(rt: HostRuntime) -> Result<(), Fail> {
     let part = vec![in rt.alloc(); 0x5a; 65_528]?;
-    let mut link = AnyLink::Zero(Class0::new(rt.alloc(), None));
-    longest_goes_on(&mut link, part.as_slice())
+    longest_goes_on(
+        &mut AnyLink::Zero(Class0::new(rt.alloc(), None)),
+        part.as_slice(),
+    )
 }

@@ -4,22 +4,25 @@ use bytes::BytesMut;
 use osi_tpkt::*;
 use std::test::Fail;
 
+fn feed(cutter: &mut Cutter, piece: &[u8]) -> Result<Fed, TpktFault> {
+    cutter.feed(piece)
+}
+
 /// The answer to a piece, where a first want of memory is to change nothing.
-fn fed(cutter: &mut Cutter, piece: &[u8]) -> Result<Result<Fed, TpktFault>, Fail> {
+fn fed(cutter: &mut Cutter, piece: &[u8]) -> Result<Fed, Fail> {
     let before = cutter.rest_len();
-    let answer = cutter.feed(piece);
-    if answer != Err(TpktFault::OutOfMemory) {
-        return Ok(answer);
+    match feed(cutter, piece) {
+        Ok(fed) => Ok(fed),
+        Err(TpktFault::OutOfMemory) if cutter.rest_len() == before => Ok(feed(cutter, piece)?),
+        Err(TpktFault::OutOfMemory) => Err(Fail::from("want of memory has changed the cutter")),
+        Err(fault) => Err(Fail::from(fault)),
     }
-    if cutter.rest_len() != before {
-        return Err(Fail::from("want of memory has changed the cutter"));
-    }
-    Ok(cutter.feed(piece))
 }
 
 /// A cutter uses so many octets of a piece, and then a packet stands or does not.
 fn uses(cutter: &mut Cutter, piece: &[u8], used: usize, whole: bool) -> Result<(), Fail> {
-    if fed(cutter, piece)? != Ok(Fed { used, whole }) {
+    let fed = fed(cutter, piece)?;
+    if fed.used != used || fed.whole != whole {
         return Err(Fail::from("another answer"));
     }
     Ok(())
@@ -50,12 +53,15 @@ fn comes_slowly(cutter: &mut Cutter, packet: &[u8]) -> Result<(), Fail> {
     has_packet(cutter, packet)
 }
 
+fn two_come_slowly(cutter: &mut Cutter) -> Result<(), Fail> {
+    comes_slowly(cutter, &CONNECT_REQUEST)?;
+    cutter.advance();
+    comes_slowly(cutter, &CONNECT_REQUEST)
+}
+
 #[test]
 fn octets_come_one_by_one(rt: HostRuntime) -> Result<(), Fail> {
-    let mut cutter = Cutter::new(rt.alloc());
-    comes_slowly(&mut cutter, &CONNECT_REQUEST)?;
-    cutter.advance();
-    comes_slowly(&mut cutter, &CONNECT_REQUEST)
+    two_come_slowly(&mut Cutter::new(rt.alloc()))
 }
 
 /// How many octets a unit of any grammar at the front has, where it is whole.
@@ -67,7 +73,7 @@ fn octets_read<'a, U: Unit<'a>>(octets: &'a [u8]) -> Option<usize> {
 }
 
 /// A unit of any grammar is written so.
-fn is_written_so<'a, U: Unit<'a>>(unit: &U, octets: &[u8], out: &mut BytesMut) -> Result<(), Fail>
+pub fn is_appended<'a, U: Unit<'a>>(unit: &U, octets: &[u8], out: &mut BytesMut) -> Result<(), Fail>
     requires { U.fits (U.value unit.now) }
 {
     unit.write(out)?;
@@ -79,9 +85,9 @@ fn is_written_so<'a, U: Unit<'a>>(unit: &U, octets: &[u8], out: &mut BytesMut) -
 
 #[test]
 fn a_packet_is_read_and_written(rt: HostRuntime) -> Result<(), Fail> {
-    assert_eq!(rt; octets_read::<Packet>(&CONNECT_REQUEST), Some(22));
+    assert!(rt; octets_read::<Packet>(&CONNECT_REQUEST) == Some(22));
     let (packet, _) = Packet::read(&CONNECT_REQUEST)?.ok_or("no packet")?;
-    is_written_so(&packet, &CONNECT_REQUEST, &mut BytesMut::new(rt.alloc()))
+    is_appended(&packet, &CONNECT_REQUEST, &mut BytesMut::new(rt.alloc()))
 }
 
 /// Octets are a proper part of a packet.
@@ -120,12 +126,16 @@ fn is_the_longest_packet(out: &mut BytesMut, unit: &[u8]) -> Result<(), Fail> {
     Ok(())
 }
 
+/// With 65,532 octets.
+fn sizes_go_on(out: &mut BytesMut, octets: &[u8]) -> Result<(), Fail> {
+    let (longest, _) = octets.split_at_checked(65531).ok_or("octets")?;
+    has_a_bad_size(out, &[7, 7])?;
+    has_a_bad_size(out, octets)?;
+    is_the_longest_packet(out, longest)
+}
+
 #[test]
 fn a_packet_carries_3_to_65531_octets(rt: HostRuntime) -> Result<(), Fail> {
     let octets = vec![in rt.alloc(); 7u8; 65532]?;
-    let (longest, _) = octets.as_slice().split_at_checked(65531).ok_or("octets")?;
-    let mut out = BytesMut::new(rt.alloc());
-    has_a_bad_size(&mut out, &[7, 7])?;
-    has_a_bad_size(&mut out, octets.as_slice())?;
-    is_the_longest_packet(&mut out, longest)
+    sizes_go_on(&mut BytesMut::new(rt.alloc()), octets.as_slice())
 }

@@ -4,7 +4,7 @@ use bitflags::Flags;
 use osi_message::Sent;
 use osi_session::*;
 use osi_spdu::{
-    Requirements, Serial, Side, TokenSet, TokenSetting, TsduSize, TsduSizes, Wish, read_tsdu,
+    Group, Requirements, Serial, Side, TokenSet, TokenSetting, TsduSize, TsduSizes, Wish, read_tsdu,
 };
 use std::test::Fail;
 
@@ -48,18 +48,26 @@ fn same(octets: &[u8], want: &[u8]) -> Result<(), Fail> {
     Ok(())
 }
 
-/// The octets of what is sent, where it is one TSDU.
-fn one(sent: &Sent) -> Result<&[u8], Fail> {
+/// What is sent is these octets, in one TSDU.
+fn is_one(sent: &Sent, want: &[u8]) -> Result<(), Fail> {
     match sent.tsdus() {
-        [tsdu] => Ok(tsdu.as_slice()),
+        [tsdu] => same(tsdu.as_slice(), want),
         _ => Err(Fail::from("more than one TSDU")),
+    }
+}
+
+/// What is sent is so many octets, in one TSDU.
+fn is_one_of(sent: &Sent, want: usize) -> Result<(), Fail> {
+    match sent.tsdus() {
+        [tsdu] if tsdu.len() == want => Ok(()),
+        _ => Err(Fail::from("another length")),
     }
 }
 
 /// What is answered is these octets, in one TSDU.
 fn replies(taken: &Taken, want: &[u8]) -> Result<(), Fail> {
     match &taken.reply {
-        Some(sent) => same(one(sent)?, want),
+        Some(sent) => is_one(sent, want),
         None => Err(Fail::from("no answer")),
     }
 }
@@ -67,6 +75,39 @@ fn replies(taken: &Taken, want: &[u8]) -> Result<(), Fail> {
 /// A TSDU comes.
 fn takes(session: &mut Session, tsdu: &[u8]) -> Result<Taken, Fail> {
     Ok(session.take_tsdu(tsdu)?)
+}
+
+/// The units of a TSDU come.
+fn take(session: &mut Session, units: &Group) -> Result<(), Fail> {
+    session.take(units)?;
+    Ok(())
+}
+
+/// A TSDU comes, which is read before.
+fn takes_units(session: &mut Session, tsdu: &[u8]) -> Result<(), Fail> {
+    take(session, &read_tsdu(tsdu)?)
+}
+
+/// A user asks for this.
+fn calls(session: &mut Session, request: Request) -> Result<Sent, CallError> {
+    session.call(request)
+}
+
+/// A request is sent in these octets, in one TSDU.
+fn sends(session: &mut Session, request: Request, want: &[u8]) -> Result<(), Fail> {
+    is_one(&calls(session, request)?, want)
+}
+
+/// A request is sent in so many octets, in one TSDU.
+fn has_length(session: &mut Session, request: Request, want: usize) -> Result<(), Fail> {
+    is_one_of(&calls(session, request)?, want)
+}
+
+fn refuses(session: &mut Session, request: Request, want: CallError) -> Result<(), Fail> {
+    match calls(session, request) {
+        Err(error) if error == want => Ok(()),
+        _ => Err(Fail::from("another answer")),
+    }
 }
 
 fn is_in(session: &Session, phase: Phase) -> Result<(), Fail> {
@@ -83,14 +124,9 @@ fn holds(session: &Session, tokens: u8) -> Result<(), Fail> {
     Ok(())
 }
 
-/// A caller that has sent its CN, and gets this AC.
-fn answered(
-    rt: &HostRuntime,
-    sizes: TsduSizes,
-    connect: &[u8],
-    accept: &[u8],
-) -> Result<(Session, Taken), Fail> {
-    let opening = Opening {
+/// A connection is asked for with these sizes.
+fn opening<'a>(sizes: TsduSizes) -> Result<Opening<'a>, Fail> {
+    Ok(Opening {
         requirements: Requirements::from_bits_retain(ALL_UNITS),
         serial: Serial::new(1).ok_or("a serial number")?,
         wishes: ASKER_WISHES,
@@ -98,21 +134,12 @@ fn answered(
         called_selector: None,
         sizes,
         user_data: &[],
-    };
-    let mut left = Session::caller(rt.alloc(), &opening)?;
-    match left.opened() {
-        Some(sent) => same(one(&sent)?, connect)?,
-        None => return Err(Fail::from("no CN")),
-    }
-    let taken = left.take_tsdu(accept)?;
-    Ok((left, taken))
+    })
 }
 
-/// A caller that has sent its CN, and got the AC.
-fn connected(rt: &HostRuntime) -> Result<Session, Fail> {
-    let (left, _) = answered(rt, TsduSizes::NONE, &CONNECT, &ACCEPT)?;
-    holds(&left, 0x55)?;
-    Ok(left)
+/// A session that asks for a connection.
+fn caller(rt: &HostRuntime, sizes: TsduSizes) -> Result<Session, Fail> {
+    Ok(Session::caller(rt.alloc(), &opening(sizes)?)?)
 }
 
 /// A session that is asked for a connection.
@@ -120,71 +147,125 @@ fn called(rt: &HostRuntime) -> Session {
     Session::called(rt.alloc())
 }
 
-/// A called session takes the CN, and its user accepts with these sizes.
-fn accepts(
+/// This CN is sent.
+fn opens(left: &mut Session, connect: &[u8]) -> Result<(), Fail> {
+    match left.opened() {
+        Some(sent) => is_one(&sent, connect),
+        None => Err(Fail::from("no CN")),
+    }
+}
+
+/// A caller that has sent its CN gets this AC.
+fn is_answered(left: &mut Session, connect: &[u8], accept: &[u8]) -> Result<(), Fail> {
+    opens(left, connect)?;
+    takes(left, accept)?;
+    Ok(())
+}
+
+/// A caller that has sent its CN, and got this AC.
+fn answered(
     rt: &HostRuntime,
-    connect: &[u8],
     sizes: TsduSizes,
+    connect: &[u8],
     accept: &[u8],
 ) -> Result<Session, Fail> {
-    let mut right = Session::called(rt.alloc());
-    right.take(&read_tsdu(connect)?)?;
-    let sent = right.call(Request::Accept {
+    let mut left = caller(rt, sizes)?;
+    is_answered(&mut left, connect, accept)?;
+    Ok(left)
+}
+
+/// A caller that has sent its CN, got the AC, and holds all tokens.
+fn connected(rt: &HostRuntime) -> Result<Session, Fail> {
+    let left = answered(rt, TsduSizes::NONE, &CONNECT, &ACCEPT)?;
+    holds(&left, 0x55)?;
+    Ok(left)
+}
+
+/// A connection is accepted with these sizes.
+fn acceptance<'a>(sizes: TsduSizes) -> Result<Request<'a>, Fail> {
+    Ok(Request::Accept {
         requirements: Requirements::from_bits_retain(ALL_UNITS),
         serial: Serial::new(1).ok_or("a serial number")?,
         sides: ASKER_SIDES,
         sizes,
         user_data: &[],
-    })?;
-    same(one(&sent)?, accept)?;
-    Ok(right)
+    })
+}
+
+/// A called session takes the CN, and its user accepts with these sizes.
+fn accepts(
+    right: &mut Session,
+    connect: &[u8],
+    sizes: TsduSizes,
+    accept: &[u8],
+) -> Result<(), Fail> {
+    takes_units(right, connect)?;
+    sends(right, acceptance(sizes)?, accept)
+}
+
+fn accepts_whole(right: &mut Session) -> Result<(), Fail> {
+    accepts(right, &CONNECT, TsduSizes::NONE, &ACCEPT)
 }
 
 #[test]
 fn a_called_session_accepts(rt: HostRuntime) -> Result<(), Fail> {
-    accepts(&rt, &CONNECT, TsduSizes::NONE, &ACCEPT)?;
-    Ok(())
+    accepts_whole(&mut called(&rt))
+}
+
+/// Octets come that cannot be read as a unit.
+fn takes_bad(left: &mut Session, octets: &[u8]) -> Result<Taken, Fail> {
+    let Err(fault) = read_tsdu(octets) else {
+        return Err(Fail::from("a unit"));
+    };
+    Ok(left.take_bad(fault)?)
+}
+
+/// Octets come that cannot be read as a unit, and this is answered.
+fn answers_bad(left: &mut Session, octets: &[u8], want: &[u8]) -> Result<(), Fail> {
+    replies(&takes_bad(left, octets)?, want)
+}
+
+fn bad_goes_on(left: &mut Session) -> Result<(), Fail> {
+    answers_bad(left, &[0x21, 0x00], &[0x19, 0x03, 0x11, 0x01, 0x05])?;
+    is_in(left, Phase::Aborting)
 }
 
 #[test]
 fn a_unit_that_cannot_be_read_is_answered(rt: HostRuntime) -> Result<(), Fail> {
-    let mut left = connected(&rt)?;
-    let Err(fault) = read_tsdu(&[0x21, 0x00]) else {
-        return Err(Fail::from("a unit"));
-    };
-    let taken = left.take_bad(fault)?;
-    match &taken.reply {
-        Some(sent) => same(one(sent)?, &[0x19, 0x03, 0x11, 0x01, 0x05])?,
-        None => return Err(Fail::from("no answer")),
-    }
-    is_in(&left, Phase::Aborting)
+    bad_goes_on(&mut connected(&rt)?)
 }
 
-fn refuses(session: &mut Session, request: Request, want: CallError) -> Result<(), Fail> {
-    match session.call(request) {
-        Err(error) if error == want => Ok(()),
-        _ => Err(Fail::from("another answer")),
+/// The first so many octets.
+fn front(octets: &[u8], count: usize) -> Result<&[u8], Fail> {
+    let (front, _) = octets.split_at_checked(count).ok_or("too few octets")?;
+    Ok(front)
+}
+
+/// What stands behind the first so many octets.
+fn behind(octets: &[u8], count: usize) -> Result<&[u8], Fail> {
+    let (_, behind) = octets.split_at_checked(count).ok_or("too few octets")?;
+    Ok(behind)
+}
+
+fn data(user_data: &[u8]) -> Request<'_> {
+    Request::Data { user_data }
+}
+
+fn abort(user_data: &[u8]) -> Request<'_> {
+    Request::Abort { user_data }
+}
+
+fn minor(user_data: &[u8]) -> Request<'_> {
+    Request::Minor {
+        confirm: true,
+        user_data,
     }
 }
 
 fn lengths_go_on(left: &mut Session, octets: &[u8]) -> Result<(), Fail> {
-    refuses(
-        left,
-        Request::Data { user_data: octets },
-        CallError::TooLong,
-    )?;
-    let Some((user_data, _)) = octets.split_at_checked(10_241) else {
-        return Err(Fail::from("too few octets"));
-    };
-    refuses(left, Request::Abort { user_data }, CallError::TooLong)?;
-    let Some((_, user_data)) = octets.split_at_checked(1) else {
-        return Err(Fail::from("too few octets"));
-    };
-    let sent = left.call(Request::Data { user_data })?;
-    if one(&sent)?.len() != 1_048_576 {
-        return Err(Fail::from("another length"));
-    }
-    Ok(())
+    refuses(left, data(octets), CallError::TooLong)?;
+    refuses(left, abort(front(octets, 10_241)?), CallError::TooLong)?;
+    has_length(left, data(behind(octets, 1)?), 1_048_576)
 }
 
 #[test]
@@ -200,15 +281,8 @@ const ASKS: [u8; 11] = [
 
 /// A minor point is set with the user data of a PT, and the PT is taken.
 fn user_data_goes_on(left: &mut Session, asks: &[u8]) -> Result<(), Fail> {
-    let Some((_, user_data)) = asks.split_at_checked(11) else {
-        return Err(Fail::from("too few octets"));
-    };
-    left.call(Request::Minor {
-        confirm: true,
-        user_data,
-    })?;
-    left.take(&read_tsdu(asks)?)?;
-    Ok(())
+    calls(left, minor(behind(asks, 11)?))?;
+    takes_units(left, asks)
 }
 
 #[test]
@@ -218,20 +292,47 @@ fn user_data_has_10240_octets(rt: HostRuntime) -> Result<(), Fail> {
     user_data_goes_on(&mut connected(&rt)?, asks.as_slice())
 }
 
-fn plan_goes_on(left: &mut Session) -> Result<(), Fail> {
-    let plan = left.plan(Request::Give {
+/// A GT that gives the data token.
+const GIVES: [u8; 5] = [0x01, 0x03, 0x10, 0x01, 0x01];
+
+/// The data token is to be given.
+fn plans(left: &Session) -> Result<Plan, CallError> {
+    left.plan(Request::Give {
         tokens: TokenSet::from_bits_retain(0x01),
-    })?;
-    same(one(plan.sent())?, &[0x01, 0x03, 0x10, 0x01, 0x01])?;
-    holds(left, 0x55)?;
-    let sent = left.commit(plan).ok_or("the session is as it was planned")?;
-    same(one(&sent)?, &[0x01, 0x03, 0x10, 0x01, 0x01])?;
+    })
+}
+
+/// A GT would be sent, and no token is given yet.
+fn is_planned(left: &Session, plan: &Plan) -> Result<(), Fail> {
+    is_one(plan.sent(), &GIVES)?;
+    holds(left, 0x55)
+}
+
+/// What is planned is done, and sent.
+fn commits(left: &mut Session, plan: Plan) -> Result<(), Fail> {
+    match left.commit(plan) {
+        Some(sent) => is_one(&sent, &GIVES),
+        None => Err(Fail::from("the session is as it was planned")),
+    }
+}
+
+fn plan_goes_on(left: &mut Session) -> Result<(), Fail> {
+    let plan = plans(left)?;
+    is_planned(left, &plan)?;
+    commits(left, plan)?;
     holds(left, 0x54)
 }
 
+/// Data is sent, which changes nothing.
+fn sends_data(left: &Session, user_data: &[u8]) -> Result<Sent, CallError> {
+    left.call_data(user_data)
+}
+
 fn data_goes_on(left: &Session) -> Result<(), Fail> {
-    let sent = left.call_data(b"abc")?;
-    same(one(&sent)?, &[0x01, 0x00, 0x01, 0x00, 0x61, 0x62, 0x63])
+    is_one(
+        &sends_data(left, b"abc")?,
+        &[0x01, 0x00, 0x01, 0x00, 0x61, 0x62, 0x63],
+    )
 }
 
 #[test]
@@ -285,11 +386,18 @@ pub(crate) fn sizes(from_asker: u16, from_answerer: u16) -> Result<TsduSizes, Fa
 
 #[test]
 fn an_answer_names_the_smaller_sizes(rt: HostRuntime) -> Result<(), Fail> {
-    let connect = sized(0x0D, 64, 0, 2);
-    accepts(&rt, &connect, sizes(0, 100)?, &sized(0x0E, 64, 0, 2))?;
-    let connect = sized(0x0D, 200, 200, 2);
-    accepts(&rt, &connect, sizes(100, 0)?, &sized(0x0E, 100, 200, 2))?;
-    Ok(())
+    accepts(
+        &mut called(&rt),
+        &sized(0x0D, 64, 0, 2),
+        sizes(0, 100)?,
+        &sized(0x0E, 64, 0, 2),
+    )?;
+    accepts(
+        &mut called(&rt),
+        &sized(0x0D, 200, 200, 2),
+        sizes(100, 0)?,
+        &sized(0x0E, 100, 200, 2),
+    )
 }
 
 /// An RF with this reason is answered, and nothing is shown.
@@ -301,8 +409,12 @@ fn is_rf(taken: &Taken, reason: u8) -> Result<(), Fail> {
 }
 
 /// A CN is answered by RF with this reason, and nothing is shown.
+fn answers_rf(right: &mut Session, connect: &[u8], reason: u8) -> Result<(), Fail> {
+    is_rf(&takes(right, connect)?, reason)
+}
+
 fn refuses_cn(right: &mut Session, connect: &[u8], reason: u8) -> Result<(), Fail> {
-    is_rf(&takes(right, connect)?, reason)?;
+    answers_rf(right, connect, reason)?;
     is_in(right, Phase::Ended)
 }
 
@@ -335,156 +447,218 @@ fn is_not_selected(taken: &Taken) -> Result<(), Fail> {
     }
 }
 
-#[test]
-fn a_size_of_1_is_not_selected(rt: HostRuntime) -> Result<(), Fail> {
-    let (left, taken) = answered(&rt, TsduSizes::NONE, &CONNECT, &sized(0x0E, 0, 1, 2))?;
-    is_not_selected(&taken)?;
-    is_in(&left, Phase::Aborting)
+fn refuses_ac(left: &mut Session, accept: &[u8]) -> Result<(), Fail> {
+    is_not_selected(&takes(left, accept)?)
 }
 
-fn has_length(left: &mut Session, request: Request, want: usize) -> Result<(), Fail> {
-    let sent = left.call(request)?;
-    if one(&sent)?.len() != want {
-        return Err(Fail::from("another length"));
-    }
-    Ok(())
+fn size_of_1_goes_on(left: &mut Session) -> Result<(), Fail> {
+    opens(left, &CONNECT)?;
+    refuses_ac(left, &sized(0x0E, 0, 1, 2))?;
+    is_in(left, Phase::Aborting)
+}
+
+#[test]
+fn a_size_of_1_is_not_selected(rt: HostRuntime) -> Result<(), Fail> {
+    size_of_1_goes_on(&mut caller(&rt, TsduSizes::NONE)?)
 }
 
 /// At 64 octets, with 300 octets of user data.
 fn sizes_go_on(left: &mut Session, octets: &[u8]) -> Result<(), Fail> {
-    let confirm = true;
-    let minor = Request::Minor {
-        confirm,
-        user_data: octets,
-    };
-    refuses(left, minor, CallError::TooLong)?;
-    let Some((user_data, _)) = octets.split_at_checked(60) else {
-        return Err(Fail::from("too few octets"));
-    };
-    refuses(left, Request::Abort { user_data }, CallError::TooLong)?;
+    refuses(left, minor(octets), CallError::TooLong)?;
+    refuses(left, abort(front(octets, 60)?), CallError::TooLong)?;
     is_in(left, Phase::Ready)?;
-    let Some((user_data, _)) = octets.split_at_checked(55) else {
-        return Err(Fail::from("too few octets"));
-    };
-    has_length(left, Request::Minor { confirm, user_data }, 64)?;
-    let Some((user_data, _)) = octets.split_at_checked(57) else {
-        return Err(Fail::from("too few octets"));
-    };
-    has_length(left, Request::Abort { user_data }, 64)
+    has_length(left, minor(front(octets, 55)?), 64)?;
+    has_length(left, abort(front(octets, 57)?), 64)
+}
+
+/// A caller whose TSDUs have at most 64 octets.
+fn connected_at_64(rt: &HostRuntime) -> Result<Session, Fail> {
+    let connect = sized(0x0D, 64, 0, 2);
+    answered(rt, sizes(64, 0)?, &connect, &sized(0x0E, 64, 0, 2))
+}
+
+/// The TSDUs of the other side have at most 64 octets, with 300 octets of user data.
+fn unbounded_goes_on(right: &mut Session, octets: &[u8]) -> Result<(), Fail> {
+    let connect = sized(0x0D, 64, 0, 2);
+    accepts(right, &connect, TsduSizes::NONE, &sized(0x0E, 64, 0, 2))?;
+    has_length(right, abort(octets), 311)
 }
 
 #[test]
 fn a_call_is_within_the_agreed_size(rt: HostRuntime) -> Result<(), Fail> {
-    let octets = vec![in rt.alloc(); 0u8; 300]?;
-    let connect = sized(0x0D, 64, 0, 2);
-    let (mut left, _) = answered(&rt, sizes(64, 0)?, &connect, &sized(0x0E, 64, 0, 2))?;
-    sizes_go_on(&mut left, octets.as_slice())?;
-    let mut right = accepts(&rt, &connect, TsduSizes::NONE, &sized(0x0E, 64, 0, 2))?;
-    let user_data = octets.as_slice();
-    has_length(&mut right, Request::Abort { user_data }, 311)
+    let octets = [0; 300];
+    sizes_go_on(&mut connected_at_64(&rt)?, &octets)?;
+    unbounded_goes_on(&mut called(&rt), &octets)
+}
+
+/// A part has so many octets, and this enclosure.
+fn is_part(tsdu: &[u8], length: usize, enclosure: u8) -> Result<(), Fail> {
+    if tsdu.len() != length {
+        return Err(Fail::from("another length"));
+    }
+    same(
+        front(tsdu, 7)?,
+        &[0x01, 0x00, 0x01, 0x03, 0x19, 0x01, enclosure],
+    )
+}
+
+/// So many parts of one Data: all but the last have 64 octets, and the last has this length.
+fn are_parts(tsdus: &[Vec<u8>], parts: usize, last: usize) -> Result<(), Fail> {
+    let [first, .., end] = tsdus else {
+        return Err(Fail::from("one TSDU"));
+    };
+    if tsdus.len() != parts {
+        return Err(Fail::from("another number of parts"));
+    }
+    is_part(first.as_slice(), 64, 1)?;
+    is_part(end.as_slice(), last, 2)
 }
 
 /// What is sent is so many parts of these octets of data: all but the last have 64 octets, and the last
 /// has this length.
 fn leaves_in(left: &Session, user_data: &[u8], parts: usize, last: usize) -> Result<(), Fail> {
-    let sent = left.call_data(user_data)?;
-    let [first, .., end] = sent.tsdus() else {
-        return Err(Fail::from("one TSDU"));
-    };
-    if sent.tsdus().len() != parts || first.len() != 64 || end.len() != last {
-        return Err(Fail::from("other lengths"));
-    }
-    let (Some(front), Some(back)) = (first.as_slice().get(..7), end.as_slice().get(..7)) else {
-        return Err(Fail::from("no part"));
-    };
-    same(front, &[0x01, 0x00, 0x01, 0x03, 0x19, 0x01, 0x01])?;
-    same(back, &[0x01, 0x00, 0x01, 0x03, 0x19, 0x01, 0x02])
+    let sent = sends_data(left, user_data)?;
+    are_parts(sent.tsdus(), parts, last)
 }
 
 /// At 64 octets: 60 octets leave in one TSDU, more in parts of 57.
 fn parts_go_on(left: &Session, octets: &[u8]) -> Result<(), Fail> {
-    let (few, more) = (octets.split_at_checked(60), octets.split_at_checked(61));
-    let (Some((few, _)), Some((more, _))) = (few, more) else {
-        return Err(Fail::from("too few octets"));
-    };
-    let sent = left.call_data(few)?;
-    if one(&sent)?.len() != 64 {
-        return Err(Fail::from("another length"));
-    }
-    leaves_in(left, more, 2, 11)?;
+    is_one_of(&sends_data(left, front(octets, 60)?)?, 64)?;
+    leaves_in(left, front(octets, 61)?, 2, 11)?;
     leaves_in(left, octets, 18_396, 64)
 }
 
 #[test]
 fn data_leaves_in_parts(rt: HostRuntime) -> Result<(), Fail> {
     let octets = vec![in rt.alloc(); 0u8; 1_048_572]?;
-    let connect = sized(0x0D, 64, 0, 2);
-    let (left, _) = answered(&rt, sizes(64, 0)?, &connect, &sized(0x0E, 64, 0, 2))?;
-    parts_go_on(&left, octets.as_slice())
+    parts_go_on(&connected_at_64(&rt)?, octets.as_slice())
+}
+
+/// Adds so many octets of data.
+fn push_data(tsdu: &mut Vec<u8>, octets: usize) -> Result<(), Fail> {
+    for _ in 0..octets {
+        tsdu.push(0x41)?;
+    }
+    Ok(())
 }
 
 /// The octets of a part of one Data: which part it is, by its enclosure, and how many octets it has.
 fn part(rt: &HostRuntime, enclosure: u8, octets: usize) -> Result<Vec<u8>, Fail> {
-    let mut tsdu = Vec::new(rt.alloc());
-    tsdu.extend_from_slice(&[0x01, 0x00, 0x01, 0x03, 0x19, 0x01, enclosure])?;
-    let user_data = vec![in rt.alloc(); 0x41u8; octets]?;
-    tsdu.extend_from_slice(user_data.as_slice())?;
+    let mut tsdu = Vec::from_slice(rt.alloc(), &[0x01, 0x00, 0x01, 0x03, 0x19, 0x01, enclosure])?;
+    push_data(&mut tsdu, octets)?;
     Ok(tsdu)
 }
 
-/// A part that is not the last: nothing is shown or answered, and so many octets are joined.
-fn joins(right: &mut Session, tsdu: &[u8], want: usize) -> Result<(), Fail> {
-    let taken = right.take_tsdu(tsdu)?;
-    if taken.first.is_some() || taken.reply.is_some() || right.joined() != want {
+fn has_joined(right: &Session, want: usize) -> Result<(), Fail> {
+    if right.joined() != want {
+        return Err(Fail::from("other octets are joined"));
+    }
+    Ok(())
+}
+
+/// Nothing is shown or answered.
+fn is_nothing(taken: &Taken) -> Result<(), Fail> {
+    if taken.first.is_some() || taken.reply.is_some() {
         return Err(Fail::from("another answer"));
     }
     Ok(())
 }
 
-fn shows_data(right: &mut Session, tsdu: &[u8], want: usize) -> Result<(), Fail> {
-    let taken = right.take_tsdu(tsdu)?;
+/// A part of so many octets comes that is not the last: nothing is shown or answered, and so many
+/// octets are joined.
+fn joins(
+    rt: &HostRuntime,
+    right: &mut Session,
+    enclosure: u8,
+    octets: usize,
+    want: usize,
+) -> Result<(), Fail> {
+    let tsdu = part(rt, enclosure, octets)?;
+    joins_part(right, tsdu.as_slice(), want)
+}
+
+/// A TSDU comes, and nothing is shown or answered.
+fn is_kept(right: &mut Session, tsdu: &[u8]) -> Result<(), Fail> {
+    is_nothing(&takes(right, tsdu)?)
+}
+
+fn joins_part(right: &mut Session, tsdu: &[u8], want: usize) -> Result<(), Fail> {
+    is_kept(right, tsdu)?;
+    has_joined(right, want)
+}
+
+fn is_data(taken: &Taken, want: usize) -> Result<(), Fail> {
     match &taken.first {
-        Some(Indication::Data { user_data }) if user_data.as_slice().len() == want => {}
-        _ => return Err(Fail::from("another indication")),
+        Some(Indication::Data { user_data }) if user_data.as_slice().len() == want => Ok(()),
+        _ => Err(Fail::from("another indication")),
     }
-    if right.joined() != 0 {
-        return Err(Fail::from("octets are joined"));
-    }
+}
+
+/// A TSDU comes, and so many octets of data are shown.
+fn shows(right: &mut Session, tsdu: &[u8], want: usize) -> Result<(), Fail> {
+    is_data(&takes(right, tsdu)?, want)
+}
+
+fn shows_data(right: &mut Session, tsdu: &[u8], want: usize) -> Result<(), Fail> {
+    shows(right, tsdu, want)?;
+    has_joined(right, 0)?;
     is_in(right, Phase::Ready)
 }
 
+fn is_data_too_long(taken: &Taken) -> Result<(), Fail> {
+    match fault_of(taken) {
+        Some(UnitFault::DataTooLong(1)) => Ok(()),
+        _ => Err(Fail::from("another indication")),
+    }
+}
+
+/// A TSDU comes, and the connection is aborted for data that is too long.
+fn aborts(right: &mut Session, tsdu: &[u8]) -> Result<(), Fail> {
+    is_data_too_long(&takes(right, tsdu)?)
+}
+
 fn is_too_long(right: &mut Session, tsdu: &[u8]) -> Result<(), Fail> {
-    let taken = right.take_tsdu(tsdu)?;
-    match taken.first {
-        Some(
-            Indication::ProviderAbort {
-                cause: AbortCause::Unit(UnitFault::DataTooLong(1)),
-            },
-        ) => {}
-        _ => return Err(Fail::from("another indication")),
-    }
-    if right.joined() != 0 {
-        return Err(Fail::from("octets are joined"));
-    }
+    aborts(right, tsdu)?;
+    has_joined(right, 0)?;
     is_in(right, Phase::Aborting)
+}
+
+/// The greatest length of data comes in three parts, of which the last is empty.
+fn all_is_joined(rt: &HostRuntime, right: &mut Session) -> Result<(), Fail> {
+    accepts_whole(right)?;
+    joins(rt, right, 1, 1_048_000, 1_048_000)?;
+    joins(rt, right, 0, 572, 1_048_572)?;
+    shows_data(
+        right,
+        &[0x01, 0x00, 0x01, 0x03, 0x19, 0x01, 0x02],
+        1_048_572,
+    )
 }
 
 #[test]
 fn data_in_parts_has_a_greatest_length(rt: HostRuntime) -> Result<(), Fail> {
-    let mut right = accepts(&rt, &CONNECT, TsduSizes::NONE, &ACCEPT)?;
-    joins(&mut right, part(&rt, 1, 1_048_000)?.as_slice(), 1_048_000)?;
-    joins(&mut right, part(&rt, 0, 572)?.as_slice(), 1_048_572)?;
-    shows_data(&mut right, part(&rt, 2, 0)?.as_slice(), 1_048_572)
+    all_is_joined(&rt, &mut called(&rt))
+}
+
+/// The greatest length is joined, and one octet more comes in a part with this enclosure.
+fn goes_too_far(rt: &HostRuntime, right: &mut Session, enclosure: u8) -> Result<(), Fail> {
+    accepts_whole(right)?;
+    joins(rt, right, 1, 1_048_572, 1_048_572)?;
+    is_too_long(
+        right,
+        &[0x01, 0x00, 0x01, 0x03, 0x19, 0x01, enclosure, 0x41],
+    )
+}
+
+/// A first part of one octet too many comes.
+fn begins_too_long(rt: &HostRuntime, right: &mut Session) -> Result<(), Fail> {
+    accepts_whole(right)?;
+    is_too_long(right, part(rt, 1, 1_048_573)?.as_slice())
 }
 
 #[test]
 fn data_in_parts_may_be_too_long(rt: HostRuntime) -> Result<(), Fail> {
-    let mut right = accepts(&rt, &CONNECT, TsduSizes::NONE, &ACCEPT)?;
-    joins(&mut right, part(&rt, 1, 1_048_572)?.as_slice(), 1_048_572)?;
-    is_too_long(&mut right, part(&rt, 0, 1)?.as_slice())?;
-    let mut right = accepts(&rt, &CONNECT, TsduSizes::NONE, &ACCEPT)?;
-    joins(&mut right, part(&rt, 1, 1_048_572)?.as_slice(), 1_048_572)?;
-    is_too_long(&mut right, part(&rt, 2, 1)?.as_slice())?;
-    let mut right = accepts(&rt, &CONNECT, TsduSizes::NONE, &ACCEPT)?;
-    is_too_long(&mut right, part(&rt, 1, 1_048_573)?.as_slice())
+    goes_too_far(&rt, &mut called(&rt), 0)?;
+    goes_too_far(&rt, &mut called(&rt), 2)?;
+    begins_too_long(&rt, &mut called(&rt))
 }

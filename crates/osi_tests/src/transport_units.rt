@@ -4,6 +4,7 @@ ghost use Rattle.std.specs.Prelude.{IfOk};
 ghost use Rattle.osi_tpdu.specs.View.{value};
 ghost use Rattle.osi_tpdu.specs.Writing.{HasRoom, Fits};
 
+use crate::packets::is_appended;
 use bytes::BytesMut;
 use osi_tpdu::*;
 use osi_tpkt::Unit;
@@ -36,20 +37,6 @@ const WRITTEN: [&[u8]; 16] = [
     &[0x04, 0x61, 0, 1, 5],
 ];
 
-/// Octets are one unit, which is written so.
-fn is_its_own(alloc: Global, octets: &[u8]) -> Result<(), Fail> {
-    let unit = only_unit(octets)?;
-    let mut out = BytesMut::new(alloc);
-    write(&unit, &mut out)?;
-    if out.as_slice() != octets || written_len(&unit) != octets.len() {
-        return Err(Fail::from("another written form"));
-    }
-    if only_unit(out.as_slice())? != unit {
-        return Err(Fail::from("another unit"));
-    }
-    Ok(())
-}
-
 /// The unit of a packet that has no other.
 fn only_unit(packet: &[u8]) -> Result<Tpdu<'_>, Fail>
     ensures fits { IfOk result (λ unit. Fits (value unit)) }
@@ -63,14 +50,48 @@ fn only_unit(packet: &[u8]) -> Result<Tpdu<'_>, Fail>
     Ok(unit)
 }
 
+/// A unit is written so.
+fn is_written(out: &mut BytesMut, unit: &Tpdu<'_>, octets: &[u8]) -> Result<(), Fail>
+    requires { HasRoom (value unit.now) }
+{
+    write(unit, out)?;
+    if out.as_slice() != octets {
+        return Err(Fail::from("another written form"));
+    }
+    Ok(())
+}
+
+/// A packet has this unit, and no other.
+fn has_unit(packet: &[u8], unit: &Tpdu<'_>) -> Result<(), Fail> {
+    if only_unit(packet)? != *unit {
+        return Err(Fail::from("another unit"));
+    }
+    Ok(())
+}
+
+/// Octets are one unit, which is written so.
+fn is_its_own(out: &mut BytesMut, octets: &[u8]) -> Result<(), Fail> {
+    let unit = only_unit(octets)?;
+    if written_len(&unit) != octets.len() {
+        return Err(Fail::from("another written length"));
+    }
+    is_written(out, &unit, octets)?;
+    has_unit(out.as_slice(), &unit)
+}
+
+fn each_is_its_own(alloc: Global) -> Result<(), Fail> {
+    for octets in WRITTEN {
+        is_its_own(&mut BytesMut::new(alloc), octets)?;
+    }
+    Ok(())
+}
+
 #[test]
 fn written_units_come_back(rt: HostRuntime) -> Result<(), Fail> {
-    for octets in WRITTEN {
-        is_its_own(rt.alloc(), octets)?;
-    }
+    each_is_its_own(rt.alloc())?;
     let mut longest = vec![in rt.alloc(); 0x5A; 65_531]?;
     longest[..3].copy_from_slice(&[0x02, 0xF0, 0x80]);
-    is_its_own(rt.alloc(), longest.as_slice())
+    is_its_own(&mut BytesMut::new(rt.alloc()), longest.as_slice())
 }
 
 /// DST-REF 1234, then C6, an unknown parameter, C0, C7 and two octets of user data.
@@ -87,12 +108,7 @@ const REQUEST_WRITTEN: [u8; 19] = [
 /// The one unit of a packet is written so.
 fn is_written_so(alloc: Global, packet: &[u8], octets: &[u8]) -> Result<(), Fail> {
     let unit = only_unit(packet)?;
-    let mut out = BytesMut::new(alloc);
-    write(&unit, &mut out)?;
-    if out.as_slice() != octets {
-        return Err(Fail::from("another written form"));
-    }
-    Ok(())
+    is_written(&mut BytesMut::new(alloc), &unit, octets)
 }
 
 /// Transport units as they are read, and as they are written: a CR; a CC with a selector and user data;
@@ -127,14 +143,11 @@ fn front<'a, U: Unit<'a>>(octets: &'a [u8], count: usize) -> Result<U, Fail> {
     }
 }
 
-/// A unit of any grammar is written so.
-fn is_appended<'a, U: Unit<'a>>(alloc: Global, unit: &U, octets: &[u8]) -> Result<(), Fail>
-    requires { U.fits (U.value unit.now) }
-{
-    let mut out = BytesMut::new(alloc);
-    unit.write(&mut out)?;
-    if unit.written_len() != octets.len() || out.as_slice() != octets {
-        return Err(Fail::from("another written form"));
+/// Whether a unit of any grammar stands at the front, has so many octets, and may be followed.
+fn is_at_the_front(octets: &[u8], count: usize, may_be_followed: bool) -> Result<(), Fail> {
+    let unit: Tpdu = front(octets, count)?;
+    if unit.may_be_followed() != may_be_followed {
+        return Err(Fail::from("another unit"));
     }
     Ok(())
 }
@@ -142,28 +155,33 @@ fn is_appended<'a, U: Unit<'a>>(alloc: Global, unit: &U, octets: &[u8]) -> Resul
 #[test]
 fn a_unit_at_the_front(rt: HostRuntime) -> Result<(), Fail> {
     // Anything may follow an AK, whose number's high bit is ignored; a DT goes to the end.
-    let ak: Tpdu = front(&[0x04, 0x61, 0, 1, 0x85, 0xFF], 5)?;
-    assert!(rt; ak.may_be_followed());
-    is_appended(
-        rt.alloc(),
-        &only_unit(&[0x04, 0x61, 0, 1, 0x85])?,
-        &[0x04, 0x61, 0, 1, 5],
-    )?;
-    let dt: Tpdu = front(&[0x02, 0xF0, 0x80, 0xFF], 4)?;
-    assert!(rt; !dt.may_be_followed());
-    Ok(())
+    is_at_the_front(&[0x04, 0x61, 0, 1, 0x85, 0xFF], 5, true)?;
+    is_at_the_front(&[0x02, 0xF0, 0x80, 0xFF], 4, false)?;
+    let ak = only_unit(&[0x04, 0x61, 0, 1, 0x85])?;
+    is_appended(&ak, &[0x04, 0x61, 0, 1, 5], &mut BytesMut::new(rt.alloc()))
+}
+
+/// A code is that of a size of so many octets, or of none.
+fn is_size(code: u8, octets: Option<usize>) -> bool {
+    match SizeCode::new(code) {
+        Some(size) => size.code() == code && Some(size.octets()) == octets,
+        None => octets.is_none(),
+    }
+}
+
+/// Whether a number of units is a window.
+fn is_window(units: u8) -> bool {
+    match Window::new(units) {
+        Some(window) => window.units() == units,
+        None => false,
+    }
 }
 
 #[test]
-fn sizes_and_windows_have_bounds(rt: HostRuntime) -> Result<(), Fail> {
-    assert!(rt; SizeCode::new(6).is_none());
-    assert_eq!(rt; SizeCode::new(13).ok_or("8192 octets")?.octets(), 8192);
-    assert_eq!(rt; SizeCode::new(7).ok_or("128 octets")?.code(), 7);
-    assert!(rt; SizeCode::new(14).is_none());
-    assert!(rt; Window::new(0).is_none());
-    assert_eq!(rt; Window::new(15).ok_or("15 units")?.units(), 15);
-    assert!(rt; Window::new(16).is_none());
-    Ok(())
+fn sizes_and_windows_have_bounds(rt: HostRuntime) {
+    assert!(rt; is_size(6, None) && is_size(7, Some(128)));
+    assert!(rt; is_size(13, Some(8192)) && is_size(14, None));
+    assert!(rt; is_window(15) && Window::new(0).is_none() && Window::new(16).is_none());
 }
 
 /// Octets are too long for a selector.
@@ -181,10 +199,7 @@ fn keeps(octets: &[u8]) -> bool {
 
 #[test]
 fn selectors_have_a_bound(rt: HostRuntime) {
-    let octets = [7; 33];
-    assert!(rt; is_too_long(&octets));
-    assert!(rt; keeps(&octets[..32]));
-    assert!(rt; keeps(&[]));
+    assert!(rt; is_too_long(&[7; 33]) && keeps(&[7; 32]) && keeps(&[]));
     assert!(rt; Tsap::new(&[1, 2]) == Tsap::new(&[1, 2]));
     assert!(rt; Tsap::new(&[1, 2]) != Tsap::new(&[1, 2, 0]));
 }

@@ -2,20 +2,38 @@
 
 ghost use Rattle.std.specs.Prelude.{◌<◌};
 
-use osi_class::{AnyLink, Class0, Class2, Credit, LONGEST_TSDU, Link, LinkFault, Out};
-use osi_tpdu::{DataClass2, SizeCode, Tpdu, Window};
+use crate::links::{data_unit, gives_ack, hands_the_longest_out, is_taken, sends};
+use osi_class::{AnyLink, Class0, Class2, Credit, LONGEST_TSDU, Link, LinkFault};
+use osi_tpdu::{SizeCode, Window};
 use std::alloc::Global;
 use std::test::Fail;
 
-/// Hands each unit that one link gives to the other, for reference 1, until it gives none.
-fn pass_all(from: &mut AnyLink, to: &mut AnyLink) -> Result<(), LinkFault> {
+/// Hands the next unit of one link to the other, for reference 1; false where there is none.
+fn passes(from: &mut AnyLink, to: &mut AnyLink) -> Result<bool, LinkFault> {
+    let Some(out) = from.next_out() else {
+        return Ok(false);
+    };
+    to.take(&out.unit(1))?;
+    Ok(true)
+}
+
+/// Hands each unit that one link gives to the other, until it gives none.
+fn pass_all(from: &mut AnyLink, to: &mut AnyLink) -> Result<(), Fail> {
     for _ in 0..200u8 {
-        let Some(out) = from.next_out() else {
+        if !passes(from, to)? {
             return Ok(());
-        };
-        to.take(&out.unit(1))?;
+        }
     }
     Ok(())
+}
+
+/// The TSDU that was handed in first at one link has the greatest length at the other.
+fn goes_over(from: &mut AnyLink, to: &mut AnyLink) -> Result<(), Fail> {
+    for _ in 0..9u8 {
+        pass_all(from, to)?;
+        pass_all(to, from)?;
+    }
+    hands_the_longest_out(to)
 }
 
 /// The longest TSDU.
@@ -24,64 +42,62 @@ fn longest(alloc: Global) -> Result<Vec<u8>, Fail> {
     Ok(tsdu)
 }
 
-/// The length of the TSDU that was handed in at the first link, as the other hands it out.
-fn length_over(from: &mut AnyLink, to: &mut AnyLink) -> Result<usize, Fail> {
-    for _ in 0..9u8 {
-        pass_all(from, to)?;
-        pass_all(to, from)?;
-    }
-    let taken = to.next_tsdu().ok_or("no TSDU")?;
-    Ok(taken.len())
+fn sends_longest(link: &mut AnyLink, alloc: Global) -> Result<(), Fail> {
+    let tsdu = longest(alloc)?;
+    sends(link, tsdu.as_slice())
+}
+
+fn gives_longest_away(link: &mut AnyLink, alloc: Global) -> Result<(), Fail> {
+    link.send_owned(longest(alloc)?)?;
+    Ok(())
+}
+
+fn lent_goes_over(from: &mut AnyLink, to: &mut AnyLink, alloc: Global) -> Result<(), Fail> {
+    sends_longest(from, alloc)?;
+    gives_longest_away(from, alloc)?;
+    goes_over(from, to)
+}
+
+fn link_0(alloc: Global) -> AnyLink {
+    AnyLink::Zero(Class0::new(alloc, SizeCode::new(13)))
 }
 
 #[test]
 fn the_longest_tsdu_goes_over_class_0(rt: HostRuntime) -> Result<(), Fail> {
-    let mut from = AnyLink::Zero(Class0::new(rt.alloc(), SizeCode::new(13)));
-    let mut to = AnyLink::Zero(Class0::new(rt.alloc(), SizeCode::new(13)));
-    from.send_tsdu(longest(rt.alloc())?.as_slice())?;
-    from.send_owned(longest(rt.alloc())?)?;
-    assert_eq!(rt; length_over(&mut from, &mut to)?, 1_048_576);
-    Ok(())
+    lent_goes_over(&mut link_0(rt.alloc()), &mut link_0(rt.alloc()), rt.alloc())
+}
+
+fn given_away_goes_over(from: &mut AnyLink, to: &mut AnyLink, alloc: Global) -> Result<(), Fail> {
+    gives_longest_away(from, alloc)?;
+    sends_longest(from, alloc)?;
+    goes_over(from, to)
+}
+
+fn link_2(alloc: Global, window: Window) -> AnyLink {
+    AnyLink::Two(Class2::new(alloc, SizeCode::new(13), window, Credit::of(15)))
 }
 
 #[test]
 fn the_longest_tsdu_goes_over_class_2(rt: HostRuntime) -> Result<(), Fail> {
     let window = Window::new(15).ok_or("window")?;
-    let size = SizeCode::new(13);
-    let mut from = AnyLink::Two(Class2::new(rt.alloc(), size, window, Credit::of(15)));
-    let mut to = AnyLink::Two(Class2::new(rt.alloc(), size, window, Credit::of(15)));
-    from.send_owned(longest(rt.alloc())?)?;
-    from.send_tsdu(longest(rt.alloc())?.as_slice())?;
-    assert_eq!(rt; length_over(&mut from, &mut to)?, 1_048_576);
-    Ok(())
+    given_away_goes_over(
+        &mut link_2(rt.alloc(), window),
+        &mut link_2(rt.alloc(), window),
+        rt.alloc(),
+    )
 }
 
-/// Number and credit of the AK that a unit with this number gives.
-fn acknowledged_by(link: &mut Class2, number: u8) -> Option<(u8, u8)>
-    requires { number < 128 }
-{
-    let unit = Tpdu::Dt2(DataClass2 {
-        destination: 1,
-        number,
-        end: true,
-        user: b"A",
-    });
-    if link.take(&unit).is_err() {
-        return None;
+/// Each unit is answered by the number behind its own, and credit for one.
+fn five_are_answered(link: &mut Class2) -> Result<(), Fail> {
+    for number in 0..5u8 {
+        is_taken(link, &data_unit(number, true, b"A"))?;
+        gives_ack(link, number + 1, 1)?;
     }
-    match link.next_out()? {
-        Out::Ack { number, credit } => Some((number, credit)),
-        _ => None,
-    }
+    Ok(())
 }
 
 #[test]
 fn the_fifth_unit_of_a_window_of_1_is_answered_by_number_5(rt: HostRuntime) -> Result<(), Fail> {
     let window = Window::new(1).ok_or("window")?;
-    let mut link = Class2::new(rt.alloc(), None, window, Credit::of(0));
-    for number in 0..4u8 {
-        assert_eq!(rt; acknowledged_by(&mut link, number), Some((number + 1, 1)));
-    }
-    assert_eq!(rt; acknowledged_by(&mut link, 4), Some((5, 1)));
-    Ok(())
+    five_are_answered(&mut Class2::new(rt.alloc(), None, window, Credit::of(0)))
 }
