@@ -9,6 +9,7 @@ use osi_session::{Indication, Request, Sides};
 use osi_spdu::{Requirements, Serial, Side, TokenSetting, TsduSizes, Wish};
 use osi_stack::{Connect, Stack};
 use osi_tpdu::{SizeCode, Window};
+use std::alloc::Global;
 use std::io;
 
 /// Half-duplex and minor synchronize.
@@ -93,6 +94,20 @@ fn show<R: Print>(rt: &R, name: &str, of: Ref, indication: &Indication) -> io::R
     println!(rt; "{name}, connection {reference}, {what}: {text}")
 }
 
+/// Feeds what comes to an end, and prints what its user is shown.
+fn feed<R: Print>(rt: &R, to: &mut Stack, octets: &[u8], name: &str) -> io::Result<()> {
+    let mut rest = octets;
+    for _ in 0..=octets.len() {
+        let fed = to.feed(rest);
+        rest = &rest[fed.used..];
+        let Some((reference, indication)) = to.next_indication() else {
+            return Ok(());
+        };
+        show(rt, name, reference, &indication)?;
+    }
+    Ok(())
+}
+
 /// Carries what one end has written to the other, and prints what the user there is shown. In a
 /// gateway the buffer is a socket: what comes out of it is fed as it comes.
 fn carry<R: Print + AllocGlobal>(
@@ -103,16 +118,7 @@ fn carry<R: Print + AllocGlobal>(
 ) -> io::Result<()> {
     let buffer = Vec::from_slice(rt.alloc(), from.outgoing())?;
     from.taken(buffer.len());
-    let mut rest = buffer.as_slice();
-    for _ in 0..=buffer.len() {
-        let fed = to.feed(rest);
-        rest = &rest[fed.used..];
-        let Some((reference, indication)) = to.next_indication() else {
-            return Ok(());
-        };
-        show(rt, name, reference, &indication)?;
-    }
-    Ok(())
+    feed(rt, to, buffer.as_slice(), name)
 }
 
 /// Carries both ways, there and back, so often that nothing is left.
@@ -124,23 +130,41 @@ fn exchange<R: Print + AllocGlobal>(rt: &R, ends: &mut Ends) -> io::Result<()> {
     Ok(())
 }
 
-fn main(rt: HostRuntime) -> io::Result<()> {
-    let (Some(local), Some(serial)) = (local(), Serial::new(0)) else {
-        return Err(failed(()));
-    };
-    let mut ends = Ends {
-        caller: Stack::caller(rt.alloc(), local),
-        called: Stack::called(rt.alloc(), local),
-    };
-    let reference = ends.caller.connect(&asked(serial)).map_err(failed)?;
-    exchange(&rt, &mut ends)?;
-    ends.called
-        .call(reference, accepted(serial))
-        .map_err(failed)?;
-    exchange(&rt, &mut ends)?;
+/// Two ends between which nothing has happened.
+fn two_ends(alloc: Global) -> Option<Ends> {
+    let local = local()?;
+    Some(Ends {
+        caller: Stack::caller(alloc, local),
+        called: Stack::called(alloc, local),
+    })
+}
+
+/// Asks for a connection.
+fn ask(caller: &mut Stack, serial: Serial) -> io::Result<Ref> {
+    caller.connect(&asked(serial)).map_err(failed)
+}
+
+/// Calls for the user of an end.
+fn call(end: &mut Stack, reference: Ref, request: Request) -> io::Result<()> {
+    end.call(reference, request).map_err(failed)
+}
+
+/// A connection is asked for and accepted, and data is sent.
+fn talk<R: Print + AllocGlobal>(rt: &R, ends: &mut Ends, serial: Serial) -> io::Result<()> {
+    let reference = ask(&mut ends.caller, serial)?;
+    exchange(rt, ends)?;
+    call(&mut ends.called, reference, accepted(serial))?;
+    exchange(rt, ends)?;
     let data = Request::Data {
         user_data: b"hello",
     };
-    ends.caller.call(reference, data).map_err(failed)?;
-    exchange(&rt, &mut ends)
+    call(&mut ends.caller, reference, data)?;
+    exchange(rt, ends)
+}
+
+fn main(rt: HostRuntime) -> io::Result<()> {
+    let (Some(mut ends), Some(serial)) = (two_ends(rt.alloc()), Serial::new(0)) else {
+        return Err(failed(()));
+    };
+    talk(&rt, &mut ends, serial)
 }

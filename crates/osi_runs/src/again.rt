@@ -4,12 +4,12 @@
 //! the rest is carried. So the transcript is the same whichever growth is refused, unless an end that is
 //! fed finds no memory: it is over then, and so is the script.
 
-use crate::octets::{push, push_phase, push_where};
+use crate::octets::{push, push_made, push_phase, push_where};
 use bitflags::Flags;
 use osi_carrier::{EndReason, Ref};
 use osi_pair::{Entry, Event, Pair, PairError};
 use osi_script::{Command, Line, Side, push_indication};
-use osi_session::Phase;
+use osi_session::{CallError, Phase};
 use osi_stack::{Connect, ConnectError, Stack};
 use std::alloc::{AllocError, Global};
 use std::io;
@@ -35,6 +35,10 @@ pub(crate) struct Replay {
 /// Plays a script of which each line can be read and fits.
 pub(crate) fn replayed(alloc: Global, script: &str) -> io::Result<Replay> {
     let mut pair = pair_in(alloc, script)?;
+    replay_over(alloc, &mut pair, script)
+}
+
+fn replay_over(alloc: Global, pair: &mut Pair, script: &str) -> io::Result<Replay> {
     let mut replay = Replay {
         lines: Vec::new(alloc),
         refused: 0,
@@ -42,7 +46,7 @@ pub(crate) fn replayed(alloc: Global, script: &str) -> io::Result<Replay> {
         is_over: false,
         is_good: true,
     };
-    play_all(alloc, &mut replay, &mut pair, script)?;
+    play_all(alloc, &mut replay, pair, script)?;
     Ok(replay)
 }
 
@@ -58,7 +62,11 @@ pub(crate) fn pair_in(alloc: Global, script: &str) -> io::Result<Pair> {
 
 fn pair_of(alloc: Global, asked: &str) -> io::Result<Pair> {
     let line = Line::read(alloc, asked.as_bytes())?;
-    match line.command() {
+    pair_asked(alloc, line.command()).ok_or(unreadable())
+}
+
+fn pair_asked(alloc: Global, command: Option<Command>) -> Option<Pair> {
+    match command {
         Some(
             Command::Ends {
                 caller,
@@ -66,12 +74,12 @@ fn pair_of(alloc: Global, asked: &str) -> io::Result<Pair> {
                 size,
                 window,
             },
-        ) => Ok(Pair::new(
+        ) => Some(Pair::new(
             alloc,
             caller.local(size, window),
             called.local(size, window),
         )),
-        _ => Err(unreadable()),
+        _ => None,
     }
 }
 
@@ -93,13 +101,15 @@ pub(crate) fn asks(line: &str) -> bool {
 
 fn play(alloc: Global, replay: &mut Replay, pair: &mut Pair, asked: &str) -> io::Result<()> {
     let line = Line::read(alloc, asked.as_bytes())?;
-    match line.command() {
-        Some(command) => match event_of(command) {
-            Some(event) => play_event(alloc, replay, pair, asked, &event),
-            None => Err(unreadable()),
-        },
+    match event_in(&line) {
+        Some(event) => play_event(alloc, replay, pair, asked, &event),
         None => Err(unreadable()),
     }
+}
+
+/// What a line asks for; none for the line of the two ends, and for one that can't be read.
+pub(crate) fn event_in<'a>(line: &'a Line<'a>) -> Option<Event<'a>> {
+    event_of(line.command()?)
 }
 
 pub(crate) fn unreadable() -> io::Error {
@@ -121,7 +131,7 @@ fn named(side: osi_pair::Side) -> Side {
 }
 
 /// What a line asks for; none for the line of the two ends.
-pub(crate) fn event_of(command: Command<'_>) -> Option<Event<'_>> {
+fn event_of(command: Command<'_>) -> Option<Event<'_>> {
     match command {
         Command::Ends { .. } => None,
         Command::Connect {
@@ -162,11 +172,27 @@ fn play_event(
     let before = pair.journal().len();
     let carried = apply_whole(alloc, replay, pair, event)?;
     push_said(alloc, &mut replay.lines, event, carried)?;
-    for entry in pair.journal().get(before..).unwrap_or_default() {
-        push_entry(alloc, &mut replay.lines, asked, entry)?;
-    }
+    push_entries(
+        alloc,
+        &mut replay.lines,
+        asked,
+        pair.journal().get(before..).unwrap_or_default(),
+    )?;
     note_end(replay, pair.stack(osi_pair::Side::Left));
     note_end(replay, pair.stack(osi_pair::Side::Right));
+    Ok(())
+}
+
+/// Adds the lines of entries, with the verb of the line that asked for them.
+pub(crate) fn push_entries(
+    alloc: Global,
+    out: &mut Vec<u8>,
+    asked: &str,
+    entries: &[Entry],
+) -> Result<(), AllocError> {
+    for entry in entries {
+        push_entry(alloc, out, asked, entry)?;
+    }
     Ok(())
 }
 
@@ -189,37 +215,79 @@ fn apply_whole(
     Ok(carried.saturating_add(more))
 }
 
-/// Applies an event, and once more where it finds no memory: then nothing may have changed.
+/// Applies an event, and once more where it finds no memory.
 fn apply(alloc: Global, replay: &mut Replay, pair: &mut Pair, event: &Event) -> io::Result<usize> {
     let before = state_of(alloc, pair)?;
-    match pair.apply(event) {
-        Ok(applied) => return Ok(applied.carried),
-        Err(PairError::OutOfMemory) => {}
-        Err(_) => return Err(unreadable()),
-    }
-    replay.refused = replay.refused.wrapping_add(1);
-    if state_of(alloc, pair)?.as_slice() != before.as_slice() {
-        replay.is_good = false;
-    }
-    match pair.apply(event) {
-        Ok(applied) => Ok(applied.carried),
+    match applied(pair, event) {
+        Ok(carried) => Ok(carried),
+        Err(PairError::OutOfMemory) => apply_again(alloc, replay, pair, event, before.as_slice()),
         Err(_) => Err(unreadable()),
     }
+}
+
+/// Applies an event that found no memory: then nothing may have changed.
+fn apply_again(
+    alloc: Global,
+    replay: &mut Replay,
+    pair: &mut Pair,
+    event: &Event,
+    before: &[u8],
+) -> io::Result<usize> {
+    replay.refused = replay.refused.wrapping_add(1);
+    if !is_in(alloc, pair, before)? {
+        replay.is_good = false;
+    }
+    match applied(pair, event) {
+        Ok(carried) => Ok(carried),
+        Err(_) => Err(unreadable()),
+    }
+}
+
+/// How many octets an event has carried.
+fn applied(pair: &mut Pair, event: &Event) -> Result<usize, PairError> {
+    match pair.apply(event) {
+        Ok(applied) => Ok(applied.carried),
+        Err(error) => Err(error),
+    }
+}
+
+/// Two ends are in this state.
+fn is_in(alloc: Global, pair: &Pair, state: &[u8]) -> Result<bool, AllocError> {
+    let now = state_of(alloc, pair)?;
+    Ok(now.as_slice() == state)
 }
 
 /// All that can be asked of two ends, as octets; of the journal its length and its last entry.
 pub(crate) fn state_of(alloc: Global, pair: &Pair) -> Result<Vec<u8>, AllocError> {
     let mut out = Vec::with_capacity(alloc, 10_000)?;
-    for side in [osi_pair::Side::Left, osi_pair::Side::Right] {
-        push_where(alloc, &mut out, named(side), pair.stack(side), ALL)?;
-        out.extend_from_slice(pair.stack(side).outgoing())?;
-    }
-    let count = pair.journal().len();
-    push(&mut out, format!(in alloc; "{count} entries")?.as_str())?;
-    if let Some(entry) = pair.journal().last() {
-        push_entry(alloc, &mut out, "", entry)?;
-    }
+    push_state(alloc, &mut out, pair)?;
     Ok(out)
+}
+
+fn push_state(alloc: Global, out: &mut Vec<u8>, pair: &Pair) -> Result<(), AllocError> {
+    push_side(alloc, out, Side::Left, pair.stack(osi_pair::Side::Left))?;
+    push_side(alloc, out, Side::Right, pair.stack(osi_pair::Side::Right))?;
+    push_journal(alloc, out, pair.journal())
+}
+
+fn push_side(
+    alloc: Global,
+    out: &mut Vec<u8>,
+    side: Side,
+    stack: &Stack,
+) -> Result<(), AllocError> {
+    push_where(alloc, out, side, stack, ALL)?;
+    out.extend_from_slice(stack.outgoing())
+}
+
+/// Adds how many entries there are, and the last one.
+fn push_journal(alloc: Global, out: &mut Vec<u8>, journal: &[Entry]) -> Result<(), AllocError> {
+    let count = journal.len();
+    push_made(out, format!(in alloc; "{count} entries")?)?;
+    match journal.last() {
+        Some(entry) => push_entry(alloc, out, "", entry),
+        None => Ok(()),
+    }
 }
 
 /// Adds what is answered to an event where its entry in the journal does not say it.
@@ -233,13 +301,11 @@ fn push_said(
         Event::Connect(_) | Event::Call(_, _, _) => Ok(()),
         Event::Carry(side, _) => {
             let name = named(side).name();
-            push(out, format!(in alloc; "{name} carried {carried}")?.as_str())
+            push_made(out, format!(in alloc; "{name} carried {carried}")?)
         }
         Event::Break(_, _) => push(out, "broken"),
-        Event::Told(side) => {
-            let name = named(side).name();
-            push(out, format!(in alloc; "{name} told")?.as_str())
-        }
+        Event::Told(osi_pair::Side::Left) => push(out, "left told"),
+        Event::Told(osi_pair::Side::Right) => push(out, "right told"),
     }
 }
 
@@ -258,17 +324,8 @@ pub(crate) fn push_entry(
             answer,
             ..
         } => {
-            let name = named(*side).name();
-            let reference = reference.0;
             let verb = asked.split(' ').nth(2).unwrap_or("");
-            let answer = match answer {
-                Ok(()) => "ok".to_string(alloc)?,
-                Err(error) => format!(in alloc; "refused {error:?}")?,
-            };
-            push(
-                out,
-                format!(in alloc; "{name} {reference} {verb} {answer}")?.as_str(),
-            )
+            push_call(alloc, out, named(*side), *reference, verb, *answer)
         }
         Entry::Indication {
             side,
@@ -279,17 +336,33 @@ pub(crate) fn push_entry(
     }
 }
 
+fn push_call(
+    alloc: Global,
+    out: &mut Vec<u8>,
+    side: Side,
+    reference: Ref,
+    verb: &str,
+    answer: Result<(), CallError>,
+) -> Result<(), AllocError> {
+    let (name, reference) = (side.name(), reference.0);
+    let line = match answer {
+        Ok(()) => format!(in alloc; "{name} {reference} {verb} ok")?,
+        Err(error) => format!(in alloc; "{name} {reference} {verb} refused {error:?}")?,
+    };
+    push_made(out, line)
+}
+
 fn push_connect(
     alloc: Global,
     out: &mut Vec<u8>,
     answer: Result<Ref, ConnectError>,
 ) -> Result<(), AllocError> {
-    let answer = match answer {
-        Ok(reference) => format!(in alloc; "ok {}", reference.0)?,
-        Err(ConnectError::Open(error)) => format!(in alloc; "refused {error:?}")?,
-        Err(error) => format!(in alloc; "refused {error:?}")?,
+    let line = match answer {
+        Ok(Ref(reference)) => format!(in alloc; "left connect ok {reference}")?,
+        Err(ConnectError::Open(error)) => format!(in alloc; "left connect refused {error:?}")?,
+        Err(error) => format!(in alloc; "left connect refused {error:?}")?,
     };
-    push(out, format!(in alloc; "left connect {answer}")?.as_str())
+    push_made(out, line)
 }
 
 /// Adds where the connections of a side stand that have not ended.

@@ -13,6 +13,7 @@ use osi_session::Phase;
 use osi_spdu::{Requirements, Serial, TokenSetting, TsduSizes, Wish};
 use osi_stack::{Connect, Stack};
 use osi_tpdu::{SizeCode, Window};
+use osi_tpkt::Fed;
 use std::alloc::{AllocError, Global};
 use std::io;
 
@@ -125,11 +126,21 @@ fn set_at(
     at: usize,
 ) -> Result<(), AllocError> {
     let mut octets = Vec::from_slice(alloc, packet)?;
+    set_each(alloc, tally, before, octets.as_mut_slice(), at)
+}
+
+fn set_each(
+    alloc: Global,
+    tally: &mut Tally,
+    before: &[u8],
+    packet: &mut [u8],
+    at: usize,
+) -> Result<(), AllocError> {
     for value in 0..=u8::MAX {
-        if let Some(octet) = octets.get_mut(at) {
+        if let Some(octet) = packet.get_mut(at) {
             *octet = value;
         }
-        run(alloc, tally, before, octets.as_slice())?;
+        run(alloc, tally, before, packet)?;
     }
     Ok(())
 }
@@ -156,7 +167,7 @@ fn run_with(alloc: Global, tally: &mut Tally, packet: Case, past: Past) {
     for classes in CLASSES {
         let whole = fed(alloc, packet, past, classes, usize::MAX);
         let single = fed(alloc, packet, past, classes, 1);
-        tally.add(is_same(whole, single));
+        tally.add(is_same(&whole, &single));
     }
 }
 
@@ -169,10 +180,15 @@ fn has(lines: &[u8], word: &str) -> bool {
 }
 
 /// Both ends did what they should, and have come to the same.
-fn is_same(one: Option<Stack>, other: Option<Stack>) -> bool {
-    let (Some(one), Some(other)) = (one, other) else {
-        return false;
-    };
+fn is_same(one: &Option<Stack>, other: &Option<Stack>) -> bool {
+    match (one, other) {
+        (Some(one), Some(other)) => is_as_far(one, other),
+        _ => false,
+    }
+}
+
+/// Two ends have come to the same.
+fn is_as_far(one: &Stack, other: &Stack) -> bool {
     if one.outgoing() != other.outgoing() || one.ended() != other.ended() {
         return false;
     }
@@ -212,7 +228,7 @@ fn does_well(stack: &mut Stack, before: &[u8], packet: Case, piece: usize) -> bo
 /// An end that is over uses all that it is fed, shows nothing and sends nothing more.
 fn is_still(stack: &mut Stack, octets: &[u8]) -> bool {
     let sent = stack.outgoing().len();
-    let fed = stack.feed(octets);
+    let fed = take(stack, octets);
     fed.used == octets.len() && !fed.whole && stack.outgoing().len() == sent
 }
 
@@ -228,11 +244,16 @@ fn fresh(alloc: Global, past: Past, classes: (bool, bool)) -> Option<Stack> {
     match past {
         Past::OfCaller => Some(Stack::caller(alloc, local)),
         Past::OfCalled | Past::OfAnswering => Some(Stack::called(alloc, local)),
-        Past::OfAsking => {
-            let mut stack = Stack::caller(alloc, local);
-            ask(&mut stack)?;
-            Some(stack)
-        }
+        Past::OfAsking => asking(alloc, local),
+    }
+}
+
+/// An end that has asked for a connection.
+fn asking(alloc: Global, local: Local) -> Option<Stack> {
+    let mut stack = Stack::caller(alloc, local);
+    match ask(&mut stack) {
+        Some(()) => Some(stack),
+        None => None,
     }
 }
 
@@ -276,7 +297,7 @@ fn feed(stack: &mut Stack, octets: &[u8], piece: usize) -> Option<()> {
 /// end is over or is ended by it for a fault.
 fn feed_piece(stack: &mut Stack, piece: &[u8]) -> Option<usize> {
     let is_over = stack.ended().is_some();
-    let fed = stack.feed(piece);
+    let fed = take(stack, piece);
     let is_spoilt = matches!(stack.ended(), Some(EndReason::Fault(_)));
     if fed.used == 0 || fed.used > piece.len() {
         return None;
@@ -284,16 +305,25 @@ fn feed_piece(stack: &mut Stack, piece: &[u8]) -> Option<usize> {
     if fed.used < piece.len() && (is_over || is_spoilt || !fed.whole) {
         return None;
     }
-    if fed.whole != stack.next_indication().is_some() || !fetch(stack) || !is_within_bounds(stack) {
+    if fed.whole != shows(stack) || !fetch(stack) || !is_within_bounds(stack) {
         return None;
     }
     Some(fed.used)
 }
 
+fn take(stack: &mut Stack, octets: &[u8]) -> Fed {
+    stack.feed(octets)
+}
+
+/// Fetches what is shown next; false where nothing is.
+fn shows(stack: &mut Stack) -> bool {
+    stack.next_indication().is_some()
+}
+
 /// Fetches all that is shown.
 fn fetch(stack: &mut Stack) -> bool {
     for _ in 0..100u8 {
-        if stack.next_indication().is_none() {
+        if !shows(stack) {
             return true;
         }
     }

@@ -6,15 +6,20 @@ use std::io;
 /// The octets of a capture: blanks and line ends are skipped, and so are lines that begin with `#`.
 pub(crate) fn octets_in(alloc: Global, text: &str) -> io::Result<Vec<u8>> {
     let mut digits = Vec::new(alloc);
-    for line in text.lines() {
-        if !line.starts_with('#') {
-            push_digits(&mut digits, line)?;
-        }
-    }
+    push_all_digits(&mut digits, text)?;
     match hex::decode(alloc, digits) {
         Ok(octets) => Ok(octets),
         Err(_) => Err(io::Error::from(io::ErrorKind::InvalidData)),
     }
+}
+
+fn push_all_digits(out: &mut Vec<u8>, text: &str) -> Result<(), AllocError> {
+    for line in text.lines() {
+        if !line.starts_with('#') {
+            push_digits(out, line)?;
+        }
+    }
+    Ok(())
 }
 
 /// Adds what is no blank.

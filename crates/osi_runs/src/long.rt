@@ -12,10 +12,15 @@ const MOST: u32 = 2_000_000;
 /// A text whose repetitions are written out.
 pub(crate) fn written_out(alloc: Global, text: &str) -> Result<String, AllocError> {
     let mut out = String::new(alloc);
-    for line in text.lines() {
-        push_line(&mut out, line)?;
-    }
+    push_all(&mut out, text)?;
     Ok(out)
+}
+
+fn push_all(out: &mut String, text: &str) -> Result<(), AllocError> {
+    for line in text.lines() {
+        push_line(out, line)?;
+    }
+    Ok(())
 }
 
 fn push_line(out: &mut String, line: &str) -> Result<(), AllocError> {

@@ -27,11 +27,11 @@ use long::written_out;
 use octets::played;
 use osi_listing::list;
 use osi_transcript::{Transcript, transcribe};
-use std::alloc::{AllocError, Global};
+use std::alloc::Global;
 use std::rt::{Env, Files};
 use std::{env, fs, io};
 use texts::all_texts;
-use together::run_together;
+use together::{Together, run_together};
 use ways::{WAYS, Way, counts_left_out, script_in};
 
 /// No script has more octets.
@@ -67,129 +67,163 @@ impl Kind {
             _ => None,
         }
     }
+
+    /// The kind of the file that is run; it is also what is wanted where there is no other.
+    fn given(self) -> &'static str {
+        match self {
+            Kind::Pair | Kind::EachWay | Kind::Again | Kind::Long | Kind::Together => "script",
+            Kind::Octets => "octets",
+            Kind::Show | Kind::Damaged => "hex",
+            Kind::Texts => "texts",
+        }
+    }
 }
 
 fn main(rt: HostRuntime) -> io::Result<()> {
     let words: Vec<String> = env::args(&rt)?.collect(rt.alloc())?;
+    judge_all(&rt, words.as_slice())
+}
+
+/// Judges what each word behind the first names, or takes the next words as this one says.
+fn judge_all<R: Files + Print + AllocGlobal>(rt: &R, words: &[String]) -> io::Result<()> {
     let mut kind = Kind::Pair;
     for word in words.iter().skip(1) {
         match Kind::behind(word.as_str()) {
             Some(next) => kind = next,
-            None => {
-                let said = judged(&rt, word.as_str(), kind)?;
-                println!(&rt; "{word} {said}")?;
-            }
+            None => judge(rt, word.as_str(), kind)?,
         }
     }
     Ok(())
 }
 
+fn judge<R: Files + Print + AllocGlobal>(rt: &R, name: &str, kind: Kind) -> io::Result<()> {
+    let said = judged(rt, name, kind)?;
+    println!(rt; "{name} {said}")
+}
+
 /// What is said of a name: that all is as it is written, or what came in its place.
 fn judged<R: Files + AllocGlobal>(rt: &R, name: &str, kind: Kind) -> io::Result<String> {
+    let given = text_of(rt, name, kind.given())?;
     match kind {
-        Kind::Pair => judged_pair(rt, name, false),
-        Kind::EachWay => judged_pair(rt, name, true),
-        Kind::Again => judged_again(rt, name),
-        Kind::Octets => judged_octets(rt, name),
-        Kind::Show => judged_listing(rt, name),
-        Kind::Damaged => judged_damage(rt, name),
-        Kind::Long => judged_long(rt, name),
-        Kind::Together => judged_together(rt, name),
-        Kind::Texts => judged_texts(rt, name),
+        Kind::Octets => judged_octets(rt.alloc(), given.as_str()),
+        Kind::Damaged => judged_damage(rt.alloc(), given.as_str()),
+        Kind::Together => judged_together(rt.alloc(), given.as_str()),
+        Kind::Texts => judged_texts(rt.alloc(), given.as_str()),
+        Kind::Show => judged_beside(rt, name, "listing", kind, given.as_str()),
+        _ => judged_beside(rt, name, "transcript", kind, given.as_str()),
     }
 }
 
-fn judged_pair<R: Files + AllocGlobal>(
+/// What is said of a file, beside that of another kind in which stands what is wanted.
+fn judged_beside<R: Files + AllocGlobal>(
     rt: &R,
     name: &str,
-    is_each_way: bool,
+    other: &str,
+    kind: Kind,
+    given: &str,
 ) -> io::Result<String> {
-    let script = text_of(rt, name, "script")?;
-    let wanted = text_of(rt, name, "transcript")?;
-    let came = told(rt.alloc(), script.as_str())?;
-    if came.lines.as_slice() != wanted.as_str().as_bytes() {
-        return another(rt.alloc(), came.lines.as_slice(), came.status);
+    let wanted = text_of(rt, name, other)?;
+    match kind {
+        Kind::Show => judged_listing(rt.alloc(), given, wanted.as_str()),
+        Kind::Again => judged_again(rt.alloc(), given, wanted.as_str()),
+        Kind::Long => judged_long(rt.alloc(), given, wanted.as_str()),
+        Kind::EachWay => judged_each_way(rt.alloc(), given, wanted.as_str()),
+        _ => judged_pair(rt.alloc(), given, wanted.as_str()),
     }
-    if is_each_way {
-        return judged_each_way(rt.alloc(), script.as_str(), wanted.as_str());
-    }
-    as_written(rt.alloc(), came.status)
 }
 
-fn judged_again<R: Files + AllocGlobal>(rt: &R, name: &str) -> io::Result<String> {
-    let script = text_of(rt, name, "script")?;
-    let wanted = text_of(rt, name, "transcript")?;
-    let came = replayed(rt.alloc(), script.as_str())?;
+/// What is said of what came, beside what is wanted.
+fn compared(alloc: Global, came: &[u8], wanted: &str, status: u8) -> io::Result<String> {
+    if came != wanted.as_bytes() {
+        return another(alloc, came, status);
+    }
+    as_written(alloc, status)
+}
+
+fn judged_pair(alloc: Global, script: &str, wanted: &str) -> io::Result<String> {
+    let came = told(alloc, script)?;
+    compared(alloc, came.lines.as_slice(), wanted, came.status)
+}
+
+fn judged_again(alloc: Global, script: &str, wanted: &str) -> io::Result<String> {
+    let came = replayed(alloc, script)?;
+    said_of_replay(alloc, &came, wanted)
+}
+
+fn said_of_replay(alloc: Global, came: &Replay, wanted: &str) -> io::Result<String> {
     if came.is_good && came.is_over {
-        return Ok("is over: an end found no memory".to_string(rt.alloc())?);
+        return words(alloc, "is over: an end found no memory");
     }
-    if !came.is_good || came.lines.as_slice() != wanted.as_str().as_bytes() {
-        return another(rt.alloc(), came.lines.as_slice(), 0);
+    if !came.is_good || came.lines.as_slice() != wanted.as_bytes() {
+        return another(alloc, came.lines.as_slice(), 0);
     }
-    let Replay {
-        refused,
-        stopped,
-        ..
-    } = came;
-    Ok(format!(in rt.alloc(); "as it is written, {refused} asked again, {stopped} carried on")?)
+    let (refused, stopped) = (came.refused, came.stopped);
+    Ok(format!(in alloc; "as it is written, {refused} asked again, {stopped} carried on")?)
 }
 
-fn judged_octets<R: Files + AllocGlobal>(rt: &R, name: &str) -> io::Result<String> {
-    let wanted = written_out(rt.alloc(), text_of(rt, name, "octets")?.as_str())?;
-    let came = played(rt.alloc(), wanted.as_str())?;
-    if came.as_slice() != wanted.as_str().as_bytes() {
-        return another(rt.alloc(), came.as_slice(), 0);
+fn judged_octets(alloc: Global, text: &str) -> io::Result<String> {
+    let wanted = written_out(alloc, text)?;
+    judged_played(alloc, wanted.as_str())
+}
+
+fn judged_played(alloc: Global, wanted: &str) -> io::Result<String> {
+    let came = played(alloc, wanted)?;
+    compared(alloc, came.as_slice(), wanted, 0)
+}
+
+fn judged_listing(alloc: Global, capture: &str, wanted: &str) -> io::Result<String> {
+    let octets = octets_in(alloc, capture)?;
+    judged_list(alloc, octets.as_slice(), wanted)
+}
+
+fn judged_list(alloc: Global, octets: &[u8], wanted: &str) -> io::Result<String> {
+    let mut came = Vec::new(alloc);
+    let status = list(alloc, &mut came, octets)?;
+    compared(alloc, came.as_slice(), wanted, status)
+}
+
+fn judged_damage(alloc: Global, capture: &str) -> io::Result<String> {
+    let octets = octets_in(alloc, capture)?;
+    runs_of(alloc, octets.as_slice())
+}
+
+fn judged_long(alloc: Global, script: &str, wanted: &str) -> io::Result<String> {
+    let script = written_out(alloc, script)?;
+    let wanted = written_out(alloc, wanted)?;
+    judged_whole(alloc, script.as_str(), wanted.as_str())
+}
+
+fn judged_whole(alloc: Global, script: &str, wanted: &str) -> io::Result<String> {
+    let came = told(alloc, script)?;
+    if came.lines.as_slice() != wanted.as_bytes() {
+        return words(alloc, "GIVES SOMETHING ELSE");
     }
-    as_written(rt.alloc(), 0)
+    as_written(alloc, came.status)
 }
 
-fn judged_listing<R: Files + AllocGlobal>(rt: &R, name: &str) -> io::Result<String> {
-    let capture = text_of(rt, name, "hex")?;
-    let wanted = text_of(rt, name, "listing")?;
-    let octets = octets_in(rt.alloc(), capture.as_str())?;
-    let mut came = Vec::new(rt.alloc());
-    let status = list(rt.alloc(), &mut came, octets.as_slice())?;
-    if came.as_slice() != wanted.as_str().as_bytes() {
-        return another(rt.alloc(), came.as_slice(), status);
-    }
-    as_written(rt.alloc(), status)
+fn judged_together(alloc: Global, text: &str) -> io::Result<String> {
+    let script = written_out(alloc, text)?;
+    let came = run_together(alloc, script.as_str())?;
+    said_of_both(alloc, &came)
 }
 
-fn judged_damage<R: Files + AllocGlobal>(rt: &R, name: &str) -> io::Result<String> {
-    let capture = text_of(rt, name, "hex")?;
-    let octets = octets_in(rt.alloc(), capture.as_str())?;
-    runs_of(rt.alloc(), octets.as_slice())
-}
-
-fn judged_long<R: Files + AllocGlobal>(rt: &R, name: &str) -> io::Result<String> {
-    let script = written_out(rt.alloc(), text_of(rt, name, "script")?.as_str())?;
-    let wanted = written_out(rt.alloc(), text_of(rt, name, "transcript")?.as_str())?;
-    let came = told(rt.alloc(), script.as_str())?;
-    if came.lines.as_slice() != wanted.as_str().as_bytes() {
-        return Ok("GIVES SOMETHING ELSE".to_string(rt.alloc())?);
-    }
-    as_written(rt.alloc(), came.status)
-}
-
-fn judged_together<R: Files + AllocGlobal>(rt: &R, name: &str) -> io::Result<String> {
-    let script = written_out(rt.alloc(), text_of(rt, name, "script")?.as_str())?;
-    let came = run_together(rt.alloc(), script.as_str())?;
+fn said_of_both(alloc: Global, came: &Together) -> io::Result<String> {
     if !came.is_same {
-        return Ok("GIVES SOMETHING ELSE".to_string(rt.alloc())?);
+        return words(alloc, "GIVES SOMETHING ELSE");
     }
-    Ok(match came.refused {
-        Some(error) => format!(in rt.alloc(); "as one by one, up to {error}")?,
-        None => "as one by one".to_string(rt.alloc())?,
-    })
+    match &came.refused {
+        Some(error) => Ok(format!(in alloc; "as one by one, up to {error}")?),
+        None => words(alloc, "as one by one"),
+    }
 }
 
-fn judged_texts<R: Files + AllocGlobal>(rt: &R, name: &str) -> io::Result<String> {
-    let wanted = text_of(rt, name, "texts")?;
-    let came = all_texts(rt.alloc())?;
-    if came.as_str() != wanted.as_str() {
-        return another(rt.alloc(), came.as_str().as_bytes(), 0);
-    }
-    as_written(rt.alloc(), 0)
+fn judged_texts(alloc: Global, wanted: &str) -> io::Result<String> {
+    let came = all_texts(alloc)?;
+    compared(alloc, came.as_str().as_bytes(), wanted, 0)
+}
+
+fn words(alloc: Global, words: &str) -> io::Result<String> {
+    Ok(words.to_string(alloc)?)
 }
 
 fn text_of<R: Files + AllocGlobal>(rt: &R, name: &str, kind: &str) -> io::Result<String> {
@@ -220,17 +254,31 @@ fn str_of(lines: &[u8]) -> io::Result<&str> {
 }
 
 fn judged_each_way(alloc: Global, script: &str, wanted: &str) -> io::Result<String> {
+    let came = told(alloc, script)?;
+    if came.lines.as_slice() != wanted.as_bytes() {
+        return another(alloc, came.lines.as_slice(), came.status);
+    }
+    judged_ways(alloc, script, wanted)
+}
+
+fn judged_ways(alloc: Global, script: &str, wanted: &str) -> io::Result<String> {
     for way in WAYS {
-        let came = told(alloc, script_in(alloc, script, way)?.as_str())?;
-        if !is_same(alloc, str_of(came.lines.as_slice())?, wanted)? {
+        let came = told_in(alloc, script, way)?;
+        if !is_same(alloc, came.lines.as_slice(), wanted)? {
             return another(alloc, came.lines.as_slice(), came.status);
         }
     }
-    Ok("as it is written, each way".to_string(alloc)?)
+    words(alloc, "as it is written, each way")
+}
+
+fn told_in(alloc: Global, script: &str, way: Way) -> io::Result<Transcript> {
+    let script = script_in(alloc, script, way)?;
+    told(alloc, script.as_str())
 }
 
 /// Transcripts differ in nothing but how many octets were carried.
-fn is_same(alloc: Global, lines: &str, wanted: &str) -> Result<bool, AllocError> {
-    let lines = counts_left_out(alloc, lines)?;
-    Ok(lines.as_str() == counts_left_out(alloc, wanted)?.as_str())
+fn is_same(alloc: Global, lines: &[u8], wanted: &str) -> io::Result<bool> {
+    let lines = counts_left_out(alloc, str_of(lines)?)?;
+    let wanted = counts_left_out(alloc, wanted)?;
+    Ok(lines.as_str() == wanted.as_str())
 }

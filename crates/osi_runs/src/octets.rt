@@ -10,9 +10,9 @@ use crate::digits::octets_in;
 use bytes::BytesMut;
 use osi_carrier::Ref;
 use osi_script::{Command, Line, Side, Standing, push_indication, push_standing};
-use osi_session::{Indication, Request};
-use osi_spdu::{read_tsdu, write_tsdu};
-use osi_stack::{Connect, Stack};
+use osi_session::{CallError, Indication, Request};
+use osi_spdu::{SpduFault, read_tsdu, write_tsdu};
+use osi_stack::{Connect, ConnectError, Stack};
 use std::alloc::{AllocError, Global};
 use std::io;
 
@@ -26,8 +26,7 @@ struct Ends {
 /// The lines of a text, with what comes of those that ask for something.
 pub(crate) fn played(alloc: Global, text: &str) -> io::Result<Vec<u8>> {
     let mut out = Vec::new(alloc);
-    let mut ends = None;
-    play_all(alloc, &mut out, &mut ends, text)?;
+    play_all(alloc, &mut out, &mut None, text)?;
     Ok(out)
 }
 
@@ -56,12 +55,26 @@ pub(crate) fn push(out: &mut Vec<u8>, line: &str) -> Result<(), AllocError> {
     Ok(())
 }
 
+/// Adds a line that was made.
+pub(crate) fn push_made(out: &mut Vec<u8>, line: String) -> Result<(), AllocError> {
+    push(out, line.as_str())
+}
+
 fn play(alloc: Global, out: &mut Vec<u8>, ends: &mut Option<Ends>, asked: &str) -> io::Result<()> {
     if let Some(digits) = asked.strip_prefix("tsdu ") {
-        return write_again(alloc, out, octets_in(alloc, digits)?.as_slice());
+        return write_again(alloc, out, digits);
     }
     let line = Line::read(alloc, asked.as_bytes())?;
-    let command = line.command();
+    play_command(alloc, out, ends, asked, line.command())
+}
+
+fn play_command(
+    alloc: Global,
+    out: &mut Vec<u8>,
+    ends: &mut Option<Ends>,
+    asked: &str,
+    command: Option<Command>,
+) -> io::Result<()> {
     if let Some(new) = ends_of(alloc, command) {
         *ends = Some(new);
         return Ok(());
@@ -172,13 +185,14 @@ fn connect_at(
     stack: &mut Stack,
     connect: &Connect,
 ) -> Result<(), AllocError> {
-    match stack.connect(connect) {
-        Ok(reference) => {
-            let reference = reference.0;
-            push(out, format!(in alloc; "connection {reference}")?.as_str())
-        }
-        Err(error) => push(out, format!(in alloc; "refused {error:?}")?.as_str()),
+    match connected(stack, connect) {
+        Ok(Ref(reference)) => push_made(out, format!(in alloc; "connection {reference}")?),
+        Err(error) => push_made(out, format!(in alloc; "refused {error:?}")?),
     }
+}
+
+fn connected(stack: &mut Stack, connect: &Connect) -> Result<Ref, ConnectError> {
+    stack.connect(connect)
 }
 
 fn call(
@@ -188,20 +202,29 @@ fn call(
     reference: u16,
     request: Request,
 ) -> Result<(), AllocError> {
-    match stack.call(Ref(reference), request) {
+    match called(stack, reference, request) {
         Ok(()) => push(out, "ok"),
-        Err(error) => push(out, format!(in alloc; "refused {error:?}")?.as_str()),
+        Err(error) => push_made(out, format!(in alloc; "refused {error:?}")?),
     }
+}
+
+fn called(stack: &mut Stack, reference: u16, request: Request) -> Result<(), CallError> {
+    stack.call(Ref(reference), request)
 }
 
 /// Feeds octets, and says how many are used where some are left.
 fn feed(alloc: Global, out: &mut Vec<u8>, stack: &mut Stack, digits: &str) -> io::Result<()> {
     let octets = octets_in(alloc, digits)?;
-    let used = stack.feed(octets.as_slice()).used;
+    let used = used_of(stack, octets.as_slice());
     if used != octets.len() {
-        push(out, format!(in alloc; "uses {used}")?.as_str())?;
+        push_made(out, format!(in alloc; "uses {used}")?)?;
     }
     Ok(())
+}
+
+/// How many of these octets an end uses.
+fn used_of(stack: &mut Stack, octets: &[u8]) -> usize {
+    stack.feed(octets).used
 }
 
 /// Adds what the users of an end are shown, and what the end sends.
@@ -212,11 +235,24 @@ fn push_told(
     stack: &mut Stack,
 ) -> Result<(), AllocError> {
     for _ in 0..100u8 {
-        if let Some((reference, indication)) = stack.next_indication() {
-            push_shown(alloc, out, side, reference.0, &indication)?;
-        }
+        push_next(alloc, out, side, stack)?;
     }
     push_sent(alloc, out, side, stack)
+}
+
+/// Adds what the user of an end is shown next, if there is something.
+fn push_next(
+    alloc: Global,
+    out: &mut Vec<u8>,
+    side: Side,
+    stack: &mut Stack,
+) -> Result<(), AllocError> {
+    match stack.next_indication() {
+        Some((Ref(reference), indication)) => {
+            push_shown(alloc, out, side, reference, &indication)
+        }
+        None => Ok(()),
+    }
 }
 
 /// Adds what a user is shown, and the cause of an end of the provider.
@@ -228,10 +264,10 @@ fn push_shown(
     indication: &Indication,
 ) -> Result<(), AllocError> {
     push_indication(alloc, out, side, reference, indication)?;
-    if let Indication::ProviderAbort { cause } = indication {
-        push(out, format!(in alloc; "by {cause:?}")?.as_str())?;
+    match indication {
+        Indication::ProviderAbort { cause } => push_made(out, format!(in alloc; "by {cause:?}")?),
+        _ => Ok(()),
     }
-    Ok(())
 }
 
 fn push_sent(
@@ -240,15 +276,30 @@ fn push_sent(
     side: Side,
     stack: &mut Stack,
 ) -> Result<(), AllocError> {
-    let count = stack.outgoing().len();
-    if count == 0 {
+    if stack.outgoing().is_empty() {
         return Ok(());
     }
-    let name = side.name();
-    let digits = hex::encode(alloc, stack.outgoing())?;
-    push(out, format!(in alloc; "{name} sends {digits}")?.as_str())?;
-    stack.taken(count);
+    push_digits(alloc, out, sends(side), stack.outgoing())?;
+    stack.taken(stack.outgoing().len());
     Ok(())
+}
+
+fn sends(side: Side) -> &'static str {
+    match side {
+        Side::Left => "left sends",
+        Side::Right => "right sends",
+    }
+}
+
+/// Adds octets in digits, behind what is said of them.
+fn push_digits(
+    alloc: Global,
+    out: &mut Vec<u8>,
+    said: &str,
+    octets: &[u8],
+) -> Result<(), AllocError> {
+    let digits = hex::encode(alloc, octets)?;
+    push_made(out, format!(in alloc; "{said} {digits}")?)
 }
 
 /// Adds where the connections of an end with lower references than this stand, how many octets it
@@ -263,15 +314,27 @@ pub(crate) fn push_where(
     for reference in 1..references {
         push_phase(alloc, out, side, stack, Ref(reference))?;
     }
-    let name = side.name();
-    let kept = stack.kept();
-    if kept != 0 {
-        push(out, format!(in alloc; "{name} keeps {kept}")?.as_str())?;
+    push_kept(alloc, out, side.name(), stack)?;
+    push_end(alloc, out, side.name(), stack)
+}
+
+fn push_kept(
+    alloc: Global,
+    out: &mut Vec<u8>,
+    name: &str,
+    stack: &Stack,
+) -> Result<(), AllocError> {
+    match stack.kept() {
+        0 => Ok(()),
+        kept => push_made(out, format!(in alloc; "{name} keeps {kept}")?),
     }
-    if let Some(reason) = stack.ended() {
-        push(out, format!(in alloc; "{name} ended {reason:?}")?.as_str())?;
+}
+
+fn push_end(alloc: Global, out: &mut Vec<u8>, name: &str, stack: &Stack) -> Result<(), AllocError> {
+    match stack.ended() {
+        None => Ok(()),
+        Some(reason) => push_made(out, format!(in alloc; "{name} ended {reason:?}")?),
     }
-    Ok(())
 }
 
 pub(crate) fn push_phase(
@@ -297,15 +360,31 @@ pub(crate) fn push_phase(
 }
 
 /// Adds the written form of session units, or their fault.
-fn write_again(alloc: Global, out: &mut Vec<u8>, tsdu: &[u8]) -> io::Result<()> {
+fn write_again(alloc: Global, out: &mut Vec<u8>, digits: &str) -> io::Result<()> {
+    let tsdu = octets_in(alloc, digits)?;
+    push_written(alloc, out, &mut BytesMut::new(alloc), tsdu.as_slice())?;
+    Ok(())
+}
+
+fn push_written(
+    alloc: Global,
+    out: &mut Vec<u8>,
+    written: &mut BytesMut,
+    tsdu: &[u8],
+) -> Result<(), AllocError> {
+    match fault_of(written, tsdu)? {
+        None => push_digits(alloc, out, "writes", written.as_slice()),
+        Some(fault) => push_made(out, format!(in alloc; "{fault}")?),
+    }
+}
+
+/// Reads session units and writes them, where they have no fault.
+fn fault_of(written: &mut BytesMut, tsdu: &[u8]) -> Result<Option<SpduFault>, AllocError> {
     match read_tsdu(tsdu) {
         Ok(group) => {
-            let mut written = BytesMut::new(alloc);
-            write_tsdu(&group, &mut written)?;
-            let digits = hex::encode(alloc, written.as_slice())?;
-            push(out, format!(in alloc; "writes {digits}")?.as_str())?;
+            write_tsdu(&group, written)?;
+            Ok(None)
         }
-        Err(fault) => push(out, format!(in alloc; "{fault}")?.as_str())?,
+        Err(fault) => Ok(Some(fault)),
     }
-    Ok(())
 }

@@ -14,15 +14,19 @@ use std::fmt::{Debug, Display};
 /// A line for each fault and each error: its name, and behind a colon its text.
 pub(crate) fn all_texts(alloc: Global) -> Result<String, AllocError> {
     let mut out = String::new(alloc);
-    push_packets(alloc, &mut out)?;
-    push_transport_units(alloc, &mut out)?;
-    push_links(alloc, &mut out)?;
-    push_carriers(alloc, &mut out)?;
-    push_session_units(alloc, &mut out)?;
-    push_sessions(alloc, &mut out)?;
-    push_ends(alloc, &mut out)?;
-    push_two_ends(alloc, &mut out)?;
+    push_texts(alloc, &mut out)?;
     Ok(out)
+}
+
+fn push_texts(alloc: Global, out: &mut String) -> Result<(), AllocError> {
+    push_packets(alloc, out)?;
+    push_transport_units(alloc, out)?;
+    push_links(alloc, out)?;
+    push_carriers(alloc, out)?;
+    push_session_units(alloc, out)?;
+    push_sessions(alloc, out)?;
+    push_ends(alloc, out)?;
+    push_two_ends(alloc, out)
 }
 
 fn push_all<T: Debug + Display>(
@@ -31,9 +35,18 @@ fn push_all<T: Debug + Display>(
     all: &[T],
 ) -> Result<(), AllocError> {
     for one in all {
-        out.push_str(format!(in alloc; "{one:?}: {one}\n")?.as_str())?;
+        push_one(alloc, out, one)?;
     }
     Ok(())
+}
+
+fn push_one<T: Debug + Display>(
+    alloc: Global,
+    out: &mut String,
+    one: &T,
+) -> Result<(), AllocError> {
+    let line = format!(in alloc; "{one:?}: {one}\n")?;
+    out.push_str(line.as_str())
 }
 
 fn push_packets(alloc: Global, out: &mut String) -> Result<(), AllocError> {

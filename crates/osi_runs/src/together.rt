@@ -1,6 +1,6 @@
 //! Scripts of two ends whose events are given in one list.
 
-use crate::again::{asks, event_of, pair_in, push_entry, state_of, unreadable};
+use crate::again::{asks, event_in, pair_in, push_entries, state_of, unreadable};
 use osi_pair::{Event, Pair, RunError};
 use osi_script::Line;
 use osi_stack::Connect;
@@ -82,7 +82,7 @@ fn lines_in(alloc: Global, script: &str) -> Result<Vec<Line<'_>>, AllocError> {
 fn events_in<'a>(alloc: Global, lines: &'a [Line<'a>]) -> io::Result<Vec<Event<'a>>> {
     let mut events = Vec::new(alloc);
     for line in lines {
-        let Some(event) = line.command().and_then(event_of) else {
+        let Some(event) = event_in(line) else {
             return Err(unreadable());
         };
         events.push(with_addresses(event))?;
@@ -126,8 +126,6 @@ fn apply_each(pair: &mut Pair, events: &[Event]) -> Option<RunError> {
 /// All that can be asked of two ends, and each entry of their journal.
 fn all_of(alloc: Global, pair: &Pair) -> Result<Vec<u8>, AllocError> {
     let mut out = state_of(alloc, pair)?;
-    for entry in pair.journal() {
-        push_entry(alloc, &mut out, "", entry)?;
-    }
+    push_entries(alloc, &mut out, "", pair.journal())?;
     Ok(out)
 }

@@ -31,10 +31,15 @@ pub(crate) const WAYS: [Way; 4] = [
 /// A script that is run in another way.
 pub(crate) fn script_in(alloc: Global, script: &str, way: Way) -> Result<String, AllocError> {
     let mut lines = String::new(alloc);
-    for line in script.lines() {
-        push_in(&mut lines, line, way)?;
-    }
+    push_all_in(&mut lines, script, way)?;
     Ok(lines)
+}
+
+fn push_all_in(out: &mut String, script: &str, way: Way) -> Result<(), AllocError> {
+    for line in script.lines() {
+        push_in(out, line, way)?;
+    }
+    Ok(())
 }
 
 fn push_in(out: &mut String, line: &str, way: Way) -> Result<(), AllocError> {
@@ -63,10 +68,15 @@ fn push(out: &mut String, line: &str, times: u16) -> Result<(), AllocError> {
 /// A transcript without the lines that say how many octets were carried.
 pub(crate) fn counts_left_out(alloc: Global, transcript: &str) -> Result<String, AllocError> {
     let mut lines = String::new(alloc);
+    push_others(&mut lines, transcript)?;
+    Ok(lines)
+}
+
+fn push_others(out: &mut String, transcript: &str) -> Result<(), AllocError> {
     for line in transcript.lines() {
         if !line.contains(" carried ") {
-            push(&mut lines, line, 1)?;
+            push(out, line, 1)?;
         }
     }
-    Ok(lines)
+    Ok(())
 }
