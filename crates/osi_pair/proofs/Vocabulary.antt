@@ -30,8 +30,7 @@ pub use Rattle.osi_carrier.specs.declared.ends.EndReason.{EndReason}
 pub use Rattle.osi_carrier.specs.declared.ends.EndReason.TheVariants.{Broken, Closed, NoMemory}
 pub use Rattle.osi_carrier.specs.declared.faults.OpenError.{OpenError}
 pub use Rattle.osi_class.specs.Between.{IsShortTsdu, swapped}
-pub use Rattle.osi_class.specs.Link.{Given, ack, part0, part2}
-unfoldable pub use Rattle.osi_class.specs.Link.{unit_of}
+pub use Rattle.osi_class.specs.Link.{Given, ack, part0, part2, unit_of}
 pub use Rattle.osi_class.specs.declared.terms.Class.{Class}
 pub use Rattle.osi_class.specs.declared.terms.Class.TheVariants.{Two, Zero}
 pub use Rattle.osi_class.specs.declared.terms.Local.{Local}
