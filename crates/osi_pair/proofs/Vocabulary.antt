@@ -92,7 +92,7 @@ pub use Rattle.osi_stack.proofs.Keeping.{hears_keep}
 pub use Rattle.osi_stack.proofs.Lifting.{both, or_first, or_second, packet_is, quiet_attends}
 pub use Rattle.osi_stack.proofs.Linking.{Stays, apart_push, apart_put, used_at, used_by}
 pub use Rattle.osi_stack.proofs.Moves.{Readings, are_lost, came_is, used_live}
-pub use Rattle.osi_stack.proofs.Pieces.{none_of}
+pub use Rattle.osi_carrier.proofs.Reacts.{none_of}
 pub use Rattle.osi_stack.proofs.Rising.{rise_joins, rise_push}
 pub use Rattle.osi_stack.proofs.Soundness.{packet_rises, up_more}
 pub use Rattle.osi_stack.specs.Calls.{after_open, call_error, called_octets, calling_octets, calls_with, carried, connect_error, first_by, first_shown, has_given, held_by, is_long, is_long_address, numbers_of, rest_by, session_error, session_refusal, table_error, terms_error}
