@@ -7,61 +7,16 @@ use crate::showing::show;
 use crate::texts::LONGEST_INPUT;
 use crate::words::job;
 use clap::error::ErrorKind;
-use std::alloc::Global;
 use std::io;
 use std::io::{Read, Write};
 use std::test::Fail;
 
-/// What `show` answers; its clauses stay here.
-fn showing<R: Read, W: Write>(
-    alloc: Global,
-    reader: &mut R,
-    writer: &mut W,
-) -> Result<u8, ToolFault> {
-    show(alloc, reader, writer)
-}
-
-/// What `pair` answers; its clauses stay here.
-fn pairing<R: Read, W: Write>(
-    alloc: Global,
-    reader: &mut R,
-    writer: &mut W,
-) -> Result<u8, ToolFault> {
-    pair(alloc, reader, writer)
-}
-
-/// `show` answers so, and writes these lines.
-fn shows<R: Read>(
-    alloc: Global,
-    reader: &mut R,
-    out: &mut Vec<u8>,
-    answer: Result<u8, ToolFault>,
-    lines: &[u8],
-) -> Result<(), Fail> {
-    if showing(alloc, reader, out) != answer {
-        return Err(Fail::from("another answer"));
-    }
-    if out.as_slice() != lines {
-        return Err(Fail::from("another listing"));
-    }
-    Ok(())
-}
-
-/// `pair` answers so, and writes a transcript that ends with these lines.
-fn tells<R: Read>(
-    alloc: Global,
-    reader: &mut R,
-    out: &mut Vec<u8>,
-    answer: Result<u8, ToolFault>,
-    lines: &str,
-) -> Result<(), Fail> {
-    if pairing(alloc, reader, out) != answer {
-        return Err(Fail::from("another answer"));
-    }
-    if !out.as_slice().ends_with(lines.as_bytes()) {
-        return Err(Fail::from("another transcript"));
-    }
-    Ok(())
+/// What `show` answers to a text, and what it writes.
+fn shown(rt: &HostRuntime, text: &str) -> (Result<u8, ToolFault>, Vec<u8>) {
+    let mut out = Vec::new(rt.alloc());
+    let mut reader = text.as_bytes();
+    let answer = show(rt.alloc(), &mut reader, &mut out);
+    (answer, out)
 }
 
 const DATA: &str = "03 00 00 0D 02 F0 80 01 00 01 00 41 42";
@@ -74,48 +29,29 @@ const LISTED: &str = "packet 0 length 13 code f0
 rest 0
 ";
 
-/// Texts that capture the one packet of `DATA`.
-const SAME: [&str; 5] = [
-    DATA,
-    "0300000d02f080010001004142",
-    "03\t00 0\r\n0 0d 02 f0 80 01 00 01 00 41 42\n",
-    "# data\n03 00 00 0D 02 F0 80 01 00 01 00 4# one\n1 42",
-    "03 00 00 0D 02 F0 80 01 00 01 00 41 42 # no line end \u{e9} 7",
-];
-
-/// `show` answers so to a text, and writes these lines.
-fn shows_text(
-    alloc: Global,
-    text: &str,
-    answer: Result<u8, ToolFault>,
-    lines: &str,
-) -> Result<(), Fail> {
-    let mut reader = text.as_bytes();
-    shows(
-        alloc,
-        &mut reader,
-        &mut Vec::new(alloc),
-        answer,
-        lines.as_bytes(),
-    )
+#[test]
+fn captures_of_one_packet(rt: HostRuntime) {
+    let same = [
+        DATA,
+        "0300000d02f080010001004142",
+        "03\t00 0\r\n0 0d 02 f0 80 01 00 01 00 41 42\n",
+        "# data\n03 00 00 0D 02 F0 80 01 00 01 00 4# one\n1 42",
+        "03 00 00 0D 02 F0 80 01 00 01 00 41 42 # no line end \u{e9} 7",
+    ];
+    for text in same {
+        let (answer, out) = shown(&rt, text);
+        assert_eq!(rt; answer, Ok(0), "{text}");
+        assert!(rt; out.as_slice() == LISTED.as_bytes(), "{text}");
+    }
 }
 
 #[test]
-fn captures_of_one_packet(rt: HostRuntime) -> Result<(), Fail> {
-    for text in SAME {
-        shows_text(rt.alloc(), text, Ok(0), LISTED)?;
+fn texts_that_are_no_captures(rt: HostRuntime) {
+    for text in ["0", "03 0", "03 0g", "03, 00", "0x03", "03 # 0\n0"] {
+        let (answer, out) = shown(&rt, text);
+        assert_eq!(rt; answer, Err(ToolFault::BadHex), "{text}");
+        assert!(rt; out.is_empty(), "{text}");
     }
-    Ok(())
-}
-
-const NO_CAPTURES: [&str; 6] = ["0", "03 0", "03 0g", "03, 00", "0x03", "03 # 0\n0"];
-
-#[test]
-fn texts_that_are_no_captures(rt: HostRuntime) -> Result<(), Fail> {
-    for text in NO_CAPTURES {
-        shows_text(rt.alloc(), text, Err(ToolFault::BadHex), "")?;
-    }
-    Ok(())
 }
 
 /// A reader that gives one octet at a time, fails after so many, and then has no more.
@@ -143,23 +79,17 @@ impl Read for Slow<'_> {
     }
 }
 
-/// `show` answers so to octets that come one at a time, and writes these lines.
-fn shows_slowly(
-    alloc: Global,
-    octets: &[u8],
-    fails: bool,
-    answer: Result<u8, ToolFault>,
-    lines: &[u8],
-) -> Result<(), Fail> {
-    let mut reader = Slow { octets, fails };
-    shows(alloc, &mut reader, &mut Vec::new(alloc), answer, lines)
-}
-
 #[test]
-fn a_reader_gives_octet_by_octet_or_fails(rt: HostRuntime) -> Result<(), Fail> {
-    let octets = DATA.as_bytes();
-    shows_slowly(rt.alloc(), octets, false, Ok(0), LISTED.as_bytes())?;
-    shows_slowly(rt.alloc(), octets, true, Err(ToolFault::Input), &[])
+fn a_reader_gives_octet_by_octet_or_fails(rt: HostRuntime) {
+    for (fails, wanted) in [(false, Ok(0)), (true, Err(ToolFault::Input))] {
+        let mut reader = Slow {
+            octets: DATA.as_bytes(),
+            fails,
+        };
+        let mut out = Vec::new(rt.alloc());
+        assert_eq!(rt; show(rt.alloc(), &mut reader, &mut out), wanted);
+        assert_eq!(rt; out.is_empty(), fails);
+    }
 }
 
 /// A writer that takes nothing.
@@ -176,17 +106,13 @@ impl Write for Broken {
     }
 }
 
-/// A listing can't be written.
-fn no_listing_is_written<W: Write>(alloc: Global, writer: &mut W) -> Result<(), Fail> {
-    if showing(alloc, &mut DATA.as_bytes(), writer) != Err(ToolFault::Write) {
-        return Err(Fail::from("another answer"));
-    }
-    Ok(())
-}
-
 #[test]
-fn a_write_fails(rt: HostRuntime) -> Result<(), Fail> {
-    no_listing_is_written(rt.alloc(), &mut Broken)
+fn a_write_fails(rt: HostRuntime) {
+    let mut reader = DATA.as_bytes();
+    assert_eq!(rt;
+        show(rt.alloc(), &mut reader, &mut Broken),
+        Err(ToolFault::Write)
+    );
 }
 
 /// A writer that takes everything, and fails to flush.
@@ -204,48 +130,59 @@ impl Write for Unflushed {
 }
 
 #[test]
-fn a_flush_fails(rt: HostRuntime) -> Result<(), Fail> {
-    no_listing_is_written(rt.alloc(), &mut Unflushed)
-}
-
-/// One octet more than the longest input, each a blank.
-fn blanks(alloc: Global) -> Result<Vec<u8>, Fail> {
-    let blanks = vec![in alloc; b' '; LONGEST_INPUT + 1]?;
-    Ok(blanks)
-}
-
-/// With one octet more than the longest input.
-fn lengths_go_on(alloc: Global, blanks: &[u8]) -> Result<(), Fail> {
-    let mut reader = blanks;
-    let too_long = Err(ToolFault::Input);
-    shows(alloc, &mut reader, &mut Vec::new(alloc), too_long, &[])?;
-    let mut reader = &blanks[1..];
-    shows(alloc, &mut reader, &mut Vec::new(alloc), Ok(0), b"rest 0\n")
+fn a_flush_fails(rt: HostRuntime) {
+    let mut reader = DATA.as_bytes();
+    assert_eq!(rt;
+        show(rt.alloc(), &mut reader, &mut Unflushed),
+        Err(ToolFault::Write)
+    );
 }
 
 #[test]
 fn the_longest_input(rt: HostRuntime) -> Result<(), Fail> {
-    let blanks = blanks(rt.alloc())?;
-    lengths_go_on(rt.alloc(), blanks.as_slice())
+    let blanks = vec![in rt.alloc(); b' '; LONGEST_INPUT + 1]?;
+    let mut out = Vec::new(rt.alloc());
+    let mut reader = blanks.as_slice();
+    assert_eq!(rt;
+        show(rt.alloc(), &mut reader, &mut out),
+        Err(ToolFault::Input)
+    );
+    assert!(rt; out.is_empty());
+    let mut reader = &blanks.as_slice()[1..];
+    assert_eq!(rt; show(rt.alloc(), &mut reader, &mut out), Ok(0));
+    assert!(rt; out.as_slice() == b"rest 0\n".as_slice());
+    Ok(())
+}
+
+/// What `show` answers to so many blanks that come one at a time, and what it writes.
+fn shown_blank_by_blank(
+    rt: &HostRuntime,
+    count: usize,
+) -> Result<(Result<u8, ToolFault>, Vec<u8>), Fail> {
+    let blanks = vec![in rt.alloc(); b' '; count]?;
+    let mut reader = Slow {
+        octets: blanks.as_slice(),
+        fails: false,
+    };
+    let mut out = Vec::new(rt.alloc());
+    let answer = show(rt.alloc(), &mut reader, &mut out);
+    Ok((answer, out))
 }
 
 #[test]
 fn the_longest_input_octet_by_octet(rt: HostRuntime) -> Result<(), Fail> {
-    let blanks = blanks(rt.alloc())?;
-    shows_slowly(
-        rt.alloc(),
-        &blanks.as_slice()[1..],
-        false,
-        Ok(0),
-        b"rest 0\n",
-    )
+    let (answer, out) = shown_blank_by_blank(&rt, LONGEST_INPUT)?;
+    assert_eq!(rt; answer, Ok(0));
+    assert!(rt; out.as_slice() == b"rest 0\n".as_slice());
+    Ok(())
 }
 
 #[test]
 fn an_octet_too_many_octet_by_octet(rt: HostRuntime) -> Result<(), Fail> {
-    let blanks = blanks(rt.alloc())?;
-    let too_long = Err(ToolFault::Input);
-    shows_slowly(rt.alloc(), blanks.as_slice(), false, too_long, &[])
+    let (answer, out) = shown_blank_by_blank(&rt, LONGEST_INPUT + 1)?;
+    assert_eq!(rt; answer, Err(ToolFault::Input));
+    assert!(rt; out.is_empty());
+    Ok(())
 }
 
 /// What the program prints of a fault.
@@ -256,96 +193,79 @@ fn is_named(rt: &HostRuntime, fault: ProgramFault, name: &str) -> Result<(), Fai
     Ok(())
 }
 
-const NAMES: [(ProgramFault, &str); 5] = [
-    (ProgramFault::Words, "Words"),
-    (ProgramFault::Tool(ToolFault::Input), "Input"),
-    (ProgramFault::Tool(ToolFault::BadHex), "BadHex"),
-    (ProgramFault::Tool(ToolFault::Write), "Write"),
-    (ProgramFault::Tool(ToolFault::OutOfMemory), "OutOfMemory"),
-];
-
 #[test]
 fn faults_are_named(rt: HostRuntime) -> Result<(), Fail> {
-    for (fault, name) in NAMES {
-        is_named(&rt, fault, name)?;
-    }
-    Ok(())
-}
-
-/// Adds 128 packets of 65,535 octets, each with this data behind its units, and then blanks.
-fn push_packets(text: &mut Vec<u8>, data: &[u8], blanks: &[u8]) -> Result<(), Fail> {
-    for _ in 0..128 {
-        text.extend_from_slice(b"0300ffff02f08001000100")?;
-        text.extend_from_slice(data)?;
-    }
-    text.extend_from_slice(blanks)?;
-    Ok(())
+    is_named(&rt, ProgramFault::Words, "Words")?;
+    is_named(&rt, ProgramFault::Tool(ToolFault::Input), "Input")?;
+    is_named(&rt, ProgramFault::Tool(ToolFault::BadHex), "BadHex")?;
+    is_named(&rt, ProgramFault::Tool(ToolFault::Write), "Write")?;
+    is_named(
+        &rt,
+        ProgramFault::Tool(ToolFault::OutOfMemory),
+        "OutOfMemory",
+    )
 }
 
 /// A capture of 16,777,216 octets: 128 packets of 65,535, each with data of 65,524 octets, and blanks.
-fn the_longest_capture(alloc: Global) -> Result<Vec<u8>, Fail> {
-    let data = vec![in alloc; b'5'; 131_048]?;
-    let mut text = Vec::new(alloc);
-    push_packets(&mut text, data.as_slice(), &[b' '; 256])?;
+fn the_longest_capture(rt: &HostRuntime) -> Result<Vec<u8>, Fail> {
+    let data = vec![in rt.alloc(); b'5'; 131_048]?;
+    let blanks = vec![in rt.alloc(); b' '; 256]?;
+    let mut text = Vec::new(rt.alloc());
+    for _ in 0..128 {
+        text.extend_from_slice(b"0300ffff02f08001000100")?;
+        text.extend_from_slice(data.as_slice())?;
+    }
+    text.extend_from_slice(blanks.as_slice())?;
     Ok(text)
-}
-
-/// `show` lists all of a capture, to these last lines.
-fn lists(alloc: Global, out: &mut Vec<u8>, text: &[u8], lines: &[u8]) -> Result<(), Fail> {
-    let mut reader = text;
-    if text.len() != LONGEST_INPUT || showing(alloc, &mut reader, out) != Ok(0) {
-        return Err(Fail::from("another answer"));
-    }
-    if !out.as_slice().ends_with(lines) {
-        return Err(Fail::from("another listing"));
-    }
-    Ok(())
 }
 
 #[test]
 fn the_longest_capture_is_listed(rt: HostRuntime) -> Result<(), Fail> {
-    let text = the_longest_capture(rt.alloc())?;
-    lists(
-        rt.alloc(),
-        &mut Vec::new(rt.alloc()),
-        text.as_slice(),
-        b"    tsdu 65528\n    GT\n    DT octets 65524\nrest 0\n",
-    )
-}
-
-/// The job that the words name.
-fn named(alloc: Global, words: &[&str]) -> Option<Job> {
-    match job(alloc, words) {
-        Ok(job) => Some(job),
-        Err(_) => None,
-    }
+    let text = the_longest_capture(&rt)?;
+    assert_eq!(rt; text.len(), LONGEST_INPUT);
+    let mut out = Vec::new(rt.alloc());
+    let mut reader = text.as_slice();
+    assert_eq!(rt; show(rt.alloc(), &mut reader, &mut out), Ok(0));
+    assert!(rt;
+        out.as_slice()
+            .ends_with(b"    tsdu 65528\n    GT\n    DT octets 65524\nrest 0\n")
+    );
+    Ok(())
 }
 
 /// The kind of error that the words give.
-fn refused(alloc: Global, words: &[&str]) -> Option<ErrorKind> {
-    match job(alloc, words) {
+fn refused(rt: &HostRuntime, words: &[&str]) -> Option<ErrorKind> {
+    match job(rt.alloc(), words) {
         Ok(_) => None,
         Err(error) => Some(error.kind()),
     }
 }
 
-/// Words that name no job, and the kind of error that they give.
-const NO_JOBS: [(&[&str], ErrorKind); 6] = [
-    (&["osi", "--help"], ErrorKind::DisplayHelp),
-    (&["osi", "help"], ErrorKind::DisplayHelp),
-    (&["osi", "--version"], ErrorKind::DisplayVersion),
-    (&["osi"], ErrorKind::MissingSubcommand),
-    (&["osi", "list"], ErrorKind::InvalidSubcommand),
-    (&["osi", "show", "x"], ErrorKind::UnknownArgument),
-];
-
 #[test]
 fn words_name_a_job(rt: HostRuntime) {
-    assert!(rt; named(rt.alloc(), &["osi", "show"]) == Some(Job::Show));
-    assert!(rt; named(rt.alloc(), &["osi", "pair"]) == Some(Job::Pair));
-    for (words, kind) in NO_JOBS {
-        assert!(rt; refused(rt.alloc(), words) == Some(kind));
-    }
+    assert!(rt; matches!(job(rt.alloc(), &["osi", "show"]), Ok(Job::Show)));
+    assert!(rt; matches!(job(rt.alloc(), &["osi", "pair"]), Ok(Job::Pair)));
+    assert_eq!(rt;
+        refused(&rt, &["osi", "--help"]),
+        Some(ErrorKind::DisplayHelp)
+    );
+    assert_eq!(rt;
+        refused(&rt, &["osi", "help"]),
+        Some(ErrorKind::DisplayHelp)
+    );
+    assert_eq!(rt;
+        refused(&rt, &["osi", "--version"]),
+        Some(ErrorKind::DisplayVersion)
+    );
+    assert_eq!(rt; refused(&rt, &["osi"]), Some(ErrorKind::MissingSubcommand));
+    assert_eq!(rt;
+        refused(&rt, &["osi", "list"]),
+        Some(ErrorKind::InvalidSubcommand)
+    );
+    assert_eq!(rt;
+        refused(&rt, &["osi", "show", "x"]),
+        Some(ErrorKind::UnknownArgument)
+    );
 }
 
 const SCRIPT: &str = "ends 0 0 10 4
@@ -360,40 +280,35 @@ line 4 NotBroken
 ";
 
 #[test]
-fn a_script_is_run(rt: HostRuntime) -> Result<(), Fail> {
+fn a_script_is_run(rt: HostRuntime) {
     let mut out = Vec::new(rt.alloc());
-    tells(rt.alloc(), &mut SCRIPT.as_bytes(), &mut out, Ok(1), TOLD)?;
-    if out.len() != TOLD.len() {
-        return Err(Fail::from("a longer transcript"));
-    }
-    Ok(())
+    let mut reader = SCRIPT.as_bytes();
+    assert_eq!(rt; pair(rt.alloc(), &mut reader, &mut out), Ok(1));
+    assert!(rt; out.as_slice() == TOLD.as_bytes());
 }
 
-/// A script is not read to its end, and nothing is written.
-fn is_not_read(alloc: Global, out: &mut Vec<u8>) -> Result<(), Fail> {
+#[test]
+fn a_script_is_not_read_or_its_transcript_not_written(rt: HostRuntime) {
+    let mut out = Vec::new(rt.alloc());
     let mut reader = Slow {
         octets: SCRIPT.as_bytes(),
         fails: true,
     };
-    if pairing(alloc, &mut reader, out) != Err(ToolFault::Input) || !out.is_empty() {
-        return Err(Fail::from("another answer"));
-    }
-    Ok(())
-}
-
-/// A transcript can't be written.
-fn no_transcript_is_written<W: Write>(alloc: Global, writer: &mut W) -> Result<(), Fail> {
-    if pairing(alloc, &mut SCRIPT.as_bytes(), writer) != Err(ToolFault::Write) {
-        return Err(Fail::from("another answer"));
-    }
-    Ok(())
-}
-
-#[test]
-fn a_script_is_not_read_or_its_transcript_not_written(rt: HostRuntime) -> Result<(), Fail> {
-    is_not_read(rt.alloc(), &mut Vec::new(rt.alloc()))?;
-    no_transcript_is_written(rt.alloc(), &mut Broken)?;
-    no_transcript_is_written(rt.alloc(), &mut Unflushed)
+    assert_eq!(rt;
+        pair(rt.alloc(), &mut reader, &mut out),
+        Err(ToolFault::Input)
+    );
+    assert!(rt; out.is_empty());
+    let mut reader = SCRIPT.as_bytes();
+    assert_eq!(rt;
+        pair(rt.alloc(), &mut reader, &mut Broken),
+        Err(ToolFault::Write)
+    );
+    let mut reader = SCRIPT.as_bytes();
+    assert_eq!(rt;
+        pair(rt.alloc(), &mut reader, &mut Unflushed),
+        Err(ToolFault::Write)
+    );
 }
 
 /// The first lines of a long script: a connection is opened.
@@ -413,30 +328,21 @@ left 1 phase Ready held 01 next 0 below 0 lowest 0
 right 1 phase Ready held 00 next 0 below 0 lowest 0
 ";
 
-/// Adds 100,000 lines: data that is shown, an octet at a time.
-fn push_data(script: &mut Vec<u8>) -> Result<(), Fail> {
+/// A script of 100,007 lines: data that is shown, an octet at a time.
+fn a_long_script(rt: &HostRuntime) -> Result<Vec<u8>, Fail> {
+    let mut script = Vec::from_slice(rt.alloc(), OPENED.as_bytes())?;
     for _ in 0..50_000 {
         script.extend_from_slice(b"left 1 data 41\ncarry left 999\n")?;
     }
-    Ok(())
-}
-
-/// A script of 100,007 lines.
-fn a_long_script(alloc: Global) -> Result<Vec<u8>, Fail> {
-    let mut script = Vec::from_slice(alloc, OPENED.as_bytes())?;
-    push_data(&mut script)?;
     Ok(script)
 }
 
 #[test]
 fn a_script_of_100_007_lines_is_run(rt: HostRuntime) -> Result<(), Fail> {
-    let script = a_long_script(rt.alloc())?;
+    let script = a_long_script(&rt)?;
+    let mut out = Vec::new(rt.alloc());
     let mut reader = script.as_slice();
-    tells(
-        rt.alloc(),
-        &mut reader,
-        &mut Vec::new(rt.alloc()),
-        Ok(0),
-        LAST_DATA,
-    )
+    assert_eq!(rt; pair(rt.alloc(), &mut reader, &mut out), Ok(0));
+    assert!(rt; out.as_slice().ends_with(LAST_DATA.as_bytes()));
+    Ok(())
 }
