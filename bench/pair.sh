@@ -1,12 +1,15 @@
 #!/usr/bin/env bash
-# Runs scripts of two ends by the proved program, and what they ask for by two ends of the library for C: the same calls,
-# octets and indications. A script of 1,000 lines and one of 10,000 ask for the same calls over and over. A carry costs by
-# the octets that it carries, so the longer takes some ten times as long.
+# Runs scripts of two ends by the proved program, what they ask for by two ends of the library for C, with the same calls,
+# octets and indications, and the scripts themselves by C that prints the same transcript. A script of 1,000 lines and one of
+# 10,000 ask for the same calls over and over. A carry costs by the octets that it carries, so the longer takes some ten times
+# as long.
 set -eu
 cd "$(dirname "$0")/.."
 make all lib >&2
 mkdir -p bench/out
-gcc -O2 -Wall -Wextra -Iinclude -o bench/out/pair bench/pair.c build/libosi-session.a
+for program in pair transcript; do
+    gcc -O2 -Wall -Wextra -Iinclude -o "bench/out/$program" "bench/$program.c" build/libosi-session.a
+done
 python3 - bench/out <<'P'
 import re, subprocess, sys, time
 sys.dont_write_bytecode = True
@@ -34,31 +37,36 @@ def alike(transcript, counts):
 
 
 def best_of(lines):
-    """The least seconds of the program, and of two ends for C, from start to end of a process."""
+    """The least seconds of the program, of two ends for C, and of C that reads the script, from start to end of a process."""
     turns = (lines - 7) // 6
     path = f"{sys.argv[1]}/pair-{lines}.script"
     with open(path, "w") as out:
         out.write(script(turns))
-    program = ends = 1e9
+    program = ends = reader = 1e9
     for _ in range(RUNS):
         seconds, transcript = timed(["crates/osi_tool/out/osi_tool", "pair"], path)
         program = min(program, seconds)
         seconds, counts = timed([f"{sys.argv[1]}/pair", str(turns)], path)
         ends = min(ends, seconds)
+        seconds, told = timed([f"{sys.argv[1]}/transcript"], path)
+        reader = min(reader, seconds)
+        assert told == transcript, "C prints another transcript"
     assert alike(transcript, counts), (transcript[:200], counts)
-    return program, ends
+    return program, ends, reader
 
 
-def row(name, program, ends, lines):
-    print(f"{name:>24} {program * 1e3:8.2f} {program / lines * 1e6:9.2f} {ends * 1e3:8.2f} {ends / program:8.2f}")
+def row(name, program, ends, reader, lines):
+    print(f"{name:>24} {program * 1e3:8.2f} {program / lines * 1e6:9.2f} {ends * 1e3:8.2f} {ends / program:8.2f}"
+          f" {reader * 1e3:8.2f} {reader / program:8.2f}")
 
 
-print("Scripts of two ends, in ms, beside two ends by the library for C that do the same calls\n"
-      f"{processor()}, the best of {RUNS} runs of each in turn. Below \"ours / C\" stands our speed divided by that of the ends"
-      " for C: more is better.")
-print(f"{'lines':>24} {'ours':>8} {'us a line':>9} {'C':>8} {'ours / C':>8}")
+print("Scripts of two ends, in ms, beside two ends by the library for C that do the same calls, and beside C that reads the"
+      " script and prints the same transcript\n"
+      f"{processor()}, the best of {RUNS} runs of each in turn. Below \"ours / C\" stands our speed divided by that of C:"
+      " more is better.")
+print(f"{'lines':>24} {'ours':>8} {'us a line':>9} {'ends':>8} {'ours / C':>8} {'reader':>8} {'ours / C':>8}")
 took = {lines: best_of(lines) for lines in (1000, 10000)}
 for lines in took:
     row(f"{lines:,}", *took[lines], lines)
-row("9,000 behind the first", *(took[10000][way] - took[1000][way] for way in (0, 1)), 9000)
+row("9,000 behind the first", *(took[10000][way] - took[1000][way] for way in range(3)), 9000)
 P

@@ -10,7 +10,8 @@ use osi_carrier::{EndReason, Ref};
 use osi_pair::{Entry, Event, Pair, PairError};
 use osi_script::{Command, Line, Side, push_indication};
 use osi_session::{CallError, Phase};
-use osi_stack::{Connect, ConnectError, Stack};
+use osi_stack::{ConnectError, Stack};
+use osi_transcript::asking::{event_of, named, side_of};
 use std::alloc::{AllocError, Global};
 use std::io;
 
@@ -114,52 +115,6 @@ pub(crate) fn event_in<'a>(line: &'a Line<'a>) -> Option<Event<'a>> {
 
 pub(crate) fn unreadable() -> io::Error {
     io::Error::from(io::ErrorKind::InvalidData)
-}
-
-fn side_of(side: Side) -> osi_pair::Side {
-    match side {
-        Side::Left => osi_pair::Side::Left,
-        Side::Right => osi_pair::Side::Right,
-    }
-}
-
-fn named(side: osi_pair::Side) -> Side {
-    match side {
-        osi_pair::Side::Left => Side::Left,
-        osi_pair::Side::Right => Side::Right,
-    }
-}
-
-/// What a line asks for; none for the line of the two ends.
-fn event_of(command: Command<'_>) -> Option<Event<'_>> {
-    match command {
-        Command::Ends { .. } => None,
-        Command::Connect {
-            requirements,
-            serial,
-            wishes,
-            sizes,
-            user_data,
-        } => Some(Event::Connect(Connect {
-            requirements,
-            serial,
-            wishes,
-            calling_tsap: None,
-            called_tsap: None,
-            calling_selector: None,
-            called_selector: None,
-            sizes,
-            user_data,
-        })),
-        Command::Call {
-            side,
-            reference,
-            request,
-        } => Some(Event::Call(side_of(side), Ref(reference), request)),
-        Command::Carry { side, octets } => Some(Event::Carry(side_of(side), octets as usize)),
-        Command::Break { left, right } => Some(Event::Break(left as usize, right as usize)),
-        Command::Told { side } => Some(Event::Told(side_of(side))),
-    }
 }
 
 fn play_event(

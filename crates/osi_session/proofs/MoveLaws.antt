@@ -29,10 +29,6 @@ pub taken_is : (s : Listener) (words : Words) (h : Hearing) → respond_tsdu (ta
 unfolding react
 taken_is s words h e = ap (moved s) e
 
-pub unread_is : (s : Listener) (fault : SpduFault) (o : Outcome) → respond_fault s.state fault ≡ o → react s (unread fault) ≡ moved s (heard s.joined o)
-unfolding react
-unread_is s fault o e = ap (λ (x : Outcome). moved s (heard s.joined x)) e
-
 -- the octets of a TSDU: units, or octets that are none
 pub came_is : (s : Listener) (read : Result Words SpduFault) (h : Hearing) → respond_came (taker_of s) read ≡ h → react s (came_as read) ≡ moved s h
 unfolding react

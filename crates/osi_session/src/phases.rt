@@ -253,7 +253,7 @@ impl Phase {
     }
 
     /// The user is shown that the transport connection is lost.
-    pub(crate) fn shows_loss(self) -> bool
+    pub fn shows_loss(self) -> bool
         ensures { result ≡ shows_loss self }
     {
         !matches!(self, Phase::WaitCn | Phase::Aborting | Phase::Ended)

@@ -12,7 +12,7 @@ ghost use Rattle.osi_session.specs.Sizes.{limit_of};
 
 use crate::calling::{MOST_USER_DATA, allow_data, decide};
 use crate::faults::CallError;
-use crate::grouping::{Reactions, expects_data, take_all, take_read, unread};
+use crate::grouping::{Reactions, expects_data, take_all, take_read};
 use crate::hearing::{Heard, Joined, take_says};
 use crate::indications::Indication;
 use crate::joining::{PartVerdict, join, joined_octets, judge_part, shown_behind};
@@ -103,7 +103,7 @@ impl Session {
     ghost use Rattle.osi_message.specs.Reading.{said_by_units};
     ghost use Rattle.osi_message.specs.Tokens.{named, token_octet};
     ghost use Rattle.osi_session.specs.Calls.{Data, called_by};
-    ghost use Rattle.osi_session.specs.Listening.{called, taken, unread, came, opened, refused, broken, in_state, moved, react, taker_of};
+    ghost use Rattle.osi_session.specs.Listening.{called, taken, came, opened, refused, broken, in_state, moved, react, taker_of};
     ghost use Rattle.osi_session.specs.Phases.{is_wait_transport};
     ghost use Rattle.osi_session.specs.Points.{only_shows};
     ghost use Rattle.osi_session.specs.Respond.{fine};
@@ -366,9 +366,10 @@ impl Session {
         }
     }
 
-    /// A TSDU that came, as octets: what [`Session::take`] does with its units, and
-    /// [`Session::take_bad`] with octets that are none. Data, minor points and confirmations without
-    /// other parameters are read straight, and where they are expected they are shown straight.
+    /// A TSDU that came, as octets: what [`Session::take`] does with its units. Octets that are none are
+    /// discarded unread in Aborting and Ended, and else answered by AB, and the user is shown why. Data,
+    /// minor points and confirmations without other parameters are read straight, and where they are
+    /// expected they are shown straight.
     #[inline(always)]
     pub fn take_tsdu(&mut self, tsdu: &[u8]) -> Result<Taken, AllocError>
         ensures state { OnOk result (self.new ≡ (react self.old (came tsdu.now)).next) }
@@ -465,21 +466,6 @@ impl Session {
             Ok(()) => Ok(Taken::showing(self.alloc, shown_behind(place, &mut self.joined))),
             Err(error) => Err(error),
         }
-    }
-
-    /// A TSDU came that is no session units. In Aborting and Ended it is discarded unread; else it
-    /// is answered by AB, and the user is shown why. `Err` changes nothing.
-    pub fn take_bad(&mut self, fault: SpduFault) -> Result<Taken, AllocError>
-        ensures state { OnOk result (self.new ≡ (react self.old (unread fault)).next) }
-        ensures shown { IfOk result (λ t. shown_in t ≡ (react self.old (unread fault)).shown) }
-        ensures first { IfOk result (λ t. t.first ≡ None → t.more.items ≡ []) }
-        ensures reply { IfOk result (λ t. t.reply ≡ option_map in_one (react self.old (unread fault)).reply) }
-        ensures closes { IfOk result (λ t. t.closes ≡ (react self.old (unread fault)).closes) }
-        ensures err { OnErr result (self.new ≡ self.old) }
-        ensures memory { OnErr result (takes_memory self.old (react self.old (unread fault)) ≡ true) }
-    {
-        let heard = Heard::of(unread(&self.state, fault), Joined::Kept);
-        self.settle(Reactions::of(self.alloc, heard))
     }
 
     /// Sends the answer, if there is one, takes the new state, and what is then joined.

@@ -4,7 +4,6 @@ ghost use Rattle.std.specs.Prelude.{◌≡◌, [], ◌∷◌, None, Some, true, 
 ghost use Rattle.std.specs.Vec.{vec_len};
 ghost use Rattle.std.specs.VecDeque.{deque_len, deque_capacity};
 ghost use Rattle.osi_session.specs.Listening.{came, react};
-ghost use Rattle.osi_session.specs.Phases.{shows_loss};
 ghost use Rattle.osi_session.specs.Sessions.{Takes};
 ghost use Rattle.osi_session.specs.Shown.{shown_by};
 ghost use Rattle.osi_stack.specs.Moving.{limit_for, answers};
@@ -15,16 +14,9 @@ ghost use Rattle.osi_stack.specs.Telling.{told_input};
 use crate::told::Told;
 use crate::transport::answer;
 use osi_carrier::Carrier;
-use osi_session::{Indication, Phase, Session, Taken};
+use osi_session::{Indication, Session, Taken};
 use std::alloc::{AllocError, Global};
 use std::collections::VecDeque;
-
-/// Whether the user of a session in this phase is shown that the transport connection is lost.
-pub fn shows_loss(phase: Phase) -> bool
-    ensures { result ≡ shows_loss phase }
-{
-    !matches!(phase, Phase::WaitCn | Phase::Aborting | Phase::Ended)
-}
 
 /// What is done by a session that shows at most one thing, sends nothing and closes nothing.
 fn quiet(alloc: Global, shown: Option<Indication>) -> Taken

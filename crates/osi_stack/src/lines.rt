@@ -18,7 +18,7 @@ ghost use Rattle.osi_stack.specs.Selectors.{selectors_sent, selectors_told, sess
 ghost use Rattle.osi_stack.specs.Telling.{told_input};
 
 use crate::calls::make_call;
-use crate::hearing::{hear, shows_loss};
+use crate::hearing::hear;
 use crate::names::SessionSelectors;
 use crate::told::Told;
 use osi_carrier::lookup::{Referred, is_above, place_in};
@@ -191,7 +191,7 @@ impl Line {
             carrier,
             self.reference,
         ) else {
-            forget(&mut self.session, &mut self.waiting, shows_loss(phase));
+            forget(&mut self.session, &mut self.waiting, phase.shows_loss());
             return Err(AllocError);
         };
         if connects {
@@ -207,7 +207,7 @@ impl Line {
         let Some(session) = &self.session else {
             return;
         };
-        let is_shown = shows_loss(session.phase());
+        let is_shown = session.phase().shows_loss();
         forget(&mut self.session, &mut self.waiting, is_shown);
     }
 

@@ -212,17 +212,9 @@ fn a_called_session_accepts(rt: HostRuntime) -> Result<(), Fail> {
     accepts_whole(&mut called(&rt))
 }
 
-/// Octets come that cannot be read as a unit.
-fn takes_bad(left: &mut Session, octets: &[u8]) -> Result<Taken, Fail> {
-    let Err(fault) = read_tsdu(octets) else {
-        return Err(Fail::from("a unit"));
-    };
-    Ok(left.take_bad(fault)?)
-}
-
 /// Octets come that cannot be read as a unit, and this is answered.
 fn answers_bad(left: &mut Session, octets: &[u8], want: &[u8]) -> Result<(), Fail> {
-    replies(&takes_bad(left, octets)?, want)
+    replies(&takes(left, octets)?, want)
 }
 
 fn bad_goes_on(left: &mut Session) -> Result<(), Fail> {

@@ -10,7 +10,7 @@ use osi_pair::Event;
 use osi_stack::Connect;
 
 /// The end of a side.
-pub(crate) fn side_of(side: osi_script::Side) -> osi_pair::Side
+pub fn side_of(side: osi_script::Side) -> osi_pair::Side
     ensures { result ≡ side_in side }
 {
     match side {
@@ -20,7 +20,7 @@ pub(crate) fn side_of(side: osi_script::Side) -> osi_pair::Side
 }
 
 /// The side of an end.
-pub(crate) fn named(side: osi_pair::Side) -> osi_script::Side
+pub fn named(side: osi_pair::Side) -> osi_script::Side
     ensures { result ≡ name_of side }
 {
     match side {
@@ -30,7 +30,7 @@ pub(crate) fn named(side: osi_pair::Side) -> osi_script::Side
 }
 
 /// The event that a line asks for; none for the line of the two ends.
-pub(crate) fn event_of<'a>(command: osi_script::Command<'a>) -> Option<Event<'a>>
+pub fn event_of<'a>(command: osi_script::Command<'a>) -> Option<Event<'a>>
     ensures some { IfSome result (λ event. IsEvent (command_by command.entry) event) }
     ensures none { IfNone result (IsNoEvent (command_by command.entry)) }
 {

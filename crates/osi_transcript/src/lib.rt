@@ -1,7 +1,7 @@
 //! Runs a script on two ends, and tells what they answered and what their users were shown.
 #![tactic(auto)]
 
-mod asking;
+pub mod asking;
 mod entries;
 mod playing;
 mod standings;
