@@ -1,7 +1,7 @@
--- What stands at the place of a reference, and what a write there leaves.
-use Rattle.std.proofs.Common.{◌≡◌, ℕ, Bool, zero, suc, ◌<◌, ◌==◌, true, false, [], ◌∷◌, length, get_or, set, Some, Result, Ok, Err, OnOk, refl, sym, ap, ◌∙◌, arith}
+-- What stands at the place of a reference, and what a write there leaves; no place, no value.
+use Rattle.std.proofs.Common.{◌≡◌, ℕ, Bool, zero, suc, ◌+◌, ◌<◌, ◌≤◌, ◌==◌, true, false, [], ◌∷◌, length, get_or, set, Option, Some, None, is_some, Result, Ok, Err, OnOk, refl, sym, ap, ◌∙◌, arith}
 use Rattle.std.proofs.lemmas.List.Quantifiers.{position-Some}
-use Rattle.osi_carrier.proofs.Vocabulary.{remove, eqb-true, Rows, value_at, place_of, put, without}
+use Rattle.osi_carrier.proofs.Vocabulary.{common_steps, position_or_len, remove, eqb-true, Connection, asked, Rows, value_at, place_of, put, without}
 
 -- where the place `i` of a reference is, `d` being any row
 pub record IsPlace {X : Type 0} (r : ℕ) (rows : Rows X) (i : ℕ) (d : ℕ × X) : Type 0 where
@@ -65,3 +65,27 @@ put_same_by r q y x rows false t more h = let behind : value_at r rows ≡ Some 
 pub put_same : {X : Type 0} (r : ℕ) (x : X) (rows : Rows X) → value_at r rows ≡ Some x → put r x rows ≡ rows
 put_same r x [] h = refl
 put_same r x ((q, y) ∷ rows) h = put_same_by r q y x rows (q == r) refl (put_same r x rows) h
+
+-- no place, no connection
+nowhere_by : {X : Type 0} (r q : ℕ) (y : X) (rows : Rows X) (b : Bool) → (q == r) ≡ b →
+    (length rows ≤ position_or_len (λ row. row.0 == r) rows → value_at r rows ≡ None) →
+    length ((q, y) ∷ rows) ≤ position_or_len (λ row. row.0 == r) ((q, y) ∷ rows) → value_at r ((q, y) ∷ rows) ≡ None
+nowhere_by r q y rows true t more h = let none : suc (length rows) ≤ 0 = rw t at h in absurd (omega arith)
+nowhere_by r q y rows false t more h =
+    let behind : suc (length rows) ≤ 1 + position_or_len (λ row. row.0 == r) rows = rw t at h in
+    rw t (more (omega arith))
+
+nowhere_at : {X : Type 0} (r : ℕ) (rows : Rows X) → length rows ≤ position_or_len (λ row. row.0 == r) rows → value_at r rows ≡ None
+nowhere_at r [] h = refl
+nowhere_at r ((q, y) ∷ rows) h = nowhere_by r q y rows (q == r) refl (nowhere_at r rows) h
+
+pub nowhere : {X : Type 0} (r : ℕ) (rows : Rows X) → place_of r rows ≡ None → value_at r rows ≡ None
+nowhere r rows e = nowhere_at r rows (grind (arith, common_steps))
+
+live_by : (r : ℕ) (rows : Rows Connection) (o : Option ℕ) → place_of r rows ≡ o → is_some o ≡ is_some (value_at r rows)
+live_by r rows None e = sym (ap is_some (nowhere r rows e))
+live_by r rows (Some i) e = sym (ap is_some (placed r rows i (0, asked) e).there)
+
+-- a reference that has a place has a connection
+pub live_is : (r : ℕ) (rows : Rows Connection) → is_some (place_of r rows) ≡ is_some (value_at r rows)
+live_is r rows = live_by r rows (place_of r rows) refl

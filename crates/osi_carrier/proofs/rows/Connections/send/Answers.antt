@@ -1,19 +1,18 @@
 use Rattle.std.proofs.Common.{◌≡◌, ℕ, List, ◌++◌, get_or, Option, Some, Result, Ok, Err, OnOk, refl, ap, sym, arith, subst, ◌∙◌}
 use Rattle.osi_class.specs.declared.either.AnyLink.{AnyLink}
 use Rattle.osi_carrier.specs.declared.rows.Phase.TheVariants.{Asked, Linked, Closing}
-use Rattle.osi_carrier.proofs.Vocabulary.{cow_slice_items, any_standing, Standing, next, with_tsdu, WaitsAlone, connection, IsPumped, pumped, written_by, value_at, stage_of, link_in, Connection, linked, packets, Phase, Open}
+use Rattle.osi_carrier.proofs.Vocabulary.{cow_slice_items, any_standing, Standing, next, with_tsdu, WaitsAlone, connection, IsPumped, pumped, written_by, value_at, peer_in, link_in, Connection, linked, packets, Phase}
 use Rattle.osi_carrier.proofs.Order.{set_kept}
 use Rattle.osi_carrier.proofs.Places.{here_is, put_row}
 use Rattle.osi_carrier.proofs.rows.Connections.send.Goals as goal
 
 -- the phase of an open connection
-linked_phase : (p : Phase) (peer : ℕ) → stage_of (Some (connection p)) ≡ Open peer → ((q : ℕ) (link : AnyLink) → p ≡ Linked q link → ⊥) → ⊥
-linked_phase Asked peer e other = cc
+linked_phase : (p : Phase) (peer : ℕ) → peer_in (Some (connection p)) ≡ Some peer → ((q : ℕ) (link : AnyLink) → p ≡ Linked q link → ⊥) → ⊥
 linked_phase (Linked q link) peer e other = other q link refl
-linked_phase (Closing q) peer e other = cc
+linked_phase phase peer e other = cc
 
-open_row : (peer q : ℕ) (o : Option Connection) (s : Standing) → stage_of o ≡ Open peer → o ≡ Some (linked q s) → (s ≡ link_in o) × (q ≡ peer)
-open_row peer q o s opened at = let named : Open q ≡ Open peer = sym (ap stage_of at) ∙ opened in (sym (ap link_in at), cc)
+open_row : (peer q : ℕ) (o : Option Connection) (s : Standing) → peer_in o ≡ Some peer → o ≡ Some (linked q s) → (s ≡ link_in o) × (q ≡ peer)
+open_row peer q o s opened at = let named : Some q ≡ Some peer = sym (ap peer_in at) ∙ opened in (sym (ap link_in at), cc)
 
 row_linked : (n m q peer : ℕ) (t u : Standing) → n ≡ m → q ≡ peer → t ≡ u → ◌≡◌ {A = ℕ × Connection} (n, linked q t) (m, linked peer u)
 row_linked n m q peer t u a b e = first_of (cc, grind arith)
@@ -27,7 +26,7 @@ unreachable-requires c =
     let row = c.index_mut.result.now in
     let here = c.index_mut.ensures.value ∙ ap (λ l. get_or l c.args.place row) c.self.view_is in
     let at = here_is c.args.reference c.args.self.now c.args.place row c.requires.place here ∙ ap (λ (x : ℕ × Connection). Some x.1) (sym c.link.view_is) in
-    linked_phase c.link.inside.phase c.args.peer (ap stage_of (sym at) ∙ c.requires.open) c.in_default.not-Linked
+    linked_phase c.link.inside.phase c.args.peer (ap peer_in (sym at) ∙ c.requires.open) c.in_default.not-Linked
 
 pub send_parts-requires : goal.send_parts-requires
 send_parts-requires c = ap next (c.send_whole.ensures.none c.if-send_whole.false).0 ∙ subst (λ (p : Phase). IsPumped (connection p)) c.in-Linked.is c.link.invariant

@@ -1,5 +1,5 @@
 use Rattle.std.proofs.Common.{◌≡◌, ◌++◌, Option, OnOk, map, get_or, ap, sym, subst, ◌∙◌}
-use Rattle.osi_carrier.proofs.Vocabulary.{cow_slice_items, one_by_one, written_for, value_at, stage_of, link_in, Connection, linked, packets}
+use Rattle.osi_carrier.proofs.Vocabulary.{cow_slice_items, one_by_one, written_for, value_at, peer_in, link_in, Connection, linked, packets}
 use Rattle.osi_carrier.proofs.Places.{here_is, stepped_rows}
 use Rattle.osi_carrier.proofs.Order.{set_kept}
 use Rattle.osi_carrier.proofs.rows.Connections.send_all.Goals as goal
@@ -8,7 +8,7 @@ pub send_all-requires : goal.send_all-requires
 send_all-requires c =
     let row = c.index_mut.result.now in
     let here = c.index_mut.ensures.value ∙ ap (λ l. get_or l c.args.place row) c.self.view_is in
-    ap stage_of (sym (here_is c.args.reference c.args.self.now c.args.place row c.requires.place here)) ∙ c.requires.open
+    ap peer_in (sym (here_is c.args.reference c.args.self.now c.args.place row c.requires.place here)) ∙ c.requires.open
 
 pub returns-clause-rows : goal.returns-clause-rows
 returns-clause-rows c =

@@ -1,5 +1,5 @@
 use Rattle.std.proofs.Common.{◌≡◌, ◌++◌, true, Option, IfOk, OnOk, OnErr, get_or, ap, sym, subst, ◌∙◌}
-use Rattle.osi_carrier.proofs.Vocabulary.{value, taken, stage_of, link_in, Connection, linked, packets, StepsTo, link_after, link_grows, units_after, value_at}
+use Rattle.osi_carrier.proofs.Vocabulary.{value, taken, peer_in, link_in, Connection, linked, packets, StepsTo, link_after, link_grows, units_after, value_at}
 use Rattle.osi_carrier.proofs.Places.{here_is, stepped_rows}
 use Rattle.osi_carrier.proofs.Order.{set_kept}
 use Rattle.osi_carrier.proofs.rows.Connections.step.Goals as goal
@@ -8,7 +8,7 @@ pub step-requires : goal.step-requires
 step-requires c =
     let row = c.index_mut.result.now in
     let here = c.index_mut.ensures.value ∙ ap (λ l. get_or l c.args.place row) c.self.view_is in
-    ap stage_of (sym (here_is c.args.reference c.args.self.now c.args.place row c.requires.place here)) ∙ c.requires.open
+    ap peer_in (sym (here_is c.args.reference c.args.self.now c.args.place row c.requires.place here)) ∙ c.requires.open
 
 pub returns-clause-step : goal.returns-clause-step
 returns-clause-step c =
