@@ -9,9 +9,6 @@ use Rattle.osi_carrier.proofs.Reading.{packets_leave}
 
 -- ---- an end stays
 
-some_none : {A B : Type 0} (o : Option A) → is_some o ≡ true → o ≡ None → B
-some_none o e h = grind arith
-
 sent_ended : (r : ℕ) (octets : List ℕ) (link : Option (ℕ × Standing)) (s : State) → (sent_on r octets link s).ended ≡ s.ended
 sent_ended r octets link s = grind arith
 
