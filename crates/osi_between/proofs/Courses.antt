@@ -100,9 +100,8 @@ plain_out n (talking p) h = plain_units n p.rightward h.agree.agree.class
 plain_out n (left_here p us reason) h = plain_join n (addressed n p.rightward) (leaving n reason ∷ []) (plain_units n p.rightward h.0.agree.agree.class) ((refl, refl), tt)
 plain_out n (left_there p us reason) h = plain_units n us h.1
 plain_out n (left_both us reason vs other) h = plain_join n (addressed n us) (leaving n reason ∷ []) (plain_units n us h.0) ((refl, refl), tt)
-plain_out n (waiting_here us last) h = tt
 plain_out n (waiting_there us last) h = plain_join n (addressed n us) (farewell n last ∷ []) (plain_units n us h) (plain_farewell n last, tt)
-plain_out n parted h = tt
+plain_out n m h = tt
 
 -- ---- both have had it open
 

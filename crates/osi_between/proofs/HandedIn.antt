@@ -23,11 +23,8 @@ record IsLinked (p : Place) : Type 0 where
   pub is : connection_in p ≡ Some (linked peer link)
 
 linked_in : (p : Place) → progress_of p ≡ in_use → IsLinked p
-linked_in never e = absurd (cc)
-linked_in (was_given None) e = absurd (cc)
-linked_in (was_given (Some asked)) e = absurd (cc)
 linked_in (was_given (Some (linked peer link))) e = record { peer = peer; link = link; is = refl }
-linked_in (was_given (Some (closing peer))) e = absurd (cc)
+linked_in p e = absurd (cc)
 
 linked_is : (o : Option Connection) (peer : ℕ) (link : Standing) (xs ys : List Message) → o ≡ Some (linked peer link) → AreLike o xs ys → xs ≡ ys
 linked_is o peer link xs ys e h = let k : AreLike (Some (linked peer link)) xs ys = subst (λ (c : Option Connection). AreLike c xs ys) e h in k

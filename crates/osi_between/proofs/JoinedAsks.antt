@@ -43,13 +43,9 @@ marked_none q ((r, x) ∷ rows) h = marked_none_by q r x rows (r == q) refl (mar
 -- whether a reference is live behind a unit for it
 abbrev stays_behind : Option (Unit {0}) → Value → Option (Unit {0})
 stays_behind o (request c) = Some tt
-stays_behind o (confirm destination c) = o
 stays_behind o (disconnect destination source reason user) = None
 stays_behind o (disconnected destination source) = None
-stays_behind o (data0 end user) = o
-stays_behind o (data2 destination number end user) = o
-stays_behind o (acknowledge credit destination number) = o
-stays_behind o (error destination cause) = o
+stays_behind o unit = o
 
 abbrev stays_after : Option (Unit {0}) → List Value → Option (Unit {0})
 stays_after o [] = o
@@ -110,13 +106,9 @@ first_is g k n more e = grind arith
 
 one_behind : (g k : ℕ) (refs : List ℕ) (u : Value) (more : List ℕ) → RiseFrom 0 (marked refs) → AreUpTo g (marked refs) → asked_by u ++ more ≡ behind g k → Behind g refs u
 one_behind g k refs (request c) more rise up e = asked_behind g c.source refs (request c) rise up refl refl refl (first_is g k c.source more e) refl
-one_behind g k refs (confirm destination c) more rise up e = same_behind g refs (confirm destination c) rise up refl refl refl
 one_behind g k refs (disconnect destination source reason user) more rise up e = dropped_behind g destination refs (disconnect destination source reason user) rise up refl refl refl refl
 one_behind g k refs (disconnected destination source) more rise up e = dropped_behind g destination refs (disconnected destination source) rise up refl refl refl refl
-one_behind g k refs (data0 end user) more rise up e = same_behind g refs (data0 end user) rise up refl refl refl
-one_behind g k refs (data2 destination number end user) more rise up e = same_behind g refs (data2 destination number end user) rise up refl refl refl
-one_behind g k refs (acknowledge credit destination number) more rise up e = same_behind g refs (acknowledge credit destination number) rise up refl refl refl
-one_behind g k refs (error destination cause) more rise up e = same_behind g refs (error destination cause) rise up refl refl refl
+one_behind g k refs u more rise up e = same_behind g refs u rise up refl refl refl
 
 -- ---- units one after the other
 
@@ -162,10 +154,9 @@ sub_by ys y c m x xs false e rx ry h more =
     omega arith
 
 sub_length : (ys : Rows Connection) (m : ℕ) (xs : Marks) → RiseFrom m xs → RiseFrom m ys → ((q : ℕ) → is_some (value_at q xs) ≡ true → is_some (value_at q ys) ≡ true) → length xs ≤ length ys
-sub_length [] m [] rx ry h = omega arith
 sub_length [] m ((x, tt) ∷ xs) rx ry h = let there = h x (ap is_some (found x x tt xs true (eq-eqb x x refl))) in cc
-sub_length ((y, c) ∷ ys) m [] rx ry h = omega arith
 sub_length ((y, c) ∷ ys) m ((x, tt) ∷ xs) rx ry h = sub_by ys y c m x xs (x == y) refl rx.1 ry.1 h (sub_length ys)
+sub_length ys m xs rx ry h = omega arith
 
 -- ---- a connection that is live behind the units is live at the caller
 
