@@ -141,12 +141,7 @@ pub took : (terms : Terms) (p : Provides terms) (end : Bool) (both : Both) (b : 
     Took terms end packet behind both b
 took terms p end both b packet octets behind a alive is cut =
     let w = way_takes packet octets behind (side end both).held (arriving (not end) both) (units_from (not end) b) (lost_from (not end) b) is cut (comes_to terms end both b a alive) in
-    record {
-      unit = w.unit;
-      is = w.is;
-      acts = ap (after_packet (side end both).state) w.is ∙ packet_reacts (side end both).state w.unit w.sendable;
-      acted = takes terms p end both b w.unit w.left behind a alive w.parts w.way;
-    }
+    search (ap (after_packet (side end both).state) w.is ∙ packet_reacts (side end both).state w.unit w.sendable, takes terms p end both b w.unit w.left behind a alive w.parts w.way)
 
 -- the unit that comes first is taken
 pub took_unit : (terms : Terms) (p : Provides terms) (end : Bool) (both : Both) (b : Between) (u : Value) (rest : List Value) (behind : List ℕ) → AreBetween terms both b → (side end both).state.ended ≡ None →

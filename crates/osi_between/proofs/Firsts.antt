@@ -335,7 +335,7 @@ fact_called terms end q n old new b c put k w closed_off =
 or_none : (s : Bool) → (s || false) ≡ s
 or_none s = grind arith
 
-message_put : (p : Progress) (octets : List ℕ) → behind_put p (message octets) ≡ p
+pub message_put : (p : Progress) (octets : List ℕ) → behind_put p (message octets) ≡ p
 message_put p octets = grind arith
 
 -- an end that lasts, before and then

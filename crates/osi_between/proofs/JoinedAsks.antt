@@ -1,8 +1,9 @@
 -- A caller that may ask for a connection finds a place at the called end: behind the units that are
 -- under way no more connections are live there than at the caller.
 use Rattle.std.proofs.Common.{◌≡◌, ◌≢◌, ℕ, zero, suc, ◌+◌, ◌<◌, ◌≤◌, ◌==◌, Bool, true, false, List, [], ◌∷◌, ◌++◌, length, map, Option, Some, None, refl, sym, ap, subst, ◌∙◌, arith, nat_lt, is_some, if◌then◌else◌}
-use Rattle.osi_between.proofs.Vocabulary.{eq-eqb, eqb-true, ne_eqb, ltb-true, ltb-false, map-append, Value, request, confirm, disconnect, disconnected, data0, data2, acknowledge, error, Local, dropped, references, never, was_given, place_at, RiseFrom, AreUpTo, IsOrderly, Rows, value_at, without, Connection, asked, linked, closing, State, absent, beyond, push_here, without_here, push_other, without_other, push_rise, push_up, without_rise, without_up, reference_of, units_of, asked_by, requests, behind, live_behind, live_after, is_last, Course, unasked, asking, accepting, withdrawing, met, at_end, from_end, AreJoined, talking, left_here, left_there, left_both, waiting_here, waiting_there, parted, addressed, farewell}
+use Rattle.osi_between.proofs.Vocabulary.{eq-eqb, eqb-true, ne_eqb, ltb-true, ltb-false, map-append, Value, request, confirm, disconnect, disconnected, data0, data2, acknowledge, error, Local, dropped, references, never, was_given, place_at, RiseFrom, AreUpTo, IsOrderly, Rows, value_at, without, Connection, asked, linked, closing, State, absent, beyond, push_here, without_here, push_other, without_other, push_rise, push_up, without_rise, without_up, reference_of, units_of, asked_by, requests, behind, live_behind, live_after, is_last, Course, unasked, asking, accepting, withdrawing, met, at_end, from_end, AreJoined, talking, left_here, left_there, left_both, waiting_here, waiting_there, parted, addressed, farewell, found}
 use Rattle.osi_between.proofs.Courses.{given_place, is_given}
+use Rattle.osi_between.proofs.Addressing.{units_of_by}
 
 -- ---- references as a table
 
@@ -11,9 +12,6 @@ Marks = Rows (Unit {0})
 
 abbrev marked : List ℕ → Marks
 marked refs = map (λ r. (r, tt)) refs
-
-found : {X : Type 0} (m q : ℕ) (y : X) (rows : Rows X) (b : Bool) → (q == m) ≡ b → value_at m ((q, y) ∷ rows) ≡ (if b then Some y else value_at m rows)
-found {X} m q y rows b e = ap (λ (c : Bool). if◌then◌else◌ {A = Option X} c (Some y) (value_at m rows)) e
 
 marked_dropped_by : (r q : ℕ) (refs : List ℕ) (b : Bool) → (q == r) ≡ b → marked (dropped r refs) ≡ without r (marked refs) → marked (dropped r (q ∷ refs)) ≡ without r (marked (q ∷ refs))
 marked_dropped_by r q refs b e more = grind arith
@@ -115,9 +113,6 @@ one_behind g k refs u more rise up e = same_behind g refs u rise up refl refl re
 record After (refs : List ℕ) (us : List Value) : Type 0 where
   rise : RiseFrom 0 (marked (live_after refs us))
   each : (q : ℕ) → value_at q (marked (live_after refs us)) ≡ stays_after (value_at q (marked refs)) (units_of q us)
-
-units_of_by : (n : ℕ) (u : Value) (us : List Value) (b : Bool) → (reference_of u == n) ≡ b → units_of n (u ∷ us) ≡ (if b then u ∷ units_of n us else units_of n us)
-units_of_by n u us b e = ap (λ (c : Bool). if◌then◌else◌ {A = List Value} c (u ∷ units_of n us) (units_of n us)) e
 
 each_by : (g : ℕ) (refs : List ℕ) (u : Value) (us : List Value) (q : ℕ) (b : Bool) → (reference_of u == q) ≡ b → Behind g refs u →
     value_at q (marked (live_after (live_behind refs u) us)) ≡ stays_after (value_at q (marked (live_behind refs u))) (units_of q us) →

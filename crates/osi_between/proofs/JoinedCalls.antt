@@ -10,7 +10,7 @@ use Rattle.osi_between.proofs.JoinedSteps.{acts_for}
 
 -- ---- a connection is asked for
 
-not_asked : (n : ℕ) (g : Course) → at_end true n g ≡ never → g ≡ unasked
+pub not_asked : (n : ℕ) (g : Course) → at_end true n g ≡ never → g ≡ unasked
 not_asked n g e = grind arith
 
 pub next_never : (s : State) (n : ℕ) → s.given < n → place_at n s ≡ never

@@ -1,6 +1,6 @@
 -- Two joined carriers stay joined where one of them acts.
 use Rattle.std.proofs.Common.{◌≡◌, ◌≢◌, ℕ, zero, suc, ◌+◌, ◌<◌, ◌≤◌, ◌==◌, Bool, true, false, not, List, [], ◌∷◌, ◌++◌, length, Option, Some, None, refl, sym, ap, subst, ◌∙◌, arith, length-append, nat_lt, if◌then◌else◌}
-use Rattle.osi_between.proofs.Vocabulary.{AllByRecursion, eq-eqb, ne_eqb, ltb-true, ltb-false, append_cancel_left, IsOctets, Value, Connect, request, confirm, IsShortTsdu, Standing, Local, references, sent, closed_with, Place, never, was_given, place_at, RiseFrom, IsOrderly, react, is_of_peer, has_peer, Rows, value_at, Connection, asked, linked, closing, State, absent, beyond, orderly_unit, orderly_sent, orderly_closed, has_room, reference_of, units_of, AreFor, requests, behind, live_after, Course, unasked, asking, accepting, withdrawing, met, answer_of, at_end, from_end, IsAskedBy, Holds, HoldsAt, called_local, asked_in, answers_at, CourseMoves, StandsBetween, HasPlaces, AreJoined, JoinedFrom, Did, Meeting, talking, left_here, left_there, left_both, waiting_here, waiting_there, parted, mirror, here, out, Message, agree, message, bye}
+use Rattle.osi_between.proofs.Vocabulary.{AllByRecursion, eq-eqb, ne_eqb, ltb-true, ltb-false, append_cancel_left, IsOctets, Value, Connect, request, confirm, IsShortTsdu, Standing, Local, references, sent, closed_with, Place, never, was_given, place_at, RiseFrom, IsOrderly, react, is_of_peer, has_peer, Rows, value_at, Connection, asked, linked, closing, State, absent, beyond, orderly_unit, orderly_sent, orderly_closed, has_room, reference_of, units_of, AreFor, requests, behind, live_after, Course, unasked, asking, accepting, withdrawing, met, answer_of, at_end, from_end, IsAskedBy, Holds, HoldsAt, called_local, asked_in, answers_at, CourseMoves, StandsBetween, HasPlaces, AreJoined, JoinedFrom, Did, Meeting, talking, left_here, left_there, left_both, waiting_here, waiting_there, parted, mirror, here, out, Message, agree, message, bye, found}
 use Rattle.osi_between.proofs.Addressing.{first_of_all, requests_join, behind_join, places_join, places_rest, places_for}
 use Rattle.osi_between.proofs.Courses.{given_place, is_given, met_caller, met_called, answers_plain}
 use Rattle.osi_between.proofs.CourseOpening.{accepts_moves, accepted_sends, accepted_closes, confirm_moves, withdrawn_moves}
@@ -157,9 +157,6 @@ caller_takes n s r going coming g u more some j at h e = cc
 -- ---- the called end takes a unit
 
 -- no live connection has this number of the peer
-found : {X : Type 0} (m q : ℕ) (y : X) (rows : Rows X) (b : Bool) → (q == m) ≡ b → value_at m ((q, y) ∷ rows) ≡ (if b then Some y else value_at m rows)
-found {X} m q y rows b e = ap (λ (c : Bool). if◌then◌else◌ {A = Option X} c (Some y) (value_at m rows)) e
-
 no_peer : (n m : ℕ) (rows : Rows Connection) → RiseFrom m rows → ((q : ℕ) (x : Connection) → m < q → value_at q rows ≡ Some x → is_of_peer n x ≡ false) → has_peer n rows ≡ false
 no_peer n m [] rise h = refl
 no_peer n m ((r, x) ∷ rows) rise h =

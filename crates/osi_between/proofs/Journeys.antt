@@ -25,31 +25,19 @@ took_stays terms end each both b packet octets behind alive t = record {
 connect_stays : (terms : Terms) (both : Both) (b : Between) (calling to : Option (List ℕ)) → AreBetween terms both b → May (connects calling to) both → Stays terms (connects calling to) both
 connect_stays terms both b calling to a may =
     let t = all.connects terms (provides terms) both b calling to a may.0 may.1 may.2 may.3 in
-    record {
-      now = t.now;
-      between = t.between;
-      ended = by_end true (λ e. (side e (moved (connects calling to) both)).state.ended ≡ ended_behind terms e (connects calling to) (side e both).state.ended) (t.lasts ∙ sym may.0) refl;
-    }
+    search (by_end true (λ e. (side e (moved (connects calling to) both)).state.ended ≡ ended_behind terms e (connects calling to) (side e both).state.ended) (t.lasts ∙ sym may.0) refl)
 
 send_stays : (terms : Terms) (end : Bool) → Each → (both : Both) (b : Between) (n : ℕ) (tsdu : List ℕ) → AreBetween terms both b → May (hands_in end n tsdu) both → Stays terms (hands_in end n tsdu) both
 send_stays terms true (inl none) both b n tsdu a may = absurd none
 send_stays terms end each both b n tsdu a may =
     let t = sends terms (provides terms) end both b n may.0.peer may.0.link tsdu a may.0.lasts may.0.is may.1 may.2 in
-    record {
-      now = t.now;
-      between = t.between;
-      ended = by_end end (λ e. (side e (moved (hands_in end n tsdu) both)).state.ended ≡ ended_behind terms e (hands_in end n tsdu) (side e both).state.ended) (t.lasts ∙ sym may.0.lasts) refl;
-    }
+    search (by_end end (λ e. (side e (moved (hands_in end n tsdu) both)).state.ended ≡ ended_behind terms e (hands_in end n tsdu) (side e both).state.ended) (t.lasts ∙ sym may.0.lasts) refl)
 
 close_stays : (terms : Terms) (end : Bool) → Each → (both : Both) (b : Between) (n reason : ℕ) → AreBetween terms both b → May (closes end n reason) both → Stays terms (closes end n reason) both
 close_stays terms true (inl none) both b n reason a may = absurd none
 close_stays by_two end each both b n reason a may =
     let t = all.closes end both b n may.0.peer may.0.link reason a may.0.lasts may.0.is may.1 in
-    record {
-      now = t.now;
-      between = t.between;
-      ended = by_end end (λ e. (side e (moved (closes end n reason) both)).state.ended ≡ ended_behind by_two e (closes end n reason) (side e both).state.ended) (t.lasts ∙ sym may.0.lasts) refl;
-    }
+    search (by_end end (λ e. (side e (moved (closes end n reason) both)).state.ended ≡ ended_behind by_two e (closes end n reason) (side e both).state.ended) (t.lasts ∙ sym may.0.lasts) refl)
 close_stays by_zero end each both b n reason a may =
     let is = closes_ends end both b n may.0.peer may.0.link reason a may.0.lasts may.0.is in
     let t = ends_at by_zero end both b Closed a in

@@ -141,22 +141,7 @@ takes_quietly : (n : ℕ) (old new : Meeting) (s t : State) (unit : Value) → C
     back n old ≡ unit ∷ back n new → is_none (here n new) ≡ list_any is_last (unit ∷ []) → Stands new → (c : Carries n old new [] []) →
     Brings true (progress_in (here n old)) (progress_in (here n new)) (here n old) (here n new) (unit ∷ []) c.arrived [] →
     (leaves_use (progress_in (here n old)) (progress_in (here n new)) ≡ false → c.lost ≡ []) → Moves n old s t (unit ∷ []) []
-takes_quietly n old new s t unit changes same goes_out comes goes stands c brings keeps = record {
-  new = new;
-  units = [];
-  events = [];
-  changes = changes;
-  all_for = tt;
-  sendable = tt;
-  there = same;
-  out = goes_out ∙ sym (append-nil (out n old));
-  back = comes;
-  goes = goes;
-  stands = stands;
-  carries = c;
-  brings = brings;
-  keeps = keeps;
-}
+takes_quietly n old new s t unit changes same goes_out comes goes stands c brings keeps = search ([], [], goes_out ∙ sym (append-nil (out n old)))
 
 pub take_here : (n : ℕ) (s : State) (m : Meeting) (unit : Value) (rest : List Value) → 0 < n → n < 65536 → s.ended ≡ None → s.class ≡ Some Two → IsOrderly s →
     value_at n s.live ≡ here n m → Stands m → back n m ≡ unit ∷ rest → Moves n m s (react unit s) (unit ∷ []) (answers_of (here n m) unit)
@@ -265,8 +250,4 @@ close_here n s (left_there p hs other) link reason some few small quiet class or
   brings = brings_shut n p.left reason;
   keeps = λ e. cc;
 }
-close_here n s (left_here p gs other) link reason some few small quiet class orderly at is h = cc
-close_here n s (left_both hs own gs other) link reason some few small quiet class orderly at is h = cc
-close_here n s (waiting_here gs last) link reason some few small quiet class orderly at is h = cc
-close_here n s (waiting_there gs last) link reason some few small quiet class orderly at is h = cc
-close_here n s parted link reason some few small quiet class orderly at is h = cc
+close_here n s m link reason some few small quiet class orderly at is h = cc

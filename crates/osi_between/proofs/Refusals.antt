@@ -3,7 +3,7 @@ use Rattle.std.proofs.Common.{◌≡◌, ℕ, ◌+◌, ◌<◌, ◌==◌, Bool, 
 use Rattle.osi_between.specs.Refusing.{unasked, asking, from_end, Holds}
 use Rattle.osi_between.proofs.Vocabulary.{flat_map, eq-eqb, append-nil, IsOctets, Value, Connect, request, disconnect, IsShortTsdu, Standing, Selection, Class, may_connect, class_error, asks, sent, Place, never, was_given, place_at, connection_in, Happening, proposal, react, in_class, before_class, to_connection, to_asked, answers, denies, has_peer, is_full, Rows, value_at, without, Connection, asked, linked, State, packets, without_other, free_of, react_quiet, has_room, reference_of, units_of, AreFor, answers_in, told_of, IsTsap, BringsTo, under_way_for, Message, ask, deny, message, messages_to, not_yet, awaiting, Refusal, denied, rows_in, denying, AreRefusing, refusing, IsProposed}
 use Rattle.osi_between.proofs.Acting.{JoinedAt, Does}
-use Rattle.osi_between.proofs.Addressing.{units_same}
+use Rattle.osi_between.proofs.Addressing.{units_same, none_left}
 use Rattle.osi_between.proofs.Bringing.{same_like, brings_none}
 use Rattle.osi_between.proofs.CourseOpening.{push_places, react_request}
 use Rattle.osi_between.proofs.Courses.{given_place, none_more}
@@ -31,9 +31,6 @@ under_at n s r p q going us a b c all = grind (arith, units_same)
 
 brings_refused : (n : ℕ) (s t : State) (p q : Place) (us : List Value) (ms put : List Message) → place_at n s ≡ p → place_at n t ≡ q → BringsTo false p q us ms put → BringsTo false (place_at n s) (place_at n t) us ms put
 brings_refused n s t p q us ms put a b h = grind arith
-
-none_left : (coming rest : List Value) (u : Value) → coming ≡ [] → coming ≡ u ∷ rest → ⊥
-none_left coming rest u a b = let no : [] ≡ u ∷ rest = sym a ∙ b in cc
 
 -- ---- the caller asks
 

@@ -14,7 +14,8 @@ use Rattle.osi_between.proofs.Proposals.{source_is}
 use Rattle.osi_between.proofs.Providing.{Provides}
 use Rattle.osi_between.proofs.Sendables.{all_sendable, range_end}
 use Rattle.osi_between.proofs.Turned.{sends_passes}
-use Rattle.osi_between.proofs.Zeros.{one_place, zero_for, under_is, brings_at, asks_zero, request_taken, confirm_taken, put_places, put_one, Talks, Talked, talk_takes, talk_sends}
+use Rattle.osi_between.proofs.Zeros.{one_place, zero_for, under_is, brings_at, asks_zero, request_taken, confirm_taken, put_places, put_one, Talks, Talked, talk_takes, talk_sends, one_of}
+use Rattle.osi_between.proofs.Addressing.{none_left}
 
 -- ---- open links
 
@@ -59,12 +60,6 @@ finish : (end : Bool) (this other : State) (going coming rest : List Value) (u u
     Does by_zero end (reference_of unit) this other (react unit this) going coming rest (unit ∷ []) (answers_in by_zero (place_at (reference_of unit) this) unit)
 finish end this other going coming rest u unit put same ref ans d = grind arith
 
-none_left : (coming rest : List Value) (u : Value) → coming ≡ [] → coming ≡ u ∷ rest → ⊥
-none_left coming rest u a b = let no : [] ≡ u ∷ rest = sym a ∙ b in cc
-
-given_one : (g : Given) → reference_of (unit_of 1 g) ≡ 1
-given_one g = grind arith
-
 given_answer : (link : Standing) (g : Given) → answers_at (was_given (Some (linked 1 link))) (unit_of 1 g) ≡ []
 given_answer link g = grind arith
 
@@ -74,7 +69,7 @@ talking_takes : (end : Bool) (this other : State) (going coming rest : List Valu
 talking_takes end this other going coming rest unit p [] j one there is back a e cut = absurd (none_left coming rest unit (back ∙ ap (addressed 1) e) cut)
 talking_takes end this other going coming rest unit p (g ∷ gs) j one there is back a e cut =
     let head : unit_of 1 g ≡ unit = (let x = sym (back ∙ ap (addressed 1) e) ∙ cut in cc) in
-    finish end this other going coming rest (unit_of 1 g) unit [] head (given_one g) (ap (λ (x : Place). answers_at x (unit_of 1 g)) (one_place this (was_given (Some (linked 1 p.left))) one) ∙ given_answer p.left g)
+    finish end this other going coming rest (unit_of 1 g) unit [] head (one_of g) (ap (λ (x : Place). answers_at x (unit_of 1 g)) (one_place this (was_given (Some (linked 1 p.left))) one) ∙ given_answer p.left g)
     (does_zero end this other (react (unit_of 1 g) this) going coming rest (unit_of 1 g ∷ []) [] p j there back
     (talk_takes this other going coming rest p g gs (talks this other going coming p one there is a) (cut ∙ ap (λ (x : Value). x ∷ rest) (sym head)) e))
 

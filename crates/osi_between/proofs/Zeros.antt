@@ -26,7 +26,7 @@ pub zero_for : (gs : List Given) → AreFor 1 (addressed 1 gs)
 zero_for [] = tt
 zero_for (x ∷ gs) = grind (arith, zero_for gs)
 
-one_of : (g : Given) → reference_of (unit_of 1 g) ≡ 1
+pub one_of : (g : Given) → reference_of (unit_of 1 g) ≡ 1
 one_of g = grind arith
 
 -- what is under way, by places

@@ -6,20 +6,9 @@ use Rattle.osi_class.specs.Limits.{longest_tsdu}
 use Rattle.osi_class.specs.Taking.{TakesUnit}
 use Rattle.osi_class.specs.declared.faults.LinkFault.TheVariants.{WrongForm, OutOfSequence, CreditReduced, TsduTooLong, OutOfMemory}
 use Rattle.osi_class.proofs.Order.{choose_ok}
-use Rattle.osi_carrier.proofs.Vocabulary.{lt-ltb, ltb-true, sum_by-cons, packet_of, Value, Connect, request, confirm, disconnect, disconnected, data0, data2, acknowledge, error, written, Standing, Hands, taken, taken_by, taken_flow, with_joined, needs_memory, part_needs_memory, LinkFault, Class, Zero, Two, drained_leaves, begun_by, kept_in, grows, Happening, tsdu, pumped, written_by, accepts, breaks, denies, handed_out, leaves, opens, taking, to_unknown, Rows, value_at, put, peer_in, link_in, Connection, linked, State, packets, drops, tells, link_grows, units_after, whole_after, link_after}
+pub use Rattle.std.proofs.lemmas.Bool.{or_cases}
+use Rattle.osi_carrier.proofs.Vocabulary.{or_left, or_right, lt-ltb, ltb-true, sum_by-cons, packet_of, Value, Connect, request, confirm, disconnect, disconnected, data0, data2, acknowledge, error, written, Standing, Hands, taken, taken_by, taken_flow, with_joined, needs_memory, part_needs_memory, LinkFault, Class, Zero, Two, drained_leaves, begun_by, kept_in, grows, Happening, tsdu, pumped, written_by, accepts, breaks, denies, handed_out, leaves, opens, taking, to_unknown, Rows, value_at, put, peer_in, link_in, Connection, linked, State, packets, drops, tells, link_grows, units_after, whole_after, link_after}
 use Rattle.osi_carrier.proofs.Opened.{open_is}
-
-or_left : (a b : Bool) → a ≡ true → (a || b) ≡ true
-or_left true b e = refl
-or_left false b e = cc
-
-or_right : (a b : Bool) → b ≡ true → (a || b) ≡ true
-or_right true b e = refl
-or_right false b e = e
-
-pub or_cases : (a b : Bool) → (a || b) ≡ true → (a ≡ true) ⊎ (b ≡ true)
-or_cases true b e = inl refl
-or_cases false b e = inr e
 
 -- ---- at a link
 

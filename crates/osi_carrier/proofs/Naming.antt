@@ -12,7 +12,7 @@ put_named_by : (r q : ℕ) (x y : Connection) (rows : Rows Connection) (b : Bool
     references (put r x ((q, y) ∷ rows)) ≡ references ((q, y) ∷ rows)
 put_named_by r q x y rows b e more = grind arith
 
-put_named : (r : ℕ) (x : Connection) (rows : Rows Connection) → references (put r x rows) ≡ references rows
+pub put_named : (r : ℕ) (x : Connection) (rows : Rows Connection) → references (put r x rows) ≡ references rows
 put_named r x [] = refl
 put_named r x ((q, y) ∷ rows) = put_named_by r q x y rows (q == r) refl (put_named r x rows)
 
@@ -20,7 +20,7 @@ drop_named_by : {X : Type 0} (r q : ℕ) (y : X) (rows : Rows X) (b : Bool) → 
     references (without r ((q, y) ∷ rows)) ≡ dropped r (q ∷ references rows)
 drop_named_by r q y rows b e more = grind arith
 
-drop_named : {X : Type 0} (r : ℕ) (rows : Rows X) → references (without r rows) ≡ dropped r (references rows)
+pub drop_named : {X : Type 0} (r : ℕ) (rows : Rows X) → references (without r rows) ≡ dropped r (references rows)
 drop_named r [] = refl
 drop_named r ((q, y) ∷ rows) = drop_named_by r q y rows (q == r) refl (drop_named r rows)
 

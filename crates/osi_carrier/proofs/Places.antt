@@ -39,20 +39,20 @@ placed r rows i d e =
     let p = position-Some (λ row. row.0 == r) rows i d e in
     placed_at r rows i d p.0 p.1 p.2
 
--- the row at the place of a reference has its value
-pub here_is : {X : Type 0} (r : ℕ) (rows : Rows X) (i : ℕ) (row : ℕ × X) → place_of r rows ≡ Some i → row ≡ get_or rows i row → value_at r rows ≡ Some row.1
-here_is r rows i row e here = (placed r rows i row e).there ∙ ap (λ (x : ℕ × _). Some x.1) (sym here)
+-- the row at the place of a reference has its value, where the rows are held under another name
+pub here_is : {X : Type 0} (r : ℕ) (rows items : Rows X) (i : ℕ) (row : ℕ × X) → place_of r rows ≡ Some i → row ≡ get_or items i row → items ≡ rows → value_at r rows ≡ Some row.1
+here_is r rows items i row e here same = (placed r rows i row e).there ∙ ap (λ (x : ℕ × _). Some x.1) (sym (here ∙ ap (λ l. get_or l i row) same))
 
--- a write at that place, where the rows are held under another name
+-- a write at that place
 pub put_row : {X : Type 0} (r : ℕ) (rows items : Rows X) (i : ℕ) (row new : ℕ × X) (x : X) → place_of r rows ≡ Some i →
-    row ≡ get_or rows i row → items ≡ rows → new ≡ (row.0, x) → set items i new ≡ put r x rows
+    row ≡ get_or items i row → items ≡ rows → new ≡ (row.0, x) → set items i new ≡ put r x rows
 put_row r rows items i row new x e here same h =
     let p = placed r rows i row e in
-    let named = ap (λ (y : ℕ × _). y.0) here ∙ p.named in
+    let named = ap (λ (y : ℕ × _). y.0) (here ∙ ap (λ l. get_or l i row) same) ∙ p.named in
     ap (λ l. set l i new) same ∙ ap (λ y. set rows i y) (h ∙ ap (λ n. (n, x)) named) ∙ sym (p.put_is x)
 
 pub stepped_rows : {X A E : Type 0} (result : Result A E) (r : ℕ) (rows items : Rows X) (i : ℕ) (row new : ℕ × X) (x : X) → place_of r rows ≡ Some i →
-    row ≡ get_or rows i row → items ≡ rows → OnOk result (new ≡ (row.0, x)) → OnOk result (set items i new ≡ put r x rows)
+    row ≡ get_or items i row → items ≡ rows → OnOk result (new ≡ (row.0, x)) → OnOk result (set items i new ≡ put r x rows)
 stepped_rows (Ok a) r rows items i row new x e here same h = put_row r rows items i row new x e here same h
 stepped_rows (Err f) r rows items i row new x e here same h = tt
 

@@ -1,5 +1,5 @@
 -- What the proofs of this crate take from the library, from the crates below and from its own definitions.
-pub use Rattle.std.proofs.lemmas.Bool.{cases_lt, eq-eqb, eqb-false, eqb-true, lt-ltb, ltb-true}
+pub use Rattle.std.proofs.lemmas.Bool.{cases_lt, eq-eqb, eqb-false, eqb-true, lt-ltb, ltb-true, or_left, or_right}
 pub use Rattle.std.proofs.lemmas.Bool.Decides.{nat_tests}
 pub use Rattle.std.proofs.lemmas.Grind.{common_steps}
 pub use Rattle.std.proofs.lemmas.List.{append-nil, append_cancel_left, drop_all, get_or_append_left, length-set, length-take-le, map-append, take-append-drop, take_all, take_at}
