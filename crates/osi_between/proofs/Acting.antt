@@ -1,5 +1,5 @@
 -- Where an end acts, two carriers stand between as they should, whatever has become of them.
-use Rattle.std.proofs.Common.{◌≡◌, ◌≢◌, ℕ, ◌+◌, ◌≤◌, ◌||◌, Bool, true, false, not, List, [], ◌++◌, length, Option, Some, None, is_some, IfSome, if◌then◌else◌, refl, sym, ap, subst, ◌∙◌, append_assoc, arith}
+use Rattle.std.proofs.Common.{◌≡◌, ◌≢◌, ℕ, ◌+◌, ◌≤◌, ◌||◌, Bool, true, false, not, List, [], ◌++◌, length, Option, Some, None, is_some, IfSome, if◌then◌else◌, refl, sym, ap, subst, ◌∙◌, append_assoc, arith, ◌⊎◌, inl, inr}
 use Rattle.osi_between.specs.Between.{under_way}
 use Rattle.osi_between.proofs.Vocabulary.{flat_map, AllByRecursion, append-nil, append_cancel_right, Value, IsSendable, place_at, connection_in, Connection, State, packets, EndReason, units_of, AreFor, Both, side, reach_of, within_reach, arriving, Between, last_of, units_from, lost_from, IsOnTheWay, AreJoinedBy, AreBetween, is_cut, to_come, told_of, put_in, Carries, Acted, becomes, progress_of, BringsTo, under_way_for, ActsFor, Message, messages_to, messages_after, begun_at, AreLike, references_for, class_behind_all, leaves_use, Terms, by_two, accepts_in, class_of}
 use Rattle.osi_between.proofs.Addressing.{units_join, units_same, units_other}
@@ -98,24 +98,15 @@ if_whole (Some r) put = []
 out_part : (end : Bool) (reach : Option (ℕ × ℕ)) (o c d : Option Connection) (n : ℕ) (going lost units : List Value) (stays gone put : List Message) → (reach ≡ None → lost ≡ []) →
     AreLike o (messages_to c (units_of n (going ++ lost)) o) (stays ++ gone) → AreLike o (messages_to d (units_of n ((going ++ lost) ++ units)) o) (stays ++ put) →
     OutPart o (sum_of o n going (is_some reach) c) (sum_of o n (going_then (reach_of end reach) going units) (is_some reach) d) gone (if_whole reach put)
-out_part end None o c d n going lost units stays gone put none before after = grind (arith, append-nil)
-out_part true (Some r) o c d n going lost units stays gone put none before after = record {
+out_part true None o c d n going lost units stays gone put none before after = grind (arith, append-nil)
+out_part end (Some r) o c d n going lost units stays gone put none before after = record {
   stays = sum_of o n going true c;
   gone = [];
   none = λ h. refl;
   before = same_like o (sum_of o n going true c) (sum_of o n going true c ++ []) (sym (append-nil (sum_of o n going true c)));
   after = same_like o (sum_of o n going true d) (sum_of o n going true c ++ []) (sym (append-nil (sum_of o n going true c)));
 }
-out_part false (Some r) o c d n going lost units stays gone put none before after = record {
-  stays = sum_of o n going true c;
-  gone = [];
-  none = λ h. refl;
-  before = same_like o (sum_of o n going true c) (sum_of o n going true c ++ []) (sym (append-nil (sum_of o n going true c)));
-  after = same_like o (sum_of o n going true d) (sum_of o n going true c ++ []) (sym (append-nil (sum_of o n going true c)));
-}
-
-abbrev whole_or : Option (ℕ × ℕ) → List Message → List Message
-whole_or reach put = if is_some reach then [] else put
+out_part end reach o c d n going lost units stays gone put none before after = grind (arith, append-nil)
 
 put_is : (both : Both) (put : List Message) (reach : Option (ℕ × ℕ)) → both.reach ≡ reach → if_whole reach put ≡ put_in both put
 put_is both put reach e = grind arith
@@ -136,153 +127,86 @@ other_in q n coming taken left apart parts all = grind (arith, units_join, units
 same_sum : (o p c d : Option Connection) (q : ℕ) (us vs : List Value) (a b : Bool) → o ≡ p → units_of q us ≡ units_of q vs → a ≡ b → c ≡ d → sum_of o q us a c ≡ sum_of p q vs b d
 same_sum o p c d q us vs a b x y z w = grind arith
 
--- ---- the caller acts
+-- ---- an end acts
 
-abbrev now_caller : Both → Between → State → List Value → List Value → Between
-now_caller both b next units left = record b {
+-- A lemma with one proof for both ends takes this, which is always there: its first clause, which nothing
+-- meets, parts the ends, so that the second is a proof for each.
+abbrev pub Each : Type 0
+Each = ⊥ ⊎ Unit {0}
+
+-- all units from an end, also those that a break took away
+abbrev pub all_from : Bool → Between → List Value
+all_from end b = units_from end b ++ lost_from end b
+
+abbrev now_of : Bool → Both → Between → State → List Value → List Value → Between
+now_of true both b next units left = record b {
   caller = next;
   going = going_then (reach_of true both.reach) b.going units;
   going_lost = lost_then (reach_of true both.reach) b.going_lost units;
   coming = left;
 }
-
-stands_caller : (terms : Terms) (n : ℕ) (both : Both) (b : Between) (next : State) (behind : List ℕ) (left taken : List Value) (put : List Message) → AreBetween terms both b → both.caller.state.ended ≡ None →
-    IsOnTheWay behind (arriving false both) left b.coming_lost →
-    (d : Does terms true n b.caller b.called next (b.going ++ b.going_lost) (b.coming ++ b.coming_lost) (left ++ b.coming_lost) taken put) →
-    AreBetween terms (becomes true next behind both) (now_caller both b next d.steps.units left)
-stands_caller terms n both b next behind left taken put a alive way d =
-    let units = d.steps.units in
-    let reach = reach_of true both.reach in
-    let none : reach ≡ None → b.going_lost ≡ [] = λ e. a.unbroken (unreached true both.reach e) true in
-    let new = becomes true next behind both in
-    let now = now_caller both b next units left in
-    let same = a.lives true alive in
-    let out : next.outgoing ≡ both.caller.state.outgoing ++ packets units = d.steps.outgoing ∙ ap (λ (s : State). s.outgoing ++ packets units) (sym same) in
-    record {
-      lives = by_end true (λ e. (side e new).state.ended ≡ None → (side e new).state ≡ last_of e now) (λ _. refl) (λ h. a.lives false h);
-      joined = subst (λ (l : List Value). JoinedAt true terms next b.called l (left ++ b.coming_lost)) (all_then reach b.going b.going_lost units none) d.joined;
-      comes = by_end true (λ e. (side (not e) new).state.ended ≡ None → IsOnTheWay (side (not e) new).held (arriving e new) (units_from e now) (lost_from e now))
-          (λ h. subst (λ (l : List ℕ). IsOnTheWay both.called.held (within_reach reach l) now.going now.going_lost) (sym out)
-          (way_out reach both.called.held both.caller.state.outgoing b.going b.going_lost units none (a.bound true) (a.comes true h) d.steps.sendable))
-          (λ h. way);
-      unbroken = λ e. by_end true (λ x. lost_from x now ≡ []) (ap (λ (r : Option (ℕ × ℕ)). lost_then (reach_of true r) b.going_lost units) e ∙ a.unbroken e true) (a.unbroken e false);
-      bound = by_end true (λ e. IfSome (reach_of e both.reach) (λ k. k ≤ length (side e new).state.outgoing))
-          (subst (λ (l : List ℕ). IfSome reach (λ k. k ≤ length l)) (sym out) (bound_out reach both.caller.state.outgoing (packets units) (a.bound true)))
-          (a.bound false);
-    }
-
-carries_caller : (terms : Terms) (n : ℕ) (both : Both) (b : Between) (next : State) (behind : List ℕ) (left taken : List Value) (put : List Message) → AreBetween terms both b → both.caller.state.ended ≡ None →
-    b.coming ≡ taken ++ left →
-    (d : Does terms true n b.caller b.called next (b.going ++ b.going_lost) (b.coming ++ b.coming_lost) (left ++ b.coming_lost) taken put) →
-    Carries terms true n both (becomes true next behind both) b (now_caller both b next d.steps.units left) taken put
-carries_caller terms n both b next behind left taken put a alive cut d =
-    let st = d.steps in
-    let c = connection_in (place_at n b.caller) in
-    let e = connection_in (place_at n next) in
-    let o = connection_in (place_at n b.called) in
-    let going = going_then (reach_of true both.reach) b.going st.units in
-    let was = cut_alive (is_some both.reach) both.caller.state.ended alive in
-    let is = cut_alive (is_some both.reach) next.ended st.lasts in
-    let p = out_part true both.reach o c e n b.going b.going_lost st.units st.stays st.lost put (λ none. a.unbroken none true) st.before st.after in
-    record {
-      arrived = st.arrived;
-      stays = p.stays;
-      gone = p.gone;
-      told = st.told;
-      came = came_part n c e o (is_cut false both) b.coming taken left st.arrived cut st.all_for st.brings.more;
-      before = subst (λ (t : Bool). AreLike o (sum_of o n b.going t c) (p.stays ++ p.gone)) (sym was) p.before;
-      after = subst (λ (t : Bool). AreLike o (sum_of o n going t e) (p.stays ++ put_in both put)) (sym is)
-          (subst (λ (l : List Message). AreLike o (sum_of o n going (is_some both.reach) e) (p.stays ++ l)) (put_is both put both.reach refl) p.after);
-      brings = st.brings;
-      others = λ q apart. by_end true (λ x. under_way x q both b ≡ under_way x q (becomes true next behind both) (now_caller both b next st.units left))
-          (same_sum (connection_in (place_at q b.called)) (connection_in (place_at q b.called)) (connection_in (place_at q b.caller)) (connection_in (place_at q next)) q b.going going
-          (is_cut true both) (is_some both.reach || is_some next.ended) refl (other_out true both.reach q n b.going st.units apart st.written_for) (was ∙ sym is) (ap connection_in (sym (st.others_stay q apart))))
-          (same_sum (connection_in (place_at q b.caller)) (connection_in (place_at q next)) (connection_in (place_at q b.called)) (connection_in (place_at q b.called)) q b.coming left
-          (is_cut false both) (is_cut false both) (ap connection_in (sym (st.others_stay q apart))) (other_in q n b.coming taken left apart cut st.all_for) refl refl);
-      other_places = st.others_stay;
-      given = st.given;
-      class = st.class;
-      local = st.local;
-      keeps = λ e. p.none (st.keeps e);
-      there = refl;
-      cut = cut;
-      lost_still = refl;
-    }
-
-acted_caller : (terms : Terms) (n : ℕ) (both : Both) (b : Between) (next : State) (behind : List ℕ) (left taken : List Value) (put : List Message) → AreBetween terms both b → both.caller.state.ended ≡ None →
-    IsOnTheWay behind (arriving false both) left b.coming_lost → b.coming ≡ taken ++ left →
-    Does terms true n b.caller b.called next (b.going ++ b.going_lost) (b.coming ++ b.coming_lost) (left ++ b.coming_lost) taken put →
-    Acted terms true n both (becomes true next behind both) b taken put
-acted_caller terms n both b next behind left taken put a alive way cut d = record {
-  now = now_caller both b next d.steps.units left;
-  between = stands_caller terms n both b next behind left taken put a alive way d;
-  carries = carries_caller terms n both b next behind left taken put a alive cut d;
-  lasts = d.steps.lasts;
-}
-
--- ---- the called acts
-
-abbrev now_called : Both → Between → State → List Value → List Value → Between
-now_called both b next units left = record b {
+now_of false both b next units left = record b {
   called = next;
   coming = going_then (reach_of false both.reach) b.coming units;
   coming_lost = lost_then (reach_of false both.reach) b.coming_lost units;
   going = left;
 }
 
-stands_called : (terms : Terms) (n : ℕ) (both : Both) (b : Between) (next : State) (behind : List ℕ) (left taken : List Value) (put : List Message) → AreBetween terms both b → both.called.state.ended ≡ None →
-    IsOnTheWay behind (arriving true both) left b.going_lost →
-    (d : Does terms false n b.called b.caller next (b.coming ++ b.coming_lost) (b.going ++ b.going_lost) (left ++ b.going_lost) taken put) →
-    AreBetween terms (becomes false next behind both) (now_called both b next d.steps.units left)
-stands_called terms n both b next behind left taken put a alive way d =
+stands_at : (terms : Terms) (end : Bool) → Each → (n : ℕ) (both : Both) (b : Between) (next : State) (behind : List ℕ) (left taken : List Value) (put : List Message) → AreBetween terms both b → (side end both).state.ended ≡ None →
+    IsOnTheWay behind (arriving (not end) both) left (lost_from (not end) b) →
+    (d : Does terms end n (last_of end b) (last_of (not end) b) next (all_from end b) (all_from (not end) b) (left ++ lost_from (not end) b) taken put) →
+    AreBetween terms (becomes end next behind both) (now_of end both b next d.steps.units left)
+stands_at terms true (inl none) n both b next behind left taken put a alive way d = absurd none
+stands_at terms end each n both b next behind left taken put a alive way d =
     let units = d.steps.units in
-    let reach = reach_of false both.reach in
-    let none : reach ≡ None → b.coming_lost ≡ [] = λ e. a.unbroken (unreached false both.reach e) false in
-    let new = becomes false next behind both in
-    let now = now_called both b next units left in
-    let same = a.lives false alive in
-    let out : next.outgoing ≡ both.called.state.outgoing ++ packets units = d.steps.outgoing ∙ ap (λ (s : State). s.outgoing ++ packets units) (sym same) in
+    let reach = reach_of end both.reach in
+    let none : reach ≡ None → lost_from end b ≡ [] = λ e. a.unbroken (unreached end both.reach e) end in
+    let new = becomes end next behind both in
+    let now = now_of end both b next units left in
+    let same = a.lives end alive in
+    let out : next.outgoing ≡ (side end both).state.outgoing ++ packets units = d.steps.outgoing ∙ ap (λ (s : State). s.outgoing ++ packets units) (sym same) in
     record {
-      lives = by_end false (λ e. (side e new).state.ended ≡ None → (side e new).state ≡ last_of e now) (λ _. refl) (λ h. a.lives true h);
-      joined = subst (λ (l : List Value). JoinedAt false terms next b.caller l (left ++ b.going_lost)) (all_then reach b.coming b.coming_lost units none) d.joined;
-      comes = by_end false (λ e. (side (not e) new).state.ended ≡ None → IsOnTheWay (side (not e) new).held (arriving e new) (units_from e now) (lost_from e now))
-          (λ h. subst (λ (l : List ℕ). IsOnTheWay both.caller.held (within_reach reach l) now.coming now.coming_lost) (sym out)
-          (way_out reach both.caller.held both.called.state.outgoing b.coming b.coming_lost units none (a.bound false) (a.comes false h) d.steps.sendable))
+      lives = by_end end (λ e. (side e new).state.ended ≡ None → (side e new).state ≡ last_of e now) (λ _. refl) (λ h. a.lives (not end) h);
+      joined = subst (λ (l : List Value). JoinedAt end terms next (last_of (not end) b) l (left ++ lost_from (not end) b)) (all_then reach (units_from end b) (lost_from end b) units none) d.joined;
+      comes = by_end end (λ e. (side (not e) new).state.ended ≡ None → IsOnTheWay (side (not e) new).held (arriving e new) (units_from e now) (lost_from e now))
+          (λ h. subst (λ (l : List ℕ). IsOnTheWay (side (not end) both).held (within_reach reach l) (units_from end now) (lost_from end now)) (sym out)
+          (way_out reach (side (not end) both).held (side end both).state.outgoing (units_from end b) (lost_from end b) units none (a.bound end) (a.comes end h) d.steps.sendable))
           (λ h. way);
-      unbroken = λ e. by_end false (λ x. lost_from x now ≡ []) (ap (λ (r : Option (ℕ × ℕ)). lost_then (reach_of false r) b.coming_lost units) e ∙ a.unbroken e false) (a.unbroken e true);
-      bound = by_end false (λ e. IfSome (reach_of e both.reach) (λ k. k ≤ length (side e new).state.outgoing))
-          (subst (λ (l : List ℕ). IfSome reach (λ k. k ≤ length l)) (sym out) (bound_out reach both.called.state.outgoing (packets units) (a.bound false)))
-          (a.bound true);
+      unbroken = λ e. by_end end (λ x. lost_from x now ≡ []) (ap (λ (r : Option (ℕ × ℕ)). lost_then (reach_of end r) (lost_from end b) units) e ∙ a.unbroken e end) (a.unbroken e (not end));
+      bound = by_end end (λ e. IfSome (reach_of e both.reach) (λ k. k ≤ length (side e new).state.outgoing))
+          (subst (λ (l : List ℕ). IfSome reach (λ k. k ≤ length l)) (sym out) (bound_out reach (side end both).state.outgoing (packets units) (a.bound end)))
+          (a.bound (not end));
     }
 
-carries_called : (terms : Terms) (n : ℕ) (both : Both) (b : Between) (next : State) (behind : List ℕ) (left taken : List Value) (put : List Message) → AreBetween terms both b → both.called.state.ended ≡ None →
-    b.going ≡ taken ++ left →
-    (d : Does terms false n b.called b.caller next (b.coming ++ b.coming_lost) (b.going ++ b.going_lost) (left ++ b.going_lost) taken put) →
-    Carries terms false n both (becomes false next behind both) b (now_called both b next d.steps.units left) taken put
-carries_called terms n both b next behind left taken put a alive cut d =
+carries_at : (terms : Terms) (end : Bool) → Each → (n : ℕ) (both : Both) (b : Between) (next : State) (behind : List ℕ) (left taken : List Value) (put : List Message) → AreBetween terms both b → (side end both).state.ended ≡ None →
+    units_from (not end) b ≡ taken ++ left →
+    (d : Does terms end n (last_of end b) (last_of (not end) b) next (all_from end b) (all_from (not end) b) (left ++ lost_from (not end) b) taken put) →
+    Carries terms end n both (becomes end next behind both) b (now_of end both b next d.steps.units left) taken put
+carries_at terms true (inl none) n both b next behind left taken put a alive cut d = absurd none
+carries_at terms end each n both b next behind left taken put a alive cut d =
     let st = d.steps in
-    let c = connection_in (place_at n b.called) in
+    let c = connection_in (place_at n (last_of end b)) in
     let e = connection_in (place_at n next) in
-    let o = connection_in (place_at n b.caller) in
-    let coming = going_then (reach_of false both.reach) b.coming st.units in
-    let was = cut_alive (is_some both.reach) both.called.state.ended alive in
+    let o = connection_in (place_at n (last_of (not end) b)) in
+    let going = going_then (reach_of end both.reach) (units_from end b) st.units in
+    let was = cut_alive (is_some both.reach) (side end both).state.ended alive in
     let is = cut_alive (is_some both.reach) next.ended st.lasts in
-    let p = out_part false both.reach o c e n b.coming b.coming_lost st.units st.stays st.lost put (λ none. a.unbroken none false) st.before st.after in
+    let p = out_part end both.reach o c e n (units_from end b) (lost_from end b) st.units st.stays st.lost put (λ none. a.unbroken none end) st.before st.after in
     record {
       arrived = st.arrived;
       stays = p.stays;
       gone = p.gone;
       told = st.told;
-      came = came_part n c e o (is_cut true both) b.going taken left st.arrived cut st.all_for st.brings.more;
-      before = subst (λ (t : Bool). AreLike o (sum_of o n b.coming t c) (p.stays ++ p.gone)) (sym was) p.before;
-      after = subst (λ (t : Bool). AreLike o (sum_of o n coming t e) (p.stays ++ put_in both put)) (sym is)
-          (subst (λ (l : List Message). AreLike o (sum_of o n coming (is_some both.reach) e) (p.stays ++ l)) (put_is both put both.reach refl) p.after);
+      came = came_part n c e o (is_cut (not end) both) (units_from (not end) b) taken left st.arrived cut st.all_for st.brings.more;
+      before = subst (λ (t : Bool). AreLike o (sum_of o n (units_from end b) t c) (p.stays ++ p.gone)) (sym was) p.before;
+      after = subst (λ (t : Bool). AreLike o (sum_of o n going t e) (p.stays ++ put_in both put)) (sym is)
+          (subst (λ (l : List Message). AreLike o (sum_of o n going (is_some both.reach) e) (p.stays ++ l)) (put_is both put both.reach refl) p.after);
       brings = st.brings;
-      others = λ q apart. by_end false (λ x. under_way x q both b ≡ under_way x q (becomes false next behind both) (now_called both b next st.units left))
-          (same_sum (connection_in (place_at q b.caller)) (connection_in (place_at q b.caller)) (connection_in (place_at q b.called)) (connection_in (place_at q next)) q b.coming coming
-          (is_cut false both) (is_some both.reach || is_some next.ended) refl (other_out false both.reach q n b.coming st.units apart st.written_for) (was ∙ sym is) (ap connection_in (sym (st.others_stay q apart))))
-          (same_sum (connection_in (place_at q b.called)) (connection_in (place_at q next)) (connection_in (place_at q b.caller)) (connection_in (place_at q b.caller)) q b.going left
-          (is_cut true both) (is_cut true both) (ap connection_in (sym (st.others_stay q apart))) (other_in q n b.going taken left apart cut st.all_for) refl refl);
+      others = λ q apart. by_end end (λ x. under_way x q both b ≡ under_way x q (becomes end next behind both) (now_of end both b next st.units left))
+          (same_sum (connection_in (place_at q (last_of (not end) b))) (connection_in (place_at q (last_of (not end) b))) (connection_in (place_at q (last_of end b))) (connection_in (place_at q next)) q (units_from end b) going
+          (is_cut end both) (is_some both.reach || is_some next.ended) refl (other_out end both.reach q n (units_from end b) st.units apart st.written_for) (was ∙ sym is) (ap connection_in (sym (st.others_stay q apart))))
+          (same_sum (connection_in (place_at q (last_of end b))) (connection_in (place_at q next)) (connection_in (place_at q (last_of (not end) b))) (connection_in (place_at q (last_of (not end) b))) q (units_from (not end) b) left
+          (is_cut (not end) both) (is_cut (not end) both) (ap connection_in (sym (st.others_stay q apart))) (other_in q n (units_from (not end) b) taken left apart cut st.all_for) refl refl);
       other_places = st.others_stay;
       given = st.given;
       class = st.class;
@@ -293,26 +217,13 @@ carries_called terms n both b next behind left taken put a alive cut d =
       lost_still = refl;
     }
 
-acted_called : (terms : Terms) (n : ℕ) (both : Both) (b : Between) (next : State) (behind : List ℕ) (left taken : List Value) (put : List Message) → AreBetween terms both b → both.called.state.ended ≡ None →
-    IsOnTheWay behind (arriving true both) left b.going_lost → b.going ≡ taken ++ left →
-    Does terms false n b.called b.caller next (b.coming ++ b.coming_lost) (b.going ++ b.going_lost) (left ++ b.going_lost) taken put →
-    Acted terms false n both (becomes false next behind both) b taken put
-acted_called terms n both b next behind left taken put a alive way cut d = record {
-  now = now_called both b next d.steps.units left;
-  between = stands_called terms n both b next behind left taken put a alive way d;
-  carries = carries_called terms n both b next behind left taken put a alive cut d;
-  lasts = d.steps.lasts;
-}
-
--- ---- either end acts
-
--- all units from an end, also those that a break took away
-abbrev pub all_from : Bool → Between → List Value
-all_from end b = units_from end b ++ lost_from end b
-
 pub acted : (terms : Terms) (end : Bool) (n : ℕ) (both : Both) (b : Between) (next : State) (behind : List ℕ) (left taken : List Value) (put : List Message) → AreBetween terms both b → (side end both).state.ended ≡ None →
     IsOnTheWay behind (arriving (not end) both) left (lost_from (not end) b) → units_from (not end) b ≡ taken ++ left →
     Does terms end n (last_of end b) (last_of (not end) b) next (all_from end b) (all_from (not end) b) (left ++ lost_from (not end) b) taken put →
     Acted terms end n both (becomes end next behind both) b taken put
-acted terms true n both b next behind left taken put a alive way cut d = acted_caller terms n both b next behind left taken put a alive way cut d
-acted terms false n both b next behind left taken put a alive way cut d = acted_called terms n both b next behind left taken put a alive way cut d
+acted terms end n both b next behind left taken put a alive way cut d = record {
+  now = now_of end both b next d.steps.units left;
+  between = stands_at terms end (inr tt) n both b next behind left taken put a alive way d;
+  carries = carries_at terms end (inr tt) n both b next behind left taken put a alive cut d;
+  lasts = elim end as (λ e. (side e (becomes e next behind both)).state.ended ≡ None) [ true ↦ d.steps.lasts | false ↦ d.steps.lasts ];
+}

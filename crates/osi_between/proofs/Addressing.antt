@@ -2,7 +2,7 @@
 use Rattle.std.proofs.Common.{◌≡◌, ◌≢◌, ℕ, zero, suc, ◌+◌, ◌==◌, Bool, true, false, List, [], ◌∷◌, ◌++◌, refl, sym, ap, ◌∙◌, arith, if◌then◌else◌}
 use Rattle.osi_between.proofs.Vocabulary.{eq-eqb, ne_eqb, flat_map-append, Value, request, confirm, disconnect, disconnected, data0, data2, acknowledge, error, reference_of, units_of, AreFor, asked_by, requests, behind, live_behind, live_after, HasPlace, HasPlaces}
 
-units_of_by : (n : ℕ) (u : Value) (us : List Value) (b : Bool) → (reference_of u == n) ≡ b → units_of n (u ∷ us) ≡ (if b then u ∷ units_of n us else units_of n us)
+pub units_of_by : (n : ℕ) (u : Value) (us : List Value) (b : Bool) → (reference_of u == n) ≡ b → units_of n (u ∷ us) ≡ (if b then u ∷ units_of n us else units_of n us)
 units_of_by n u us b e = ap (λ (c : Bool). if◌then◌else◌ {A = List Value} c (u ∷ units_of n us) (units_of n us)) e
 
 units_join_by : (n : ℕ) (u : Value) (us vs : List Value) (b : Bool) → (reference_of u == n) ≡ b → units_of n (us ++ vs) ≡ units_of n us ++ units_of n vs →
@@ -53,6 +53,9 @@ pub places_join : (refs : List ℕ) (us vs : List Value) → HasPlaces refs us �
 places_join refs [] vs h more = more
 places_join refs (u ∷ us) vs h more = (h.0, places_join (live_behind refs u) us vs h.1 more)
 
+pub none_left : (coming rest : List Value) (u : Value) → coming ≡ [] → coming ≡ u ∷ rest → ⊥
+none_left coming rest u a b = let no : [] ≡ u ∷ rest = sym a ∙ b in cc
+
 pub places_rest : (refs : List ℕ) (us vs : List Value) → HasPlaces refs (us ++ vs) → HasPlaces (live_after refs us) vs
 places_rest refs [] vs h = h
 places_rest refs (u ∷ us) vs h = places_rest (live_behind refs u) us vs h.1
@@ -61,11 +64,11 @@ places_rest refs (u ∷ us) vs h = places_rest (live_behind refs u) us vs h.1
 place_for : (refs : List ℕ) (u : Value) → asked_by u ≡ [] → HasPlace refs u
 place_for refs u e = grind arith
 
-front_none : (xs ys : List ℕ) → xs ++ ys ≡ [] → xs ≡ []
+pub front_none : {X : Type 0} (xs ys : List X) → xs ++ ys ≡ [] → xs ≡ []
 front_none [] ys e = refl
 front_none (x ∷ xs) ys e = cc
 
-rest_none : (xs ys : List ℕ) → xs ++ ys ≡ [] → ys ≡ []
+pub rest_none : {X : Type 0} (xs ys : List X) → xs ++ ys ≡ [] → ys ≡ []
 rest_none [] ys e = e
 rest_none (x ∷ xs) ys e = cc
 

@@ -1,9 +1,9 @@
 -- What becomes of two carriers: packets are taken, octets handed over, an end comes, and the byte
 -- connection breaks.
-use Rattle.std.proofs.Common.{◌≡◌, ℕ, ◌+◌, ◌<◌, ◌≤◌, ◌||◌, Bool, true, false, not, List, [], ◌∷◌, ◌++◌, length, take, drop, Option, Some, None, is_some, IfSome, refl, sym, ap, subst, ◌∙◌, append_assoc, arith}
+use Rattle.std.proofs.Common.{◌≡◌, ℕ, ◌+◌, ◌<◌, ◌≤◌, ◌||◌, Bool, true, false, not, List, [], ◌∷◌, ◌++◌, length, take, drop, Option, Some, None, is_some, IfSome, refl, sym, ap, subst, ◌∙◌, append_assoc, arith, inl, inr}
 use Rattle.osi_between.specs.Between.{under_way}
 use Rattle.osi_between.proofs.Vocabulary.{append-nil, IsOctets, IsPacket, packet_of, Value, written, IsShortTsdu, Standing, may_connect, asks, sent, closed_with, place_at, connection_in, Happening, after_packet, react, value_at, Connection, linked, State, ends, EndReason, Closed, packet_reacts, reference_of, units_of, Both, side, reach_of, within_reach, arriving, Between, last_of, units_from, lost_from, IsOnTheWay, AreJoinedBy, AreBetween, is_cut, to_come, answers_in, Acted, becomes, Took, Same, reach_less, handed_over, still_to_tell, ended_at, broken_at, Loses, Lost, IsTsap, Message, ask, message, bye, messages_after, begun_at, Terms, by_two, by_zero, refusing}
-use Rattle.osi_between.proofs.Acting.{JoinedAt, Does, by_end, all_from, acted}
+use Rattle.osi_between.proofs.Acting.{JoinedAt, Does, by_end, Each, all_from, acted}
 use Rattle.osi_between.proofs.Addressing.{units_join}
 use Rattle.osi_between.proofs.Linked.{with_queues}
 use Rattle.osi_between.proofs.MessageLaws.{messages_front}
@@ -141,12 +141,7 @@ pub took : (terms : Terms) (p : Provides terms) (end : Bool) (both : Both) (b : 
     Took terms end packet behind both b
 took terms p end both b packet octets behind a alive is cut =
     let w = way_takes packet octets behind (side end both).held (arriving (not end) both) (units_from (not end) b) (lost_from (not end) b) is cut (comes_to terms end both b a alive) in
-    record {
-      unit = w.unit;
-      is = w.is;
-      acts = ap (after_packet (side end both).state) w.is ∙ packet_reacts (side end both).state w.unit w.sendable;
-      acted = takes terms p end both b w.unit w.left behind a alive w.parts w.way;
-    }
+    search (ap (after_packet (side end both).state) w.is ∙ packet_reacts (side end both).state w.unit w.sendable, takes terms p end both b w.unit w.left behind a alive w.parts w.way)
 
 -- the unit that comes first is taken
 pub took_unit : (terms : Terms) (p : Provides terms) (end : Bool) (both : Both) (b : Between) (u : Value) (rest : List Value) (behind : List ℕ) → AreBetween terms both b → (side end both).state.ended ≡ None →
@@ -199,159 +194,92 @@ connects terms p both b calling to a alive may fits fits_called =
 
 -- ---- octets, events and ends
 
+abbrev with_last : Bool → State → Between → Between
+with_last true s b = record b { caller = s }
+with_last false s b = record b { called = s }
+
 -- octets are handed over
-over_caller : (terms : Terms) (p : Provides terms) (both : Both) (b : Between) (k : ℕ) → AreBetween terms both b → k ≤ length (arriving true both) → Same terms both (handed_over true k both) b
-over_caller terms p both b k a less =
-    let new = handed_over true k both in
-    let rest = drop k both.caller.state.outgoing in
-    let now : Between = record b { caller = with_queues rest b.caller.events b.caller } in
-    let some = less_some true k both.reach in
+over_at : (terms : Terms) (end : Bool) → Each → (p : Provides terms) (both : Both) (b : Between) (k : ℕ) → AreBetween terms both b → k ≤ length (arriving end both) → Same terms both (handed_over end k both) b
+over_at terms true (inl none) p both b k a less = absurd none
+over_at terms end each p both b k a less =
+    let new = handed_over end k both in
+    let rest = drop k (side end both).state.outgoing in
+    let now : Between = with_last end (with_queues rest (last_of end b).events (last_of end b)) b in
+    let some = less_some end k both.reach in
     record {
       now = now;
       between = record {
-        lives = by_end true (λ e. (side e new).state.ended ≡ None → (side e new).state ≡ last_of e now) (λ h. ap (λ (s : State). record s { outgoing = rest }) (a.lives true h)) (λ h. a.lives false h);
-        joined = p.queued true b.caller b.called rest b.caller.events (b.going ++ b.going_lost) (b.coming ++ b.coming_lost) a.joined;
-        comes = by_end true (λ e. (side (not e) new).state.ended ≡ None → IsOnTheWay (side (not e) new).held (arriving e new) (units_from e now) (lost_from e now))
-            (λ h. subst (λ (r : Option ℕ). IsOnTheWay (both.called.held ++ take k both.caller.state.outgoing) (within_reach r rest) b.going b.going_lost) (less_own true k both.reach)
-            (way_over (reach_of true both.reach) k both.called.held both.caller.state.outgoing b.going b.going_lost less (a.bound true) (a.comes true h)))
-            (λ h. subst (λ (r : Option ℕ). IsOnTheWay both.caller.held (within_reach r both.called.state.outgoing) b.coming b.coming_lost) (less_other true k both.reach) (a.comes false h));
-        unbroken = λ e x. by_end true (λ y. lost_from y now ≡ []) (a.unbroken (less_none true k both.reach e) true) (a.unbroken (less_none true k both.reach e) false) x;
-        bound = by_end true (λ e. IfSome (reach_of e new.reach) (λ m. m ≤ length (side e new).state.outgoing))
-            (subst (λ (r : Option ℕ). IfSome r (λ m. m ≤ length rest)) (less_own true k both.reach) (bound_over (reach_of true both.reach) k both.caller.state.outgoing (a.bound true)))
-            (subst (λ (r : Option ℕ). IfSome r (λ m. m ≤ length both.called.state.outgoing)) (less_other true k both.reach) (a.bound false));
+        lives = by_end end (λ e. (side e new).state.ended ≡ None → (side e new).state ≡ last_of e now) (λ h. ap (λ (s : State). record s { outgoing = rest }) (a.lives end h)) (λ h. a.lives (not end) h);
+        joined = p.queued end (last_of end b) (last_of (not end) b) rest (last_of end b).events (all_from end b) (all_from (not end) b) a.joined;
+        comes = by_end end (λ e. (side (not e) new).state.ended ≡ None → IsOnTheWay (side (not e) new).held (arriving e new) (units_from e now) (lost_from e now))
+            (λ h. subst (λ (r : Option ℕ). IsOnTheWay ((side (not end) both).held ++ take k (side end both).state.outgoing) (within_reach r rest) (units_from end b) (lost_from end b)) (less_own end k both.reach)
+            (way_over (reach_of end both.reach) k (side (not end) both).held (side end both).state.outgoing (units_from end b) (lost_from end b) less (a.bound end) (a.comes end h)))
+            (λ h. subst (λ (r : Option ℕ). IsOnTheWay (side end both).held (within_reach r (side (not end) both).state.outgoing) (units_from (not end) b) (lost_from (not end) b)) (less_other end k both.reach) (a.comes (not end) h));
+        unbroken = λ e x. by_end end (λ y. lost_from y now ≡ []) (a.unbroken (less_none end k both.reach e) end) (a.unbroken (less_none end k both.reach e) (not end)) x;
+        bound = by_end end (λ e. IfSome (reach_of e new.reach) (λ m. m ≤ length (side e new).state.outgoing))
+            (subst (λ (r : Option ℕ). IfSome r (λ m. m ≤ length rest)) (less_own end k both.reach) (bound_over (reach_of end both.reach) k (side end both).state.outgoing (a.bound end)))
+            (subst (λ (r : Option ℕ). IfSome r (λ m. m ≤ length (side (not end) both).state.outgoing)) (less_other end k both.reach) (a.bound (not end)));
       };
-      units = λ e. by_end true (λ x. units_from x now ≡ units_from x b) refl refl e;
-      lost = λ e. by_end true (λ x. lost_from x now ≡ lost_from x b) refl refl e;
-      under = λ e n. by_end true (λ x. under_way x n both b ≡ under_way x n new now)
-          (ap (λ (t : Bool). sum_of (connection_in (place_at n b.called)) n b.going (t || is_some both.caller.state.ended) (connection_in (place_at n b.caller))) some)
-          (ap (λ (t : Bool). sum_of (connection_in (place_at n b.caller)) n b.coming (t || is_some both.called.state.ended) (connection_in (place_at n b.called))) some) e;
-      stays = λ e n. by_end true (λ x. place_at n (last_of x now) ≡ place_at n (last_of x b)) refl refl e;
-      given = λ e. by_end true (λ x. (last_of x now).given ≡ (last_of x b).given) refl refl e;
-      class = λ e. by_end true (λ x. (last_of x now).class ≡ (last_of x b).class) refl refl e;
+      units = λ e. by_end end (λ x. units_from x now ≡ units_from x b) refl refl e;
+      lost = λ e. by_end end (λ x. lost_from x now ≡ lost_from x b) refl refl e;
+      under = λ e n. by_end end (λ x. under_way x n both b ≡ under_way x n new now)
+          (ap (λ (t : Bool). sum_of (connection_in (place_at n (last_of (not end) b))) n (units_from end b) (t || is_some (side end both).state.ended) (connection_in (place_at n (last_of end b)))) some)
+          (ap (λ (t : Bool). sum_of (connection_in (place_at n (last_of end b))) n (units_from (not end) b) (t || is_some (side (not end) both).state.ended) (connection_in (place_at n (last_of (not end) b)))) some) e;
+      stays = λ e n. by_end end (λ x. place_at n (last_of x now) ≡ place_at n (last_of x b)) refl refl e;
+      given = λ e. by_end end (λ x. (last_of x now).given ≡ (last_of x b).given) refl refl e;
+      class = λ e. by_end end (λ x. (last_of x now).class ≡ (last_of x b).class) refl refl e;
     }
 
 -- events are told
-tells_caller : (terms : Terms) (p : Provides terms) (both : Both) (b : Between) (events : List Happening) → AreBetween terms both b → Same terms both (still_to_tell true events both) b
-tells_caller terms p both b events a =
-    let new = still_to_tell true events both in
-    let now : Between = record b { caller = with_queues b.caller.outgoing events b.caller } in
+tells_at : (terms : Terms) (end : Bool) → Each → (p : Provides terms) (both : Both) (b : Between) (events : List Happening) → AreBetween terms both b → Same terms both (still_to_tell end events both) b
+tells_at terms true (inl none) p both b events a = absurd none
+tells_at terms end each p both b events a =
+    let new = still_to_tell end events both in
+    let now : Between = with_last end (with_queues (last_of end b).outgoing events (last_of end b)) b in
     record {
       now = now;
       between = record {
-        lives = by_end true (λ e. (side e new).state.ended ≡ None → (side e new).state ≡ last_of e now) (λ h. ap (λ (s : State). record s { events = events }) (a.lives true h)) (λ h. a.lives false h);
-        joined = p.queued true b.caller b.called b.caller.outgoing events (b.going ++ b.going_lost) (b.coming ++ b.coming_lost) a.joined;
-        comes = by_end true (λ e. (side (not e) new).state.ended ≡ None → IsOnTheWay (side (not e) new).held (arriving e new) (units_from e now) (lost_from e now)) (λ h. a.comes true h) (λ h. a.comes false h);
-        unbroken = λ e x. by_end true (λ y. lost_from y now ≡ []) (a.unbroken e true) (a.unbroken e false) x;
-        bound = by_end true (λ e. IfSome (reach_of e new.reach) (λ m. m ≤ length (side e new).state.outgoing)) (a.bound true) (a.bound false);
+        lives = by_end end (λ e. (side e new).state.ended ≡ None → (side e new).state ≡ last_of e now) (λ h. ap (λ (s : State). record s { events = events }) (a.lives end h)) (λ h. a.lives (not end) h);
+        joined = p.queued end (last_of end b) (last_of (not end) b) (last_of end b).outgoing events (all_from end b) (all_from (not end) b) a.joined;
+        comes = by_end end (λ e. (side (not e) new).state.ended ≡ None → IsOnTheWay (side (not e) new).held (arriving e new) (units_from e now) (lost_from e now)) (λ h. a.comes end h) (λ h. a.comes (not end) h);
+        unbroken = λ e x. by_end end (λ y. lost_from y now ≡ []) (a.unbroken e end) (a.unbroken e (not end)) x;
+        bound = by_end end (λ e. IfSome (reach_of e new.reach) (λ m. m ≤ length (side e new).state.outgoing)) (a.bound end) (a.bound (not end));
       };
-      units = λ e. by_end true (λ x. units_from x now ≡ units_from x b) refl refl e;
-      lost = λ e. by_end true (λ x. lost_from x now ≡ lost_from x b) refl refl e;
-      under = λ e n. by_end true (λ x. under_way x n both b ≡ under_way x n new now) refl refl e;
-      stays = λ e n. by_end true (λ x. place_at n (last_of x now) ≡ place_at n (last_of x b)) refl refl e;
-      given = λ e. by_end true (λ x. (last_of x now).given ≡ (last_of x b).given) refl refl e;
-      class = λ e. by_end true (λ x. (last_of x now).class ≡ (last_of x b).class) refl refl e;
+      units = λ e. by_end end (λ x. units_from x now ≡ units_from x b) refl refl e;
+      lost = λ e. by_end end (λ x. lost_from x now ≡ lost_from x b) refl refl e;
+      under = λ e n. by_end end (λ x. under_way x n both b ≡ under_way x n new now) refl refl e;
+      stays = λ e n. by_end end (λ x. place_at n (last_of x now) ≡ place_at n (last_of x b)) refl refl e;
+      given = λ e. by_end end (λ x. (last_of x now).given ≡ (last_of x b).given) refl refl e;
+      class = λ e. by_end end (λ x. (last_of x now).class ≡ (last_of x b).class) refl refl e;
     }
 
 -- it ends
-ends_caller : (terms : Terms) (both : Both) (b : Between) (reason : EndReason) → AreBetween terms both b → Lost terms both (ended_at true reason both) b
-ends_caller terms both b reason a =
-    let new = ended_at true reason both in
+ends_by : (terms : Terms) (end : Bool) → Each → (both : Both) (b : Between) (reason : EndReason) → AreBetween terms both b → Lost terms both (ended_at end reason both) b
+ends_by terms true (inl none) both b reason a = absurd none
+ends_by terms end each both b reason a =
+    let new = ended_at end reason both in
     record {
       now = b;
-      between = assumption (by_end true (λ e. (side e new).state.ended ≡ None → (side e new).state ≡ last_of e b) (λ h. cc) (λ h. a.lives false h), by_end true (λ e. (side (not e) new).state.ended ≡ None → IsOnTheWay (side (not e) new).held (arriving e new) (units_from e b) (lost_from e b)) (λ h. a.comes true h) (λ h. cc), by_end true (λ e. IfSome (reach_of e new.reach) (λ m. m ≤ length (side e new).state.outgoing)) (a.bound true) (a.bound false));
+      between = assumption (by_end end (λ e. (side e new).state.ended ≡ None → (side e new).state ≡ last_of e b) (λ h. cc) (λ h. a.lives (not end) h), by_end end (λ e. (side (not e) new).state.ended ≡ None → IsOnTheWay (side (not e) new).held (arriving e new) (units_from e b) (lost_from e b)) (λ h. a.comes end h) (λ h. cc), by_end end (λ e. IfSome (reach_of e new.reach) (λ m. m ≤ length (side e new).state.outgoing)) (a.bound end) (a.bound (not end)));
       units = λ e. refl;
-      loses = λ e n. by_end true (λ x. Loses x n both new b b)
-          (loses_of true n both new b b (front_cut (connection_in (place_at n b.called)) n b.going (is_cut true both) (is_some both.reach || true) (connection_in (place_at n b.caller)) (or_true (is_some both.reach))))
-          (loses_of false n both new b b (front_same (under_way false n both b) (under_way false n new b) refl)) e;
-      cut = λ e. by_end true (λ x. is_cut x both ≡ true → is_cut x new ≡ true) (λ h. sym (or_true (is_some both.reach))) (λ h. h) e;
-      whole = λ e n. by_end true (λ x. is_cut x new ≡ false → under_way x n both b ≡ under_way x n new b) (λ h. (let no : true ≡ false = or_true (is_some both.reach) ∙ h in cc)) (λ h. refl) e;
-      stays = λ e n. refl;
-      given = λ e. refl;
-      class = λ e. refl;
-    }
-
--- octets are handed over
-over_called : (terms : Terms) (p : Provides terms) (both : Both) (b : Between) (k : ℕ) → AreBetween terms both b → k ≤ length (arriving false both) → Same terms both (handed_over false k both) b
-over_called terms p both b k a less =
-    let new = handed_over false k both in
-    let rest = drop k both.called.state.outgoing in
-    let now : Between = record b { called = with_queues rest b.called.events b.called } in
-    let some = less_some false k both.reach in
-    record {
-      now = now;
-      between = record {
-        lives = by_end false (λ e. (side e new).state.ended ≡ None → (side e new).state ≡ last_of e now) (λ h. ap (λ (s : State). record s { outgoing = rest }) (a.lives false h)) (λ h. a.lives true h);
-        joined = p.queued false b.called b.caller rest b.called.events (b.coming ++ b.coming_lost) (b.going ++ b.going_lost) a.joined;
-        comes = by_end false (λ e. (side (not e) new).state.ended ≡ None → IsOnTheWay (side (not e) new).held (arriving e new) (units_from e now) (lost_from e now))
-            (λ h. subst (λ (r : Option ℕ). IsOnTheWay (both.caller.held ++ take k both.called.state.outgoing) (within_reach r rest) b.coming b.coming_lost) (less_own false k both.reach)
-            (way_over (reach_of false both.reach) k both.caller.held both.called.state.outgoing b.coming b.coming_lost less (a.bound false) (a.comes false h)))
-            (λ h. subst (λ (r : Option ℕ). IsOnTheWay both.called.held (within_reach r both.caller.state.outgoing) b.going b.going_lost) (less_other false k both.reach) (a.comes true h));
-        unbroken = λ e x. by_end false (λ y. lost_from y now ≡ []) (a.unbroken (less_none false k both.reach e) false) (a.unbroken (less_none false k both.reach e) true) x;
-        bound = by_end false (λ e. IfSome (reach_of e new.reach) (λ m. m ≤ length (side e new).state.outgoing))
-            (subst (λ (r : Option ℕ). IfSome r (λ m. m ≤ length rest)) (less_own false k both.reach) (bound_over (reach_of false both.reach) k both.called.state.outgoing (a.bound false)))
-            (subst (λ (r : Option ℕ). IfSome r (λ m. m ≤ length both.caller.state.outgoing)) (less_other false k both.reach) (a.bound true));
-      };
-      units = λ e. by_end true (λ x. units_from x now ≡ units_from x b) refl refl e;
-      lost = λ e. by_end true (λ x. lost_from x now ≡ lost_from x b) refl refl e;
-      under = λ e n. by_end false (λ x. under_way x n both b ≡ under_way x n new now)
-          (ap (λ (t : Bool). sum_of (connection_in (place_at n b.caller)) n b.coming (t || is_some both.called.state.ended) (connection_in (place_at n b.called))) some)
-          (ap (λ (t : Bool). sum_of (connection_in (place_at n b.called)) n b.going (t || is_some both.caller.state.ended) (connection_in (place_at n b.caller))) some) e;
-      stays = λ e n. by_end false (λ x. place_at n (last_of x now) ≡ place_at n (last_of x b)) refl refl e;
-      given = λ e. by_end false (λ x. (last_of x now).given ≡ (last_of x b).given) refl refl e;
-      class = λ e. by_end false (λ x. (last_of x now).class ≡ (last_of x b).class) refl refl e;
-    }
-
--- events are told
-tells_called : (terms : Terms) (p : Provides terms) (both : Both) (b : Between) (events : List Happening) → AreBetween terms both b → Same terms both (still_to_tell false events both) b
-tells_called terms p both b events a =
-    let new = still_to_tell false events both in
-    let now : Between = record b { called = with_queues b.called.outgoing events b.called } in
-    record {
-      now = now;
-      between = record {
-        lives = by_end false (λ e. (side e new).state.ended ≡ None → (side e new).state ≡ last_of e now) (λ h. ap (λ (s : State). record s { events = events }) (a.lives false h)) (λ h. a.lives true h);
-        joined = p.queued false b.called b.caller b.called.outgoing events (b.coming ++ b.coming_lost) (b.going ++ b.going_lost) a.joined;
-        comes = by_end false (λ e. (side (not e) new).state.ended ≡ None → IsOnTheWay (side (not e) new).held (arriving e new) (units_from e now) (lost_from e now)) (λ h. a.comes false h) (λ h. a.comes true h);
-        unbroken = λ e x. by_end false (λ y. lost_from y now ≡ []) (a.unbroken e false) (a.unbroken e true) x;
-        bound = by_end false (λ e. IfSome (reach_of e new.reach) (λ m. m ≤ length (side e new).state.outgoing)) (a.bound false) (a.bound true);
-      };
-      units = λ e. by_end true (λ x. units_from x now ≡ units_from x b) refl refl e;
-      lost = λ e. by_end true (λ x. lost_from x now ≡ lost_from x b) refl refl e;
-      under = λ e n. by_end false (λ x. under_way x n both b ≡ under_way x n new now) refl refl e;
-      stays = λ e n. by_end false (λ x. place_at n (last_of x now) ≡ place_at n (last_of x b)) refl refl e;
-      given = λ e. by_end false (λ x. (last_of x now).given ≡ (last_of x b).given) refl refl e;
-      class = λ e. by_end false (λ x. (last_of x now).class ≡ (last_of x b).class) refl refl e;
-    }
-
--- it ends
-ends_called : (terms : Terms) (both : Both) (b : Between) (reason : EndReason) → AreBetween terms both b → Lost terms both (ended_at false reason both) b
-ends_called terms both b reason a =
-    let new = ended_at false reason both in
-    record {
-      now = b;
-      between = assumption (by_end false (λ e. (side e new).state.ended ≡ None → (side e new).state ≡ last_of e b) (λ h. cc) (λ h. a.lives true h), by_end false (λ e. (side (not e) new).state.ended ≡ None → IsOnTheWay (side (not e) new).held (arriving e new) (units_from e b) (lost_from e b)) (λ h. a.comes false h) (λ h. cc), by_end false (λ e. IfSome (reach_of e new.reach) (λ m. m ≤ length (side e new).state.outgoing)) (a.bound false) (a.bound true));
-      units = λ e. refl;
-      loses = λ e n. by_end false (λ x. Loses x n both new b b)
-          (loses_of false n both new b b (front_cut (connection_in (place_at n b.caller)) n b.coming (is_cut false both) (is_some both.reach || true) (connection_in (place_at n b.called)) (or_true (is_some both.reach))))
-          (loses_of true n both new b b (front_same (under_way true n both b) (under_way true n new b) refl)) e;
-      cut = λ e. by_end false (λ x. is_cut x both ≡ true → is_cut x new ≡ true) (λ h. sym (or_true (is_some both.reach))) (λ h. h) e;
-      whole = λ e n. by_end false (λ x. is_cut x new ≡ false → under_way x n both b ≡ under_way x n new b) (λ h. (let no : true ≡ false = or_true (is_some both.reach) ∙ h in cc)) (λ h. refl) e;
+      loses = λ e n. by_end end (λ x. Loses x n both new b b)
+          (loses_of end n both new b b (front_cut (connection_in (place_at n (last_of (not end) b))) n (units_from end b) (is_cut end both) (is_some both.reach || true) (connection_in (place_at n (last_of end b))) (or_true (is_some both.reach))))
+          (loses_of (not end) n both new b b (front_same (under_way (not end) n both b) (under_way (not end) n new b) refl)) e;
+      cut = λ e. by_end end (λ x. is_cut x both ≡ true → is_cut x new ≡ true) (λ h. sym (or_true (is_some both.reach))) (λ h. h) e;
+      whole = λ e n. by_end end (λ x. is_cut x new ≡ false → under_way x n both b ≡ under_way x n new b) (λ h. (let no : true ≡ false = or_true (is_some both.reach) ∙ h in cc)) (λ h. refl) e;
       stays = λ e n. refl;
       given = λ e. refl;
       class = λ e. refl;
     }
 
 pub hands_over : (terms : Terms) (p : Provides terms) (end : Bool) (both : Both) (b : Between) (k : ℕ) → AreBetween terms both b → k ≤ length (arriving end both) → Same terms both (handed_over end k both) b
-hands_over terms p true both b k a less = over_caller terms p both b k a less
-hands_over terms p false both b k a less = over_called terms p both b k a less
+hands_over terms p end both b k a less = over_at terms end (inr tt) p both b k a less
 
 pub tells : (terms : Terms) (p : Provides terms) (end : Bool) (both : Both) (b : Between) (events : List Happening) → AreBetween terms both b → Same terms both (still_to_tell end events both) b
-tells terms p true both b events a = tells_caller terms p both b events a
-tells terms p false both b events a = tells_called terms p both b events a
+tells terms p end both b events a = tells_at terms end (inr tt) p both b events a
 
 pub ends_at : (terms : Terms) (end : Bool) (both : Both) (b : Between) (reason : EndReason) → AreBetween terms both b → Lost terms both (ended_at end reason both) b
-ends_at terms true both b reason a = ends_caller terms both b reason a
-ends_at terms false both b reason a = ends_called terms both b reason a
+ends_at terms end both b reason a = ends_by terms end (inr tt) both b reason a
 
 -- where CRs are refused none is open
 pub no_open : (reason : ℕ) (end : Bool) (both : Both) (b : Between) (n peer : ℕ) (link : Standing) → AreBetween (refusing reason) both b → (side end both).state.ended ≡ None →

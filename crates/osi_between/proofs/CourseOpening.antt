@@ -4,13 +4,14 @@ use Rattle.std.proofs.Common.{◌≡◌, ◌≢◌, ℕ, ◌+◌, ◌<◌, ◌�
 use Rattle.osi_between.proofs.Vocabulary.{ltb-false, ltb-true, append-nil, map-append, IsOctets, Value, Connect, request, confirm, LinkPair, swapped, opened_pair, under_way, IsShortTsdu, all_given, Standing, Given, with_tsdu, Selection, accept, selected_by, selected_size, Class, Two, Local, references, asks, sent, closed_with, Place, never, was_given, place_at, opened, proposal_by, IsOrderly, react, in_class, before_class, in_two, answers_request, answers, accepts, has_peer, is_full, opens, to_reference, to_connection, value_at, Connection, asked, linked, closing, State, packets, push_here, beyond, put_here, push_other, put_other, react_quiet, unasked, asking, accepting, withdrawing, met, answer_of, IsTsap, IsAskedBy, MayTakeTwo, IsAccepted, Acts, CourseMoves, talking, left_there, addressed, leaving, Message, ask, agree, message, bye, messages_after, uncut_units, kind_of, AreOpen, after_send, not_yet, awaiting, in_use, Brings}
 use Rattle.osi_between.proofs.Bringing.{brings_none, brings_sent, brings_shut}
 use Rattle.osi_between.proofs.Changes.{send_changes, close_changes}
-use Rattle.osi_between.proofs.Courses.{given_place, acts_changed, place_changed, put_references, none_more}
+use Rattle.osi_between.proofs.Courses.{given_place, acts_changed, place_changed, none_more}
 use Rattle.osi_between.proofs.Meetings.{open_mirror, class_end, addressed_join, addressed_for}
 use Rattle.osi_between.proofs.MeetingMessages.{pair_messages, behind_leaving}
 use Rattle.osi_between.proofs.MessageLaws.{messages_front}
 use Rattle.osi_between.proofs.Openings.{request_of, selects_two, confirms_two, caller_link, called_link, opens_links, asked_sendable, answer_sendable}
 use Rattle.osi_between.proofs.Sendables.{all_sendable, range_end, leaving_sendable}
 use Rattle.osi_between.proofs.Turned.{sends_passes}
+use Rattle.osi_carrier.proofs.Naming.{put_named}
 
 -- ---- a new reference
 
@@ -178,7 +179,7 @@ accepted_sends n c p s r octets h quiet orderly le at short are =
       holds = accepted_there n s r t c p (swapped q) h changes.local changes.class new_open refl refl;
       given = changes.given ∙ none_more r.given;
       numbers = refl;
-      places = ap references changes.live ∙ put_references n (linked n (swapped q).right) r.live;
+      places = ap references changes.live ∙ put_named n (linked n (swapped q).right) r.live;
       carries = record {
         arrived = [];
         stays = agree ∷ stays;
@@ -215,7 +216,7 @@ accepted_closes n c p s r reason some small h quiet orderly le at =
       holds = accepted_there n s r t c p p h changes.local changes.class h.open_links refl refl;
       given = changes.given ∙ none_more r.given;
       numbers = refl;
-      places = ap references changes.live ∙ put_references n (closing n) r.live;
+      places = ap references changes.live ∙ put_named n (closing n) r.live;
       carries = record {
         arrived = [];
         stays = agree ∷ messages_after [] us;

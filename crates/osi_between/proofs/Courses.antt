@@ -3,6 +3,7 @@ use Rattle.std.proofs.Common.{◌≡◌, ℕ, ◌+◌, ◌≤◌, ◌==◌, is_n
 use Rattle.osi_between.specs.Meeting.{Carries}
 use Rattle.osi_between.proofs.Vocabulary.{flat_map, list_any, AllByRecursion, le-ltb, ltb-false, Value, request, confirm, disconnect, disconnected, data0, data2, acknowledge, error, AreOfClass, Given, part0, part2, ack, Class, Two, Local, dropped, references, Place, never, was_given, place_at, Happening, Rows, value_at, put, without, Connection, asked, linked, closing, State, AreFor, reference_of, asked_by, is_last, live_behind, live_after, requests, met, MayTakeTwo, HaveMet, told_opening, CourseCarries, Acts, CourseMoves, Meeting, talking, left_here, left_there, left_both, waiting_here, waiting_there, parted, mirror, here, addressed, leaving, farewell, rows_with, out, back, Stands, Changes, told_at, messages_back, messages_out, answers_of, Moves, Message, ask, agree, deny, message, bye, over, messages_to, AreLike, Progress, not_yet, awaiting, in_use, shutting, gone, progress_in, may_arrive, asks_in, class_behind_all, leaves_use, Brings}
 use Rattle.osi_between.proofs.Meetings.{mirror_twice, mirror_stands}
+use Rattle.osi_carrier.proofs.Naming.{put_named, drop_named}
 
 -- ---- places
 
@@ -29,27 +30,11 @@ place_changed n s t after us es le c = grind (arith, given_place)
 
 -- ---- the references that are live
 
-put_references_by : (n q : ℕ) (x y : Connection) (rows : Rows Connection) (b : Bool) → (q == n) ≡ b → references (put n x rows) ≡ references rows →
-    references (put n x ((q, y) ∷ rows)) ≡ q ∷ references rows
-put_references_by n q x y rows b e more = grind arith
-
-pub put_references : (n : ℕ) (x : Connection) (rows : Rows Connection) → references (put n x rows) ≡ references rows
-put_references n x [] = refl
-put_references n x ((q, y) ∷ rows) = put_references_by n q x y rows (q == n) refl (put_references n x rows)
-
-without_references_by : (n q : ℕ) (y : Connection) (rows : Rows Connection) (b : Bool) → (q == n) ≡ b → references (without n rows) ≡ dropped n (references rows) →
-    references (without n ((q, y) ∷ rows)) ≡ dropped n (q ∷ references rows)
-without_references_by n q y rows b e more = grind arith
-
-without_references : (n : ℕ) (rows : Rows Connection) → references (without n rows) ≡ dropped n (references rows)
-without_references n [] = refl
-without_references n ((q, y) ∷ rows) = without_references_by n q y rows (q == n) refl (without_references n rows)
-
 stay_references : (n : ℕ) (after : Option Connection) (rows : Rows Connection) → is_none after ≡ false → references (rows_with n after rows) ≡ references rows
-stay_references n after rows e = grind (arith, put_references)
+stay_references n after rows e = grind (arith, put_named)
 
 gone_references : (n m : ℕ) (after : Option Connection) (rows : Rows Connection) → is_none after ≡ true → m ≡ n → references (rows_with n after rows) ≡ dropped m (references rows)
-gone_references n m after rows e same = grind (arith, without_references)
+gone_references n m after rows e same = grind (arith, drop_named)
 
 -- for this connection, and no CR
 abbrev pub IsPlain : ℕ → Value → Type 0
@@ -100,9 +85,8 @@ plain_out n (talking p) h = plain_units n p.rightward h.agree.agree.class
 plain_out n (left_here p us reason) h = plain_join n (addressed n p.rightward) (leaving n reason ∷ []) (plain_units n p.rightward h.0.agree.agree.class) ((refl, refl), tt)
 plain_out n (left_there p us reason) h = plain_units n us h.1
 plain_out n (left_both us reason vs other) h = plain_join n (addressed n us) (leaving n reason ∷ []) (plain_units n us h.0) ((refl, refl), tt)
-plain_out n (waiting_here us last) h = tt
 plain_out n (waiting_there us last) h = plain_join n (addressed n us) (farewell n last ∷ []) (plain_units n us h) (plain_farewell n last, tt)
-plain_out n parted h = tt
+plain_out n m h = tt
 
 -- ---- both have had it open
 

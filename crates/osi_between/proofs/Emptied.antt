@@ -26,8 +26,6 @@ done_links s r p one other a rightward leftward = grind (arith, quiet_zero, open
 done_by : (s r : State) (n p q : ℕ) (x y : Standing) (g : ZeroCourse) → HasOne s (at_end true g) → HasOne r (at_end false g) → [] ≡ from_end true r.local g → [] ≡ from_end false r.local g → Holds s.local r.local g →
     value_at n s.live ≡ Some (linked p x) → value_at n r.live ≡ Some (linked q y) → IsDone n s r x y
 done_by s r n p q x y unasked one other is back h at at_there = absurd (not_here s n (linked p x) one at)
-done_by s r n p q x y (asking c) one other is back h at at_there = absurd (not_asked s n p x one at)
-done_by s r n p q x y (accepting c l) one other is back h at at_there = absurd (not_asked s n p x one at)
 done_by s r n p q x y (talking l) one other is back h at at_there =
     let here = at_one s n (linked 1 l.left) (linked p x) one at in
     let there = at_one r n (linked 1 l.right) (linked q y) other at_there in
@@ -35,6 +33,7 @@ done_by s r n p q x y (talking l) one other is back h at at_there =
     let right : l.right ≡ y = (let e = there.is in cc) in
     subst (λ (m : ℕ). IsDone m s r x y) (sym here.reference) (subst (λ (z : Standing). IsDone 1 s r z y) left (subst (λ (z : Standing). IsDone 1 s r l.left z) right
     (done_links s r l one other h (none_addressed 1 l.rightward (sym is)) (none_addressed 1 l.leftward (sym back)))))
+done_by s r n p q x y g one other is back h at at_there = absurd (not_asked s n p x one at)
 
 -- ---- whatever they come to
 

@@ -215,9 +215,6 @@ handed_now : (both : Both) (stays put now : List Message) (h : List (List ℕ)) 
     tsdus_in now ≡ tsdus_in stays ++ (if broken then [] else h)
 handed_now both stays put now h broken reach e is = grind (arith, put_broken, tsdus_join, put_whole)
 
-handed_first : (h : List (List ℕ)) (broken : Bool) → AreFirstOf (if broken then [] else h) h
-handed_first h broken = grind (arith, first_none, first_equal)
-
 sent_handed_by : (terms : Terms) (end : Bool) (n : ℕ) (old new : Both) (b c : Between) (taken : List Value) (put : List Message) (h : List (List ℕ)) (broken : Bool) → is_some old.reach ≡ broken → Carries terms end n old new b c taken put → Acts end old new → tsdus_in put ≡ h →
     is_over (progress_of (place_at n (last_of end b))) ≡ false → is_over (progress_of (place_at n (last_of end c))) ≡ false →
     (is_over (progress_of (place_at n (last_of (not end) b))) ≡ false → tsdus_under end n new c ≡ tsdus_under end n old b ++ (if broken then [] else h)) → Fact end (not end) n old new b c [] h
@@ -338,7 +335,7 @@ fact_called terms end q n old new b c put k w closed_off =
 or_none : (s : Bool) → (s || false) ≡ s
 or_none s = grind arith
 
-message_put : (p : Progress) (octets : List ℕ) → behind_put p (message octets) ≡ p
+pub message_put : (p : Progress) (octets : List ℕ) → behind_put p (message octets) ≡ p
 message_put p octets = grind arith
 
 -- an end that lasts, before and then

@@ -3,6 +3,7 @@ use Rattle.std.proofs.Common.{◌≡◌, refl, sym, ◌∙◌, ap, subst, ℕ, �
 use Rattle.osi_between.specs.Between.{under_way}
 use Rattle.osi_between.proofs.Vocabulary.{append-nil, map-append, flat_map, AllByRecursion, IsOctets, IsShortTsdu, Standing, sent, sent_all, Place, never, was_given, place_at, connection_in, value_at, Connection, asked, linked, closing, State, Both, Between, AreBetween, Acted, Carries, side, becomes, last_of, put_in, told_of, progress_of, BringsTo, Message, message, kind_of, AreLike, messages_after, begun_at, Progress, not_yet, awaiting, in_use, shutting, gone, behind_put, behind_puts, behind_arrivals, leaves_use, references_for, asks_in, class_behind_all, Terms, accepts_in, class_of}
 use Rattle.osi_between.proofs.Bringing.{brings_none, same_like}
+use Rattle.osi_between.proofs.Firsts.{message_put}
 
 -- ---- likeness
 
@@ -23,11 +24,8 @@ record IsLinked (p : Place) : Type 0 where
   pub is : connection_in p ≡ Some (linked peer link)
 
 linked_in : (p : Place) → progress_of p ≡ in_use → IsLinked p
-linked_in never e = absurd (cc)
-linked_in (was_given None) e = absurd (cc)
-linked_in (was_given (Some asked)) e = absurd (cc)
 linked_in (was_given (Some (linked peer link))) e = record { peer = peer; link = link; is = refl }
-linked_in (was_given (Some (closing peer))) e = absurd (cc)
+linked_in p e = absurd (cc)
 
 linked_is : (o : Option Connection) (peer : ℕ) (link : Standing) (xs ys : List Message) → o ≡ Some (linked peer link) → AreLike o xs ys → xs ≡ ys
 linked_is o peer link xs ys e h = let k : AreLike (Some (linked peer link)) xs ys = subst (λ (c : Option Connection). AreLike c xs ys) e h in k
@@ -48,12 +46,9 @@ open_at n s e =
     record { peer = l.peer; link = l.link; at = sym k.1 ∙ l.is }
 
 -- TSDUs that are put change neither how far it is nor what was given
-put_stays : (p : Progress) (t : List ℕ) → behind_put p (message t) ≡ p
-put_stays p t = grind arith
-
 puts_nothing : (p : Progress) (ts : List (List ℕ)) → behind_puts p (map message ts) ≡ p
 puts_nothing p [] = refl
-puts_nothing p (t ∷ ts) = ap (λ (q : Progress). behind_puts q (map message ts)) (put_stays p t) ∙ puts_nothing p ts
+puts_nothing p (t ∷ ts) = ap (λ (q : Progress). behind_puts q (map message ts)) (message_put p t) ∙ puts_nothing p ts
 
 asks_none : (ts : List (List ℕ)) → asks_in (map message ts) ≡ 0
 asks_none [] = refl

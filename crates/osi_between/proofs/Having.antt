@@ -4,8 +4,8 @@ use Rattle.osi_between.specs.Between.{under_way}
 use Rattle.osi_between.specs.Refusing as refusal
 use Rattle.osi_between.specs.Zero as zero
 use Rattle.osi_between.proofs.Vocabulary.{Value, Connect, request, Zero, Two, never, was_given, place_at, connection_in, value_at, Connection, asked, State, units_of, AreFor, Both, Between, AreJoinedBy, AreBetween, is_cut, to_come, Course, unasked, asking, accepting, withdrawing, met, at_end, from_end, Holds, AreJoined, addressed, messages_after, begun_at, AreRefusing, Refusal, rows_in, Terms, by_two, by_zero, refusing, AreJoinedZero, ZeroCourse, HasOne}
-use Rattle.osi_between.proofs.Addressing.{units_join, units_other}
-use Rattle.osi_between.proofs.JoinedCalls.{next_never}
+use Rattle.osi_between.proofs.Addressing.{units_join, units_other, front_none}
+use Rattle.osi_between.proofs.JoinedCalls.{next_never, not_asked}
 use Rattle.osi_between.proofs.JoinedMoves.{within_given, given_live}
 use Rattle.osi_between.proofs.Proposals.{proposed_source}
 use Rattle.osi_between.proofs.ZeroLaws.{at_one, not_here}
@@ -20,27 +20,12 @@ record IsAhead (n : ℕ) (caller called : State) (going coming : List Value) : T
   out : units_of n going ≡ []
   back : units_of n coming ≡ []
 
-front_none : (n : ℕ) (us vs : List Value) → units_of n us ++ units_of n vs ≡ [] → units_of n us ≡ []
-front_none n us vs e = first (units_of n us) (units_of n vs) e
-  where
-    first : (xs ys : List Value) → xs ++ ys ≡ [] → xs ≡ []
-    first [] ys e = refl
-    first (x ∷ xs) ys e = cc
-
-pub not_asked : (n : ℕ) (g : Course) → at_end true n g ≡ never → g ≡ unasked
-not_asked n g e = grind arith
-
 ahead_two : (n : ℕ) (s r : State) (going coming : List Value) → AreJoined s r going coming → s.given < n → IsAhead n s r going coming
 ahead_two n s r going coming j above =
     let st = j.stands n (omega arith) in
     let at : place_at n s ≡ never = next_never s n above in
     let none = not_asked n st.course (sym st.place ∙ at) in
-    record {
-      here = at;
-      there = st.place_there ∙ ap (at_end false n) none;
-      out = st.out ∙ ap (from_end true n r.local) none;
-      back = st.back ∙ ap (from_end false n r.local) none;
-    }
+    search (st.place_there ∙ ap (at_end false n) none, st.out ∙ ap (from_end true n r.local) none, st.back ∙ ap (from_end false n r.local) none)
 
 -- in class 0 the connection is 1
 zero_units : (n : ℕ) (us vs : List Value) → 1 < n → us ≡ vs → AreFor 1 vs → units_of n us ≡ []
@@ -85,11 +70,11 @@ pub none_ahead : (terms : Terms) (both : Both) (b : Between) (end : Bool) (n : �
 none_ahead terms both b true n a above =
     let h = ahead_at terms n b.caller b.called (b.going ++ b.going_lost) (b.coming ++ b.coming_lost) a.joined above in
     sum_none (connection_in (place_at n b.called)) (connection_in (place_at n b.caller)) (units_of n b.going) (is_cut true both) (ap connection_in h.there) (ap connection_in h.here)
-    (front_none n b.going b.going_lost (sym (units_join n b.going b.going_lost) ∙ h.out))
+    (front_none (units_of n b.going) (units_of n b.going_lost) (sym (units_join n b.going b.going_lost) ∙ h.out))
 none_ahead terms both b false n a above =
     let h = ahead_at terms n b.caller b.called (b.going ++ b.going_lost) (b.coming ++ b.coming_lost) a.joined above in
     sum_none (connection_in (place_at n b.caller)) (connection_in (place_at n b.called)) (units_of n b.coming) (is_cut false both) (ap connection_in h.here) (ap connection_in h.there)
-    (front_none n b.coming b.coming_lost (sym (units_join n b.coming b.coming_lost) ∙ h.back))
+    (front_none (units_of n b.coming) (units_of n b.coming_lost) (sym (units_join n b.coming b.coming_lost) ∙ h.back))
 
 -- ---- the called end gives no reference that the caller did not
 

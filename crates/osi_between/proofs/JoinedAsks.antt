@@ -1,8 +1,9 @@
 -- A caller that may ask for a connection finds a place at the called end: behind the units that are
 -- under way no more connections are live there than at the caller.
 use Rattle.std.proofs.Common.{◌≡◌, ◌≢◌, ℕ, zero, suc, ◌+◌, ◌<◌, ◌≤◌, ◌==◌, Bool, true, false, List, [], ◌∷◌, ◌++◌, length, map, Option, Some, None, refl, sym, ap, subst, ◌∙◌, arith, nat_lt, is_some, if◌then◌else◌}
-use Rattle.osi_between.proofs.Vocabulary.{eq-eqb, eqb-true, ne_eqb, ltb-true, ltb-false, map-append, Value, request, confirm, disconnect, disconnected, data0, data2, acknowledge, error, Local, dropped, references, never, was_given, place_at, RiseFrom, AreUpTo, IsOrderly, Rows, value_at, without, Connection, asked, linked, closing, State, absent, beyond, push_here, without_here, push_other, without_other, push_rise, push_up, without_rise, without_up, reference_of, units_of, asked_by, requests, behind, live_behind, live_after, is_last, Course, unasked, asking, accepting, withdrawing, met, at_end, from_end, AreJoined, talking, left_here, left_there, left_both, waiting_here, waiting_there, parted, addressed, farewell}
+use Rattle.osi_between.proofs.Vocabulary.{eq-eqb, eqb-true, ne_eqb, ltb-true, ltb-false, map-append, Value, request, confirm, disconnect, disconnected, data0, data2, acknowledge, error, Local, dropped, references, never, was_given, place_at, RiseFrom, AreUpTo, IsOrderly, Rows, value_at, without, Connection, asked, linked, closing, State, absent, beyond, push_here, without_here, push_other, without_other, push_rise, push_up, without_rise, without_up, reference_of, units_of, asked_by, requests, behind, live_behind, live_after, is_last, Course, unasked, asking, accepting, withdrawing, met, at_end, from_end, AreJoined, talking, left_here, left_there, left_both, waiting_here, waiting_there, parted, addressed, farewell, found}
 use Rattle.osi_between.proofs.Courses.{given_place, is_given}
+use Rattle.osi_between.proofs.Addressing.{units_of_by}
 
 -- ---- references as a table
 
@@ -11,9 +12,6 @@ Marks = Rows (Unit {0})
 
 abbrev marked : List ℕ → Marks
 marked refs = map (λ r. (r, tt)) refs
-
-found : {X : Type 0} (m q : ℕ) (y : X) (rows : Rows X) (b : Bool) → (q == m) ≡ b → value_at m ((q, y) ∷ rows) ≡ (if b then Some y else value_at m rows)
-found {X} m q y rows b e = ap (λ (c : Bool). if◌then◌else◌ {A = Option X} c (Some y) (value_at m rows)) e
 
 marked_dropped_by : (r q : ℕ) (refs : List ℕ) (b : Bool) → (q == r) ≡ b → marked (dropped r refs) ≡ without r (marked refs) → marked (dropped r (q ∷ refs)) ≡ without r (marked (q ∷ refs))
 marked_dropped_by r q refs b e more = grind arith
@@ -43,13 +41,9 @@ marked_none q ((r, x) ∷ rows) h = marked_none_by q r x rows (r == q) refl (mar
 -- whether a reference is live behind a unit for it
 abbrev stays_behind : Option (Unit {0}) → Value → Option (Unit {0})
 stays_behind o (request c) = Some tt
-stays_behind o (confirm destination c) = o
 stays_behind o (disconnect destination source reason user) = None
 stays_behind o (disconnected destination source) = None
-stays_behind o (data0 end user) = o
-stays_behind o (data2 destination number end user) = o
-stays_behind o (acknowledge credit destination number) = o
-stays_behind o (error destination cause) = o
+stays_behind o unit = o
 
 abbrev stays_after : Option (Unit {0}) → List Value → Option (Unit {0})
 stays_after o [] = o
@@ -110,22 +104,15 @@ first_is g k n more e = grind arith
 
 one_behind : (g k : ℕ) (refs : List ℕ) (u : Value) (more : List ℕ) → RiseFrom 0 (marked refs) → AreUpTo g (marked refs) → asked_by u ++ more ≡ behind g k → Behind g refs u
 one_behind g k refs (request c) more rise up e = asked_behind g c.source refs (request c) rise up refl refl refl (first_is g k c.source more e) refl
-one_behind g k refs (confirm destination c) more rise up e = same_behind g refs (confirm destination c) rise up refl refl refl
 one_behind g k refs (disconnect destination source reason user) more rise up e = dropped_behind g destination refs (disconnect destination source reason user) rise up refl refl refl refl
 one_behind g k refs (disconnected destination source) more rise up e = dropped_behind g destination refs (disconnected destination source) rise up refl refl refl refl
-one_behind g k refs (data0 end user) more rise up e = same_behind g refs (data0 end user) rise up refl refl refl
-one_behind g k refs (data2 destination number end user) more rise up e = same_behind g refs (data2 destination number end user) rise up refl refl refl
-one_behind g k refs (acknowledge credit destination number) more rise up e = same_behind g refs (acknowledge credit destination number) rise up refl refl refl
-one_behind g k refs (error destination cause) more rise up e = same_behind g refs (error destination cause) rise up refl refl refl
+one_behind g k refs u more rise up e = same_behind g refs u rise up refl refl refl
 
 -- ---- units one after the other
 
 record After (refs : List ℕ) (us : List Value) : Type 0 where
   rise : RiseFrom 0 (marked (live_after refs us))
   each : (q : ℕ) → value_at q (marked (live_after refs us)) ≡ stays_after (value_at q (marked refs)) (units_of q us)
-
-units_of_by : (n : ℕ) (u : Value) (us : List Value) (b : Bool) → (reference_of u == n) ≡ b → units_of n (u ∷ us) ≡ (if b then u ∷ units_of n us else units_of n us)
-units_of_by n u us b e = ap (λ (c : Bool). if◌then◌else◌ {A = List Value} c (u ∷ units_of n us) (units_of n us)) e
 
 each_by : (g : ℕ) (refs : List ℕ) (u : Value) (us : List Value) (q : ℕ) (b : Bool) → (reference_of u == q) ≡ b → Behind g refs u →
     value_at q (marked (live_after (live_behind refs u) us)) ≡ stays_after (value_at q (marked (live_behind refs u))) (units_of q us) →
@@ -162,10 +149,9 @@ sub_by ys y c m x xs false e rx ry h more =
     omega arith
 
 sub_length : (ys : Rows Connection) (m : ℕ) (xs : Marks) → RiseFrom m xs → RiseFrom m ys → ((q : ℕ) → is_some (value_at q xs) ≡ true → is_some (value_at q ys) ≡ true) → length xs ≤ length ys
-sub_length [] m [] rx ry h = omega arith
 sub_length [] m ((x, tt) ∷ xs) rx ry h = let there = h x (ap is_some (found x x tt xs true (eq-eqb x x refl))) in cc
-sub_length ((y, c) ∷ ys) m [] rx ry h = omega arith
 sub_length ((y, c) ∷ ys) m ((x, tt) ∷ xs) rx ry h = sub_by ys y c m x xs (x == y) refl rx.1 ry.1 h (sub_length ys)
+sub_length ys m xs rx ry h = omega arith
 
 -- ---- a connection that is live behind the units is live at the caller
 

@@ -10,7 +10,7 @@ use Rattle.osi_between.proofs.JoinedSteps.{acts_for}
 
 -- ---- a connection is asked for
 
-not_asked : (n : ℕ) (g : Course) → at_end true n g ≡ never → g ≡ unasked
+pub not_asked : (n : ℕ) (g : Course) → at_end true n g ≡ never → g ≡ unasked
 not_asked n g e = grind arith
 
 pub next_never : (s : State) (n : ℕ) → s.given < n → place_at n s ≡ never
@@ -73,21 +73,12 @@ still_links p a rightward leftward =
 
 still_by : (n : ℕ) (s r : State) (called : Local) (g : Course) (x y : Standing) → at_end true n g ≡ was_given (Some (linked n x)) → at_end false n g ≡ was_given (Some (linked n y)) →
     from_end true n called g ≡ [] → from_end false n called g ≡ [] → Holds n s r g → IsEmpty x y
-still_by n s r called unasked x y a b out back h = cc
-still_by n s r called (asking c) x y a b out back h = cc
-still_by n s r called (accepting c p) x y a b out back h = cc
-still_by n s r called (withdrawing c p reason) x y a b out back h = cc
 still_by n s r called (met (talking p)) x y a b out back h =
     let left : p.left ≡ x = cc in
     let right : p.right ≡ y = cc in
     subst (λ (l : Standing). IsEmpty l y) left (subst (λ (l : Standing). IsEmpty p.left l) right
     (still_links p h.stands (none_addressed n p.rightward out) (none_addressed n p.leftward back)))
-still_by n s r called (met (left_here p us reason)) x y a b out back h = cc
-still_by n s r called (met (left_there p us reason)) x y a b out back h = cc
-still_by n s r called (met (left_both us reason vs last)) x y a b out back h = cc
-still_by n s r called (met (waiting_here us last)) x y a b out back h = cc
-still_by n s r called (met (waiting_there us last)) x y a b out back h = cc
-still_by n s r called (met parted) x y a b out back h = cc
+still_by n s r called g x y a b out back h = cc
 
 pub still : (s r : State) (n : ℕ) (x y : Standing) → AreJoined s r [] [] → value_at n s.live ≡ Some (linked n x) → value_at n r.live ≡ Some (linked n y) → IsEmpty x y
 still s r n x y j at at_there =

@@ -1,6 +1,6 @@
 -- Two joined carriers stay joined where one of them acts.
 use Rattle.std.proofs.Common.{◌≡◌, ◌≢◌, ℕ, zero, suc, ◌+◌, ◌<◌, ◌≤◌, ◌==◌, Bool, true, false, not, List, [], ◌∷◌, ◌++◌, length, Option, Some, None, refl, sym, ap, subst, ◌∙◌, arith, length-append, nat_lt, if◌then◌else◌}
-use Rattle.osi_between.proofs.Vocabulary.{AllByRecursion, eq-eqb, ne_eqb, ltb-true, ltb-false, append_cancel_left, IsOctets, Value, Connect, request, confirm, IsShortTsdu, Standing, Local, references, sent, closed_with, Place, never, was_given, place_at, RiseFrom, IsOrderly, react, is_of_peer, has_peer, Rows, value_at, Connection, asked, linked, closing, State, absent, beyond, orderly_unit, orderly_sent, orderly_closed, has_room, reference_of, units_of, AreFor, requests, behind, live_after, Course, unasked, asking, accepting, withdrawing, met, answer_of, at_end, from_end, IsAskedBy, Holds, HoldsAt, called_local, asked_in, answers_at, CourseMoves, StandsBetween, HasPlaces, AreJoined, JoinedFrom, Did, Meeting, talking, left_here, left_there, left_both, waiting_here, waiting_there, parted, mirror, here, out, Message, agree, message, bye}
+use Rattle.osi_between.proofs.Vocabulary.{AllByRecursion, eq-eqb, ne_eqb, ltb-true, ltb-false, append_cancel_left, IsOctets, Value, Connect, request, confirm, IsShortTsdu, Standing, Local, references, sent, closed_with, Place, never, was_given, place_at, RiseFrom, IsOrderly, react, is_of_peer, has_peer, Rows, value_at, Connection, asked, linked, closing, State, absent, beyond, orderly_unit, orderly_sent, orderly_closed, has_room, reference_of, units_of, AreFor, requests, behind, live_after, Course, unasked, asking, accepting, withdrawing, met, answer_of, at_end, from_end, IsAskedBy, Holds, HoldsAt, called_local, asked_in, answers_at, CourseMoves, StandsBetween, HasPlaces, AreJoined, JoinedFrom, Did, Meeting, talking, left_here, left_there, left_both, waiting_here, waiting_there, parted, mirror, here, out, Message, agree, message, bye, found}
 use Rattle.osi_between.proofs.Addressing.{first_of_all, requests_join, behind_join, places_join, places_rest, places_for}
 use Rattle.osi_between.proofs.Courses.{given_place, is_given, met_caller, met_called, answers_plain}
 use Rattle.osi_between.proofs.CourseOpening.{accepts_moves, accepted_sends, accepted_closes, confirm_moves, withdrawn_moves}
@@ -138,8 +138,6 @@ record Moved (end : Bool) (n : ℕ) (g : Course) (this other : State) (going : L
 
 caller_takes : (n : ℕ) (s r : State) (going coming : List Value) (g : Course) (u : Value) (more : List Value) → 0 < n → AreJoined s r going coming → place_at n s ≡ at_end true n g → Holds n s r g →
     from_end false n r.local g ≡ u ∷ more → CourseMoves true n g s r (react u s) (u ∷ []) 0 (answers_at (at_end true n g) u)
-caller_takes n s r going coming unasked u more some j at h e = cc
-caller_takes n s r going coming (asking c) u more some j at h e = cc
 caller_takes n s r going coming (accepting c p) u more some j at h e =
     let here = is_given n s (Some asked) at in
     let same : confirm n (answer_of n r.local c) ≡ u = cc in
@@ -154,13 +152,11 @@ caller_takes n s r going coming (met m) u more some j at h e =
     let place = is_given n s (here n m) at in
     met_caller n m s r (react u s) (u ∷ []) (answers_at (was_given (here n m)) u) h place.within (answers_plain (here n m) u)
     (take_here n s m u more some (let most = j.orderly.given in let le = place.within in omega arith) j.lasts h.class j.orderly place.is h.stands e)
+caller_takes n s r going coming g u more some j at h e = cc
 
 -- ---- the called end takes a unit
 
 -- no live connection has this number of the peer
-found : {X : Type 0} (m q : ℕ) (y : X) (rows : Rows X) (b : Bool) → (q == m) ≡ b → value_at m ((q, y) ∷ rows) ≡ (if b then Some y else value_at m rows)
-found {X} m q y rows b e = ap (λ (c : Bool). if◌then◌else◌ {A = Option X} c (Some y) (value_at m rows)) e
-
 no_peer : (n m : ℕ) (rows : Rows Connection) → RiseFrom m rows → ((q : ℕ) (x : Connection) → m < q → value_at q rows ≡ Some x → is_of_peer n x ≡ false) → has_peer n rows ≡ false
 no_peer n m [] rise h = refl
 no_peer n m ((r, x) ∷ rows) rise h =
@@ -211,9 +207,6 @@ request_moves n s r going coming rest c some j at a cut =
 
 called_takes : (n : ℕ) (s r : State) (going coming rest : List Value) (g : Course) (u : Value) (more : List Value) → 0 < n → AreJoined s r going coming → place_at n r ≡ at_end false n g → Holds n s r g →
     going ≡ u ∷ rest → from_end true n r.local g ≡ u ∷ more → Moved false n g r s coming u
-called_takes n s r going coming rest unasked u more some j at h cut e = cc
-called_takes n s r going coming rest (accepting c p) u more some j at h cut e = cc
-called_takes n s r going coming rest (withdrawing c p reason) u more some j at h cut e = cc
 called_takes n s r going coming rest (asking c) u more some j at h cut e =
     let same : request c ≡ u = cc in
     record {
@@ -230,6 +223,7 @@ called_takes n s r going coming rest (met m) u more some j at h cut e =
           (take_here n r (mirror m) u more some (let most = j.orderly_called.given in let le = place.within in omega arith) j.lasts_called h.class_called j.orderly_called place.is (mirror_stands m h.stands) (ap (out n) (mirror_twice m) ∙ e));
       fits = tt;
     }
+called_takes n s r going coming rest g u more some j at h cut e = cc
 
 -- ---- either takes a unit
 
@@ -263,13 +257,7 @@ within_given n s x orderly at = (above_zero n s x (nat_lt 0 n) refl orderly at, 
 
 sends_by : (end : Bool) (n : ℕ) (this other : State) (g : Course) (link : Standing) (octets : List ℕ) → this.ended ≡ None → IsOrderly this → place_at n this ≡ at_end end n g → HoldsAt end n this other g → value_at n this.live ≡ Some (linked n link) →
     n ≤ this.given → IsShortTsdu octets → IsOctets octets → CourseMoves end n g this other (sent n octets this) [] 0 (message octets ∷ [])
-sends_by end n this other unasked link octets quiet orderly at h live le short are = let e = given_place n this le ∙ ap was_given live in cc
-sends_by true n this other (asking c) link octets quiet orderly at h live le short are = let e = given_place n this le ∙ ap was_given live in cc
-sends_by false n this other (asking c) link octets quiet orderly at h live le short are = let e = given_place n this le ∙ ap was_given live in cc
-sends_by true n this other (accepting c p) link octets quiet orderly at h live le short are = let e = given_place n this le ∙ ap was_given live in cc
 sends_by false n r s (accepting c p) link octets quiet orderly at h live le short are = accepted_sends n c p s r octets h quiet orderly le (is_given n r (Some (linked n p.right)) at).is short are
-sends_by true n this other (withdrawing c p reason) link octets quiet orderly at h live le short are = let e = given_place n this le ∙ ap was_given live in cc
-sends_by false n this other (withdrawing c p reason) link octets quiet orderly at h live le short are = let e = given_place n this le ∙ ap was_given live in cc
 sends_by true n s r (met m) link octets quiet orderly at h live le short are =
     let place = is_given n s (here n m) at in
     met_caller n m s r (sent n octets s) [] (message octets ∷ []) h le refl (send_here n s m link octets (let most = orderly.given in omega arith) quiet orderly place.is (sym place.is ∙ live) h.stands short are)
@@ -277,6 +265,7 @@ sends_by false n r s (met m) link octets quiet orderly at h live le short are =
     let place = is_given n r (here n (mirror m)) at in
     met_called n m r s (sent n octets r) [] (message octets ∷ []) h le tt refl
     (send_here n r (mirror m) link octets (let most = orderly.given in omega arith) quiet orderly place.is (sym place.is ∙ live) (mirror_stands m h.stands) short are)
+sends_by end n this other g link octets quiet orderly at h live le short are = let e = given_place n this le ∙ ap was_given live in cc
 
 pub sends : (end : Bool) (this other : State) (going coming : List Value) (n : ℕ) (link : Standing) (octets : List ℕ) → JoinedFrom end this other going coming → value_at n this.live ≡ Some (linked n link) → IsShortTsdu octets → IsOctets octets →
     Did end n this other (sent n octets this) going coming coming (message octets ∷ [])
@@ -289,13 +278,7 @@ sends end this other going coming n link octets j live short are =
 
 closes_by : (end : Bool) (n : ℕ) (this other : State) (g : Course) (link : Standing) (reason : ℕ) → 0 < n → reason < 256 → this.ended ≡ None → IsOrderly this → place_at n this ≡ at_end end n g → HoldsAt end n this other g → value_at n this.live ≡ Some (linked n link) →
     n ≤ this.given → CourseMoves end n g this other (closed_with n reason this) [] 0 (bye reason ∷ [])
-closes_by end n this other unasked link reason some small quiet orderly at h live le = let e = given_place n this le ∙ ap was_given live in cc
-closes_by true n this other (asking c) link reason some small quiet orderly at h live le = let e = given_place n this le ∙ ap was_given live in cc
-closes_by false n this other (asking c) link reason some small quiet orderly at h live le = let e = given_place n this le ∙ ap was_given live in cc
-closes_by true n this other (accepting c p) link reason some small quiet orderly at h live le = let e = given_place n this le ∙ ap was_given live in cc
 closes_by false n r s (accepting c p) link reason some small quiet orderly at h live le = accepted_closes n c p s r reason some small h quiet orderly le (is_given n r (Some (linked n p.right)) at).is
-closes_by true n this other (withdrawing c p last) link reason some small quiet orderly at h live le = let e = given_place n this le ∙ ap was_given live in cc
-closes_by false n this other (withdrawing c p last) link reason some small quiet orderly at h live le = let e = given_place n this le ∙ ap was_given live in cc
 closes_by true n s r (met m) link reason some small quiet orderly at h live le =
     let place = is_given n s (here n m) at in
     met_caller n m s r (closed_with n reason s) [] (bye reason ∷ []) h le refl (close_here n s m link reason some (let most = orderly.given in omega arith) small quiet h.class orderly place.is (sym place.is ∙ live) h.stands)
@@ -303,6 +286,7 @@ closes_by false n r s (met m) link reason some small quiet orderly at h live le 
     let place = is_given n r (here n (mirror m)) at in
     met_called n m r s (closed_with n reason r) [] (bye reason ∷ []) h le tt refl
     (close_here n r (mirror m) link reason some (let most = orderly.given in omega arith) small quiet h.class_called orderly place.is (sym place.is ∙ live) (mirror_stands m h.stands))
+closes_by end n this other g link reason some small quiet orderly at h live le = let e = given_place n this le ∙ ap was_given live in cc
 
 pub closes : (end : Bool) (this other : State) (going coming : List Value) (n : ℕ) (link : Standing) (reason : ℕ) → JoinedFrom end this other going coming → value_at n this.live ≡ Some (linked n link) → reason < 256 →
     Did end n this other (closed_with n reason this) going coming coming (bye reason ∷ [])

@@ -36,14 +36,11 @@ stands_after : (end : Bool) (n asked : ℕ) (this other next : State) (going com
     (mv : CourseMoves end n s.course this other next taken asked put) → StandsBetween end n next other (going ++ mv.units) rest
 stands_after end n asked this other next going coming rest taken put s cut all mv =
     let local = called_stays end n this other next mv.units mv.events mv.acts in
-    record {
-      course = mv.new;
-      place = mv.place;
-      place_there = s.place_there ∙ sym mv.there;
-      out = out_after end n asked this other next going coming taken put s mv ∙ ap (λ (x : Local). from_end end n x mv.new) local;
-      back = back_after end n asked this other next going coming rest taken put s cut all mv ∙ ap (λ (x : Local). from_end (not end) n x mv.new) local;
-      holds = mv.holds;
-    }
+    search (
+      s.place_there ∙ sym mv.there,
+      out_after end n asked this other next going coming taken put s mv ∙ ap (λ (x : Local). from_end end n x mv.new) local,
+      back_after end n asked this other next going coming rest taken put s cut all mv ∙ ap (λ (x : Local). from_end (not end) n x mv.new) local,
+    )
 
 stands_still : (end : Bool) (q n : ℕ) (this other next : State) (going coming rest taken units : List Value) (told : List Happening) → q ≢ n → StandsBetween end q this other going coming → coming ≡ taken ++ rest →
     AreFor n taken → Acts n this next units told → StandsBetween end q next other (going ++ units) rest

@@ -4,11 +4,9 @@ use Rattle.osi_between.specs.Meeting.{Carries}
 use Rattle.osi_between.proofs.Vocabulary.{flat_map, append-nil, map-append, Value, data0, disconnected, LinkPair, swapped, parts_under_way, under_way, under_way_before, fresh_ends, all_given, Joining, Standing, Given, unit_of, with_tsdu, zero_standing, tsdus_after, uncut, drained_leaves, Happening, tsdu, closed, pumped, handed_out, Connection, asked, linked, closing, Meeting, talking, left_here, left_there, left_both, waiting_here, waiting_there, parted, here, there, addressed, leaving, farewell, told_open, told_at, messages_back, messages_out, Message, message, bye, over, parting, messages_after, uncut_units, kind_of, AreLike, AreOpen, links, LeftTakes, after_take, after_send}
 use Rattle.osi_between.proofs.MessageLaws.{tsdu_messages, messages_behind, messages_front, kinds_begun, kinds_join}
 use Rattle.osi_between.proofs.Turned.{turned_any, turned_any_back, turned_take, turned_send}
+use Rattle.osi_between.proofs.Bringing.{same_like}
 
 -- ---- lists of messages
-
-pub like_same : (o : Option Connection) (some others : List Message) → some ≡ others → AreLike o some others
-like_same o some others e = grind (arith, map)
 
 pub parting_is : (n reason : ℕ) → 0 < n → parting n reason ≡ bye reason
 parting_is n reason some = grind arith
@@ -220,8 +218,8 @@ still_carries n old new arrived told leftward same = record {
   lost = [];
   told = told;
   leftward = leftward;
-  before = like_same (there n old) (messages_out n old) (messages_out n old ++ []) (sym (append-nil (messages_out n old)));
-  after = like_same (there n old) (messages_out n new) (messages_out n old ++ []) (same ∙ sym (append-nil (messages_out n old)));
+  before = same_like (there n old) (messages_out n old) (messages_out n old ++ []) (sym (append-nil (messages_out n old)));
+  after = same_like (there n old) (messages_out n new) (messages_out n old ++ []) (same ∙ sym (append-nil (messages_out n old)));
 }
 
 abbrev pub left_ignores : (n : ℕ) (p : LinkPair) (g : Given) (gs : List Given) (reason : ℕ) → Carries n (left_here p (g ∷ gs) reason) (left_here p gs reason) [] []

@@ -1,6 +1,7 @@
 -- How a connection stands after each unit that one of its two carriers takes, and after each call.
-use Rattle.std.proofs.Common.{◌≡◌, ℕ, ◌<◌, ◌||◌, Bool, true, false, List, [], ◌∷◌, ◌++◌, map, take, Some, None, refl, sym, ap, subst, ◌∙◌, arith}
-use Rattle.osi_between.proofs.Vocabulary.{append-nil, map-append, IsOctets, Value, disconnected, LinkPair, swapped, AreOfClass, IsShortTsdu, all_given, Standing, Given, part0, part2, ack, unit_of, is_of_two, with_tsdu, Two, sent, closed_with, tsdu, closed, react, handed_out, IsOrderly, value_at, linked, State, reference_of, AreFor, is_last, Meeting, talking, left_here, left_there, left_both, waiting_here, waiting_there, parted, mirror, here, addressed, leaving, farewell, out, back, Stands, answers_of, Moves, AgreeIn, AreOpen, after_take, after_send, Message, message, bye, over, messages_after}
+use Rattle.std.proofs.Common.{is_none, ◌≡◌, ℕ, ◌<◌, ◌||◌, Bool, true, false, List, [], ◌∷◌, ◌++◌, map, take, Some, None, refl, sym, ap, subst, ◌∙◌, arith}
+use Rattle.osi_between.specs.Meeting.{Carries}
+use Rattle.osi_between.proofs.Vocabulary.{list_any, Changes, Brings, progress_in, leaves_use, there, append-nil, map-append, IsOctets, Value, disconnected, LinkPair, swapped, AreOfClass, IsShortTsdu, all_given, Standing, Given, part0, part2, ack, unit_of, is_of_two, with_tsdu, Two, sent, closed_with, tsdu, closed, react, handed_out, IsOrderly, value_at, linked, State, reference_of, AreFor, is_last, Meeting, talking, left_here, left_there, left_both, waiting_here, waiting_there, parted, mirror, here, addressed, leaving, farewell, out, back, Stands, answers_of, Moves, AgreeIn, AreOpen, after_take, after_send, Message, message, bye, over, messages_after}
 use Rattle.osi_between.proofs.Bringing.{brings_given, brings_sent, brings_shut, brings_ignored, brings_bye, brings_crossed}
 use Rattle.osi_between.proofs.MeetingMessages.{parting_is, talking_takes, talking_sends, talking_closes, behind_takes, behind_sends, leaving_takes, behind_closes, left_ignores, both_ignores, waiting_ignores, both_takes, waiting_over, waiting_crossed}
 use Rattle.osi_between.proofs.Changes.{given_changes, given_ignored, leaving_changes, crossed_changes, over_changes, send_changes, close_changes}
@@ -135,115 +136,42 @@ take_behind_by n s p hs reason (g ∷ gs) unit rest some few quiet class orderly
     at_head n (left_there p hs reason) s (unit_of n g) unit (addressed n gs ++ leaving n reason ∷ []) rest []
     (ap (λ (us : List Given). addressed n us ++ leaving n reason ∷ []) e) b (given_answers n p.left g) (take_behind n s p hs reason g gs some few quiet class orderly at a two e)
 
+-- a unit that is answered by none and of which the user is told nothing
+takes_quietly : (n : ℕ) (old new : Meeting) (s t : State) (unit : Value) → Changes n s t (here n new) [] [] → there n new ≡ there n old → out n new ≡ out n old →
+    back n old ≡ unit ∷ back n new → is_none (here n new) ≡ list_any is_last (unit ∷ []) → Stands new → (c : Carries n old new [] []) →
+    Brings true (progress_in (here n old)) (progress_in (here n new)) (here n old) (here n new) (unit ∷ []) c.arrived [] →
+    (leaves_use (progress_in (here n old)) (progress_in (here n new)) ≡ false → c.lost ≡ []) → Moves n old s t (unit ∷ []) []
+takes_quietly n old new s t unit changes same goes_out comes goes stands c brings keeps = search ([], [], goes_out ∙ sym (append-nil (out n old)))
+
 pub take_here : (n : ℕ) (s : State) (m : Meeting) (unit : Value) (rest : List Value) → 0 < n → n < 65536 → s.ended ≡ None → s.class ≡ Some Two → IsOrderly s →
     value_at n s.live ≡ here n m → Stands m → back n m ≡ unit ∷ rest → Moves n m s (react unit s) (unit ∷ []) (answers_of (here n m) unit)
 take_here n s (talking p) unit rest some few quiet class orderly at h b = take_talking_by n s p p.leftward unit rest some few quiet class orderly at h refl b
 take_here n s (left_there p hs reason) unit rest some few quiet class orderly at h b = take_behind_by n s p hs reason p.leftward unit rest some few quiet class orderly at h.0 h.1 refl b
-take_here n s (left_here p [] reason) unit rest some few quiet class orderly at h b = cc
 take_here n s (left_here p (g ∷ gs) reason) unit rest some few quiet class orderly at h b =
-    at_head n (left_here p (g ∷ gs) reason) s (unit_of n g) unit (addressed n gs) rest [] refl b refl (record {
-      new = left_here p gs reason;
-      units = [];
-      events = [];
-      changes = given_ignored n s g quiet class orderly h.1.0 at;
-      all_for = tt;
-      sendable = tt;
-      there = refl;
-      out = sym (append-nil (out n (left_here p gs reason)));
-      back = refl;
-      goes = sym (ap (λ (b : Bool). b || false) (given_stays n g));
-      stands = (h.0, h.1.1);
-      carries = left_ignores n p g gs reason;
-      brings = brings_ignored n g;
-      keeps = λ e. refl;
-    })
+    at_head n (left_here p (g ∷ gs) reason) s (unit_of n g) unit (addressed n gs) rest [] refl b refl
+    (takes_quietly n (left_here p (g ∷ gs) reason) (left_here p gs reason) s _ (unit_of n g) (given_ignored n s g quiet class orderly h.1.0 at) refl refl refl
+    (sym (ap (λ (b : Bool). b || false) (given_stays n g))) (h.0, h.1.1) (left_ignores n p g gs reason) (brings_ignored n g) (λ e. refl))
 take_here n s (left_both hs reason [] other) unit rest some few quiet class orderly at h b =
-    at_head n (left_both hs reason [] other) s (leaving n other) unit [] rest [] refl b refl (record {
-      new = waiting_there hs (Some reason);
-      units = [];
-      events = [];
-      changes = crossed_changes n s other quiet class orderly at;
-      all_for = tt;
-      sendable = tt;
-      there = refl;
-      out = sym (append-nil (addressed n hs ++ leaving n reason ∷ []));
-      back = refl;
-      goes = refl;
-      stands = h.0;
-      carries = both_takes n hs reason other some;
-      brings = brings_crossed n other (λ units. ap (λ (m : Message). m ∷ messages_after [] units) (parting_is n other some));
-      keeps = λ e. refl;
-    })
+    at_head n (left_both hs reason [] other) s (leaving n other) unit [] rest [] refl b refl
+    (takes_quietly n (left_both hs reason [] other) (waiting_there hs (Some reason)) s _ (leaving n other) (crossed_changes n s other quiet class orderly at) refl refl refl
+    refl h.0 (both_takes n hs reason other some) (brings_crossed n other (λ units. ap (λ (m : Message). m ∷ messages_after [] units) (parting_is n other some))) (λ e. refl))
 take_here n s (left_both hs reason (g ∷ gs) other) unit rest some few quiet class orderly at h b =
-    at_head n (left_both hs reason (g ∷ gs) other) s (unit_of n g) unit (addressed n gs ++ leaving n other ∷ []) rest [] refl b refl (record {
-      new = left_both hs reason gs other;
-      units = [];
-      events = [];
-      changes = given_ignored n s g quiet class orderly h.1.0 at;
-      all_for = tt;
-      sendable = tt;
-      there = refl;
-      out = sym (append-nil (addressed n hs ++ leaving n reason ∷ []));
-      back = refl;
-      goes = sym (ap (λ (b : Bool). b || false) (given_stays n g));
-      stands = (h.0, h.1.1);
-      carries = both_ignores n hs reason g gs other;
-      brings = brings_ignored n g;
-      keeps = λ e. refl;
-    })
+    at_head n (left_both hs reason (g ∷ gs) other) s (unit_of n g) unit (addressed n gs ++ leaving n other ∷ []) rest [] refl b refl
+    (takes_quietly n (left_both hs reason (g ∷ gs) other) (left_both hs reason gs other) s _ (unit_of n g) (given_ignored n s g quiet class orderly h.1.0 at) refl refl refl
+    (sym (ap (λ (b : Bool). b || false) (given_stays n g))) (h.0, h.1.1) (both_ignores n hs reason g gs other) (brings_ignored n g) (λ e. refl))
 take_here n s (waiting_here [] None) unit rest some few quiet class orderly at h b =
-    at_head n (waiting_here [] None) s (disconnected n n) unit [] rest [] refl b refl (record {
-      new = parted;
-      units = [];
-      events = [];
-      changes = over_changes n s quiet class orderly at;
-      all_for = tt;
-      sendable = tt;
-      there = refl;
-      out = refl;
-      back = refl;
-      goes = refl;
-      stands = tt;
-      carries = waiting_over n;
-      brings = record { is = refl; more = λ units. refl; may = (refl, tt); becomes = refl };
-      keeps = λ e. refl;
-    })
+    at_head n (waiting_here [] None) s (disconnected n n) unit [] rest [] refl b refl
+    (takes_quietly n (waiting_here [] None) parted s _ (disconnected n n) (over_changes n s quiet class orderly at) refl refl refl
+    refl tt (waiting_over n) (record { is = refl; more = λ units. refl; may = (refl, tt); becomes = refl }) (λ e. refl))
 take_here n s (waiting_here [] (Some reason)) unit rest some few quiet class orderly at h b =
-    at_head n (waiting_here [] (Some reason)) s (leaving n reason) unit [] rest [] refl b refl (record {
-      new = parted;
-      units = [];
-      events = [];
-      changes = crossed_changes n s reason quiet class orderly at;
-      all_for = tt;
-      sendable = tt;
-      there = refl;
-      out = refl;
-      back = refl;
-      goes = refl;
-      stands = tt;
-      carries = waiting_crossed n reason some;
-      brings = brings_crossed n reason (λ units. ap (λ (m : Message). m ∷ messages_after [] units) (parting_is n reason some));
-      keeps = λ e. refl;
-    })
+    at_head n (waiting_here [] (Some reason)) s (leaving n reason) unit [] rest [] refl b refl
+    (takes_quietly n (waiting_here [] (Some reason)) parted s _ (leaving n reason) (crossed_changes n s reason quiet class orderly at) refl refl refl
+    refl tt (waiting_crossed n reason some) (brings_crossed n reason (λ units. ap (λ (m : Message). m ∷ messages_after [] units) (parting_is n reason some))) (λ e. refl))
 take_here n s (waiting_here (g ∷ gs) last) unit rest some few quiet class orderly at h b =
-    at_head n (waiting_here (g ∷ gs) last) s (unit_of n g) unit (addressed n gs ++ farewell n last ∷ []) rest [] refl b refl (record {
-      new = waiting_here gs last;
-      units = [];
-      events = [];
-      changes = given_ignored n s g quiet class orderly h.0 at;
-      all_for = tt;
-      sendable = tt;
-      there = refl;
-      out = refl;
-      back = refl;
-      goes = sym (ap (λ (b : Bool). b || false) (given_stays n g));
-      stands = h.1;
-      carries = waiting_ignores n g gs last;
-      brings = brings_ignored n g;
-      keeps = λ e. refl;
-    })
-take_here n s (waiting_there hs last) unit rest some few quiet class orderly at h b = cc
-take_here n s parted unit rest some few quiet class orderly at h b = cc
+    at_head n (waiting_here (g ∷ gs) last) s (unit_of n g) unit (addressed n gs ++ farewell n last ∷ []) rest [] refl b refl
+    (takes_quietly n (waiting_here (g ∷ gs) last) (waiting_here gs last) s _ (unit_of n g) (given_ignored n s g quiet class orderly h.0 at) refl refl refl
+    (sym (ap (λ (b : Bool). b || false) (given_stays n g))) h.1 (waiting_ignores n g gs last) (brings_ignored n g) (λ e. refl))
+take_here n s m unit rest some few quiet class orderly at h b = cc
 
 -- ---- calls here
 
@@ -286,11 +214,7 @@ send_here n s (left_there p hs reason) link octets few quiet orderly at is h sho
       brings = brings_sent n p.left octets;
       keeps = λ e. refl;
     }
-send_here n s (left_here p gs reason) link octets few quiet orderly at is h short are = cc
-send_here n s (left_both hs reason gs other) link octets few quiet orderly at is h short are = cc
-send_here n s (waiting_here gs last) link octets few quiet orderly at is h short are = cc
-send_here n s (waiting_there gs last) link octets few quiet orderly at is h short are = cc
-send_here n s parted link octets few quiet orderly at is h short are = cc
+send_here n s m link octets few quiet orderly at is h short are = cc
 
 pub close_here : (n : ℕ) (s : State) (m : Meeting) (link : Standing) (reason : ℕ) → 0 < n → n < 65536 → reason < 256 → s.ended ≡ None → s.class ≡ Some Two → IsOrderly s →
     value_at n s.live ≡ here n m → here n m ≡ Some (linked n link) → Stands m → Moves n m s (closed_with n reason s) [] (bye reason ∷ [])
@@ -326,8 +250,4 @@ close_here n s (left_there p hs other) link reason some few small quiet class or
   brings = brings_shut n p.left reason;
   keeps = λ e. cc;
 }
-close_here n s (left_here p gs other) link reason some few small quiet class orderly at is h = cc
-close_here n s (left_both hs own gs other) link reason some few small quiet class orderly at is h = cc
-close_here n s (waiting_here gs last) link reason some few small quiet class orderly at is h = cc
-close_here n s (waiting_there gs last) link reason some few small quiet class orderly at is h = cc
-close_here n s parted link reason some few small quiet class orderly at is h = cc
+close_here n s m link reason some few small quiet class orderly at is h = cc

@@ -2,14 +2,7 @@
 use Rattle.std.proofs.Common.{◌≡◌, ℕ, ◌+◌, ◌-◌, ◌<◌, ◌≤◌, Bool, true, false, List, [], ◌∷◌, ◌++◌, length, take, drop, Option, Some, None, IfSome, nat_le, refl, sym, ap, subst, ◌∙◌, arith, append_assoc, length-append}
 use Rattle.osi_tpkt.proofs.PacketLaws.{one_packet}
 use Rattle.osi_between.proofs.Vocabulary.{AllByRecursion, leb-true, leb-false, append-nil, append_cancel_left, take-append-drop, take-append-le, length-take-le, length-drop, take-take, drop-take, IsPacket, IsPartial, packet_of, completed_partial, partial_not_whole, empty_partial, Value, written, IsSendable, packets, all_behind, unit_packet, packets_join, within_reach, IsOnTheWay}
-
-front_none : (xs ys : List ℕ) → xs ++ ys ≡ [] → xs ≡ []
-front_none [] ys e = refl
-front_none (x ∷ xs) ys e = cc
-
-rest_none : (xs ys : List ℕ) → xs ++ ys ≡ [] → ys ≡ []
-rest_none [] ys e = e
-rest_none (x ∷ xs) ys e = cc
+use Rattle.osi_between.proofs.Addressing.{front_none, rest_none}
 
 -- ---- units are written
 
@@ -30,15 +23,12 @@ pub way_out : (reach : Option ℕ) (held outgoing : List ℕ) (going lost units 
     IsOnTheWay held (within_reach reach outgoing) going lost → AllByRecursion IsSendable units →
     IsOnTheWay held (within_reach reach (outgoing ++ packets units)) (going_then reach going units) (lost_then reach lost units)
 way_out None held outgoing going lost units none bound w all = grind (arith, front_none, append_assoc, append-nil, packets_join, all_behind)
-way_out (Some k) held outgoing going lost units none bound w all = record {
-  front = w.front;
-  never = w.never ++ packets units;
-  octets = ap (λ (l : List ℕ). held ++ l) (take-append-le k outgoing (packets units) bound) ∙ w.octets;
-  partial = w.partial;
-  rest = sym (append_assoc w.front w.never (packets units)) ∙ ap (λ (l : List ℕ). l ++ packets units) w.rest ∙ sym (packets_join lost units);
-  sendable = w.sendable;
-  sendable_lost = all_behind lost units w.sendable_lost all;
-}
+way_out (Some k) held outgoing going lost units none bound w all = search (
+  w.never ++ packets units,
+  ap (λ (l : List ℕ). held ++ l) (take-append-le k outgoing (packets units) bound) ∙ w.octets,
+  sym (append_assoc w.front w.never (packets units)) ∙ ap (λ (l : List ℕ). l ++ packets units) w.rest ∙ sym (packets_join lost units),
+  all_behind lost units w.sendable_lost all,
+)
 
 pub bound_out : (reach : Option ℕ) (outgoing more : List ℕ) → IfSome reach (λ k. k ≤ length outgoing) → IfSome reach (λ k. k ≤ length (outgoing ++ more))
 bound_out reach outgoing more h = grind (arith, length-append)
@@ -106,17 +96,9 @@ way_takes packet octets behind held arriving (v ∷ vs) lost p cut w =
 pub way_unit : (u : Value) (rest : List Value) (behind held arriving : List ℕ) (units lost : List Value) → units ≡ u ∷ rest → held ≡ packet_of (written u) ++ behind → IsOnTheWay held arriving units lost → IsOnTheWay behind arriving rest lost
 way_unit u rest behind held arriving units lost first cut w =
     let all : AllByRecursion IsSendable (u ∷ rest) = subst (λ (l : List Value). AllByRecursion IsSendable l) first w.sendable in
-    record {
-      front = w.front;
-      never = w.never;
-      octets = append_cancel_left (packet_of (written u)) (behind ++ arriving) (packets rest ++ w.front)
-          (sym (append_assoc (packet_of (written u)) behind arriving) ∙ ap (λ (l : List ℕ). l ++ arriving) (sym cut) ∙ w.octets
-          ∙ ap (λ (l : List Value). packets l ++ w.front) first ∙ append_assoc (packet_of (written u)) (packets rest) w.front);
-      partial = w.partial;
-      rest = w.rest;
-      sendable = all.1;
-      sendable_lost = w.sendable_lost;
-    }
+    search (append_cancel_left (packet_of (written u)) (behind ++ arriving) (packets rest ++ w.front)
+    (sym (append_assoc (packet_of (written u)) behind arriving) ∙ ap (λ (l : List ℕ). l ++ arriving) (sym cut) ∙ w.octets
+    ∙ ap (λ (l : List Value). packets l ++ w.front) first ∙ append_assoc (packet_of (written u)) (packets rest) w.front))
 
 -- ---- the byte connection breaks
 
@@ -206,9 +188,4 @@ way_breaks held outgoing k units lost none w =
     append_assoc held (take k outgoing) (drop k outgoing) ∙ ap (λ (l : List ℕ). held ++ l) (take-append-drop k outgoing) ∙ w.octets
     ∙ ap (λ (l : List ℕ). packets units ++ l) f ∙ append-nil (packets units) in
     let c = cut_packets units (held ++ take k outgoing) (drop k outgoing) w.sendable whole in
-    record {
-      done = c.done;
-      left = c.left;
-      parts = c.parts;
-      way = record { front = c.front; never = drop k outgoing; octets = c.octets; partial = c.partial; rest = c.rest; sendable = c.sendable; sendable_lost = c.sendable_left };
-    }
+    search

@@ -3,7 +3,7 @@ use Rattle.std.proofs.Common.{◌≡◌, ℕ, ◌+◌, ◌<◌, ◌==◌, Bool, 
 use Rattle.osi_between.specs.Refusing.{unasked, asking, from_end, Holds}
 use Rattle.osi_between.proofs.Vocabulary.{flat_map, eq-eqb, append-nil, IsOctets, Value, Connect, request, disconnect, IsShortTsdu, Standing, Selection, Class, may_connect, class_error, asks, sent, Place, never, was_given, place_at, connection_in, Happening, proposal, react, in_class, before_class, to_connection, to_asked, answers, denies, has_peer, is_full, Rows, value_at, without, Connection, asked, linked, State, packets, without_other, free_of, react_quiet, has_room, reference_of, units_of, AreFor, answers_in, told_of, IsTsap, BringsTo, under_way_for, Message, ask, deny, message, messages_to, not_yet, awaiting, Refusal, denied, rows_in, denying, AreRefusing, refusing, IsProposed}
 use Rattle.osi_between.proofs.Acting.{JoinedAt, Does}
-use Rattle.osi_between.proofs.Addressing.{units_same}
+use Rattle.osi_between.proofs.Addressing.{units_same, none_left}
 use Rattle.osi_between.proofs.Bringing.{same_like, brings_none}
 use Rattle.osi_between.proofs.CourseOpening.{push_places, react_request}
 use Rattle.osi_between.proofs.Courses.{given_place, none_more}
@@ -31,9 +31,6 @@ under_at n s r p q going us a b c all = grind (arith, units_same)
 
 brings_refused : (n : ℕ) (s t : State) (p q : Place) (us : List Value) (ms put : List Message) → place_at n s ≡ p → place_at n t ≡ q → BringsTo false p q us ms put → BringsTo false (place_at n s) (place_at n t) us ms put
 brings_refused n s t p q us ms put a b h = grind arith
-
-none_left : (coming rest : List Value) (u : Value) → coming ≡ [] → coming ≡ u ∷ rest → ⊥
-none_left coming rest u a b = let no : [] ≡ u ∷ rest = sym a ∙ b in cc
 
 -- ---- the caller asks
 
@@ -224,24 +221,22 @@ at_reference reason end n this other going coming rest u unit p same ref place d
 
 caller_by : (reason : ℕ) (s r : State) (going coming rest : List Value) (unit : Value) (g : Refusal) → AreRefusing reason s r going coming → s.live ≡ rows_in s.given g → going ≡ from_end true reason s.given g → coming ≡ from_end false reason s.given g → Holds s g →
     coming ≡ unit ∷ rest → Does (refusing reason) true (reference_of unit) s r (react unit s) going coming rest (unit ∷ []) (answers_in (refusing reason) (place_at (reference_of unit) s) unit)
-caller_by reason s r going coming rest unit unasked j live is back h cut = absurd (none_left coming rest unit back cut)
-caller_by reason s r going coming rest unit (asking c) j live is back h cut = absurd (none_left coming rest unit back cut)
 caller_by reason s r going coming rest unit denied j live is back h cut =
     let u = denying s.given reason in
     let head : u ≡ unit = (let x = sym back ∙ cut in cc) in
     at_reference reason true s.given s r going coming rest u unit (was_given (Some asked)) head refl (last_place s asked live)
     (is_refused reason s r going coming rest j live is back h (cut ∙ ap (λ (x : Value). x ∷ rest) (sym head)))
+caller_by reason s r going coming rest unit g j live is back h cut = absurd (none_left coming rest unit back cut)
 
 called_by : (reason : ℕ) (s r : State) (going coming rest : List Value) (unit : Value) (g : Refusal) → AreRefusing reason s r going coming → s.live ≡ rows_in s.given g → going ≡ from_end true reason s.given g → coming ≡ from_end false reason s.given g → Holds s g →
     going ≡ unit ∷ rest → Does (refusing reason) false (reference_of unit) r s (react unit r) coming going rest (unit ∷ []) (answers_in (refusing reason) (place_at (reference_of unit) r) unit)
-called_by reason s r going coming rest unit unasked j live is back h cut = absurd (none_left going rest unit is cut)
-called_by reason s r going coming rest unit denied j live is back h cut = absurd (none_left going rest unit is cut)
 called_by reason s r going coming rest unit (asking c) j live is back h cut =
     let head : request c ≡ unit = (let x = sym is ∙ cut in cc) in
     let given = j.given_called in
     let some = h.0 in
     at_reference reason false s.given r s coming going rest (request c) unit never head (source_is s.given s.local c h.1) (next_never r s.given (omega arith))
     (refuses reason s r going coming rest c j live is back h.0 h.1 (cut ∙ ap (λ (x : Value). x ∷ rest) (sym head)))
+called_by reason s r going coming rest unit g j live is back h cut = absurd (none_left going rest unit is cut)
 
 takes_none : (reason : ℕ) (end : Bool) (this other : State) (going coming rest : List Value) (unit : Value) → JoinedAt end (refusing reason) this other going coming → coming ≡ unit ∷ rest →
     Does (refusing reason) end (reference_of unit) this other (react unit this) going coming rest (unit ∷ []) (answers_in (refusing reason) (place_at (reference_of unit) this) unit)

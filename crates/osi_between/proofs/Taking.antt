@@ -124,12 +124,11 @@ written_one u v a b e = let same : Ok (u ∷ []) ≡ Ok (v ∷ []) = sym (unit_r
 
 written_all : (us vs : List Value) → AllByRecursion IsSendable us → AllByRecursion IsSendable vs → map written us ≡ map written vs → us ≡ vs
 written_all [] [] a b e = refl
-written_all [] (v ∷ vs) a b e = cc
-written_all (u ∷ us) [] a b e = cc
 written_all (u ∷ us) (v ∷ vs) a b e =
     let first : written u ≡ written v = cc in
     let others : map written us ≡ map written vs = cc in
     ap (λ x. x ∷ us) (written_one u v a.0 b.0 first) ∙ ap (λ l. v ∷ l) (written_all us vs a.1 b.1 others)
+written_all us vs a b e = cc
 
 are_packets : (us : List Value) → AllByRecursion IsSendable us → ArePackets (map written us) (packets us) []
 are_packets [] all = refl

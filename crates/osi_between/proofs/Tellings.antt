@@ -1,10 +1,10 @@
 -- Over every list of moves what is told at one end are the first of what was handed in at the other.
-use Rattle.std.proofs.Common.{◌≡◌, ℕ, ◌+◌, ◌||◌, Bool, true, false, not, List, [], ◌∷◌, ◌++◌, length, drop, Option, None, is_some, refl, sym, ap, subst, ◌∙◌, append_assoc, nat_lt, if◌then◌else◌, arith}
+use Rattle.std.proofs.Common.{◌≡◌, ℕ, ◌+◌, ◌||◌, Bool, true, false, not, List, [], ◌∷◌, ◌++◌, length, drop, Option, None, is_some, refl, sym, ap, subst, ◌∙◌, append_assoc, nat_lt, if◌then◌else◌, arith, inl, inr}
 use Rattle.std.proofs.Math.Seq.{drop-append_seam}
 use Rattle.osi_between.specs.Between.{under_way}
 use Rattle.osi_between.specs.Journey.{ends}
-use Rattle.osi_between.proofs.Vocabulary.{flat_map, append-nil, Local, Place, never, was_given, place_at, connection_in, Happening, after_packet, value_at, Connection, State, Closed, reference_of, Both, Between, last_of, AreBetween, is_cut, told_of, answers_in, Acted, becomes, Took, Same, Lost, handed_over, still_to_tell, fresh_both, fresh_between, tsdus_told, tsdus_in, told_in, handed_in, all_told, all_handed_in, AreFirstOf, progress_of, Move, carries, takes, connects, hands_in, closes, tells, breaks, May, moved, MayAll, Message, ask, message, bye, messages_after, uncut_units, unsent_at, begun_at, Terms, by_two, by_zero, refusing, terms_of}
-use Rattle.osi_between.proofs.Acting.{by_end}
+use Rattle.osi_between.proofs.Vocabulary.{side, flat_map, append-nil, Local, Place, never, was_given, place_at, connection_in, Happening, after_packet, value_at, Connection, State, Closed, reference_of, Both, Between, last_of, AreBetween, is_cut, told_of, answers_in, Acted, becomes, Took, Same, Lost, handed_over, still_to_tell, fresh_both, fresh_between, tsdus_told, tsdus_in, told_in, handed_in, all_told, all_handed_in, AreFirstOf, progress_of, Move, carries, takes, connects, hands_in, closes, tells, breaks, May, moved, MayAll, Message, ask, message, bye, messages_after, uncut_units, unsent_at, begun_at, Terms, by_two, by_zero, refusing, terms_of}
+use Rattle.osi_between.proofs.Acting.{by_end, Each}
 use Rattle.osi_between.proofs.Firsts.{first_none, first_more, first_through, first_behind, is_over, is_sealed, tsdus_under, sealed_same, or_left, or_still, Fact, fact_lost, fact_still, fact_plain, fact_handed, fact_taken, fact_called, acts_at, stays_open, may_be_open, answers_none}
 use Rattle.osi_between.proofs.Betweens.{took, sends, closes_ends, hands_over, ends_at, no_open, less_some}
 use Rattle.osi_between.proofs.Betweens as all
@@ -38,40 +38,23 @@ lost_fact terms from x n both new b t =
 told_is : (n : ℕ) (s t : State) (old new : State) (es : List Happening) → s ≡ old → t ≡ new → new.events ≡ old.events ++ es → tsdus_told n (drop (length s.events) t.events) ≡ tsdus_told n es
 told_is n s t old new es here now e = grind (arith, drop, length, drop_front)
 
-takes_caller : (terms : Terms) (both : Both) (b : Between) (packet octets behind : List ℕ) → AreBetween terms both b → both.caller.state.ended ≡ None → Took terms true packet behind both b → Goes terms (takes true packet octets behind) both b
-takes_caller terms both b packet octets behind a alive t =
-    let m = takes true packet octets behind in
+takes_at : (terms : Terms) (end : Bool) → Each → (both : Both) (b : Between) (packet octets behind : List ℕ) → AreBetween terms both b → (side end both).state.ended ≡ None → Took terms end packet behind both b → Goes terms (takes end packet octets behind) both b
+takes_at terms true (inl none) both b packet octets behind a alive t = absurd none
+takes_at terms end each both b packet octets behind a alive t =
+    let m = takes end packet octets behind in
     let u = t.unit in
     let q = reference_of u in
-    let put = answers_in terms (place_at q b.caller) u in
-    let d = subst (λ (x : State). Acted terms true q both (becomes true x behind both) b (u ∷ []) put) (sym t.acts) t.acted in
-    let w = acts_at true both (moved m both) alive d.lasts refl refl in
+    let put = answers_in terms (place_at q (last_of end b)) u in
+    let d = subst (λ (x : State). Acted terms end q both (becomes end x behind both) b (u ∷ []) put) (sym t.acts) t.acted in
+    let w = acts_at end both (moved m both) alive d.lasts refl refl in
     record {
       now = d.now;
       between = d.between;
-      facts = λ from n. by_end true (λ f. Fact f (not f) n both (moved m both) b d.now (told_in (not f) n m both) (handed_in f n m))
-          (fact_plain terms true q n both (moved m both) b d.now (u ∷ []) put d.carries w (answers_none terms (place_at q b.caller) u))
-          (fact_taken terms true q n both (moved m both) b d.now (u ∷ []) put (told_in true n m both) d.carries (refl, tt) w (may_be_open terms true both b q a alive)
-          (told_is n both.caller.state (after_packet both.caller.state packet) b.caller d.now.caller (flat_map (told_of terms q (place_at q b.caller)) d.carries.arrived)
-          (a.lives true alive) (d.between.lives true d.lasts) d.carries.told)) from;
-    }
-
-takes_called : (terms : Terms) (both : Both) (b : Between) (packet octets behind : List ℕ) → AreBetween terms both b → both.called.state.ended ≡ None → Took terms false packet behind both b → Goes terms (takes false packet octets behind) both b
-takes_called terms both b packet octets behind a alive t =
-    let m = takes false packet octets behind in
-    let u = t.unit in
-    let q = reference_of u in
-    let put = answers_in terms (place_at q b.called) u in
-    let d = subst (λ (x : State). Acted terms false q both (becomes false x behind both) b (u ∷ []) put) (sym t.acts) t.acted in
-    let w = acts_at false both (moved m both) alive d.lasts refl refl in
-    record {
-      now = d.now;
-      between = d.between;
-      facts = λ from n. by_end false (λ f. Fact f (not f) n both (moved m both) b d.now (told_in (not f) n m both) (handed_in f n m))
-          (fact_plain terms false q n both (moved m both) b d.now (u ∷ []) put d.carries w (answers_none terms (place_at q b.called) u))
-          (fact_taken terms false q n both (moved m both) b d.now (u ∷ []) put (told_in false n m both) d.carries (refl, tt) w (may_be_open terms false both b q a alive)
-          (told_is n both.called.state (after_packet both.called.state packet) b.called d.now.called (flat_map (told_of terms q (place_at q b.called)) d.carries.arrived)
-          (a.lives false alive) (d.between.lives false d.lasts) d.carries.told)) from;
+      facts = λ from n. by_end end (λ f. Fact f (not f) n both (moved m both) b d.now (told_in (not f) n m both) (handed_in f n m))
+          (fact_plain terms end q n both (moved m both) b d.now (u ∷ []) put d.carries w (answers_none terms (place_at q (last_of end b)) u))
+          (fact_taken terms end q n both (moved m both) b d.now (u ∷ []) put (told_in end n m both) d.carries (refl, tt) w (may_be_open terms end both b q a alive)
+          (told_is n (side end both).state (after_packet (side end both).state packet) (last_of end b) (last_of end d.now) (flat_map (told_of terms q (place_at q (last_of end b))) d.carries.arrived)
+          (a.lives end alive) (d.between.lives end d.lasts) d.carries.told)) from;
     }
 
 -- ---- calls
@@ -90,76 +73,45 @@ connect_goes terms both b calling to a may =
           (fact_called terms true q n both (moved m both) b d.now (ask ∷ []) d.carries w (may_be_open terms true both b q a may.0)) from;
     }
 
-send_goes : (terms : Terms) (end : Bool) (both : Both) (b : Between) (q : ℕ) (tsdu : List ℕ) → AreBetween terms both b → May (hands_in end q tsdu) both → Goes terms (hands_in end q tsdu) both b
-send_goes terms true both b q tsdu a may =
-    let m = hands_in true q tsdu in
-    let d = sends terms (provides terms) true both b q may.0.peer may.0.link tsdu a may.0.lasts may.0.is may.1 may.2 in
-    let w = acts_at true both (moved m both) may.0.lasts d.lasts refl refl in
-    let o = stays_open terms true q both (moved m both) b d.now tsdu may.0.peer may.0.link d.carries (ap (λ (s : State). value_at q s.live) (sym (a.lives true may.0.lasts)) ∙ may.0.is) in
+send_goes : (terms : Terms) (end : Bool) → Each → (both : Both) (b : Between) (q : ℕ) (tsdu : List ℕ) → AreBetween terms both b → May (hands_in end q tsdu) both → Goes terms (hands_in end q tsdu) both b
+send_goes terms true (inl none) both b q tsdu a may = absurd none
+send_goes terms end each both b q tsdu a may =
+    let m = hands_in end q tsdu in
+    let d = sends terms (provides terms) end both b q may.0.peer may.0.link tsdu a may.0.lasts may.0.is may.1 may.2 in
+    let w = acts_at end both (moved m both) may.0.lasts d.lasts refl refl in
+    let o = stays_open terms end q both (moved m both) b d.now tsdu may.0.peer may.0.link d.carries (ap (λ (s : State). value_at q s.live) (sym (a.lives end may.0.lasts)) ∙ may.0.is) in
     record {
       now = d.now;
       between = d.between;
-      facts = λ from n. by_end true (λ f. Fact f (not f) n both (moved m both) b d.now (told_in (not f) n m both) (handed_in f n m))
-          (fact_handed terms true q n both (moved m both) b d.now [] tsdu d.carries w o)
-          (fact_called terms true q n both (moved m both) b d.now (message tsdu ∷ []) d.carries w (may_be_open terms true both b q a may.0.lasts)) from;
-    }
-send_goes terms false both b q tsdu a may =
-    let m = hands_in false q tsdu in
-    let d = sends terms (provides terms) false both b q may.0.peer may.0.link tsdu a may.0.lasts may.0.is may.1 may.2 in
-    let w = acts_at false both (moved m both) may.0.lasts d.lasts refl refl in
-    let o = stays_open terms false q both (moved m both) b d.now tsdu may.0.peer may.0.link d.carries (ap (λ (s : State). value_at q s.live) (sym (a.lives false may.0.lasts)) ∙ may.0.is) in
-    record {
-      now = d.now;
-      between = d.between;
-      facts = λ from n. by_end false (λ f. Fact f (not f) n both (moved m both) b d.now (told_in (not f) n m both) (handed_in f n m))
-          (fact_handed terms false q n both (moved m both) b d.now [] tsdu d.carries w o)
-          (fact_called terms false q n both (moved m both) b d.now (message tsdu ∷ []) d.carries w (may_be_open terms false both b q a may.0.lasts)) from;
+      facts = λ from n. by_end end (λ f. Fact f (not f) n both (moved m both) b d.now (told_in (not f) n m both) (handed_in f n m))
+          (fact_handed terms end q n both (moved m both) b d.now [] tsdu d.carries w o)
+          (fact_called terms end q n both (moved m both) b d.now (message tsdu ∷ []) d.carries w (may_be_open terms end both b q a may.0.lasts)) from;
     }
 
-close_goes : (terms : Terms) (end : Bool) (both : Both) (b : Between) (q reason : ℕ) → AreBetween terms both b → May (closes end q reason) both → Goes terms (closes end q reason) both b
-close_goes by_two true both b q reason a may =
-    let m = closes true q reason in
-    let d = all.closes true both b q may.0.peer may.0.link reason a may.0.lasts may.0.is may.1 in
-    let w = acts_at true both (moved m both) may.0.lasts d.lasts refl refl in
+close_goes : (terms : Terms) (end : Bool) → Each → (both : Both) (b : Between) (q reason : ℕ) → AreBetween terms both b → May (closes end q reason) both → Goes terms (closes end q reason) both b
+close_goes terms true (inl none) both b q reason a may = absurd none
+close_goes by_two end each both b q reason a may =
+    let m = closes end q reason in
+    let d = all.closes end both b q may.0.peer may.0.link reason a may.0.lasts may.0.is may.1 in
+    let w = acts_at end both (moved m both) may.0.lasts d.lasts refl refl in
     record {
       now = d.now;
       between = d.between;
-      facts = λ from n. by_end true (λ f. Fact f (not f) n both (moved m both) b d.now (told_in (not f) n m both) (handed_in f n m))
-          (fact_plain by_two true q n both (moved m both) b d.now [] (bye reason ∷ []) d.carries w refl)
-          (fact_called by_two true q n both (moved m both) b d.now (bye reason ∷ []) d.carries w tt) from;
+      facts = λ from n. by_end end (λ f. Fact f (not f) n both (moved m both) b d.now (told_in (not f) n m both) (handed_in f n m))
+          (fact_plain by_two end q n both (moved m both) b d.now [] (bye reason ∷ []) d.carries w refl)
+          (fact_called by_two end q n both (moved m both) b d.now (bye reason ∷ []) d.carries w tt) from;
     }
-close_goes by_two false both b q reason a may =
-    let m = closes false q reason in
-    let d = all.closes false both b q may.0.peer may.0.link reason a may.0.lasts may.0.is may.1 in
-    let w = acts_at false both (moved m both) may.0.lasts d.lasts refl refl in
-    record {
-      now = d.now;
-      between = d.between;
-      facts = λ from n. by_end false (λ f. Fact f (not f) n both (moved m both) b d.now (told_in (not f) n m both) (handed_in f n m))
-          (fact_plain by_two false q n both (moved m both) b d.now [] (bye reason ∷ []) d.carries w refl)
-          (fact_called by_two false q n both (moved m both) b d.now (bye reason ∷ []) d.carries w tt) from;
-    }
-close_goes by_zero true both b q reason a may =
-    let m = closes true q reason in
-    let is = closes_ends true both b q may.0.peer may.0.link reason a may.0.lasts may.0.is in
-    let t = subst (λ (x : State). Lost by_zero both (becomes true x both.caller.held both) b) (sym is) (ends_at by_zero true both b Closed a) in
+close_goes by_zero end each both b q reason a may =
+    let m = closes end q reason in
+    let is = closes_ends end both b q may.0.peer may.0.link reason a may.0.lasts may.0.is in
+    let t = subst (λ (x : State). Lost by_zero both (becomes end x (side end both).held both) b) (sym is) (ends_at by_zero end both b Closed a) in
     record {
       now = t.now;
       between = t.between;
       facts = λ from n. by_end true (λ f. Fact f (not f) n both (moved m both) b t.now (told_in (not f) n m both) (handed_in f n m))
           (lost_fact by_zero true false n both (moved m both) b t) (lost_fact by_zero false true n both (moved m both) b t) from;
     }
-close_goes by_zero false both b q reason a may =
-    let m = closes false q reason in
-    let is = closes_ends false both b q may.0.peer may.0.link reason a may.0.lasts may.0.is in
-    let t = subst (λ (x : State). Lost by_zero both (becomes false x both.called.held both) b) (sym is) (ends_at by_zero false both b Closed a) in
-    record {
-      now = t.now;
-      between = t.between;
-      facts = λ from n. by_end true (λ f. Fact f (not f) n both (moved m both) b t.now (told_in (not f) n m both) (handed_in f n m))
-          (lost_fact by_zero true false n both (moved m both) b t) (lost_fact by_zero false true n both (moved m both) b t) from;
-    }
-close_goes (refusing why) end both b q reason a may = absurd (no_open why end both b q may.0.peer may.0.link a may.0.lasts may.0.is)
+close_goes (refusing why) end each both b q reason a may = absurd (no_open why end both b q may.0.peer may.0.link a may.0.lasts may.0.is)
 
 -- ---- any move
 
@@ -193,13 +145,11 @@ move_goes : (terms : Terms) (m : Move) (both : Both) (b : Between) → AreBetwee
 move_goes terms (carries end k) both b a may =
     same_goes terms (carries end k) both b (hands_over terms (provides terms) end both b k a may) (carried_cut end k both)
     (λ from n. by_from (λ f. told_in (not f) n (carries end k) both ≡ []) refl refl from) (λ from n. by_from (λ f. handed_in f n (carries end k) ≡ []) refl refl from)
-move_goes terms (takes true packet octets behind) both b a may =
-    takes_caller terms both b packet octets behind a may.lasts (took terms (provides terms) true both b packet octets behind a may.lasts may.is may.cut)
-move_goes terms (takes false packet octets behind) both b a may =
-    takes_called terms both b packet octets behind a may.lasts (took terms (provides terms) false both b packet octets behind a may.lasts may.is may.cut)
+move_goes terms (takes end packet octets behind) both b a may =
+    takes_at terms end (inr tt) both b packet octets behind a may.lasts (took terms (provides terms) end both b packet octets behind a may.lasts may.is may.cut)
 move_goes terms (connects calling to) both b a may = connect_goes terms both b calling to a may
-move_goes terms (hands_in end q tsdu) both b a may = send_goes terms end both b q tsdu a may
-move_goes terms (closes end q reason) both b a may = close_goes terms end both b q reason a may
+move_goes terms (hands_in end q tsdu) both b a may = send_goes terms end (inr tt) both b q tsdu a may
+move_goes terms (closes end q reason) both b a may = close_goes terms end (inr tt) both b q reason a may
 move_goes terms (tells end events) both b a may =
     same_goes terms (tells end events) both b (all.tells terms (provides terms) end both b events a) (told_cut end events both)
     (λ from n. by_from (λ f. told_in (not f) n (tells end events) both ≡ []) refl refl from) (λ from n. by_from (λ f. handed_in f n (tells end events) ≡ []) refl refl from)

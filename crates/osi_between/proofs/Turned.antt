@@ -109,14 +109,10 @@ agree_turned false old new i o t a = record {
   agree = zero_turns t.turns old new a.agree t.along;
   agree_back = zero_turns (map opposite t.turns) (swapped old) (swapped new) a.agree_back (other_way old new t.turns t.along);
 }
-agree_turned true old new i o t a = record {
-  window = a.window;
-  back = a.back;
-  some = a.some;
-  some_back = a.some_back;
-  agree = agree_turns t.turns old new a.window a.agree t.along;
-  agree_back = agree_turns (map opposite t.turns) (swapped old) (swapped new) a.back a.agree_back (other_way old new t.turns t.along);
-}
+agree_turned true old new i o t a = search (
+  agree_turns t.turns old new a.window a.agree t.along,
+  agree_turns (map opposite t.turns) (swapped old) (swapped new) a.back a.agree_back (other_way old new t.turns t.along),
+)
 
 -- what is under way from links that may have parts without their ends
 pub turned_any : (old new : LinkPair) (i o : List (List ℕ)) → Turned old new i o → under_way_before old i ≡ under_way new

@@ -4,7 +4,7 @@ pub use Rattle.std.proofs.lemmas.Bool.{eq-eqb, eqb-true, le-ltb, leb-false, leb-
 pub use Rattle.std.proofs.lemmas.Grind.{flat_map-append}
 pub use Rattle.std.proofs.lemmas.List.{append-nil, append_cancel_left, append_cancel_right, drop-take, length-drop, length-take-le, map-append, take-append-drop, take-append-le, take-take}
 pub use Rattle.std.specs.List.{AllByRecursion, flat_map, list_any}
-pub use Rattle.osi_carrier.proofs.Apart.{absent, beyond, push_here, put_here, without_here}
+pub use Rattle.osi_carrier.proofs.Apart.{absent, beyond, found, push_here, put_here, without_here}
 pub use Rattle.osi_carrier.proofs.AtReferences.{push_other, push_rise, push_up, put_other, without_other, without_rise, without_up}
 pub use Rattle.osi_carrier.proofs.Coming.{Fronts, all_behind, alone_starved, fault_free, packet_reacts, reads_part, starved_unit, unit_packet, unit_read, units_front}
 pub use Rattle.osi_carrier.proofs.Effects.{free_of, orderly_asks, orderly_closed, orderly_fresh, orderly_same, orderly_sent, orderly_unit}

@@ -14,7 +14,8 @@ use Rattle.osi_between.proofs.Proposals.{source_is}
 use Rattle.osi_between.proofs.Providing.{Provides}
 use Rattle.osi_between.proofs.Sendables.{all_sendable, range_end}
 use Rattle.osi_between.proofs.Turned.{sends_passes}
-use Rattle.osi_between.proofs.Zeros.{one_place, zero_for, under_is, brings_at, asks_zero, request_taken, confirm_taken, put_places, put_one, Talks, Talked, talk_takes, talk_sends}
+use Rattle.osi_between.proofs.Zeros.{one_place, zero_for, under_is, brings_at, asks_zero, request_taken, confirm_taken, put_places, put_one, Talks, Talked, talk_takes, talk_sends, one_of}
+use Rattle.osi_between.proofs.Addressing.{none_left}
 
 -- ---- open links
 
@@ -59,12 +60,6 @@ finish : (end : Bool) (this other : State) (going coming rest : List Value) (u u
     Does by_zero end (reference_of unit) this other (react unit this) going coming rest (unit ∷ []) (answers_in by_zero (place_at (reference_of unit) this) unit)
 finish end this other going coming rest u unit put same ref ans d = grind arith
 
-none_left : (coming rest : List Value) (u : Value) → coming ≡ [] → coming ≡ u ∷ rest → ⊥
-none_left coming rest u a b = let no : [] ≡ u ∷ rest = sym a ∙ b in cc
-
-given_one : (g : Given) → reference_of (unit_of 1 g) ≡ 1
-given_one g = grind arith
-
 given_answer : (link : Standing) (g : Given) → answers_at (was_given (Some (linked 1 link))) (unit_of 1 g) ≡ []
 given_answer link g = grind arith
 
@@ -74,33 +69,31 @@ talking_takes : (end : Bool) (this other : State) (going coming rest : List Valu
 talking_takes end this other going coming rest unit p [] j one there is back a e cut = absurd (none_left coming rest unit (back ∙ ap (addressed 1) e) cut)
 talking_takes end this other going coming rest unit p (g ∷ gs) j one there is back a e cut =
     let head : unit_of 1 g ≡ unit = (let x = sym (back ∙ ap (addressed 1) e) ∙ cut in cc) in
-    finish end this other going coming rest (unit_of 1 g) unit [] head (given_one g) (ap (λ (x : Place). answers_at x (unit_of 1 g)) (one_place this (was_given (Some (linked 1 p.left))) one) ∙ given_answer p.left g)
+    finish end this other going coming rest (unit_of 1 g) unit [] head (one_of g) (ap (λ (x : Place). answers_at x (unit_of 1 g)) (one_place this (was_given (Some (linked 1 p.left))) one) ∙ given_answer p.left g)
     (does_zero end this other (react (unit_of 1 g) this) going coming rest (unit_of 1 g ∷ []) [] p j there back
     (talk_takes this other going coming rest p g gs (talks this other going coming p one there is a) (cut ∙ ap (λ (x : Value). x ∷ rest) (sym head)) e))
 
 caller_by : (s r : State) (going coming rest : List Value) (unit : Value) (g : ZeroCourse) → AreJoinedZero s r going coming → HasOne s (at_end true g) → HasOne r (at_end false g) → going ≡ from_end true r.local g → coming ≡ from_end false r.local g →
     Holds s.local r.local g → coming ≡ unit ∷ rest →
     Does by_zero true (reference_of unit) s r (react unit s) going coming rest (unit ∷ []) (answers_in by_zero (place_at (reference_of unit) s) unit)
-caller_by s r going coming rest unit unasked j one other is back h cut = absurd (none_left coming rest unit back cut)
-caller_by s r going coming rest unit (asking c) j one other is back h cut = absurd (none_left coming rest unit back cut)
 caller_by s r going coming rest unit (accepting c p) j one other is back h cut =
     let u = confirm 1 (answer_of r.local c) in
     let head : u ≡ unit = (let x = sym back ∙ cut in cc) in
     finish true s r going coming rest u unit [] head refl (ap (λ (x : Place). answers_at x u) (one_place s (was_given (Some asked)) one))
     (confirm_taken s r going coming rest c p j.is_caller j.is_called j.terms one other is back h (cut ∙ ap (λ (x : Value). x ∷ rest) (sym head)))
 caller_by s r going coming rest unit (talking p) j one other is back h cut = talking_takes true s r going coming rest unit p p.leftward j one other is back h refl cut
+caller_by s r going coming rest unit g j one other is back h cut = absurd (none_left coming rest unit back cut)
 
 called_by : (s r : State) (going coming rest : List Value) (unit : Value) (g : ZeroCourse) → AreJoinedZero s r going coming → HasOne s (at_end true g) → HasOne r (at_end false g) → going ≡ from_end true r.local g → coming ≡ from_end false r.local g →
     Holds s.local r.local g → going ≡ unit ∷ rest →
     Does by_zero false (reference_of unit) r s (react unit r) coming going rest (unit ∷ []) (answers_in by_zero (place_at (reference_of unit) r) unit)
-called_by s r going coming rest unit unasked j one other is back h cut = absurd (none_left going rest unit is cut)
 called_by s r going coming rest unit (asking c) j one other is back h cut =
     let head : request c ≡ unit = (let x = sym is ∙ cut in cc) in
     let source : c.source ≡ 1 = source_is 1 s.local c h in
     finish false r s coming going rest (request c) unit (agree ∷ []) head source (ap (λ (x : Place). answers_at x (request c)) (one_place r never other))
     (request_taken s r going coming rest c j.is_caller j.is_called j.terms one other is back h (cut ∙ ap (λ (x : Value). x ∷ rest) (sym head)))
-called_by s r going coming rest unit (accepting c p) j one other is back h cut = absurd (none_left going rest unit is cut)
 called_by s r going coming rest unit (talking p) j one other is back h cut = talking_takes false r s coming going rest unit (swapped p) p.rightward j other one back is (open_mirror false p h) refl cut
+called_by s r going coming rest unit g j one other is back h cut = absurd (none_left going rest unit is cut)
 
 takes_zero : (end : Bool) (this other : State) (going coming rest : List Value) (unit : Value) → JoinedAt end by_zero this other going coming → coming ≡ unit ∷ rest →
     Does by_zero end (reference_of unit) this other (react unit this) going coming rest (unit ∷ []) (answers_in by_zero (place_at (reference_of unit) this) unit)
@@ -192,16 +185,13 @@ accept_sends s r going coming c p octets j one other none is h short are =
 caller_sends : (s r : State) (going coming : List Value) (n peer : ℕ) (link : Standing) (octets : List ℕ) (g : ZeroCourse) → AreJoinedZero s r going coming → HasOne s (at_end true g) → HasOne r (at_end false g) → going ≡ from_end true r.local g → coming ≡ from_end false r.local g →
     Holds s.local r.local g → value_at n s.live ≡ Some (linked peer link) → IsShortTsdu octets → IsOctets octets → Does by_zero true n s r (sent n octets s) going coming coming [] (message octets ∷ [])
 caller_sends s r going coming n peer link octets unasked j one other is back h at short are = absurd (not_here s n (linked peer link) one at)
-caller_sends s r going coming n peer link octets (asking c) j one other is back h at short are = absurd (not_asked s n peer link one at)
-caller_sends s r going coming n peer link octets (accepting c p) j one other is back h at short are = absurd (not_asked s n peer link one at)
 caller_sends s r going coming n peer link octets (talking p) j one other is back h at short are =
     subst (λ (m : ℕ). Does by_zero true m s r (sent m octets s) going coming coming [] (message octets ∷ [])) (sym (at_one s n (linked 1 p.left) (linked peer link) one at).reference)
     (does_zero true s r (sent 1 octets s) going coming coming [] (message octets ∷ []) p j other back (talk_sends s r going coming p octets (talks s r going coming p one other is h) short are))
+caller_sends s r going coming n peer link octets g j one other is back h at short are = absurd (not_asked s n peer link one at)
 
 called_sends : (s r : State) (going coming : List Value) (n peer : ℕ) (link : Standing) (octets : List ℕ) (g : ZeroCourse) → AreJoinedZero s r going coming → HasOne s (at_end true g) → HasOne r (at_end false g) → going ≡ from_end true r.local g → coming ≡ from_end false r.local g →
     Holds s.local r.local g → value_at n r.live ≡ Some (linked peer link) → IsShortTsdu octets → IsOctets octets → Does by_zero false n r s (sent n octets r) coming going going [] (message octets ∷ [])
-called_sends s r going coming n peer link octets unasked j one other is back h at short are = absurd (not_here r n (linked peer link) other at)
-called_sends s r going coming n peer link octets (asking c) j one other is back h at short are = absurd (not_here r n (linked peer link) other at)
 called_sends s r going coming n peer link octets (accepting c p) j one other is back h at short are =
     subst (λ (m : ℕ). Does by_zero false m r s (sent m octets r) coming going going [] (message octets ∷ [])) (sym (at_one r n (linked 1 p.right) (linked peer link) other at).reference)
     (accept_sends s r going coming c p octets j one other is back h short are)
@@ -209,6 +199,7 @@ called_sends s r going coming n peer link octets (talking p) j one other is back
     subst (λ (m : ℕ). Does by_zero false m r s (sent m octets r) coming going going [] (message octets ∷ [])) (sym (at_one r n (linked 1 p.right) (linked peer link) other at).reference)
     (does_zero false r s (sent 1 octets r) coming going going [] (message octets ∷ []) (swapped p) j one is
     (talk_sends r s coming going (swapped p) octets (talks r s coming going (swapped p) other one back (open_mirror false p h)) short are))
+called_sends s r going coming n peer link octets g j one other is back h at short are = absurd (not_here r n (linked peer link) other at)
 
 sends_zero : (end : Bool) (this other : State) (going coming : List Value) (n peer : ℕ) (link : Standing) (octets : List ℕ) → JoinedAt end by_zero this other going coming →
     value_at n this.live ≡ Some (linked peer link) → IsShortTsdu octets → IsOctets octets → Does by_zero end n this other (sent n octets this) going coming coming [] (message octets ∷ [])

@@ -26,7 +26,7 @@ pub zero_for : (gs : List Given) → AreFor 1 (addressed 1 gs)
 zero_for [] = tt
 zero_for (x ∷ gs) = grind (arith, zero_for gs)
 
-one_of : (g : Given) → reference_of (unit_of 1 g) ≡ 1
+pub one_of : (g : Given) → reference_of (unit_of 1 g) ≡ 1
 one_of g = grind arith
 
 -- what is under way, by places
@@ -103,12 +103,7 @@ asks_by : (s r : State) (going coming : List Value) (calling to : Option (List �
     HasOne s (at_end true g) → HasOne r (at_end false g) → going ≡ from_end true r.local g → coming ≡ from_end false r.local g → may_connect s ≡ None → IsTsap calling → IsTsap to →
     Does by_zero true 1 s r (asks calling to s) going coming coming [] (ask ∷ [])
 asks_by s r going coming calling to unasked a b terms one other none back may fits fits_to = asks_first s r going coming calling to a b terms one other none back fits fits_to
-asks_by s r going coming calling to (asking c) a b terms one other none back may fits fits_to = let no = asks_class s (was_given (Some asked)) one may in cc
-asks_by s r going coming calling to (accepting c p) a b terms one other none back may fits fits_to = let no = asks_class s (was_given (Some asked)) one may in cc
-asks_by s r going coming calling to (talking p) a b terms one other none back may fits fits_to = let no = asks_class s (was_given (Some (linked 1 p.left))) one may in cc
-
-given_zero : (s : State) (p : Place) → HasOne s p → class_error (class_in p) (rows_in p) ≡ None → s.given ≡ given_in p
-given_zero s p one e = one.given
+asks_by s r going coming calling to g a b terms one other none back may fits fits_to = let no = asks_class s _ one may in cc
 
 never_before : (g : ZeroCourse) → class_error (class_in (at_end true g)) (rows_in (at_end true g)) ≡ None → given_in (at_end true g) ≡ 0
 never_before g e = grind arith

@@ -1,15 +1,15 @@
 -- A unit that the link refused has changed nothing yet.
 use Rattle.std.proofs.Common.{◌≡◌, ℕ, List, [], ◌∷◌, ◌++◌, map, Some, Result, Ok, Err, OnOk, sym, ap, ◌∙◌}
 use Rattle.osi_carrier.specs.declared.events.Event.{Event}
-use Rattle.osi_carrier.proofs.Vocabulary.{append-nil, map-append, disconnect, Standing, LinkFault, Two, Happening, happening, faulted, breaks, taking, Rows, value_at, put, stage_of, link_in, Connection, linked, closing, State, packets, link_after, units_after, Open}
-use Rattle.osi_carrier.proofs.ByStage.{open_is}
+use Rattle.osi_carrier.proofs.Vocabulary.{append-nil, map-append, disconnect, Standing, LinkFault, Two, Happening, happening, faulted, breaks, taking, Rows, value_at, put, peer_in, link_in, Connection, linked, closing, State, packets, link_after, units_after}
+use Rattle.osi_carrier.proofs.Opened.{open_is}
 use Rattle.osi_carrier.proofs.Places.{put_same}
 
 pub broke_rows : (r peer : ℕ) (live new : Rows Connection) (t : Result Standing LinkFault) (fault : LinkFault) → t ≡ Err fault →
-    stage_of (value_at r live) ≡ Open peer → new ≡ put r (linked peer (link_after (link_in (value_at r live)) t)) live → new ≡ live
-broke_rows r peer live new t fault e stage h =
+    peer_in (value_at r live) ≡ Some peer → new ≡ put r (linked peer (link_after (link_in (value_at r live)) t)) live → new ≡ live
+broke_rows r peer live new t fault e opened h =
     h ∙ ap (λ u. put r (linked peer (link_after (link_in (value_at r live)) u)) live) e
-    ∙ put_same r (linked peer (link_in (value_at r live))) live (open_is (value_at r live) peer stage)
+    ∙ put_same r (linked peer (link_in (value_at r live))) live (open_is (value_at r live) peer opened)
 
 pub broke_octets : (peer : ℕ) (before after : List ℕ) (t : Result Standing LinkFault) (fault : LinkFault) → t ≡ Err fault →
     after ≡ before ++ packets (units_after peer t) → after ≡ before

@@ -87,10 +87,9 @@ short_none : (r t : List ℕ) → r ++ t ≡ [] → length r ≡ 0
 short_none r t e = let total = length-append r t in let none = ap length e in omega arith
 
 pub fault_free : (at : ℕ) (r t : List ℕ) (f : TpktFault) (units : List Value) → AreComing r t units → IsFaultOf at r f → ⊥
-fault_free at r t (BadVersion o) [] c bad = let none = short_none r t c.octets in let some = bad.0.0 in omega arith
-fault_free at r t (BadLength o) [] c bad = let none = short_none r t c.octets in let some = bad.0.0 in omega arith
-fault_free at r t OutOfMemory [] c bad = bad
 fault_free at r t f (u ∷ us) c bad = front_free at (packet_of (written u)) r t (packets us) (written u) f (unit_packet u c.sendable.0) c.octets bad
+fault_free at r t OutOfMemory [] c bad = bad
+fault_free at r t f [] c bad = let none = short_none r t c.octets in let some = bad.0.0 in omega arith
 
 -- ---- feeding
 

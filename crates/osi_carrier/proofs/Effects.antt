@@ -72,9 +72,8 @@ effect_accepts class size c s room left = grind arith
 effect_answers : (c : Connect) (selection : Selection) (held : Option Class) (s : State) → length s.live < 64 → s.given < 65535 →
     Effect (s.given + 1) s (answers c selection held s)
 effect_answers c (refuse reason) held s room left = effect_denies (s.given + 1) reason c.source s
-effect_answers c (accept Two size) held s room left = effect_accepts Two size c s room left
-effect_answers c (accept Zero size) None s room left = effect_accepts Zero size c s room left
 effect_answers c (accept Zero size) (Some class) s room left = effect_denies (s.given + 1) 136 c.source s
+effect_answers c (accept class size) held s room left = effect_accepts class size c s room left
 
 has_room : (n given : ℕ) (b d : Bool) → nat_le 64 n ≡ b → nat_le 65535 given ≡ d → (b || d) ≡ false → (n < 64) × (given < 65535)
 has_room n given b d e f h = grind (arith, nat_tests)
@@ -93,12 +92,7 @@ effect_request c s = answers_by c s (has_peer c.source s.live) (is_full s) (λ h
 effect_unknown : (r : ℕ) (unit : Value) (s : State) → Effect r s (to_unknown unit s)
 effect_unknown r (disconnect destination source reason user) s = grind (arith, silent, still)
 effect_unknown r (disconnected destination source) s = effect_none r s
-effect_unknown r (request c) s = effect_end r _ s
-effect_unknown r (confirm destination c) s = effect_end r _ s
-effect_unknown r (data0 end user) s = effect_end r _ s
-effect_unknown r (data2 destination number end user) s = effect_end r _ s
-effect_unknown r (acknowledge credit destination number) s = effect_end r _ s
-effect_unknown r (error destination cause) s = effect_end r _ s
+effect_unknown r unit s = effect_end r _ s
 
 effect_opens : (r : ℕ) (c : Connect) (class : Option Class) (s : State) → Effect r s (opens r c class s)
 effect_opens r c class s = grind (arith, effect_end, telling)
@@ -109,13 +103,9 @@ effect_refused r reason s t given ended live events = telling r s t (refused r r
 
 effect_asked : (r : ℕ) (unit : Value) (s : State) → Effect r s (to_asked r unit s)
 effect_asked r (confirm destination c) s = effect_opens r c (confirmed c s.local s.class) s
-effect_asked r (disconnect destination source reason user) s = grind (arith, effect_refused)
+effect_asked r (disconnect destination source reason user) s = effect_refused r reason s (to_asked r (disconnect destination source reason user) s) refl refl refl refl
 effect_asked r (error destination cause) s = effect_refused r 0 s (to_asked r (error destination cause) s) refl refl refl refl
-effect_asked r (request c) s = effect_unknown r (request c) s
-effect_asked r (disconnected destination source) s = effect_unknown r (disconnected destination source) s
-effect_asked r (data0 end user) s = effect_unknown r (data0 end user) s
-effect_asked r (data2 destination number end user) s = effect_unknown r (data2 destination number end user) s
-effect_asked r (acknowledge credit destination number) s = effect_unknown r (acknowledge credit destination number) s
+effect_asked r unit s = effect_unknown r unit s
 
 -- at most one TSDU is handed out
 effect_settles : (r : ℕ) (whole : List (List ℕ)) (c : Connection) (s t : State) → t.given ≡ s.given → t.ended ≡ s.ended → t.live ≡ put r c s.live →
@@ -133,13 +123,7 @@ effect_leaves r peer reason held s = grind (arith, telling)
 
 effect_linked : (r peer : ℕ) (link : Standing) (unit : Value) (s : State) → Effect r s (to_linked r peer link unit s)
 effect_linked r peer link (disconnect destination source reason user) s = effect_leaves r peer reason s.class s
-effect_linked r peer link (request c) s = effect_taking r peer (taken link (request c)) s
-effect_linked r peer link (confirm destination c) s = effect_taking r peer (taken link (confirm destination c)) s
-effect_linked r peer link (disconnected destination source) s = effect_taking r peer (taken link (disconnected destination source)) s
-effect_linked r peer link (data0 end user) s = effect_taking r peer (taken link (data0 end user)) s
-effect_linked r peer link (data2 destination number end user) s = effect_taking r peer (taken link (data2 destination number end user)) s
-effect_linked r peer link (acknowledge credit destination number) s = effect_taking r peer (taken link (acknowledge credit destination number)) s
-effect_linked r peer link (error destination cause) s = effect_taking r peer (taken link (error destination cause)) s
+effect_linked r peer link unit s = effect_taking r peer (taken link unit) s
 
 effect_dropped : (r : ℕ) (s : State) → Effect r s (drops r s)
 effect_dropped r s = silent r s (drops r s) refl (inl (record { given = refl; ended = refl; live = inr (inr refl) }))
@@ -147,12 +131,7 @@ effect_dropped r s = silent r s (drops r s) refl (inl (record { given = refl; en
 effect_closing : (r : ℕ) (unit : Value) (s : State) → Effect r s (to_closing r unit s)
 effect_closing r (disconnected destination source) s = effect_dropped r s
 effect_closing r (disconnect destination source reason user) s = effect_dropped r s
-effect_closing r (request c) s = effect_none r s
-effect_closing r (confirm destination c) s = effect_none r s
-effect_closing r (data0 end user) s = effect_none r s
-effect_closing r (data2 destination number end user) s = effect_none r s
-effect_closing r (acknowledge credit destination number) s = effect_none r s
-effect_closing r (error destination cause) s = effect_none r s
+effect_closing r unit s = effect_none r s
 
 effect_connection : (r : ℕ) (o : Option Connection) (unit : Value) (s : State) → Effect r s (to_connection r o unit s)
 effect_connection r o unit s = grind (arith, effect_unknown, effect_asked, effect_linked, effect_closing)
@@ -166,19 +145,8 @@ effect_before : (is_caller : Bool) (unit : Value) (s : State) → Effect (connec
 effect_before true (confirm destination c) s = effect_reference destination (confirm destination c) s
 effect_before true (disconnect destination source reason user) s = effect_reference destination (disconnect destination source reason user) s
 effect_before true (error destination cause) s = effect_reference destination (error destination cause) s
-effect_before true (request c) s = effect_end _ _ s
-effect_before true (disconnected destination source) s = effect_end _ _ s
-effect_before true (data0 end user) s = effect_end _ _ s
-effect_before true (data2 destination number end user) s = effect_end _ _ s
-effect_before true (acknowledge credit destination number) s = effect_end _ _ s
 effect_before false (request c) s = effect_request c s
-effect_before false (confirm destination c) s = effect_end _ _ s
-effect_before false (disconnect destination source reason user) s = effect_end _ _ s
-effect_before false (disconnected destination source) s = effect_end _ _ s
-effect_before false (data0 end user) s = effect_end _ _ s
-effect_before false (data2 destination number end user) s = effect_end _ _ s
-effect_before false (acknowledge credit destination number) s = effect_end _ _ s
-effect_before false (error destination cause) s = effect_end _ _ s
+effect_before is_caller unit s = effect_end _ _ s
 
 only_by : (live : Rows Connection) (unit : Value) (s : State) → Effect (only_of live) s (to_only live unit s)
 only_by [] unit s = effect_none 0 s
@@ -186,25 +154,13 @@ only_by ((r, connection) ∷ rows) unit s = effect_connection r (Some connection
 
 effect_zero : (is_caller : Bool) (unit : Value) (s : State) → Effect (only_of s.live) s (in_zero is_caller unit s)
 effect_zero true (request c) s = effect_end _ _ s
-effect_zero true (confirm destination c) s = only_by s.live (confirm destination c) s
-effect_zero true (disconnect destination source reason user) s = only_by s.live (disconnect destination source reason user) s
-effect_zero true (disconnected destination source) s = only_by s.live (disconnected destination source) s
-effect_zero true (data0 end user) s = only_by s.live (data0 end user) s
-effect_zero true (data2 destination number end user) s = only_by s.live (data2 destination number end user) s
-effect_zero true (acknowledge credit destination number) s = only_by s.live (acknowledge credit destination number) s
-effect_zero true (error destination cause) s = only_by s.live (error destination cause) s
-effect_zero false unit s = only_by s.live unit s
+effect_zero is_caller unit s = only_by s.live unit s
 
 effect_two : (is_caller : Bool) (unit : Value) (s : State) → Effect (connection_by (Some Two) unit s) s (in_two is_caller unit s)
 effect_two true (request c) s = effect_end _ _ s
 effect_two false (request c) s = effect_request c s
-effect_two is_caller (confirm destination c) s = effect_reference destination (confirm destination c) s
-effect_two is_caller (disconnect destination source reason user) s = effect_reference destination (disconnect destination source reason user) s
-effect_two is_caller (disconnected destination source) s = effect_reference destination (disconnected destination source) s
 effect_two is_caller (data0 end user) s = effect_end _ _ s
-effect_two is_caller (data2 destination number end user) s = effect_reference destination (data2 destination number end user) s
-effect_two is_caller (acknowledge credit destination number) s = effect_reference destination (acknowledge credit destination number) s
-effect_two is_caller (error destination cause) s = effect_reference destination (error destination cause) s
+effect_two is_caller unit s = effect_reference (connection_by (Some Two) unit s) unit s
 
 effect_class : (held : Option Class) (unit : Value) (s : State) → Effect (connection_by held unit s) s (in_class held unit s)
 effect_class None unit s = effect_before s.is_caller unit s
@@ -360,9 +316,8 @@ pub orderly_sent : (r : ℕ) (octets : List ℕ) (s : State) → IsOrderly s →
 orderly_sent r octets s h = sent_by r octets (open_link r s) s h
 
 closes_by : (r peer reason : ℕ) (held : Option Class) (s : State) → IsOrderly s → IsOrderly (closes r peer reason held s)
-closes_by r peer reason None s h = put_over r (closing peer) s (closes r peer reason None s) refl refl refl (closes_names r peer reason None s) h
 closes_by r peer reason (Some Zero) s h = orderly_end _ s h
-closes_by r peer reason (Some Two) s h = put_over r (closing peer) s (closes r peer reason (Some Two) s) refl refl refl (closes_names r peer reason (Some Two) s) h
+closes_by r peer reason held s h = put_over r (closing peer) s (closes r peer reason held s) refl refl refl (closes_names r peer reason held s) h
 
 closed_by : (r reason : ℕ) (link : Option (ℕ × Standing)) (s : State) → IsOrderly s → IsOrderly (closed_on r reason link s)
 closed_by r reason None s h = h

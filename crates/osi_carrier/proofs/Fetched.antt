@@ -66,22 +66,6 @@ ended_over proper old new octets OutOfMemory held partial some parted taken only
   held = none;
 }
 
-pub fetched_part : Proper → (old new : Carrying) (octets : List ℕ) (fed : Fed) → TakesPiece old.held octets (Ok fed) new.held → IsPartial new.held.octets →
-    new.state ≡ old.state → PartHeld old octets new
-fetched_part proper old new octets fed taken partial same =
-    let belongs = taken.0 in
-    let gains = taken.1 in
-    let held : new.held.octets ≡ old.held.octets ++ take fed.used octets = ap (λ (h : Held). h.octets) gains.octets in
-    let part = first_out fed.whole (IsOnePacket (old.held.octets ++ take fed.used octets)) (IsPartial (old.held.octets ++ take fed.used octets) × (fed.used ≡ length octets))
-    belongs.whole (λ whole. proper (old.held.octets ++ take fed.used octets) (subst IsPartial held partial) whole) in
-    record {
-      state = same;
-      held = held ∙ ap (λ n. old.held.octets ++ take n octets) part.1 ∙ ap (λ l. old.held.octets ++ l) (take_all (length octets) octets (omega arith));
-      partial = partial;
-      offset = ap (λ (h : Held). h.offset) gains.octets;
-      room = gains.room;
-    }
-
 pub fetched_packet : Proper → IsPartial [] → (old new : Carrying) (octets : List ℕ) (fed : Fed) (held : Held) (packet : List ℕ) → TakesPiece old.held octets (Ok fed) held →
     IsPacket packet held.octets → (fed.whole ≡ true → 0 < fed.used) → Acts old.state packet new.state →
     new.held ≡ record { offset = offset_of (held.offset + length held.octets); octets = []; fault = None; room = held.room } → IsHolding new.held →

@@ -6,20 +6,9 @@ use Rattle.osi_class.specs.Limits.{longest_tsdu}
 use Rattle.osi_class.specs.Taking.{TakesUnit}
 use Rattle.osi_class.specs.declared.faults.LinkFault.TheVariants.{WrongForm, OutOfSequence, CreditReduced, TsduTooLong, OutOfMemory}
 use Rattle.osi_class.proofs.Order.{choose_ok}
-use Rattle.osi_carrier.proofs.Vocabulary.{lt-ltb, ltb-true, sum_by-cons, packet_of, Value, Connect, request, confirm, disconnect, disconnected, data0, data2, acknowledge, error, written, Standing, Hands, taken, taken_by, taken_flow, with_joined, needs_memory, part_needs_memory, LinkFault, Class, Zero, Two, drained_leaves, begun_by, kept_in, grows, Happening, tsdu, pumped, written_by, accepts, breaks, denies, handed_out, leaves, opens, taking, to_unknown, Rows, value_at, put, stage_of, link_in, Connection, linked, State, packets, drops, tells, link_grows, units_after, whole_after, link_after, Open}
-use Rattle.osi_carrier.proofs.ByStage.{open_is}
-
-or_left : (a b : Bool) → a ≡ true → (a || b) ≡ true
-or_left true b e = refl
-or_left false b e = cc
-
-or_right : (a b : Bool) → b ≡ true → (a || b) ≡ true
-or_right true b e = refl
-or_right false b e = e
-
-pub or_cases : (a b : Bool) → (a || b) ≡ true → (a ≡ true) ⊎ (b ≡ true)
-or_cases true b e = inl refl
-or_cases false b e = inr e
+pub use Rattle.std.proofs.lemmas.Bool.{or_cases}
+use Rattle.osi_carrier.proofs.Vocabulary.{or_left, or_right, lt-ltb, ltb-true, sum_by-cons, packet_of, Value, Connect, request, confirm, disconnect, disconnected, data0, data2, acknowledge, error, written, Standing, Hands, taken, taken_by, taken_flow, with_joined, needs_memory, part_needs_memory, LinkFault, Class, Zero, Two, drained_leaves, begun_by, kept_in, grows, Happening, tsdu, pumped, written_by, accepts, breaks, denies, handed_out, leaves, opens, taking, to_unknown, Rows, value_at, put, peer_in, link_in, Connection, linked, State, packets, drops, tells, link_grows, units_after, whole_after, link_after}
+use Rattle.osi_carrier.proofs.Opened.{open_is}
 
 -- ---- at a link
 
@@ -48,10 +37,6 @@ joined_grows peer s flow end octets true needs = tt
 joined_grows peer s flow end octets false needs = part_grows peer s flow end octets needs
 
 taken_by_grows : (peer : ℕ) (s : Standing) (flow : Option Flow) (unit : Value) → needs_memory unit ≡ true → IfOk (taken_by s.ends flow unit) (Grown peer s)
-taken_by_grows peer s flow (request c) needs = cc
-taken_by_grows peer s flow (confirm d c) needs = cc
-taken_by_grows peer s flow (disconnect d x reason user) needs = cc
-taken_by_grows peer s flow (disconnected d x) needs = cc
 taken_by_grows peer s None (data0 end octets) needs = joined_grows peer s None end octets (nat_lt longest_tsdu (length s.ends.joining.begun + length octets)) needs
 taken_by_grows peer s (Some f) (data0 end octets) needs = tt
 taken_by_grows peer s None (data2 d number end octets) needs = tt
@@ -59,8 +44,7 @@ taken_by_grows peer s (Some f) (data2 d number end octets) needs =
     choose_ok (Grown peer s) (is_awaited f.receiver number) (with_joined s.ends (Some (taken_flow f)) (joined s.ends.joining end octets)) (Err OutOfSequence)
     (λ _. joined_grows peer s (Some (taken_flow f)) end octets (nat_lt longest_tsdu (length s.ends.joining.begun + length octets)) needs)
     (λ _. tt)
-taken_by_grows peer s flow (acknowledge credit d number) needs = cc
-taken_by_grows peer s flow (error d cause) needs = cc
+taken_by_grows peer s flow unit needs = cc
 
 grown_of : (peer : ℕ) (s : Standing) (r : Result Standing LinkFault) → IfOk r (Grown peer s) → IsOk r → link_grows peer s r ≡ true
 grown_of peer s (Ok t) h ok = h
@@ -73,12 +57,8 @@ taken_grows peer s unit needs ok = grown_of peer s (taken s unit) (taken_by_grow
 -- what a call of a link answers where there was no memory
 pub want_taken : {A : Type 0} (r : Result A LinkFault) (f : LinkFault) (needs : Bool) (t : Result Standing LinkFault) (old new : Standing) → r ≡ Err f → f ≡ OutOfMemory →
     TakesUnit r needs t old new → (needs ≡ true) × IsOk t
-want_taken (Ok a) f needs t old new e g h = cc
-want_taken (Err WrongForm) f needs t old new e g h = cc
-want_taken (Err OutOfSequence) f needs t old new e g h = cc
-want_taken (Err CreditReduced) f needs t old new e g h = cc
-want_taken (Err TsduTooLong) f needs t old new e g h = cc
 want_taken (Err OutOfMemory) f needs t old new e g h = (h.0, h.1)
+want_taken r f needs t old new e g h = cc
 
 handed_is : (o : Option (List ℕ)) (old new : Standing) → Hands o old new → new ≡ handed_out old
 handed_is None old new h =
@@ -148,9 +128,8 @@ pub opens_grows : (r : ℕ) (c : Connect) (class : Class) (s : State) → grows 
 opens_grows r c class s = tells_grows s (opens r c (Some class) s) _ refl
 
 pub leaves_grows : (r peer reason : ℕ) (held : Option Class) (s : State) → grows s (leaves r peer reason held s) ≡ true
-leaves_grows r peer reason None s = tells_grows s (leaves r peer reason None s) _ refl
-leaves_grows r peer reason (Some Zero) s = tells_grows s (leaves r peer reason (Some Zero) s) _ refl
 leaves_grows r peer reason (Some Two) s = tells_grows s (leaves r peer reason (Some Two) s) _ refl
+leaves_grows r peer reason held s = tells_grows s (leaves r peer reason held s) _ refl
 
 pub breaks_grows : (r peer : ℕ) (fault : LinkFault) (held : Option Class) (s : State) → held ≡ Some Two → grows s (breaks r peer fault held s) ≡ true
 breaks_grows r peer fault held s e =
@@ -214,10 +193,9 @@ taking_by r peer s link (Ok next) there (inr (inr kept)) =
     let sum = put_kept r (linked peer link) (linked peer (pumped (handed_out next))) s.live there in
     kept_grows s (taking r peer (Ok next) s) (omega arith)
 taking_by r peer s link (Err fault) there (inl units) = absurd (omega arith)
-taking_by r peer s link (Err fault) there (inr (inl whole)) = absurd (omega arith)
-taking_by r peer s link (Err fault) there (inr (inr kept)) = absurd (omega arith)
+taking_by r peer s link (Err fault) there (inr more) = absurd (omega arith)
 
-pub taking_grows : (r peer : ℕ) (s : State) (t : Result Standing LinkFault) → stage_of (value_at r s.live) ≡ Open peer →
+pub taking_grows : (r peer : ℕ) (s : State) (t : Result Standing LinkFault) → peer_in (value_at r s.live) ≡ Some peer →
     link_grows peer (link_in (value_at r s.live)) t ≡ true → grows s (taking r peer t s) ≡ true
 taking_grows r peer s t stands h =
     taking_by r peer s (link_in (value_at r s.live)) t (open_is (value_at r s.live) peer stands) (link_cases peer (link_in (value_at r s.live)) t h)

@@ -2,7 +2,7 @@
 -- same with others in front of these.
 use Rattle.std.proofs.Common.{◌≡◌, ℕ, ◌+◌, Bool, true, false, List, [], ◌∷◌, ◌++◌, take, map, Option, Some, None, Result, Ok, Err, is_some, refl, ap, ◌∙◌, append_assoc, if◌then◌else◌}
 use Rattle.osi_carrier.specs.Runs.UserCall.{closes as closing_call, breaks as breaking_call}
-use Rattle.osi_carrier.proofs.Vocabulary.{units_of, Value, Connect, request, confirm, disconnect, disconnected, data0, data2, acknowledge, error, TpduFault, Standing, taken, Selection, accept, refuse, selected_by, LinkFault, Class, Zero, Two, sent_on, open_link, closes, closed_on, Happening, opened, refused, tsdu, closed, faulted, proposal, acceptance, confirmed, agreed_size, opened_link, acts_by, after_packet, written_by, pumped, denies, tsaps_of, answers, is_full, has_peer, answers_request, to_unknown, opens, to_asked, handed_out, pumps, tells_of, settles, taking, breaks, leaves, to_linked, to_closing, to_connection, to_reference, before_class, to_only, in_zero, in_two, in_class, react, react_by, reacts, Rows, value_at, UserCall, Act, user_does, does, all_done, put_back, connects, sends, packet, user, Connection, asked, linked, closing, State, writes, tells, joins, moves, drops, ends, packets, EndReason}
+use Rattle.osi_carrier.proofs.Vocabulary.{connection_by, units_of, Value, Connect, request, confirm, disconnect, disconnected, data0, data2, acknowledge, error, TpduFault, Standing, taken, Selection, accept, refuse, selected_by, LinkFault, Class, Zero, Two, sent_on, open_link, closes, closed_on, Happening, opened, refused, tsdu, closed, faulted, proposal, acceptance, confirmed, agreed_size, opened_link, acts_by, after_packet, written_by, pumped, denies, tsaps_of, answers, is_full, has_peer, answers_request, to_unknown, opens, to_asked, handed_out, pumps, tells_of, settles, taking, breaks, leaves, to_linked, to_closing, to_connection, to_reference, before_class, to_only, in_zero, in_two, in_class, react, react_by, reacts, Rows, value_at, UserCall, Act, user_does, does, all_done, put_back, connects, sends, packet, user, Connection, asked, linked, closing, State, writes, tells, joins, moves, drops, ends, packets, EndReason}
 
 -- these events and octets stand in front
 module _ (e : List Happening) (o : List ℕ) where
@@ -24,13 +24,10 @@ module _ (e : List Happening) (o : List ℕ) where
   apart_answers : (c : Connect) (selection : Selection) (held : Option Class) (s : State) →
       answers c selection held (put_back e o s) ≡ put_back e o (answers c selection held s)
   apart_answers c (refuse reason) held s = apart_writes (disconnect c.source 0 reason [] ∷ []) s
-  apart_answers c (accept Two size) held s =
-      apart_both (opened (s.given + 1)) (confirm c.source (acceptance Two size c s.local (s.given + 1)) ∷ [])
-      (joins (s.given + 1) (linked c.source (opened_link Two size s.local c.credit)) (tsaps_of c) (record s { class = Some Two; given = s.given + 1 }))
-  apart_answers c (accept Zero size) None s =
-      apart_both (opened (s.given + 1)) (confirm c.source (acceptance Zero size c s.local (s.given + 1)) ∷ [])
-      (joins (s.given + 1) (linked c.source (opened_link Zero size s.local c.credit)) (tsaps_of c) (record s { class = Some Zero; given = s.given + 1 }))
   apart_answers c (accept Zero size) (Some class) s = apart_writes (disconnect c.source 0 136 [] ∷ []) s
+  apart_answers c (accept class size) held s =
+      apart_both (opened (s.given + 1)) (confirm c.source (acceptance class size c s.local (s.given + 1)) ∷ [])
+      (joins (s.given + 1) (linked c.source (opened_link class size s.local c.credit)) (tsaps_of c) (record s { class = Some class; given = s.given + 1 }))
 
   apart_request_by : (c : Connect) (s : State) (in_use full : Bool) →
       (if in_use then denies 131 c.source (put_back e o s)
@@ -47,13 +44,7 @@ module _ (e : List Happening) (o : List ℕ) where
 
   apart_unknown : (unit : Value) (s : State) → to_unknown unit (put_back e o s) ≡ put_back e o (to_unknown unit s)
   apart_unknown (disconnect destination source reason octets) s = apart_writes (disconnected source destination ∷ []) s
-  apart_unknown (disconnected destination source) s = refl
-  apart_unknown (request c) s = refl
-  apart_unknown (confirm destination c) s = refl
-  apart_unknown (data0 end octets) s = refl
-  apart_unknown (data2 destination number end octets) s = refl
-  apart_unknown (acknowledge credit destination number) s = refl
-  apart_unknown (error destination cause) s = refl
+  apart_unknown unit s = refl
 
   apart_opens : (r : ℕ) (c : Connect) (class : Option Class) (s : State) → opens r c class (put_back e o s) ≡ put_back e o (opens r c class s)
   apart_opens r c None s = refl
@@ -64,11 +55,7 @@ module _ (e : List Happening) (o : List ℕ) where
   apart_asked r (confirm destination c) s = apart_opens r c (confirmed c s.local s.class) s
   apart_asked r (disconnect destination source reason octets) s = apart_tells (refused r reason) (drops r s)
   apart_asked r (error destination cause) s = apart_tells (refused r 0) (drops r s)
-  apart_asked r (request c) s = apart_unknown (request c) s
-  apart_asked r (disconnected destination source) s = apart_unknown (disconnected destination source) s
-  apart_asked r (data0 end octets) s = apart_unknown (data0 end octets) s
-  apart_asked r (data2 destination number end octets) s = apart_unknown (data2 destination number end octets) s
-  apart_asked r (acknowledge credit destination number) s = apart_unknown (acknowledge credit destination number) s
+  apart_asked r unit s = apart_unknown unit s
 
   apart_pumps : (r peer : ℕ) (link : Standing) (s : State) → pumps r peer link (put_back e o s) ≡ put_back e o (pumps r peer link s)
   apart_pumps r peer link s = ap (moves r (linked peer (pumped link))) (apart_writes (written_by peer link) s)
@@ -80,38 +67,24 @@ module _ (e : List Happening) (o : List ℕ) where
 
   apart_breaks : (r peer : ℕ) (fault : LinkFault) (held : Option Class) (s : State) →
       breaks r peer fault held (put_back e o s) ≡ put_back e o (breaks r peer fault held s)
-  apart_breaks r peer fault None s = refl
-  apart_breaks r peer fault (Some Zero) s = refl
   apart_breaks r peer fault (Some Two) s = apart_both (faulted r fault) (disconnect peer r 133 [] ∷ []) (moves r (closing peer) s)
+  apart_breaks r peer fault held s = refl
 
   apart_taking : (r peer : ℕ) (result : Result Standing LinkFault) (s : State) → taking r peer result (put_back e o s) ≡ put_back e o (taking r peer result s)
   apart_taking r peer (Ok link) s = apart_settles r peer link s
   apart_taking r peer (Err fault) s = apart_breaks r peer fault s.class s
 
   apart_leaves : (r peer reason : ℕ) (held : Option Class) (s : State) → leaves r peer reason held (put_back e o s) ≡ put_back e o (leaves r peer reason held s)
-  apart_leaves r peer reason None s = ap (ends _) (apart_tells (closed r reason) s)
-  apart_leaves r peer reason (Some Zero) s = ap (ends _) (apart_tells (closed r reason) s)
   apart_leaves r peer reason (Some Two) s = apart_both (closed r reason) (disconnected peer r ∷ []) (drops r s)
+  apart_leaves r peer reason held s = ap (ends _) (apart_tells (closed r reason) s)
 
   apart_linked : (r peer : ℕ) (link : Standing) (unit : Value) (s : State) → to_linked r peer link unit (put_back e o s) ≡ put_back e o (to_linked r peer link unit s)
   apart_linked r peer link (disconnect destination source reason octets) s = apart_leaves r peer reason s.class s
-  apart_linked r peer link (request c) s = apart_taking r peer (taken link (request c)) s
-  apart_linked r peer link (confirm destination c) s = apart_taking r peer (taken link (confirm destination c)) s
-  apart_linked r peer link (disconnected destination source) s = apart_taking r peer (taken link (disconnected destination source)) s
-  apart_linked r peer link (data0 end octets) s = apart_taking r peer (taken link (data0 end octets)) s
-  apart_linked r peer link (data2 destination number end octets) s = apart_taking r peer (taken link (data2 destination number end octets)) s
-  apart_linked r peer link (acknowledge credit destination number) s = apart_taking r peer (taken link (acknowledge credit destination number)) s
-  apart_linked r peer link (error destination cause) s = apart_taking r peer (taken link (error destination cause)) s
+  apart_linked r peer link unit s = apart_taking r peer (taken link unit) s
 
   apart_closing : (r : ℕ) (unit : Value) (s : State) → to_closing r unit (put_back e o s) ≡ put_back e o (to_closing r unit s)
-  apart_closing r (disconnected destination source) s = refl
-  apart_closing r (disconnect destination source reason octets) s = refl
   apart_closing r (request c) s = refl
-  apart_closing r (confirm destination c) s = refl
-  apart_closing r (data0 end octets) s = refl
-  apart_closing r (data2 destination number end octets) s = refl
-  apart_closing r (acknowledge credit destination number) s = refl
-  apart_closing r (error destination cause) s = refl
+  apart_closing r unit s = refl
 
   apart_connection : (r : ℕ) (at : Option Connection) (unit : Value) (s : State) → to_connection r at unit (put_back e o s) ≡ put_back e o (to_connection r at unit s)
   apart_connection r None unit s = apart_unknown unit s
@@ -128,19 +101,8 @@ module _ (e : List Happening) (o : List ℕ) where
   apart_before true (confirm destination c) s = apart_reference destination (confirm destination c) s
   apart_before true (disconnect destination source reason octets) s = apart_reference destination (disconnect destination source reason octets) s
   apart_before true (error destination cause) s = apart_reference destination (error destination cause) s
-  apart_before true (request c) s = refl
-  apart_before true (disconnected destination source) s = refl
-  apart_before true (data0 end octets) s = refl
-  apart_before true (data2 destination number end octets) s = refl
-  apart_before true (acknowledge credit destination number) s = refl
   apart_before false (request c) s = apart_request c s
-  apart_before false (confirm destination c) s = refl
-  apart_before false (disconnect destination source reason octets) s = refl
-  apart_before false (disconnected destination source) s = refl
-  apart_before false (data0 end octets) s = refl
-  apart_before false (data2 destination number end octets) s = refl
-  apart_before false (acknowledge credit destination number) s = refl
-  apart_before false (error destination cause) s = refl
+  apart_before is_caller unit s = refl
 
   apart_only : (live : Rows Connection) (unit : Value) (s : State) → to_only live unit (put_back e o s) ≡ put_back e o (to_only live unit s)
   apart_only [] unit s = refl
@@ -148,25 +110,13 @@ module _ (e : List Happening) (o : List ℕ) where
 
   apart_zero : (is_caller : Bool) (unit : Value) (s : State) → in_zero is_caller unit (put_back e o s) ≡ put_back e o (in_zero is_caller unit s)
   apart_zero true (request c) s = refl
-  apart_zero true (confirm destination c) s = apart_only s.live (confirm destination c) s
-  apart_zero true (disconnect destination source reason octets) s = apart_only s.live (disconnect destination source reason octets) s
-  apart_zero true (disconnected destination source) s = apart_only s.live (disconnected destination source) s
-  apart_zero true (data0 end octets) s = apart_only s.live (data0 end octets) s
-  apart_zero true (data2 destination number end octets) s = apart_only s.live (data2 destination number end octets) s
-  apart_zero true (acknowledge credit destination number) s = apart_only s.live (acknowledge credit destination number) s
-  apart_zero true (error destination cause) s = apart_only s.live (error destination cause) s
-  apart_zero false unit s = apart_only s.live unit s
+  apart_zero is_caller unit s = apart_only s.live unit s
 
   apart_two : (is_caller : Bool) (unit : Value) (s : State) → in_two is_caller unit (put_back e o s) ≡ put_back e o (in_two is_caller unit s)
   apart_two true (request c) s = refl
   apart_two false (request c) s = apart_request c s
-  apart_two is_caller (confirm destination c) s = apart_reference destination (confirm destination c) s
-  apart_two is_caller (disconnect destination source reason octets) s = apart_reference destination (disconnect destination source reason octets) s
-  apart_two is_caller (disconnected destination source) s = apart_reference destination (disconnected destination source) s
   apart_two is_caller (data0 end octets) s = refl
-  apart_two is_caller (data2 destination number end octets) s = apart_reference destination (data2 destination number end octets) s
-  apart_two is_caller (acknowledge credit destination number) s = apart_reference destination (acknowledge credit destination number) s
-  apart_two is_caller (error destination cause) s = apart_reference destination (error destination cause) s
+  apart_two is_caller unit s = apart_reference (connection_by (Some Two) unit s) unit s
 
   apart_class : (held : Option Class) (unit : Value) (s : State) → in_class held unit (put_back e o s) ≡ put_back e o (in_class held unit s)
   apart_class None unit s = apart_before s.is_caller unit s
@@ -200,9 +150,8 @@ module _ (e : List Happening) (o : List ℕ) where
   apart_sent r octets (Some (peer, link)) s = apart_pumps r peer _ s
 
   apart_closes : (r peer reason : ℕ) (held : Option Class) (s : State) → closes r peer reason held (put_back e o s) ≡ put_back e o (closes r peer reason held s)
-  apart_closes r peer reason None s = apart_writes (disconnect peer r reason [] ∷ []) (moves r (closing peer) s)
   apart_closes r peer reason (Some Zero) s = refl
-  apart_closes r peer reason (Some Two) s = apart_writes (disconnect peer r reason [] ∷ []) (moves r (closing peer) s)
+  apart_closes r peer reason held s = apart_writes (disconnect peer r reason [] ∷ []) (moves r (closing peer) s)
 
   apart_closed : (r reason : ℕ) (link : Option (ℕ × Standing)) (s : State) → closed_on r reason link (put_back e o s) ≡ put_back e o (closed_on r reason link s)
   apart_closed r reason None s = refl

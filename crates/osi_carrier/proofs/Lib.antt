@@ -1,6 +1,6 @@
 pub mod Places
 pub mod Units
-pub mod ByStage
+pub mod Opened
 pub mod Named
 pub mod Reacts
 pub mod Selecting

@@ -1,7 +1,7 @@
 -- The rows of a reference that has none.
 use Rattle.std.proofs.Common.{◌≡◌, ℕ, Bool, true, false, ◌==◌, [], ◌∷◌, Some, None, refl, ap}
 use Rattle.osi_carrier.specs.Rows.{Rows, value_at, place_of, without}
-use Rattle.osi_carrier.proofs.ByStage.{nowhere}
+use Rattle.osi_carrier.proofs.Places.{nowhere}
 
 absent_by : {X : Type 0} (r q : ℕ) (y : X) (rows : Rows X) (b : Bool) → (q == r) ≡ b → (value_at r rows ≡ None → without r rows ≡ rows) →
     value_at r ((q, y) ∷ rows) ≡ None → without r ((q, y) ∷ rows) ≡ (q, y) ∷ rows

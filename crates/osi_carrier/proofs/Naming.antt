@@ -2,7 +2,7 @@
 use Rattle.std.proofs.Common.{◌≡◌, ℕ, ◌+◌, ◌≤◌, ◌==◌, Bool, true, false, List, [], ◌∷◌, ◌++◌, Option, Some, None, is_some, IsSome, Result, Ok, Err, refl, sym, ap, subst, ◌∙◌, arith, if◌then◌else◌}
 use Rattle.std.proofs.Common.{eq-eqb}
 use Rattle.osi_carrier.specs.References.{references, dropped}
-use Rattle.osi_carrier.proofs.Vocabulary.{eqb-true, Value, Connect, request, confirm, disconnect, disconnected, data0, data2, acknowledge, error, Standing, taken, Selection, accept, refuse, selected_by, LinkFault, Class, Zero, Two, Local, fresh_state, asks, sent_on, sent, open_link, closes, closed_on, closed_with, ended_by, tsaps_at, AreNamed, KeepsTsaps, confirmed, IsOrderly, denies, answers, is_full, has_peer, answers_request, to_unknown, opens, to_asked, taking, breaks, leaves, to_linked, to_closing, to_connection, to_reference, before_class, to_only, in_zero, in_two, in_class, react, react_by, Rows, value_at, put, without, Connection, asked, linked, closing, TsapIds, State, ends, EndReason}
+use Rattle.osi_carrier.proofs.Vocabulary.{connection_by, eqb-true, Value, Connect, request, confirm, disconnect, disconnected, data0, data2, acknowledge, error, Standing, taken, Selection, accept, refuse, selected_by, LinkFault, Class, Zero, Two, Local, fresh_state, asks, sent_on, sent, open_link, closes, closed_on, closed_with, ended_by, tsaps_at, AreNamed, KeepsTsaps, confirmed, IsOrderly, denies, answers, is_full, has_peer, answers_request, to_unknown, opens, to_asked, taking, breaks, leaves, to_linked, to_closing, to_connection, to_reference, before_class, to_only, in_zero, in_two, in_class, react, react_by, Rows, value_at, put, without, Connection, asked, linked, closing, TsapIds, State, ends, EndReason}
 use Rattle.osi_carrier.proofs.Apart.{without_here}
 use Rattle.osi_carrier.proofs.AtReferences.{without_other, push_other}
 
@@ -12,7 +12,7 @@ put_named_by : (r q : ℕ) (x y : Connection) (rows : Rows Connection) (b : Bool
     references (put r x ((q, y) ∷ rows)) ≡ references ((q, y) ∷ rows)
 put_named_by r q x y rows b e more = grind arith
 
-put_named : (r : ℕ) (x : Connection) (rows : Rows Connection) → references (put r x rows) ≡ references rows
+pub put_named : (r : ℕ) (x : Connection) (rows : Rows Connection) → references (put r x rows) ≡ references rows
 put_named r x [] = refl
 put_named r x ((q, y) ∷ rows) = put_named_by r q x y rows (q == r) refl (put_named r x rows)
 
@@ -20,7 +20,7 @@ drop_named_by : {X : Type 0} (r q : ℕ) (y : X) (rows : Rows X) (b : Bool) → 
     references (without r ((q, y) ∷ rows)) ≡ dropped r (q ∷ references rows)
 drop_named_by r q y rows b e more = grind arith
 
-drop_named : {X : Type 0} (r : ℕ) (rows : Rows X) → references (without r rows) ≡ dropped r (references rows)
+pub drop_named : {X : Type 0} (r : ℕ) (rows : Rows X) → references (without r rows) ≡ dropped r (references rows)
 drop_named r [] = refl
 drop_named r ((q, y) ∷ rows) = drop_named_by r q y rows (q == r) refl (drop_named r rows)
 
@@ -34,12 +34,11 @@ there_by r q x y xs ys b e more = grind arith
 
 there_named : {X Y : Type 0} (r : ℕ) (xs : Rows X) (ys : Rows Y) → references xs ≡ references ys → is_some (value_at r xs) ≡ is_some (value_at r ys)
 there_named r [] [] e = refl
-there_named r [] ((p, y) ∷ ys) e = absurd (cc)
-there_named r ((q, x) ∷ xs) [] e = absurd (cc)
 there_named r ((q, x) ∷ xs) ((p, y) ∷ ys) e =
     let head : q ≡ p = cc in
     let tail : references xs ≡ references ys = cc in
     there_by r q x y xs ys (q == r) refl (there_named r xs ys tail) ∙ ap (λ (n : ℕ). is_some (value_at r ((n, y) ∷ ys))) head
+there_named r xs ys e = absurd (cc)
 
 -- ---- what a unit or a call does to the selectors
 
@@ -51,15 +50,13 @@ pub data Naming : State → State → Type 0 where
 
 answers_names : (c : Connect) (selection : Selection) (held : Option Class) (s : State) → Naming s (answers c selection held s)
 answers_names c (refuse reason) held s = stays refl refl
-answers_names c (accept Two size) held s = gains _ _ refl refl
-answers_names c (accept Zero size) None s = gains _ _ refl refl
 answers_names c (accept Zero size) (Some class) s = stays refl refl
+answers_names c (accept class size) held s = gains _ _ refl refl
 
 request_names_by : (c : Connect) (s : State) (in_use full : Bool) →
     Naming s (if in_use then denies 131 c.source s else (if full then denies 1 c.source s else answers c (selected_by c s.local) s.class s))
-request_names_by c s true full = stays refl refl
-request_names_by c s false true = stays refl refl
 request_names_by c s false false = answers_names c (selected_by c s.local) s.class s
+request_names_by c s in_use full = stays refl refl
 
 request_names : (c : Connect) (s : State) → Naming s (answers_request c s)
 request_names c s = request_names_by c s (has_peer c.source s.live) (is_full s)
@@ -67,12 +64,7 @@ request_names c s = request_names_by c s (has_peer c.source s.live) (is_full s)
 unknown_names : (unit : Value) (s : State) → Naming s (to_unknown unit s)
 unknown_names (disconnect destination source reason octets) s = stays refl refl
 unknown_names (disconnected destination source) s = stays refl refl
-unknown_names (request c) s = clears refl refl
-unknown_names (confirm destination c) s = clears refl refl
-unknown_names (data0 end octets) s = clears refl refl
-unknown_names (data2 destination number end octets) s = clears refl refl
-unknown_names (acknowledge credit destination number) s = clears refl refl
-unknown_names (error destination cause) s = clears refl refl
+unknown_names unit s = clears refl refl
 
 opens_names : (r : ℕ) (c : Connect) (class : Option Class) (s : State) → Naming s (opens r c class s)
 opens_names r c None s = clears refl refl
@@ -82,42 +74,25 @@ asked_names : (r : ℕ) (unit : Value) (s : State) → Naming s (to_asked r unit
 asked_names r (confirm destination c) s = opens_names r c (confirmed c s.local s.class) s
 asked_names r (disconnect destination source reason octets) s = loses r refl refl
 asked_names r (error destination cause) s = loses r refl refl
-asked_names r (request c) s = clears refl refl
-asked_names r (disconnected destination source) s = stays refl refl
-asked_names r (data0 end octets) s = clears refl refl
-asked_names r (data2 destination number end octets) s = clears refl refl
-asked_names r (acknowledge credit destination number) s = clears refl refl
+asked_names r unit s = unknown_names unit s
 
 taking_names : (r peer : ℕ) (result : Result Standing LinkFault) (held : Option Class) (s : State) → s.class ≡ held → Naming s (taking r peer result s)
 taking_names r peer (Ok link) held s e = stays refl (put_named r _ s.live)
 taking_names r peer (Err fault) (Some Two) s e = subst (λ (k : Option Class). Naming s (breaks r peer fault k s)) (sym e) (stays refl (put_named r _ s.live))
-taking_names r peer (Err fault) (Some Zero) s e = subst (λ (k : Option Class). Naming s (breaks r peer fault k s)) (sym e) (clears refl refl)
-taking_names r peer (Err fault) None s e = subst (λ (k : Option Class). Naming s (breaks r peer fault k s)) (sym e) (clears refl refl)
+taking_names r peer (Err fault) held s e = subst (λ (k : Option Class). Naming s (breaks r peer fault k s)) (sym e) (clears refl refl)
 
 leaves_names : (r peer reason : ℕ) (held : Option Class) (s : State) → Naming s (leaves r peer reason held s)
 leaves_names r peer reason (Some Two) s = loses r refl refl
-leaves_names r peer reason (Some Zero) s = clears refl refl
-leaves_names r peer reason None s = clears refl refl
+leaves_names r peer reason held s = clears refl refl
 
 linked_names : (r peer : ℕ) (link : Standing) (unit : Value) (s : State) → Naming s (to_linked r peer link unit s)
 linked_names r peer link (disconnect destination source reason octets) s = leaves_names r peer reason s.class s
-linked_names r peer link (request c) s = taking_names r peer (taken link (request c)) s.class s refl
-linked_names r peer link (confirm destination c) s = taking_names r peer (taken link (confirm destination c)) s.class s refl
-linked_names r peer link (disconnected destination source) s = taking_names r peer (taken link (disconnected destination source)) s.class s refl
-linked_names r peer link (data0 end octets) s = taking_names r peer (taken link (data0 end octets)) s.class s refl
-linked_names r peer link (data2 destination number end octets) s = taking_names r peer (taken link (data2 destination number end octets)) s.class s refl
-linked_names r peer link (acknowledge credit destination number) s = taking_names r peer (taken link (acknowledge credit destination number)) s.class s refl
-linked_names r peer link (error destination cause) s = taking_names r peer (taken link (error destination cause)) s.class s refl
+linked_names r peer link unit s = taking_names r peer (taken link unit) s.class s refl
 
 closing_names : (r : ℕ) (unit : Value) (s : State) → Naming s (to_closing r unit s)
 closing_names r (disconnected destination source) s = loses r refl refl
 closing_names r (disconnect destination source reason octets) s = loses r refl refl
-closing_names r (request c) s = stays refl refl
-closing_names r (confirm destination c) s = stays refl refl
-closing_names r (data0 end octets) s = stays refl refl
-closing_names r (data2 destination number end octets) s = stays refl refl
-closing_names r (acknowledge credit destination number) s = stays refl refl
-closing_names r (error destination cause) s = stays refl refl
+closing_names r unit s = stays refl refl
 
 connection_names : (r : ℕ) (at : Option Connection) (unit : Value) (s : State) → Naming s (to_connection r at unit s)
 connection_names r None unit s = unknown_names unit s
@@ -134,19 +109,8 @@ before_names : (is_caller : Bool) (unit : Value) (s : State) → Naming s (befor
 before_names true (confirm destination c) s = reference_names destination (confirm destination c) s
 before_names true (disconnect destination source reason octets) s = reference_names destination (disconnect destination source reason octets) s
 before_names true (error destination cause) s = reference_names destination (error destination cause) s
-before_names true (request c) s = clears refl refl
-before_names true (disconnected destination source) s = clears refl refl
-before_names true (data0 end octets) s = clears refl refl
-before_names true (data2 destination number end octets) s = clears refl refl
-before_names true (acknowledge credit destination number) s = clears refl refl
 before_names false (request c) s = request_names c s
-before_names false (confirm destination c) s = clears refl refl
-before_names false (disconnect destination source reason octets) s = clears refl refl
-before_names false (disconnected destination source) s = clears refl refl
-before_names false (data0 end octets) s = clears refl refl
-before_names false (data2 destination number end octets) s = clears refl refl
-before_names false (acknowledge credit destination number) s = clears refl refl
-before_names false (error destination cause) s = clears refl refl
+before_names is_caller unit s = clears refl refl
 
 only_names : (live : Rows Connection) (unit : Value) (s : State) → Naming s (to_only live unit s)
 only_names [] unit s = stays refl refl
@@ -154,25 +118,13 @@ only_names ((r, connection) ∷ rows) unit s = connection_names r (Some connecti
 
 zero_names : (is_caller : Bool) (unit : Value) (s : State) → Naming s (in_zero is_caller unit s)
 zero_names true (request c) s = clears refl refl
-zero_names true (confirm destination c) s = only_names s.live (confirm destination c) s
-zero_names true (disconnect destination source reason octets) s = only_names s.live (disconnect destination source reason octets) s
-zero_names true (disconnected destination source) s = only_names s.live (disconnected destination source) s
-zero_names true (data0 end octets) s = only_names s.live (data0 end octets) s
-zero_names true (data2 destination number end octets) s = only_names s.live (data2 destination number end octets) s
-zero_names true (acknowledge credit destination number) s = only_names s.live (acknowledge credit destination number) s
-zero_names true (error destination cause) s = only_names s.live (error destination cause) s
-zero_names false unit s = only_names s.live unit s
+zero_names is_caller unit s = only_names s.live unit s
 
 two_names : (is_caller : Bool) (unit : Value) (s : State) → Naming s (in_two is_caller unit s)
 two_names true (request c) s = clears refl refl
 two_names false (request c) s = request_names c s
-two_names is_caller (confirm destination c) s = reference_names destination (confirm destination c) s
-two_names is_caller (disconnect destination source reason octets) s = reference_names destination (disconnect destination source reason octets) s
-two_names is_caller (disconnected destination source) s = reference_names destination (disconnected destination source) s
 two_names is_caller (data0 end octets) s = clears refl refl
-two_names is_caller (data2 destination number end octets) s = reference_names destination (data2 destination number end octets) s
-two_names is_caller (acknowledge credit destination number) s = reference_names destination (acknowledge credit destination number) s
-two_names is_caller (error destination cause) s = reference_names destination (error destination cause) s
+two_names is_caller unit s = reference_names (connection_by (Some Two) unit s) unit s
 
 class_names : (held : Option Class) (unit : Value) (s : State) → Naming s (in_class held unit s)
 class_names None unit s = before_names s.is_caller unit s
@@ -197,9 +149,8 @@ sent_names r octets None s = stays refl refl
 sent_names r octets (Some (peer, link)) s = stays refl (put_named r _ s.live)
 
 pub closes_names : (r peer reason : ℕ) (held : Option Class) (s : State) → Naming s (closes r peer reason held s)
-closes_names r peer reason None s = stays refl (put_named r _ s.live)
 closes_names r peer reason (Some Zero) s = clears refl refl
-closes_names r peer reason (Some Two) s = stays refl (put_named r _ s.live)
+closes_names r peer reason held s = stays refl (put_named r _ s.live)
 
 closed_names : (r reason : ℕ) (link : Option (ℕ × Standing)) (s : State) → Naming s (closed_on r reason link s)
 closed_names r reason None s = stays refl refl

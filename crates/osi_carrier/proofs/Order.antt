@@ -19,10 +19,9 @@ above_at key n (y ∷ rows) (suc i) d h within = let more = above_at key (key y)
 
 -- rows before a row have lower keys
 before_at : {X : Type 0} (key : X → ℕ) (n : ℕ) (rows : List X) (i k : ℕ) (d : X) → RiseBy key n rows → i < length rows → k < i → key (get_or rows k d) < key (get_or rows i d)
-before_at key n [] i k d h within less = absurd (omega arith)
-before_at key n (y ∷ rows) zero k d h within less = absurd (omega arith)
 before_at key n (y ∷ rows) (suc i) zero d h within less = above_at key (key y) rows i d h.1 (omega arith)
 before_at key n (y ∷ rows) (suc i) (suc k) d h within less = before_at key (key y) rows i k d h.1 (omega arith) (omega arith)
+before_at key n rows i k d h within less = absurd (omega arith)
 
 other_by : (q r : ℕ) (b : Bool) → (q == r) ≡ b → q < r → b ≡ false
 other_by q r true e less = let same = eqb-true q r e in absurd (omega arith)
@@ -40,11 +39,10 @@ place_here key r rows i d h within here =
 
 -- a row's key is at most that of a row behind it, or its own
 up_to_at : {X : Type 0} (key : X → ℕ) (n : ℕ) (rows : List X) (i k : ℕ) (d : X) → RiseBy key n rows → i < length rows → k ≤ i → key (get_or rows k d) ≤ key (get_or rows i d)
-up_to_at key n [] i k d h within less = absurd (omega arith)
 up_to_at key n (y ∷ rows) zero zero d h within less = omega arith
-up_to_at key n (y ∷ rows) zero (suc k) d h within less = absurd (omega arith)
 up_to_at key n (y ∷ rows) (suc i) zero d h within less = let above = above_at key (key y) rows i d h.1 (omega arith) in omega arith
 up_to_at key n (y ∷ rows) (suc i) (suc k) d h within less = up_to_at key (key y) rows i k d h.1 (omega arith) (omega arith)
+up_to_at key n rows i k d h within less = absurd (omega arith)
 
 -- so the comparisons with a key rise along the rows, as a search by halves asks
 comparisons_rise : {X : Type 0} (key : X → ℕ) (r : ℕ) (rows : List X) (d : X) → RiseBy key 0 rows → IsNonDecreasingBy (λ row. ordering_index (nat_cmp (key row) r)) rows
@@ -87,11 +85,9 @@ sought key r (row ∷ rows) answer rise within is = sought_by key r (row ∷ row
 
 pub rise_last : {X : Type 0} (key : X → ℕ) (n : ℕ) (x : X) (rows : List X) (i : ℕ) (d : X) → length rows ≡ suc i → key (get_or rows i d) < key x → RiseBy key n rows →
     RiseBy key n (rows ++ x ∷ [])
-rise_last key n x [] i d e less h = absurd (omega arith)
 rise_last key n x (y ∷ []) zero d e less h = (h.0, (less, tt))
-rise_last key n x (y ∷ []) (suc i) d e less h = absurd (omega arith)
-rise_last key n x (y ∷ z ∷ rows) zero d e less h = absurd (omega arith)
 rise_last key n x (y ∷ z ∷ rows) (suc i) d e less h = (h.0, rise_last key (key y) x (z ∷ rows) i d (omega arith) less h.1)
+rise_last key n x rows i d e less h = absurd (omega arith)
 
 pub set_rise : {X : Type 0} (n : ℕ) (rows : Rows X) (i : ℕ) (row new : ℕ × X) → row ≡ get_or rows i row → new.0 ≡ row.0 → RiseFrom n rows → RiseFrom n (set rows i new)
 set_rise n [] i row new here same h = tt

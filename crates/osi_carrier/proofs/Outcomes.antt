@@ -7,7 +7,7 @@ use Rattle.osi_carrier.proofs.InFront.{apart_all}
 use Rattle.osi_carrier.proofs.Lasting.{PacketLaws, behind_same, packets_over, map_joined, tells_ended, none_first, over_calls, never, fault_behind, front_used, pieces_last}
 use Rattle.osi_carrier.proofs.Pieces.{ReadsOne, reads_one, only_packets, packets_done, packets_joined, all_joined, back_joined}
 use Rattle.osi_carrier.proofs.Reacts.{none_of}
-use Rattle.osi_carrier.proofs.Reading.{packets_leave}
+use Rattle.osi_carrier.proofs.Reading.{packets_leave, packets_more}
 
 -- ---- two lists of packets at the front of the same octets
 
@@ -31,11 +31,6 @@ compare laws (u ∷ us) (v ∷ vs) s r q h k =
     let one = laws.one u v h.0 k.0 h.1 k.1 h.2 k.2 same in
     let behind : h.1 ≡ k.1 = behind_same k.0 h.1 k.1 (ap (λ l. l ++ h.1) (sym one.0) ∙ same) in
     further u v us vs q r one.1 (compare laws us vs k.1 r q (subst (λ l. ArePackets us l r) behind h.4) k.4)
-
--- octets behind them
-packets_and : (us : List (List ℕ)) (s m t : List ℕ) → ArePackets us s m → ArePackets us (s ++ t) (m ++ t)
-packets_and [] s m t h = ap (λ l. l ++ t) h
-packets_and (u ∷ us) s m t h = (h.0, h.1 ++ t, h.2, ap (λ l. l ++ t) h.3 ∙ append_assoc h.0 h.1 t, packets_and us h.1 m t h.4)
 
 -- ---- how it ends
 
@@ -160,7 +155,7 @@ ends_goes old piece fed new later (inl (inr stop)) over full =
         last = t.last;
         rest = front.0 ++ later;
         packets = subst (λ l. ArePackets (t.before ++ t.last ∷ []) l (front.0 ++ later)) (sym same)
-            (subst (λ us. ArePackets us (s ++ (front.0 ++ later)) (front.0 ++ later)) t.all (packets_and stop.units s [] (front.0 ++ later) stop.packets));
+            (subst (λ us. ArePackets us (s ++ (front.0 ++ later)) (front.0 ++ later)) t.all (packets_more stop.units s [] (front.0 ++ later) stop.packets));
         lasts = t.lasts;
         over = ap (λ (x : State). is_some x.ended) (sym done) ∙ over;
         state = done;
@@ -180,7 +175,7 @@ ends_goes old piece fed new later (inr (inl refused)) over full =
         before = refused.units;
         rest = r ++ later;
         fault = refused.fault;
-        packets = subst (λ l. ArePackets refused.units l (r ++ later)) (sym same) (packets_and refused.units s r later refused.cut.1);
+        packets = subst (λ l. ArePackets refused.units l (r ++ later)) (sym same) (packets_more refused.units s r later refused.cut.1);
         is = subst (λ l. IsFaultOf (offset_of (old.held.offset + (length l - length (r ++ later)))) (r ++ later) refused.fault) (sym same)
             (subst (λ n. IsFaultOf (offset_of n) (r ++ later) refused.fault) (at_same old.held.offset s r later) here);
         lasts = ap (λ (x : State). x.ended) (sym done) ∙ stops_not refused.before (is_some refused.before.ended) refl refused.quiet;

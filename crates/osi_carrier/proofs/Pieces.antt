@@ -2,15 +2,13 @@
 use Rattle.std.proofs.Common.{◌≡◌, ℕ, ◌+◌, ◌-◌, ◌<◌, ◌^◌, ◌||◌, Bool, true, false, List, [], ◌∷◌, ◌++◌, length, take, map, Option, Some, None, is_some, refl, sym, ap, subst, ◌∙◌, inl, inr, arith, append_assoc, length-append, if◌then◌else◌}
 use Rattle.std.proofs.lemmas.List.Concat.{flat_map-append}
 use Rattle.osi_carrier.specs.Runs.UserCall.{closes, breaks}
+pub use Rattle.osi_tpkt.proofs.Runs.{packets_joined}
 use Rattle.osi_carrier.proofs.Vocabulary.{append-nil, take_all, flat_map, Held, IsPartial, ArePackets, offset_of, Fed, Tells, sent_on, open_link, closes as closes_at, closed_on, Happening, Standing, Class, Zero, Two, Carrying, Feeds, Goes, RunsDry, StopsBehind, TakesPackets, after_packet, waits, is_spoilt, UserCall, Act, Call, user_does, does, all_done, packet_in, call_in, Calls, CallsAlong, used_in, told_in, carried_in, called_in, put_back, Reads, AreAlike, connects, sends, packet, user, feeding, telling, carrying, calling, State, ends, EndReason}
 use Rattle.osi_carrier.proofs.InFront.{apart_all}
 use Rattle.osi_carrier.proofs.Reacts.{none_of}
 use Rattle.osi_carrier.proofs.Reading.{packets_leave}
 
 -- ---- an end stays
-
-some_none : {A B : Type 0} (o : Option A) → is_some o ≡ true → o ≡ None → B
-some_none o e h = grind arith
 
 sent_ended : (r : ℕ) (octets : List ℕ) (link : Option (ℕ × Standing)) (s : State) → (sent_on r octets link s).ended ≡ s.ended
 sent_ended r octets link s = grind arith
@@ -108,11 +106,6 @@ reads_one nothing old (calling call) new h lasts =
     reads_still old (calling call) new (user call ∷ []) refl refl refl (ap (λ (x : Carrying). x.held) h) (ap (λ (x : Carrying). x.state) h)
 
 -- ---- calls one after the other
-
-pub packets_joined : (us vs : List (List ℕ)) (s m t r : List ℕ) → ArePackets us s m → ArePackets vs (m ++ t) r → ArePackets (us ++ vs) (s ++ t) r
-packets_joined [] vs s m t r h k = subst (λ x. ArePackets vs (x ++ t) r) (sym h) k
-packets_joined (u ∷ us) vs s m t r h k =
-    (h.0, h.1 ++ t, h.2, ap (λ x. x ++ t) h.3 ∙ append_assoc h.0 h.1 t, packets_joined us vs h.1 m t r h.4 k)
 
 pub all_joined : (xs ys : List Act) (s : State) → all_done (xs ++ ys) s ≡ all_done ys (all_done xs s)
 all_joined [] ys s = refl

@@ -1,7 +1,7 @@
--- What stands at the place of a reference, and what a write there leaves.
-use Rattle.std.proofs.Common.{◌≡◌, ℕ, Bool, zero, suc, ◌<◌, ◌==◌, true, false, [], ◌∷◌, length, get_or, set, Some, Result, Ok, Err, OnOk, refl, sym, ap, ◌∙◌, arith}
+-- What stands at the place of a reference, and what a write there leaves; no place, no value.
+use Rattle.std.proofs.Common.{◌≡◌, ℕ, Bool, zero, suc, ◌+◌, ◌<◌, ◌≤◌, ◌==◌, true, false, [], ◌∷◌, length, get_or, set, Option, Some, None, is_some, Result, Ok, Err, OnOk, refl, sym, ap, ◌∙◌, arith}
 use Rattle.std.proofs.lemmas.List.Quantifiers.{position-Some}
-use Rattle.osi_carrier.proofs.Vocabulary.{remove, eqb-true, Rows, value_at, place_of, put, without}
+use Rattle.osi_carrier.proofs.Vocabulary.{common_steps, position_or_len, remove, eqb-true, Connection, asked, Rows, value_at, place_of, put, without}
 
 -- where the place `i` of a reference is, `d` being any row
 pub record IsPlace {X : Type 0} (r : ℕ) (rows : Rows X) (i : ℕ) (d : ℕ × X) : Type 0 where
@@ -39,20 +39,20 @@ placed r rows i d e =
     let p = position-Some (λ row. row.0 == r) rows i d e in
     placed_at r rows i d p.0 p.1 p.2
 
--- the row at the place of a reference has its value
-pub here_is : {X : Type 0} (r : ℕ) (rows : Rows X) (i : ℕ) (row : ℕ × X) → place_of r rows ≡ Some i → row ≡ get_or rows i row → value_at r rows ≡ Some row.1
-here_is r rows i row e here = (placed r rows i row e).there ∙ ap (λ (x : ℕ × _). Some x.1) (sym here)
+-- the row at the place of a reference has its value, where the rows are held under another name
+pub here_is : {X : Type 0} (r : ℕ) (rows items : Rows X) (i : ℕ) (row : ℕ × X) → place_of r rows ≡ Some i → row ≡ get_or items i row → items ≡ rows → value_at r rows ≡ Some row.1
+here_is r rows items i row e here same = (placed r rows i row e).there ∙ ap (λ (x : ℕ × _). Some x.1) (sym (here ∙ ap (λ l. get_or l i row) same))
 
--- a write at that place, where the rows are held under another name
+-- a write at that place
 pub put_row : {X : Type 0} (r : ℕ) (rows items : Rows X) (i : ℕ) (row new : ℕ × X) (x : X) → place_of r rows ≡ Some i →
-    row ≡ get_or rows i row → items ≡ rows → new ≡ (row.0, x) → set items i new ≡ put r x rows
+    row ≡ get_or items i row → items ≡ rows → new ≡ (row.0, x) → set items i new ≡ put r x rows
 put_row r rows items i row new x e here same h =
     let p = placed r rows i row e in
-    let named = ap (λ (y : ℕ × _). y.0) here ∙ p.named in
+    let named = ap (λ (y : ℕ × _). y.0) (here ∙ ap (λ l. get_or l i row) same) ∙ p.named in
     ap (λ l. set l i new) same ∙ ap (λ y. set rows i y) (h ∙ ap (λ n. (n, x)) named) ∙ sym (p.put_is x)
 
 pub stepped_rows : {X A E : Type 0} (result : Result A E) (r : ℕ) (rows items : Rows X) (i : ℕ) (row new : ℕ × X) (x : X) → place_of r rows ≡ Some i →
-    row ≡ get_or rows i row → items ≡ rows → OnOk result (new ≡ (row.0, x)) → OnOk result (set items i new ≡ put r x rows)
+    row ≡ get_or items i row → items ≡ rows → OnOk result (new ≡ (row.0, x)) → OnOk result (set items i new ≡ put r x rows)
 stepped_rows (Ok a) r rows items i row new x e here same h = put_row r rows items i row new x e here same h
 stepped_rows (Err f) r rows items i row new x e here same h = tt
 
@@ -65,3 +65,27 @@ put_same_by r q y x rows false t more h = let behind : value_at r rows ≡ Some 
 pub put_same : {X : Type 0} (r : ℕ) (x : X) (rows : Rows X) → value_at r rows ≡ Some x → put r x rows ≡ rows
 put_same r x [] h = refl
 put_same r x ((q, y) ∷ rows) h = put_same_by r q y x rows (q == r) refl (put_same r x rows) h
+
+-- no place, no connection
+nowhere_by : {X : Type 0} (r q : ℕ) (y : X) (rows : Rows X) (b : Bool) → (q == r) ≡ b →
+    (length rows ≤ position_or_len (λ row. row.0 == r) rows → value_at r rows ≡ None) →
+    length ((q, y) ∷ rows) ≤ position_or_len (λ row. row.0 == r) ((q, y) ∷ rows) → value_at r ((q, y) ∷ rows) ≡ None
+nowhere_by r q y rows true t more h = let none : suc (length rows) ≤ 0 = rw t at h in absurd (omega arith)
+nowhere_by r q y rows false t more h =
+    let behind : suc (length rows) ≤ 1 + position_or_len (λ row. row.0 == r) rows = rw t at h in
+    rw t (more (omega arith))
+
+nowhere_at : {X : Type 0} (r : ℕ) (rows : Rows X) → length rows ≤ position_or_len (λ row. row.0 == r) rows → value_at r rows ≡ None
+nowhere_at r [] h = refl
+nowhere_at r ((q, y) ∷ rows) h = nowhere_by r q y rows (q == r) refl (nowhere_at r rows) h
+
+pub nowhere : {X : Type 0} (r : ℕ) (rows : Rows X) → place_of r rows ≡ None → value_at r rows ≡ None
+nowhere r rows e = nowhere_at r rows (grind (arith, common_steps))
+
+live_by : (r : ℕ) (rows : Rows Connection) (o : Option ℕ) → place_of r rows ≡ o → is_some o ≡ is_some (value_at r rows)
+live_by r rows None e = sym (ap is_some (nowhere r rows e))
+live_by r rows (Some i) e = sym (ap is_some (placed r rows i (0, asked) e).there)
+
+-- a reference that has a place has a connection
+pub live_is : (r : ℕ) (rows : Rows Connection) → is_some (place_of r rows) ≡ is_some (value_at r rows)
+live_is r rows = live_by r rows (place_of r rows) refl

@@ -64,8 +64,7 @@ pumping_short peer first now then unit room left e more full =
 
 unit_most : (peer : ℕ) (unit : Given) → length (packet_of (written (unit_of peer unit))) ≤ octets_of unit + 9
 unit_most peer (part0 end octets) = omega arith
-unit_most peer (part2 number end octets) = omega arith
-unit_most peer (ack number credit) = omega arith
+unit_most peer given = omega arith
 
 -- a unit takes at most 9 octets beside those of its part
 pub packets_most : (peer : ℕ) (units : List Given) → length (packets (map (unit_of peer) units)) ≤ octets_in units + 9 * length units

@@ -2,9 +2,9 @@
 use Rattle.std.proofs.Common.{◌≡◌, ℕ, ◌==◌, Bool, true, false, ◌||◌, List, [], ◌∷◌, ◌++◌, length, map, nat_lt, Option, Some, None, is_some, refl, sym, ap, ◌∙◌, append_assoc, arith, if◌then◌else◌}
 use Rattle.osi_carrier.specs.declared.faults.SendError.{SendError}
 use Rattle.osi_carrier.specs.declared.faults.SendError.TheVariants.{TooLong}
-use Rattle.osi_carrier.proofs.Vocabulary.{list_any, append-nil, map-append, all_given, given_one_by_one, one_by_one, Standing, unit_of, with_tsdu, link_of, open_link, lengths_error, sent_on, sent_all, pumps_all, pumped, written_by, written_for, pumps, Rows, value_at, put, stage_of, link_in, linked, State, packets, EndReason, Open}
+use Rattle.osi_carrier.proofs.Vocabulary.{list_any, append-nil, map-append, all_given, given_one_by_one, one_by_one, Standing, unit_of, with_tsdu, link_of, open_link, lengths_error, sent_on, sent_all, pumps_all, pumped, written_by, written_for, pumps, Rows, value_at, put, peer_in, link_in, linked, State, packets, EndReason}
 use Rattle.osi_carrier.proofs.Apart.{put_here}
-use Rattle.osi_carrier.proofs.ByStage.{open_is}
+use Rattle.osi_carrier.proofs.Opened.{open_is}
 use Rattle.osi_carrier.proofs.Places.{put_same}
 use Rattle.osi_carrier.proofs.Pumping.{packets_join}
 
@@ -39,7 +39,7 @@ opened : (r peer : ℕ) (link : Standing) (s : State) → s.ended ≡ None → v
 opened r peer link s alive at =
     ap (λ (e : Option EndReason). if is_some e then None else link_of (value_at r s.live)) alive ∙ ap link_of at
 
-pub open_here : (r peer : ℕ) (s : State) → s.ended ≡ None → stage_of (value_at r s.live) ≡ Open peer → open_link r s ≡ Some (peer, link_in (value_at r s.live))
+pub open_here : (r peer : ℕ) (s : State) → s.ended ≡ None → peer_in (value_at r s.live) ≡ Some peer → open_link r s ≡ Some (peer, link_in (value_at r s.live))
 open_here r peer s alive e = opened r peer (link_in (value_at r s.live)) s alive (open_is (value_at r s.live) peer e)
 
 -- what is written for one, and then for the others
@@ -68,12 +68,12 @@ all_sent r peer link (t ∷ ts) s alive at =
     ∙ all_sent r peer after ts (pumps r peer (with_tsdu link t) s) alive (put_here r (linked peer after) (linked peer link) s.live at)
     ∙ (λ i. record s { live = live i; outgoing = octets i })
 
-pub sent_open : (r peer : ℕ) (ts : List (List ℕ)) (s : State) → s.ended ≡ None → stage_of (value_at r s.live) ≡ Open peer →
+pub sent_open : (r peer : ℕ) (ts : List (List ℕ)) (s : State) → s.ended ≡ None → peer_in (value_at r s.live) ≡ Some peer →
     pumps_all r peer (link_in (value_at r s.live)) ts s ≡ sent_all r ts s
 sent_open r peer ts s alive e = sym (all_sent r peer (link_in (value_at r s.live)) ts s alive (open_is (value_at r s.live) peer e))
 
 -- nothing is sent where there is nothing
-pub sends_none : (r peer : ℕ) (ts : List (List ℕ)) (s : State) → ts ≡ [] → stage_of (value_at r s.live) ≡ Open peer →
+pub sends_none : (r peer : ℕ) (ts : List (List ℕ)) (s : State) → ts ≡ [] → peer_in (value_at r s.live) ≡ Some peer →
     s ≡ pumps_all r peer (link_in (value_at r s.live)) ts s
 sends_none r peer ts s none e =
     none_written r peer (link_in (value_at r s.live)) s (open_is (value_at r s.live) peer e)

@@ -2,50 +2,19 @@
 use Rattle.std.proofs.Common.{◌≡◌, ◌≢◌, ℕ, ◌+◌, ◌≤◌, ◌==◌, Bool, true, false, ◌&&◌, ◌||◌, not, List, [], ◌∷◌, ◌++◌, take, Option, Some, None, Result, Ok, Err, is_some, refl, sym, ap, subst, ◌∙◌, arith, append_assoc, if◌then◌else◌}
 use Rattle.std.proofs.Common.{eq-eqb}
 use Rattle.osi_carrier.specs.Told.{is_open, open_after, TellsOpen}
-use Rattle.osi_carrier.proofs.Vocabulary.{eqb-true, append-nil, units_of, Value, Connect, request, confirm, disconnect, disconnected, data0, data2, acknowledge, error, TpduFault, Standing, taken, Selection, accept, refuse, selected_by, LinkFault, Class, Zero, Two, asks, link_of, open_link, sent_on, sent, closes, closed_on, closed_with, Happening, opened, refused, tsdu, closed, faulted, confirmed, RiseFrom, AreUpTo, IsOrderly, acts_by, after_packet, denies, answers, is_full, has_peer, answers_request, to_unknown, opens, to_asked, tells_of, taking, breaks, leaves, to_linked, to_closing, to_connection, to_reference, before_class, to_only, in_zero, in_two, in_class, react, react_by, reacts, Rows, value_at, put, without, Connection, asked, linked, closing, State, ends, EndReason}
+use Rattle.osi_carrier.proofs.Vocabulary.{connection_by, eqb-true, append-nil, units_of, Value, Connect, request, confirm, disconnect, disconnected, data0, data2, acknowledge, error, TpduFault, Standing, taken, Selection, accept, refuse, selected_by, LinkFault, Class, Zero, Two, asks, link_of, open_link, sent_on, sent, closes, closed_on, closed_with, Happening, opened, refused, tsdu, closed, faulted, confirmed, RiseFrom, AreUpTo, IsOrderly, acts_by, after_packet, denies, answers, is_full, has_peer, answers_request, to_unknown, opens, to_asked, tells_of, taking, breaks, leaves, to_linked, to_closing, to_connection, to_reference, before_class, to_only, in_zero, in_two, in_class, react, react_by, reacts, Rows, value_at, put, without, Connection, asked, linked, closing, State, ends, EndReason}
+use Rattle.osi_carrier.proofs.Apart.{put_here, without_here, push_here, beyond}
 use Rattle.osi_carrier.proofs.AtReferences.{put_other, without_other, push_other}
 use Rattle.osi_carrier.proofs.Effects.{orderly_unit}
 use Rattle.osi_carrier.proofs.Reacts.{none_of, reacts_over}
 
 -- ---- rows
 
-differ : (p q : ℕ) (b : Bool) → (p == q) ≡ b → p ≢ q → b ≡ false
-differ p q b e other = grind (arith, eqb-true)
-
 other_than : (q r : ℕ) → (q == r) ≡ false → r ≢ q
 other_than q r e same = let t : (q == r) ≡ true = eq-eqb q r (sym same) in cc
 
-put_here_by : (q p : ℕ) (x y z : Connection) (rows : Rows Connection) (b : Bool) → (p == q) ≡ b → value_at q ((p, z) ∷ rows) ≡ Some y →
-    (value_at q rows ≡ Some y → value_at q (put q x rows) ≡ Some x) → value_at q (put q x ((p, z) ∷ rows)) ≡ Some x
-put_here_by q p x y z rows b e h more = grind arith
-
-put_here : (q : ℕ) (x y : Connection) (rows : Rows Connection) → value_at q rows ≡ Some y → value_at q (put q x rows) ≡ Some x
-put_here q x y [] h = cc
-put_here q x y ((p, z) ∷ rows) h = put_here_by q p x y z rows (p == q) refl h (put_here q x y rows)
-
-above_none : (q n : ℕ) (rows : Rows Connection) → RiseFrom n rows → q ≤ n → value_at q rows ≡ None
-above_none q n [] h le = refl
-above_none q n ((p, z) ∷ rows) h le = grind (arith, differ, above_none q p rows h.1 (omega arith))
-
-gone_by : (q p : ℕ) (z : Connection) (rows : Rows Connection) (b : Bool) → (p == q) ≡ b → RiseFrom p rows → value_at q (without q rows) ≡ None →
-    value_at q (without q ((p, z) ∷ rows)) ≡ None
-gone_by q p z rows b e h more = grind (arith, above_none, eqb-true)
-
-without_gone : (q n : ℕ) (rows : Rows Connection) → RiseFrom n rows → value_at q (without q rows) ≡ None
-without_gone q n [] h = refl
-without_gone q n ((p, z) ∷ rows) h = gone_by q p z rows (p == q) refl h.1 (without_gone q p rows h.1)
-
 next_none : (given : ℕ) (rows : Rows Connection) → AreUpTo given rows → value_at (given + 1) rows ≡ None
-next_none given [] h = refl
-next_none given ((p, z) ∷ rows) h = grind (arith, differ, next_none given rows h.1)
-
-push_here_by : (n p : ℕ) (x z : Connection) (rows : Rows Connection) (b : Bool) → (p == n) ≡ b → value_at n ((p, z) ∷ rows) ≡ None →
-    (value_at n rows ≡ None → value_at n (rows ++ (n, x) ∷ []) ≡ Some x) → value_at n ((p, z) ∷ (rows ++ (n, x) ∷ [])) ≡ Some x
-push_here_by n p x z rows b e h more = grind arith
-
-push_here : (n : ℕ) (x : Connection) (rows : Rows Connection) → value_at n rows ≡ None → value_at n (rows ++ (n, x) ∷ []) ≡ Some x
-push_here n x [] h = let e = eq-eqb n n refl in rw e refl
-push_here n x ((p, z) ∷ rows) h = push_here_by n p x z rows (p == n) refl h (push_here n x rows)
+next_none given rows h = beyond (given + 1) given rows h (omega arith)
 
 -- ---- whether an open connection stands there
 
@@ -61,7 +30,7 @@ open_put r q x y rows true e h = grind (arith, is_some, eqb-true, put_here)
 open_put r q x y rows false e h = ap (λ o. is_some (link_of o)) (put_other r q x rows (other_than q r e))
 
 open_without : (r q : ℕ) (rows : Rows Connection) (b : Bool) → (q == r) ≡ b → RiseFrom 0 rows → open_in r (without q rows) ≡ (if b then false else open_in r rows)
-open_without r q rows b e h = grind (arith, is_some, eqb-true, without_gone, without_other, other_than)
+open_without r q rows b e h = grind (arith, is_some, eqb-true, without_here, without_other, other_than)
 
 open_push : (r n : ℕ) (x : Connection) (rows : Rows Connection) (b : Bool) → (n == r) ≡ b → value_at n rows ≡ None →
     open_in r (rows ++ (n, x) ∷ []) ≡ (if b then is_link x else open_in r rows)
@@ -121,9 +90,8 @@ accepts_told r class size c s up = grind (arith, opens_told, open_push, next_non
 
 answers_told : (r : ℕ) (c : Connect) (selection : Selection) (held : Option Class) (s : State) → AreUpTo s.given s.live → Told r s (answers c selection held s)
 answers_told r c (refuse reason) held s up = same_told r s (denies reason c.source s) refl refl
-answers_told r c (accept Two size) held s up = accepts_told r Two size c s up
-answers_told r c (accept Zero size) None s up = accepts_told r Zero size c s up
 answers_told r c (accept Zero size) (Some class) s up = same_told r s (denies 136 c.source s) refl refl
+answers_told r c (accept class size) held s up = accepts_told r class size c s up
 
 request_by : (r : ℕ) (c : Connect) (s : State) (in_use full : Bool) → AreUpTo s.given s.live →
     Told r s (if in_use then denies 131 c.source s else (if full then denies 1 c.source s else answers c (selected_by c s.local) s.class s))
@@ -155,13 +123,9 @@ refused_told r q reason s t rise here live events =
 
 asked_told : (r q : ℕ) (unit : Value) (s : State) → RiseFrom 0 s.live → value_at q s.live ≡ Some asked → (to_asked q unit s).ended ≡ None → Told r s (to_asked q unit s)
 asked_told r q (confirm destination c) s rise here h = confirm_told r q c (confirmed c s.local s.class) s here h
-asked_told r q (disconnect destination source reason user) s rise here h = grind (arith, refused_told)
+asked_told r q (disconnect destination source reason user) s rise here h = refused_told r q reason s (to_asked q (disconnect destination source reason user) s) rise here refl refl
 asked_told r q (error destination cause) s rise here h = refused_told r q 0 s (to_asked q (error destination cause) s) rise here refl refl
-asked_told r q (request c) s rise here h = unknown_told r (request c) s h
-asked_told r q (disconnected destination source) s rise here h = unknown_told r (disconnected destination source) s h
-asked_told r q (data0 end user) s rise here h = unknown_told r (data0 end user) s h
-asked_told r q (data2 destination number end user) s rise here h = unknown_told r (data2 destination number end user) s h
-asked_told r q (acknowledge credit destination number) s rise here h = unknown_told r (acknowledge credit destination number) s h
+asked_told r q unit s rise here h = unknown_told r unit s h
 
 -- an open connection stays open
 kept_open : (r q peer next : ℕ) (link after : Standing) (rows : Rows Connection) → value_at q rows ≡ Some (linked peer link) →
@@ -173,11 +137,10 @@ settles_told r q whole s t is events = grind (arith, same_told, append-nil)
 
 breaks_told : (r q peer : ℕ) (link : Standing) (fault : LinkFault) (held : Option Class) (s : State) → value_at q s.live ≡ Some (linked peer link) →
     (breaks q peer fault held s).ended ≡ None → Told r s (breaks q peer fault held s)
-breaks_told r q peer link fault None s here h = over_told _ s h
-breaks_told r q peer link fault (Some Zero) s here h = over_told _ s h
 breaks_told r q peer link fault (Some Two) s here h =
     leaves_told r q (q == r) s (breaks q peer fault (Some Two) s) (faulted q fault) refl refl (λ was. refl)
     (open_put r q (closing peer) (linked peer link) s.live (q == r) refl here)
+breaks_told r q peer link fault held s here h = over_told _ s h
 
 taking_told : (r q peer : ℕ) (link : Standing) (result : Result Standing LinkFault) (s : State) → value_at q s.live ≡ Some (linked peer link) →
     (taking q peer result s).ended ≡ None → Told r s (taking q peer result s)
@@ -192,23 +155,12 @@ leaving_told r q peer reason link held s rise h = grind (arith, leaves_told, ope
 linked_told : (r q peer : ℕ) (link : Standing) (unit : Value) (s : State) → RiseFrom 0 s.live → value_at q s.live ≡ Some (linked peer link) →
     (to_linked q peer link unit s).ended ≡ None → Told r s (to_linked q peer link unit s)
 linked_told r q peer link (disconnect destination source reason user) s rise here h = leaving_told r q peer reason link s.class s rise h
-linked_told r q peer link (request c) s rise here h = taking_told r q peer link (taken link (request c)) s here h
-linked_told r q peer link (confirm destination c) s rise here h = taking_told r q peer link (taken link (confirm destination c)) s here h
-linked_told r q peer link (disconnected destination source) s rise here h = taking_told r q peer link (taken link (disconnected destination source)) s here h
-linked_told r q peer link (data0 end user) s rise here h = taking_told r q peer link (taken link (data0 end user)) s here h
-linked_told r q peer link (data2 destination number end user) s rise here h = taking_told r q peer link (taken link (data2 destination number end user)) s here h
-linked_told r q peer link (acknowledge credit destination number) s rise here h = taking_told r q peer link (taken link (acknowledge credit destination number)) s here h
-linked_told r q peer link (error destination cause) s rise here h = taking_told r q peer link (taken link (error destination cause)) s here h
+linked_told r q peer link unit s rise here h = taking_told r q peer link (taken link unit) s here h
 
 closing_told : (r q peer : ℕ) (unit : Value) (s : State) → RiseFrom 0 s.live → value_at q s.live ≡ Some (closing peer) → Told r s (to_closing q unit s)
 closing_told r q peer (disconnected destination source) s rise here = same_told r s _ refl (dropped_told r q (closing peer) s rise here refl)
 closing_told r q peer (disconnect destination source reason user) s rise here = same_told r s _ refl (dropped_told r q (closing peer) s rise here refl)
-closing_told r q peer (request c) s rise here = still_told r s
-closing_told r q peer (confirm destination c) s rise here = still_told r s
-closing_told r q peer (data0 end user) s rise here = still_told r s
-closing_told r q peer (data2 destination number end user) s rise here = still_told r s
-closing_told r q peer (acknowledge credit destination number) s rise here = still_told r s
-closing_told r q peer (error destination cause) s rise here = still_told r s
+closing_told r q peer unit s rise here = still_told r s
 
 connection_told : (r q : ℕ) (o : Option Connection) (unit : Value) (s : State) → RiseFrom 0 s.live → value_at q s.live ≡ o →
     (to_connection q o unit s).ended ≡ None → Told r s (to_connection q o unit s)
@@ -226,19 +178,8 @@ before_told : (r : ℕ) (is_caller : Bool) (unit : Value) (s : State) → IsOrde
 before_told r true (confirm destination c) s o h = reference_told r destination (confirm destination c) s o.rise h
 before_told r true (disconnect destination source reason user) s o h = reference_told r destination (disconnect destination source reason user) s o.rise h
 before_told r true (error destination cause) s o h = reference_told r destination (error destination cause) s o.rise h
-before_told r true (request c) s o h = over_told _ s h
-before_told r true (disconnected destination source) s o h = over_told _ s h
-before_told r true (data0 end user) s o h = over_told _ s h
-before_told r true (data2 destination number end user) s o h = over_told _ s h
-before_told r true (acknowledge credit destination number) s o h = over_told _ s h
 before_told r false (request c) s o h = request_told r c s o.up_to
-before_told r false (confirm destination c) s o h = over_told _ s h
-before_told r false (disconnect destination source reason user) s o h = over_told _ s h
-before_told r false (disconnected destination source) s o h = over_told _ s h
-before_told r false (data0 end user) s o h = over_told _ s h
-before_told r false (data2 destination number end user) s o h = over_told _ s h
-before_told r false (acknowledge credit destination number) s o h = over_told _ s h
-before_told r false (error destination cause) s o h = over_told _ s h
+before_told r is_caller unit s o h = over_told _ s h
 
 only_told : (r : ℕ) (live : Rows Connection) (unit : Value) (s : State) → s.live ≡ live → RiseFrom 0 s.live → (to_only live unit s).ended ≡ None → Told r s (to_only live unit s)
 only_told r [] unit s e rise h = still_told r s
@@ -249,25 +190,13 @@ only_told r ((q, c) ∷ rows) unit s e rise h =
 
 zero_told : (r : ℕ) (is_caller : Bool) (unit : Value) (s : State) → RiseFrom 0 s.live → (in_zero is_caller unit s).ended ≡ None → Told r s (in_zero is_caller unit s)
 zero_told r true (request c) s rise h = over_told _ s h
-zero_told r true (confirm destination c) s rise h = only_told r s.live (confirm destination c) s refl rise h
-zero_told r true (disconnect destination source reason user) s rise h = only_told r s.live (disconnect destination source reason user) s refl rise h
-zero_told r true (disconnected destination source) s rise h = only_told r s.live (disconnected destination source) s refl rise h
-zero_told r true (data0 end user) s rise h = only_told r s.live (data0 end user) s refl rise h
-zero_told r true (data2 destination number end user) s rise h = only_told r s.live (data2 destination number end user) s refl rise h
-zero_told r true (acknowledge credit destination number) s rise h = only_told r s.live (acknowledge credit destination number) s refl rise h
-zero_told r true (error destination cause) s rise h = only_told r s.live (error destination cause) s refl rise h
-zero_told r false unit s rise h = only_told r s.live unit s refl rise h
+zero_told r is_caller unit s rise h = only_told r s.live unit s refl rise h
 
 two_told : (r : ℕ) (is_caller : Bool) (unit : Value) (s : State) → IsOrderly s → (in_two is_caller unit s).ended ≡ None → Told r s (in_two is_caller unit s)
 two_told r true (request c) s o h = over_told _ s h
 two_told r false (request c) s o h = request_told r c s o.up_to
-two_told r is_caller (confirm destination c) s o h = reference_told r destination (confirm destination c) s o.rise h
-two_told r is_caller (disconnect destination source reason user) s o h = reference_told r destination (disconnect destination source reason user) s o.rise h
-two_told r is_caller (disconnected destination source) s o h = reference_told r destination (disconnected destination source) s o.rise h
 two_told r is_caller (data0 end user) s o h = over_told _ s h
-two_told r is_caller (data2 destination number end user) s o h = reference_told r destination (data2 destination number end user) s o.rise h
-two_told r is_caller (acknowledge credit destination number) s o h = reference_told r destination (acknowledge credit destination number) s o.rise h
-two_told r is_caller (error destination cause) s o h = reference_told r destination (error destination cause) s o.rise h
+two_told r is_caller unit s o h = reference_told r (connection_by (Some Two) unit s) unit s o.rise h
 
 class_told : (r : ℕ) (held : Option Class) (unit : Value) (s : State) → IsOrderly s → (in_class held unit s).ended ≡ None → Told r s (in_class held unit s)
 class_told r None unit s o h = before_told r s.is_caller unit s o h
@@ -286,10 +215,9 @@ react_told r unit s o h = by_told r (is_some s.ended) unit s o h
 after_joined : (r : ℕ) (was : Bool) (xs ys : List Happening) → open_after r was (xs ++ ys) ≡ open_after r (open_after r was xs) ys
 after_joined r was [] ys = refl
 after_joined r was (opened q ∷ xs) ys = after_joined r (was || (q == r)) xs ys
-after_joined r was (refused q reason ∷ xs) ys = after_joined r was xs ys
-after_joined r was (tsdu q octets ∷ xs) ys = after_joined r was xs ys
 after_joined r was (closed q reason ∷ xs) ys = after_joined r (was && not (q == r)) xs ys
 after_joined r was (faulted q fault ∷ xs) ys = after_joined r (was && not (q == r)) xs ys
+after_joined r was (event ∷ xs) ys = after_joined r was xs ys
 
 told_joined : (r : ℕ) (old mid new : State) → Told r old mid → Told r mid new → Told r old new
 told_joined r old mid new a b = record {
@@ -366,9 +294,8 @@ closing_by b was = grind arith
 
 closes_by : (r q peer reason : ℕ) (link : Standing) (held : Option Class) (s : State) → value_at q s.live ≡ Some (linked peer link) → s.ended ≡ None →
     (closes q peer reason held s).ended ≡ None → is_open r (closes q peer reason held s) ≡ (is_open r s && not (q == r))
-closes_by r q peer reason link None s here lasts h = grind (arith, open_lasts, open_put, closing_by, not)
 closes_by r q peer reason link (Some Zero) s here lasts h = over_told _ s h
-closes_by r q peer reason link (Some Two) s here lasts h = grind (arith, open_lasts, open_put, closing_by, not)
+closes_by r q peer reason link held s here lasts h = grind (arith, open_lasts, open_put, closing_by, not)
 
 not_open : (r q : ℕ) (s : State) (b : Bool) → (q == r) ≡ b → open_link q s ≡ None → is_open r s ≡ (is_open r s && not b)
 not_open r q s b e h = grind (arith, is_some, eqb-true, and_false, and_true)

@@ -14,12 +14,7 @@ written_most unit fits =
 header_least : (unit : Value) → 2 ≤ length (written_header unit)
 header_least (request c) = omega (arith, length-append {A = ℕ})
 header_least (confirm destination c) = omega (arith, length-append {A = ℕ})
-header_least (disconnect destination source reason user) = omega arith
-header_least (disconnected destination source) = omega arith
-header_least (data0 end user) = omega arith
-header_least (data2 destination number end user) = omega arith
-header_least (acknowledge credit destination number) = omega arith
-header_least (error destination cause) = omega arith
+header_least unit = omega arith
 
 pub written_least : (unit : Value) → 3 ≤ length (written unit)
 written_least unit =
@@ -43,5 +38,4 @@ given_size peer (ack number credit) =
 
 pub header_most : (given : Given) → header_octets given ≤ 5
 header_most (part0 end octets) = omega arith
-header_most (part2 number end octets) = omega arith
-header_most (ack number credit) = omega arith
+header_most given = omega arith

@@ -1,5 +1,5 @@
 -- What the proofs of this crate take from the library, from the crates below and from its own definitions.
-pub use Rattle.std.proofs.lemmas.Bool.{cases_lt, eq-eqb, eqb-false, eqb-true, lt-ltb, ltb-true}
+pub use Rattle.std.proofs.lemmas.Bool.{cases_lt, eq-eqb, eqb-false, eqb-true, lt-ltb, ltb-true, or_left, or_right}
 pub use Rattle.std.proofs.lemmas.Bool.Decides.{nat_tests}
 pub use Rattle.std.proofs.lemmas.Grind.{common_steps}
 pub use Rattle.std.proofs.lemmas.List.{append-nil, append_cancel_left, drop_all, get_or_append_left, length-set, length-take-le, map-append, take-append-drop, take_all, take_at}
@@ -50,7 +50,7 @@ pub use Rattle.osi_carrier.specs.Runs.{Act, AreAlike, Call, Calls, CallsAlong, E
 pub use Rattle.osi_carrier.specs.Runs.Act.{packet, user}
 pub use Rattle.osi_carrier.specs.Runs.Call.{calling, carrying, feeding, telling}
 pub use Rattle.osi_carrier.specs.Runs.UserCall.{connects, sends}
-pub use Rattle.osi_carrier.specs.Stages.{link_in, stage_of}
+pub use Rattle.osi_carrier.specs.Opened.{link_in, peer_in}
 pub use Rattle.osi_carrier.specs.State.{Connection, State, TsapIds, asked, closing, drops, ends, fails, joins, linked, moves, packets, tells, writes}
 pub use Rattle.osi_carrier.specs.Steps.{StepsTo, link_after, units_after, whole_after}
 unfoldable pub use Rattle.osi_carrier.specs.Steps.{link_grows}
@@ -58,4 +58,3 @@ pub use Rattle.osi_carrier.specs.contracts.switch.Switch.{the_view}
 pub use Rattle.osi_carrier.specs.declared.ends.EndReason.{EndReason}
 pub use Rattle.osi_carrier.specs.declared.ends.EndReason.TheVariants.{NoMemory}
 pub use Rattle.osi_carrier.specs.declared.rows.Phase.{Phase}
-pub use Rattle.osi_carrier.specs.declared.stages.Stage.TheVariants.{Asking, Leaving, Open, Unknown}

@@ -4,7 +4,7 @@ pub mod Happenings
 pub mod State
 pub mod Live
 pub mod Selectors
-pub mod Stages
+pub mod Opened
 pub mod Pump
 pub mod Negotiation
 pub mod React

@@ -13,7 +13,6 @@ pub mod lookup;
 mod negotiation;
 mod rows;
 mod selectors;
-mod stages;
 mod switch;
 mod writing;
 

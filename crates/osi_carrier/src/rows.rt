@@ -4,11 +4,11 @@ ghost use Rattle.std.specs.Prelude.{◌≡◌, ◌*◌, ◌^◌, ◌-◌, ◌<�
 ghost use Rattle.std.specs.Cow.{cow_slice_items, IsOwnedSlice};
 ghost use Rattle.osi_carrier.specs.Calls.{backlog_of, begun_by, kept_in, link_of, unsent_at, unsent_by, WaitsAlone};
 ghost use Rattle.osi_carrier.specs.Live.{connection, IsPumped};
+ghost use Rattle.osi_carrier.specs.Opened.{link_in, peer_in};
 ghost use Rattle.osi_carrier.specs.Orderly.{RiseFrom};
 ghost use Rattle.osi_carrier.specs.Pump.{pumped, written_by, written_for};
 ghost use Rattle.osi_carrier.specs.React.{has_peer, is_of_peer};
 ghost use Rattle.osi_carrier.specs.Rows.{value_at, first_of, place_of, put, without};
-ghost use Rattle.osi_carrier.specs.Stages.{stage_of, link_in};
 ghost use Rattle.osi_carrier.specs.State.{Connection, linked, packets};
 ghost use Rattle.osi_carrier.specs.Steps.{StepsTo, link_after, units_after, link_grows};
 ghost use Rattle.osi_class.specs.Giving.{one_by_one};
@@ -17,7 +17,6 @@ ghost use Rattle.osi_tpdu.specs.View.{value};
 
 use crate::links::{Step, pump, send_all_on, send_parts, send_whole};
 use crate::lookup::{Referred, is_above, place_in};
-use crate::stages::Stage;
 use bytes::BytesMut;
 use osi_class::{AnyLink, Link, LinkFault};
 use osi_tpdu::Tpdu;
@@ -77,17 +76,6 @@ impl Referred for Row {
 }
 
 impl Row {
-    /// How far its connection is.
-    fn stage(&self) -> Stage
-        ensures { result ≡ stage_of (Some self.now.1) }
-    {
-        match self.phase {
-            Phase::Asked => Stage::Asking,
-            Phase::Linked(peer, _) => Stage::Open(peer),
-            Phase::Closing(_) => Stage::Leaving,
-        }
-    }
-
     /// The octets of its unfinished TSDU, at most 1,048,576.
     fn kept(&self) -> usize
         ensures value { result ≡ begun_by self.now.1 }
@@ -122,7 +110,7 @@ impl Row {
     /// Hands a unit to the link of the connection, which is open with this reference of the peer.
     #[inline(always)]
     fn step(&mut self, peer: u16, unit: &Tpdu<'_>, out: &mut BytesMut) -> Result<Step, AllocError>
-        requires { stage_of (Some self.old.1) ≡ Stage.Open peer }
+        requires { peer_in (Some self.old.1) ≡ Some peer }
         ensures reference { self.new.0 ≡ self.old.0 }
         ensures step { IfOk result (λ s. StepsTo s (taken (link_in (Some self.old.1)) (value unit.now))) }
         ensures row { OnOk result (self.new ≡ (self.old.0, linked peer (link_after (link_in (Some self.old.1)) (taken (link_in (Some self.old.1)) (value unit.now))))) }
@@ -157,7 +145,7 @@ impl Row {
         tsdus: CowSlice<'_, Vec<u8>, Global>,
         out: &mut BytesMut,
     ) -> Result<(), AllocError>
-        requires { stage_of (Some self.old.1) ≡ Stage.Open peer }
+        requires { peer_in (Some self.old.1) ≡ Some peer }
         ensures reference { self.new.0 ≡ self.old.0 }
         ensures row { OnOk result (self.new ≡ (self.old.0, linked peer (one_by_one (link_in (Some self.old.1)) (map (λ v. v.items) (cow_slice_items tsdus.entry))))) }
         ensures ok { OnOk result (out.new.items ≡ out.old.items ++ packets (written_for peer (link_in (Some self.old.1)) (map (λ v. v.items) (cow_slice_items tsdus.entry)))) }
@@ -260,18 +248,18 @@ impl Connections {
 
     /// The place of the open connection of a reference, and the reference of its peer.
     #[inline(always)]
-    #[tactic(auto, using(crate::proofs::ByStage::nowhere))]
+    #[tactic(auto, using(crate::proofs::Places::nowhere))]
     pub fn open_at(&self, reference: u16) -> Option<(usize, u16)>
-        ensures open { IfSome result (λ o. (place_of reference self.now ≡ Some o.0) × (stage_of (value_at reference self.now) ≡ Stage.Open o.1)) }
+        ensures open { IfSome result (λ o. (place_of reference self.now ≡ Some o.0) × (peer_in (value_at reference self.now) ≡ Some o.1)) }
         ensures none { result ≡ None → link_of (value_at reference self.now) ≡ None }
     {
         let Some(place) = place_in(self.rows.as_slice(), self.rises, reference) else {
             return None;
         };
-        let Stage::Open(peer) = self.stage(place, reference) else {
-            return None;
-        };
-        Some((place, peer))
+        match self.phase(place, reference) {
+            Phase::Linked(peer, _) => Some((place, *peer)),
+            Phase::Asked | Phase::Closing(_) => None,
+        }
     }
 
     /// The reference that was given first of those that are live.
@@ -309,7 +297,7 @@ impl Connections {
 
     /// The octets of TSDUs that were handed in at the connection of this reference and are not yet in
     /// units; 0 where none has it.
-    #[tactic(auto, using(crate::proofs::ByStage::nowhere))]
+    #[tactic(auto, using(crate::proofs::Places::nowhere))]
     pub fn unsent(&self, reference: u16) -> usize
         ensures { result ≡ unsent_at (value_at reference self.now) }
     {
@@ -335,11 +323,11 @@ impl Connections {
     }
 
     /// How far the connection at this place is.
-    pub fn stage(&self, place: usize, reference: u16) -> Stage
+    pub fn phase(&self, place: usize, reference: u16) -> &Phase
         requires { place_of reference self.now ≡ Some place }
-        ensures { result ≡ stage_of (value_at reference self.now) }
+        ensures { value_at reference self.now ≡ Some (connection result.now) }
     {
-        self.rows[place].stage()
+        &self.rows[place].phase
     }
 
     /// Puts a new connection behind the others. Want of memory changes nothing.
@@ -369,7 +357,7 @@ impl Connections {
         out: &mut BytesMut,
     ) -> Result<Step, AllocError>
         requires place { place_of reference self.old ≡ Some place }
-        requires open { stage_of (value_at reference self.old) ≡ Stage.Open peer }
+        requires open { peer_in (value_at reference self.old) ≡ Some peer }
         ensures step { IfOk result (λ s. StepsTo s (taken (link_in (value_at reference self.old)) (value unit.now))) }
         ensures rows { OnOk result (self.new ≡ put reference (linked peer (link_after (link_in (value_at reference self.old)) (taken (link_in (value_at reference self.old)) (value unit.now)))) self.old) }
         ensures ok { OnOk result (out.new.items ≡ out.old.items ++ packets (units_after peer (taken (link_in (value_at reference self.old)) (value unit.now)))) }
@@ -391,7 +379,7 @@ impl Connections {
         out: &mut BytesMut,
     ) -> Result<(), AllocError>
         requires place { place_of reference self.old ≡ Some place }
-        requires open { stage_of (value_at reference self.old) ≡ Stage.Open peer }
+        requires open { peer_in (value_at reference self.old) ≡ Some peer }
         ensures rows { OnOk result (self.new ≡ put reference (linked peer (pumped (with_tsdu (link_in (value_at reference self.old)) (cow_slice_items tsdu.entry)))) self.old) }
         ensures ok { OnOk result (out.new.items ≡ out.old.items ++ packets (written_by peer (with_tsdu (link_in (value_at reference self.old)) (cow_slice_items tsdu.entry)))) }
         ensures err { OnErr result ((self.new ≡ self.old) × (out.new.items ≡ out.old.items)) }
@@ -417,7 +405,7 @@ impl Connections {
         out: &mut BytesMut,
     ) -> Result<(), AllocError>
         requires place { place_of reference self.old ≡ Some place }
-        requires open { stage_of (value_at reference self.old) ≡ Stage.Open peer }
+        requires open { peer_in (value_at reference self.old) ≡ Some peer }
         ensures rows { OnOk result (self.new ≡ put reference (linked peer (one_by_one (link_in (value_at reference self.old)) (map (λ v. v.items) (cow_slice_items tsdus.entry)))) self.old) }
         ensures ok { OnOk result (out.new.items ≡ out.old.items ++ packets (written_for peer (link_in (value_at reference self.old)) (map (λ v. v.items) (cow_slice_items tsdus.entry)))) }
         ensures err { OnErr result ((self.new ≡ self.old) × (out.new.items ≡ out.old.items)) }

@@ -116,7 +116,7 @@ impl Names {
     }
 
     /// Those of a reference.
-    #[tactic(auto, using(crate::proofs::ByStage::nowhere))]
+    #[tactic(auto, using(crate::proofs::Places::nowhere))]
     pub fn find(&self, reference: u16) -> Option<Tsaps>
         ensures { option_map tsap_ids result ≡ value_at reference self.now }
     {

@@ -1,6 +1,6 @@
 -- A session whose connection is not live answers a call as if it were not there.
 use Rattle.std.proofs.Common.{◌≡◌, ℕ, Bool, true, false, not, Option, Some, None, Result, Ok, Err, is_some, IsSome, refl, sym, ap, subst, ◌∙◌, if◌then◌else◌}
-use Rattle.osi_carrier.proofs.ByStage.{no_link}
+use Rattle.osi_carrier.proofs.Opened.{no_link}
 use Rattle.osi_session.specs.declared.faults.CallError.TheVariants as error
 use Rattle.osi_session.specs.declared.phases.Phase.TheVariants.{WaitTransport, WaitCn, Connecting, Answering, Ready, MajorAsked, MajorDue, Releasing, ReleaseDue, Restarting, RestartDue, Aborting, Ended}
 use Rattle.osi_session.specs.declared.state.State.{State}

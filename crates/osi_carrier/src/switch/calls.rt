@@ -113,7 +113,7 @@ impl Switch {
     }
 
     /// Sends a TSDU on an open connection: all units that may be sent now are written.
-    #[tactic(auto, using(crate::proofs::SentAll::open_here, crate::proofs::ByStage::waits_at))]
+    #[tactic(auto, using(crate::proofs::SentAll::open_here, crate::proofs::Opened::waits_at))]
     pub fn send(&mut self, reference: u16, tsdu: CowSlice<'_, u8, Global>) -> Result<(), SendError>
         ensures ok { OnOk result (self.new ≡ sent reference (cow_slice_items tsdu.entry) self.old) }
         ensures allowed { OnOk result (send_error (cow_slice_items tsdu.entry) (open_link reference self.old) ≡ None) }

@@ -4,9 +4,9 @@ ghost use Rattle.std.specs.Prelude.{◌≡◌, Some, true, OnOk, OnErr};
 ghost use Rattle.osi_tpdu.specs.View.{value};
 ghost use Rattle.osi_class.specs.Link.{taken};
 ghost use Rattle.osi_carrier.specs.Growth.{grows};
+ghost use Rattle.osi_carrier.specs.Opened.{link_in, peer_in};
 ghost use Rattle.osi_carrier.specs.React.{breaks, leaves, taking, to_linked};
 ghost use Rattle.osi_carrier.specs.Rows.{place_of, value_at};
-ghost use Rattle.osi_carrier.specs.Stages.{stage_of, link_in};
 ghost use Rattle.osi_carrier.specs.State.{ends};
 ghost use Rattle.osi_carrier.specs.declared.ends.EndReason.TheVariants.{NoMemory};
 
@@ -15,7 +15,6 @@ use crate::ends::{CarrierFault, EndReason};
 use crate::events::{Event, Ref};
 use crate::links::Step;
 use crate::rows::Phase;
-use crate::stages::Stage;
 use crate::writing::{put_disconnect, put_disconnected};
 use osi_class::{Class, LinkFault};
 use osi_tpdu::Tpdu;
@@ -34,7 +33,7 @@ impl Switch {
         unit: &Tpdu<'_>,
     ) -> Result<(), AllocError>
         requires place { place_of reference self.old.live ≡ Some place }
-        requires open { stage_of (value_at reference self.old.live) ≡ Stage.Open peer }
+        requires open { peer_in (value_at reference self.old.live) ≡ Some peer }
         ensures ok { OnOk result (self.new ≡ to_linked reference peer (link_in (value_at reference self.old.live)) (value unit.now) self.old) }
         ensures err { OnErr result (ends NoMemory self.new ≡ ends NoMemory self.old) }
         ensures needs { OnErr result (grows self.old (to_linked reference peer (link_in (value_at reference self.old.live)) (value unit.now) self.old) ≡ true) }
@@ -61,7 +60,7 @@ impl Switch {
         unit: &Tpdu<'_>,
     ) -> Result<(), AllocError>
         requires place { place_of reference self.old.live ≡ Some place }
-        requires open { stage_of (value_at reference self.old.live) ≡ Stage.Open peer }
+        requires open { peer_in (value_at reference self.old.live) ≡ Some peer }
         ensures ok { OnOk result (self.new ≡ taking reference peer (taken (link_in (value_at reference self.old.live)) (value unit.now)) self.old) }
         ensures err { OnErr result (ends NoMemory self.new ≡ ends NoMemory self.old) }
         ensures needs { OnErr result (grows self.old (taking reference peer (taken (link_in (value_at reference self.old.live)) (value unit.now)) self.old) ≡ true) }

@@ -4,11 +4,10 @@ ghost use Rattle.std.specs.Prelude.{◌≡◌, ℕ, ◌∷◌, [], None, Some, t
 ghost use Rattle.osi_class.specs.Link.{taken};
 ghost use Rattle.osi_tpdu.specs.Units.{units_left};
 ghost use Rattle.osi_tpdu.specs.View.{value};
+ghost use Rattle.osi_carrier.specs.Opened.{link_in, peer_in};
 ghost use Rattle.osi_carrier.specs.Packets.{Act, Acts, after_refusal};
 ghost use Rattle.osi_carrier.specs.React.{in_class, taking};
 ghost use Rattle.osi_carrier.specs.Rows.{value_at};
-ghost use Rattle.osi_carrier.specs.Stages.{stage_of, link_in};
-ghost use Rattle.osi_carrier.specs.declared.stages.Stage.{Stage};
 
 use super::Switch;
 use crate::ends::{CarrierFault, EndReason};
@@ -79,7 +78,7 @@ impl Switch {
     #[inline(always)]
     fn take_open(&mut self, reference: u16, unit: &Tpdu<'_>) -> bool
         requires lasts { self.old.ended ≡ None }
-        requires acts { (peer : ℕ) → stage_of (value_at reference self.old.live) ≡ Stage.Open peer → in_class self.old.class (value unit.now) self.old ≡ taking reference peer (taken (link_in (value_at reference self.old.live)) (value unit.now)) self.old }
+        requires acts { (peer : ℕ) → peer_in (value_at reference self.old.live) ≡ Some peer → in_class self.old.class (value unit.now) self.old ≡ taking reference peer (taken (link_in (value_at reference self.old.live)) (value unit.now)) self.old }
         ensures acts { result ≡ true → Act self.old (value unit.now ∷ []) self.new }
         ensures none { result ≡ false → self.new ≡ self.old }
     {

@@ -16,7 +16,6 @@ use crate::ends::CarrierFault;
 use crate::events::{Event, Ref};
 use crate::negotiation::{agreed_size, confirmed, opened_link};
 use crate::rows::Phase;
-use crate::stages::Stage;
 use osi_class::Class;
 use osi_tpdu::{ConnectConfirm, ConnectRequest, Tpdu};
 use std::alloc::AllocError;
@@ -91,11 +90,10 @@ impl Switch {
         let Some(place) = self.live.find(reference) else {
             return self.to_unknown(unit);
         };
-        match self.live.stage(place, reference) {
-            Stage::Unknown => self.to_unknown(unit),
-            Stage::Asking => self.to_asked(place, reference, unit),
-            Stage::Open(peer) => self.to_linked(place, reference, peer, unit),
-            Stage::Leaving => {
+        match *self.live.phase(place, reference) {
+            Phase::Asked => self.to_asked(place, reference, unit),
+            Phase::Linked(peer, _) => self.to_linked(place, reference, peer, unit),
+            Phase::Closing(_) => {
                 self.to_closing(place, reference, unit);
                 Ok(())
             }

@@ -4,12 +4,11 @@ ghost use Rattle.std.specs.Prelude.{◌≡◌, ◌≢◌, [], length, map, nat_l
 ghost use Rattle.std.specs.Cow.{cow_slice_items};
 ghost use Rattle.std.specs.List.{list_any};
 ghost use Rattle.osi_carrier.specs.Calls.{open_link, send_all_error, lengths_error, call_error, sent_all, pumps_all};
+ghost use Rattle.osi_carrier.specs.Opened.{link_in, peer_in};
 ghost use Rattle.osi_carrier.specs.Rows.{place_of, value_at};
-ghost use Rattle.osi_carrier.specs.Stages.{stage_of, link_in};
 
 use super::Switch;
 use crate::faults::SendError;
-use crate::stages::Stage;
 use osi_class::LONGEST_TSDU;
 use std::alloc::Global;
 use std::borrow::CowSlice;
@@ -52,7 +51,7 @@ impl Switch {
         tsdus: CowSlice<'_, Vec<u8>, Global>,
     ) -> Result<(), SendError>
         requires place { place_of reference self.old.live ≡ Some place }
-        requires open { stage_of (value_at reference self.old.live) ≡ Stage.Open peer }
+        requires open { peer_in (value_at reference self.old.live) ≡ Some peer }
         ensures ok { OnOk result (self.new ≡ pumps_all reference peer (link_in (value_at reference self.old.live)) (map (λ v. v.items) (cow_slice_items tsdus.entry)) self.old) }
         ensures allowed { OnOk result (lengths_error (map (λ v. v.items) (cow_slice_items tsdus.entry)) ≡ None) }
         ensures refused { IfErr result (λ e. call_error e ≡ lengths_error (map (λ v. v.items) (cow_slice_items tsdus.entry))) }

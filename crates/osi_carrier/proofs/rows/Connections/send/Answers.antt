@@ -1,19 +1,22 @@
-use Rattle.std.proofs.Common.{◌≡◌, ℕ, List, ◌++◌, get_or, Option, Some, Result, Ok, Err, OnOk, refl, ap, sym, arith, subst, ◌∙◌}
+use Rattle.std.proofs.Common.{◌≡◌, ℕ, List, ◌++◌, get_or, Some, Result, Ok, Err, OnOk, refl, ap, sym, arith, subst, ◌∙◌}
 use Rattle.osi_class.specs.declared.either.AnyLink.{AnyLink}
-use Rattle.osi_carrier.specs.declared.rows.Phase.TheVariants.{Asked, Linked, Closing}
-use Rattle.osi_carrier.proofs.Vocabulary.{cow_slice_items, any_standing, Standing, next, with_tsdu, WaitsAlone, connection, IsPumped, pumped, written_by, value_at, stage_of, link_in, Connection, linked, packets, Phase, Open}
+use Rattle.osi_carrier.specs.declared.rows.Phase.TheVariants.{Linked}
+use Rattle.osi_carrier.proofs.Vocabulary.{cow_slice_items, any_standing, Standing, next, with_tsdu, WaitsAlone, connection, IsPumped, pumped, written_by, Rows, value_at, place_of, peer_in, link_in, Connection, linked, packets, Phase}
 use Rattle.osi_carrier.proofs.Order.{set_kept}
 use Rattle.osi_carrier.proofs.Places.{here_is, put_row}
 use Rattle.osi_carrier.proofs.rows.Connections.send.Goals as goal
 
 -- the phase of an open connection
-linked_phase : (p : Phase) (peer : ℕ) → stage_of (Some (connection p)) ≡ Open peer → ((q : ℕ) (link : AnyLink) → p ≡ Linked q link → ⊥) → ⊥
-linked_phase Asked peer e other = cc
+linked_phase : (p : Phase) (peer : ℕ) → peer_in (Some (connection p)) ≡ Some peer → ((q : ℕ) (link : AnyLink) → p ≡ Linked q link → ⊥) → ⊥
 linked_phase (Linked q link) peer e other = other q link refl
-linked_phase (Closing q) peer e other = cc
+linked_phase phase peer e other = cc
 
-open_row : (peer q : ℕ) (o : Option Connection) (s : Standing) → stage_of o ≡ Open peer → o ≡ Some (linked q s) → (s ≡ link_in o) × (q ≡ peer)
-open_row peer q o s opened at = let named : Open q ≡ Open peer = sym (ap stage_of at) ∙ opened in (sym (ap link_in at), cc)
+-- the link in the row of an open connection is the link of it
+found_at : (r peer i n q : ℕ) (rows items : Rows Connection) (row : ℕ × Connection) (p : Phase) (link : AnyLink) → place_of r rows ≡ Some i → row ≡ get_or items i row → items ≡ rows →
+    ◌≡◌ {A = ℕ × Connection} (n, connection p) row → p ≡ Linked q link → peer_in (value_at r rows) ≡ Some peer → (any_standing link ≡ link_in (value_at r rows)) × (q ≡ peer)
+found_at r peer i n q rows items row p link e here same view is opened =
+    let at = here_is r rows items i row e here same ∙ ap (λ (x : ℕ × Connection). Some x.1) (sym view) ∙ ap (λ (p : Phase). Some (connection p)) is in
+    let named : Some q ≡ Some peer = sym (ap peer_in at) ∙ opened in (sym (ap link_in at), cc)
 
 row_linked : (n m q peer : ℕ) (t u : Standing) → n ≡ m → q ≡ peer → t ≡ u → ◌≡◌ {A = ℕ × Connection} (n, linked q t) (m, linked peer u)
 row_linked n m q peer t u a b e = first_of (cc, grind arith)
@@ -24,10 +27,9 @@ ok_then (Err e) f p = tt
 
 pub unreachable-requires : goal.unreachable-requires
 unreachable-requires c =
-    let row = c.index_mut.result.now in
-    let here = c.index_mut.ensures.value ∙ ap (λ l. get_or l c.args.place row) c.self.view_is in
-    let at = here_is c.args.reference c.args.self.now c.args.place row c.requires.place here ∙ ap (λ (x : ℕ × Connection). Some x.1) (sym c.link.view_is) in
-    linked_phase c.link.inside.phase c.args.peer (ap stage_of (sym at) ∙ c.requires.open) c.in_default.not-Linked
+    let at = here_is c.args.reference c.args.self.now c.self.inside.rows.items c.args.place c.index_mut.result.now c.requires.place c.index_mut.ensures.value c.self.view_is
+    ∙ ap (λ (x : ℕ × Connection). Some x.1) (sym c.link.view_is) in
+    linked_phase c.link.inside.phase c.args.peer (ap peer_in (sym at) ∙ c.requires.open) c.in_default.not-Linked
 
 pub send_parts-requires : goal.send_parts-requires
 send_parts-requires c = ap next (c.send_whole.ensures.none c.if-send_whole.false).0 ∙ subst (λ (p : Phase). IsPumped (connection p)) c.in-Linked.is c.link.invariant
@@ -44,49 +46,33 @@ invariant_of-self-2 c =
 
 pub returns-then-send_whole-clause-rows : goal.returns-then-send_whole-clause-rows
 returns-then-send_whole-clause-rows c =
-    let row = c.index_mut.result.now in
-    let here = c.index_mut.ensures.value ∙ ap (λ l. get_or l c.args.place row) c.self.view_is in
-    let at = here_is c.args.reference c.args.self.now c.args.place row c.requires.place here ∙ ap (λ (x : ℕ × Connection). Some x.1) (sym c.link.view_is)
-    ∙ ap (λ (p : Phase). Some (connection p)) c.in-Linked.is in
-    let found = open_row c.args.peer c.in-Linked.field-0 (value_at c.args.reference c.args.self.now) (any_standing c.in-Linked.link) c.requires.open at in
+    let found = found_at c.args.reference c.args.peer c.args.place _ _ c.args.self.now _ _ _ _ c.requires.place c.index_mut.ensures.value c.self.view_is c.link.view_is c.in-Linked.is c.requires.open in
     let same = ap (λ (s : Standing). with_tsdu s c.as_slice.result.now) found.0 ∙ ap (with_tsdu (link_in (value_at c.args.reference c.args.self.now))) c.as_slice.ensures.value in
-    put_row c.args.reference c.args.self.now c.self.inside.rows.items c.args.place row (c.link.inside.reference, linked c.in-Linked.field-0 (any_standing c.send_whole.new.link))
-    (linked c.args.peer (pumped (with_tsdu (link_in (value_at c.args.reference c.args.self.now)) (cow_slice_items c.args.tsdu)))) c.requires.place here c.self.view_is
-    (row_linked c.link.inside.reference row.0 c.in-Linked.field-0 c.args.peer (any_standing c.send_whole.new.link) (pumped (with_tsdu (link_in (value_at c.args.reference c.args.self.now)) (cow_slice_items c.args.tsdu)))
+    put_row c.args.reference c.args.self.now c.self.inside.rows.items c.args.place c.index_mut.result.now (c.link.inside.reference, linked c.in-Linked.field-0 (any_standing c.send_whole.new.link))
+    (linked c.args.peer (pumped (with_tsdu (link_in (value_at c.args.reference c.args.self.now)) (cow_slice_items c.args.tsdu)))) c.requires.place c.index_mut.ensures.value c.self.view_is
+    (row_linked c.link.inside.reference c.index_mut.result.now.0 c.in-Linked.field-0 c.args.peer (any_standing c.send_whole.new.link) (pumped (with_tsdu (link_in (value_at c.args.reference c.args.self.now)) (cow_slice_items c.args.tsdu)))
     (ap (λ (x : ℕ × Connection). x.0) c.link.view_is) found.1 (c.send_whole.ensures.link c.if-send_whole.true ∙ ap pumped same))
 
 pub returns-then-send_whole-clause-ok : goal.returns-then-send_whole-clause-ok
 returns-then-send_whole-clause-ok c =
-    let row = c.index_mut.result.now in
-    let here = c.index_mut.ensures.value ∙ ap (λ l. get_or l c.args.place row) c.self.view_is in
-    let at = here_is c.args.reference c.args.self.now c.args.place row c.requires.place here ∙ ap (λ (x : ℕ × Connection). Some x.1) (sym c.link.view_is)
-    ∙ ap (λ (p : Phase). Some (connection p)) c.in-Linked.is in
-    let found = open_row c.args.peer c.in-Linked.field-0 (value_at c.args.reference c.args.self.now) (any_standing c.in-Linked.link) c.requires.open at in
+    let found = found_at c.args.reference c.args.peer c.args.place _ _ c.args.self.now _ _ _ _ c.requires.place c.index_mut.ensures.value c.self.view_is c.link.view_is c.in-Linked.is c.requires.open in
     let same = ap (λ (s : Standing). with_tsdu s c.as_slice.result.now) found.0 ∙ ap (with_tsdu (link_in (value_at c.args.reference c.args.self.now))) c.as_slice.ensures.value in
     c.send_whole.ensures.written c.if-send_whole.true ∙ ap (λ (s : Standing). c.args.out.now.items ++ packets (written_by c.args.peer s)) same
 
 pub returns-clause-rows : goal.returns-clause-rows
 returns-clause-rows c =
-    let row = c.index_mut.result.now in
-    let here = c.index_mut.ensures.value ∙ ap (λ l. get_or l c.args.place row) c.self.view_is in
-    let at = here_is c.args.reference c.args.self.now c.args.place row c.requires.place here ∙ ap (λ (x : ℕ × Connection). Some x.1) (sym c.link.view_is)
-    ∙ ap (λ (p : Phase). Some (connection p)) c.in-Linked.is in
-    let found = open_row c.args.peer c.in-Linked.field-0 (value_at c.args.reference c.args.self.now) (any_standing c.in-Linked.link) c.requires.open at in
+    let found = found_at c.args.reference c.args.peer c.args.place _ _ c.args.self.now _ _ _ _ c.requires.place c.index_mut.ensures.value c.self.view_is c.link.view_is c.in-Linked.is c.requires.open in
     let same = ap (λ (s : Standing). with_tsdu s (cow_slice_items c.args.tsdu)) ((c.send_whole.ensures.none c.if-send_whole.false).0 ∙ found.0) in
     ok_then c.send_parts.result (λ (e : any_standing c.send_parts.new.link ≡ pumped (with_tsdu (any_standing c.send_whole.new.link) (cow_slice_items c.args.tsdu))).
-    put_row c.args.reference c.args.self.now c.self.inside.rows.items c.args.place row (c.link.inside.reference, linked c.in-Linked.field-0 (any_standing c.send_parts.new.link))
-    (linked c.args.peer (pumped (with_tsdu (link_in (value_at c.args.reference c.args.self.now)) (cow_slice_items c.args.tsdu)))) c.requires.place here c.self.view_is
-    (row_linked c.link.inside.reference row.0 c.in-Linked.field-0 c.args.peer (any_standing c.send_parts.new.link) (pumped (with_tsdu (link_in (value_at c.args.reference c.args.self.now)) (cow_slice_items c.args.tsdu)))
+    put_row c.args.reference c.args.self.now c.self.inside.rows.items c.args.place c.index_mut.result.now (c.link.inside.reference, linked c.in-Linked.field-0 (any_standing c.send_parts.new.link))
+    (linked c.args.peer (pumped (with_tsdu (link_in (value_at c.args.reference c.args.self.now)) (cow_slice_items c.args.tsdu)))) c.requires.place c.index_mut.ensures.value c.self.view_is
+    (row_linked c.link.inside.reference c.index_mut.result.now.0 c.in-Linked.field-0 c.args.peer (any_standing c.send_parts.new.link) (pumped (with_tsdu (link_in (value_at c.args.reference c.args.self.now)) (cow_slice_items c.args.tsdu)))
     (ap (λ (x : ℕ × Connection). x.0) c.link.view_is) found.1 (e ∙ ap pumped same)))
     c.send_parts.ensures.link
 
 pub returns-clause-ok : goal.returns-clause-ok
 returns-clause-ok c =
-    let row = c.index_mut.result.now in
-    let here = c.index_mut.ensures.value ∙ ap (λ l. get_or l c.args.place row) c.self.view_is in
-    let at = here_is c.args.reference c.args.self.now c.args.place row c.requires.place here ∙ ap (λ (x : ℕ × Connection). Some x.1) (sym c.link.view_is)
-    ∙ ap (λ (p : Phase). Some (connection p)) c.in-Linked.is in
-    let found = open_row c.args.peer c.in-Linked.field-0 (value_at c.args.reference c.args.self.now) (any_standing c.in-Linked.link) c.requires.open at in
+    let found = found_at c.args.reference c.args.peer c.args.place _ _ c.args.self.now _ _ _ _ c.requires.place c.index_mut.ensures.value c.self.view_is c.link.view_is c.in-Linked.is c.requires.open in
     let none = c.send_whole.ensures.none c.if-send_whole.false in
     let same = ap (λ (s : Standing). with_tsdu s (cow_slice_items c.args.tsdu)) (none.0 ∙ found.0) in
     ok_then c.send_parts.result (λ (e : c.send_parts.new.out.items ≡ c.send_whole.new.out.items ++ packets (written_by c.args.peer (with_tsdu (any_standing c.send_whole.new.link) (cow_slice_items c.args.tsdu)))).
@@ -96,9 +82,5 @@ returns-clause-ok c =
 
 pub returns-clause-kept : goal.returns-clause-kept
 returns-clause-kept c =
-    let row = c.index_mut.result.now in
-    let here = c.index_mut.ensures.value ∙ ap (λ l. get_or l c.args.place row) c.self.view_is in
-    let at = here_is c.args.reference c.args.self.now c.args.place row c.requires.place here ∙ ap (λ (x : ℕ × Connection). Some x.1) (sym c.link.view_is)
-    ∙ ap (λ (p : Phase). Some (connection p)) c.in-Linked.is in
-    let found = open_row c.args.peer c.in-Linked.field-0 (value_at c.args.reference c.args.self.now) (any_standing c.in-Linked.link) c.requires.open at in
+    let found = found_at c.args.reference c.args.peer c.args.place _ _ c.args.self.now _ _ _ _ c.requires.place c.index_mut.ensures.value c.self.view_is c.link.view_is c.in-Linked.is c.requires.open in
     λ owned alone. c.send_parts.ensures.kept owned (subst (λ (s : Standing). WaitsAlone s (cow_slice_items c.args.tsdu)) (sym ((c.send_whole.ensures.none c.if-send_whole.false).0 ∙ found.0)) alone)

@@ -1,6 +1,6 @@
 use Rattle.std.proofs.Common.{◌≡◌, OnOk, map, ap, sym, subst, ◌∙◌}
-use Rattle.osi_carrier.proofs.Vocabulary.{cow_slice_items, link_of, send_all_error, value_at, stage_of, State}
-use Rattle.osi_carrier.proofs.ByStage.{not_open}
+use Rattle.osi_carrier.proofs.Vocabulary.{cow_slice_items, link_of, send_all_error, value_at, peer_in, State}
+use Rattle.osi_carrier.proofs.Opened.{not_open}
 use Rattle.osi_carrier.proofs.Reacts.{none_of}
 use Rattle.osi_carrier.proofs.SentAll.{sent_open}
 use Rattle.osi_carrier.proofs.switch.Switch.send_all.Goals as goal
@@ -13,6 +13,6 @@ returns-in_default-clause-refused c =
 pub returns-clause-ok : goal.returns-clause-ok
 returns-clause-ok c =
     let alive = ap (λ (s : State). s.ended) (sym c.self.view_is) ∙ none_of c.self.inside.ended (sym c.is_some.ensures ∙ c.if-is_some.false) in
-    let here = ap (λ (s : State). stage_of (value_at c.args.reference s.live)) (sym c.self.view_is) ∙ c.in-Some.ensures.open.1 in
+    let here = ap (λ (s : State). peer_in (value_at c.args.reference s.live)) (sym c.self.view_is) ∙ c.in-Some.ensures.open.1 in
     subst (λ (s : State). OnOk c.send_all_open.result (c.send_all_open.new.self ≡ s))
     (sent_open c.args.reference c.in-Some.peer (map (λ v. v.items) (cow_slice_items c.args.tsdus)) c.args.self.now alive here) c.send_all_open.ensures.ok
