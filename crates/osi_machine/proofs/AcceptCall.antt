@@ -5,7 +5,7 @@ use Rattle.osi_machine.proofs.PhaseLaws.{implied, excluded, implied_two, if_firs
 use Rattle.osi_machine.proofs.Units.{next_acted}
 use Rattle.osi_machine.proofs.ChannelLaws.{fit_append, flush_append, heard_append, view_append, data_append}
 use Rattle.osi_machine.proofs.Tokens.{none_held}
-use Rattle.osi_machine.proofs.Records.{flushed, hearing, matched, Meeting, Half, Views, Counting, Counts, IsOfProfile, Pair, Stands}
+use Rattle.osi_machine.proofs.Records.{flushed, hearing, Meeting, Half, Views, Counts, IsOfProfile, Pair, Stands}
 use Rattle.osi_machine.proofs.Idle.{append_nil, list_any_append}
 use Rattle.osi_machine.proofs.Deaf.{AllEmpty, all_empty, empty_fits, empty_end, empty_heard, empty_view}
 use Rattle.osi_machine.proofs.Opening.{none_answering, waiting}
@@ -56,10 +56,7 @@ own_heard : (w : Core) (u : ℕ) → Accepts w u → hearing w.own w.peer ≡ w.
 own_heard w u q = empty_heard w.own.session w.peer.sent (none_under_way w u q)
 
 other_waits : (w : Core) (u : ℕ) → Accepts w u → is_connecting (flushed w.peer w.own).phase ≡ true
-other_waits w u q =
-    let d = ap (λ (r : State). is_answering r.phase) (own_end w u q) ∙ q.answering in
-    implied_two (λ p q. matched p q && is_answering p) (λ p q. is_connecting q) refl (flushed w.own w.peer).phase (flushed w.peer w.own).phase
-    (and_from (matched (flushed w.own w.peer).phase (flushed w.peer w.own).phase) (is_answering (flushed w.own w.peer).phase) q.all.own.meeting.meets d)
+other_waits w u q = search (arith, own_end, implied_two, and_from)
 
 other_connects : (w : Core) (u : ℕ) → Accepts w u → is_connecting w.peer.session.phase ≡ true
 other_connects w u q = (waiting w.peer.session w.own.sent (other_waits w u q) q.all.peer.fits).1
@@ -87,28 +84,11 @@ agreed_units w u q =
 
 agreed_first : (w : Core) (u n : ℕ) → Accepts w u
     → agreed_base (both_units (flushed w.peer w.own).units (functional_units u)) (serial_for (functional_units u) n) (flushed w.peer w.own).proposed ≡ base_for (functional_units u) n
-agreed_first w u n q =
-    ap (λ (v : FunctionalUnits). agreed_base v (serial_for (functional_units u) n) (flushed w.peer w.own).proposed) (agreed_units w u q)
-    ∙ same_first (functional_units u) n (flushed w.peer w.own).proposed
+agreed_first w u n q = search (arith, agreed_units, same_first)
 
 accept_fits : (w : Core) (u n : ℕ) (a : Sides) (z : TsduMaximumSize) (o : List ℕ) → Accepts w u → are_sizes (answered_sizes w.own.session.sizes z) ≡ true
     → Fits (flushed w.peer w.own) (acceptance w.own.session u n a z o)
-accept_fits w u n a z o q k = record {
-  plain = refl;
-  good = λ d. record {
-    expected = other_waits w u q;
-    met = (
-      and_from (has_data (both_units (flushed w.peer w.own).units (functional_units u))) (are_sizes (answered_sizes w.own.session.sizes z))
-          (ap has_data (agreed_units w u q) ∙ profile_data (functional_units u) q.profile) k,
-      (
-        ap (λ (v : FunctionalUnits). answers_wishes v (flushed w.peer w.own).wishes (setting_of (settle (functional_units u) w.own.session.wishes a))) (agreed_units w u q)
-            ∙ ap (λ (t : TokenSetting). answers_wishes (functional_units u) t (setting_of (settle (functional_units u) w.own.session.wishes a))) (other_wishes w u q)
-            ∙ settled_answers (functional_units u) w.own.session.wishes a,
-        tt,
-      ),
-    );
-  };
-}
+accept_fits w u n a z o q k = search (arith, other_waits, and_from, agreed_units, profile_data, other_wishes, settled_answers)
 
 accept_kept : (w : Core) (u : ℕ) → Accepts w u → (is_restarting (flushed w.peer w.own).phase && true) ≡ false
 accept_kept w u q = ap (λ (b : Bool). b && true) (excluded is_connecting is_restarting refl (flushed w.peer w.own).phase (other_waits w u q))
@@ -130,33 +110,12 @@ there w u a t h = answerer_there (functional_units u) (settle (functional_units 
 
 will_hold : (w : Core) (u n : ℕ) (a : Sides) (z : TsduMaximumSize) (o : List ℕ) (t : Token) → Accepts w u
     → has (connected w u n a z o).held t ≡ (has (available (functional_units u)) t && not (has (held_by w.own.session u a) t))
-will_hold w u n a z o t q =
-    ap (λ (v : FunctionalUnits). has (of_asker v (stated v (setting_of (settle (functional_units u) w.own.session.wishes a)))) t) (agreed_units w u q)
-    ∙ asker_holds (functional_units u) w.own.session.wishes a t
+will_hold w u n a z o t q = search (arith, agreed_units, asker_holds)
 
 -- ---- the two halves
 
 own_half : (w : Core) (u n : ℕ) (a : Sides) (z : TsduMaximumSize) (o : List ℕ) → Accepts w u → Half (settled_by (accepting w.own.session u n a z)) (accepter w.own u n a z o) w.peer
-own_half w u n a z o q =
-    let r = accepting w.own.session u n a z in
-    let none = none_under_way w u q in
-    let owners = settled_by (accepting w.own.session u n a z) in
-    record {
-      fits = empty_fits r w.peer.sent none;
-      meeting = subst (λ (e : State). Meeting owners r e (flush w.peer.session (w.own.sent ++ acceptance w.own.session u n a z o ∷ [])) (heard r w.peer.sent) w.peer.session) (sym (empty_end r w.peer.sent none))
-          (subst (λ (e : State). Meeting owners r r (flush w.peer.session (w.own.sent ++ acceptance w.own.session u n a z o ∷ [])) e w.peer.session) (sym (empty_heard r w.peer.sent none))
-          (subst (λ (e : State). Meeting owners r r e r w.peer.session) (sym (end_after w u n a z o q)) (record {
-            meets = refl;
-            units = sym (agreed_units w u q);
-            base = sym (agreed_first w u n q);
-            restart = λ k. absurd (cc);
-            connect = λ k. absurd (cc);
-            holds = λ t. own_held (has (held_by w.own.session u a) t) (has (available (functional_units u)) t);
-            wants = λ m t. own_wanted (has (held_by w.own.session u a) t) (has (available (functional_units u)) t);
-            absent = λ t k. own_absent (has (held_by w.own.session u a) t) (has (available (functional_units u)) t) (there w u a t) k;
-            released = λ d. absurd (cc);
-          })));
-    }
+own_half w u n a z o q = search (arith, none_under_way, empty_fits, empty_end, empty_heard, end_after, agreed_units, agreed_first, own_held, own_wanted, own_absent, there)
 
 peer_half : (w : Core) (u n : ℕ) (a : Sides) (z : TsduMaximumSize) (o : List ℕ) → Accepts w u → are_sizes (answered_sizes w.own.session.sizes z) ≡ true
     → Half (turned_owners (settled_by (accepting w.own.session u n a z))) w.peer (accepter w.own u n a z o)
@@ -187,23 +146,10 @@ peer_half w u n a z o q k =
 -- ---- what was seen
 
 own_seen : (w : Core) (u : ℕ) → Accepts w u → w.own.view ≡ w.history
-own_seen w u q =
-    let listens = ap (λ (r : State). hears r.phase) (own_heard w u q) ∙ ap not (excluded is_answering is_restarting refl w.own.session.phase q.answering) in
-    sym (empty_view w.own.session w.peer.sent w.own.view (none_under_way w u q)) ∙ q.all.own_views.ends listens
+own_seen w u q = search (arith, own_heard, excluded, empty_view, none_under_way)
 
 own_views : (w : Core) (u n : ℕ) (a : Sides) (z : TsduMaximumSize) (o : List ℕ) → Accepts w u → Views (w.history ++ []) (accepter w.own u n a z o) w.peer
-own_views w u n a z o q =
-    let r = accepting w.own.session u n a z in
-    let none = none_under_way w u q in
-    record {
-      ends = λ l. empty_view r w.peer.sent (w.own.view ++ []) none ∙ ap (λ (v : List Item). v ++ []) (own_seen w u q);
-      cut = λ c. absurd (let e = ap (λ (s : State). is_restarting s.phase) (sym (empty_heard r w.peer.sent none)) ∙ c in cc);
-      due = λ d. absurd (cc);
-      stream = λ d.
-          let was = within_duplex (functional_units u) w.own.session.units q.within (ap (λ (s : State). s.units.duplex) (sym (empty_end r w.peer.sent none)) ∙ d) in
-          let k = q.all.own_views.stream (ap (λ (s : State). s.units.duplex) (own_end w u q) ∙ was) in
-          (k.0, append_nil w.history ∙ k.1);
-    }
+own_views w u n a z o q = search (arith, none_under_way, empty_view, own_seen, empty_heard, within_duplex, empty_end, own_end)
 
 peer_views : (w : Core) (u n : ℕ) (a : Sides) (z : TsduMaximumSize) (o : List ℕ) → Accepts w u → Views (w.history ++ []) w.peer (accepter w.own u n a z o)
 peer_views w u n a z o q = record {
@@ -236,32 +182,15 @@ peer_views w u n a z o q = record {
 -- ---- the numbers
 
 own_counts : (w : Core) (u n : ℕ) (a : Sides) (z : TsduMaximumSize) (o : List ℕ) → Accepts w u → Counts (accepter w.own u n a z o) w.peer
-own_counts w u n a z o q =
-    let r = accepting w.own.session u n a z in
-    subst (λ (e : State). Counting r e (heard w.peer.session (w.own.sent ++ acceptance w.own.session u n a z o ∷ [])) w.peer.session) (sym (empty_heard r w.peer.sent (none_under_way w u q))) (record {
-      flag = λ f. absurd (cc);
-      below = λ l k from to. absurd (omega arith);
-      reach = λ f. absurd (let fresh = (other_fresh w u q).numbers in let none : w.peer.session.numbers.answers ≡ false = rw fresh refl in cc);
-    })
+own_counts w u n a z o q = search (arith, empty_heard, none_under_way, other_fresh)
 
 peer_counts : (w : Core) (u n : ℕ) (a : Sides) (z : TsduMaximumSize) (o : List ℕ) → Accepts w u → Counts w.peer (accepter w.own u n a z o)
-peer_counts w u n a z o q =
-    let r = accepting w.own.session u n a z in
-    subst (λ (e : State). Counting w.peer.session e (heard r w.peer.sent) r) (sym (heard_after w u n a z o q))
-    (subst (λ (e : State). Counting w.peer.session (connected w u n a z o) e r) (sym (empty_heard r w.peer.sent (none_under_way w u q))) (record {
-      flag = λ f. refl;
-      below = λ l k from to. absurd (omega arith);
-      reach = λ f. absurd (cc);
-    }))
+peer_counts w u n a z o q = search (arith, heard_after, empty_heard, none_under_way)
 
 -- ---- both at once
 
 pair_kept : (w : Core) (u n : ℕ) (a : Sides) (z : TsduMaximumSize) (o : List ℕ) → Accepts w u → Pair (w.history ++ []) (accepter w.own u n a z o) w.peer
-pair_kept w u n a z o q =
-    let r = accepting w.own.session u n a z in
-    let end = empty_end r w.peer.sent (none_under_way w u q) in
-    let nothing : w.history ++ [] ≡ [] = append_nil w.history ∙ sym (own_seen w u q) ∙ (q.all.consistent.own.fresh (implied is_answering is_opening refl w.own.session.phase q.answering)).view in
-    grind (arith, within_half, list_any_append, own_end, IsOfProfile)
+pair_kept w u n a z o q = search (arith, empty_end, none_under_way, own_seen, implied, within_half, list_any_append, own_end)
 
 -- ---- the call
 
@@ -272,6 +201,4 @@ all_kept w u n a z o q k c = assumption (own_half w u n a z o q, peer_half w u n
 
 pub accept_stands : (w : Core) (u n : ℕ) (a : Sides) (z : TsduMaximumSize) (o : List ℕ) → IsGranted w (Accept u n a z o) → Stands w
     → Stands (answered w (Accept u n a z o) (Ok (granted w.own.session (Accept u n a z o))))
-accept_stands w u n a z o p s =
-    let tests = and_parts (units_within (functional_units u) w.own.session.units) (is_profile u) p.needed.0 in
-    all_kept w u n a z o (record { answering = p.phase; within = tests.0; profile = profile_of u tests.1; all = s }) p.sized p.kept
+accept_stands w u n a z o p s = search (arith, and_parts, all_kept, profile_of)

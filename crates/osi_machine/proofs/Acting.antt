@@ -1,7 +1,7 @@
 -- The outcomes of a unit: it is discarded, or it is a fault, or it is acted on.
 use Rattle.std.proofs.Common.{◌≡◌, refl, sym, ◌∙◌, ap, subst, ℕ, Bool, true, false, not, ◌&&◌, ◌||◌, if◌then◌else◌, List, [], ◌∷◌, Option, Some, None, is_none, arith}
 use Rattle.osi_machine.proofs.Vocabulary.{and_parts, not-true, or_parts, not-false, State, Phase, WaitTransport, Aborting, Ended, Meaning, AB, UnitFault, Outcome, Condition, is_over, is_aborting, is_ended, is_expected, si, conditions, first_fault, becomes, nothing, good, judged, in_aborting, in_ended, take_expected, respond_unit, without_tokens, drops, AllMet, Good, next, is_acted_on, Fits}
-use Rattle.osi_machine.proofs.PhaseLaws.{if_no, if_yes, by_test}
+use Rattle.osi_machine.proofs.PhaseLaws.{by_test}
 
 none_if : (b : Bool) (a : Option UnitFault) (f : UnitFault) → (if b then a else Some f) ≡ None → (b ≡ true) × (a ≡ None)
 none_if true a f h = (refl, h)
@@ -65,26 +65,12 @@ pub record Leaves (P : Bool → State → Type 0) (s : State) (u : Meaning) : Ty
 -- a unit that is acted on is answered as the table says
 pub acts_good : (s : State) (u : Meaning) → Acted s u → respond_unit s u ≡ good s u
 unfolding respond_unit take_expected
-acts_good s u h =
-    let n = or_parts (is_aborting s.phase) (is_ended s.phase) (sym (over_parts s.phase) ∙ h.lives) in
-    if_no (is_aborting s.phase) _ _ n.0 ∙ if_no (is_ended s.phase) _ _ n.1 ∙ if_no (drops s u) _ _ h.heeds
-    ∙ if_no (not (is_expected s.phase u)) _ _ (ap not h.good.expected)
-    ∙ ap (judged s u) (no_fault_of (si u) (conditions s u) h.good.met)
+acts_good s u h = grind arith
 
 pub not_acted : (P : State → Type 0) (s : State) (u : Meaning) → is_acted_on s u ≡ false → P s → P (without_tokens Ended s) → P (without_tokens Aborting s)
     → P (respond_unit s u).next
 unfolding respond_unit take_expected
-not_acted P s u n same ended bare =
-    either P (is_aborting s.phase) _ _ (λ a. aborting_cases P s u same ended) (λ a.
-    either P (is_ended s.phase) _ _ (λ e. ended_cases P s u same) (λ e.
-    either P (drops s u) _ _ (λ d. same) (λ d.
-    either P (not (is_expected s.phase u)) _ _ (λ x. bare) (λ x.
-    judged_cases P s u (first_fault (si u) (conditions s u)) bare (λ f.
-    absurd (let w = is_acted s u (record {
-      lives = over_of false false s.phase a e;
-      heeds = d;
-      good = record { expected = not-false (is_expected s.phase u) x; met = all_met (si u) (conditions s u) f };
-    }) in cc))))))
+not_acted P s u n same ended bare = search (arith, either, aborting_cases, ended_cases, judged_cases, is_acted, over_of, not-false, all_met)
 
 pub unit_cases : (P : Bool → State → Type 0) (s : State) (u : Meaning) → Leaves P s u → P (is_acted_on s u) (respond_unit s u).next
 unit_cases P s u h = by_test (is_acted_on s u)
@@ -95,29 +81,15 @@ unit_cases P s u h = by_test (is_acted_on s u)
 
 -- what is discarded changes nothing, and what is not is acted on
 pub fit_acts : (s : State) (u : Meaning) → is_over s.phase ≡ false → Fits s u → is_acted_on s u ≡ not (drops s u)
-fit_acts s u o f = by (drops s u) refl
-  where
-    dropped : (o d e : Bool) → d ≡ true → (not o && (not d && e)) ≡ false
-    dropped true d e h = refl
-    dropped false d e h = rw h refl
-
-    by : (b : Bool) → drops s u ≡ b → is_acted_on s u ≡ not b
-    by false d = is_acted s u (record { lives = o; heeds = d; good = f.good d })
-    by true d = dropped (is_over s.phase) (drops s u) (is_expected s.phase u && is_none (first_fault (si u) (conditions s u))) d
+fit_acts s u o f = search (arith, is_acted)
 
 drops_nothing : (s : State) (u : Meaning) → is_over s.phase ≡ false → drops s u ≡ true → respond_unit s u ≡ nothing s
 unfolding respond_unit
-drops_nothing s u o d =
-    let n = or_parts (is_aborting s.phase) (is_ended s.phase) (sym (over_parts s.phase) ∙ o) in
-    if_no (is_aborting s.phase) _ _ n.0 ∙ if_no (is_ended s.phase) _ _ n.1 ∙ if_yes (drops s u) _ _ d
+drops_nothing s u o d = grind arith
 
 -- no fault: a unit that fits is discarded, or answered as the table says
 pub no_fault : (s : State) (u : Meaning) → is_over s.phase ≡ false → Fits s u → respond_unit s u ≡ (if drops s u then nothing s else good s u)
-no_fault s u o f = by_test (drops s u)
-    (λ d. rw d (drops_nothing s u o d))
-    (λ d. rw d (acts_good s u (record { lives = o; heeds = d; good = f.good d })))
+no_fault s u o f = search (arith, drops_nothing, acts_good)
 
 pub fit_next : (s : State) (u : Meaning) → is_over s.phase ≡ false → Fits s u → (respond_unit s u).next ≡ next s u
-fit_next s u o f = by_test (drops s u)
-    (λ d. rw d (ap (λ (x : Outcome). x.next) (drops_nothing s u o d)))
-    (λ d. rw d (ap (λ (x : Outcome). x.next) (acts_good s u (record { lives = o; heeds = d; good = f.good d }))))
+fit_next s u o f = search (arith, drops_nothing, acts_good)

@@ -1,8 +1,8 @@
 -- A side of a connection where nothing is lost is never over, so that a unit that it takes is discarded, or
 -- answered as the table says: no unit is a fault.
-use Rattle.std.proofs.Common.{◌≡◌, refl, subst, Bool, true, false, not, if◌then◌else◌, List, ◌∷◌, ◌++◌}
+use Rattle.std.proofs.Common.{◌≡◌, refl, subst, Bool, true, false, not, if◌then◌else◌, List, ◌∷◌, ◌++◌, arith}
 use Rattle.osi_machine.proofs.Vocabulary.{State, Phase, Meaning, CN, AC, DT, GT, PT, MIP, MIA, MAP, MAA, RS, RA, FN, NF, nothing, good, is_over, is_wait_cn, is_connecting, is_restarting, takes_data, takes_please, takes_minor_ack, takes_restart, may_ask, is_ready, is_major_asked, is_releasing, is_expected, respond_unit, drops, next, Owners, is_acted_on, seen, got_in, is_plain, Fits, AllFit, flush, view_next, Party, party_taking}
-use Rattle.osi_machine.proofs.PhaseLaws.{excluded, implied_two, by_test}
+use Rattle.osi_machine.proofs.PhaseLaws.{implied_two, by_test}
 use Rattle.osi_machine.proofs.Units.{fit_cases}
 use Rattle.osi_machine.proofs.ChannelLaws.{kept_all}
 use Rattle.osi_machine.proofs.Acting.{fit_acts, no_fault, fit_next}
@@ -11,20 +11,7 @@ use Rattle.osi_machine.proofs.Deaf.{not_both}
 
 -- nothing is expected by a side that is over
 none_expected : (p : Phase) (u : Meaning) → is_over p ≡ true → is_plain u ≡ true → is_expected p u ≡ false
-none_expected p (CN v u n w from to z o) h k = excluded is_over is_wait_cn refl p h
-none_expected p (AC v u n w z o) h k = excluded is_over is_connecting refl p h
-none_expected p (DT o) h k = excluded is_over takes_data refl p h
-none_expected p (GT t) h k = excluded is_over may_ask refl p h
-none_expected p (PT t o) h k = excluded is_over takes_please refl p h
-none_expected p (MIP c n o) h k = excluded is_over is_ready refl p h
-none_expected p (MIA n o) h k = excluded is_over takes_minor_ack refl p h
-none_expected p (MAP n o) h k = excluded is_over is_ready refl p h
-none_expected p (MAA n o) h k = excluded is_over is_major_asked refl p h
-none_expected p (RS j n w o) h k = excluded is_over takes_restart refl p h
-none_expected p (RA n w o) h k = excluded is_over is_restarting refl p h
-none_expected p (FN o) h k = excluded is_over is_ready refl p h
-none_expected p (NF o) h k = excluded is_over is_releasing refl p h
-none_expected p _ h k = absurd (cc)
+none_expected p u h k = grind arith
 
 pub over_kept : (s : State) (us : List Meaning) → is_over s.phase ≡ true → AllFit s us → is_over (flush s us).phase ≡ true
 over_kept = kept_all (λ s. is_over s.phase ≡ true)
@@ -55,19 +42,4 @@ taken_party x u = record {
 }
 
 pub takes_as : (x : Party) (u : Meaning) → is_over x.session.phase ≡ false → Fits x.session u → party_taking x u ≡ taken_party x u
-takes_as x u o f =
-    let e = fit_next x.session u o f in
-    let a = fit_acts x.session u o f in
-    λ i. record x {
-      session = e i;
-      view = view_same (drops x.session u) (is_acted_on x.session u) a i;
-      got = got_same (drops x.session u) (is_acted_on x.session u) a i;
-    }
-  where
-    view_same : (d a : Bool) → a ≡ not d → (if a then seen x.session u x.view else x.view) ≡ (if d then x.view else seen x.session u x.view)
-    view_same true a e = rw e refl
-    view_same false a e = rw e refl
-
-    got_same : (d a : Bool) → a ≡ not d → (if a then x.got ++ got_in x.session u else x.got) ≡ (if d then x.got else x.got ++ got_in x.session u)
-    got_same true a e = rw e refl
-    got_same false a e = rw e refl
+takes_as x u o f = search (arith, fit_next, fit_acts)

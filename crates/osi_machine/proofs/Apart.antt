@@ -3,7 +3,6 @@ use Rattle.std.proofs.Common.{◌≡◌, refl, sym, ◌∙◌, ap, ℕ, Bool, tr
 use Rattle.osi_session.specs.declared.faults.CallError.TheVariants as error
 use Rattle.osi_machine.proofs.Vocabulary.{Call, Side, Left, Right, Class, class_0, class_2, Message, World, Taking, message_taken, closed, Ending, closed_here, Machine, connection_at, seen_from, end_of, stays, noted, shown_at, call_in, side_of, marked_ended, closes_by, after_taking, without_first, learns, taken_in, delivered_to, AreApart}
 use Rattle.osi_machine.proofs.Places.{with_other, there_still}
-use Rattle.osi_machine.proofs.PhaseLaws.{by_test}
 
 call_other : (m : Machine) (side : Side) (r : ℕ) (c : Call) (k : ℕ) → (k ≡ r → ⊥) → (a : Option World) → connection_at k (call_in m side r c (side_of side a)).worlds ≡ connection_at k m.worlds
 call_other m side r c k n a = grind (arith, with_other)
@@ -21,17 +20,7 @@ same_end Right m known = refl
 
 taking_other : (m : Machine) (side : Side) (r : ℕ) (keep : ℕ → ℕ) (t : Taking) (k : ℕ) → (k ≡ r → ⊥) → is_some (end_of side m) ≡ false → end_of side (after_taking m side r keep t) ≡ end_of side m
     → connection_at k (after_taking m side r keep t).worlds ≡ connection_at k m.worlds
-taking_other m side r keep t k n i e = by t.closes e
-  where
-    last : (known : Option Class) → end_of side (closes_by known (noted (map (shown_at side r) t.shown) m) side r keep t) ≡ end_of side m → connection_at k (closes_by known (noted (map (shown_at side r) t.shown) m) side r keep t).worlds ≡ connection_at k m.worlds
-    last (Some class_2) f = with_other k r m.worlds (seen_from side (closed m.broken (keep r) t.world)) n
-    last (Some class_0) f = no_end _ (end_of side m) (ended_now side _) f i
-    last None f = no_end _ (end_of side m) (ended_now side _) f i
-
-    by : (b : Bool) → end_of side (if b then closes_by m.known (noted (map (shown_at side r) t.shown) m) side r keep t else noted (map (shown_at side r) t.shown) (stays m side r t.world)) ≡ end_of side m
-        → connection_at k (if b then closes_by m.known (noted (map (shown_at side r) t.shown) m) side r keep t else noted (map (shown_at side r) t.shown) (stays m side r t.world)).worlds ≡ connection_at k m.worlds
-    by true f = last m.known f
-    by false f = with_other k r m.worlds (seen_from side t.world) n
+taking_other m side r keep t k n i e = search (arith, with_other, no_end, ended_now)
 
 taken_other : (m : Machine) (side : Side) (r : ℕ) (keep : ℕ → ℕ) (w : World) (k : ℕ) → (k ≡ r → ⊥) → is_some (end_of side m) ≡ false → (ms : List Message)
     → end_of side (taken_in m side r keep w ms) ≡ end_of side m → connection_at k (taken_in m side r keep w ms).worlds ≡ connection_at k m.worlds
@@ -46,10 +35,4 @@ delivery_other m side r keep k n i None e = refl
 delivery_other m side r keep k n i (Some w) e = taken_other m side r keep (seen_from side w) k n i (seen_from side w).peer.channel e
 
 pub are_apart : (m : Machine) → AreApart m
-are_apart m = record {
-  asked = λ o q w e. grind (arith, there_still);
-  called = λ side r q c n. call_other m side r c q n (connection_at r m.worlds);
-  delivered = λ side r q keep n e. by_test (is_some (end_of side m))
-      (λ i. rw i)
-      (λ i. rw i (let f = rw i at e in delivery_other m side r keep q n i (connection_at r m.worlds) f));
-}
+are_apart m = search (arith, there_still, call_other, delivery_other)

@@ -2,8 +2,8 @@
 -- through.
 use Rattle.std.proofs.Common.{◌≡◌, refl, sym, ◌∙◌, subst, ℕ, Bool, true, false, ◌&&◌, ◌||◌, if◌then◌else◌, List, [], ◌∷◌, ◌⊎◌, inl, inr, arith}
 use Rattle.osi_machine.proofs.Vocabulary.{or_left, list_any, State, Phase, FunctionalUnits, Tokens, Meaning, CN, AC, RF, DT, GT, PT, MIP, MIA, MAP, MAA, RS, RA, FN, DN, NF, AB, AA, Token, data_token, has, may_hold, is_wait_cn, is_connecting, is_restarting, is_restart_due, may_ask, is_ready, is_release_due, has_no_effect, passes_restarting, becomes, stands, drops, Good, next, is_plain, Fits, AllFit, flush, stops, heard, needs_token, is_opening}
-use Rattle.osi_machine.proofs.PhaseLaws.{implied, excluded, by_test}
-use Rattle.osi_machine.proofs.Units.{fit_cases, none_due, restart_due, due_next, chosen}
+use Rattle.osi_machine.proofs.PhaseLaws.{excluded, by_test}
+use Rattle.osi_machine.proofs.Units.{fit_cases, restart_due, due_next}
 use Rattle.osi_machine.proofs.ChannelLaws.{kept_all, kept_heard, due_end}
 use Rattle.osi_machine.proofs.Tokens.{Holds, held_needs, next_holds, united_has}
 use Rattle.osi_machine.proofs.Deaf.{dropped_empty}
@@ -17,23 +17,7 @@ pub record Open (v : FunctionalUnits) (b : ℕ) (s : State) : Type 0 where
   pub base : s.base ≡ b
 
 pub becomes_open : (v : FunctionalUnits) (b : ℕ) (s : State) (u : Meaning) → is_plain u ≡ true → Good s u → Open v b s → Open v b (becomes s u)
-becomes_open v b s (CN w r n x from to z o) p g h = absurd (let e = implied is_wait_cn is_opening refl s.phase g.expected in let f = h.phase in cc)
-becomes_open v b s (AC w r n x z o) p g h = absurd (let e = implied is_connecting is_opening refl s.phase g.expected in let f = h.phase in cc)
-becomes_open v b s (RF r o) p g h = absurd (cc)
-becomes_open v b s (DT o) p g h = h
-becomes_open v b s (GT k) p g h = record { phase = h.phase; units = h.units; base = h.base }
-becomes_open v b s (PT k o) p g h = h
-becomes_open v b s (MIP c n o) p g h = record { phase = h.phase; units = h.units; base = h.base }
-becomes_open v b s (MIA n o) p g h = record { phase = h.phase; units = h.units; base = h.base }
-becomes_open v b s (MAP n o) p g h = record { phase = refl; units = h.units; base = h.base }
-becomes_open v b s (MAA n o) p g h = record { phase = refl; units = h.units; base = h.base }
-becomes_open v b s (RS k n w o) p g h = chosen (Open v b) (stands s n) _ s (record { phase = refl; units = h.units; base = h.base }) h
-becomes_open v b s (RA n w o) p g h = record { phase = refl; units = h.units; base = h.base }
-becomes_open v b s (FN o) p g h = record { phase = refl; units = h.units; base = h.base }
-becomes_open v b s (DN o) p g h = absurd (cc)
-becomes_open v b s (NF o) p g h = record { phase = refl; units = h.units; base = h.base }
-becomes_open v b s (AB x o) p g h = absurd (cc)
-becomes_open v b s AA p g h = absurd (cc)
+becomes_open v b s u p g h = grind arith
 
 next_open : (v : FunctionalUnits) (b : ℕ) (s : State) (u : Meaning) → Open v b s → Fits s u → Open v b (next s u)
 next_open v b s u h f = fit_cases (Open v b) s u f h (λ d g. becomes_open v b s u f.plain g h)
@@ -54,18 +38,7 @@ Lively s = is_lively s.phase ≡ true
 
 -- it stays so, until a restart stands
 pub becomes_lively : (s : State) (u : Meaning) → is_plain u ≡ true → Good s u → stops s u ≡ false → Lively s → Lively (becomes s u)
-becomes_lively s (CN w r n x from to z o) p g st h = absurd (let e = excluded is_wait_cn is_lively refl s.phase g.expected in cc)
-becomes_lively s (RF r o) p g st h = absurd (cc)
-becomes_lively s (DT o) p g st h = h
-becomes_lively s (GT k) p g st h = h
-becomes_lively s (PT k o) p g st h = h
-becomes_lively s (MIP c n o) p g st h = h
-becomes_lively s (MIA n o) p g st h = h
-becomes_lively s (RS k n w o) p g st h = rw st h
-becomes_lively s (DN o) p g st h = absurd (cc)
-becomes_lively s (AB x o) p g st h = absurd (cc)
-becomes_lively s AA p g st h = h
-becomes_lively s _ p g st h = refl
+becomes_lively s u p g st h = grind arith
 
 -- what holds of each state up to a restart that stands, or of all: P, or an answer is due
 pub until_due : (P : State → Type 0) → ((s : State) (u : Meaning) → Fits s u → stops s u ≡ false → P s → P (next s u)) →
@@ -127,9 +100,7 @@ empty_needs : (t : Token) (u : Meaning) → has_no_effect u ≡ true → needs_t
 empty_needs t u h = grind arith
 
 due_needs : (t : Token) (s : State) (u : Meaning) → is_restart_due s.phase ≡ true → Fits s u → needs_token t u ≡ false
-due_needs t s u h f = by_test (drops s u)
-    (λ d. empty_needs t u (dropped_empty (has_no_effect u) (is_restarting s.phase) (passes_restarting u) d (excluded is_restart_due is_restarting refl s.phase h)))
-    (λ d. absurd (let n = none_due s.phase u h f.plain in let e = (f.good d).expected in cc))
+due_needs t s u h f = grind arith
 
 none_due_needs : (t : Token) (s : State) (us : List Meaning) → is_restart_due s.phase ≡ true → AllFit s us → list_any (needs_token t) us ≡ false
 none_due_needs t s [] h f = refl
@@ -140,9 +111,7 @@ none_due_needs t s (u ∷ us) h f =
 
 -- a holder listens
 holder_needs : (t : Token) (s : State) (u : Meaning) → Holds t s → Fits s u → needs_token t u ≡ false
-holder_needs t s u h f = by_test (drops s u)
-    (λ d. empty_needs t u (dropped_empty (has_no_effect u) (is_restarting s.phase) (passes_restarting u) d (excluded may_hold is_restarting refl s.phase h.phase)))
-    (λ d. held_needs s t u h.held (f.good d))
+holder_needs t s u h f = search (arith, empty_needs, dropped_empty, excluded, held_needs)
 
 pub none_needs : (t : Token) (s : State) (us : List Meaning) → Holds t s → AllFit s us → list_any (needs_token t) us ≡ false
 none_needs t s [] h f = refl

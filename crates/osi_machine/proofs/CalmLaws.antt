@@ -8,7 +8,7 @@ use Rattle.osi_machine.proofs.Vocabulary.{cases_Bool, AllByRecursion, list_any, 
 use Rattle.osi_machine.proofs.CoreLaws.{SessionLaws}
 use Rattle.osi_machine.proofs.Dispatch.{called_stands, taking_stands}
 use Rattle.osi_machine.proofs.MachineLaws.{stage_at}
-use Rattle.osi_machine.proofs.NextLaws.{unit_that_fits, unit_when_over}
+use Rattle.osi_machine.proofs.NextLaws.{unit_when_over}
 use Rattle.osi_machine.proofs.PhaseLaws.{excluded}
 use Rattle.osi_machine.proofs.ProjectLast.{over_next}
 use Rattle.osi_machine.proofs.ProjectStart.{Way, replies}
@@ -57,12 +57,7 @@ not_waiting s o = excluded is_over is_wait_transport refl s.phase o
 
 pub over_message : (s : State) (m : Message) → is_over s.phase ≡ true → is_over (after_message s m).phase ≡ true
 unfolding react
-over_message s (unit u) o = over_unit s u o
-over_message s ask o = o
-over_message s agree o = subst (λ (b : Bool). is_over (if b then begun (standing s) else rests (standing s)).next.state.phase ≡ true) (sym (not_waiting s o)) o
-over_message s (deny reason) o = subst (λ (b : Bool). is_over (if b then denied_by reason (standing s) else rests (standing s)).next.state.phase ≡ true) (sym (not_waiting s o)) o
-over_message s (bye reason) o = refl
-over_message s over o = o
+over_message s m o = search (arith, over_unit, not_waiting)
 
 pub over_calm : (s : State) (ms : List Message) → is_over s.phase ≡ true → StaysCalm s ms
 over_calm s [] o = λ calls small octets. unit_when_over (after_calls s calls) (DT octets) (over_calls s calls o)
@@ -70,24 +65,9 @@ over_calm s (m ∷ ms) o = λ calls small. over_calm (after_message (after_calls
 
 -- ---- the CN that waits makes no difference
 
-answer_left : (x : Standing) (a : Answer) → (answered_move (standing x.state) a).next.state ≡ (answered_move x a).next.state
-answer_left x (Ok g) = refl
-answer_left x (Err e) = refl
-
-begun_left : (b : Bool) (x : Standing) → (if b then begun (standing x.state) else rests (standing x.state)).next.state ≡ (if b then begun x else rests x).next.state
-begun_left true x = refl
-begun_left false x = refl
-
-denied_left : (b : Bool) (reason : ℕ) (x : Standing) → (if b then denied_by reason (standing x.state) else rests (standing x.state)).next.state ≡ (if b then denied_by reason x else rests x).next.state
-denied_left true reason x = refl
-denied_left false reason x = refl
-
 pub left_is : (x : Standing) (input : Input) → left_by x.state input ≡ (react x input).next.state
 unfolding react
-left_is x (called c) = answer_left x (allowed x.state c)
-left_is x opened = begun_left (is_wait_transport x.state.phase) x
-left_is x (refused_input reason) = denied_left (is_wait_transport x.state.phase) reason x
-left_is x _ = refl
+left_is x input = grind arith
 
 -- ---- a call of its user
 
@@ -146,11 +126,7 @@ one_unit laws says s u sent (inr h) =
     (inr (record { core = taking h.core (u ∷ sent); stands = taking_stands laws h.core (u ∷ sent) h.way h.stands; is = refl; way = refl }))
 
 no_fault_first : (s : State) (octets : List ℕ) (rest : List Meaning) → Lives s (DT octets ∷ rest) → IsCalm s
-no_fault_first s octets rest (inl o) x = unit_when_over s (DT x) o
-no_fault_first s octets rest (inr h) x = elim (cases_Bool (is_over s.phase)) [
-  | inl o ↦ unit_when_over s (DT x) o
-  | inr o ↦ unit_that_fits s (DT octets) (subst (λ (t : State). AllFit t (DT octets ∷ rest)) (sym h.is) (subst (AllFit h.core.own.session) h.way h.stands.own.fits)).0 o
-]
+no_fault_first s octets rest h3 x = grind arith
 
 calm_behind : SessionLaws → SaysItsUnit → (s : State) (us : List Meaning) (octets : List ℕ) (rest : List Meaning) → Lives s (us ++ DT octets ∷ rest) → StaysCalm s (map unit us)
 calm_behind laws says s [] octets rest h = λ calls small. no_fault_first (after_calls s calls) octets rest (all_calls laws s calls (DT octets ∷ rest) small h)
@@ -224,15 +200,7 @@ no_unit_replied : (way : Way) → list_any is_unit (replies way) ≡ false
 no_unit_replied way = grind arith
 
 no_fault_behind : SessionLaws → SaysItsUnit → (b : Bool) (w : World) (t u : Told) → Stage b w t u → IsNoFaultBehind (session_of w) w.peer.channel
-no_fault_behind laws says b w t u (inl h) ms octets rest e =
-    not_both _ (ap (list_any is_unit) e ∙ has_unit ms (DT octets) rest) (ap (list_any is_unit) h.peer_channel ∙ no_unit_replied h.way)
-no_fault_behind laws says b w t u (inr (inl h)) ms octets rest e =
-    not_both _ (ap (list_any is_unit) e ∙ has_unit ms (DT octets) rest) (ap (list_any is_unit) h.own_channel ∙ no_unit_asked h.way)
-no_fault_behind laws says b w t u (inr (inr h)) ms octets rest e = elim (cases_Bool (is_over (session_of w).phase)) [
-  | inl o ↦ over_calm (session_of w) ms o
-  | inr o ↦ let same = session_is w h.core h.stands h.projects.history h.projects.own.counted (h.projects.own.alike o) in
-      subst (λ (s : State). StaysCalm s ms) (sym same) (carried_calm laws says b _ h.core w.peer.channel ms octets rest h.stands (h.projects.own.carried o) e)
-]
+no_fault_behind laws says b w t u h6 ms octets rest e = search (arith, not_both, has_unit, no_unit_replied, no_unit_asked, cases_Bool, over_calm, session_is, carried_calm)
 
 no_faults_behind : SessionLaws → SaysItsUnit → (m : Machine) → IsRun m → (r : ℕ) (w : World) → connection_at r m.worlds ≡ Some w
     → IsNoFaultBehind (session_of w) w.peer.channel × IsNoFaultBehind (session_of (turned w)) w.own.channel

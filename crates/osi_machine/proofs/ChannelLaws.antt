@@ -45,13 +45,7 @@ due_heard s (u ∷ us) h f =
 -- ---- where no restart stands, what is heard is all
 
 no_stop : (s : State) (u : Meaning) (us : List Meaning) → AllFit s (u ∷ us) → is_restart_due (flush s (u ∷ us)).phase ≡ false → stops s u ≡ false
-no_stop s u us f n = by_test (stops s u)
-    (λ e. absurd (
-    let d = restart_due s u e in
-    let g = due_end (next s u) us d f.1 in
-    let w : is_restart_due (flush (next s u) us).phase ≡ true = subst (λ (r : State). is_restart_due r.phase ≡ true) (sym g) d in
-    cc))
-    (λ e. e)
+no_stop s u us f n = search (arith, restart_due, due_end)
 
 pub heard_flush : (s : State) (us : List Meaning) → AllFit s us → is_restart_due (flush s us).phase ≡ false → heard s us ≡ flush s us
 heard_flush s [] f n = refl

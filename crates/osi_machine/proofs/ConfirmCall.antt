@@ -60,10 +60,7 @@ seen_all : (w : Core) → Answers w.own.session → Stands w → points w.own.vi
 seen_all w a h = subst (λ (v : List Item). points w.own.view ≤ points v) (h.own_views.ends (heeds w a h)) (view_grows w.own.session w.peer.sent w.own.view h.own.fits)
 
 heard_number : (w : Core) → Answers w.own.session → Stands w → (hearing w.own w.peer).numbers.next ≡ w.own.session.base + points w.history
-heard_number w a h =
-    let c = heard_counted w.own.session w.peer.sent w.own.view (record { count = h.consistent.own.count; fresh = λ o. (h.consistent.own.fresh o).view }) h.own.fits in
-    c.count ∙ ap (λ (n : ℕ). n + points (heard_view w.own.session w.peer.sent w.own.view)) (heard_base w a h)
-    ∙ ap (λ (v : List Item). w.own.session.base + points v) (h.own_views.ends (heeds w a h))
+heard_number w a h = search (arith, heard_counted, heard_base, heeds)
 
 -- what this side has seen, the other has
 all_above : (w : Core) (n : ℕ) → Answers w.own.session → Stands w → is_restarting (flushed w.peer w.own).phase ≡ false
@@ -109,19 +106,7 @@ point_answers v = refl
 
 confirm_step : (n : ℕ) (s : State) (u : Meaning) → Answers s → is_plain u ≡ true → Good s u → stops s u ≡ false
     → (becomes (confirmed_at n s) u ≡ confirmed_at n (becomes s u)) × Answers (becomes s u)
-confirm_step n s (AC v u i w z o) a p g st = absurd (let x = excluded is_confirming is_connecting refl s.phase a.phase in let y = g.expected in cc)
-confirm_step n s (DT o) a p g st = (refl, a)
-confirm_step n s (GT k) a p g st = (refl, record { phase = a.phase; answers = a.answers })
-confirm_step n s (PT k o) a p g st = (refl, a)
-confirm_step n s (MIP c i o) a p g st = (ap (λ (v : Numbers). record s { numbers = v }) (taken_confirmed n s.numbers a.answers), record { phase = a.phase; answers = point_answers s.numbers })
-confirm_step n s (MIA i o) a p g st = absurd (let b = and_parts (not s.numbers.answers) _ g.met.1.0 in not_both s.numbers.answers b.0 a.answers)
-confirm_step n s (MAP i o) a p g st = (ap (λ (v : Numbers). record s { phase = MajorDue; numbers = v }) (taken_confirmed n s.numbers a.answers), record { phase = refl; answers = point_answers s.numbers })
-confirm_step n s (MAA i o) a p g st = absurd (let x = excluded is_confirming is_major_asked refl s.phase a.phase in let y = g.expected in cc)
-confirm_step n s (RS j i w o) a p g st = absurd (let t = listening_stands s i (excluded is_confirming is_restarting refl s.phase a.phase) in cc)
-confirm_step n s (RA i w o) a p g st = absurd (let x = excluded is_confirming is_restarting refl s.phase a.phase in let y = g.expected in cc)
-confirm_step n s (FN o) a p g st = (refl, record { phase = refl; answers = a.answers })
-confirm_step n s (NF o) a p g st = absurd (let x = excluded is_confirming is_releasing refl s.phase a.phase in let y = g.expected in cc)
-confirm_step n s _ a p g st = absurd (let x = excluded is_confirming is_wait_cn refl s.phase a.phase in let y = g.expected in cc)
+confirm_step n s u a p g st = search (arith, excluded, taken_confirmed, point_answers, and_parts, not_both, listening_stands)
 
 abbrev confirm_shift : ℕ → Shift
 confirm_shift n = record {
@@ -162,34 +147,7 @@ confirmed_below w n k h =
 -- a major point that is still under way is no minor one
 confirm_above : (w : Core) (n : ℕ) → Confirms w n → Stands w → is_restarting (flushed w.peer w.own).phase ≡ false
     → (if is_major_asked (flushed w.peer w.own).phase then nat_lt (n + 1) (flushed w.peer w.own).numbers.next else nat_lt n (flushed w.peer w.own).numbers.next) ≡ true
-confirm_above w n k h l = by_test (is_major_asked (flushed w.peer w.own).phase)
-    (λ e. rw e (lt-ltb (n + 1) (flushed w.peer w.own).numbers.next (let x = one_more e in let y = below in let z = next_there in omega arith)))
-    (λ e. rw e (lt-ltb n (flushed w.peer w.own).numbers.next (let x = seen_all w a h in let y = below in let z = next_there in omega arith)))
-  where
-    a : Answers w.own.session
-    a = own_answers w n k
-
-    next_there : (flushed w.peer w.own).numbers.next ≡ w.own.session.base + points w.history
-    next_there = other_number w h (there_base w a h) (ends_same w a h) l
-
-    below : n < w.own.session.base + points w.own.view
-    below = subst (λ (m : ℕ). n < m) (own_count w h) k.to
-
-    not_owed : is_restart_due (flushed w.own w.peer).phase ≡ false
-    not_owed = by_test (is_restart_due (flushed w.own w.peer).phase)
-        (λ e. absurd (
-        let r = implied_two (λ p q. matched p q && is_restart_due p) (λ p q. is_restarting q) refl (flushed w.own w.peer).phase (flushed w.peer w.own).phase
-        (and_from (matched (flushed w.own w.peer).phase (flushed w.peer w.own).phase) (is_restart_due (flushed w.own w.peer).phase) h.own.meeting.meets e) in
-        cc))
-        (λ e. e)
-
-    one_more : is_major_asked (flushed w.peer w.own).phase ≡ true → points w.own.view + 1 ≤ points w.history
-    one_more e =
-        let d = implied_two (λ p q. matched p q && is_major_asked q) (λ p q. is_major_due p) refl (flushed w.own w.peer).phase (flushed w.peer w.own).phase
-        (and_from (matched (flushed w.own w.peer).phase (flushed w.peer w.own).phase) (is_major_asked (flushed w.peer w.own).phase) h.own.meeting.meets e) in
-        let hd = ap (λ (q : State). is_major_due q.phase) (heard_flush w.own.session w.peer.sent h.own.fits not_owed) ∙ d in
-        subst (λ (v : List Item). points w.own.view + 1 ≤ points v) (h.own_views.ends (heeds w a h))
-        (major_came w.own.session w.peer.sent w.own.view (excluded may_confirm_minor is_major_due refl w.own.session.phase k.phase) h.own.fits hd)
+confirm_above w n k h l = search (arith, lt-ltb, seen_all, own_answers, other_number, there_base, ends_same, own_count, implied_two, and_from, heard_flush, heeds, major_came)
 
 confirm_sending : (w : Core) (n : ℕ) (octets : List ℕ) → Confirms w n → Stands w → Sending w (confirm_shift n) (MIA n octets) []
 unfolding minor_confirmed
@@ -285,18 +243,11 @@ due_answers : (w : Core) → Owes w.own.session → Answers w.own.session
 due_answers w k = record { phase = ap is_confirming k.phase; answers = k.answers }
 
 due_all : (w : Core) → Owes w.own.session → Stands w → w.own.session.numbers.next ≡ w.own.session.base + points w.history
-due_all w k h =
-    own_count w h ∙ ap (λ (v : List Item). w.own.session.base + points v)
-    (sym (owes_nothing w.own.session w.peer.sent w.own.view k h.own.fits) ∙ h.own_views.ends (heeds w (due_answers w k) h))
+due_all w k h = search (arith, own_count, owes_nothing, heeds, due_answers)
 
 due_number : (w : Core) → Owes w.own.session → Stands w → is_restarting (flushed w.peer w.own).phase ≡ false
     → ((w.own.session.numbers.next - 1) + 1 == (flushed w.peer w.own).numbers.next) ≡ true
-due_number w k h l =
-    let a = due_answers w k in
-    let x = due_all w k h in
-    let y = other_number w h (there_base w a h) (ends_same w a h) l in
-    let z = h.consistent.own.sound.major (ap in_major k.phase) in
-    eq-eqb ((w.own.session.numbers.next - 1) + 1) (flushed w.peer w.own).numbers.next (omega arith)
+due_number w k h l = search (arith, due_answers, due_all, other_number, there_base, ends_same, eq-eqb)
 
 due_sending : (w : Core) (octets : List ℕ) → Owes w.own.session → Stands w → Sending w due_shift (MAA (w.own.session.numbers.next - 1) octets) []
 unfolding major_confirmed

@@ -71,16 +71,7 @@ called_kept : SessionLaws → (w : Core) (c : Call) → HasSerial c → AreConsi
 called_kept laws w c small h = by_test (stays_in_core c) (λ e. rw e (answered_kept laws w c (allowed w.own.session c) small refl h)) (λ e. rw e h)
 
 pub taking_kept : SessionLaws → (w : Core) (us : List Meaning) → w.peer.sent ≡ us → AreConsistent w → AreConsistent (taking w us)
-taking_kept laws w [] e h = h
-taking_kept laws w (u ∷ us) e h =
-    let small = subst (AllByRecursion IsNumbered) e h.peer_small in
-    record {
-      own =
-          consistent (party_taking w.own u) (sound_unit laws w.own.session u small.0 h.own.sound) (taken_lines w.own u h.own.sound (lines_of w.own h.own));
-      peer = grind arith;
-      own_small = h.own_small;
-      peer_small = small.1;
-    }
+taking_kept laws w us e h = search (arith, consistent, sound_unit, taken_lines, lines_of)
 
 pub turned_kept : (w : Core) → AreConsistent w → AreConsistent (turned w)
 turned_kept w h = record { own = h.peer; peer = h.own; own_small = h.peer_small; peer_small = h.own_small }
@@ -99,36 +90,5 @@ run_kept laws w (step ∷ steps) small h = run_kept laws (core_step w step) step
 
 -- ---- how it begins
 
-from_zero : AreOrdered 0 (from_base 0)
-from_zero = record { confirmed_from = omega arith; confirmed_to = omega arith; lowest_from = omega arith; lowest_to = omega arith; last = omega arith }
-
-small_base : (b : Bool) (serial : ℕ) → serial < 1000000 → (if b then serial else 0) < 1000000
-small_base true serial h = h
-small_base false serial h = omega arith
-
-small_serial : (o : Offer) → CanBeOffered o → IsNumbered (offer_sent o)
-small_serial o h = by_test (has_points (functional_units o.requirements))
-    (λ e. rw e (let k : o.serial < 1000000 = h.0 in omega arith))
-    (λ e. rw e tt)
-
 pub starts : (o : Offer) → CanBeOffered o → AreConsistent (core_start o)
-starts o h = record {
-  own = record {
-    sound = grind (arith, from_zero, small_base);
-    count = omega arith;
-    major = λ k. absurd (cc);
-    asked = λ k. absurd (cc);
-    asker = λ k. absurd (cc);
-    fresh = λ k. record { base = refl; numbers = refl; view = refl; said = refl; got = refl };
-  };
-  peer = record {
-    sound = record { ordered = from_zero; first = omega arith; major = λ k. absurd (cc); restart = λ k. absurd (cc); tokens = λ k. refl; sizes = refl };
-    count = omega arith;
-    major = λ k. absurd (cc);
-    asked = λ k. absurd (cc);
-    asker = λ k. absurd (cc);
-    fresh = λ k. record { base = refl; numbers = refl; view = refl; said = refl; got = refl };
-  };
-  own_small = (small_serial o h, tt);
-  peer_small = tt;
-}
+starts o h = grind arith

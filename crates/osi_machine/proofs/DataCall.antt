@@ -1,12 +1,12 @@
 -- The call of Data keeps what is true of both sides.
-use Rattle.std.proofs.Common.{◌≡◌, refl, sym, ◌∙◌, ap, subst, ℕ, ◌+◌, Bool, true, false, not, ◌&&◌, if◌then◌else◌, List, [], ◌∷◌, ◌++◌, inl, inr, Ok, append_assoc}
+use Rattle.std.proofs.Common.{◌≡◌, refl, sym, ◌∙◌, ap, subst, ℕ, ◌+◌, Bool, true, false, not, ◌&&◌, if◌then◌else◌, List, [], ◌∷◌, ◌++◌, inl, inr, Ok, append_assoc, arith}
 use Rattle.osi_machine.proofs.Vocabulary.{State, FunctionalUnits, DT, data_token, has, available, is_ready, may_hold, is_restarting, is_restart_due, has_right, Data, drops, Item, Octets, Point, cutat, AreNumberedFrom, Owners, turned_owners, seen, AllFit, flush, heard, hears, view_next, heard_view, data_of, Party, Core, answered, is_opening, IsConsistent, AreConsistent, and_from, not-true, and_right}
 use Rattle.osi_machine.proofs.PhaseLaws.{implied, excluded, implied_two, by_either}
 use Rattle.osi_machine.proofs.ChannelLaws.{fit_append, hears_kept, due_end, heard_flush, view_append, data_append}
 use Rattle.osi_machine.proofs.HistoryLaws.{cut_append}
 use Rattle.osi_machine.proofs.Tokens.{Holds, nothing_to_see}
 use Rattle.osi_machine.proofs.Begun.{none_needs}
-use Rattle.osi_machine.proofs.Records.{flushed, hearing, matched, Half, Views, IsOfProfile, Pair, Stands}
+use Rattle.osi_machine.proofs.Records.{flushed, hearing, Half, Views, IsOfProfile, Pair, Stands}
 use Rattle.osi_machine.proofs.Idle.{IsIdle, flush_idle, heard_idle, sending, own_half, peer_half, own_counts, peer_counts, own_views, HasRight, right_of, end_units, data_fits, append_nil}
 
 idle : (octets : List ℕ) → IsIdle (DT octets)
@@ -14,10 +14,7 @@ idle octets s = refl
 
 -- a side that listens: the other does not owe it the answer to a restart
 pub none_owed : (o : Owners) (x y : Party) → Half o x y → is_restarting x.session.phase ≡ false → is_restart_due (flushed y x).phase ≡ false
-none_owed o x y h asked =
-    let listens = hears_kept x.session y.sent (ap not asked) h.fits in
-    not-true _ (implied_two (λ p q. matched p q && hears p) (λ p q. not (is_restart_due q)) refl (flushed x y).phase (flushed y x).phase
-    (and_from _ _ h.meeting.meets listens))
+none_owed o x y h asked = search (arith, hears_kept, not-true, implied_two, and_from)
 
 -- what is added, and what is seen of it
 pub said_seen : (b : Bool) (h : List Item) (i : Item) → (if b then h else h ++ i ∷ []) ≡ h ++ (if b then [] else i ∷ [])

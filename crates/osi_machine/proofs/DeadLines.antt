@@ -51,42 +51,13 @@ dead_called broken w x h =
 -- the caller takes a message
 pub dead_takes : (broken : Bool) (terms : Terms) (keep : ℕ) (w : World) (m : Message) (ms : List Message) → IsDead w
     → ((message_taken broken terms keep w.own.transport (without_first w ms) m).closes ≡ false) × IsDead (message_taken broken terms keep w.own.transport (without_first w ms) m).world
-dead_takes broken terms keep w m ms h =
-    subst (λ (tr : Transport). ((message_taken broken terms keep tr (without_first w ms) m).closes ≡ false) × IsDead (message_taken broken terms keep tr (without_first w ms) m).world) (sym h.left) (by m)
-  where
-    still : IsDead (without_first w ms)
-    still = record { left = h.left; over_now = h.over_now; quiet = h.quiet; idle = h.idle; no_unit = h.no_unit }
-
-    by : (m : Message) → ((message_taken broken terms keep gone (without_first w ms) m).closes ≡ false) × IsDead (message_taken broken terms keep gone (without_first w ms) m).world
-    by (bye r) = (refl, record { left = h.left; over_now = h.over_now; quiet = h.quiet; idle = h.idle; no_unit = put_none is_unit broken w.own.channel over refl h.no_unit })
-    by _ = (refl, still)
+dead_takes broken terms keep w m ms h = search (arith, put_none)
 
 -- the called side takes a message
 pub dead_taken : (broken : Bool) (terms : Terms) (keep : ℕ) (w : World) (m : Message) (ms : List Message) → IsDead (turned w) → w.peer.channel ≡ m ∷ ms
     → ((message_taken broken terms keep w.own.transport (without_first w ms) m).closes ≡ false)
     × IsDead (turned (message_taken broken terms keep w.own.transport (without_first w ms) m).world)
-dead_taken broken terms keep w m ms h e = by w.own.transport refl m refl
-  where
-    parts : (is_unit m ≡ false) × (list_any is_unit ms ≡ false)
-    parts = or_parts (is_unit m) (list_any is_unit ms) (sym (ap (list_any is_unit) e) ∙ h.no_unit)
-
-    still : IsDead (turned (without_first w ms))
-    still = record { left = h.left; over_now = h.over_now; quiet = h.quiet; idle = h.idle; no_unit = parts.1 }
-
-    asked_dead : (t : Terms) → ((message_taken broken t keep not_yet (without_first w ms) ask).closes ≡ false) × IsDead (turned (message_taken broken t keep not_yet (without_first w ms) ask).world)
-    asked_dead (accepts class) = (refl, record { left = h.left; over_now = h.over_now; quiet = refl; idle = refl; no_unit = parts.1 })
-    asked_dead (denies reason) = (refl, record { left = h.left; over_now = h.over_now; quiet = h.quiet; idle = h.idle; no_unit = parts.1 })
-
-    by : (tr : Transport) → w.own.transport ≡ tr → (n : Message) → m ≡ n
-        → ((message_taken broken terms keep tr (without_first w ms) n).closes ≡ false) × IsDead (turned (message_taken broken terms keep tr (without_first w ms) n).world)
-    by waiting f n g = absurd (let x = sym h.idle ∙ ap is_waiting f in cc)
-    by tr f (unit u) g = absurd (let x = sym parts.0 ∙ ap is_unit g in cc)
-    by not_yet f ask g = asked_dead terms
-    by linked f (bye r) g = (refl, record { left = h.left; over_now = h.over_now; quiet = refl; idle = refl; no_unit = parts.1 })
-    by closing f (bye r) g = (refl, record { left = h.left; over_now = h.over_now; quiet = h.quiet; idle = refl; no_unit = parts.1 })
-    by closing f over g = (refl, record { left = h.left; over_now = h.over_now; quiet = h.quiet; idle = refl; no_unit = parts.1 })
-    by gone f (bye r) g = (refl, record { left = h.left; over_now = h.over_now; quiet = h.quiet; idle = h.idle; no_unit = parts.1 })
-    by _ f _ g = (refl, still)
+dead_taken broken terms keep w m ms h e = search (arith, or_parts)
 
 -- an end of either side, and a break
 pub dead_ends : (keep : ℕ) (w : World) → IsDead w → IsDead (ended_at keep w)

@@ -80,45 +80,25 @@ stood s n w e = ap (λ (b : Bool). if b then record (without_tokens RestartDue s
 
 -- one that does not stand shows nothing
 pub yielded_view : (s : State) (k : ResyncType) (n : ℕ) (w : TokenSetting) (o : List ℕ) (v : List Item) → stands s n ≡ false → view_next s (RS k n w o) v ≡ v
-yielded_view s k n w o v e =
-    ap (λ (b : Bool). if b then v else seen s (RS k n w o) v) (restart_kept s k n w o)
-    ∙ ap (λ (b : Bool). if b then cutat s.base v n else v) e
+yielded_view s k n w o v e = grind arith
 
 -- what its taker has heard before it
 pub heard_restart : (s : State) (us : List Meaning) (k : ResyncType) (n : ℕ) (w : TokenSetting) (o : List ℕ) → AllFit s us → is_restart_due (flush s us).phase ≡ false
     → heard s (us ++ RS k n w o ∷ []) ≡ flush s us
-heard_restart s us k n w o f due = heard_append s us (RS k n w o) f due ∙ by (stands (flush s us) n) refl
-  where
-    by : (b : Bool) → stands (flush s us) n ≡ b → (if b then flush s us else next (flush s us) (RS k n w o)) ≡ flush s us
-    by true e = refl
-    by false e = restart_next (flush s us) k n w o ∙ yielded (flush s us) n w e
+heard_restart s us k n w o f due = search (arith, heard_append, restart_next, yielded)
 
 pub view_restart : (s : State) (us : List Meaning) (k : ResyncType) (n : ℕ) (w : TokenSetting) (o : List ℕ) (v : List Item) → AllFit s us
     → is_restart_due (flush s us).phase ≡ false → heard_view s (us ++ RS k n w o ∷ []) v ≡ heard_view s us v
-view_restart s us k n w o v f due = view_append s us (RS k n w o) v f due ∙ by (stands (flush s us) n) refl
-  where
-    by : (b : Bool) → stands (flush s us) n ≡ b
-        → (if b then heard_view s us v else view_next (flush s us) (RS k n w o) (heard_view s us v)) ≡ heard_view s us v
-    by true e = refl
-    by false e = yielded_view (flush s us) k n w o (heard_view s us v) e
+view_restart s us k n w o v f due = search (arith, view_append, yielded_view)
 
 -- ---- a side that has asked for a restart, and will wait for the answer when all is taken
-
-passes : (e r p : Bool) → (e || (r && not p)) ≡ false → r ≡ true → p ≡ true
-passes e r p h k = grind arith
 
 -- a unit changes nothing there and shows nothing, or is the answer or a restart that stands
 abbrev Passes : State → Meaning → State → Type 0
 Passes s u r = ((r ≡ s) × ((v : List Item) → view_next s u v ≡ v)) ⊎ (hears r.phase ≡ true)
 
-deaf_acts : (s : State) (u : Meaning) → is_plain u ≡ true → passes_restarting u ≡ true → Passes s u (becomes s u)
-deaf_acts s u p q = grind (arith, yielded_view)
-
 deaf_next : (s : State) (u : Meaning) → is_restarting s.phase ≡ true → Fits s u → Passes s u (next s u)
-deaf_next s u r f = by_test (drops s u)
-    (λ d. inl (next_dropped s u d, λ v. ap (λ (b : Bool). if b then v else seen s u v) d))
-    (λ d. subst (Passes s u) (sym (next_acted s u d))
-    (deaf_acts s u f.plain (passes (has_no_effect u) (is_restarting s.phase) (passes_restarting u) d r)))
+deaf_next s u r f = grind arith
 
 -- a side that will wait has asked already
 pub not_both : (b : Bool) → not b ≡ true → b ≡ true → ⊥

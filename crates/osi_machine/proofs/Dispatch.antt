@@ -3,7 +3,7 @@ use Rattle.std.proofs.Common.{◌≡◌, refl, sym, ◌∙◌, subst, ℕ, Bool,
 use Rattle.osi_machine.specs.Core.{turned, called}
 use Rattle.osi_machine.proofs.Vocabulary.{AllByRecursion, Granted, Answer, Call, Accept, Data, Give, Please, Minor, MinorConfirm, Major, MajorConfirm, Restart, RestartConfirm, Release, ReleaseRefuse, HasSerial, Meaning, CN, AC, RF, DT, GT, PT, MIP, MIA, MAP, MAA, RS, RA, FN, DN, NF, AB, AA, stands, drops, allowed, is_empty, Owner, Own, Owners, turned_owner, turned_owners, is_plain, AllFit, Core, CoreStep, call_at, take_at, Side, Left, Right, stays_in_core, answered, taking, takes, at_side, core_step, core_run, IsNumberedStep, not-true}
 use Rattle.osi_machine.proofs.CoreLaws.{SessionLaws, turned_kept, IsGranted, granted, is_granted}
-use Rattle.osi_machine.proofs.Records.{Half, IsOfProfile, Pair, Stands}
+use Rattle.osi_machine.proofs.Records.{Half, Pair, Stands}
 use Rattle.osi_machine.proofs.DataCall.{data_stands}
 use Rattle.osi_machine.proofs.GiveCall.{give_stands}
 use Rattle.osi_machine.proofs.PleaseCall.{please_stands}
@@ -47,9 +47,7 @@ answer_stands laws w c (Ok g) small k e s =
 answer_stands laws w c (Err d) small k e s = s
 
 pub called_stands : SessionLaws → (w : Core) (c : Call) → HasSerial c → Stands w → Stands (called w c)
-called_stands laws w c small s = by_test (stays_in_core c)
-    (λ k. rw k (answer_stands laws w c (allowed w.own.session c) small k refl s))
-    (λ k. rw k s)
+called_stands laws w c small s = search (arith, answer_stands)
 
 -- ---- a unit that is taken
 
@@ -93,16 +91,7 @@ pub turned_twice : (o : Owners) → turned_owners (turned_owners o) ≡ o
 turned_twice o = λ i t. twice (o t) i
 
 turned_pair : (w : Core) → Stands w → Pair w.history w.peer w.own
-turned_pair w s = grind (arith, IsOfProfile)
-  where
-    swapped : (a b : Bool) → (a && b) ≡ false → (b && a) ≡ false
-    swapped true true h = h
-    swapped false true h = refl
-    swapped _ false h = refl
-
-    other_way : (b : Bool) → b ≡ not (not b)
-    other_way true = refl
-    other_way false = refl
+turned_pair w s = search arith
 
 pub turned_stands : (w : Core) → Stands w → Stands (turned w)
 turned_stands w s = search (turned_kept, Half, turned_twice, turned_pair)

@@ -4,33 +4,21 @@ use Rattle.std.proofs.Common.{◌≡◌, refl, sym, ◌∙◌, ap, subst, ℕ, B
 use Rattle.osi_machine.proofs.Vocabulary.{list_any, Meaning, Call, Answer, allowed, respond_unit, Message, unit, ask, agree, deny, bye, over, Transport, not_yet, waiting, linked, closing, gone, World, turned, session_of, put, replied, after_answer, Terms, denies, message_taken, closed, ended_at, without_first, Told, or_parts}
 use Rattle.osi_machine.proofs.Idle.{append_nil}
 use Rattle.osi_machine.proofs.Lines.{cut_to}
-use Rattle.osi_machine.proofs.Projects.{is_begun, not_both}
-use Rattle.osi_machine.proofs.ProjectEnd.{is_unit}
-use Rattle.osi_machine.proofs.ProjectStart.{Opens, Refuses, caller_refuses, called_refuses, caller_ends, called_ends}
+use Rattle.osi_machine.proofs.Projects.{not_both}
+use Rattle.osi_machine.proofs.ProjectStart.{Opens, caller_refuses, called_refuses, caller_ends, called_ends}
 use Rattle.osi_machine.proofs.ProjectOpen.{called_takes}
 use Rattle.osi_machine.proofs.Whole.{Stage, turned_back}
 use Rattle.osi_machine.proofs.DeadLines.{IsEarly, opens_early, opens_quiet, dead_call, dead_called, dead_takes, dead_taken, dead_ends, dead_ended, dead_cut, put_none, take_none}
 
 waits_opens : (b : Bool) (w : World) (t u : Told) → Stage b w t u → w.own.transport ≡ waiting → Opens w t u
-waits_opens b w t u (inl h) e = h
-waits_opens b w t u (inr (inl h)) e = elim h.called [
-  | inl k ↦ absurd (let x = sym e ∙ k.transport in cc)
-  | inr k ↦ elim k [
-    | inl j ↦ absurd (let x = sym e ∙ j.transport in cc)
-    | inr j ↦ absurd (let x = sym e ∙ j.transport in cc)
-  ]
-]
-waits_opens b w t u (inr (inr h)) e = not_both (is_begun w.own.transport) h.projects.own.begun (ap is_begun e)
+waits_opens b w t u h4 e = search (arith, not_both)
 
 pub early_call : (b : Bool) (w : World) (t u : Told) (x : Call) → Stage b w t u → IsEarly w → IsEarly (after_answer b x w (allowed (session_of w) x))
 early_call b w t u x h (inl e) = subst (λ (a : Answer). IsEarly (after_answer b x w a)) (sym (caller_refuses w t u x (waits_opens b w t u h e)).refused) (inl e)
 early_call b w t u x h (inr d) = inr (dead_call b w x d)
 
 pub early_called : (b : Bool) (w : World) (t u : Told) (x : Call) → Stage b (turned w) t u → IsEarly (turned w) → IsEarly (turned (after_answer b x w (allowed (session_of w) x)))
-early_called b w t u x h (inl e) =
-    subst (λ (a : Answer). IsEarly (turned (after_answer b x w a)))
-    (sym (subst (λ (v : World). Refuses (session_of v) x) (turned_back w) (called_refuses (turned w) t u x (waits_opens b (turned w) t u h e))).refused) (inl e)
-early_called b w t u x h (inr d) = inr (dead_called b w x d)
+early_called b w t u x h h6 = search (arith, turned_back, called_refuses, waits_opens, dead_called)
 
 -- the caller takes a message that is no agreement
 abbrev pub is_agree : Message → Bool
@@ -39,20 +27,7 @@ is_agree m = false
 
 pub early_takes : (b : Bool) (terms : Terms) (keep : ℕ) (w : World) (t u : Told) (m : Message) (ms : List Message) → is_agree m ≡ false → Stage b w t u → IsEarly w
     → ((message_taken b terms keep w.own.transport (without_first w ms) m).closes ≡ false) × IsEarly (message_taken b terms keep w.own.transport (without_first w ms) m).world
-early_takes b terms keep w t u m ms n h (inr d) = let k = dead_takes b terms keep w m ms d in (k.0, inr k.1)
-early_takes b terms keep w t u m ms n h (inl e) =
-    subst (λ (tr : Transport). ((message_taken b terms keep tr (without_first w ms) m).closes ≡ false) × IsEarly (message_taken b terms keep tr (without_first w ms) m).world) (sym e) (by m n)
-  where
-    same : list_any is_unit w.own.channel ≡ false → (c : Bool) → list_any is_unit (put c [] w.own.channel) ≡ false
-    same f true = f
-    same f false = ap (list_any is_unit) (append_nil w.own.channel) ∙ f
-
-    by : (m : Message) → is_agree m ≡ false → ((message_taken b terms keep waiting (without_first w ms) m).closes ≡ false) × IsEarly (message_taken b terms keep waiting (without_first w ms) m).world
-    by agree n = absurd (cc)
-    by (deny r) n =
-        let q = opens_quiet w t u (waits_opens b w t u h e) in
-        (refl, inr (record { left = refl; over_now = refl; quiet = q.quiet; idle = q.idle; no_unit = same q.no_unit b }))
-    by _ n = (refl, inl e)
+early_takes b terms keep w t u m ms n h h10 = search (arith, dead_takes, opens_quiet, waits_opens)
 
 pub early_taken : (b : Bool) (terms : Terms) (keep : ℕ) (w : World) (t u : Told) (m : Message) (ms : List Message) → w.peer.channel ≡ m ∷ ms → Stage b (turned w) t u → IsEarly (turned w)
     → ((message_taken b terms keep w.own.transport (without_first w ms) m).closes ≡ false) × IsEarly (turned (message_taken b terms keep w.own.transport (without_first w ms) m).world)

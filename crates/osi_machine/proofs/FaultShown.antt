@@ -14,9 +14,7 @@ call_faulted : (t : Told) (c : Call) → (told_call t c).faulted ≡ t.faulted
 call_faulted t c = grind arith
 
 entry_faulted : (t : Told) (e : Entry) → (told_entry t e).faulted ≡ (t.faulted || is_fault e)
-entry_faulted t (call_answered side r c None) = call_faulted t c ∙ sym (or-false t.faulted)
-entry_faulted t (shown_at side r i) = grind (arith, or-true, or-false)
-entry_faulted t _ = sym (or-false t.faulted)
+entry_faulted t e = search (arith, call_faulted, or-false, or-true)
 
 told_faulted : (t : Told) (es : List Entry) → (told_by t es).faulted ≡ (t.faulted || list_any is_fault es)
 told_faulted t [] = sym (or-false t.faulted)

@@ -96,27 +96,7 @@ given_and_got k j s h d = tokens_same _ _ (λ t.
 -- what such a unit leaves
 fewer_becomes : (k : Tokens) (s : State) (u : Meaning) → Fits s u → Good s u → stops s u ≡ false → Gives k s → (becomes (less k s) u ≡ less k (becomes s u)) × Gives k (becomes s u)
 unfolding stands
-fewer_becomes k s (CN v u n w from to z o) f g st h = absurd (let e = excluded is_wait_cn may_ask refl s.phase g.expected in let p = h.phase in cc)
-fewer_becomes k s (AC v u n w z o) f g st h = absurd (let e = excluded is_connecting may_ask refl s.phase g.expected in let p = h.phase in cc)
-fewer_becomes k s (DT o) f g st h = (refl, h)
-fewer_becomes k s (GT j) f g st h =
-    let d = (and_parts (is_within j (available s.units)) (is_disjoint j s.held) g.met.0).1 in (
-      ap (λ (held : Tokens). record s { held = held }) (given_and_got k j s h d),
-      record { phase = h.phase; all = λ t p. united_has s.held j t ∙ or_left (has s.held t) (has j t) (h.all t p); one = h.one },
-    )
-fewer_becomes k s (PT j o) f g st h = (refl, h)
-fewer_becomes k s (MIP c n o) f g st h = (refl, record { phase = h.phase; all = h.all; one = h.one })
-fewer_becomes k s (MIA n o) f g st h = (refl, record { phase = h.phase; all = h.all; one = h.one })
-fewer_becomes k s (MAP n o) f g st h = (refl, record { phase = refl; all = h.all; one = h.one })
-fewer_becomes k s (MAA n o) f g st h = (refl, record { phase = refl; all = h.all; one = h.one })
-fewer_becomes k s (RS j n w o) f g st h = absurd (
-    let e = excluded may_ask is_restarting refl s.phase h.phase in
-    let t : stands s n ≡ true = rw e refl in
-    cc)
-fewer_becomes k s (RA n w o) f g st h = absurd (let e = excluded is_restarting may_ask refl s.phase g.expected in let p = h.phase in cc)
-fewer_becomes k s (FN o) f g st h = absurd (gives_something k s h g.met.0)
-fewer_becomes k s (NF o) f g st h = absurd (let e = excluded is_releasing may_ask refl s.phase g.expected in let p = h.phase in cc)
-fewer_becomes k s _ f g st h = absurd (let p = f.plain in cc)
+fewer_becomes k s u f g st h = search (arith, excluded, and_parts, given_and_got, united_has, or_left, gives_something)
 
 -- a restart that stands leaves the same
 stands_same : (k : Tokens) (s : State) (u : Meaning) → stops s u ≡ true → becomes (less k s) u ≡ becomes s u
@@ -129,16 +109,7 @@ fewer_stops k s (RS j n w o) = refl
 fewer_stops k s _ = refl
 
 gives_step : (k : Tokens) (s : State) (u : Meaning) → Gives k s → Fits s u → Steps (Fewer k) s (less k s) u
-gives_step k s u h f = record {
-  fits = record { plain = f.plain; good = λ d. fewer_good k s u (f.good d) };
-  stops = fewer_stops k s u;
-  next = by (drops s u) refl (stops s u) refl;
-}
-  where
-    by : (d : Bool) → drops s u ≡ d → (b : Bool) → stops s u ≡ b → Fewer k (if d then s else becomes s u) (if d then less k s else becomes (less k s) u)
-    by true e b q = inl (refl, h)
-    by false e false q = inl (fewer_becomes k s u f (f.good e) q h)
-    by false e true q = inr (stands_same k s u q, subst (λ (r : State). is_restart_due r.phase ≡ true) (next_acted s u e) (restart_due s u q))
+gives_step k s u h f = search (arith, fewer_good, fewer_stops, fewer_becomes, stands_same, next_acted, restart_due)
 
 pub fewer_step : (k : Tokens) (s r : State) (u : Meaning) → Fewer k s r → Fits s u → Steps (Fewer k) s r u
 fewer_step k s r u (inl (e, h)) f = subst (λ (q : State). Steps (Fewer k) s q u) (sym e) (gives_step k s u h f)

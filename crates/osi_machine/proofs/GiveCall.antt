@@ -132,42 +132,7 @@ owned_by w k g h t p = sym (h.meeting.holds t) ∙ within_has k w.own.session.he
 
 peer_tokens : (w : Core) (k : Tokens) → Giving w k → Half w.owner w.own w.peer → Half (turned_owners w.owner) w.peer w.own
     → Tokens_of (turned_owners (passed_to ToThem k w.owner)) w.peer.session (next (flushed w.peer w.own) (GT k)) (next (flushed w.peer w.own) (GT k))
-peer_tokens w k g h j = record {
-  holds = λ t. not_yet_held (has k t) (has w.peer.session.held t) (w.owner t) (owned_by w k g h t) (j.meeting.holds t);
-  wants = λ m t. by (drops (flushed w.peer w.own) (GT k)) refl m t;
-  absent = λ t n. gone t (has k t) refl n;
-}
-  where
-    was : may_hold (flushed w.peer w.own).phase ≡ true → (t : Token) → has (flushed w.peer w.own).held t ≡ (is_own (turned_owner (w.owner t)) || is_to_own (turned_owner (w.owner t)))
-    was m t =
-        let e = heard_end w k g h j in
-        subst (λ (q : State). has q.held t ≡ (is_own (turned_owner (w.owner t)) || is_to_own (turned_owner (w.owner t)))) e
-        (j.meeting.wants (ap (λ (q : State). may_hold q.phase) e ∙ m) t)
-
-    idle_not : (e r : Bool) → e ≡ false → (e || (r && true)) ≡ true → r ≡ true
-    idle_not e true p q = refl
-    idle_not true false p q = absurd (cc)
-    idle_not false false p q = absurd (cc)
-
-    by : (b : Bool) → drops (flushed w.peer w.own) (GT k) ≡ b → may_hold (next (flushed w.peer w.own) (GT k)).phase ≡ true → (t : Token)
-        → has (next (flushed w.peer w.own) (GT k)).held t ≡ (is_own (turned_owner (passed_to ToThem k w.owner t)) || is_to_own (turned_owner (passed_to ToThem k w.owner t)))
-    by true d m t = absurd (
-        let r = idle_not (is_empty k) (is_restarting (flushed w.peer w.own).phase) g.one d in
-        let n = excluded is_restarting may_hold refl (flushed w.peer w.own).phase r in
-        let l = ap (λ (q : State). may_hold q.phase) (sym (next_dropped (flushed w.peer w.own) (GT k) d)) ∙ m in
-        cc)
-    by false d m t =
-        let e = next_acted (flushed w.peer w.own) (GT k) d in
-        ap (λ (q : State). has q.held t) e ∙ united_has (flushed w.peer w.own).held k t
-        ∙ will_be_held (has k t) (has (flushed w.peer w.own).held t) (w.owner t) (was (ap (λ (q : State). may_hold q.phase) (sym e) ∙ m) t)
-
-    gone : (t : Token) (b : Bool) → has k t ≡ b → has (available (next (flushed w.peer w.own) (GT k)).units) t ≡ false → is_absent (turned_owner (if b then ToThem else w.owner t)) ≡ true
-    gone t true p n = absurd (
-        let there = within_has k (available w.own.session.units) t g.selected p in
-        let units = (given_like k (flushed w.peer w.own)).units ∙ sym h.meeting.units ∙ end_units w.owner w.own w.peer h (excluded may_give is_opening refl w.own.session.phase g.phase) in
-        let none = ap (λ (u : FunctionalUnits). has (available u) t) (sym units) ∙ n in
-        cc)
-    gone t false p n = j.meeting.absent t (ap (λ (u : FunctionalUnits). has (available u) t) (sym (given_like k (flushed w.peer w.own)).units) ∙ n)
+peer_tokens w k g h j = search (arith, not_yet_held, owned_by, heard_end, excluded, next_dropped, next_acted, united_has, will_be_held, within_has, given_like, end_units)
 
 -- ---- what was seen, and the numbers
 
@@ -176,9 +141,7 @@ own_like_heard w k g h = like _ _ (but_held k (hearing w.own w.peer) _ (runs w k
 
 peer_like_heard : (w : Core) (k : Tokens) → Giving w k → Half w.owner w.own w.peer → Half (turned_owners w.owner) w.peer w.own
     → Like (hearing w.peer w.own) (heard w.peer.session (w.own.sent ++ GT k ∷ []))
-peer_like_heard w k g h j =
-    subst (Like (hearing w.peer w.own)) (sym (other_heard w k g h j))
-    (subst (λ (q : State). Like q (next (flushed w.peer w.own) (GT k))) (sym (heard_end w k g h j)) (given_like k (flushed w.peer w.own)))
+peer_like_heard w k g h j = search (arith, other_heard, heard_end, given_like)
 
 same_seen : (w : Core) (k : Tokens) → Giving w k → Half w.owner w.own w.peer → (v : List Item)
     → heard_view (less k w.own.session) w.peer.sent v ≡ heard_view w.own.session w.peer.sent v

@@ -2,7 +2,7 @@
 use Rattle.std.proofs.Common.{◌≡◌, refl, sym, ◌∙◌, ap, subst, ℕ, ◌+◌, ◌≤◌, ◌<◌, Bool, true, false, if◌then◌else◌, List, [], ◌∷◌, ◌++◌, append_assoc, arith}
 use Rattle.osi_machine.proofs.Vocabulary.{leb-true, ltb-true, and_parts, State, Meaning, CN, AC, RF, DT, GT, PT, MIP, MIA, MAP, MAA, RS, RA, FN, DN, NF, AB, AA, is_wait_cn, is_connecting, is_acknowledgeable, point_taken, minor_confirmed, major_confirmed, becomes, drops, Good, next, Item, Octets, Point, minor_kind, major_point, points, Begins, seen, is_plain, Fits, AllFit, stops, heard, hears, view_next, heard_view, Party, is_opening, IsConsistent}
 use Rattle.osi_machine.proofs.Records.{hearing, Views}
-use Rattle.osi_machine.proofs.PhaseLaws.{implied, by_test}
+use Rattle.osi_machine.proofs.PhaseLaws.{by_test}
 use Rattle.osi_machine.proofs.Units.{fit_cases}
 use Rattle.osi_machine.proofs.HistoryLaws.{points_append}
 use Rattle.osi_machine.proofs.Idle.{append_nil}
@@ -42,39 +42,9 @@ pub record Grown (a : ℕ) (s : State) : Type 0 where
   pub from : a ≤ s.numbers.confirmed
   pub to : s.numbers.confirmed ≤ s.numbers.next
 
-acked_from : (s : State) (n : ℕ) → is_acknowledgeable s n ≡ true → (s.numbers.confirmed ≤ n) × (n < s.numbers.next)
-acked_from s n h = grind (arith, and_parts, leb-true, ltb-true)
-
-taken_from : (a c n : ℕ) (b : Bool) → a ≤ c → c ≤ n → a ≤ (if b then c else n)
-taken_from a c n true h k = h
-taken_from a c n false h k = omega arith
-
-taken_to : (c n : ℕ) (b : Bool) → c ≤ n → (if b then c else n) ≤ n + 1
-taken_to c n true k = omega arith
-taken_to c n false k = omega arith
-
 becomes_grown : (a : ℕ) (s : State) (u : Meaning) → is_plain u ≡ true → Good s u → stops s u ≡ false → Grown a s → Grown a (becomes s u)
 unfolding point_taken minor_confirmed major_confirmed
-becomes_grown a s (CN w r n x from to z o) p g st h = absurd (let e = implied is_wait_cn is_opening refl s.phase g.expected in let f = h.phase in cc)
-becomes_grown a s (AC w r n x z o) p g st h = absurd (let e = implied is_connecting is_opening refl s.phase g.expected in let f = h.phase in cc)
-becomes_grown a s (RF r o) p g st h = absurd (cc)
-becomes_grown a s (DT o) p g st h = h
-becomes_grown a s (GT k) p g st h = record { phase = h.phase; from = h.from; to = h.to }
-becomes_grown a s (PT k o) p g st h = h
-becomes_grown a s (MIP c n o) p g st h = record { phase = h.phase; from = taken_from a _ _ s.numbers.answers h.from h.to; to = taken_to _ _ s.numbers.answers h.to }
-becomes_grown a s (MIA n o) p g st h =
-    let k = acked_from s n g.met.1.0 in
-    let from = h.from in
-    record { phase = h.phase; from = omega arith; to = omega arith }
-becomes_grown a s (MAP n o) p g st h = record { phase = refl; from = taken_from a _ _ s.numbers.answers h.from h.to; to = taken_to _ _ s.numbers.answers h.to }
-becomes_grown a s (MAA n o) p g st h = let from = h.from in let to = h.to in record { phase = refl; from = omega arith; to = omega arith }
-becomes_grown a s (RS k n w o) p g st h = rw st h
-becomes_grown a s (RA n w o) p g st h = record { phase = refl; from = h.from; to = h.to }
-becomes_grown a s (FN o) p g st h = record { phase = refl; from = h.from; to = h.to }
-becomes_grown a s (DN o) p g st h = absurd (cc)
-becomes_grown a s (NF o) p g st h = record { phase = refl; from = h.from; to = h.to }
-becomes_grown a s (AB x o) p g st h = absurd (cc)
-becomes_grown a s AA p g st h = absurd (cc)
+becomes_grown a s u p g st h = grind arith
 
 next_grown : (a : ℕ) (s : State) (u : Meaning) → Fits s u → stops s u ≡ false → Grown a s → Grown a (next s u)
 next_grown a s u f st h = fit_cases (Grown a) s u f h (λ d g. becomes_grown a s u f.plain g st h)
@@ -90,9 +60,7 @@ heard_grown a s (u ∷ us) h f = by_test (stops s u)
 -- V(M) of a side that listens counts the history, when it has heard all
 pub listener_count : (h : List Item) (x y : Party) → IsConsistent x → AllFit x.session y.sent → Views h x y → hears (hearing x y).phase ≡ true
     → (hearing x y).numbers.next ≡ (hearing x y).base + points h
-listener_count h x y c f v l =
-    let k = heard_counted x.session y.sent x.view (record { count = c.count; fresh = λ p. (c.fresh p).view }) f in
-    k.count ∙ ap (λ (r : List Item). (hearing x y).base + points r) (v.ends l)
+listener_count h x y c f v l = search (arith, heard_counted)
 
 -- what it has seen begins the history
 pub listener_begins : (h : List Item) (x y : Party) → Views h x y → hears (hearing x y).phase ≡ true → Begins x.view h

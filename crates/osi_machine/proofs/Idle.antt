@@ -1,11 +1,11 @@
 -- Calls that send a unit which changes no state: what is sent, and what both sides then are.
 use Rattle.std.proofs.Common.{◌≡◌, refl, sym, ◌∙◌, ap, subst, ℕ, Bool, true, false, not, ◌&&◌, ◌||◌, if◌then◌else◌, List, [], ◌∷◌, ◌++◌, ◌⊎◌, inl, inr, arith}
 use Rattle.osi_machine.proofs.Vocabulary.{list_any, State, FunctionalUnits, Meaning, DT, PT, Tokens, Token, data_token, has, available, has_right, is_within, is_ready, may_ask, may_hold, takes_data, takes_please, is_restarting, is_restart_due, becomes, drops, next, Item, Owners, Owner, Own, Absent, turned_owner, turned_owners, is_own, is_to_own, is_absent, seen, Fits, AllFit, flush, stops, heard, hears, view_next, heard_view, Party, is_opening, and_from, not_from_false}
-use Rattle.osi_machine.proofs.PhaseLaws.{implied, excluded, implied_two, if_first, by_either, by_test}
+use Rattle.osi_machine.proofs.PhaseLaws.{implied, excluded, implied_two, if_first, by_either}
 use Rattle.osi_machine.proofs.Units.{next_cases, next_hears}
 use Rattle.osi_machine.proofs.ChannelLaws.{fit_append, flush_append, kept_heard, heard_flush, heard_append, heard_append_due, view_append, view_append_due}
 use Rattle.osi_machine.proofs.Begun.{flush_open, is_lively, ends_lively, is_talking, Talks, ends_talking}
-use Rattle.osi_machine.proofs.Records.{flushed, hearing, matched, Meeting, Half, Views, Counting, Counts, IsOfProfile}
+use Rattle.osi_machine.proofs.Records.{flushed, hearing, matched, Half, Views, Counting, Counts, IsOfProfile}
 use Rattle.osi_machine.proofs.Deaf.{not_both}
 
 -- ---- a unit that changes no state
@@ -17,10 +17,7 @@ pub flush_idle : (m : Meaning) → IsIdle m → (s : State) (us : List Meaning) 
 flush_idle m idle s us = flush_append s us m ∙ next_cases (λ r. r ≡ (flush s us)) (flush s us) m (λ d. refl) (λ d. idle (flush s us))
 
 pub heard_idle : (m : Meaning) → IsIdle m → (s : State) (us : List Meaning) → AllFit s us → AllFit s (us ++ m ∷ []) → heard s (us ++ m ∷ []) ≡ heard s us
-heard_idle m idle s us f more = by_test (is_restart_due (flush s us).phase)
-    (λ e. heard_append_due s us m more e)
-    (λ e. heard_append s us m f e ∙ if_first (stops (flush s us) m) (flush s us) (next (flush s us) m) (next_cases (λ r. r ≡ (flush s us)) (flush s us) m (λ d. refl) (λ d. idle (flush s us)))
-    ∙ sym (heard_flush s us f e))
+heard_idle m idle s us f more = search (arith, heard_append_due, heard_append, if_first, next_cases, heard_flush)
 
 -- ---- the two halves after such a call
 
@@ -28,15 +25,10 @@ abbrev pub sending : Party → Meaning → List Item → List (List ℕ) → Par
 sending x m v said = record { session = x.session; view = v; said = said; got = x.got; sent = x.sent ++ m ∷ [] }
 
 pub own_half : (o : Owners) (x y : Party) (m : Meaning) (v : List Item) (said : List (List ℕ)) → IsIdle m → Half o x y → Half o (sending x m v said) y
-own_half o x y m v said idle h = record {
-  fits = h.fits;
-  meeting = subst (λ (r : State). Meeting o x.session (flushed x y) r (hearing x y) y.session) (sym (flush_idle m idle y.session x.sent)) h.meeting;
-}
+own_half o x y m v said idle h = search (arith, flush_idle)
 
 pub peer_half : (o : Owners) (x y : Party) (m : Meaning) (v : List Item) (said : List (List ℕ)) → IsIdle m → Fits (flushed y x) m → Half o y x → Half o y (sending x m v said)
-peer_half o x y m v said idle f h =
-    let more = fit_append y.session x.sent m h.fits f in
-    search (Meeting, flushed, flush_idle, heard_idle)
+peer_half o x y m v said idle f h = search (arith, fit_append, flush_idle, heard_idle)
 
 pub own_counts : (x y : Party) (m : Meaning) (v : List Item) (said : List (List ℕ)) → IsIdle m → AllFit y.session x.sent → AllFit y.session (x.sent ++ m ∷ []) → Counts x y → Counts (sending x m v said) y
 own_counts x y m v said idle f more h =
@@ -176,10 +168,7 @@ own_views h h' x y m v said idle f asked due seen none k = record {
 
 pub view_idle : (m : Meaning) → ((s : State) (v : List Item) → seen s m v ≡ v) → (s : State) (us : List Meaning) (v : List Item) → AllFit s us → AllFit s (us ++ m ∷ [])
     → heard_view s (us ++ m ∷ []) v ≡ heard_view s us v
-view_idle m none s us v f more = by_test (is_restart_due (flush s us).phase)
-    (λ e. view_append_due s us m v more e)
-    (λ e. view_append s us m v f e ∙ if_first (stops (flush s us) m) (heard_view s us v) (view_next (flush s us) m (heard_view s us v))
-    (if_first (drops (flush s us) m) (heard_view s us v) (seen (flush s us) m (heard_view s us v)) (none (flush s us) (heard_view s us v))))
+view_idle m none s us v f more = search (arith, view_append_due, view_append, if_first)
 
 pub list_any_append : (p : Meaning → Bool) (us : List Meaning) (m : Meaning) → p m ≡ false → list_any p (us ++ m ∷ []) ≡ list_any p us
 list_any_append p [] m h = rw h refl

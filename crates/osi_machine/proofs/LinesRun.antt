@@ -6,7 +6,6 @@ use Rattle.osi_machine.proofs.Vocabulary.{AllByRecursion, slice_get, Shown, Call
 use Rattle.osi_machine.proofs.Idle.{append_nil}
 use Rattle.osi_machine.proofs.ViewFold.{told_all}
 use Rattle.osi_machine.proofs.ViewRun.{record_append, other}
-use Rattle.osi_machine.proofs.ProjectSteps.{loss_told}
 use Rattle.osi_machine.proofs.Lines.{told_of_call, taking_of, IsKept, IsBy, told_more, told_same, other_number, call_by, shown_by, other_side, call_own, shown_own, Lines, seen_told, change_line}
 use Rattle.osi_machine.proofs.OffersTold.{offers_append, none_asked, shown_offers, order_offers}
 use Rattle.osi_machine.proofs.PhaseLaws.{by_test}
@@ -167,9 +166,7 @@ early side d n k (w ∷ ws) l =
 
 ends_kept : (terms : Terms) (P : Bool → World → Offer → Told → Told → Type 0) → IsKept terms P → (b : Bool) (w : World) (o : Offer) (s t : Told) (keep : ℕ) → P b w o s t
     → P b (ends_there keep w) o (told_all s (shown_at_end w)) t
-ends_kept terms P q b w o s t keep h = by_test (is_given w.own.transport)
-    (λ e. rw e (q.ends b w o s t keep h))
-    (λ e. rw e (subst (λ (d : Told). P b w o d t) (sym (loss_told s (session_of w))) h))
+ends_kept terms P q b w o s t keep h = grind arith
 
 end_lines : (terms : Terms) (P : Bool → World → Offer → Told → Told → Type 0) → IsKept terms P → (b : Bool) (side : Side) (keep : ℕ → ℕ) (j es : List Entry) (k : ℕ) (ws : List World) (os : List Offer)
     → ((d : Side) (n : ℕ) → k ≤ n → record_of d n es ≡ []) → Lines P b j k ws os
@@ -293,24 +290,12 @@ cut_length left right k (w ∷ ws) = ap suc (cut_length left right (k + 1) ws)
 
 break_good : (terms : Terms) (P : Bool → World → Offer → Told → Told → Type 0) → IsKept terms P → (m : Machine) (left right : ℕ → ℕ) → IsGood terms P m
     → IsGood terms P (if m.broken then m else record m { broken = true; worlds = cut_channels left right 1 m.worlds })
-break_good terms P q m left right g = by m.broken refl
-  where
-    by : (b : Bool) → m.broken ≡ b → IsGood terms P (if b then m else record m { broken = true; worlds = cut_channels left right 1 m.worlds })
-    by true e = g
-    by false e = grind (arith, cut_lines, Lines, cut_length)
+break_good terms P q m left right g = search (arith, cut_lines, cut_length)
 
 -- ---- a step, and a list of steps
 
 pub step_good : (terms : Terms) (P : Bool → World → Offer → Told → Told → Type 0) → IsKept terms P → (m : Machine) (s : Step) → HasNumber s → IsGood terms P m → IsGood terms P (step m s)
-step_good terms P q m (connects o) small g = asked_good terms P q m o small g (refusal m o) refl
-step_good terms P q m (calls side r c) small g = call_good terms P q m side r c small g (connection_at r m.worlds) refl
-step_good terms P q m (delivers side r keep) small g = by_test (is_some (end_of side m))
-    (λ z. rw z g)
-    (λ z. rw z (delivery_good terms P q m side r keep g (connection_at r m.worlds) refl))
-step_good terms P q m (breaks left right) small g = break_good terms P q m left right g
-step_good terms P q m (ends side e keep) small g = by_test (is_some (end_of side m) || not (is_told e m.broken))
-    (λ l. rw l g)
-    (λ l. rw l (end_good terms P q m side e keep g))
+step_good terms P q m s small g = search (arith, asked_good, call_good, delivery_good, break_good, end_good)
 
 pub run_good : (terms : Terms) (P : Bool → World → Offer → Told → Told → Type 0) → IsKept terms P → (m : Machine) (steps : List Step) → AllByRecursion HasNumber steps → IsGood terms P m
     → IsGood terms P (run m steps)

@@ -127,24 +127,15 @@ none_agreed terms x known f h = grind arith
 early_side_takes : (b : Bool) (terms : Terms) (keep : ℕ) (side : Side) (w : World) (x : Message) (xs : List Message) (known : Option Class) → (seen_from side w).peer.channel ≡ x ∷ xs
     → (is_denial terms ≡ true → is_agree x ≡ false) → is_known (learns terms (seen_from side w).own.transport x known) ≡ false → StageOf b w → IsEarly w
     → ((took b terms keep (seen_from side w) x xs).closes ≡ false) × IsEarly (seen_from side (took b terms keep (seen_from side w) x xs).world)
-early_side_takes b terms keep Right w x xs known e f n s h = early_taken b terms keep (turned w) s.own s.peer x xs e (back (λ v. Stage b v s.own s.peer) w s.stage) (back IsEarly w h)
-early_side_takes b terms keep Left w x xs known e f n s (inr d) = let k = dead_takes b terms keep w x xs d in (k.0, inr k.1)
-early_side_takes b terms keep Left w x xs known e f n s (inl t) =
-    early_takes b terms keep w s.own s.peer x xs (none_agreed terms x known f (ap (λ (tr : Transport). is_known (learns terms tr x known)) (sym t) ∙ n)) s.stage (inl t)
+early_side_takes b terms keep side w x xs known e f n s h = search (arith, early_taken, back, dead_takes, early_takes, none_agreed)
 
 none_side_takes : (b : Bool) (terms : Terms) (keep : ℕ) (side : Side) (w : World) (x : Message) (xs : List Message) → (seen_from side w).peer.channel ≡ x ∷ xs → is_denial terms ≡ true → NoAgree w
     → (is_agree x ≡ false) × NoAgree (took b terms keep (seen_from side w) x xs).world
 none_side_takes b (denies r) keep side w x xs e d h = none_takes b r keep (seen_from side w) x xs e (none_side side w h)
 none_side_takes b (accepts class) keep side w x xs e d h = absurd (cc)
 
-twice_seen : (P : World → Type 0) (side : Side) (w : World) → P w → P (seen_from side (seen_from side w))
-twice_seen P Left w h = h
-twice_seen P Right w h = back P w h
-
 ends_or_not : (P : World → Type 0) (side : Side) (n : ℕ) (w : World) → P (seen_from side (ended_at n (seen_from side w))) → P w → P (seen_from side (ends_there n (seen_from side w)))
-ends_or_not P side n w h k = by_test (is_given (seen_from side w).own.transport)
-    (λ e. rw e h)
-    (λ e. rw e (twice_seen P side w k))
+ends_or_not P side n w h k = grind arith
 
 dead_ends_at : (side : Side) (n : ℕ) (w : World) → IsDead w → IsDead (seen_from side (ended_at n (seen_from side w)))
 dead_ends_at Left n w h = dead_ends n w h
@@ -304,18 +295,7 @@ lost_calm terms m side e keep t g c = marked_calm side e _
 
 -- a side ends that has closed: the connection is over, and all others are dead
 closed_loses : (d side : Side) (m : Machine) → is_some (end_of side m) ≡ false → loses (end_of d (marked_ended side closed_here m)) ≡ false → loses (end_of d m) ≡ false
-closed_loses Left Left m i n = none_loses m.left_end i
-  where
-    none_loses : (e : Option Ending) → is_some e ≡ false → loses e ≡ false
-    none_loses None h = refl
-    none_loses (Some x) h = absurd (cc)
-closed_loses Right Right m i n = none_loses m.right_end i
-  where
-    none_loses : (e : Option Ending) → is_some e ≡ false → loses e ≡ false
-    none_loses None h = refl
-    none_loses (Some x) h = absurd (cc)
-closed_loses Left Right m i n = n
-closed_loses Right Left m i n = n
+closed_loses d side m i n = search arith
 
 not_2 : (terms : Terms) → by_terms terms (Some class_0) ≡ true → is_class_2 terms ≡ false
 not_2 terms h = grind arith
@@ -464,16 +444,7 @@ none_waits (Some class) asked h n = absurd (cc)
 
 one_asked : (m : Machine) (w : World) → IsCalm m → (not (is_known m.known) && list_any is_waiting (map transport_of m.worlds)) ≡ false → is_class_0 m.known ≡ false → is_class_2 m.terms ≡ false
     → (known : Option Class) → m.known ≡ known → OneAlive (m.worlds ++ w ∷ [])
-one_asked m w c a z t None e =
-    let n = ap is_known e in
-    one_more m.worlds w (dead_all m.worlds (c.early n) (none_waits m.known (map transport_of m.worlds) a n))
-one_asked m w c a z t (Some class_0) e = absurd (let y = sym (ap is_class_0 e) ∙ z in cc)
-one_asked m w c a z t (Some class_2) e = absurd (two m.terms (subst (λ (k : Option Class). by_terms m.terms k ≡ true) e c.classes) t)
-  where
-    two : (terms : Terms) → by_terms terms (Some class_2) ≡ true → is_class_2 terms ≡ false → ⊥
-    two (accepts class_0) h k = absurd (cc)
-    two (accepts class_2) h k = absurd (cc)
-    two (denies r) h k = absurd (cc)
+one_asked m w c a z t known e = search (arith, one_more, dead_all, none_waits)
 
 asked_calm : (m : Machine) (o : Offer) (a : Option Refusal) → refusal m o ≡ a → IsCalm m → IsCalm (noted (connect_answered o a ∷ []) (asked_in m o a))
 asked_calm m o (Some e) q c = note_calm m (connect_answered o (Some e) ∷ []) (λ d. refl) c

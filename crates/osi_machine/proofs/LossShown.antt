@@ -1,5 +1,5 @@
 -- No message that is taken shows a loss, and no agreement is under way where a called end denies.
-use Rattle.std.proofs.Common.{◌≡◌, refl, sym, ◌∙◌, ap, ℕ, Bool, true, false, not, if◌then◌else◌, List, [], ◌∷◌, Option, Some, None, inl, inr}
+use Rattle.std.proofs.Common.{◌≡◌, refl, sym, ◌∙◌, ap, ℕ, Bool, true, false, not, if◌then◌else◌, List, [], ◌∷◌, Option, Some, None, inl, inr, arith}
 use Rattle.osi_session.specs.Respond.{judged}
 use Rattle.osi_session.specs.declared.faults.UnitFault.{UnitFault}
 use Rattle.osi_session.specs.declared.faults.UnitFault.TheVariants.{Unexpected}
@@ -18,44 +18,11 @@ is_lost i = false
 -- ---- a unit
 
 good_keeps : (s : State) (u : Meaning) → list_any is_lost (shown_for s u) ≡ false
-good_keeps s (CN v r n w from to z o) = by_test (is_acceptable v r z) (λ e. rw e) (λ e. rw e)
-good_keeps s (RS k n w o) = by_test (stands s n) (λ q. rw q) (λ q. rw q)
-good_keeps s (AB bits o) = by (is_wait_cn s.phase) (names bits 2)
-  where
-    by : (a b : Bool) → list_any is_lost (if a then [] else (if b then Aborted o else PeerAbort bits) ∷ []) ≡ false
-    by true b = refl
-    by false true = refl
-    by false false = refl
-good_keeps s _ = refl
+good_keeps s u = search arith
 
 pub unit_keeps : (s : State) (u : Meaning) → list_any is_lost (respond_unit s u).shown ≡ false
 unfolding respond_unit take_expected
-unit_keeps s u =
-    first (is_aborting s.phase) (in_aborting s u)
-    (if is_ended s.phase then in_ended s u else if drops s u then nothing s else if not (is_expected s.phase u) then bad s (Unexpected (si u)) else take_expected s u)
-    (aborting u)
-    (first (is_ended s.phase) (in_ended s u) (if drops s u then nothing s else if not (is_expected s.phase u) then bad s (Unexpected (si u)) else take_expected s u)
-    (ended u)
-    (first (drops s u) (nothing s) (if not (is_expected s.phase u) then bad s (Unexpected (si u)) else take_expected s u)
-    refl
-    (first (not (is_expected s.phase u)) (bad s (Unexpected (si u))) (take_expected s u) (by_test (is_wait_cn s.phase) (λ e. rw e) (λ e. rw e)) (by (first_fault (si u) (conditions s u))))))
-  where
-    aborting : (m : Meaning) → list_any is_lost (in_aborting s m).shown ≡ false
-    aborting (AB b o) = refl
-    aborting AA = refl
-    aborting _ = refl
-
-    ended : (m : Meaning) → list_any is_lost (in_ended s m).shown ≡ false
-    ended (AB b o) = refl
-    ended _ = refl
-
-    first : (b : Bool) (x y : Outcome) → list_any is_lost x.shown ≡ false → list_any is_lost y.shown ≡ false → list_any is_lost (if b then x else y).shown ≡ false
-    first true x y h k = h
-    first false x y h k = k
-
-    by : (f : Option UnitFault) → list_any is_lost (judged s u f).shown ≡ false
-    by None = good_keeps s u
-    by (Some fault) = by_test (is_wait_cn s.phase) (λ e. rw e) (λ e. rw e)
+unit_keeps s u = search (arith, good_keeps)
 
 -- ---- a message
 

@@ -4,10 +4,9 @@ use Rattle.osi_machine.specs.Core.{turned as turned_core}
 use Rattle.osi_machine.proofs.Vocabulary.{or_comm, slice_get, has, is_over, FunctionalUnits, Item, Point, PointKind, points, Begins, Agree, turned_owner, is_own, Offer, Left, Right, Core, is_opening, World, turned, session_of, Machine, Entry, connection_at, Told, told_of, IsRun, OfEach, HasOneHolder, ShowNoFault, RecordsAgree, ShownAsAsked, ConfirmedThere, ConfirmedInBoth}
 use Rattle.osi_machine.proofs.CoreLaws.{SessionLaws}
 use Rattle.osi_machine.proofs.Records.{Stands}
-use Rattle.osi_machine.proofs.Tokens.{has_set}
 use Rattle.osi_machine.proofs.Alive.{alive}
 use Rattle.osi_machine.proofs.Begun.{flush_open}
-use Rattle.osi_machine.proofs.Promises.{one_owner, views_agree, got_what_was_said, confirmed_is_seen, none_in_nil, sees_the_history}
+use Rattle.osi_machine.proofs.Promises.{views_agree, got_what_was_said, confirmed_is_seen, none_in_nil, sees_the_history}
 use Rattle.osi_machine.proofs.HistoryLaws.{points_append}
 use Rattle.osi_machine.proofs.Heard.{begins_points}
 use Rattle.osi_machine.proofs.ViewFold.{Tells}
@@ -52,16 +51,12 @@ stage_at laws m h (suc r) w e =
 -- ---- one holder
 
 pub one_holder_there : (w : World) (s t : Told) → HasOneHolder w s t
-one_holder_there w s t k =
-    ap (λ (b : Bool). b && has (session_of (turned w)).held k) (has_set (λ k. is_own (w.owner k)) k)
-    ∙ ap (λ (b : Bool). is_own (w.owner k) && b) (has_set (λ k. is_own (turned_owner (w.owner k))) k) ∙ one_owner (w.owner k)
+one_holder_there w s t k = grind arith
 
 -- ---- no fault
 
 pub show_no_fault : (b : Bool) (w : World) (s t : Told) → Stage b w s t → ShowNoFault w s t
-show_no_fault b w s t (inl h) = (ap (λ (d : Told). d.faulted) h.own_told, ap (λ (d : Told). d.faulted) h.peer_told)
-show_no_fault b w s t (inr (inl h)) = (ap (λ (d : Told). d.faulted) h.peer_told, ap (λ (d : Told). d.faulted) h.own_told)
-show_no_fault b w s t (inr (inr h)) = (h.own.fine, h.peer.fine)
+show_no_fault b w s t h4 = search arith
 
 -- ---- the views
 

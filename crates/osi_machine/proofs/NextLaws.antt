@@ -16,10 +16,7 @@ use Rattle.osi_machine.proofs.TablePromises.{sides_of_runs}
 -- ---- data that comes next
 
 pub unit_that_fits : (s : State) (u : Meaning) → Fits s u → is_over s.phase ≡ false → is_faulty (verdict s u) ≡ false
-unit_that_fits s u f o = elim (cases_Bool (drops s u)) [
-  | inl d ↦ rw (o, d) refl
-  | inr d ↦ ap is_faulty (good_is_fine s u o d (f.good d))
-]
+unit_that_fits s u f o = search (arith, cases_Bool, good_is_fine)
 
 pub unit_when_over : (s : State) (u : Meaning) → is_over s.phase ≡ true → is_faulty (verdict s u) ≡ false
 unit_when_over s u o = rw o refl
@@ -64,12 +61,7 @@ no_ask_leaves : (way : Way) → list_any is_leaving (asks way) ≡ false
 no_ask_leaves way = grind arith
 
 over_when_left : (b : Bool) (w : World) (t u : Told) → Stage b w t u → IsOverWhenLeft (session_of w) w.peer.channel
-over_when_left b w t u (inl h) e = not_both _ e (ap (list_any is_leaving) h.peer_channel ∙ no_reply_leaves h.way)
-over_when_left b w t u (inr (inl h)) e = not_both _ e (ap (list_any is_leaving) h.own_channel ∙ no_ask_leaves h.way)
-over_when_left b w t u (inr (inr h)) e = elim (cases_Bool (is_over (session_of w).phase)) [
-  | inl o ↦ o
-  | inr o ↦ let c = h.projects.own.carried o in not_both _ e (ap (list_any is_leaving) c.carries ∙ no_unit_leaves (c.there ++ c.tail))
-]
+over_when_left b w t u h4 e = search (arith, not_both, no_reply_leaves, no_ask_leaves, cases_Bool, no_unit_leaves)
 
 over_when_both_left : SessionLaws → (m : Machine) → IsRun m → (r : ℕ) (w : World) → connection_at r m.worlds ≡ Some w
     → IsOverWhenLeft (session_of w) w.peer.channel × IsOverWhenLeft (session_of (turned w)) w.own.channel

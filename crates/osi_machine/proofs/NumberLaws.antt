@@ -1,7 +1,7 @@
 -- The lower of two numbers, and what the units on the way do to the direction of points.
 use Rattle.std.proofs.Common.{◌≡◌, refl, ℕ, ◌≤◌, ◌<◌, true, false, ◌||◌, nat_lt, if◌then◌else◌, List, [], ◌∷◌, arith}
 use Rattle.osi_machine.proofs.Vocabulary.{ltb-true, ltb-false, or_parts, list_any, State, Meaning, CN, AC, RF, DT, GT, PT, MIP, MIA, MAP, MAA, RS, RA, FN, DN, NF, AB, AA, data_token, lower, is_wait_cn, is_connecting, stands, point_taken, minor_confirmed, major_confirmed, restarted_at, becomes, next, Good, is_plain, AllFit, heard, stops, needs_token, is_opening}
-use Rattle.osi_machine.proofs.PhaseLaws.{implied, by_test}
+use Rattle.osi_machine.proofs.PhaseLaws.{by_test}
 use Rattle.osi_machine.proofs.Units.{next_cases, fit_cases, chosen}
 use Rattle.osi_machine.proofs.ChannelLaws.{kept_heard}
 
@@ -36,23 +36,7 @@ pub record Turned (s : State) : Type 0 where
 
 becomes_turned : (s : State) (u : Meaning) → is_plain u ≡ true → Good s u → Turned s → Turned (becomes s u)
 unfolding point_taken minor_confirmed major_confirmed restarted_at
-becomes_turned s (CN v u n w from to z o) p g h = absurd (let e = implied is_wait_cn is_opening refl s.phase g.expected in let f = h.phase in cc)
-becomes_turned s (AC v u n w z o) p g h = absurd (let e = implied is_connecting is_opening refl s.phase g.expected in let f = h.phase in cc)
-becomes_turned s (RF r o) p g h = absurd (cc)
-becomes_turned s (DT o) p g h = h
-becomes_turned s (GT k) p g h = record { phase = h.phase; answers = h.answers }
-becomes_turned s (PT k o) p g h = h
-becomes_turned s (MIP c n o) p g h = record { phase = h.phase; answers = refl }
-becomes_turned s (MIA n o) p g h = record { phase = h.phase; answers = h.answers }
-becomes_turned s (MAP n o) p g h = record { phase = refl; answers = refl }
-becomes_turned s (MAA n o) p g h = record { phase = refl; answers = h.answers }
-becomes_turned s (RS k n w o) p g h = chosen Turned (stands s n) _ s (record { phase = refl; answers = h.answers }) h
-becomes_turned s (RA n w o) p g h = record { phase = refl; answers = h.answers }
-becomes_turned s (FN o) p g h = record { phase = refl; answers = h.answers }
-becomes_turned s (DN o) p g h = absurd (cc)
-becomes_turned s (NF o) p g h = record { phase = refl; answers = h.answers }
-becomes_turned s (AB x o) p g h = absurd (cc)
-becomes_turned s AA p g h = absurd (cc)
+becomes_turned s u p g h = grind arith
 
 -- no unit turns it back
 pub heard_turned : (s : State) (us : List Meaning) → Turned s → AllFit s us → Turned (heard s us)

@@ -7,24 +7,8 @@ abbrev pub every : (Phase → Bool) → Bool
 every f = f WaitTransport && (f WaitCn && (f Connecting && (f Answering && (f Ready && (f MajorAsked && (f MajorDue
     && (f Releasing && (f ReleaseDue && (f Restarting && (f RestartDue && (f Aborting && f Ended)))))))))))
 
-each_part : (a b c d e i j k l m n o p : Bool) → (a && (b && (c && (d && (e && (i && (j && (k && (l && (m && (n && (o && p)))))))))))) ≡ true → (a ≡ true) × (b ≡ true) × (c ≡ true) × (d ≡ true) × (e ≡ true) × (i ≡ true) × (j ≡ true) × (k ≡ true) × (l ≡ true) × (m ≡ true) × (n ≡ true) × (o ≡ true) × (p ≡ true)
-each_part true true true true true true true true true true true true true h = (refl, refl, refl, refl, refl, refl, refl, refl, refl, refl, refl, refl, refl)
-each_part _ _ _ _ _ _ _ _ _ _ _ _ _ h = absurd (cc)
-
 pub every_is : (f : Phase → Bool) → every f ≡ true → (p : Phase) → f p ≡ true
-every_is f h WaitTransport = (each_part (f WaitTransport) (f WaitCn) (f Connecting) (f Answering) (f Ready) (f MajorAsked) (f MajorDue) (f Releasing) (f ReleaseDue) (f Restarting) (f RestartDue) (f Aborting) (f Ended) h).0
-every_is f h WaitCn = (each_part (f WaitTransport) (f WaitCn) (f Connecting) (f Answering) (f Ready) (f MajorAsked) (f MajorDue) (f Releasing) (f ReleaseDue) (f Restarting) (f RestartDue) (f Aborting) (f Ended) h).1
-every_is f h Connecting = (each_part (f WaitTransport) (f WaitCn) (f Connecting) (f Answering) (f Ready) (f MajorAsked) (f MajorDue) (f Releasing) (f ReleaseDue) (f Restarting) (f RestartDue) (f Aborting) (f Ended) h).2
-every_is f h Answering = (each_part (f WaitTransport) (f WaitCn) (f Connecting) (f Answering) (f Ready) (f MajorAsked) (f MajorDue) (f Releasing) (f ReleaseDue) (f Restarting) (f RestartDue) (f Aborting) (f Ended) h).3
-every_is f h Ready = (each_part (f WaitTransport) (f WaitCn) (f Connecting) (f Answering) (f Ready) (f MajorAsked) (f MajorDue) (f Releasing) (f ReleaseDue) (f Restarting) (f RestartDue) (f Aborting) (f Ended) h).4
-every_is f h MajorAsked = (each_part (f WaitTransport) (f WaitCn) (f Connecting) (f Answering) (f Ready) (f MajorAsked) (f MajorDue) (f Releasing) (f ReleaseDue) (f Restarting) (f RestartDue) (f Aborting) (f Ended) h).5
-every_is f h MajorDue = (each_part (f WaitTransport) (f WaitCn) (f Connecting) (f Answering) (f Ready) (f MajorAsked) (f MajorDue) (f Releasing) (f ReleaseDue) (f Restarting) (f RestartDue) (f Aborting) (f Ended) h).6
-every_is f h Releasing = (each_part (f WaitTransport) (f WaitCn) (f Connecting) (f Answering) (f Ready) (f MajorAsked) (f MajorDue) (f Releasing) (f ReleaseDue) (f Restarting) (f RestartDue) (f Aborting) (f Ended) h).7
-every_is f h ReleaseDue = (each_part (f WaitTransport) (f WaitCn) (f Connecting) (f Answering) (f Ready) (f MajorAsked) (f MajorDue) (f Releasing) (f ReleaseDue) (f Restarting) (f RestartDue) (f Aborting) (f Ended) h).8
-every_is f h Restarting = (each_part (f WaitTransport) (f WaitCn) (f Connecting) (f Answering) (f Ready) (f MajorAsked) (f MajorDue) (f Releasing) (f ReleaseDue) (f Restarting) (f RestartDue) (f Aborting) (f Ended) h).9
-every_is f h RestartDue = (each_part (f WaitTransport) (f WaitCn) (f Connecting) (f Answering) (f Ready) (f MajorAsked) (f MajorDue) (f Releasing) (f ReleaseDue) (f Restarting) (f RestartDue) (f Aborting) (f Ended) h).10
-every_is f h Aborting = (each_part (f WaitTransport) (f WaitCn) (f Connecting) (f Answering) (f Ready) (f MajorAsked) (f MajorDue) (f Releasing) (f ReleaseDue) (f Restarting) (f RestartDue) (f Aborting) (f Ended) h).11
-every_is f h Ended = (each_part (f WaitTransport) (f WaitCn) (f Connecting) (f Answering) (f Ready) (f MajorAsked) (f MajorDue) (f Releasing) (f ReleaseDue) (f Restarting) (f RestartDue) (f Aborting) (f Ended) h).12
+every_is f h p = grind arith
 
 pub cut_or : (a b : Bool) → (not a || b) ≡ true → a ≡ true → b ≡ true
 cut_or true b h k = h

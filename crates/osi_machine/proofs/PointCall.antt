@@ -1,8 +1,7 @@
 -- The calls of Minor and of Major keep what is true of both sides.
 use Rattle.std.proofs.Common.{◌≡◌, refl, sym, ◌∙◌, ap, subst, ℕ, ◌+◌, ◌==◌, ◌≤◌, ◌<◌, Bool, true, false, not, ◌&&◌, ◌||◌, nat_le, nat_lt, if◌then◌else◌, List, [], ◌∷◌, ◌++◌, ◌⊎◌, inl, inr, Ok, arith}
 use Rattle.osi_machine.proofs.Vocabulary.{and_parts, ltb-true, leb-true, lt-ltb, le-leb, eq-eqb, or_left, and_from, not-true, not-false, and_right, list_any, State, Phase, Numbers, FunctionalUnits, Ready, MajorAsked, Meaning, DT, GT, PT, MIP, MIA, MAP, RS, FN, Token, data_token, minor, major, has, available, has_right, is_ready, is_major_asked, is_restarting, is_restart_due, may_ask, may_hold, takes_please, takes_minor_ack, takes_restart, lower, point_sent, point_taken, minor_confirmed, becomes, drops, next, Good, has_no_effect, passes_restarting, Minor, Major, after, Item, PointKind, Point, points, minor_kind, major_point, AreNumberedFrom, is_plain, heard_view, stops, needs_token, Core, answered, is_opening, AreConsistent}
-use Rattle.osi_machine.proofs.PhaseLaws.{implied, excluded, implied_two, by_either, by_test}
-use Rattle.osi_machine.proofs.Units.{next_dropped}
+use Rattle.osi_machine.proofs.PhaseLaws.{implied, excluded, implied_two, by_test}
 use Rattle.osi_machine.proofs.ChannelLaws.{heard_flush}
 use Rattle.osi_machine.proofs.Tokens.{Holds, empty_has, united_has, nothing_to_see, heard_holds}
 use Rattle.osi_machine.proofs.Begun.{none_needs, flush_open, heard_open}
@@ -108,11 +107,7 @@ unfolding available
 has_data u p d = not-false u.half_duplex (sym p.duplex ∙ d)
 
 pub holds_data : (w : Core) → Points w → Stands w → has w.own.session.held data_token ≡ true
-holds_data w a h =
-    let profile : IsOfProfile w.own.session.units = subst IsOfProfile (own_units w a h) h.pair.profile in
-    by_either a.right
-    (λ e. e)
-    (λ e. absurd (let f = has_data w.own.session.units profile (is_half w.own.session.units profile a.selected) in cc))
+holds_data w a h = search (arith, own_units, has_data, is_half)
 
 owed : (w : Core) → Points w → Stands w → is_restart_due (flushed w.peer w.own).phase ≡ false
 owed w a h = none_owed w.owner w.own w.peer h.own (excluded is_ready is_restarting refl w.own.session.phase a.phase)
@@ -136,29 +131,17 @@ end_base w a h = (flush_open w.own.session w.peer.sent (excluded is_ready is_ope
 -- the number of the other, where it listens
 pub other_number : (w : Core) → Stands w → (flushed w.peer w.own).base ≡ w.own.session.base → hearing w.peer w.own ≡ flushed w.peer w.own
     → is_restarting (flushed w.peer w.own).phase ≡ false → (flushed w.peer w.own).numbers.next ≡ w.own.session.base + points w.history
-other_number w h b e l =
-    let c = heard_counted w.peer.session w.own.sent w.peer.view
-    (record { count = h.consistent.peer.count; fresh = λ o. (h.consistent.peer.fresh o).view }) h.peer.fits in
-    let v = h.peer_views.ends (ap (λ (q : State). not (is_restarting q.phase)) e ∙ ap not l) in
-    ap (λ (q : State). q.numbers.next) (sym e) ∙ c.count
-    ∙ ap (λ (q : State). q.base + points (heard_view w.peer.session w.own.sent w.peer.view)) e
-    ∙ ap (λ (n : ℕ). n + points (heard_view w.peer.session w.own.sent w.peer.view)) b
-    ∙ ap (λ (k : List Item). w.own.session.base + points k) v
+other_number w h b e l = search (arith, heard_counted)
 
 -- what of the history is there was seen by a side to which no point is under way
 pub other_saw : (w : Core) → Stands w → hearing w.peer w.own ≡ flushed w.peer w.own → is_restarting (flushed w.peer w.own).phase ≡ false
     → (flushed w.peer w.own).numbers.answers ≡ false → points w.peer.view ≡ points w.history
-other_saw w h e l n =
-    sym (unseen w.peer.session w.own.sent w.peer.view h.peer.fits (ap (λ (q : State). q.numbers.answers) e ∙ n))
-    ∙ ap points (h.peer_views.ends (ap (λ (q : State). not (is_restarting q.phase)) e ∙ ap not l))
+other_saw w h e l n = search (arith, unseen)
 
 -- so each number up to V(M) of the history is below its own
 pub other_above : (w : Core) (n : ℕ) → Stands w → w.peer.session.base ≡ w.own.session.base ⊎ (is_opening w.peer.session.phase ≡ true) → points w.peer.view ≡ points w.history
     → w.own.session.base ≤ n → n < w.own.session.base + points w.history → n < w.peer.session.numbers.next
-other_above w n h b e from to = by_either b
-    (λ q. let c = h.consistent.peer.count in omega arith)
-    (λ q. let f = ap points (h.consistent.peer.fresh q).view in
-    absurd (omega arith))
+other_above w n h b e from to = search arith
 
 -- ---- the lines on numbers
 
@@ -168,9 +151,7 @@ heard_there s m w d = grind arith
 
 -- a side that hears after it heard before
 pub hears_there : (s : State) (m : Meaning) → passes_restarting m ≡ false → not (is_restarting (next s m).phase) ≡ true → is_restarting s.phase ≡ false
-hears_there s m w l = by_test (drops s m)
-    (λ d. not-true (is_restarting s.phase) (ap (λ (q : State). not (is_restarting q.phase)) (sym (next_dropped s m d)) ∙ l))
-    (λ d. heard_there s m w d)
+hears_there s m w l = grind arith
 
 ends_same : (w : Core) → Points w → Stands w → hearing w.peer w.own ≡ flushed w.peer w.own
 ends_same w a h = heard_flush w.peer.session w.own.sent h.peer.fits (owed w a h)
@@ -185,20 +166,14 @@ same_base w a h = by_test (is_opening w.peer.session.phase)
 
 -- the number of this side, just before a restart that stands
 heard_number : (w : Core) → Points w → Stands w → (hearing w.own w.peer).numbers.next ≡ w.own.session.base + points w.history
-heard_number w a h =
-    let c = heard_counted w.own.session w.peer.sent w.own.view (record { count = h.consistent.own.count; fresh = λ o. (h.consistent.own.fresh o).view }) h.own.fits in
-    let b = (heard_open w.own.session w.peer.sent (excluded is_ready is_opening refl w.own.session.phase a.phase) h.own.fits).base in
-    c.count ∙ ap (λ (n : ℕ). n + points (heard_view w.own.session w.peer.sent w.own.view)) b
-    ∙ ap (λ (v : List Item). w.own.session.base + points v) (h.own_views.ends (heeds w a h))
+heard_number w a h = search (arith, heard_counted, heard_open, excluded, heeds)
 
 nothing_needed : (w : Core) → Points w → Stands w → list_any (needs_token data_token) w.peer.sent ≡ false
 nothing_needed w a h = none_needs data_token w.own.session w.peer.sent (holding w a h) h.own.fits
 
 -- where points were taken last here, none is under way there
 both_answer : (w : Core) → Points w → Stands w → (hearing w.own w.peer).numbers.answers ≡ true → (flushed w.peer w.own).numbers.answers ≡ false
-both_answer w a h t = by_test w.own.session.numbers.answers
-    (λ e. ap (λ (q : State). q.numbers.answers) (sym (ends_same w a h)) ∙ h.own_counts.flag e)
-    (λ e. absurd (let n = heard_sends w.own.session w.peer.sent (nothing_needed w a h) e in cc))
+both_answer w a h t = search (arith, ends_same, heard_sends, nothing_needed)
 
 pub point_below : (w : Core) (n : ℕ) → Points w → Stands w → is_restarting (flushed w.peer w.own).phase ≡ false → (hearing w.own w.peer).base ≤ n
     → n < (if (hearing w.own w.peer).numbers.answers then (hearing w.own w.peer).numbers.next else (hearing w.own w.peer).numbers.confirmed)
@@ -213,9 +188,7 @@ point_below w n a h l from to = by_test (hearing w.own w.peer).numbers.answers
 pub point_reach : (w : Core) → Stands w → w.peer.session.numbers.answers ≡ true
     → lower w.peer.session.numbers.next (if (hearing w.own w.peer).numbers.answers then (hearing w.own w.peer).numbers.next else (hearing w.own w.peer).numbers.confirmed)
     ≤ w.peer.session.numbers.confirmed
-point_reach w h t =
-    subst (λ (b : Bool). lower w.peer.session.numbers.next (if b then (hearing w.own w.peer).numbers.next else (hearing w.own w.peer).numbers.confirmed) ≤ w.peer.session.numbers.confirmed)
-    (sym (h.peer_counts.flag t)) (h.own_counts.reach t)
+point_reach w h t = search arith
 
 pub point_other_below : (w : Core) (m : Meaning) (n : ℕ) → Points w → Stands w → passes_restarting m ≡ false → ((s : State) → (becomes s m).numbers ≡ point_taken s.numbers)
     → (flushed w.peer w.own).base ≤ n → n < (next (flushed w.peer w.own) m).numbers.confirmed → n < w.own.session.numbers.next + 1
@@ -245,9 +218,7 @@ point_no_duplex w a h = is_half (flushed w.own w.peer).units h.pair.profile (sub
 
 pub point_numbered : (w : Core) (k : PointKind) (octets : List ℕ) → Points w → Stands w → AreNumberedFrom (flushed w.own w.peer).base w.history
     → AreNumberedFrom (flushed w.own w.peer).base (w.history ++ Point w.own.session.numbers.next k octets ∷ [])
-point_numbered w k octets a h p =
-    numbered_point (flushed w.own w.peer).base w.history (Point w.own.session.numbers.next k octets)
-    (own_number w a h ∙ ap (λ (b : ℕ). b + points w.history) (sym (end_base w a h)), tt) p
+point_numbered w k octets a h p = search (arith, numbered_point, own_number, end_base)
 
 pub point_one_way : (w : Core) (m : Meaning) → Points w → Stands w
     → (list_any (needs_token data_token) (w.own.sent ++ m ∷ []) && list_any (needs_token data_token) w.peer.sent) ≡ false

@@ -12,20 +12,11 @@ no_bits : (n : ℕ) → bit_and n 0 ≡ 0
 no_bits n = let e = and_le_r n 0 in omega arith
 
 no_duplex : (bits : ℕ) → bit_and bits 185 ≡ bits → names bits 2 ≡ false
-no_duplex bits e =
-    let none : bit_and bits 2 ≡ 0 = ap (λ (n : ℕ). bit_and n 2) (sym e) ∙ and_assoc 2 bits 185 ∙ no_bits bits in
-    ap (λ (n : ℕ). n == 2) none
+no_duplex bits e = search (arith, and_assoc, no_bits)
 
 pub profile_of : (bits : ℕ) → is_profile bits ≡ true → IsOfProfile (functional_units bits)
 unfolding is_profile
-profile_of bits h =
-    let alone : IsOfProfile (functional_units 2) = record { duplex = refl; alone = λ d. (refl, refl, refl, refl) } in
-    by_test (bits == 2)
-    (λ e. subst (λ (n : ℕ). IsOfProfile (functional_units n)) (sym (eqb-true bits 2 e)) alone)
-    (λ e. let k = rw e at h in let p = and_parts (bit_and bits 185 == bits) (names bits 1) k in
-    let half = p.1 in
-    let none = no_duplex bits (eqb-true (bit_and bits 185) bits p.0) in
-    record { duplex = none ∙ sym (ap not half); alone = λ d. absurd (cc) })
+profile_of bits h = search (arith, eqb-true, and_parts, no_duplex)
 
 pub profile_data : (u : FunctionalUnits) → IsOfProfile u → has_data u ≡ true
 unfolding has_data
@@ -45,20 +36,7 @@ part_both a b h = grind arith
 -- what both name is what was selected
 pub within_both : (a b : FunctionalUnits) → units_within a b ≡ true → both_units b a ≡ a
 unfolding units_within both_units
-within_both a b h =
-    let p = and_parts (not a.half_duplex || b.half_duplex) _ h in
-    let q = and_parts (not a.duplex || b.duplex) _ p.1 in
-    let r = and_parts (not a.minor || b.minor) _ q.1 in
-    let s = and_parts (not a.major || b.major) _ r.1 in
-    let t = and_parts (not a.resynchronize || b.resynchronize) (not a.negotiated_release || b.negotiated_release) s.1 in
-    λ i. record {
-      half_duplex = part_both a.half_duplex b.half_duplex p.0 i;
-      duplex = part_both a.duplex b.duplex q.0 i;
-      minor = part_both a.minor b.minor r.0 i;
-      major = part_both a.major b.major s.0 i;
-      resynchronize = part_both a.resynchronize b.resynchronize t.0 i;
-      negotiated_release = part_both a.negotiated_release b.negotiated_release t.1 i;
-    }
+within_both a b h = search (arith, and_parts, part_both)
 
 -- ---- the first number
 

@@ -6,7 +6,7 @@ use Rattle.osi_machine.proofs.Records.{Stands}
 use Rattle.osi_machine.proofs.Idle.{append_nil}
 use Rattle.osi_machine.proofs.Promises.{sees_the_history}
 use Rattle.osi_machine.proofs.RestartCall.{same_cut, in_range, given_theirs}
-use Rattle.osi_machine.proofs.Projects.{stopped, parts, IsLast, IsTail, Carried, OneSide, Projects, one_over}
+use Rattle.osi_machine.proofs.Projects.{stopped, IsLast, IsTail, Carried, OneSide, Projects, one_over}
 use Rattle.osi_machine.proofs.PhaseLaws.{by_either, by_test}
 
 -- ---- channels
@@ -88,31 +88,12 @@ call_plain s c k = grind arith
 
 marked : (c : Core) (x : Call) (h : List Item) (mark : ℕ) → Stands c → Passed c.own.session x (record { next = after c.own.session x; sent = sends c.own.session x })
     → h ≡ c.history → mark ≡ length c.own.view → mark_called c.own.session x h mark ≡ length (view_called c.own.session x c.own.view)
-marked c (Restart n x o) h mark s p e m =
-    let range = in_range c.own.session n s.consistent.own.sound p.needed.1.0 in
-    let le = subst (λ (k : ℕ). n ≤ k) s.consistent.own.count range.1 in
-    ap (λ (g : List Item). length (cutat c.own.session.base g n)) e
-    ∙ ap length (sym (same_cut c.own.session.base n c.own.view c.history (sees_the_history c s) le))
-marked c x h mark s p e m = ap (λ (n : ℕ). n + length (says c.own.session x)) m ∙ sym (length-append c.own.view (says c.own.session x))
+marked c x h mark s p e m = search (arith, in_range, same_cut, sees_the_history, length-append)
 
 called_own : (broken : Bool) (w : World) (c : Core) (x : Call) → stays_in_core x ≡ true → stopped w.own ≡ false → Projects broken w c → Stands c
     → Passed c.own.session x (granted c.own.session x)
     → OneSide broken (after_call broken c.own.session x (granted c.own.session x) w) (answered c x (Ok (granted c.own.session x)))
-called_own broken w c x k lives p s q =
-    let a = p.own.alike lives in
-    let s' = c.own.session in
-    let now = call_lives s' x k (ap (λ (r : Kept). is_over r.phase) (sym a.kept) ∙ lives) in
-    record {
-      begun = p.own.begun;
-      counted = record { acked = refl; based = refl; marked = marked c x w.history w.own.mark s q p.history a.mark };
-      alike = λ l. grind (arith, marked, left_lives, owns_called);
-      carried = λ l. p.own.carried lives;
-      parted = λ l. parted broken (p.own.parted lives);
-    }
-  where
-    parted : (b : Bool) → list_any parts w.own.channel ≡ false → list_any parts (put b (unit (sends c.own.session x) ∷ []) w.own.channel) ≡ false
-    parted true e = e
-    parted false e = any_append parts w.own.channel (unit (sends c.own.session x)) (ap not (call_plain c.own.session x k)) ∙ e
+called_own broken w c x k lives p s q = search (arith, call_lives, marked, left_lives, owns_called, any_append, call_plain)
 
 pub call_projects : SessionLaws → (broken : Bool) (w : World) (c : Core) (x : Call) (g : Granted) → stays_in_core x ≡ true → stopped w.own ≡ false → Projects broken w c → Stands c
     → allowed c.own.session x ≡ Ok g → Projects broken (after_call broken c.own.session x g w) (answered c x (Ok g))

@@ -2,10 +2,9 @@
 use Rattle.std.proofs.Common.{◌≡◌, refl, sym, ◌∙◌, ap, ℕ, zero, suc, Bool, true, false, ◌||◌, List, [], ◌∷◌, ◌++◌, map, take, arith}
 use Rattle.osi_machine.specs.Core.{turned}
 use Rattle.osi_machine.proofs.Vocabulary.{list_any, State, Meaning, lost, Core, Message, unit, bye, over, Transport, linked, gone, World, session_of, moved, shortened, closed, ended_at, turned as turned_world, without_first, or_parts}
-use Rattle.osi_machine.proofs.Projects.{stopped, parts, IsTail, Carried, OneSide, Projects, both_over, not_both, one_over}
+use Rattle.osi_machine.proofs.Projects.{stopped, parts, IsTail, Carried, OneSide, Projects, both_over, one_over}
 use Rattle.osi_machine.proofs.ProjectCall.{left_theirs}
 use Rattle.osi_machine.proofs.RestartFlow.{or_true}
-use Rattle.osi_machine.proofs.PhaseLaws.{by_test}
 
 -- ---- a suffix of a channel is lost
 
@@ -75,15 +74,7 @@ break_projects k j broken w c p = assumption (cut_side k j broken w c p.own, cut
 
 -- what a broken connection leaves in a channel
 ended_peer : (k : ℕ) (broken : Bool) (w : World) (c : Core) → OneSide broken (turned_world w) (turned c) → OneSide broken (turned_world (ended_at k w)) (turned c)
-ended_peer k broken w c h = record {
-  begun = h.begun;
-  counted = h.counted;
-  alike = λ l.
-      let a = h.alike l in
-      grind (arith, left_theirs);
-  carried = λ l. carried_cut k broken broken (stopped w.own) true w.own.channel c.own.sent c.own.session (λ e. refl) refl (h.carried l);
-  parted = h.parted;
-}
+ended_peer k broken w c h = search (arith, left_theirs, carried_cut)
 
 pub end_projects : (k : ℕ) (broken : Bool) (w : World) (c : Core) → Projects broken w c → Projects broken (ended_at k w) c
 end_projects k broken w c p = assumption (one_over broken (ended_at k w) c refl refl p.own.counted, ended_peer k broken w c p.peer)
@@ -102,9 +93,7 @@ comes_unit broken w c m ms p l e = let k = p.own.carried l in units_alone m ms (
 
 -- and whose sender is not over when a message parts
 pub parting_over : (broken : Bool) (w : World) (c : Core) (m : Message) (ms : List Message) → Projects broken w c → w.peer.channel ≡ m ∷ ms → parts m ≡ true → stopped w.peer ≡ true
-parting_over broken w c m ms p e q = by_test (stopped w.peer)
-    (λ l. l)
-    (λ l. rw l (not_both (parts m) q (or_parts (parts m) (list_any parts ms) (ap (list_any parts) (sym e) ∙ p.peer.parted l)).0))
+parting_over broken w c m ms p e q = grind arith
 
 abbrev pub is_linked : Transport → Bool
 is_linked linked = true
@@ -112,9 +101,7 @@ is_linked _ = false
 
 -- a side whose transport connection is not open is over
 pub unlinked_over : (broken : Bool) (w : World) (c : Core) → Projects broken w c → is_linked w.own.transport ≡ false → stopped w.own ≡ true
-unlinked_over broken w c p e = by_test (stopped w.own)
-    (λ l. l)
-    (λ l. rw l (not_both (is_linked w.own.transport) (ap is_linked (p.own.alike l).transport) e))
+unlinked_over broken w c p e = grind arith
 
 -- ---- a message that changes nothing
 
@@ -135,6 +122,4 @@ closed_projects broken k w c p o d = both_over broken (closed broken k w) c p.hi
 -- a bye is taken by a side whose transport connection is open
 pub bye_projects : (broken : Bool) (k : ℕ) (w : World) (c : Core) (reason : ℕ) (ms : List Message) → Projects broken w c → w.peer.channel ≡ bye reason ∷ ms
     → Projects broken (moved broken gone (lost (session_of (without_first w ms))).next (over ∷ []) (shortened k (without_first w ms))) c
-bye_projects broken k w c reason ms p e =
-    both_over broken (moved broken gone (lost (session_of (without_first w ms))).next (over ∷ []) (shortened k (without_first w ms))) c p.history refl refl p.peer.begun
-    (parting_over broken w c (bye reason) ms p e refl) p.own.counted p.peer.counted
+bye_projects broken k w c reason ms p e = grind arith

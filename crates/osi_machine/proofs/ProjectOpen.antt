@@ -5,10 +5,10 @@ use Rattle.osi_machine.specs.Core.{turned}
 use Rattle.osi_machine.proofs.Vocabulary.{list_any, State, Ended, Meaning, awaiting, without_tokens, turned_owner, Offer, offering, offer_sent, core_start, Message, unit, ask, agree, deny, Transport, not_yet, linked, gone, World, session_of, put, moved, Taking, unchanged, Terms, accepts, denies, asked_at, message_taken, turned as turned_world, without_first, Told}
 use Rattle.osi_machine.proofs.Promises.{offer_stands}
 use Rattle.osi_machine.proofs.ViewFold.{Tells, told_all}
-use Rattle.osi_machine.proofs.Projects.{stopped, parts, is_begun, Alike, Carried, OneSide, not_both}
+use Rattle.osi_machine.proofs.Projects.{stopped, parts, is_begun, Alike, Carried, OneSide}
 use Rattle.osi_machine.proofs.ProjectTake.{put_nothing}
 use Rattle.osi_machine.proofs.ProjectWorld.{Repeats}
-use Rattle.osi_machine.proofs.ProjectStart.{caller_zero, called_zero, Waits, Idle, Way, nothing_sent, asked, agreed, denied, asks, replies, suits, Opens, absent_left, absent_back}
+use Rattle.osi_machine.proofs.ProjectStart.{caller_zero, called_zero, Waits, Idle, Way, nothing_sent, asked, agreed, denied, asks, replies, suits, Opens, absent_left}
 
 -- ---- the start
 
@@ -36,13 +36,7 @@ started_own broken w t u h k e = record {
 
 started_alike : (broken : Bool) (w : World) (t u : Told) → Opens w t u → is_begun w.peer.transport ≡ true → stopped w.peer ≡ false
     → Alike (turned_world (started broken w)) (turned (core_start w.offer))
-started_alike broken w t u h b l = elim h.called [
-  | inl k ↦ not_both (is_begun w.peer.transport) b (ap is_begun k.transport)
-  | inr r ↦ elim r [
-    | inl k ↦ grind (arith, absent_left)
-    | inr k ↦ not_both (stopped w.peer) k.over_now l
-  ]
-]
+started_alike broken w t u h b l = grind arith
 
 started_peer : (broken : Bool) (w : World) (t u : Told) → Opens w t u → is_begun w.peer.transport ≡ true → w.own.channel ≡ []
     → OneSide broken (turned_world (started broken w)) (turned (core_start w.offer))
@@ -66,66 +60,22 @@ pub record OpenTaken (broken : Bool) (t u : Told) (k : Taking) : Type 0 where
 
 -- what was under way is gone
 answered : (w : World) (t u : Told) → Opens w t u → w.own.channel ≡ [] → Opens (without_first w []) t u
-answered w t u h e = record {
-  small = h.small;
-  profile = h.profile;
-  history = h.history;
-  owner = h.owner;
-  caller = h.caller;
-  called = elim h.called [
-    | inl k ↦ inl (record { transport = k.transport; kept = k.kept; mark = k.mark; said = k.said; got = k.got })
-    | inr r ↦ elim r [
-      | inl k ↦ inr (inl (record { transport = k.transport; kept = k.kept; mark = k.mark; said = k.said; got = k.got }))
-      | inr k ↦ inr (inr (record { transport = k.transport; over_now = k.over_now; zero_now = k.zero_now }))
-    ]
-  ];
-  way = nothing_sent;
-  own_channel = e;
-  peer_channel = refl;
-  suited = refl;
-  own_told = h.own_told;
-  peer_told = h.peer_told;
-}
+answered w t u h e = search arith
 
 refused_now : (broken : Bool) (w : World) (t u : Told) (reason : ℕ) → Opens w t u → w.own.channel ≡ []
     → Opens (moved broken gone (without_tokens Ended (session_of (without_first w []))) [] (without_first w [])) t u
-refused_now broken w t u reason h e =
-    let a = answered w t u h e in
-    record {
-      small = h.small;
-      profile = h.profile;
-      history = h.history;
-      owner = λ x. absent_left (without_tokens Ended (session_of (without_first w []))) w.owner x (h.owner x);
-      caller = inr (record { transport = refl; over_now = refl; zero_now = caller_zero w.own h.caller });
-      called = a.called;
-      way = nothing_sent;
-      own_channel = put_nothing broken w.own.channel ∙ e;
-      peer_channel = refl;
-      suited = refl;
-      own_told = h.own_told;
-      peer_told = h.peer_told;
-    }
+refused_now broken w t u reason h e = search (arith, answered, absent_left, caller_zero, put_nothing)
 
 asks_none : (way : Way) (m : Message) (ms : List Message) → m ∷ ms ≡ replies way → asks way ≡ []
 asks_none way m ms e = grind arith
 
 caller_agreed : (broken : Bool) (terms : Terms) (k : ℕ) (w : World) (t u : Told) → Opens w t u → w.own.channel ≡ [] → is_begun w.peer.transport ≡ true
     → OpenTaken broken t u (message_taken broken terms k w.own.transport (without_first w []) agree)
-caller_agreed broken terms k w t u h e b = elim h.caller [
-  | inl c ↦ subst (λ (tr : Transport). OpenTaken broken t u (message_taken broken terms k tr (without_first w []) agree)) (sym c.transport)
-      (record { stays_open = refl; leads = inr (start_repeats broken w t u h c e b) })
-  | inr c ↦ subst (λ (tr : Transport). OpenTaken broken t u (message_taken broken terms k tr (without_first w []) agree)) (sym c.transport)
-      (record { stays_open = refl; leads = inl (answered w t u h e) })
-]
+caller_agreed broken terms k w t u h e b = search (arith, start_repeats, answered)
 
 caller_denied : (broken : Bool) (terms : Terms) (k : ℕ) (w : World) (t u : Told) (reason : ℕ) → Opens w t u → w.own.channel ≡ []
     → OpenTaken broken t u (message_taken broken terms k w.own.transport (without_first w []) (deny reason))
-caller_denied broken terms k w t u reason h e = elim h.caller [
-  | inl c ↦ subst (λ (tr : Transport). OpenTaken broken t u (message_taken broken terms k tr (without_first w []) (deny reason))) (sym c.transport)
-      (record { stays_open = refl; leads = inl (refused_now broken w t u reason h e) })
-  | inr c ↦ subst (λ (tr : Transport). OpenTaken broken t u (message_taken broken terms k tr (without_first w []) (deny reason))) (sym c.transport)
-      (record { stays_open = refl; leads = inl (answered w t u h e) })
-]
+caller_denied broken terms k w t u reason h e = search (arith, refused_now, answered)
 
 by_way : (broken : Bool) (terms : Terms) (k : ℕ) (w : World) (t u : Told) (m : Message) (ms : List Message) → Opens w t u → w.own.channel ≡ []
     → (way : Way) → m ∷ ms ≡ replies way → suits way w.peer.transport ≡ true → OpenTaken broken t u (message_taken broken terms k w.own.transport (without_first w ms) m)
@@ -156,63 +106,17 @@ pub record CalledTaken (t u : Told) (k : Taking) : Type 0 where
 
 -- the request is taken by a side that has ended
 asked_late : (w : World) (t u : Told) → Opens (turned_world w) t u → w.own.channel ≡ [] → Opens (turned_world (without_first w [])) t u
-asked_late w t u h e = record {
-  small = h.small;
-  profile = h.profile;
-  history = h.history;
-  owner = h.owner;
-  caller = elim h.caller [
-    | inl k ↦ inl (record { transport = k.transport; phase = k.phase; mark = k.mark; said = k.said; got = k.got; zero_now = k.zero_now })
-    | inr k ↦ inr (record { transport = k.transport; over_now = k.over_now; zero_now = k.zero_now })
-  ];
-  called = h.called;
-  way = nothing_sent;
-  own_channel = refl;
-  peer_channel = e;
-  suited = refl;
-  own_told = h.own_told;
-  peer_told = h.peer_told;
-}
+asked_late w t u h e = search arith
 
 accepted_now : (broken : Bool) (w : World) (t u : Told) → Opens (turned_world w) t u → w.own.channel ≡ [] → Idle not_yet w.own
     → (way : Way) → put broken (agree ∷ []) w.own.channel ≡ replies way → asks way ≡ [] → suits way linked ≡ true
     → Opens (turned_world (moved broken linked awaiting (agree ∷ []) (without_first w []))) t u
-accepted_now broken w t u h e k way f none s =
-    let a = asked_late w t u h e in
-    record {
-      small = h.small;
-      profile = h.profile;
-      history = h.history;
-      owner = λ x. ap turned_owner (absent_left awaiting w.owner x (absent_back (w.owner x) (h.owner x)));
-      caller = a.caller;
-      called = inr (inl (record { transport = refl; kept = refl; mark = k.mark; said = k.said; got = k.got }));
-      way = way;
-      own_channel = sym none;
-      peer_channel = f;
-      suited = s;
-      own_told = h.own_told;
-      peer_told = h.peer_told;
-    }
+accepted_now broken w t u h e k way f none s = grind arith
 
 denied_now : (broken : Bool) (w : World) (t u : Told) (reason : ℕ) → Opens (turned_world w) t u → w.own.channel ≡ [] → Idle not_yet w.own
     → (way : Way) → put broken (deny reason ∷ []) w.own.channel ≡ replies way → asks way ≡ [] → suits way w.own.transport ≡ true
     → Opens (turned_world (record (without_first w []) { own = record w.own { channel = put broken (deny reason ∷ []) w.own.channel } })) t u
-denied_now broken w t u reason h e k way f none s =
-    let a = asked_late w t u h e in
-    record {
-      small = h.small;
-      profile = h.profile;
-      history = h.history;
-      owner = h.owner;
-      caller = a.caller;
-      called = inl (record { transport = k.transport; kept = k.kept; mark = k.mark; said = k.said; got = k.got });
-      way = way;
-      own_channel = sym none;
-      peer_channel = f;
-      suited = s;
-      own_told = h.own_told;
-      peer_told = h.peer_told;
-    }
+denied_now broken w t u reason h e k way f none s = grind arith
 
 asked_now : (broken : Bool) (terms : Terms) (w : World) (t u : Told) → Opens (turned_world w) t u → w.own.channel ≡ [] → Idle not_yet w.own
     → CalledTaken t u (unchanged (asked_at broken terms (without_first w [])))
@@ -225,15 +129,7 @@ asked_now false (denies reason) w t u h e k =
 
 asked_message : (broken : Bool) (terms : Terms) (k : ℕ) (w : World) (t u : Told) → Opens (turned_world w) t u → w.own.channel ≡ []
     → CalledTaken t u (message_taken broken terms k w.own.transport (without_first w []) ask)
-asked_message broken terms k w t u h e = elim h.called [
-  | inl c ↦ subst (λ (tr : Transport). CalledTaken t u (message_taken broken terms k tr (without_first w []) ask)) (sym c.transport) (asked_now broken terms w t u h e c)
-  | inr r ↦ elim r [
-    | inl c ↦ subst (λ (tr : Transport). CalledTaken t u (message_taken broken terms k tr (without_first w []) ask)) (sym c.transport)
-        (record { stays_open = refl; leads = asked_late w t u h e })
-    | inr c ↦ subst (λ (tr : Transport). CalledTaken t u (message_taken broken terms k tr (without_first w []) ask)) (sym c.transport)
-        (record { stays_open = refl; leads = asked_late w t u h e })
-  ]
-]
+asked_message broken terms k w t u h e = search (arith, asked_now, asked_late)
 
 called_way : (broken : Bool) (terms : Terms) (k : ℕ) (w : World) (t u : Told) (m : Message) (ms : List Message) → Opens (turned_world w) t u
     → (way : Way) → m ∷ ms ≡ asks way → w.own.channel ≡ replies way → CalledTaken t u (message_taken broken terms k w.own.transport (without_first w ms) m)

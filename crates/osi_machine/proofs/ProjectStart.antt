@@ -43,9 +43,7 @@ caller_zero x (inl h) = h.zero_now
 caller_zero x (inr h) = h.zero_now
 
 pub called_zero : (x : End) → Idle not_yet x ⊎ (Idle linked x ⊎ Left_it x) → AreZero x.kept.confirmed x.kept.base x.mark
-called_zero x (inl h) = record { acked = ap (λ (k : Kept). k.confirmed) h.kept; based = ap (λ (k : Kept). k.base) h.kept; marked = h.mark }
-called_zero x (inr (inl h)) = record { acked = ap (λ (k : Kept). k.confirmed) h.kept; based = ap (λ (k : Kept). k.base) h.kept; marked = h.mark }
-called_zero x (inr (inr h)) = h.zero_now
+called_zero x h1 = search arith
 
 -- what is under way
 pub data Way : Type 0 where
@@ -91,18 +89,7 @@ abbrev pub is_early : Phase → Bool
 is_early p = is_wait_transport p || is_wait_cn p
 
 no_call : (p : Phase) (x : Call) → is_early p ≡ true → may_call p x ≡ false
-no_call p (Accept u n a z o) h = excluded is_early is_answering refl p h
-no_call p (Refuse o) h = excluded is_early is_answering refl p h
-no_call p (Give k) h = excluded is_early may_give refl p h
-no_call p (Please k o) h = excluded is_early may_ask refl p h
-no_call p (MinorConfirm n o) h = excluded is_early may_confirm_minor refl p h
-no_call p (MajorConfirm o) h = excluded is_early is_major_due refl p h
-no_call p (Restart n x o) h = excluded is_early may_restart refl p h
-no_call p (RestartConfirm a o) h = excluded is_early is_restart_due refl p h
-no_call p (ReleaseAccept o) h = excluded is_early is_release_due refl p h
-no_call p (ReleaseRefuse o) h = excluded is_early is_release_due refl p h
-no_call p (Abort o) h = excluded is_early may_abort refl p h
-no_call p _ h = excluded is_early is_ready refl p h
+no_call p x h = grind arith
 
 pub refused_early : (s : State) (x : Call) → is_early s.phase ≡ true → allowed s x ≡ Err error.BadState
 unfolding allowed
@@ -169,36 +156,10 @@ asks_kept k way = grind arith
 
 -- the caller ends, and the called side
 pub caller_ends : (k : ℕ) (w : World) (t u : Told) → Opens w t u → Opens (ended_at k w) (told_all t (shown_at_end w)) u
-caller_ends k w t u h = record {
-  small = h.small;
-  profile = h.profile;
-  history = h.history;
-  owner = λ x. absent_left (lost (session_of (shortened k w))).next w.owner x (h.owner x);
-  caller = inr (record { transport = refl; over_now = refl; zero_now = caller_zero w.own h.caller });
-  called = h.called;
-  way = cut_asks k h.way;
-  own_channel = ap (take k) h.own_channel ∙ take_asks k h.way;
-  peer_channel = h.peer_channel ∙ sym (replies_kept k h.way);
-  suited = grind arith;
-  own_told = loss_told t (session_of w) ∙ h.own_told;
-  peer_told = h.peer_told;
-}
+caller_ends k w t u h = search (arith, absent_left, caller_zero, take_asks, replies_kept, loss_told)
 
 pub called_ends : (k : ℕ) (w : World) (t u : Told) → Opens (turned_world w) t u → Opens (turned_world (ended_at k w)) t (told_all u (shown_at_end w))
-called_ends k w t u h = record {
-  small = h.small;
-  profile = h.profile;
-  history = h.history;
-  owner = λ x. ap turned_owner (absent_left (lost (session_of (shortened k w))).next w.owner x (absent_back (w.owner x) (h.owner x)));
-  caller = h.caller;
-  called = inr (inr (record { transport = refl; over_now = refl; zero_now = called_zero w.own h.called }));
-  way = cut_replies k h.way;
-  own_channel = h.own_channel ∙ sym (asks_kept k h.way);
-  peer_channel = ap (take k) h.peer_channel ∙ take_replies k h.way;
-  suited = grind arith;
-  own_told = h.own_told;
-  peer_told = loss_told u (session_of w) ∙ h.peer_told;
-}
+called_ends k w t u h = search (arith, absent_left, absent_back, called_zero, asks_kept, take_replies, loss_told)
 
 -- ---- a break
 
@@ -211,9 +172,7 @@ caller_kept x ch (inr h) = inr (record { transport = h.transport; over_now = h.o
 
 called_kept : (x : End) (ch : List Message) → Idle not_yet x ⊎ (Idle linked x ⊎ Left_it x)
     → Idle not_yet (record x { channel = ch }) ⊎ (Idle linked (record x { channel = ch }) ⊎ Left_it (record x { channel = ch }))
-called_kept x ch (inl h) = inl (record { transport = h.transport; kept = h.kept; mark = h.mark; said = h.said; got = h.got })
-called_kept x ch (inr (inl h)) = inr (inl (record { transport = h.transport; kept = h.kept; mark = h.mark; said = h.said; got = h.got }))
-called_kept x ch (inr (inr h)) = inr (inr (record { transport = h.transport; over_now = h.over_now; zero_now = h.zero_now }))
+called_kept x ch h2 = search arith
 
 pub break_opens : (k j : ℕ) (w : World) (t u : Told) → Opens w t u → Opens (cut_both k j w) t u
 break_opens k j w t u h = record {

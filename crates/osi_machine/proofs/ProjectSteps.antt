@@ -1,5 +1,5 @@
 -- A message that is taken, a close, a break and an end at a whole connection that was agreed to.
-use Rattle.std.proofs.Common.{◌≡◌, refl, sym, ◌∙◌, ap, subst, ℕ, Bool, true, false, if◌then◌else◌, List, [], ◌∷◌, take}
+use Rattle.std.proofs.Common.{◌≡◌, refl, sym, ◌∙◌, ap, subst, ℕ, Bool, true, false, if◌then◌else◌, List, [], ◌∷◌, take, arith}
 use Rattle.osi_machine.proofs.Vocabulary.{State, shows_loss, lost, Message, unit, ask, agree, deny, bye, over, Transport, not_yet, waiting, linked, closing, gone, World, session_of, moved, moves, put, shortened, unchanged, Terms, message_taken, closed, ended_at, shown_at_end, without_first, Told}
 use Rattle.osi_machine.proofs.CoreLaws.{SessionLaws}
 use Rattle.osi_machine.proofs.ViewFold.{told_all}
@@ -25,23 +25,14 @@ not_unit_over broken w t u m ms h e q = by_test (stopped w.own)
 
 popped : (broken : Bool) (w : World) (t u : Told) (m : Message) (ms : List Message) → Repeats broken w t u → w.peer.channel ≡ m ∷ ms → stopped w.own ≡ true
     → Taken broken t u (unchanged (without_first w ms))
-popped broken w t u m ms h e o = record {
-  repeats = same_core broken broken w (without_first w ms) t u h (popped_projects broken w h.core m ms h.projects o e);
-  over_now = λ k. absurd (cc);
-}
+popped broken w t u m ms h e o = search (arith, same_core, popped_projects)
 
 not_linked_over : (broken : Bool) (w : World) (t u : Told) (tr : Transport) → Repeats broken w t u → w.own.transport ≡ tr → is_linked tr ≡ false → stopped w.own ≡ true
 not_linked_over broken w t u tr h e q = unlinked_over broken w h.core h.projects (ap is_linked e ∙ q)
 
 bye_taken : (broken : Bool) (k : ℕ) (w : World) (t u : Told) (reason : ℕ) (ms : List Message) → Repeats broken w t u → w.peer.channel ≡ bye reason ∷ ms
     → Taken broken t u (moves (moved broken gone (lost (session_of (without_first w ms))).next (over ∷ []) (shortened k (without_first w ms))) (lost (session_of (without_first w ms))).shown)
-bye_taken broken k w t u reason ms h e = record {
-  repeats = subst (λ (d : Told). Repeats broken (moved broken gone (lost (session_of (without_first w ms))).next (over ∷ []) (shortened k (without_first w ms))) d u)
-      (sym (loss_told t (session_of (without_first w ms))))
-      (same_core broken broken w (moved broken gone (lost (session_of (without_first w ms))).next (over ∷ []) (shortened k (without_first w ms))) t u h
-      (bye_projects broken k w h.core reason ms h.projects e));
-  over_now = λ q. absurd (cc);
-}
+bye_taken broken k w t u reason ms h e = search (arith, loss_told, same_core, bye_projects)
 
 -- a close that is answered, or that crosses another
 answered_close : (broken : Bool) (w : World) (t u : Told) (m : Message) (ms : List Message) → Repeats broken w t u → w.peer.channel ≡ m ∷ ms → parts m ≡ true → stopped w.own ≡ true
@@ -85,9 +76,7 @@ close_repeats broken k w t u h o d = same_core broken broken w (closed broken k 
 
 pub break_repeats : (k j : ℕ) (broken : Bool) (w : World) (t u : Told) → Repeats broken w t u
     → Repeats true (record w { own = record w.own { channel = take k w.own.channel }; peer = record w.peer { channel = take j w.peer.channel } }) t u
-break_repeats k j broken w t u h =
-    same_core broken true w (record w { own = record w.own { channel = take k w.own.channel }; peer = record w.peer { channel = take j w.peer.channel } }) t u h
-    (break_projects k j broken w h.core h.projects)
+break_repeats k j broken w t u h = search (arith, same_core, break_projects)
 
 pub end_repeats : (broken : Bool) (k : ℕ) (w : World) (t u : Told) → Repeats broken w t u → Repeats broken (ended_at k w) (told_all t (shown_at_end w)) u
 end_repeats broken k w t u h =

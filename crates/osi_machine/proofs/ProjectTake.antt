@@ -72,26 +72,14 @@ record Takes (broken : Bool) (w : World) (c : Core) (u : Meaning) (us : List Mea
   channel : w.peer.channel ≡ unit u ∷ ms
 
 fits_first : (broken : Bool) (w : World) (c : Core) (u : Meaning) (us : List Meaning) (ms : List Message) → Takes broken w c u us ms → Fits c.own.session u
-fits_first broken w c u us ms k =
-    let f : AllFit c.own.session (u ∷ us) = k.all.own.fits in
-    f.0
+fits_first broken w c u us ms k = search arith
 
 lives_then : (broken : Bool) (w : World) (c : Core) (u : Meaning) (us : List Meaning) (ms : List Message) → Takes broken w c u us ms
     → is_over (respond_unit c.own.session u).next.phase ≡ false
 lives_then broken w c u us ms k = alive (taking c (u ∷ us)).owner (taking c (u ∷ us)).own (taking c (u ∷ us)).peer k.then_all.own
 
 no_reply : (broken : Bool) (w : World) (c : Core) (u : Meaning) (us : List Meaning) (ms : List Message) → Takes broken w c u us ms → (respond_unit c.own.session u).reply ≡ None
-no_reply broken w c u us ms k =
-    let f = fits_first broken w c u us ms k in
-    ap (λ (o : Outcome). o.reply) (no_fault c.own.session u (ap (λ (r : Kept). is_over r.phase) (sym (k.old.own.alike k.lives).kept) ∙ k.lives) f) ∙ by_test (drops c.own.session u)
-    (λ d. rw d)
-    (λ d. rw d (let p : is_plain u ≡ true = f.plain in plain_reply c.own.session u p (accepts u refl d)))
-  where
-    accepts : (m : Meaning) → m ≡ u → drops c.own.session u ≡ false → (v : Bool) (r : ℕ) (n : Option ℕ) (x : TokenSetting) (from to : Option (List ℕ)) (z : TsduMaximumSize) (o : List ℕ)
-        → m ≡ CN v r n x from to z o → is_acceptable v r z ≡ true
-    accepts m e d v r n x from to z o same =
-        let path = sym e ∙ same in
-        acceptable c v r n x from to z o us (subst (λ (y : Meaning). drops c.own.session y ≡ false) path d) (subst (λ (y : Meaning). Stands (at c (y ∷ us))) path k.all)
+no_reply broken w c u us ms k = search (arith, fits_first, no_fault, plain_reply, acceptable)
 
 same_channel : (broken : Bool) (w : World) (c : Core) (u : Meaning) (us : List Meaning) (ms : List Message) → Takes broken w c u us ms
     → put broken (replied (respond_unit c.own.session u).reply) w.own.channel ≡ w.own.channel
@@ -103,10 +91,7 @@ was_alike broken w c u us ms k = k.old.own.alike k.lives
 taker_mark : (broken : Bool) (w : World) (c : Core) (u : Meaning) (us : List Meaning) (ms : List Message) → Takes broken w c u us ms
     → (if is_acted_on c.own.session u then mark_after c.own.session u w.history w.own.mark else w.own.mark)
     ≡ length (if is_acted_on c.own.session u then seen c.own.session u c.own.view else c.own.view)
-taker_mark broken w c u us ms k = by_test (is_acted_on c.own.session u)
-    (λ e. rw e (ap (λ (h : List Item). mark_after c.own.session u h w.own.mark) k.old.history
-    ∙ seen_mark c.own.session u c.history c.own.view w.own.mark (cuts_alike c u us k.all) (was_alike broken w c u us ms k).mark))
-    (λ e. rw e (was_alike broken w c u us ms k).mark)
+taker_mark broken w c u us ms k = search (arith, seen_mark, cuts_alike, was_alike)
 
 taker_owns : (broken : Bool) (w : World) (c : Core) (u : Meaning) (us : List Meaning) (ms : List Message) → Takes broken w c u us ms → (t : Token)
     → is_own (left_by (respond_unit c.own.session u).next (if is_acted_on c.own.session u then owners_after c.own.session u w.owner else w.owner) t)

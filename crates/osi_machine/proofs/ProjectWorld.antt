@@ -7,18 +7,18 @@ use Rattle.osi_machine.specs.Core.{turned}
 use Rattle.osi_machine.proofs.Vocabulary.{Aborted, PeerAbort, names, closes_for, State, Meaning, RF, DN, AB, AA, Call, Answer, HasSerial, Outcome, allowed, is_over, is_aborting, is_ended, is_wait_cn, in_aborting, in_ended, respond_unit, drops, is_plain, Core, stays_in_core, answered, Message, unit, World, session_of, after_call, after_answer, after_unit, Taking, unit_taken, turned as turned_world, without_first, Told, told_call}
 use Rattle.osi_machine.proofs.CoreLaws.{SessionLaws}
 use Rattle.osi_machine.proofs.Records.{Stands}
-use Rattle.osi_machine.proofs.Acting.{no_fault, over_of}
+use Rattle.osi_machine.proofs.Acting.{no_fault}
 use Rattle.osi_machine.proofs.Alive.{alive}
 use Rattle.osi_machine.proofs.TakeMoves.{at, stands_at}
 use Rattle.osi_machine.proofs.Dispatch.{called_stands, taking_stands, turned_stands, turned_twice}
 use Rattle.osi_machine.proofs.ViewFold.{Tells, told_all}
 use Rattle.osi_machine.proofs.ViewRun.{answer_tells, taken_tells}
-use Rattle.osi_machine.proofs.Projects.{stopped, IsLast, Carried, OneSide, Projects, session_is, not_both}
+use Rattle.osi_machine.proofs.Projects.{stopped, IsLast, Carried, Projects, session_is, not_both}
 use Rattle.osi_machine.proofs.ProjectCall.{call_projects, stop_projects}
 use Rattle.osi_machine.proofs.ProjectTake.{First, Last, split_first, take_projects}
 use Rattle.osi_machine.proofs.ProjectLast.{last_projects, last_good, over_projects, over_next, over_nothing}
 use Rattle.osi_machine.proofs.ProjectEnd.{parting_over}
-use Rattle.osi_machine.proofs.PhaseLaws.{if_no, if_yes, by_test}
+use Rattle.osi_machine.proofs.PhaseLaws.{if_yes, by_test}
 
 -- t and u are what the records of this side and of the other tell
 pub record Repeats (broken : Bool) (w : World) (t u : Told) : Type 0 where
@@ -30,13 +30,7 @@ pub record Repeats (broken : Bool) (w : World) (t u : Told) : Type 0 where
 
 -- the same, as the other side sees it
 pub turned_repeats : (broken : Bool) (w : World) (t u : Told) → Repeats broken w t u → Repeats broken (turned_world w) u t
-turned_repeats broken w t u h = record {
-  core = turned h.core;
-  stands = turned_stands h.core h.stands;
-  projects = search (OneSide, turned_twice);
-  own = h.peer;
-  peer = h.own;
-}
+turned_repeats broken w t u h = search (arith, turned_stands, turned_twice)
 
 -- ---- a call
 
@@ -114,49 +108,17 @@ take_first laws broken w t u m ms h l e f =
 
 -- the last of a side that is over
 last_told : (t : Told) (s r : State) (m : Meaning) → IsLast r m → told_all t (shown_for s m) ≡ t
-last_told t s r (RF x o) l = refl
-last_told t s r (DN o) l = refl
-last_told t s r (AB b o) l =
-    subst (λ (n : ℕ). told_all t (if is_wait_cn s.phase then [] else (if names n 2 then Aborted o else PeerAbort n) ∷ []) ≡ t) (sym l) (by_test (is_wait_cn s.phase)
-    (λ e. rw e)
-    (λ e. rw e))
-last_told t s r _ l = absurd (l)
+last_told t s r m l = search arith
 
 take_last : (broken : Bool) (w : World) (t u : Told) (m : Meaning) (ms : List Message) (h : Repeats broken w t u)
     → Last (stopped w.peer) m ms h.core.peer.sent h.core.peer.session → Taken broken t u (unit_as broken w m ms h.core.own.session)
 unfolding unit_as
-take_last broken w t u m ms h l =
-    let p = last_projects broken w h.core m ms h.projects h.stands l in
-    record {
-      repeats = record {
-        core = h.core;
-        stands = h.stands;
-        projects = p.1;
-        own = subst (λ (d : Told). Tells d h.core.own.session h.core.own.view h.core.own.said h.core.own.got)
-            (sym (ap (λ (o : Outcome). told_all t o.shown) (last_good h.core m h.stands l.none l.last) ∙ last_told t h.core.own.session h.core.peer.session m l.last)) h.own;
-        peer = h.peer;
-      };
-      over_now = λ k. (p.0, l.ended);
-    }
+take_last broken w t u m ms h l = search (arith, last_projects, last_good, last_told)
 
 -- any, at a side that is over
 over_silent : (s : State) (m : Meaning) → is_over s.phase ≡ true → (respond_unit s m).shown ≡ []
 unfolding respond_unit
-over_silent s m o = by (is_aborting s.phase) refl (is_ended s.phase) refl
-  where
-    aborting : (m : Meaning) → (in_aborting s m).shown ≡ []
-    aborting (AB b o) = refl
-    aborting AA = refl
-    aborting _ = refl
-
-    ended : (m : Meaning) → (in_ended s m).shown ≡ []
-    ended (AB b o) = refl
-    ended _ = refl
-
-    by : (a : Bool) → is_aborting s.phase ≡ a → (e : Bool) → is_ended s.phase ≡ e → (respond_unit s m).shown ≡ []
-    by true h e k = ap (λ (x : Outcome). x.shown) (if_yes (is_aborting s.phase) _ _ h) ∙ aborting m
-    by false h true k = ap (λ (x : Outcome). x.shown) (if_no (is_aborting s.phase) _ _ h ∙ if_yes (is_ended s.phase) _ _ k) ∙ ended m
-    by false h false k = absurd (let n = over_of false false s.phase h k in cc)
+over_silent s m o = grind arith
 
 take_over : (broken : Bool) (w : World) (t u : Told) (m : Meaning) (ms : List Message) → Repeats broken w t u → stopped w.own ≡ true → w.peer.channel ≡ unit m ∷ ms
     → Taken broken t u (unit_as broken w m ms (session_of w))

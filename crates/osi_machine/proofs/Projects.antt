@@ -1,6 +1,6 @@
 -- How a whole connection is repeated by one of which nothing is lost. A side that is over is left as it was;
 -- to the other, an abort, an end, a break or a loss is a side that has gone silent.
-use Rattle.std.proofs.Common.{◌≡◌, sym, ◌∙◌, ap, ℕ, ◌+◌, Bool, true, false, not, ◌||◌, List, [], ◌∷◌, ◌++◌, map, length, take, ◌⊎◌}
+use Rattle.std.proofs.Common.{◌≡◌, sym, ◌∙◌, ap, ℕ, ◌+◌, Bool, true, false, not, ◌||◌, List, [], ◌∷◌, ◌++◌, map, length, take, ◌⊎◌, arith}
 use Rattle.osi_machine.specs.Core.{turned}
 use Rattle.osi_machine.proofs.Vocabulary.{take-append_seam, list_any, State, Meaning, RF, DN, AB, Token, is_over, is_answering, is_release_due, Item, points, Begins, is_own, owned, is_plain, Party, Core, Message, unit, bye, over, Transport, not_yet, waiting, linked, kept_of, End, World, session_of, turned as turned_world}
 use Rattle.osi_machine.proofs.Records.{Stands}
@@ -107,25 +107,7 @@ owned_is w c s a = tokens_same (owned w.owner) c.own.session.held
 -- V(M), of a side that is over too
 pub next_is : (w : World) (c : Core) → Stands c → w.history ≡ c.history → Counted w.own c.own
     → w.own.kept.base + points (take w.own.mark w.history) ≡ c.own.session.numbers.next
-next_is w c s h a =
-    ap (λ (b : ℕ). b + points (take w.own.mark w.history)) a.based
-    ∙ ap (λ (m : ℕ). c.own.session.base + points (take m w.history)) a.marked
-    ∙ ap (λ (g : List Item). c.own.session.base + points (take (length c.own.view) g)) h
-    ∙ ap (λ (v : List Item). c.own.session.base + points v) (taken_view c.own.view c.history (sees_the_history c s))
-    ∙ sym s.consistent.own.count
+next_is w c s h a = search (arith, taken_view, sees_the_history)
 
 pub session_is : (w : World) (c : Core) → Stands c → w.history ≡ c.history → Counted w.own c.own → Alike w c → session_of w ≡ c.own.session
-session_is w c s h n a =
-    let held = owned_is w c s a in
-    let next = next_is w c s h n in
-    λ i. record {
-      phase = (a.kept i).phase;
-      is_caller = (a.kept i).is_caller;
-      units = (a.kept i).units;
-      wishes = (a.kept i).wishes;
-      held = held i;
-      proposed = (a.kept i).proposed;
-      base = (a.kept i).base;
-      numbers = record { next = next i; confirmed = (a.kept i).confirmed; lowest = (a.kept i).lowest; answers = (a.kept i).answers };
-      sizes = (a.kept i).sizes;
-    }
+session_is w c s h n a = search (arith, owned_is, next_is)

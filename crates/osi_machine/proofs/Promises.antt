@@ -18,23 +18,15 @@ use Rattle.osi_machine.proofs.PhaseLaws.{by_test}
 -- ---- it is true of each connection that came about
 
 pub offer_stands : (o : Offer) → CanBeOffered o → is_profile o.requirements ≡ true → Stands (core_start o)
-offer_stands o serial profile =
-    let p = profile_of o.requirements profile in
-    starts_stand o serial p (profile_data (functional_units o.requirements) p)
+offer_stands o serial profile = search (arith, profile_of, starts_stand, profile_data)
 
 pub reached_stands : SessionLaws → (w : Core) → IsReached w → Stands w
 reached_stands laws w r = subst Stands r.reached (run_stands laws (core_start r.offer) r.steps r.numbered (offer_stands r.offer r.offered r.profile))
 
 -- ---- tokens
 
-pub one_owner : (o : Owner) → (is_own o && is_own (turned_owner o)) ≡ false
-one_owner Own = refl
-one_owner _ = refl
-
 pub one_holder : (w : Core) → Stands w → OneHolder w
-one_holder w s t =
-    ap (λ (b : Bool). b && has w.peer.session.held t) (s.own.meeting.holds t)
-    ∙ ap (λ (b : Bool). is_own (w.owner t) && b) (s.peer.meeting.holds t) ∙ one_owner (w.owner t)
+one_holder w s t = grind arith
 
 pub holds_its_own : (w : Core) → Stands w → HoldsItsOwn w
 holds_its_own w s t = s.own.meeting.holds t

@@ -29,9 +29,7 @@ in_phase p s = record s { phase = p }
 
 -- what is good is so in the phase that it is known to be
 pub good_in : (p : Phase) (s : State) (u : Meaning) → s.phase ≡ p → Good s u → Good (in_phase p s) u
-good_in p s u e g =
-    let path : s ≡ in_phase p s = λ i. record s { phase = e i } in
-    subst (λ (q : State). Good q u) path g
+good_in p s u e g = search arith
 
 -- ---- a request for release
 
@@ -119,19 +117,7 @@ record ReleaseOwed (s : State) : Type 0 where
   none : s.units.resynchronize ≡ false
 
 owed_becomes : (s : State) (u : Meaning) → is_plain u ≡ true → Good s u → ReleaseOwed s → ReleaseOwed (becomes s u)
-owed_becomes s (AC w r n x z o) p g h = absurd (let a = excluded is_release_due is_connecting refl s.phase h.phase in let b = g.expected in cc)
-owed_becomes s (DT o) p g h = h
-owed_becomes s (GT k) p g h = record { phase = h.phase; none = h.none }
-owed_becomes s (PT k o) p g h = h
-owed_becomes s (MIP c n o) p g h = record { phase = h.phase; none = h.none }
-owed_becomes s (MIA n o) p g h = record { phase = h.phase; none = h.none }
-owed_becomes s (MAP n o) p g h = absurd (let a = excluded is_release_due is_ready refl s.phase h.phase in let b = g.expected in cc)
-owed_becomes s (MAA n o) p g h = absurd (let a = excluded is_release_due is_major_asked refl s.phase h.phase in let b = g.expected in cc)
-owed_becomes s (RS j n w o) p g h = absurd (let a = and_parts s.units.resynchronize _ g.met.0 in let b = h.none in let c = a.0 in cc)
-owed_becomes s (RA n w o) p g h = absurd (let a = excluded is_release_due is_restarting refl s.phase h.phase in let b = g.expected in cc)
-owed_becomes s (FN o) p g h = record { phase = refl; none = h.none }
-owed_becomes s (NF o) p g h = absurd (let a = excluded is_release_due is_releasing refl s.phase h.phase in let b = g.expected in cc)
-owed_becomes s _ p g h = absurd (let a = excluded is_release_due is_wait_cn refl s.phase h.phase in let b = g.expected in cc)
+owed_becomes s u p g h = grind arith
 
 owed_flush : (s : State) (us : List Meaning) → ReleaseOwed s → AllFit s us → ReleaseOwed (flush s us)
 owed_flush = kept_all ReleaseOwed (λ s u h f. fit_cases ReleaseOwed s u f h (λ d g. owed_becomes s u f.plain g h))

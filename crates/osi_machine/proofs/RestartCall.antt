@@ -2,18 +2,18 @@
 use Rattle.std.proofs.Common.{◌≡◌, refl, sym, ◌∙◌, ap, subst, ℕ, ◌+◌, ◌-◌, ◌≤◌, true, false, not, ◌&&◌, ◌||◌, if◌then◌else◌, List, [], ◌∷◌, ◌++◌, Ok, inl, inr, arith}
 use Rattle.osi_spdu.specs.declared.fields.ResyncType.TheVariants as resync
 use Rattle.osi_machine.proofs.Vocabulary.{leb-true, and_parts, and_from, both_ways, TokenSetting, State, FunctionalUnits, RS, has, available, is_restarting, is_restart_due, is_release_due, restarted_at, is_restartable, offered, Restart, IsSound, next, Item, points, cutat, Begins, Owner, Own, turned_owner, turned_owners, is_own, is_to_own, is_absent, own_to_pool, given_up, flush, heard, hears, data_of, Party, Core, answered, AreConsistent}
-use Rattle.osi_machine.proofs.PhaseLaws.{excluded, implied_two, by_test}
+use Rattle.osi_machine.proofs.PhaseLaws.{by_test}
 use Rattle.osi_machine.proofs.ChannelLaws.{fit_append, flush_append, due_end, data_append}
 use Rattle.osi_machine.proofs.HistoryLaws.{upto_append}
 use Rattle.osi_machine.proofs.Tokens.{none_held}
-use Rattle.osi_machine.proofs.Begun.{flush_open, heard_open, is_lively}
-use Rattle.osi_machine.proofs.Records.{flushed, hearing, matched, Meeting, Half, Views, Counting, Counts, IsOfProfile, Pair, Stands}
+use Rattle.osi_machine.proofs.Begun.{flush_open, heard_open}
+use Rattle.osi_machine.proofs.Records.{flushed, hearing, Meeting, Half, Views, Counting, Counts, IsOfProfile, Pair, Stands}
 use Rattle.osi_machine.proofs.Idle.{append_nil, list_any_append}
 use Rattle.osi_machine.proofs.NumberLaws.{lower_second, lower_less, lower_both, heard_turned}
-use Rattle.osi_machine.proofs.Deaf.{crossed, restart_next, heard_restart, view_restart, not_both}
+use Rattle.osi_machine.proofs.Deaf.{crossed, restart_next, heard_restart, view_restart}
 use Rattle.osi_machine.proofs.Heard.{Grown, heard_grown, listener_begins}
 use Rattle.osi_machine.proofs.RestartFlow.{Flow}
-use Rattle.osi_machine.proofs.RestartMeet.{Restarts, Met, asked, begun, flows, not_due, other_heard, other_units, other_base, other_asked, ends_meet, own_hears, restart_fits, crossed_units, crossed_base}
+use Rattle.osi_machine.proofs.RestartMeet.{Restarts, Met, asked, begun, flows, not_due, other_heard, other_units, other_base, ends_meet, own_hears, restart_fits, crossed_units, crossed_base}
 use Rattle.osi_machine.proofs.Consistent.{below_if}
 use Rattle.osi_machine.proofs.CoreLaws.{IsGranted, granted}
 
@@ -88,15 +88,7 @@ own_half w n t o q s =
 
 -- the other owes no answer to a release
 no_release : (w : Core) (n : ℕ) (t : TokenSetting) → Restarts w n → Stands w → is_release_due (hearing w.peer w.own).phase ≡ true → ⊥
-no_release w n t q s d =
-    let here : is_release_due (flushed w.peer w.own).phase ≡ true = ap (λ (r : State). is_release_due r.phase) (sym (other_heard w n q s)) ∙ d in
-    elim (flows w n t q s).end [
-      | inl e ↦
-          let k = implied_two (λ p q. matched p q && is_lively p) (λ p q. not (is_release_due q)) refl (flushed w.own w.peer).phase (flushed w.peer w.own).phase
-          (and_from (matched (flushed w.own w.peer).phase (flushed w.peer w.own).phase) (is_lively (flushed w.own w.peer).phase) s.own.meeting.meets e.0) in
-          not_both _ k here
-      | inr e ↦ both_ways _ (excluded is_restarting is_release_due refl (flushed w.peer w.own).phase (other_asked w s e.0)) here
-    ]
+no_release w n t q s d = grind arith
 
 peer_half : (w : Core) (n : ℕ) (t : TokenSetting) (o : List ℕ) → Restarts w n → Stands w → Half (turned_owners (given_up w.owner)) w.peer (asker w.own n t o)
 peer_half w n t o q s =
@@ -211,9 +203,7 @@ pair_kept w n t o q s =
 all_kept : (w : Core) (n : ℕ) (wishes : TokenSetting) (o : List ℕ) → Restarts w n → Stands w
     → AreConsistent (answered w (Restart n wishes o) (Ok (record { next = asked w.own.session n (offered w.own.session.units wishes); sent = RS resync.Restart n (offered w.own.session.units wishes) o })))
     → Stands (answered w (Restart n wishes o) (Ok (record { next = asked w.own.session n (offered w.own.session.units wishes); sent = RS resync.Restart n (offered w.own.session.units wishes) o })))
-all_kept w n wishes o q s c =
-    let t = offered w.own.session.units wishes in
-    assumption (own_half w n t o q s, peer_half w n t o q s, own_views w n t o q s, peer_views w n t o q s, own_counts w n t o q s, peer_counts w n t o q s, pair_kept w n t o q s)
+all_kept w n wishes o q s c = search (arith, own_half, peer_half, own_views, peer_views, own_counts, peer_counts, pair_kept)
 
 pub in_range : (s : State) (n : ℕ) → IsSound s → is_restartable s n ≡ true → (s.base ≤ n) × (n ≤ s.numbers.next)
 in_range s n sound h = grind (arith, and_parts, leb-true, below_if)

@@ -5,7 +5,7 @@ use Rattle.osi_machine.proofs.PhaseLaws.{excluded, implied_two}
 use Rattle.osi_machine.proofs.Units.{none_due, next_acted, and_false}
 use Rattle.osi_machine.proofs.ChannelLaws.{fit_append, flush_append, heard_append, view_append, data_append}
 use Rattle.osi_machine.proofs.Tokens.{none_held}
-use Rattle.osi_machine.proofs.Records.{flushed, hearing, matched, Meeting, Half, Views, Counting, Counts, IsOfProfile, Pair, Stands}
+use Rattle.osi_machine.proofs.Records.{flushed, hearing, Meeting, Half, Views, Counting, Counts, IsOfProfile, Pair, Stands}
 use Rattle.osi_machine.proofs.Idle.{append_nil, list_any_append}
 use Rattle.osi_machine.proofs.Deaf.{AllEmpty, all_empty, empty_fits, empty_end, empty_heard, empty_view, deaf_end, deaf_heard, deaf_view}
 use Rattle.osi_machine.proofs.Settled.{settled_answers, answerer_there, asker_holds, own_held, own_wanted, own_absent, their_held, their_wanted, their_absent}
@@ -41,10 +41,7 @@ own_heard : (w : Core) → is_restart_due w.own.session.phase ≡ true → Stand
 own_heard w due s = empty_heard w.own.session w.peer.sent (none_under_way w due s)
 
 other_waits : (w : Core) → is_restart_due w.own.session.phase ≡ true → Stands w → is_restarting (flushed w.peer w.own).phase ≡ true
-other_waits w due s =
-    let d = ap (λ (r : State). is_restart_due r.phase) (own_end w due s) ∙ due in
-    implied_two (λ p q. matched p q && is_restart_due p) (λ p q. is_restarting q) refl (flushed w.own w.peer).phase (flushed w.peer w.own).phase
-    (and_from (matched (flushed w.own w.peer).phase (flushed w.peer w.own).phase) (is_restart_due (flushed w.own w.peer).phase) s.own.meeting.meets d)
+other_waits w due s = search (arith, own_end, implied_two, and_from)
 
 other_end : (w : Core) → is_restart_due w.own.session.phase ≡ true → Stands w → flushed w.peer w.own ≡ w.peer.session
 other_end w due s = deaf_end w.peer.session w.own.sent (other_waits w due s) s.peer.fits
@@ -68,29 +65,14 @@ answer_next : (s : State) (n : ℕ) (t : TokenSetting) (o : List ℕ) → next s
 answer_next s n t o = next_acted s (RA n t o) (and_false (is_restarting s.phase))
 
 answer_fits : (w : Core) (a : Sides) (o : List ℕ) → is_restart_due w.own.session.phase ≡ true → Stands w → Fits (flushed w.peer w.own) (answer w.own.session a o)
-answer_fits w a o due s = record {
-  plain = refl;
-  good = λ d. record {
-    expected = other_waits w due s;
-    met = (
-      eq-eqb w.own.session.numbers.next (flushed w.peer w.own).numbers.next (sym ((s.peer.meeting.restart (other_waits w due s)).0 ∙ ap (λ (r : State). r.numbers.next) (own_end w due s))),
-      (
-        ap (λ (u : FunctionalUnits). answers_wishes u (flushed w.peer w.own).wishes (setting_of (settle w.own.session.units w.own.session.wishes a))) (other_units w due s)
-            ∙ ap (λ (t : TokenSetting). answers_wishes w.own.session.units t (setting_of (settle w.own.session.units w.own.session.wishes a))) (other_wishes w due s)
-            ∙ settled_answers w.own.session.units w.own.session.wishes a,
-        tt,
-      ),
-    );
-  };
-}
+answer_fits w a o due s = search (arith, other_waits, eq-eqb, own_end, other_units, other_wishes, settled_answers)
 
 end_after : (w : Core) (a : Sides) (o : List ℕ) → flush w.peer.session (w.own.sent ++ answer w.own.session a o ∷ []) ≡ restarted w a o
 end_after w a o = flush_append w.peer.session w.own.sent (answer w.own.session a o) ∙ answer_next (flushed w.peer w.own) w.own.session.numbers.next (setting_of (settle w.own.session.units w.own.session.wishes a)) o
 
 heard_after : (w : Core) (a : Sides) (o : List ℕ) → is_restart_due w.own.session.phase ≡ true → Stands w
     → heard w.peer.session (w.own.sent ++ answer w.own.session a o ∷ []) ≡ restarted w a o
-heard_after w a o due s =
-    heard_append w.peer.session w.own.sent (answer w.own.session a o) s.peer.fits (other_owes_none w due s) ∙ answer_next (flushed w.peer w.own) w.own.session.numbers.next (setting_of (settle w.own.session.units w.own.session.wishes a)) o
+heard_after w a o due s = search (arith, heard_append, other_owes_none, answer_next)
 
 -- ---- tokens
 
@@ -99,34 +81,13 @@ there w a t h = answerer_there w.own.session.units (settle w.own.session.units w
 
 will_hold : (w : Core) (a : Sides) (o : List ℕ) (t : Token) → is_restart_due w.own.session.phase ≡ true → Stands w
     → has (restarted w a o).held t ≡ (has (available w.own.session.units) t && not (has (held_by w.own.session a) t))
-will_hold w a o t due s =
-    ap (λ (u : FunctionalUnits). has (of_asker u (stated u (setting_of (settle w.own.session.units w.own.session.wishes a)))) t) (other_units w due s)
-    ∙ asker_holds w.own.session.units w.own.session.wishes a t
+will_hold w a o t due s = search (arith, other_units, asker_holds)
 
 -- ---- the two halves
 
 own_half : (w : Core) (a : Sides) (o : List ℕ) → is_restart_due w.own.session.phase ≡ true → Stands w
     → Half (settled_by (confirmed w.own.session a)) (answerer w.own a o) w.peer
-own_half w a o due s =
-    let r = confirmed w.own.session a in
-    let none = none_under_way w due s in
-    let owners = settled_by (confirmed w.own.session a) in
-    record {
-      fits = empty_fits r w.peer.sent none;
-      meeting = subst (λ (e : State). Meeting owners r e (flush w.peer.session (w.own.sent ++ answer w.own.session a o ∷ [])) (heard r w.peer.sent) w.peer.session) (sym (empty_end r w.peer.sent none))
-          (subst (λ (e : State). Meeting owners r r (flush w.peer.session (w.own.sent ++ answer w.own.session a o ∷ [])) e w.peer.session) (sym (empty_heard r w.peer.sent none))
-          (subst (λ (e : State). Meeting owners r r e r w.peer.session) (sym (end_after w a o)) (record {
-            meets = refl;
-            units = sym (other_units w due s);
-            base = sym (sym s.own.meeting.base ∙ ap (λ (r : State). r.base) (own_end w due s));
-            restart = λ k. absurd (cc);
-            connect = λ k. absurd (cc);
-            holds = λ t. own_held (has (held_by w.own.session a) t) (has (available w.own.session.units) t);
-            wants = λ m t. own_wanted (has (held_by w.own.session a) t) (has (available w.own.session.units) t);
-            absent = λ t z. own_absent (has (held_by w.own.session a) t) (has (available w.own.session.units) t) (there w a t) z;
-            released = λ d. absurd (cc);
-          })));
-    }
+own_half w a o due s = search (arith, none_under_way, empty_fits, empty_end, empty_heard, end_after, other_units, own_end, own_held, own_wanted, own_absent, there)
 
 peer_half : (w : Core) (a : Sides) (o : List ℕ) → is_restart_due w.own.session.phase ≡ true → Stands w
     → Half (turned_owners (settled_by (confirmed w.own.session a))) w.peer (answerer w.own a o)
@@ -157,12 +118,7 @@ peer_half w a o due s =
 -- ---- what was seen
 
 own_views : (w : Core) (a : Sides) (o : List ℕ) → is_restart_due w.own.session.phase ≡ true → Stands w → Views (w.history ++ []) (answerer w.own a o) w.peer
-own_views w a o due s =
-    let r = confirmed w.own.session a in
-    let none = none_under_way w due s in
-    let listens = ap (λ (q : State). hears q.phase) (own_heard w due s) ∙ ap not (excluded is_restart_due is_restarting refl w.own.session.phase due) in
-    let seen = sym (empty_view w.own.session w.peer.sent w.own.view none) ∙ s.own_views.ends listens in
-    grind (arith, empty_view, empty_heard, own_end, empty_end, append_nil)
+own_views w a o due s = search (arith, none_under_way, own_heard, excluded, empty_view, empty_heard, own_end, empty_end)
 
 peer_views : (w : Core) (a : Sides) (o : List ℕ) → is_restart_due w.own.session.phase ≡ true → Stands w → Views (w.history ++ []) w.peer (answerer w.own a o)
 peer_views w a o due s = record {
@@ -188,11 +144,7 @@ peer_views w a o due s = record {
 -- ---- the numbers
 
 own_counts : (w : Core) (a : Sides) (o : List ℕ) → is_restart_due w.own.session.phase ≡ true → Stands w → Counts (answerer w.own a o) w.peer
-own_counts w a o due s =
-    let r = confirmed w.own.session a in
-    let old = subst (λ (e : State). Counting w.own.session e (hearing w.peer w.own) w.peer.session) (own_heard w due s) s.own_counts in
-    subst (λ (e : State). Counting r e (heard w.peer.session (w.own.sent ++ answer w.own.session a o ∷ [])) w.peer.session) (sym (empty_heard r w.peer.sent (none_under_way w due s)))
-    (subst (λ (e : State). Counting r r e w.peer.session) (sym (heard_after w a o due s)) (grind (arith, other_end, other_heard, other_waits, own_end)))
+own_counts w a o due s = search (arith, own_heard, empty_heard, none_under_way, heard_after, other_end, other_heard, other_waits, own_end)
 
 peer_counts : (w : Core) (a : Sides) (o : List ℕ) → is_restart_due w.own.session.phase ≡ true → Stands w → Counts w.peer (answerer w.own a o)
 peer_counts w a o due s =

@@ -22,21 +22,7 @@ asked_stands s n r = rw r refl
 
 -- of two that cross the one stands where the other does not
 of_two : (n m : ℕ) (c : Bool) → (nat_lt m n || ((m == n) && not c)) ≡ not (nat_lt n m || ((n == m) && not (not c)))
-of_two n m c = elim (cases_order n m) [
-  | inl e ↦ by _ _ _ _ c (le-ltb m n (omega arith)) (le-ltb n m (omega arith)) (eq-eqb m n (sym e)) (eq-eqb n m e)
-  | inr (inl lt) ↦ low _ _ _ _ c (le-ltb m n (omega arith)) (lt-ltb n m lt) (ne_eqb m n (λ e. omega arith))
-  | inr (inr gt) ↦ high _ _ _ _ c (lt-ltb m n gt) (le-ltb n m (omega arith)) (ne_eqb n m (λ e. omega arith))
-]
-  where
-    by : (a b d e c : Bool) → a ≡ false → b ≡ false → d ≡ true → e ≡ true → (a || (d && not c)) ≡ not (b || (e && not (not c)))
-    by a b d e true p q r t = rw (p, q, r, t) refl
-    by a b d e false p q r t = rw (p, q, r, t) refl
-
-    low : (a b d e c : Bool) → a ≡ false → b ≡ true → d ≡ false → (a || (d && not c)) ≡ not (b || (e && not (not c)))
-    low a b d e c p q r = rw (p, q, r) refl
-
-    high : (a b d e c : Bool) → a ≡ true → b ≡ false → e ≡ false → (a || (d && not c)) ≡ not (b || (e && not (not c)))
-    high a b d e c p q r = rw (p, q, r) refl
+of_two n m c = search (arith, cases_order, le-ltb, eq-eqb, lt-ltb, ne_eqb)
 
 pub one_stands : (s r : State) (n m : ℕ) → is_restarting s.phase ≡ true → is_restarting r.phase ≡ true → s.numbers.next ≡ n → r.numbers.next ≡ m
     → r.is_caller ≡ not s.is_caller → stands s m ≡ not (stands r n)
@@ -110,13 +96,7 @@ other_base w n q s = sym s.own.meeting.base ∙ (flush_open w.own.session w.peer
 -- where no restart comes to this side the other takes one, and where one comes the other has asked
 pub other_takes : (w : Core) → Stands w → Lively (flushed w.own w.peer)
     → (takes_restart (flushed w.peer w.own).phase ≡ true) × (is_restarting (flushed w.peer w.own).phase ≡ false)
-other_takes w s l =
-    let fx = (flushed w.own w.peer).phase in
-    let fy = (flushed w.peer w.own).phase in
-    let k = and_from (matched fx fy) (is_lively fx) s.own.meeting.meets l in (
-      implied_two (λ p q. matched p q && is_lively p) (λ p q. takes_restart q) refl fx fy k,
-      not-true _ (implied_two (λ p q. matched p q && is_lively p) (λ p q. hears q) refl fx fy k),
-    )
+other_takes w s l = search (arith, and_from, implied_two, not-true)
 
 pub other_asked : (w : Core) → Stands w → is_restart_due (flushed w.own w.peer).phase ≡ true → is_restarting (flushed w.peer w.own).phase ≡ true
 other_asked w s d =
@@ -160,9 +140,7 @@ other_top w n q s l =
 
 restart_met : (s : State) (n : ℕ) → s.base ≤ n → ((is_restarting s.phase ≡ false) → n ≤ s.numbers.next)
     → (nat_le s.base n && (is_restarting s.phase || nat_le n s.numbers.next)) ≡ true
-restart_met s n from to = by_test (is_restarting s.phase)
-    (λ e. rw e (let k = le-leb s.base n from in rw k refl))
-    (λ e. rw e (let k = le-leb s.base n from in let l = le-leb n s.numbers.next (to e) in rw (k, l) refl))
+restart_met s n from to = search (arith, le-leb)
 
 pub restart_fits : (w : Core) (n : ℕ) (t : TokenSetting) (o : List ℕ) → Restarts w n → Stands w → Fits (flushed w.peer w.own) (RS resync.Restart n t o)
 restart_fits w n t o q s = record {

@@ -30,13 +30,4 @@ retoken p o now end other heard peer now' end' other' heard' peer' m a b c d t =
 
 pub recount : (now heard other_heard other now' heard' other_heard' other' : State) → Counting now heard other_heard other
     → Like now now' → Like heard heard' → Like other_heard other_heard' → Like other other' → Counting now' heard' other_heard' other'
-recount now heard other_heard other now' heard' other_heard' other' m a b c d = record {
-  flag = λ f. ap (λ (v : Numbers). v.answers) c.numbers ∙ m.flag (sym (ap (λ (v : Numbers). v.answers) a.numbers) ∙ f);
-  below = λ l n from to.
-      subst (λ (v : Numbers). n < v.next) (sym d.numbers)
-      (m.below (ap hears (sym c.phase) ∙ l) n (subst (λ (k : ℕ). k ≤ n) b.base from) (subst (λ (v : Numbers). n < v.confirmed) b.numbers to));
-  reach = λ f.
-      subst (λ (v : Numbers). lower v.next heard'.numbers.confirmed ≤ v.confirmed) (sym d.numbers)
-      (subst (λ (v : Numbers). lower other.numbers.next v.confirmed ≤ other.numbers.confirmed) (sym b.numbers)
-      (m.reach (sym (ap (λ (v : Numbers). v.answers) d.numbers) ∙ f)));
-}
+recount now heard other_heard other now' heard' other_heard' other' m a b c d = search arith

@@ -1,5 +1,5 @@
 -- What each side of a connection said, what the other heard of it, and what is under way: at one line.
-use Rattle.std.proofs.Common.{◌≡◌, refl, sym, ◌∙◌, ap, subst, ℕ, zero, suc, Bool, true, false, ◌||◌, List, [], ◌∷◌, ◌++◌, append_assoc, take, drop, Option, Some, None, Ok, inl, inr, ◌⊎◌}
+use Rattle.std.proofs.Common.{◌≡◌, refl, sym, ◌∙◌, ap, subst, ℕ, zero, suc, Bool, true, false, ◌||◌, List, [], ◌∷◌, ◌++◌, append_assoc, take, drop, Option, Some, None, Ok, inl, inr, ◌⊎◌, arith}
 use Rattle.osi_session.specs.Phases.{is_ended}
 use Rattle.osi_machine.proofs.Vocabulary.{append-nil, list_any, Input, broken as broken_off, Standing, react, after_input, may_abort, State, Meaning, Call, Granted, allowed, Begins, Message, unit, agree, deny, Transport, not_yet, waiting, put, replied, one_or_none, units_in}
 use Rattle.osi_machine.proofs.EarlyLines.{is_agree}
@@ -83,11 +83,7 @@ pub record Carried (stopped : Bool) (ch : List Message) (said heard : List Meani
 
 -- no unit is put
 pub same_units : (a b : Bool) (xs ys : List Message) (said heard : List Meaning) → units_in ys ≡ units_in xs → (a ≡ true → b ≡ true) → Carried a xs said heard → Carried b ys said heard
-same_units a b xs ys said heard e f h = record {
-  lost = h.lost;
-  splits = ap (λ (us : List Meaning). heard ++ (us ++ h.lost)) e ∙ h.splits;
-  whole = elim h.whole [ inl none ↦ inl none | inr stop ↦ inr (f stop) ];
-}
+same_units a b xs ys said heard e f h = search arith
 
 -- what stood behind so many messages is lost
 pub fewer_units : (a b : Bool) (k : ℕ) (ch : List Message) (said heard : List Meaning) → b ≡ true → Carried a ch said heard → Carried b (take k ch) said heard
@@ -129,10 +125,7 @@ one_said false parts ch said heard u n h =
 
 pub reply_said : (b parts : Bool) (ch : List Message) (said heard : List Meaning) (r : Option Meaning) → (parts ≡ true → ⊥) → Carried (b || parts) ch said heard
     → Carried (b || parts) (put b (replied r) ch) (said ++ one_or_none r) heard
-reply_said b parts ch said heard (Some u) n h = one_said b parts ch said heard u n h
-reply_said b parts ch said heard None n h =
-    subst (λ (us : List Meaning). Carried (b || parts) (put b [] ch) us heard) (sym (append-nil said))
-    (same_units (b || parts) (b || parts) ch (put b [] ch) said heard (put_no_units b [] ch refl) (λ e. e) h)
+reply_said b parts ch said heard r n h = search (arith, one_said, append-nil, same_units, put_no_units)
 
 pub begins_so : (a : Bool) (ch : List Message) (said heard : List Meaning) → Carried a ch said heard → Begins heard said
 begins_so a ch said heard h = (units_in ch ++ h.lost, h.splits)

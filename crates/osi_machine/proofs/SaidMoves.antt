@@ -55,23 +55,7 @@ past own peer peer' e h = grind (arith, is_early)
 
 -- the first message of its channel is taken
 rest_fits : (own peer : Seat) (m : Message) (ms : List Message) → own.channel ≡ m ∷ ms → Fits own peer → Fits (record own { channel = ms }) peer
-rest_fits own peer m ms e h = record {
-  waits = h.waits;
-  over_now = h.over_now;
-  early = λ k. fewer m (ap units_in (sym e) ∙ h.early k);
-  unasked = λ k. none m (ap (list_any is_agree) (sym e) ∙ h.unasked k);
-  mute = h.mute;
-  unsaid = λ k. fewer m (ap units_in (sym e) ∙ h.unsaid k);
-  first = h.first;
-}
-  where
-    fewer : (m : Message) → units_in (m ∷ ms) ≡ [] → units_in ms ≡ []
-    fewer (unit u) f = absurd (cc)
-    fewer m f = f
-
-    none : (m : Message) → list_any is_agree (m ∷ ms) ≡ false → list_any is_agree ms ≡ false
-    none agree f = absurd (cc)
-    none m f = f
+rest_fits own peer m ms e h = search arith
 
 -- its transport connection is there, or closes, and its session is another
 opened_fits : (own' peer : Seat) → is_early own'.transport ≡ false → (is_parting own'.transport ≡ true → is_over own'.session.state.phase ≡ true)
@@ -82,15 +66,7 @@ opened_fits own' peer e o m u = grind (arith, is_early)
 parts_told : (b : Bool) (l : Line) (own' : Seat) (x y : Words) → is_parting own'.transport ≡ true → is_early own'.transport ≡ false → is_over own'.session.state.phase ≡ true
     → (is_early l.peer.transport ≡ true → units_in own'.channel ≡ []) → (is_parting l.peer.transport ≡ false → Carried true own'.channel x.said y.heard)
     → Told b l x y → Told b (record l { own = own' }) x y
-parts_told b l own' x y p e o u c h = record {
-  own_fits = opened_fits own' l.peer e (λ k. o) (λ k. over_mute own'.session.state.phase o) u;
-  peer_fits = past l.peer l.own own' e h.peer_fits;
-  out = record {
-    begins = h.out.begins;
-    carried = λ k. same_units true (b || is_parting own'.transport) own'.channel own'.channel x.said y.heard refl (λ s. by_test b (λ q. rw q) (λ q. rw q p)) (c k);
-  };
-  back = record { begins = h.back.begins; carried = λ k. absurd (cc) };
-}
+parts_told b l own' x y p e o u c h = search (arith, opened_fits, over_mute, past, same_units)
 
 -- the rest of its channel is lost
 cuts_told : (b : Bool) (l : Line) (own' : Seat) (keep : ℕ) (x y : Words) → is_parting own'.transport ≡ true → is_early own'.transport ≡ false → is_over own'.session.state.phase ≡ true
@@ -104,59 +80,26 @@ cuts_told b l own' keep x y p e o u h = parts_told b l own' x y p e o
 -- nothing of its channel is lost
 goes_told : (b : Bool) (l : Line) (own' : Seat) (x y : Words) → is_parting own'.transport ≡ true → is_early own'.transport ≡ false → is_over own'.session.state.phase ≡ true
     → units_in own'.channel ≡ units_in l.own.channel → Told b l x y → Told b (record l { own = own' }) x y
-goes_told b l own' x y p e o u h = parts_told b l own' x y p e o
-    (λ k. u ∙ h.own_fits.unsaid k)
-    (λ k. same_units (b || is_parting l.own.transport) true l.own.channel own'.channel x.said y.heard u (λ s. refl) (h.out.carried k))
-    h
+goes_told b l own' x y p e o u h = search (arith, parts_told, same_units)
 
 -- a side whose transport connection is there, or comes, says a unit or none, while the other's is there too or closes
 says_told : (b : Bool) (l : Line) (s : Standing) (r : Option Meaning) (x y : Words) → is_parting l.own.transport ≡ false → is_early l.peer.transport ≡ false → Told b l x y
     → Told b (record l { own = record { transport = linked; session = s; channel = put b (replied r) l.own.channel } }) (says_more x (one_or_none r)) y
-says_told b l s r x y p e h = record {
-  own_fits = opened_fits (record { transport = linked; session = s; channel = put b (replied r) l.own.channel }) l.peer refl (λ k. absurd (cc)) (λ k. absurd (cc)) (λ k. absurd (cc));
-  peer_fits = past l.peer l.own (record { transport = linked; session = s; channel = put b (replied r) l.own.channel }) refl h.peer_fits;
-  out = record {
-    begins = begins_more x.said y.heard (one_or_none r) h.out.begins;
-    carried = λ k. reply_said b false l.own.channel x.said y.heard r (λ z. absurd (cc)) (subst (λ (d : Bool). Carried (b || d) l.own.channel x.said y.heard) p (h.out.carried k));
-  };
-  back = record { begins = h.back.begins; carried = λ k. h.back.carried p };
-}
+says_told b l s r x y p e h = search (arith, opened_fits, past, begins_more, reply_said)
 
 -- a side whose transport connection comes puts what is no unit
 links_told : (b : Bool) (l : Line) (ms : List Message) (x y : Words) → is_parting l.own.transport ≡ false → units_in ms ≡ [] → Told b l x y
     → Told b (record l { own = record { transport = linked; session = l.own.session; channel = put b ms l.own.channel } }) x y
-links_told b l ms x y p n h = record {
-  own_fits = opened_fits (record { transport = linked; session = l.own.session; channel = put b ms l.own.channel }) l.peer refl (λ k. absurd (cc)) h.own_fits.mute
-      (λ k. put_no_units b ms l.own.channel n ∙ h.own_fits.unsaid k);
-  peer_fits = past l.peer l.own (record { transport = linked; session = l.own.session; channel = put b ms l.own.channel }) refl h.peer_fits;
-  out = record {
-    begins = h.out.begins;
-    carried = λ k. same_units (b || false) (b || false) l.own.channel (put b ms l.own.channel) x.said y.heard (put_no_units b ms l.own.channel n) (λ s. s)
-        (subst (λ (d : Bool). Carried (b || d) l.own.channel x.said y.heard) p (h.out.carried k));
-  };
-  back = record { begins = h.back.begins; carried = λ k. h.back.carried p };
-}
+links_told b l ms x y p n h = search (arith, opened_fits, put_no_units, past, same_units)
 
 -- a side denies the connection, and stays as it is
 denies_told : (b : Bool) (l : Line) (reason : ℕ) (x y : Words) → Told b l x y → Told b (record l { own = record l.own { channel = put b (deny reason ∷ []) l.own.channel } }) x y
-denies_told b l reason x y h =
-    let n = put_no_units b (deny reason ∷ []) l.own.channel refl in
-    record {
-      own_fits = grind (arith, no_agree_put);
-      peer_fits = assumption;
-      out = record {
-        begins = h.out.begins;
-        carried = λ k. same_units (b || is_parting l.own.transport) (b || is_parting l.own.transport) l.own.channel (put b (deny reason ∷ []) l.own.channel) x.said y.heard n (λ s. s) (h.out.carried k);
-      };
-      back = record { begins = h.back.begins; carried = h.back.carried };
-    }
+denies_told b l reason x y h = search (arith, put_no_units, no_agree_put, same_units)
 
 -- ---- words that are none
 
 no_words : (b : Bool) (l : Line) (x y : Words) → Told b l x y → Told b l (and_more x [] []) y
-no_words b l x y h =
-    subst (λ (us : List Meaning). Told b l (record { said = x.said ++ []; heard = us }) y) (sym (append-nil x.heard))
-    (subst (λ (us : List Meaning). Told b l (record { said = us; heard = x.heard }) y) (sym (append-nil x.said)) h)
+no_words b l x y h = search (arith, append-nil)
 
 none_heard : (b : Bool) (l : Line) (x y : Words) → Told b l x y → Told b l (hears_more x []) y
 none_heard b l x y h = subst (λ (us : List Meaning). Told b l (record { said = x.said; heard = us }) y) (sym (append-nil x.heard)) h
@@ -165,9 +108,7 @@ none_heard b l x y h = subst (λ (us : List Meaning). Told b l (record { said = 
 
 -- a call that is refused changes nothing, and puts nothing
 nothing_put : (b : Bool) (l : Line) (x y : Words) → Told b l x y → Told b (record l { own = record l.own { channel = put b [] l.own.channel } }) x y
-nothing_put b l x y h = subst (λ (ch : List Message). Told b (record l { own = record l.own { channel = ch } }) x y) (sym (by_test b
-    (λ e. rw e)
-    (λ e. rw e (append-nil l.own.channel)))) h
+nothing_put b l x y h = search (arith, append-nil)
 
 -- where a call is accepted the transport connection is there at both sides, or closes at the other
 linked_there : (tr : Transport) (p : Phase) → is_given tr ≡ true → may_abort p ≡ true → (tr ≡ waiting → is_wait_transport p ≡ true) → (is_parting tr ≡ true → is_over p ≡ true) → tr ≡ linked
@@ -209,10 +150,7 @@ cut_fits keep own peer ch h = grind (arith, no_units_taken, no_agree_taken)
 
 cut_way : (b : Bool) (keep : ℕ) (own peer : Seat) (ch : List Message) (said heard : List Meaning) → Way b own peer said heard
     → Way true (record own { channel = take keep own.channel }) (record peer { channel = ch }) said heard
-cut_way b keep own peer ch said heard h = record {
-  begins = h.begins;
-  carried = λ k. fewer_units (b || is_parting own.transport) true keep own.channel said heard refl (h.carried k);
-}
+cut_way b keep own peer ch said heard h = search (arith, fewer_units)
 
 pub cut_told : (b : Bool) (left right : ℕ) (l : Line) (x y : Words) → Told b l x y → Told true (cut_line left right l) x y
 cut_told b left right l x y h = search (cut_fits, cut_way)
@@ -220,24 +158,7 @@ cut_told b left right l x y h = search (cut_fits, cut_way)
 -- ---- a new connection
 
 pub asked_told : (b : Bool) (o : Offer) → Told b (asked_with b o) silent silent
-asked_told b o = record {
-  own_fits = grind arith;
-  peer_fits = record {
-    waits = λ k. absurd (cc);
-    over_now = λ k. absurd (cc);
-    early = λ k. refl;
-    unasked = λ k. refl;
-    mute = λ k. refl;
-    unsaid = λ k. refl;
-    first = λ k n. absurd (cc);
-  };
-  out = record { begins = ([], refl); carried = λ k. record { lost = []; splits = ap (λ (us : List Meaning). us ++ []) (none b); whole = inl refl } };
-  back = record { begins = ([], refl); carried = λ k. record { lost = []; splits = refl; whole = inl refl } };
-}
-  where
-    none : (b : Bool) → units_in (put b (ask ∷ []) []) ≡ []
-    none true = refl
-    none false = refl
+asked_told b o = search arith
 
 -- ---- a message is taken
 
@@ -255,9 +176,7 @@ heard_first b l u xs x y e p h =
 
 -- what tells that the transport connection is there comes from where it is there
 agreed_there : (tr : Transport) (l : Line) (xs : List Message) → l.own.transport ≡ waiting → l.peer.channel ≡ agree ∷ xs → l.peer.transport ≡ tr → Fits l.own l.peer → Fits l.peer l.own → is_early tr ≡ false
-agreed_there not_yet l xs w e f h k = absurd (let n = ap (list_any is_agree) (sym e) ∙ k.unasked f in cc)
-agreed_there waiting l xs w e f h k = absurd (h.first w f)
-agreed_there tr l xs w e f h k = refl
+agreed_there tr l xs w e f h k = search arith
 
 -- a unit comes from where the transport connection is there
 unit_there : (early : Bool) (l : Line) (u : Meaning) (xs : List Message) → l.peer.channel ≡ unit u ∷ xs → is_early l.peer.transport ≡ early → Fits l.peer l.own → early ≡ false

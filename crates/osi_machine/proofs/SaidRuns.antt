@@ -80,15 +80,7 @@ quiet_holds side b x y o h = subst (λ (w : Words). HoldsAt side b w y o) (quiet
 -- ---- a new connection
 
 asked_knows : (t : Tables) (r : ℕ) (o : Offer) (a : Option Refusal) (x y : Words) → Holds t.broken x y (connection_at r t.lines) → Holds (asked_in t o a).broken x y (connection_at r (asked_in t o a).lines)
-asked_knows t r o (Some e) x y h = h
-asked_knows t r o None x y h = elim (new_there r t.lines (asked_with t.broken o)) [
-  | inl e ↦ same_holds Left t.broken x y _ _ e h
-  | inr e ↦
-      let s = subst (Holds t.broken x y) e.0 h in
-      same_holds Left t.broken x y _ _ e.1
-      (subst (λ (w : Words). Told t.broken (asked_with t.broken o) w y) (sym s.0)
-      (subst (λ (w : Words). Told t.broken (asked_with t.broken o) silent w) (sym s.1) (asked_told t.broken o)))
-]
+asked_knows t r o a x y h = search (arith, new_there, same_holds, asked_told)
 
 -- ---- a call
 
@@ -110,12 +102,7 @@ call_knows : SayLaws → (t : Tables) (side : Side) (q r : ℕ) (c : Call) (x y 
     → HoldsAt side (call_in t side q c (side_of side (connection_at q t.lines))).broken
     (and_more x (if q == r then said_at_call c (side_of side (connection_at r t.lines)) else []) []) y
     (connection_at r (call_in t side q c (side_of side (connection_at q t.lines))).lines)
-call_knows laws t side q r c x y h = by_test (q == r)
-    (λ e. rw e (subst (λ (n : ℕ). HoldsAt side (call_in t side n c (side_of side (connection_at n t.lines))).broken
-    (and_more x (said_at_call c (side_of side (connection_at r t.lines))) []) y
-    (connection_at r (call_in t side n c (side_of side (connection_at n t.lines))).lines)) (sym (eqb-true q r e))
-    (call_same laws t side r c x y (connection_at r t.lines) refl h)))
-    (λ e. rw e (quiet_holds side _ x y _ (call_other t side q r c x y (connection_at q t.lines) (not_equal q r e) h)))
+call_knows laws t side q r c x y h = search (arith, eqb-true, call_same, quiet_holds, call_other, not_equal)
 
 -- ---- the end of a side
 
@@ -133,9 +120,7 @@ ended_knows laws side keep b ls r x y (Some l) e h =
 
 end_knows : SayLaws → (side : Side) (e : Ending) (keep : ℕ → ℕ) (t : Tables) (r : ℕ) (x y : Words) → HoldsAt side t.broken x y (connection_at r t.lines)
     → HoldsAt side (after_end side e keep t).broken x y (connection_at r (after_end side e keep t).lines)
-end_knows laws side e keep t r x y h =
-    marked_knows side e (noted (shown_in_order side 1 t.lines ++ ended side e ∷ []) (record t { lines = ended_lines side keep 1 t.lines })) r x y
-    (ended_knows laws side keep t.broken t.lines r x y (connection_at r t.lines) refl h)
+end_knows laws side e keep t r x y h = search (arith, marked_knows, ended_knows)
 
 -- ---- a delivery
 
@@ -235,9 +220,7 @@ break_knows t left right r x y h = grind (arith, cut_knows)
 
 ends_knows : SayLaws → (t : Tables) (side : Side) (e : Ending) (keep : ℕ → ℕ) (r : ℕ) (x y : Words) → HoldsAt side t.broken x y (connection_at r t.lines)
     → HoldsAt side (step t (ends side e keep)).broken x y (connection_at r (step t (ends side e keep)).lines)
-ends_knows laws t side e keep r x y h = by_test (is_some (end_of side t) || not (is_told e t.broken))
-    (λ q. rw q h)
-    (λ q. rw q (end_knows laws side e keep t r x y h))
+ends_knows laws t side e keep r x y h = search (arith, end_knows)
 
 -- ---- a step, and a list of steps
 
@@ -282,10 +265,7 @@ line_of_side side b x y None l h e = absurd (cc)
 line_of_side side b x y (Some k) l h e = subst (λ (v : Line). Told b v x y) (some_same (seen_from side k) l e) (told_from side b k x y h)
 
 heard_begins : (side : Side) (b : Bool) (x y : Words) (o : Option Line) → HoldsAt side b x y o → Begins x.heard y.said
-heard_begins side b x y None h =
-    let e = none_at side b x y h in
-    ([], append-nil x.heard ∙ ap (λ (w : Words). w.heard) e.0 ∙ sym (ap (λ (w : Words). w.said) e.1))
-heard_begins side b x y (Some l) h = (told_from side b l x y h).back.begins
+heard_begins side b x y o h = search (arith, none_at, append-nil, told_from)
 
 then_under_way : (a : Bool) (ch : List Message) (said heard : List Meaning) → Carried a ch said heard → Begins (heard ++ units_in ch) said
 then_under_way a ch said heard h = (h.lost, append_assoc heard (units_in ch) h.lost ∙ h.splits)
@@ -295,29 +275,14 @@ or_false true b e f g = cc
 or_false false b e f g = cc
 
 and_all : (a : Bool) (ch : List Message) (said heard : List Meaning) → (a ≡ true → ⊥) → Carried a ch said heard → heard ++ units_in ch ≡ said
-and_all a ch said heard n h = elim h.whole [
-  | inl e ↦ ap (λ (us : List Meaning). heard ++ us) (sym (append-nil (units_in ch))) ∙ ap (λ (us : List Meaning). heard ++ (units_in ch ++ us)) (sym e) ∙ h.splits
-  | inr stop ↦ absurd (n stop)
-]
+and_all a ch said heard n h = search (arith, append-nil)
 
 -- one side at a time: `t` is what the tables are after all steps
 heard_as_said : (side : Side) (r : ℕ) (terms : Terms) (steps : List Step) (said : List Meaning) (heard : List Meaning)
     → HoldsAt side (run (start terms) steps).broken (record { said = said; heard = heard_in side r (start terms) steps })
     (record { said = said_in (other_side side) r (start terms) steps; heard = heard }) (connection_at r (run (start terms) steps).lines)
     → IsHeardAsSaid side r terms steps
-heard_as_said side r terms steps said heard h =
-    let t = run (start terms) steps in
-    let x : Words = record { said = said; heard = heard_in side r (start terms) steps } in
-    let y : Words = record { said = said_in (other_side side) r (start terms) steps; heard = heard } in
-    record {
-      begins = heard_begins side t.broken x y (connection_at r t.lines) h;
-      under_way = λ l e p.
-          then_under_way (t.broken || is_parting l.peer.transport) l.peer.channel y.said x.heard
-          ((line_of_side side t.broken x y (connection_at r t.lines) l h e).back.carried p);
-      whole = λ l e p q b.
-          and_all (t.broken || is_parting l.peer.transport) l.peer.channel y.said x.heard (or_false t.broken (is_parting l.peer.transport) b q)
-          ((line_of_side side t.broken x y (connection_at r t.lines) l h e).back.carried p);
-    }
+heard_as_said side r terms steps said heard h = search (arith, heard_begins, then_under_way, line_of_side, and_all, or_false)
 
 pub heard_was_said : SayLaws → (side : Side) (r : ℕ) (terms : Terms) (steps : List Step) → IsHeardAsSaid side r terms steps
 heard_was_said laws Left r terms steps =

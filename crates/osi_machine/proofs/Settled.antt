@@ -38,10 +38,7 @@ each_of p h = let a = h data_token in let b = h minor in let c = h major in let 
 
 pub settled_answers : (u : FunctionalUnits) (w : TokenSetting) (a : Sides) → answers_wishes u w (setting_of (settle u w a)) ≡ true
 unfolding answers_wishes
-settled_answers u w a =
-    each_of (λ t. allows (has (available u) t) (wish_for w t) (wish_for (setting_of (settle u w a)) t))
-    (λ t. ap (allows (has (available u) t) (wish_for w t)) (setting_wish (settle u w a) t ∙ ap wish_of (settle_side u w a t))
-    ∙ one_allowed (has (available u) t) (wish_for w t) (side_for a t))
+settled_answers u w a = search (arith, each_of, setting_wish, settle_side, one_allowed)
 
 -- ---- the tokens of either side
 
@@ -63,16 +60,7 @@ asker_there u s t h = grind (arith, asker_has)
 -- and the asker's are the others
 pub asker_holds : (u : FunctionalUnits) (w : TokenSetting) (a : Sides) (t : Token)
     → has (of_asker u (stated u (setting_of (settle u w a)))) t ≡ (has (available u) t && not (has (of_answerer u (settle u w a)) t))
-asker_holds u w a t =
-    asker_has u (stated u (setting_of (settle u w a))) t
-    ∙ ap (λ (s : Side). has (available u) t && is_asker s) (stated_settled u w a t)
-    ∙ other (has (available u) t) (is_asker (side_for (settle u w a) t))
-    ∙ ap (λ (b : Bool). has (available u) t && not b) (sym (answerer_has u (settle u w a) t))
-  where
-    other : (a b : Bool) → (a && b) ≡ (a && not (a && not b))
-    other true true = refl
-    other true false = refl
-    other false b = refl
+asker_holds u w a t = search (arith, asker_has, stated_settled, answerer_has)
 
 -- ---- their owners: h is whether the answerer holds it, a whether it is available
 

@@ -61,9 +61,7 @@ same_seen : (s r : State) (u : Meaning) (v : List Item) → is_restarting s.phas
 same_seen s r u v h k e = grind (arith, listening_stands)
 
 pub same_view : (s r : State) (u : Meaning) (v : List Item) → is_restarting s.phase ≡ false → is_restarting r.phase ≡ false → Still s r → view_next r u v ≡ view_next s u v
-same_view s r u v h k e =
-    ap (λ (b : Bool). if b then v else seen r u v) (same_drops s r u h k)
-    ∙ ap (λ (x : List Item). if drops s u then v else x) (same_seen s r u v h k e)
+same_view s r u v h k e = search (arith, same_drops, same_seen)
 
 pub due_listens : (s : State) → is_restart_due s.phase ≡ true → is_restarting s.phase ≡ false
 due_listens s h = excluded is_restart_due is_restarting refl s.phase h
@@ -88,12 +86,7 @@ restarted s n w = record (without_tokens RestartDue s) { wishes = w; numbers = r
 
 stood_due : (s r : State) (u : Meaning) → stops s u ≡ true → stops r u ≡ true → Still s r → Due (becomes s u) (becomes r u)
 unfolding restarted_at
-stood_due s r (RS j n w o) p q e =
-    let a : becomes s (RS j n w o) ≡ restarted s n w = ap (λ (b : Bool). if b then restarted s n w else s) p in
-    let b : becomes r (RS j n w o) ≡ restarted r n w = ap (λ (c : Bool). if c then restarted r n w else r) q in
-    let d : Due (restarted s n w) (restarted r n w) = (search) in
-    subst (λ (x : State). Due x (becomes r (RS j n w o))) (sym a) (subst (Due (restarted s n w)) (sym b) d)
-stood_due s r _ p q e = absurd (cc)
+stood_due s r u p q e = search arith
 
 inv_fits : (k : Shift) (s : State) (u : Meaning) → k.inv s → k.never u ≡ false → Fits s u → Fits (k.to s) u
 inv_fits k s u i n f = record {

@@ -43,19 +43,4 @@ not_asked o r = cc
 
 pub starts_stand : (o : Offer) → CanBeOffered o → IsOfProfile (functional_units o.requirements) → has_data (functional_units o.requirements) ≡ true
     → Stands (core_start o)
-starts_stand o small p h =
-    let e = is_answered o small.1 h in
-    let fits : Fits awaiting (offer_sent o) = record { plain = refl; good = λ d. record { expected = refl; met = tt } } in
-    record {
-      consistent = starts o small;
-      own = record { fits = tt; meeting = subst (λ (s : State). Meeting no_owner (offering o) (offering o) s (offering o) awaiting) e (own_meets o) };
-      peer = record {
-        fits = (fits, tt);
-        meeting = subst (λ (s : State). Meeting (turned_owners no_owner) awaiting s (offering o) s (offering o)) e (peer_meets o);
-      };
-      own_views = record { ends = λ l. refl; cut = λ r. absurd (cc); due = λ r. absurd (cc); stream = λ d. (refl, refl) };
-      peer_views = search not_asked;
-      own_counts = subst (λ (s : State). Counting (offering o) (offering o) s awaiting) e (own_counts o);
-      peer_counts = subst (λ (s : State). Counting awaiting s (offering o) (offering o)) e (peer_counts o);
-      pair = record { numbered = tt; one_way = λ d. refl; callers = refl; profile = p };
-    }
+starts_stand o small p h = search (arith, is_answered, starts, own_meets, peer_meets, not_asked, own_counts, peer_counts)

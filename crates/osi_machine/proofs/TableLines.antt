@@ -63,9 +63,7 @@ turned_tabled l w h = record {
 -- ---- what a session that is over leaves of its tokens
 
 pub theirs_stay : (s : State) (w : World) → session_of (turned (record w { owner = left_by s w.owner })) ≡ session_of (turned w)
-theirs_stay s w =
-    ap (λ h. state_from w.peer.kept h (w.peer.kept.base + points (take w.peer.mark w.history)))
-    (owned_as (λ t. turned_owner (left_by s w.owner t)) (λ t. turned_owner (w.owner t)) (λ t. left_theirs s w.owner t))
+theirs_stay s w = search (arith, owned_as, left_theirs)
 
 -- a side that is lost or denied
 pub gone_state : (w : World) → session_of (record w { owner = given_up w.owner; own = record w.own { kept = kept_of (without_tokens Ended (session_of w)) } }) ≡ without_tokens Ended (session_of w)
@@ -73,39 +71,23 @@ gone_state w = ap (λ h. state_from (kept_of (without_tokens Ended (session_of w
 
 pub gone_seated : (w : World) (tr : Transport) (ms : List Message) (a b : Option Meaning) → is_begun tr ≡ true → AreSeated w a b
     → AreSeated (record w { owner = given_up w.owner; own = record w.own { transport = tr; kept = kept_of (without_tokens Ended (session_of w)); channel = ms } }) a b
-gone_seated w tr ms a b e h = record {
-  own = begun_seated (record w { owner = given_up w.owner; own = record w.own { transport = tr; kept = kept_of (without_tokens Ended (session_of w)); channel = ms } }) a e (λ o t. own_gone (w.owner t));
-  peer = grind (arith, given_theirs);
-}
+gone_seated w tr ms a b e h = search (arith, begun_seated, own_gone, given_theirs)
 
 -- ---- a call
 
 refused_call : (broken : Bool) (c : Call) (w : World) (a b : Option Meaning) (e : CallError) → allowed (session_of w) c ≡ Err e
     → tables.after_call broken c (line_of w a b) ≡ line_of w a b
 unfolding react
-refused_call broken c w a b e h =
-    ap (λ x. tables.made broken (answered_move (record { state = session_of w; waiting = a }) x) (line_of w a b)) h
-    ∙ ap (λ ch. record { own = record { transport = w.own.transport; session = record { state = session_of w; waiting = a }; channel = ch }; peer = seat_of (turned w) b }) (put_nothing broken w.own.channel)
+refused_call broken c w a b e h = search (arith, put_nothing)
 
 accepted_call : (broken : Bool) (c : Call) (w : World) (a b : Option Meaning) (g : Granted) → allowed (session_of w) c ≡ Ok g → Followed w (after_call broken (session_of w) c g w) g.next
     → tables.after_call broken c (line_of w a b) ≡ line_of (after_call broken (session_of w) c g w) a b
 unfolding react
-accepted_call broken c w a b g h f =
-    let own = sym f.own in
-    let peer = sym f.peer in
-    ap (λ x. tables.made broken (answered_move (record { state = session_of w; waiting = a }) x) (line_of w a b)) h
-    ∙ (λ i. record {
-      own = record { transport = w.own.transport; session = record { state = own i; waiting = a }; channel = put broken (unit g.sent ∷ []) w.own.channel };
-      peer = record { transport = w.peer.transport; session = record { state = peer i; waiting = b }; channel = w.peer.channel };
-    })
+accepted_call broken c w a b g h f = search arith
 
 pub error_as : (s : State) (a : Option Meaning) (c : Call) → (react (record { state = s; waiting = a }) (called c)).error ≡ error_of (allowed s c)
 unfolding react
-error_as s a c = by (allowed s c)
-  where
-    by : (x : Answer) → (answered_move (record { state = s; waiting = a }) x).error ≡ error_of x
-    by (Ok g) = refl
-    by (Err e) = refl
+error_as s a c = search arith
 
 pub call_tabled : SessionLaws → (broken : Bool) (w : World) (a b : Option Meaning) (t u : Told) (c : Call) → HasSerial c → Repeats broken w t u → AreSeated w a b
     → Tabled (tables.after_call broken c (line_of w a b)) (after_answer broken c w (allowed (session_of w) c))
@@ -127,9 +109,7 @@ call_tabled laws broken w a b t u c small h s = by (allowed (session_of w) c) re
 
 pub refused_tabled : (broken : Bool) (w : World) (a b : Option Meaning) (c : Call) → Refuses (session_of w) c → AreSeated w a b
     → Tabled (tables.after_call broken c (line_of w a b)) (after_answer broken c w (allowed (session_of w) c))
-refused_tabled broken w a b c r s =
-    subst (λ (x : Answer). Tabled (tables.after_call broken c (line_of w a b)) (after_answer broken c w x)) (sym r.refused)
-    (record { first = a; second = b; same = refused_call broken c w a b r.fault r.refused; seated = s })
+refused_tabled broken w a b c r s = search (arith, refused_call)
 
 -- ---- a unit is taken
 
@@ -141,27 +121,7 @@ unit_turn : SaysItsUnit → (broken : Bool) (w : World) (ms : List Message) (a b
     → Followed w (unit_taken broken (without_first w ms) u).world (respond_unit (session_of w) u).next
     → tables.hears broken linked (taken (said_of u)) (line_of (without_first w ms) a b) ≡ turn_of (unit_taken broken (without_first w ms) u) a b
 unfolding react
-unit_turn says broken w ms a b u e f =
-    let own = sym f.own in
-    let peer = sym f.peer in
-    let o = says (session_of w) u in
-    let tr = sym e in
-    (λ i. record {
-      line = record {
-        own = record { transport = linked; session = record { state = (o i).next; waiting = a }; channel = put broken (replied (o i).reply) w.own.channel };
-        peer = record { transport = w.peer.transport; session = record { state = session_of (turned w); waiting = b }; channel = ms };
-      };
-      shown = (o i).shown;
-      closes = (o i).closes;
-    })
-    ∙ (λ i. record {
-      line = record {
-        own = record { transport = tr i; session = record { state = own i; waiting = a }; channel = put broken (replied (respond_unit (session_of w) u).reply) w.own.channel };
-        peer = record { transport = w.peer.transport; session = record { state = peer i; waiting = b }; channel = ms };
-      };
-      shown = (respond_unit (session_of w) u).shown;
-      closes = (respond_unit (session_of w) u).closes;
-    })
+unit_turn says broken w ms a b u e f = search arith
 
 pub unit_tabled : SessionLaws → SaysItsUnit → (broken : Bool) (w : World) (a b : Option Meaning) (t u : Told) (m : Meaning) (ms : List Message) → Repeats broken w t u → w.peer.channel ≡ unit m ∷ ms
     → w.own.transport ≡ linked → AreSeated w a b → TurnTabled (tables.hears broken linked (taken (said_of m)) (line_of (without_first w ms) a b)) (unit_taken broken (without_first w ms) m)

@@ -6,7 +6,7 @@ use Rattle.osi_machine.proofs.Projects.{stopped, is_begun}
 use Rattle.osi_machine.proofs.ProjectCall.{own_gone, left_theirs}
 use Rattle.osi_machine.proofs.ProjectTake.{put_nothing}
 use Rattle.osi_machine.proofs.Lines.{cut_to}
-use Rattle.osi_machine.proofs.TableSeats.{state_from, owned_none, owned_as}
+use Rattle.osi_machine.proofs.TableSeats.{state_from, owned_as}
 use Rattle.osi_machine.proofs.TableLines.{seat_of, line_of, AreSeated, Tabled, TurnTabled, begun_seated, gone_seated, gone_state, theirs_stay}
 use Rattle.osi_machine.proofs.PhaseLaws.{if_yes, by_test}
 
@@ -42,37 +42,10 @@ asked_tabled broken (denies reason) w a b e h = record { first = a; second = b; 
 waits_now : (w : World) → w.own.kept ≡ kept_of (without_tokens WaitTransport (offering w.offer)) → is_wait_transport w.own.kept.phase ≡ true
 waits_now w e = ap (λ (k : Kept). is_wait_transport k.phase) e
 
-started_state : (w : World) → w.own.kept ≡ kept_of (without_tokens WaitTransport (offering w.offer)) → ((t : Token) → is_own (w.owner t) ≡ false)
-    → without_tokens Connecting (session_of w) ≡ session_of (record w { own = record w.own { kept = kept_of (offering w.offer) } })
-started_state w e none =
-    ap (λ (k : Kept). state_from (kept_of (without_tokens Connecting (state_from k no_token 0))) no_token (k.base + points (take w.own.mark w.history))) e
-    ∙ ap (λ (h : Tokens). state_from (kept_of (offering w.offer)) h (0 + points (take w.own.mark w.history))) (sym (owned_none w.owner none))
-
 agreed_tabled : (broken : Bool) (w : World) (a b : Option Meaning) → w.own.transport ≡ waiting → AreSeated w a b
     → TurnTabled (tables.hears broken linked opened (line_of w a b)) (unchanged (moved broken linked (offering w.offer) (unit (offer_sent w.offer) ∷ []) w))
 unfolding react
-agreed_tabled broken w a b e h =
-    let own = started_state w (h.own.called e) (h.own.bare (ap is_begun e)) in
-    let cn = h.own.calls e in
-    let opens = if_yes (is_wait_transport w.own.kept.phase) (begun (record { state = session_of w; waiting = a })) (rests (record { state = session_of w; waiting = a })) (waits_now w (h.own.called e)) in
-    record {
-      first = None;
-      second = b;
-      same =
-          ap (λ (x : Move). record {
-            line = tables.in_transport linked (tables.made broken x (line_of w a b));
-            shown = x.shown;
-            closes = x.closes;
-          }) opens
-          ∙ (λ i. tables.unseen (record {
-            own = record { transport = linked; session = record { state = own i; waiting = None }; channel = put broken (replied (cn i)) w.own.channel };
-            peer = seat_of (turned w) b;
-          }));
-      seated = record {
-        own = begun_seated (moved broken linked (offering w.offer) (unit (offer_sent w.offer) ∷ []) w) None refl (λ o t. absurd (cc));
-        peer = record { calls = h.peer.calls; called = h.peer.called; idle = h.peer.idle; bare = h.peer.bare; disowned = h.peer.disowned };
-      };
-    }
+agreed_tabled broken w a b e h = grind arith
 
 denied_tabled : (broken : Bool) (reason : ℕ) (w : World) (a b : Option Meaning) → w.own.transport ≡ waiting → AreSeated w a b
     → TurnTabled (tables.hears broken gone (refused reason) (line_of w a b)) (moves (moved broken gone (without_tokens Ended (session_of w)) [] w) (RefusedByTransport reason ∷ []))

@@ -16,10 +16,7 @@ use Rattle.osi_machine.proofs.Whole.{Whole}
 -- ---- the machine and its tables side by side
 
 line_as : (w : World) (l : Line) → Tabled l w → IsLine w l
-line_as w l h = subst (IsLine w) (sym h.same) (record {
-  own = record { transport = refl; state = refl; channel = refl };
-  peer = record { transport = refl; state = refl; channel = refl };
-})
+line_as w l h = search arith
 
 lines_as : (ws : List World) (ls : List Line) → AllTabled ls ws → AreLines ws ls
 lines_as [] [] h = tt
@@ -45,10 +42,7 @@ record IsThere (m : Machine) (r : ℕ) (l : Line) : Type 0 where
   tabled : Tabled l world
 
 line_found : (m : Machine) (r : ℕ) (l : Line) (a : Option Line) (b : Option World) → At a b → a ≡ Some l → connection_at r m.worlds ≡ b → IsThere m r l
-line_found m r l (Some x) (Some w) h e q = record { world = w; found = q; tabled = subst (λ (y : Line). Tabled y w) (some_same x l e) h }
-line_found m r l None (Some w) h e q = absurd h
-line_found m r l None None h e q = absurd (cc)
-line_found m r l (Some x) None h e q = absurd h
+line_found m r l a b h e q = grind arith
 
 offers_got : (ws : List World) (r : ℕ) (w : World) → slice_get ws r ≡ Some w → slice_get (map offer_of ws) r ≡ Some w.offer
 offers_got [] r w e = absurd (cc)

@@ -16,7 +16,6 @@ use Rattle.osi_machine.proofs.ProjectCall.{own_gone, left_theirs, call_projects,
 use Rattle.osi_machine.proofs.ProjectTake.{First, Last, split_first, take_projects}
 use Rattle.osi_machine.proofs.ProjectLast.{last_good, last_projects, over_as, over_projects}
 use Rattle.osi_machine.proofs.ProjectWorld.{Repeats, refused}
-use Rattle.osi_machine.proofs.TakeRestart.{pool_theirs}
 use Rattle.osi_machine.proofs.PhaseLaws.{by_test}
 
 -- ---- a side, by what it keeps, holds and counts
@@ -52,19 +51,12 @@ owned_now broken w c s o d = by_test (stopped w.own) (λ e. rw e (owned_none w.o
 
 seat_state : (broken : Bool) (w : World) (c : Core) → Stands c → w.history ≡ c.history → OneSide broken w c → Disowned w
     → session_of w ≡ state_from w.own.kept (unless_over (stopped w.own) c.own.session.held) c.own.session.numbers.next
-seat_state broken w c s h o d =
-    let held = owned_now broken w c s o d in
-    let next = next_is w c s h o.counted in
-    λ i. state_from w.own.kept (held i) (next i)
+seat_state broken w c s h o d = search (arith, owned_now, next_is)
 
 -- a side that is left alone
 seat_same : (broken : Bool) (w v : World) (c d : Core) → Stands c → Stands d → w.history ≡ c.history → v.history ≡ d.history → OneSide broken w c → OneSide broken v d
     → Disowned w → Disowned v → v.own.kept ≡ w.own.kept → d.own.session ≡ c.own.session → session_of v ≡ session_of w
-seat_same broken w v c d s r h k o p x y same still =
-    seat_state broken v d r k p y
-    ∙ ap (λ (q : Kept). state_from q (unless_over (is_over q.phase) d.own.session.held) d.own.session.numbers.next) same
-    ∙ ap (λ (q : State). state_from w.own.kept (unless_over (stopped w.own) q.held) q.numbers.next) still
-    ∙ sym (seat_state broken w c s h o x)
+seat_same broken w v c d s r h k o p x y same still = search (arith, seat_state)
 
 lives_as : (s : State) → is_over s.phase ≡ false → state_from (kept_of s) (unless_over (is_over s.phase) s.held) s.numbers.next ≡ s
 lives_as s e = ap (λ (b : Bool). state_from (kept_of s) (unless_over b s.held) s.numbers.next) e
@@ -81,11 +73,7 @@ none_called : (s : State) (c : Call) (o : Owners) (t : Token) → is_own (turned
 none_called s c o t e = grind (arith, not_theirs, given_theirs)
 
 none_after : (s : State) (u : Meaning) (o : Owners) (t : Token) → is_own (turned_owner (o t)) ≡ false → is_own (turned_owner (owners_after s u o t)) ≡ false
-none_after s (GT k) o t e = by_test (has k t) (λ q. rw q) (λ q. rw q e)
-none_after s (AC v r n x z y) o t e = by_test (has (becomes s (AC v r n x z y)).held t) (λ l. rw l) (λ l. rw l e)
-none_after s (RA n x y) o t e = by_test (has (becomes s (RA n x y)).held t) (λ c. rw c) (λ c. rw c e)
-none_after s (RS k n x y) o t e = by_test (stands s n) (λ i. rw i (pool_theirs (o t))) (λ i. rw i e)
-none_after s _ o t e = e
+none_after s u o t e = grind arith
 
 pub called_disowned : (broken : Bool) (s : State) (x : Call) (g : Granted) (w : World) → Disowned (turned_world w)
     → Disowned (after_call broken s x g w) × Disowned (turned_world (after_call broken s x g w))

@@ -76,27 +76,11 @@ well_broken laws s h w = record { sound = sound_after laws s broken_off tt h; wa
 
 well_opened : SendLaws → (s : Standing) → IsSound s.state → CanBeSent s.waiting → IsWell (react s opened)
 unfolding react
-well_opened laws s h w = record { sound = sound_after laws s opened tt h; waits = waits (is_wait_transport s.state.phase); reply = reply (is_wait_transport s.state.phase) }
-  where
-    waits : (b : Bool) → CanBeSent (if b then begun s else rests s).next.waiting
-    waits true = tt
-    waits false = w
-
-    reply : (b : Bool) → CanBeSent (if b then begun s else rests s).reply
-    reply true = w
-    reply false = tt
+well_opened laws s h w = search (arith, sound_after)
 
 well_refused : SendLaws → (s : Standing) (reason : ℕ) → IsSound s.state → CanBeSent s.waiting → IsWell (react s (refused reason))
 unfolding react
-well_refused laws s reason h w = record { sound = sound_after laws s (refused reason) tt h; waits = waits (is_wait_transport s.state.phase); reply = reply (is_wait_transport s.state.phase) }
-  where
-    waits : (b : Bool) → CanBeSent (if b then denied reason s else rests s).next.waiting
-    waits true = w
-    waits false = w
-
-    reply : (b : Bool) → CanBeSent (if b then denied reason s else rests s).reply
-    reply true = tt
-    reply false = tt
+well_refused laws s reason h w = search (arith, sound_after)
 
 -- ---- a connection
 
@@ -156,31 +140,16 @@ short_selector (Some octets) h = ltb-false 16 (length octets) h
 
 offer_sendable : (o : Offer) → CanBeOffered o → is_long o ≡ false → IsSendable (offer_sent o)
 unfolding user_data_of
-offer_sendable o small h =
-    let a = or_parts (is_long_selector o.calling_selector) _ h in
-    let b = or_parts (is_long_selector o.called_selector) _ a.1 in
-    let c = leb-true (length o.octets) 10240 (not-false _ b.1) in
-    grind (arith, short_selector)
-  where
-    numbered : (b : Bool) → o.serial < 1000000 → IsSmall (if b then Some o.serial else None)
-    numbered true k = omega arith
-    numbered false k = tt
+offer_sendable o small h = search (arith, or_parts, leb-true, not-false, short_selector)
 
 calling_sound : (o : Offer) → CanBeOffered o → IsSound (without_tokens WaitTransport (offering o))
-calling_sound o small = grind arith
-  where
-    first : (b : Bool) → (if b then o.serial else 0) < 1000000
-    first true = small.0
-    first false = omega arith
+calling_sound o small = search arith
 
 awaiting_sound : IsSound awaiting
 awaiting_sound = grind arith
 
 asked_line : (b : Bool) (o : Offer) → CanBeOffered o → is_long o ≡ false → IsSoundLine (asked_with b o)
-asked_line b o small h = record {
-  own = record { sound = calling_sound o small; waits = offer_sendable o small h; under_way = put_sendable b (ask ∷ []) [] tt tt };
-  peer = record { sound = awaiting_sound; waits = tt; under_way = tt };
-}
+asked_line b o small h = search (arith, calling_sound, offer_sendable, put_sendable, awaiting_sound)
 
 asked_short : (ended_now : Bool) (known : Option Class) (asked : List Transport) (o : Offer) → refusal_by ended_now known asked o ≡ None → is_long o ≡ false
 asked_short ended_now known asked o h = grind (arith, if_none)
@@ -230,9 +199,7 @@ closes_sound laws (Some class_2) t side r keep l k h = all_with IsSoundLine r _ 
 closes_sound laws _ t side r keep l k h = end_sound laws side closed_here keep (stays t side r l) (all_with IsSoundLine r _ t.lines (side_line side l k) h)
 
 turn_sound : SendLaws → (t : Tables) (side : Side) (r : ℕ) (keep : ℕ → ℕ) (x : Turn) → IsSoundLine x.line → Sound t → Sound (after_turn t side r keep x)
-turn_sound laws t side r keep x k h =
-    if_sound x.closes (closes_by t.known (noted (map (shown_at side r) x.shown) t) side r keep x.line) (noted (map (shown_at side r) x.shown) (stays t side r x.line))
-    (closes_sound laws t.known (noted (map (shown_at side r) x.shown) t) side r keep x.line k h) (all_with IsSoundLine r _ t.lines (side_line side x.line k) h)
+turn_sound laws t side r keep x k h = search (arith, if_sound, closes_sound, all_with, side_line)
 
 taken_sound : SendLaws → (t : Tables) (side : Side) (r : ℕ) (keep : ℕ → ℕ) (l : Line) → IsSoundLine l → Sound t → (ms : List Message) → AreSendable ms → Sound (taken_in t side r keep l ms)
 taken_sound laws t side r keep l k h [] s = h
@@ -257,11 +224,7 @@ cut_sound left right k (l ∷ ls) h = (
 )
 
 step_sound : SendLaws → (t : Tables) (s : Step) → HasNumber s → Sound t → Sound (step t s)
-step_sound laws t (connects o) small h = asked_sound t o small h (refusal t o) refl
-step_sound laws t (calls side r c) small h = call_sound laws t side r c small h (connection_at r t.lines) refl
-step_sound laws t (delivers side r keep) small h = if_sound (is_some (end_of side t)) t _ h (delivery_sound laws t side r keep h (connection_at r t.lines) refl)
-step_sound laws t (breaks left right) small h = if_sound t.broken t _ h (cut_sound left right 1 t.lines h)
-step_sound laws t (ends side e keep) small h = if_sound (is_some (end_of side t) || not (is_told e t.broken)) t _ h (end_sound laws side e keep t h)
+step_sound laws t s small h = search (arith, asked_sound, call_sound, if_sound, delivery_sound, cut_sound, end_sound)
 
 run_sound : SendLaws → (t : Tables) (steps : List Step) → AllByRecursion HasNumber steps → Sound t → Sound (run t steps)
 run_sound laws t [] small h = h

@@ -20,29 +20,7 @@ bare_lacks s t e = ap (λ (k : Tokens). has k t) e ∙ none_held t
 
 answer_gains : (w : Core) (n : ℕ) (sides : TokenSetting) (o : List ℕ) (us : List Meaning) → drops w.own.session (RA n sides o) ≡ false → Stands (at w (RA n sides o ∷ us))
     → Gains w (RA n sides o) us (becomes w.own.session (RA n sides o)) (of_asker w.own.session.units (stated w.own.session.units sides))
-answer_gains w n sides o us d h =
-    let g = h.own.fits.0.good d in
-    let bare = h.consistent.own.sound.tokens (excluded is_restarting may_hold refl w.own.session.phase g.expected) in
-    record {
-      acts = d;
-      stays = refl;
-      next = next_acted w.own.session (RA n sides o) d;
-      view = refl;
-      silent = refl;
-      empty = refl;
-      history = refl;
-      owner = refl;
-      before = λ t e. bare_lacks w.own.session t bare;
-      after = λ t e. e;
-      kept = λ t e. e ∙ sym (bare_lacks w.own.session t bare);
-      there = λ t e. asker_there w.own.session.units (stated w.own.session.units sides) t e;
-      phase = refl;
-      released = λ r. absurd (let a = h.peer.meeting.released r in let b = excluded is_restarting is_releasing refl w.own.session.phase g.expected in cc);
-      flag = h.own_counts.flag;
-      below = h.peer_counts.below;
-      reach = h.peer_counts.reach;
-      caller = refl;
-    }
+answer_gains w n sides o us d h = search (arith, excluded, next_acted, bare_lacks, asker_there)
 
 pub restarted_taken : SessionLaws → (w : Core) (n : ℕ) (sides : TokenSetting) (o : List ℕ) (us : List Meaning) → w.peer.sent ≡ RA n sides o ∷ us
     → drops w.own.session (RA n sides o) ≡ false → Stands w → Stands (taking w (RA n sides o ∷ us))
@@ -112,9 +90,7 @@ acceptable w v u n x from to z o us d h = by_test (is_acceptable v u z)
 
 connect_calm : (w : Core) (v : Bool) (u : ℕ) (n : Option ℕ) (x : TokenSetting) (from to : Option (List ℕ)) (z : TsduMaximumSize) (o : List ℕ) (us : List Meaning)
     → drops w.own.session (CN v u n x from to z o) ≡ false → Stands (at w (CN v u n x from to z o ∷ us)) → Calm w (CN v u n x from to z o) us (called w.own.session u n x z)
-connect_calm w v u n x from to z o us d h =
-    let g = h.own.fits.0.good d in
-    grind (arith, next_acted, acceptable)
+connect_calm w v u n x from to z o us d h = search (arith, next_acted, acceptable)
 
 pub connect_taken : SessionLaws → (w : Core) (v : Bool) (u : ℕ) (n : Option ℕ) (x : TokenSetting) (from to : Option (List ℕ)) (z : TsduMaximumSize) (o : List ℕ) (us : List Meaning)
     → w.peer.sent ≡ CN v u n x from to z o ∷ us → drops w.own.session (CN v u n x from to z o) ≡ false → Stands w → Stands (taking w (CN v u n x from to z o ∷ us))

@@ -31,12 +31,7 @@ pub one_less : (p : Meaning → Bool) (b : Bool) (u : Meaning) (us : List Meanin
 one_less p b u us h = grind arith
 
 pub pair_rest : (h : List Item) (x y : Party) (u : Meaning) (us : List Meaning) → next x.session u ≡ x.session → Pair h x (rest_of y (u ∷ us)) → Pair h (taken_party x u) (rest_of y us)
-pair_rest h x y u us same p = record {
-  numbered = p.numbered;
-  one_way = λ d. one_less (needs_token data_token) (list_any (needs_token data_token) x.sent) u us (p.one_way d);
-  callers = subst (λ (r : State). y.session.is_caller ≡ not r.is_caller) (sym same) p.callers;
-  profile = p.profile;
-}
+pair_rest h x y u us same p = search (arith, one_less)
 
 -- ---- a unit that is discarded
 
@@ -47,10 +42,7 @@ dropped_stops s u d = by_test (stops s u) (λ e. absurd (let a = restart_acted s
 pub taker_views_dropped : (h : List Item) (x y : Party) (u : Meaning) (us : List Meaning) → drops x.session u ≡ true
     → ((flush x.session (u ∷ us)).units.duplex ≡ true → data_in u ≡ [])
     → Views h x (rest_of y (u ∷ us)) → Views h (taken_party x u) (rest_of y us)
-taker_views_dropped h x y u us d none v =
-    let st : stops x.session u ≡ false = dropped_stops x.session u d in
-    let same : next x.session u ≡ x.session = next_dropped x.session u d in
-    grind (arith, view_rest, heard_rest)
+taker_views_dropped h x y u us d none v = search (arith, dropped_stops, next_dropped, view_rest, heard_rest)
 
 pub giver_views_dropped : (h : List Item) (x y : Party) (u : Meaning) (us : List Meaning) → drops x.session u ≡ true
     → Views h (rest_of y (u ∷ us)) x → Views h (rest_of y us) (taken_party x u)

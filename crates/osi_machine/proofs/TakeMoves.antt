@@ -19,9 +19,7 @@ abbrev pub at : Core → List Meaning → Core
 at w us = record { history = w.history; owner = w.owner; own = w.own; peer = rest_of w.peer us }
 
 pub stands_at : (w : Core) (us : List Meaning) → w.peer.sent ≡ us → Stands w → Stands (at w us)
-stands_at w us e s =
-    let path : w ≡ at w us = λ i. record { history = w.history; owner = w.owner; own = w.own; peer = rest_of w.peer (e i) } in
-    subst Stands path s
+stands_at w us e s = search arith
 
 -- this side, and the connection, after it took the first
 abbrev pub party_after : Party → State → List Item → List (List ℕ) → Party
@@ -61,9 +59,7 @@ flush_is s r u us e = ap (λ (q : State). flush q us) e
 
 view_is : (s r : State) (u : Meaning) (us : List Meaning) (v v' : List Item) → stops s u ≡ false → next s u ≡ r → view_next s u v ≡ v'
     → heard_view s (u ∷ us) v ≡ heard_view r us v'
-view_is s r u us v v' st e k =
-    ap (λ (b : Bool). if b then v else heard_view (next s u) us (view_next s u v)) st
-    ∙ ap (λ (q : State). heard_view q us (view_next s u v)) e ∙ ap (heard_view r us) k
+view_is s r u us v v' st e k = cc
 
 -- all that is true of both sides stays
 pub moves_stands : SessionLaws → (w : Core) (u : Meaning) (us : List Meaning) (r : State) (v : List Item) (got : List (List ℕ)) (o : Owners)
@@ -121,11 +117,7 @@ moves_stands laws w u us r v got o e s k =
 
 -- where the owners stay, so do the lines on tokens
 pub same_tokens : (o : Owners) (now end other heard peer r : State) → Meeting o now end other heard peer → r.held ≡ now.held → Tokens_of o r end heard
-same_tokens o now end other heard peer r m e = record {
-  holds = λ t. ap (λ (k : Tokens). has k t) e ∙ m.holds t;
-  wants = m.wants;
-  absent = m.absent;
-}
+same_tokens o now end other heard peer r m e = search arith
 
 -- what shows no data gets none
 pub none_got : (x : Party) (u : Meaning) → got_in x.session u ≡ [] → (if drops x.session u then x.got else x.got ++ got_in x.session u) ≡ x.got

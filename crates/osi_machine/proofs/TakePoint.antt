@@ -3,7 +3,6 @@ use Rattle.std.proofs.Common.{◌≡◌, refl, sym, ◌∙◌, ap, subst, ℕ, �
 use Rattle.osi_machine.proofs.Vocabulary.{ltb-true, ltb-false, false_from_ne_true, list_any, State, Numbers, FunctionalUnits, Meaning, MIP, MAP, data_token, lower, MajorDue, is_ready, is_releasing, is_restarting, is_restart_due, point_taken, drops, next, AllFit, flush, stops, heard, hears, needs_token, Core, is_opening}
 use Rattle.osi_machine.proofs.PhaseLaws.{excluded}
 use Rattle.osi_machine.proofs.Records.{IsOfProfile, Stands}
-use Rattle.osi_machine.proofs.Units.{next_acted}
 use Rattle.osi_machine.proofs.ChannelLaws.{heard_flush, kept_heard}
 use Rattle.osi_machine.proofs.Units.{next_hears}
 use Rattle.osi_machine.proofs.Begun.{flush_open}
@@ -95,9 +94,7 @@ point_below w u us r h k l n from to = subst (λ (v : Numbers). n < v.next) (sym
 point_reach : (w : Core) (u : Meaning) (us : List Meaning) (r : State) → Stands (at w (u ∷ us)) → Pointed w u us r
     → lower r.numbers.next (heard w.peer.session w.own.sent).numbers.confirmed ≤ r.numbers.confirmed
 unfolding point_taken
-point_reach w u us r h k = subst (λ (v : Numbers). lower v.next (heard w.peer.session w.own.sent).numbers.confirmed ≤ v.confirmed) (sym k.numbers)
-    (reach_point w.own.session.numbers.answers w.own.session.numbers.next (heard w.peer.session w.own.sent).numbers.confirmed w.own.session.numbers.confirmed
-    (none_above w u us r h k) h.peer_counts.reach)
+point_reach w u us r h k = search (arith, reach_point, none_above)
 
 -- ---- the two kinds of points
 
@@ -110,9 +107,7 @@ taken_major s = record s { phase = MajorDue; numbers = point_taken s.numbers }
 minor_pointed : (w : Core) (confirm : Bool) (n : ℕ) (octets : List ℕ) (us : List Meaning) → drops w.own.session (MIP confirm n octets) ≡ false
     → Stands (at w (MIP confirm n octets ∷ us)) → Pointed w (MIP confirm n octets) us (taken_minor w.own.session)
 unfolding taken_minor
-minor_pointed w confirm n octets us d h =
-    let g = h.own.fits.0.good d in
-    grind (arith, next_acted)
+minor_pointed w confirm n octets us d h = grind arith
 
 pub minor_calm : (w : Core) (confirm : Bool) (n : ℕ) (octets : List ℕ) (us : List Meaning) → drops w.own.session (MIP confirm n octets) ≡ false
     → Stands (at w (MIP confirm n octets ∷ us)) → Calm w (MIP confirm n octets) us (taken_minor w.own.session)
@@ -135,9 +130,7 @@ minor_calm w confirm n octets us d h =
 major_pointed : (w : Core) (n : ℕ) (octets : List ℕ) (us : List Meaning) → drops w.own.session (MAP n octets) ≡ false
     → Stands (at w (MAP n octets ∷ us)) → Pointed w (MAP n octets) us (taken_major w.own.session)
 unfolding taken_major
-major_pointed w n octets us d h =
-    let g = h.own.fits.0.good d in
-    grind (arith, next_acted)
+major_pointed w n octets us d h = grind arith
 
 pub major_calm : (w : Core) (n : ℕ) (octets : List ℕ) (us : List Meaning) → drops w.own.session (MAP n octets) ≡ false
     → Stands (at w (MAP n octets ∷ us)) → Calm w (MAP n octets) us (taken_major w.own.session)

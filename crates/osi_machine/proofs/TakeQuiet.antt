@@ -8,16 +8,13 @@ use Rattle.osi_machine.proofs.ChannelLaws.{heard_flush}
 use Rattle.osi_machine.proofs.Begun.{is_lively, Lively, ends_lively}
 use Rattle.osi_machine.proofs.DataCall.{none_owed}
 use Rattle.osi_machine.proofs.TakeIdle.{rest_of}
-use Rattle.osi_machine.proofs.NumberLaws.{lower_first}
 use Rattle.osi_machine.proofs.TakeMoves.{at, Calm}
 
 -- ---- a request for release
 
 pub finish_calm : (w : Core) (octets : List ℕ) (us : List Meaning) → drops w.own.session (FN octets) ≡ false → Stands (at w (FN octets ∷ us))
     → Calm w (FN octets) us (record w.own.session { phase = ReleaseDue })
-finish_calm w octets us d h =
-    let g = h.own.fits.0.good d in
-    grind (arith, next_acted)
+finish_calm w octets us d h = grind arith
 
 -- ---- its refusal: the other does not owe the answer any more
 
@@ -46,9 +43,7 @@ after_refusal w octets us d h r =
 
 pub not_finished_calm : (w : Core) (octets : List ℕ) (us : List Meaning) → drops w.own.session (NF octets) ≡ false → Stands (at w (NF octets ∷ us))
     → Calm w (NF octets) us (record w.own.session { phase = Ready })
-not_finished_calm w octets us d h =
-    let g = h.own.fits.0.good d in
-    grind (arith, next_acted, after_refusal)
+not_finished_calm w octets us d h = search (arith, next_acted, after_refusal)
 
 -- ---- the confirmation of a minor point, which a side takes that has sent points last
 
@@ -58,10 +53,7 @@ confirmed s n = record s { numbers = minor_confirmed n s.numbers }
 pub point_confirmed_calm : (w : Core) (n : ℕ) (octets : List ℕ) (us : List Meaning) → drops w.own.session (MIA n octets) ≡ false → Stands (at w (MIA n octets ∷ us))
     → Calm w (MIA n octets) us (confirmed w.own.session n)
 unfolding confirmed minor_confirmed
-point_confirmed_calm w n octets us d h =
-    let g = h.own.fits.0.good d in
-    let sends : w.own.session.numbers.answers ≡ false = not-true _ (and_parts (not w.own.session.numbers.answers) _ g.met.1.0).0 in
-    grind (arith, next_acted, not_both)
+point_confirmed_calm w n octets us d h = grind arith
 
 -- ---- the confirmation of a major point
 
@@ -71,6 +63,4 @@ major_done s = record s { phase = Ready; numbers = major_confirmed s.numbers }
 pub major_confirmed_calm : (w : Core) (n : ℕ) (octets : List ℕ) (us : List Meaning) → drops w.own.session (MAA n octets) ≡ false → Stands (at w (MAA n octets ∷ us))
     → Calm w (MAA n octets) us (major_done w.own.session)
 unfolding major_done major_confirmed
-major_confirmed_calm w n octets us d h =
-    let g = h.own.fits.0.good d in
-    grind (arith, next_acted, not_both, lower_first)
+major_confirmed_calm w n octets us d h = grind arith

@@ -2,14 +2,14 @@
 -- history, and where it does not it changes nothing.
 use Rattle.std.proofs.Common.{◌≡◌, refl, sym, ◌∙◌, ap, subst, ℕ, ◌-◌, ◌==◌, ◌≤◌, ◌<◌, Bool, true, false, not, ◌&&◌, ◌||◌, if◌then◌else◌, List, [], ◌∷◌, ◌++◌, arith}
 use Rattle.osi_machine.proofs.Vocabulary.{and_parts, and_from, TokenSetting, ResyncType, State, RestartDue, Meaning, RS, Tokens, has, is_restarting, is_restart_due, is_release_due, may_hold, without_tokens, restarted_at, stands, next, Item, upto, cutat, Owner, Own, turned_owner, turned_owners, is_own, all_to_pool, pooled, is_acted_on, seen, cut_by, owners_after, Fits, AllFit, flush, heard, hears, view_next, heard_view, data_of, Party, Core, taking, AreConsistent}
-use Rattle.osi_machine.proofs.PhaseLaws.{excluded, implied_two, by_test}
+use Rattle.osi_machine.proofs.PhaseLaws.{excluded, implied_two}
 use Rattle.osi_machine.proofs.Units.{none_due, restart_due}
 use Rattle.osi_machine.proofs.HistoryLaws.{upto_twice, numbered_cut}
 use Rattle.osi_machine.proofs.Tokens.{none_held}
 use Rattle.osi_machine.proofs.Acting.{fit_acts}
 use Rattle.osi_machine.proofs.Alive.{alive, taken_party, takes_as}
 use Rattle.osi_machine.proofs.CoreLaws.{SessionLaws, taking_kept}
-use Rattle.osi_machine.proofs.Records.{matched, Meeting, Half, Views, Counting, Counts, IsOfProfile, Pair, Stands}
+use Rattle.osi_machine.proofs.Records.{Meeting, Half, Views, Counting, Counts, Pair, Stands}
 use Rattle.osi_machine.proofs.NumberLaws.{lower_second, lower_less, lower_both}
 use Rattle.osi_machine.proofs.TakeIdle.{rest_of, one_less}
 use Rattle.osi_machine.proofs.TakeMoves.{at, stands_at, party_after, none_got}
@@ -27,9 +27,7 @@ record Comes (w : Core) (k : ResyncType) (n : ℕ) (t : TokenSetting) (o : List 
   wins : stands w.own.session n ≡ true
 
 fit_first : (w : Core) (k : ResyncType) (n : ℕ) (t : TokenSetting) (o : List ℕ) (us : List Meaning) → Comes w k n t o us → Fits w.own.session (RS k n t o)
-fit_first w k n t o us c =
-    let f : AllFit w.own.session (RS k n t o ∷ us) = c.all.own.fits in
-    f.0
+fit_first w k n t o us c = search arith
 
 -- nothing comes behind it
 none_behind : (w : Core) (k : ResyncType) (n : ℕ) (t : TokenSetting) (o : List ℕ) (us : List Meaning) → Comes w k n t o us → AllEmpty us
@@ -45,12 +43,7 @@ heard_is w k n t o us c = ap (λ (b : Bool). if b then w.own.session else heard 
 
 other_waits : (w : Core) (k : ResyncType) (n : ℕ) (t : TokenSetting) (o : List ℕ) (us : List Meaning) → Comes w k n t o us
     → is_restarting (flush w.peer.session w.own.sent).phase ≡ true
-other_waits w k n t o us c =
-    let end = flush w.own.session (RS k n t o ∷ us) in
-    let other = flush w.peer.session w.own.sent in
-    let d = ap (λ (r : State). is_restart_due r.phase) (end_is w k n t o us c) in
-    implied_two (λ p q. matched p q && is_restart_due p) (λ p q. is_restarting q) refl end.phase other.phase
-    (and_from (matched end.phase other.phase) (is_restart_due end.phase) c.all.own.meeting.meets d)
+other_waits w k n t o us c = search (arith, end_is, implied_two, and_from)
 
 other_end : (w : Core) (k : ResyncType) (n : ℕ) (t : TokenSetting) (o : List ℕ) (us : List Meaning) → Comes w k n t o us → flush w.peer.session w.own.sent ≡ w.peer.session
 other_end w k n t o us c = deaf_end w.peer.session w.own.sent (other_waits w k n t o us c) c.all.peer.fits
@@ -81,16 +74,7 @@ cut_twice base n m h le = upto_twice (n - base) (m - base) h (omega arith)
 
 same_cut : (w : Core) (k : ResyncType) (n : ℕ) (t : TokenSetting) (o : List ℕ) (us : List Meaning) → Comes w k n t o us
     → cutat w.own.session.base w.own.view n ≡ cutat w.own.session.base w.history n
-same_cut w k n t o us c = by_test (is_restarting w.own.session.phase)
-    (λ e. let l = ap (λ (r : State). is_restarting r.phase) (heard_is w k n t o us c) ∙ e in
-    ap (λ (h : List Item). cutat w.own.session.base h n) (c.all.own_views.cut l)
-    ∙ cut_twice w.own.session.base n w.own.session.numbers.next w.history (top w k n t o us c))
-    (λ e. let l = ap (λ (r : State). hears r.phase) (heard_is w k n t o us c) ∙ ap not e in
-    seen_all (sym (ap (λ (b : Bool). if b then w.own.view else heard_view (next w.own.session (RS k n t o)) us (view_next w.own.session (RS k n t o) w.own.view)) c.wins)
-    ∙ c.all.own_views.ends l))
-  where
-    seen_all : (w.own.view ≡ w.history) → cutat w.own.session.base w.own.view n ≡ cutat w.own.session.base w.history n
-    seen_all e = ap (λ (h : List Item). cutat w.own.session.base h n) e
+same_cut w k n t o us c = search (arith, heard_is, cut_twice, top)
 
 pub cut_seen : (w : Core) (k : ResyncType) (n : ℕ) (t : TokenSetting) (o : List ℕ) (us : List Meaning) → Stands (at w (RS k n t o ∷ us)) → stands w.own.session n ≡ true
     → cutat w.own.session.base w.own.view n ≡ cutat w.own.session.base w.history n
@@ -113,54 +97,20 @@ taker w n t = party_after w.own (answering w.own.session n t) (cutat w.own.sessi
 
 was_met : (w : Core) (k : ResyncType) (n : ℕ) (t : TokenSetting) (o : List ℕ) (us : List Meaning) → Comes w k n t o us
     → Meeting w.owner w.own.session (answering w.own.session n t) (flush w.peer.session w.own.sent) w.own.session w.peer.session
-was_met w k n t o us c =
-    subst (λ (e : State). Meeting w.owner w.own.session e (flush w.peer.session w.own.sent) w.own.session w.peer.session) (end_is w k n t o us c)
-    (subst (λ (e : State). Meeting w.owner w.own.session (flush w.own.session (RS k n t o ∷ us)) (flush w.peer.session w.own.sent) e w.peer.session) (heard_is w k n t o us c)
-    c.all.own.meeting)
+was_met w k n t o us c = search (arith, end_is, heard_is)
 
 was_met_there : (w : Core) (k : ResyncType) (n : ℕ) (t : TokenSetting) (o : List ℕ) (us : List Meaning) → Comes w k n t o us
     → Meeting (turned_owners w.owner) w.peer.session (flush w.peer.session w.own.sent) (answering w.own.session n t) (heard w.peer.session w.own.sent) w.own.session
-was_met_there w k n t o us c =
-    subst (λ (e : State). Meeting (turned_owners w.owner) w.peer.session (flush w.peer.session w.own.sent) e (heard w.peer.session w.own.sent) w.own.session) (end_is w k n t o us c)
-    c.all.peer.meeting
+was_met_there w k n t o us c = search (arith, end_is)
 
 taker_half : (w : Core) (k : ResyncType) (n : ℕ) (t : TokenSetting) (o : List ℕ) (us : List Meaning) → Comes w k n t o us → Half (pooled w.owner) (taker w n t) (rest_of w.peer us)
 unfolding taker
-taker_half w k n t o us c =
-    let m = was_met w k n t o us c in
-    let none = none_behind w k n t o us c in
-    record {
-      fits = empty_fits (answering w.own.session n t) us none;
-      meeting = subst (λ (e : State). Meeting (pooled w.owner) (answering w.own.session n t) e (flush w.peer.session w.own.sent) (heard (answering w.own.session n t) us) w.peer.session)
-          (sym (empty_end (answering w.own.session n t) us none))
-          (subst (λ (e : State). Meeting (pooled w.owner) (answering w.own.session n t) (answering w.own.session n t) (flush w.peer.session w.own.sent) e w.peer.session)
-          (sym (empty_heard (answering w.own.session n t) us none)) (grind (arith, none_held, pool_own)));
-    }
+taker_half w k n t o us c = search (arith, was_met, none_behind, empty_fits, empty_end, empty_heard, none_held, pool_own)
 
 giver_half : (w : Core) (k : ResyncType) (n : ℕ) (t : TokenSetting) (o : List ℕ) (us : List Meaning) → Comes w k n t o us
     → Half (turned_owners (pooled w.owner)) (rest_of w.peer us) (taker w n t)
 unfolding taker
-giver_half w k n t o us c =
-    let m = was_met_there w k n t o us c in
-    let none = none_behind w k n t o us c in
-    let asking = asking_now w k n t o us c in
-    let asked = heard_asking w k n t o us c in
-    let no_tokens = c.all.consistent.peer.sound.tokens (excluded is_restarting may_hold refl w.peer.session.phase asking) in
-    record {
-      fits = c.all.peer.fits;
-      meeting = subst (λ (e : State). Meeting (turned_owners (pooled w.owner)) w.peer.session (flush w.peer.session w.own.sent) e (heard w.peer.session w.own.sent) (answering w.own.session n t))
-          (sym (empty_end (answering w.own.session n t) us none)) (record {
-            meets = m.meets;
-            units = m.units;
-            base = m.base;
-            restart = m.restart;
-            connect = m.connect;
-            holds = λ a. ap (λ (v : Tokens). has v a) no_tokens ∙ none_held a ∙ sym (pool_theirs (w.owner a));
-            wants = λ h. absurd (let e = excluded is_restarting may_hold refl (heard w.peer.session w.own.sent).phase asked in cc);
-            absent = λ a z. grind arith;
-            released = λ d. absurd (let e = excluded is_restarting is_release_due refl (heard w.peer.session w.own.sent).phase asked in cc);
-          });
-    }
+giver_half w k n t o us c = search (arith, was_met_there, none_behind, asking_now, heard_asking, excluded, empty_end, none_held, pool_theirs)
 
 -- ---- what was seen
 
@@ -170,34 +120,12 @@ none_left k h e = grind arith
 taker_views : (w : Core) (k : ResyncType) (n : ℕ) (t : TokenSetting) (o : List ℕ) (us : List Meaning) → Comes w k n t o us
     → Views (cutat w.own.session.base w.history n) (taker w n t) (rest_of w.peer us)
 unfolding taker
-taker_views w k n t o us c =
-    let none = none_behind w k n t o us c in
-    let r = answering w.own.session n t in
-    record {
-      ends = λ l. empty_view r us (cutat w.own.session.base w.own.view n) none ∙ same_cut w k n t o us c;
-      cut = λ d. absurd (let e = ap (λ (q : State). is_restarting q.phase) (sym (empty_heard r us none)) ∙ d in cc);
-      due = λ d. c.all.peer_views.cut (heard_asking w k n t o us c)
-          ∙ ap (λ (b : ℕ). cutat b w.history w.peer.session.numbers.next) (same_base w k n t o us c)
-          ∙ ap (cutat w.own.session.base w.history) (same_number w k n t o us c);
-      stream = λ d. streams (c.all.own_views.stream (ap (λ (q : State). q.units.duplex) (end_is w k n t o us c ∙ sym (empty_end r us none)) ∙ d));
-    }
-  where
-    streams : (w.own.got ++ data_of (RS k n t o ∷ us) ≡ w.peer.said) × (w.history ≡ []) → (w.own.got ++ data_of us ≡ w.peer.said) × (cutat w.own.session.base w.history n ≡ [])
-    streams old = (old.0, none_left (n - w.own.session.base) w.history old.1)
+taker_views w k n t o us c = search (arith, none_behind, empty_view, same_cut, empty_heard, heard_asking, same_base, same_number, end_is, empty_end, none_left)
 
 giver_views : (w : Core) (k : ResyncType) (n : ℕ) (t : TokenSetting) (o : List ℕ) (us : List Meaning) → Comes w k n t o us
     → Views (cutat w.own.session.base w.history n) (rest_of w.peer us) (taker w n t)
 unfolding taker
-giver_views w k n t o us c = record {
-  ends = λ l. absurd (not_both _ l (heard_asking w k n t o us c));
-  cut = λ d. c.all.peer_views.cut d
-      ∙ ap (cutat w.peer.session.base w.history) (same_number w k n t o us c)
-      ∙ sym (cut_twice w.peer.session.base n n w.history (omega arith))
-      ∙ ap (λ (h : List Item). cutat w.peer.session.base h n) (ap (λ (b : ℕ). cutat b w.history n) (same_base w k n t o us c))
-      ∙ ap (cutat w.peer.session.base (cutat w.own.session.base w.history n)) (sym (same_number w k n t o us c));
-  due = λ d. absurd (let e = excluded is_restarting is_restart_due refl w.peer.session.phase (asking_now w k n t o us c) in cc);
-  stream = λ d. let s = c.all.peer_views.stream d in (s.0, none_left (n - w.own.session.base) w.history s.1);
-}
+giver_views w k n t o us c = search (arith, not_both, heard_asking, same_number, cut_twice, same_base, excluded, asking_now, none_left)
 
 -- ---- the numbers
 
@@ -233,10 +161,7 @@ giver_counts w k n t o us c =
 pair_after : (w : Core) (k : ResyncType) (n : ℕ) (t : TokenSetting) (o : List ℕ) (us : List Meaning) → Comes w k n t o us
     → Pair (cutat w.own.session.base w.history n) (taker w n t) (rest_of w.peer us)
 unfolding taker
-pair_after w k n t o us c =
-    let same : flush w.own.session (RS k n t o ∷ us) ≡ flush (answering w.own.session n t) us =
-    end_is w k n t o us c ∙ sym (empty_end (answering w.own.session n t) us (none_behind w k n t o us c)) in
-    grind (arith, numbered_cut, one_less, IsOfProfile)
+pair_after w k n t o us c = search (arith, end_is, empty_end, none_behind, numbered_cut, one_less)
 
 -- ---- all that is true of both sides
 

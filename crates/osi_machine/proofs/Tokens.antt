@@ -11,39 +11,11 @@ pub has_set : (p : Token → Bool) (t : Token) → has (set_of p) t ≡ p t
 has_set p t = grind arith
 
 pub each_has : (p : Token → Bool) (t : Token) → each p ≡ true → p t ≡ true
-each_has p t h =
-    let a = and_parts (p data_token) (p minor && (p major && p release)) h in
-    let b = and_parts (p minor) (p major && p release) a.1 in
-    let c = and_parts (p major) (p release) b.1 in
-    by t a.0 b.0 c.0 c.1
-  where
-    by : (u : Token) → p data_token ≡ true → p minor ≡ true → p major ≡ true → p release ≡ true → p u ≡ true
-    by data_token d m g r = d
-    by minor d m g r = m
-    by major d m g r = g
-    by release d m g r = r
+each_has p t h = grind arith
 
 -- a token makes a set that has it no empty set
 pub some_has : (p : Token → Bool) (t : Token) → p t ≡ true → some p ≡ true
-some_has p data_token h = rw h refl
-some_has p minor h = by (p data_token) (p minor) (p major) (p release) h
-  where
-    by : (a b c d : Bool) → b ≡ true → (a || (b || (c || d))) ≡ true
-    by true b c d h = refl
-    by false b c d h = rw h refl
-some_has p major h = by (p data_token) (p minor) (p major) (p release) h
-  where
-    by : (a b c d : Bool) → c ≡ true → (a || (b || (c || d))) ≡ true
-    by true b c d h = refl
-    by false true c d h = refl
-    by false false c d h = rw h refl
-some_has p release h = by (p data_token) (p minor) (p major) (p release) h
-  where
-    by : (a b c d : Bool) → d ≡ true → (a || (b || (c || d))) ≡ true
-    by true b c d h = refl
-    by false true c d h = refl
-    by false false true d h = refl
-    by false false false d h = h
+some_has p t h = search arith
 
 pub empty_has : (a : Tokens) (t : Token) → is_empty a ≡ true → has a t ≡ false
 unfolding is_empty
@@ -68,15 +40,7 @@ is_no_release_is s t h l m j = grind (arith, not_both)
 
 -- a good unit does not need a token that its taker holds
 pub held_needs : (s : State) (t : Token) (u : Meaning) → has s.held t ≡ true → Good s u → needs_token t u ≡ false
-held_needs s t (DT o) h g = grind (arith, not_both)
-held_needs s t (MIP c n o) h g =
-    let a = and_parts (lacks s data_token) (lacks s minor) g.met.1.0 in is_data_or_minor_is s t h a.0 a.1
-held_needs s t (MAP n o) h g =
-    let a = and_parts (lacks s data_token) (lacks s minor && lacks s major) g.met.1.0 in
-    let b = and_parts (lacks s minor) (lacks s major) a.1 in
-    is_no_release_is s t h a.0 b.0 b.1
-held_needs s t (FN o) h g = absurd (let e = empty_has s.held t g.met.0 in cc)
-held_needs s t _ h g = refl
+held_needs s t u h g = search (arith, not_both, and_parts, is_data_or_minor_is, is_no_release_is, empty_has)
 
 -- a side that holds a token, in a phase in which one may be held
 pub record Holds (t : Token) (s : State) : Type 0 where
@@ -85,23 +49,7 @@ pub record Holds (t : Token) (s : State) : Type 0 where
 
 -- it goes on holding it, until a restart stands
 pub becomes_holds : (t : Token) (s : State) (u : Meaning) → is_plain u ≡ true → Good s u → stops s u ≡ false → Holds t s → Holds t (becomes s u)
-becomes_holds t s (CN v u n w from to z o) p g st h = absurd (let e = excluded is_wait_cn may_hold refl s.phase g.expected in let m = h.phase in cc)
-becomes_holds t s (AC v u n w z o) p g st h = absurd (let e = excluded is_connecting may_hold refl s.phase g.expected in let m = h.phase in cc)
-becomes_holds t s (RF r o) p g st h = absurd (cc)
-becomes_holds t s (DT o) p g st h = h
-becomes_holds t s (GT k) p g st h = record { held = united_has s.held k t ∙ or_left (has s.held t) (has k t) h.held; phase = h.phase }
-becomes_holds t s (PT k o) p g st h = h
-becomes_holds t s (MIP c n o) p g st h = record { held = h.held; phase = h.phase }
-becomes_holds t s (MIA n o) p g st h = record { held = h.held; phase = h.phase }
-becomes_holds t s (MAP n o) p g st h = record { held = h.held; phase = refl }
-becomes_holds t s (MAA n o) p g st h = record { held = h.held; phase = refl }
-becomes_holds t s (RS k n w o) p g st h = rw st h
-becomes_holds t s (RA n w o) p g st h = absurd (let e = excluded is_restarting may_hold refl s.phase g.expected in let m = h.phase in cc)
-becomes_holds t s (FN o) p g st h = record { held = h.held; phase = refl }
-becomes_holds t s (DN o) p g st h = absurd (cc)
-becomes_holds t s (NF o) p g st h = record { held = h.held; phase = refl }
-becomes_holds t s (AB b o) p g st h = absurd (cc)
-becomes_holds t s AA p g st h = absurd (cc)
+becomes_holds t s u p g st h = search (arith, excluded, united_has, or_left)
 
 pub next_holds : (t : Token) (s : State) (u : Meaning) → Fits s u → stops s u ≡ false → Holds t s → Holds t (next s u)
 next_holds t s u f st h = fit_cases (Holds t) s u f h (λ d g. becomes_holds t s u f.plain g st h)

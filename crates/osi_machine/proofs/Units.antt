@@ -1,7 +1,7 @@
 -- What a unit does to the state of its taker, case by case.
 use Rattle.std.proofs.Common.{◌≡◌, refl, sym, ap, subst, Bool, true, false, ◌&&◌, if◌then◌else◌, List, arith}
 use Rattle.osi_machine.proofs.Vocabulary.{State, Phase, Meaning, CN, AC, RF, DT, GT, PT, MIP, MIA, MAP, MAA, RS, RA, FN, DN, NF, AB, AA, is_wait_cn, is_connecting, is_restarting, is_restart_due, takes_data, takes_please, takes_minor_ack, takes_restart, is_ready, is_major_asked, is_releasing, may_ask, is_expected, is_acceptable, becomes, stands, drops, next, Good, Item, is_plain, Fits, stops, hears, view_next}
-use Rattle.osi_machine.proofs.PhaseLaws.{excluded, by_test}
+use Rattle.osi_machine.proofs.PhaseLaws.{by_test}
 
 -- ---- a unit is dropped, or acted on
 
@@ -30,44 +30,12 @@ restart_acted s _ h = absurd (cc)
 
 -- after a restart that stands an answer is due
 pub restart_due : (s : State) (u : Meaning) → stops s u ≡ true → is_restart_due (next s u).phase ≡ true
-restart_due s u h = subst (λ (r : State). is_restart_due r.phase ≡ true) (sym (next_acted s u (restart_acted s u h))) (by u h)
-  where
-    by : (u : Meaning) → stops s u ≡ true → is_restart_due (becomes s u).phase ≡ true
-    by (CN v u n w from to z o) h = absurd (cc)
-    by (AC v u n w z o) h = absurd (cc)
-    by (RF r o) h = absurd (cc)
-    by (DT o) h = absurd (cc)
-    by (GT t) h = absurd (cc)
-    by (PT t o) h = absurd (cc)
-    by (MIP c n o) h = absurd (cc)
-    by (MIA n o) h = absurd (cc)
-    by (MAP n o) h = absurd (cc)
-    by (MAA n o) h = absurd (cc)
-    by (RS k n w o) h = rw h refl
-    by (RA n w o) h = absurd (cc)
-    by (FN o) h = absurd (cc)
-    by (DN o) h = absurd (cc)
-    by (NF o) h = absurd (cc)
-    by (AB b o) h = absurd (cc)
-    by AA h = absurd (cc)
+restart_due s u h = grind arith
 
 -- ---- nothing acts at a side that owes the answer to a restart
 
 pub none_due : (p : Phase) (u : Meaning) → is_restart_due p ≡ true → is_plain u ≡ true → is_expected p u ≡ false
-none_due p (CN v u n w from to z o) h k = excluded is_restart_due is_wait_cn refl p h
-none_due p (AC v u n w z o) h k = excluded is_restart_due is_connecting refl p h
-none_due p (DT o) h k = excluded is_restart_due takes_data refl p h
-none_due p (GT t) h k = excluded is_restart_due may_ask refl p h
-none_due p (PT t o) h k = excluded is_restart_due takes_please refl p h
-none_due p (MIP c n o) h k = excluded is_restart_due is_ready refl p h
-none_due p (MIA n o) h k = excluded is_restart_due takes_minor_ack refl p h
-none_due p (MAP n o) h k = excluded is_restart_due is_ready refl p h
-none_due p (MAA n o) h k = excluded is_restart_due is_major_asked refl p h
-none_due p (RS k n w o) h l = excluded is_restart_due takes_restart refl p h
-none_due p (RA n w o) h k = excluded is_restart_due is_restarting refl p h
-none_due p (FN o) h k = excluded is_restart_due is_ready refl p h
-none_due p (NF o) h k = excluded is_restart_due is_releasing refl p h
-none_due p _ h k = absurd (cc)
+none_due p u h k = grind arith
 
 pub due_next : (s : State) (u : Meaning) → is_restart_due s.phase ≡ true → Fits s u → next s u ≡ s
 due_next s u h f = fit_cases (λ r. r ≡ s) s u f refl (λ d g. absurd (let n = none_due s.phase u h f.plain in let e = g.expected in cc))
@@ -88,15 +56,7 @@ abbrev Hears : State → Type 0
 Hears s = hears s.phase ≡ true
 
 pub becomes_hears : (s : State) (u : Meaning) → hears s.phase ≡ true → hears (becomes s u).phase ≡ true
-becomes_hears s (CN v u n w from to z o) h = chosen Hears (is_acceptable v u z) _ _ refl refl
-becomes_hears s (DT o) h = h
-becomes_hears s (GT t) h = h
-becomes_hears s (PT t o) h = h
-becomes_hears s (MIP c n o) h = h
-becomes_hears s (MIA n o) h = h
-becomes_hears s (RS k n w o) h = chosen Hears (stands s n) _ _ refl h
-becomes_hears s AA h = h
-becomes_hears s _ h = refl
+becomes_hears s u h = search (arith, chosen)
 
 pub next_hears : (s : State) (u : Meaning) → hears s.phase ≡ true → hears (next s u).phase ≡ true
 next_hears s u h = next_cases Hears s u (λ d. h) (λ d. becomes_hears s u h)

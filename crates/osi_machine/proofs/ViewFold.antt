@@ -46,10 +46,7 @@ calm_parts p h = grind (arith, calm)
 calm_tells : (t : Told) (s : State) (v : List Item) (said got : List (List ℕ)) → calm s.phase ≡ true → t.base ≡ s.base → (s.units.duplex ≡ false → t.view ≡ v) → t.asking ≡ false
     → (is_open s.phase ≡ true → t.duplex ≡ s.units.duplex) → t.faulted ≡ false → (s.units.duplex ≡ true → t.requested ≡ said) → (s.units.duplex ≡ true → t.indicated ≡ got)
     → points t.view ≡ points v → Tells t s v said got
-calm_tells t s v said got c b e a d f x y q =
-    let p = calm_parts s.phase c in
-    let no = p.0 in
-    grind arith
+calm_tells t s v said got c b e a d f x y q = search (arith, calm_parts)
 
 none_more : (t : Told) (v : List Item) (b : Bool) → (b ≡ false → t.view ≡ v) → b ≡ false → t.view ≡ v ++ []
 none_more t v b f d = f d ∙ sym (append_nil v)

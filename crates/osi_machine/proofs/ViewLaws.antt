@@ -78,23 +78,7 @@ abbrev DueAbove : ℕ → State → List Item → Type 0
 DueAbove k s v = (k ≤ points v) × (is_major_due s.phase ≡ true → k + 1 ≤ points v)
 
 becomes_above : (k : ℕ) (s : State) (u : Meaning) (v : List Item) → is_plain u ≡ true → Good s u → stops s u ≡ false → DueAbove k s v → DueAbove k (becomes s u) (seen s u v)
-becomes_above k s (CN w r n x from to z o) v p g st h =
-    chosen (λ q. DueAbove k q v) (is_acceptable w r z) _ _ (h.0, λ e. absurd (cc)) (h.0, λ e. absurd (cc))
-becomes_above k s (RF r o) v p g st h = absurd (cc)
-becomes_above k s (DT o) v p g st h = (more_or_same s.units.duplex v (Octets o ∷ []) k h.0, λ e. more_or_same s.units.duplex v (Octets o ∷ []) (k + 1) (h.1 e))
-becomes_above k s (GT j) v p g st h = h
-becomes_above k s (PT j o) v p g st h = h
-becomes_above k s (MIP c n o) v p g st h = (more_or_same false v (Point n (minor_kind c) o ∷ []) k h.0, λ e. more_or_same false v (Point n (minor_kind c) o ∷ []) (k + 1) (h.1 e))
-becomes_above k s (MIA n o) v p g st h = h
-becomes_above k s (MAP n o) v p g st h =
-    let e = points_append v (Point n major_point o ∷ []) in
-    let a = h.0 in
-    (omega arith, λ d. omega arith)
-becomes_above k s (RS j n w o) v p g st h = rw st h
-becomes_above k s (DN o) v p g st h = absurd (cc)
-becomes_above k s (AB b o) v p g st h = absurd (cc)
-becomes_above k s AA v p g st h = absurd (cc)
-becomes_above k s _ v p g st h = (h.0, λ e. absurd (cc))
+becomes_above k s u v p g st h = search (arith, chosen, more_or_same, points_append)
 
 pub major_came : (s : State) (us : List Meaning) (v : List Item) → is_major_due s.phase ≡ false → AllFit s us → is_major_due (heard s us).phase ≡ true
     → points v + 1 ≤ points (heard_view s us v)

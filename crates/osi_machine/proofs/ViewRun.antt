@@ -163,8 +163,4 @@ are_told laws o steps small s =
 pub told_agree : SessionLaws → (o : Offer) (steps : List CoreStep) → AllByRecursion IsNumberedStep steps → Stands (core_start o)
     → (core_run (core_start o) steps).own.session.units.duplex ≡ false → (core_run (core_start o) steps).peer.session.units.duplex ≡ false
     → Agree (left_told o steps).view (right_told o steps).view
-told_agree laws o steps small s d e =
-    let a = are_told laws o steps small s in
-    subst (λ (v : List Item). Agree v (right_told o steps).view) (sym (a.left d))
-    (subst (Agree (core_run (core_start o) steps).own.view) (sym (a.right e))
-    (views_agree (core_run (core_start o) steps) (run_stands laws (core_start o) steps small s)))
+told_agree laws o steps small s d e = search (arith, are_told, views_agree, run_stands)

@@ -8,7 +8,7 @@ use Rattle.osi_machine.proofs.ViewFold.{told_all}
 use Rattle.osi_machine.proofs.Lines.{told_of_call, taking_of, cut_to, IsKept}
 use Rattle.osi_machine.proofs.ProjectWorld.{Repeats, told_answer, turned_repeats, call_repeats}
 use Rattle.osi_machine.proofs.ProjectSteps.{message_repeats, close_repeats, break_repeats, end_repeats}
-use Rattle.osi_machine.proofs.ProjectStart.{Opens, nothing_sent, Refuses, asked_opens, caller_refuses, called_refuses, caller_ends, called_ends, break_opens}
+use Rattle.osi_machine.proofs.ProjectStart.{Opens, Refuses, asked_opens, caller_refuses, called_refuses, caller_ends, called_ends, break_opens}
 use Rattle.osi_machine.proofs.ProjectOpen.{caller_takes, called_takes}
 use Rattle.osi_machine.proofs.Projects.{not_both}
 use Rattle.osi_machine.proofs.PhaseLaws.{by_either}
@@ -91,9 +91,7 @@ broken_stage w s t k j (inr (inr h)) = inr (inr (break_repeats k j false w s t h
 
 lost_opens : (o : Offer) → CanBeOffered o → is_profile o.requirements ≡ true
     → Opens (record (asked_with o) { own = record (asked_with o).own { channel = [] } }) (untold Left o) (untold Right o)
-lost_opens o small profile =
-    let h = asked_opens o small profile in
-    grind (arith, nothing_sent)
+lost_opens o small profile = grind arith
 
 pub whole_kept : SessionLaws → (terms : Terms) → IsKept terms Whole
 whole_kept laws terms = record {
