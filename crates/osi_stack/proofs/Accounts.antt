@@ -25,7 +25,7 @@ same_line r line none = ap (row_with r line) (sym none)
 quieted_same : (lines : Rows Line) → waits lines ≡ false → quieted lines ≡ lines
 quieted_same [] h = refl
 quieted_same ((r, line) ∷ lines) h =
-    ap (λ (row : ℕ × Line). row ∷ quieted lines) (same_line r line (quiet_line line (or_first (line_waits line) (waits lines) h)))
+    ap (λ (row : ℕ × Line). row ∷ quieted lines) (ap (row_with r line) (sym (quiet_line line (or_first (line_waits line) (waits lines) h))))
     ∙ ap (λ l. (r, line) ∷ l) (quieted_same lines (or_second (line_waits line) (waits lines) h))
 
 -- the account of such an end is the end itself

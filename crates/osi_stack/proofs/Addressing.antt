@@ -8,11 +8,7 @@ use Rattle.osi_stack.proofs.Moves.{used_live}
 
 addressed_by : (r : ℕ) (e : End) (c : Connection) (ids : TsapIds) (line : Line) (s : Selectors) → value_at r e.carrier.live ≡ Some c → tsaps_at r e.carrier ≡ Some ids →
     value_at r e.lines ≡ Some line → line.selectors ≡ Some s → addresses_at r e ≡ addressed (Some ids) (Some s)
-addressed_by r e c ids line s live tsaps here is =
-    ap (λ (o : Option Connection). if is_some o then addressed (tsaps_at r e.carrier) (selectors_in (value_at r e.lines)) else None) live
-    ∙ ap (λ (o : Option TsapIds). addressed o (selectors_in (value_at r e.lines))) tsaps
-    ∙ ap (λ (o : Option Line). addressed (Some ids) (selectors_in o)) here
-    ∙ ap (addressed (Some ids)) is
+addressed_by r e c ids line s live tsaps here is = cc
 
 pub asked_known : (c : Connect) (e : End) → Soundness e → AreNamed e.carrier → addresses_at (e.carrier.given + 1) (connects c e) ≡ Some (asked_addresses c)
 asked_known c e s named =

@@ -1,9 +1,7 @@
 -- What a call is answered is what the table of its session says.
 use Rattle.std.proofs.Common.{◌≡◌, ℕ, Bool, true, false, not, ◌||◌, List, Option, Some, None, is_some, Ok, Err, refl, sym, ap, subst, ◌∙◌, inl, inr, if◌then◌else◌}
-use Rattle.osi_session.specs.Sound.{IsSound as IsSoundState}
 use Rattle.osi_session.specs.declared.faults.CallError.TheVariants as error
-use Rattle.osi_session.specs.declared.state.State.{State}
-use Rattle.osi_stack.proofs.Vocabulary.{AllByRecursion, IfSome, or_right, open_link, send_all_error, value_at, Standing as Link, IsSendable, tsdus_of, Step, Answer, allowed, Passed, Call, HasSerial, Input, Listener, Move, called, answered, react, after_inputs, is_wait_cn, may_abort, HasNumbersInWords, IsFresh, awaiting, asking, limit_of, CallError, Opening, opening_of, has_given, send_refusal, move_refusal, session_refusal, session_error, call_error, table_error, CameAbout, AllCameAbout, needs_link, Soundness, AreShort, kept_at, End, session_in, session_at}
+use Rattle.osi_stack.proofs.Vocabulary.{AllByRecursion, IfSome, or_right, open_link, send_all_error, value_at, Standing as Link, IsSendable, tsdus_of, Step, Answer, allowed, Passed, Call, HasSerial, Input, Listener, Move, called, answered, react, after_inputs, is_wait_cn, may_abort, HasNumbersInWords, IsFresh, awaiting, asking, limit_of, CallError, Opening, opening_of, has_given, send_refusal, move_refusal, session_refusal, session_error, call_error, table_error, CameAbout, AllCameAbout, needs_link, Soundness, AreShort, kept_at, End, session_in, session_at, IsSoundState, SessionState as State}
 use Rattle.osi_stack.proofs.Folds.{at_line}
 use Rattle.osi_stack.proofs.Moves.{line_of}
 use Rattle.osi_stack.proofs.Handing.{lengths_fit}
@@ -44,7 +42,7 @@ answer_by law r call e s (Err err) allows serial lasts sound here came =
     ap (λ (m : Move). move_refusal r (limit_of s.state) m e.carrier) is ∙ sym (ap (λ (m : Move). m.error) is)
 answer_by law r call e s (Ok x) allows serial lasts sound here came =
     let is : react s (called call) ≡ answered s (Ok x) = ap (answered s) allows in
-    let state = sound_session law s came in
+    let state = (subst (λ (x : Listener). IsSoundState x.state) came.is (law.kept came.first came.inputs came.numbered (sound_first law s came))) in
     let short = tsdus_short law.spdu s.state call x state allows (law.passed s.state call x allows) (law.sendable s.state call x state serial allows) in
     let needs : needs_link s.state.phase ≡ true = or_right (is_wait_cn s.state.phase) (may_abort s.state.phase) (law.phase s.state call x allows) in
     let opened = sound.links lasts r s here needs in

@@ -1,7 +1,6 @@
 -- A connection is asked for, whatever waits: it is the same but for lines of connections that are gone.
 use Rattle.std.proofs.Common.{◌≡◌, ◌≢◌, ℕ, ◌+◌, ◌==◌, Bool, true, false, List, [], ◌∷◌, ◌++◌, is_some, refl, sym, ap, ◌∙◌, option_map, arith}
-use Rattle.osi_stack.specs.Runs.{Call}
-use Rattle.osi_stack.proofs.Vocabulary.{eqb-true, eq-eqb, flat_map, beyond, push_here, push_other, asks, AreUpTo, Rows, value_at, Connection, asked, State as Carrier, Listener, Shown, calls_with, connects, shown_of, all_waiting, quieted, hushed, put_back, live_lines, pruned, told_in, carried_in, AreAlike, AreAlikeInLive, Line, End, Holding, line_waits, is_used, used_lines, fresh_line, Connect, tsap_octets}
+use Rattle.osi_stack.proofs.Vocabulary.{eqb-true, eq-eqb, flat_map, beyond, push_here, push_other, asks, AreUpTo, Rows, value_at, Connection, asked, State as Carrier, Listener, Shown, calls_with, connects, shown_of, all_waiting, quieted, hushed, put_back, live_lines, pruned, told_in, carried_in, AreAlike, AreAlikeInLive, Line, End, Holding, line_waits, is_used, used_lines, fresh_line, Connect, tsap_octets, EndCall as Call}
 use Rattle.osi_stack.proofs.FirstShown.{quiet_line}
 use Rattle.osi_stack.proofs.InLive.{quieted_live}
 use Rattle.osi_stack.proofs.Lifting.{both, or_first, or_second}
@@ -35,16 +34,7 @@ waits_asked c e =
 -- none of these is dropped
 live_by : (live : Rows Connection) (p : ℕ) (y : Line) (rows : Rows Line) (b c : Bool) → is_used live (p, y) ≡ b → is_some (value_at p live) ≡ c → live_lines live (used_lines live rows) ≡ live_lines live rows →
     live_lines live (used_lines live ((p, y) ∷ rows)) ≡ live_lines live ((p, y) ∷ rows)
-live_by live p y rows true true e f more =
-    let K : ℕ → Bool = λ r. is_some (value_at r live) in
-    ap (live_lines live) (used_by live (p, y) rows true e) ∙ only_row K p y (used_lines live rows) true f ∙ ap (λ (l : Rows Line). (p, y) ∷ l) more ∙ sym (only_row K p y rows true f)
-live_by live p y rows true false e f more =
-    let K : ℕ → Bool = λ r. is_some (value_at r live) in
-    ap (live_lines live) (used_by live (p, y) rows true e) ∙ only_row K p y (used_lines live rows) false f ∙ more ∙ sym (only_row K p y rows false f)
-live_by live p y rows false true e f more = both (is_some (value_at p live)) f (or_first (is_some (value_at p live)) (line_waits y) e)
-live_by live p y rows false false e f more =
-    let K : ℕ → Bool = λ r. is_some (value_at r live) in
-    ap (live_lines live) (used_by live (p, y) rows false e) ∙ more ∙ sym (only_row K p y rows false f)
+live_by live p y rows b c e f more = grind arith
 
 live_used : (live : Rows Connection) (rows : Rows Line) → live_lines live (used_lines live rows) ≡ live_lines live rows
 live_used live [] = refl
@@ -102,8 +92,4 @@ pub connects_back : (o : List ℕ) (c : Connect) (e : End) → put_back o (hushe
 connects_back o c e = ap (put_back o) (connects_hushed c e) ∙ ap pruned (sym (connects_apart o c (hushed e)))
 
 pub asked_alike : (c : Connect) (a b : Holding) (xs ys : List Call) → AreAlike a xs b ys → AreAlikeInLive (record a { end = connects c a.end }) xs (record b { end = connects c b.end }) ys
-asked_alike c a b xs ys h = record {
-  octets = h.octets;
-  end = connects_back (flat_map carried_in xs) c a.end ∙ ap (λ (e : End). pruned (connects c e)) h.end ∙ sym (connects_back (flat_map carried_in ys) c b.end);
-  told = ap (λ (l : List (ℕ × Shown)). flat_map told_in xs ++ l) (waits_asked c a.end) ∙ h.told ∙ ap (λ (l : List (ℕ × Shown)). flat_map told_in ys ++ l) (sym (waits_asked c b.end));
-}
+asked_alike c a b xs ys h = search (connects_back (flat_map carried_in xs) c a.end ∙ ap (λ (e : End). pruned (connects c e)) h.end ∙ sym (connects_back (flat_map carried_in ys) c b.end), ap (λ (l : List (ℕ × Shown)). flat_map told_in xs ++ l) (waits_asked c a.end) ∙ h.told ∙ ap (λ (l : List (ℕ × Shown)). flat_map told_in ys ++ l) (sym (waits_asked c b.end)))

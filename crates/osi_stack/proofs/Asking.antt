@@ -1,14 +1,12 @@
 -- A connection is asked for while indications wait, for live connections alone: as where all was told.
-use Rattle.std.proofs.Common.{◌≡◌, ℕ, ◌==◌, Bool, true, false, ◌||◌, not, List, [], ◌∷◌, ◌++◌, is_some, refl, sym, ap, ◌∙◌}
+use Rattle.std.proofs.Common.{◌≡◌, ℕ, ◌==◌, Bool, true, false, ◌||◌, not, List, [], ◌∷◌, ◌++◌, is_some, refl, sym, ap, ◌∙◌, arith}
 use Rattle.osi_stack.proofs.Vocabulary.{Rows, value_at, Connection, Listener, Shown, shown_of, all_waiting, WaitForLive, quieted, Line, line_waits, is_used, used_lines, fresh_line}
 use Rattle.osi_stack.proofs.Alike.{hush}
 use Rattle.osi_stack.proofs.FirstShown.{quiet_line}
 use Rattle.osi_stack.proofs.Linking.{used_by, joined_lines, mono_or}
 
 or_not : (b w : Bool) → b ≡ false → (b || not w) ≡ true → w ≡ false
-or_not true w e h = cc
-or_not false true e h = cc
-or_not false false e h = refl
+or_not b w e h = grind arith
 
 -- ---- live connections stay so where one is asked for
 
@@ -48,27 +46,15 @@ row_joins live q p s y lines true e may j =
     let still : is_used live (p, hush y) ≡ true = ap (λ x. x || false) e in
     let kept = used_by live (p, y) (joined_lines q s lines) true used in
     let hushed = used_by live (p, hush y) (joined_lines q s (quieted lines)) true still in
-    record {
-      same = ap quieted kept ∙ ap (λ (l : Rows Line). (p, hush y) ∷ l) j.same ∙ ap quieted (sym hushed);
-      waiting = ap all_waiting kept ∙ ap (λ (l : List (ℕ × Shown)). shown_of p y.waiting ++ l) j.waiting;
-      none = ap all_waiting hushed ∙ j.none;
-    }
+    search (ap quieted kept ∙ ap (λ (l : Rows Line). (p, hush y) ∷ l) j.same ∙ ap quieted (sym hushed), ap all_waiting kept ∙ ap (λ (l : List (ℕ × Shown)). shown_of p y.waiting ++ l) j.waiting, ap all_waiting hushed ∙ j.none)
 row_joins live q p s y lines false e may j =
     let quiet = or_not (is_some (value_at p live)) (line_waits y) e may in
     let used : is_used live (p, y) ≡ false = ap (λ x. x || line_waits y) e ∙ quiet in
     let still : is_used live (p, hush y) ≡ false = ap (λ x. x || false) e in
     let kept = used_by live (p, y) (joined_lines q s lines) false used in
     let hushed = used_by live (p, hush y) (joined_lines q s (quieted lines)) false still in
-    record {
-      same = ap quieted kept ∙ j.same ∙ ap quieted (sym hushed);
-      waiting = ap all_waiting kept ∙ j.waiting ∙ sym (ap (λ (w : List Shown). shown_of p w ++ all_waiting lines) (quiet_line y quiet));
-      none = ap all_waiting hushed ∙ j.none;
-    }
+    search (ap quieted kept ∙ j.same ∙ ap quieted (sym hushed), ap all_waiting kept ∙ j.waiting ∙ sym (ap (λ (w : List Shown). shown_of p w ++ all_waiting lines) (quiet_line y quiet)), ap all_waiting hushed ∙ j.none)
 
 pub joins_alike : (live : Rows Connection) (q : ℕ) (s : Listener) (lines : Rows Line) → WaitForLive live lines → Joins live q s lines
-joins_alike live q s [] all = record {
-  same = refl;
-  waiting = last_waiting live q s (is_used live (new_line q s)) refl;
-  none = last_waiting live q s (is_used live (new_line q s)) refl;
-}
+joins_alike live q s [] all = search (last_waiting live q s (is_used live (new_line q s)) refl, last_waiting live q s (is_used live (new_line q s)) refl)
 joins_alike live q s ((p, y) ∷ lines) all = row_joins live q p s y lines (is_some (value_at p live)) refl all.0 (joins_alike live q s lines all.1)

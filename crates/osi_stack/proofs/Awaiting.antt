@@ -3,7 +3,7 @@ use Rattle.std.proofs.Common.{◌≡◌, ◌≢◌, ℕ, ◌+◌, ◌==◌, Bool
 use Rattle.osi_carrier.specs.Happenings as told
 use Rattle.osi_carrier.specs.Packets as carriers
 use Rattle.osi_session.specs.Listening.{rests}
-use Rattle.osi_stack.proofs.Vocabulary.{eqb-true, eq-eqb, Fed, Standing as Link, Class, Zero, Local, beyond, push_here, put_other, push_other, open_link, link_of, sent_on, closes, closed_on, Happening, IsOrderly, told_of, value_at, Connection, asked, closing, State as Carrier, Broken, Call, Input, Listener, called, opened, refused, broken, came, begun, denied, react, is_wait_transport, awaits, connects, calls_with, breaks, carried, without_first, Feeds, opens, hears, hears_next, hears_times, hears_all, with_events, with_carrier, after_packet, ends, AreApart, HasAsked, Soundness, IsSound, kept_at, to_session, Line, End, Holding, IsAttended, fresh_end, waits, Connect}
+use Rattle.osi_stack.proofs.Vocabulary.{eqb-true, eq-eqb, Fed, Standing as Link, Class, Zero, Local, beyond, push_here, put_other, push_other, open_link, link_of, sent_on, closes, closed_on, Happening, IsOrderly, told_of, value_at, Connection, asked, closing, State as Carrier, Broken, Call, Input, Listener, called, opened, refused, broken, came, begun, denied, react, is_wait_transport, awaits, connects, calls_with, breaks, carried, without_first, Feeds, opens, hears, hears_next, hears_times, hears_all, with_events, with_carrier, after_packet, ends, AreApart, HasAsked, Soundness, IsSound, kept_at, to_session, Line, End, Holding, IsAttended, fresh_end, waits, Connect, input_of}
 use Rattle.osi_stack.proofs.Answered.{answered, answered_other, answered_behind}
 use Rattle.osi_stack.proofs.Events.{concluded_carrier}
 use Rattle.osi_stack.proofs.Keeping.{session_keeps}
@@ -23,10 +23,7 @@ StillWaits = (s : Listener) (input : Input) → is_wait_transport (react s input
 -- ---- what a session does to its carrier
 
 unlinked : (over : Bool) (o : Option Connection) (link : ℕ × Link) → o ≡ Some asked → (if over then None else link_of o) ≡ Some link → ⊥
-unlinked true o link here e = cc
-unlinked false (Some asked) link here e = cc
-unlinked false None link here e = cc
-unlinked false (Some connection) link here e = (let no : link_of (Some asked) ≡ Some link = ap link_of (sym here) ∙ e in cc)
+unlinked over o link here e = grind arith
 
 other_link : (r q : ℕ) (c : Carrier) (link : ℕ × Link) → value_at r c.live ≡ Some asked → open_link q c ≡ Some link → r ≢ q
 other_link r q c link here e = λ same. unlinked (is_some c.ended) (value_at q c.live) link (ap (λ n. value_at n c.live) (sym same) ∙ here) e
@@ -79,10 +76,7 @@ moved_asked law q input event rest e d of m stays quiet all r s false at is n h 
 
 rested_asked : (q : ℕ) (event : Happening) (rest : List Happening) (e : End) → told_of event ≡ q → kept_at q e.lines ≡ None → AllAsked (event ∷ rest) e →
     (r : ℕ) (s : Listener) (b : Bool) → (r == q) ≡ b → kept_at r e.lines ≡ Some s → is_wait_transport s.state.phase ≡ true → answered r rest ≡ false → value_at r e.carrier.live ≡ Some asked
-rested_asked q event rest e of none all r s true at is n h = let no : None ≡ Some s = sym none ∙ ap (λ k. kept_at k e.lines) (sym (eqb-true r q at)) ∙ is in cc
-rested_asked q event rest e of none all r s false at is n h =
-    let ne : r ≢ q = (λ same. both (r == q) (eq-eqb r q same) at) in
-    all r s is n (answered_other r event rest (λ same. ne (same ∙ of)) ∙ h)
+rested_asked q event rest e of none all r s b at is n h = grind arith
 
 heard_asked : StillWaits → (q : ℕ) (input : Input) (event : Happening) (rest : List Happening) (e d : End) → told_of event ≡ q → Hearing q input e d →
     ((r : ℕ) → value_at r e.carrier.live ≡ Some asked → value_at r d.carrier.live ≡ Some asked) → Unanswered q input event rest → AllAsked (event ∷ rest) e → AllAsked rest d
@@ -119,7 +113,7 @@ awaits_none s is n = let no : false ≡ true = ap (λ (x : Listener). is_wait_tr
 joined_asked : (q : ℕ) (rest : List Happening) (e : End) → AreApart e.lines → value_at q e.lines ≡ None → AllAsked (told.opened q ∷ rest) e → AllAsked rest (opens q None e)
 joined_asked q rest e apart none all =
     λ r s is n h. elim (kept_joined q r awaits s e.carrier.live e.lines (q == r) refl none (used_at r e.carrier.live (joined_lines q awaits e.lines) (apart_push q _ e.lines none apart)) is) [
-      | inl new ↦ awaits_none s new.1 n
+      | inl new ↦ (let no : false ≡ true = ap (λ (x : Listener). is_wait_transport x.state.phase) (sym new.1) ∙ n in cc)
       | inr old ↦ all r s old.1 n (answered_other r (told.opened q) rest (λ same. old.0 (sym same)) ∙ h)
     ]
 
@@ -133,9 +127,7 @@ hears_asked : StillWaits → (event : Happening) (rest : List Happening) (e : En
 hears_asked law (told.opened q) rest e apart over all = opens_asked law q rest e (value_at q e.lines) refl apart over all
 hears_asked law (told.refused q reason) rest e apart over all =
     session_asked law q (refused reason) (told.refused q reason) rest e refl over (λ s n. both (is_wait_transport (react s (refused reason)).next.state.phase) n (refused_waits s reason)) all
-hears_asked law (told.tsdu q octets) rest e apart over all = session_asked law q (came octets) (told.tsdu q octets) rest e refl over (λ s n. refl) all
-hears_asked law (told.closed q reason) rest e apart over all = session_asked law q broken (told.closed q reason) rest e refl over (λ s n. refl) all
-hears_asked law (told.faulted q fault) rest e apart over all = session_asked law q broken (told.faulted q fault) rest e refl over (λ s n. refl) all
+hears_asked law event rest e apart over all = session_asked law (told_of event) (input_of event) event rest e refl over (λ s n. refl) all
 
 -- ---- all events
 

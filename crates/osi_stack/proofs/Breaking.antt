@@ -34,10 +34,10 @@ told_row r q line lines true e alone more =
     ∙ ap (λ (l : List (ℕ × Shown)). shown_of q line.waiting ++ l) (more ∙ ap (shown_of r) none)
     ∙ append-nil (shown_of q line.waiting)
     ∙ ap (λ n. shown_of n line.waiting) same
-    ∙ ap (shown_of r) (sym (waiting_here r q line lines e))
+    ∙ ap (shown_of r) (sym (rw e refl))
 told_row r q line lines false e alone more =
     ap (λ (l : List (ℕ × Shown)). l ++ told_of r (all_waiting lines)) (told_other r q line.waiting e)
-    ∙ more ∙ ap (shown_of r) (sym (waiting_behind r q line lines e))
+    ∙ more ∙ ap (shown_of r) (sym (rw e refl))
 
 -- where each reference has one line
 told_at : (r : ℕ) (lines : Rows Line) → AreApart lines → told_of r (all_waiting lines) ≡ shown_of r (waiting_at r lines)
@@ -74,7 +74,7 @@ kept_hushed r o e = quieted_at r e.lines
 
 kept_alike : (a b : Holding) (xs ys : List Call) → AreAlike a xs b ys → (r : ℕ) → kept_at r a.end.lines ≡ kept_at r b.end.lines
 kept_alike a b xs ys h r =
-    sym (kept_hushed r (flat_map carried_in xs) a.end) ∙ ap (λ (e : End). kept_at r e.lines) h.end ∙ kept_hushed r (flat_map carried_in ys) b.end
+    sym (quieted_at r a.end.lines) ∙ ap (λ (e : End). kept_at r e.lines) h.end ∙ quieted_at r b.end.lines
 
 broken_end : (o p : List ℕ) (a b : End) → put_back o (hushed a) ≡ put_back p (hushed b) → put_back o (hushed (ends Broken a)) ≡ put_back p (hushed (ends Broken b))
 broken_end o p a b same = ends_hushed o a ∙ ap (λ (e : End). hushed (ends Broken e)) same ∙ sym (ends_hushed p b)

@@ -1,5 +1,5 @@
 -- What a call sends, and what it does not do.
-use Rattle.std.proofs.Common.{◌≡◌, ℕ, Bool, false, List, [], ◌++◌, Option, Some, None, is_none, Result, Ok, Err, OnOk, IfErr, refl, sym, ap, subst, ◌∙◌, if◌then◌else◌}
+use Rattle.std.proofs.Common.{◌≡◌, ℕ, Bool, false, List, [], ◌++◌, Option, Some, None, is_none, Result, Ok, Err, OnOk, IfErr, refl, sym, ap, subst, ◌∙◌, if◌then◌else◌, arith}
 use Rattle.osi_stack.proofs.Vocabulary.{append-nil, Carrying, send_all_error, open_link, State as Carrier, Meaning, tsdus_sent, Answer, allowed, Call, CallError, Listener, Move, called, answered, react, Shown, limit_of, send_refusal, reply_refusal, move_refusal, or_else, Refuses, answers, line_by, carrier_by, shows_connect, Line, hands, answers_by}
 
 -- a call shows nothing and closes nothing, and one that is accepted sends something
@@ -89,7 +89,4 @@ called_line (Ok a) r l v s t call is here h =
 
 pub called_carrier : {A E : Type 0} (result : Result A E) (r : ℕ) (l : Line) (v : ℕ × Line) (s : Listener) (c d : Carrying) (call : Call) → (r, l) ≡ v → l.session ≡ Some s →
     OnOk result (d ≡ record c { state = answers r (limit_of s.state) (react s (called call)) c.state }) → OnOk result (d ≡ record c { state = carrier_by v.0 v.1.session (called call) c.state })
-called_carrier (Err f) r l v s c d call is here h = tt
-called_carrier (Ok a) r l v s c d call is here h =
-    subst (λ (x : ℕ × Line). d ≡ record c { state = carrier_by x.0 x.1.session (called call) c.state }) is
-    (h ∙ ap (λ o. record c { state = carrier_by r o (called call) c.state }) (sym here))
+called_carrier result r l v s c d call is here h = grind arith

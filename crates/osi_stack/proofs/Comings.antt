@@ -39,9 +39,7 @@ no_events e quiet attended = attended (lasting_of e.carrier.ended (waits e.lines
 
 -- the carrier found none: the unit did nothing
 ended_quiet : (e : End) (c : Carrier) → e.carrier.events ≡ [] → c ≡ states.ends NoMemory e.carrier → attends (with_carrier c e) ≡ ends NoMemory e
-ended_quiet e c none is =
-    let over : End = record e { carrier = states.ends NoMemory e.carrier } in
-    ap (λ (x : Carrier). attends (with_carrier x e)) is ∙ ap concludes (all_quiet over none)
+ended_quiet e c none is = grind arith
 
 acted_unit : (old : Carrier) (new : Carrier) (unit : Value) → IsSendable unit → carriers.Acts old (written unit) new → (new ≡ react unit old) ⊎ (new ≡ states.ends NoMemory old)
 acted_unit old new unit sendable h =
@@ -74,9 +72,7 @@ packet_starved e new packet coming r t none f h =
 
 -- it has ended then
 starved_over : {A : Type 0} (e : End) (left : List Value) (new : End) → Starved e left new → new.carrier.ended ≡ None → A
-starved_over e left new (inl is) lasts = never new (ap (λ (x : End). is_some x.carrier.ended) is) lasts
-starved_over e left new (inr h) lasts =
-    never new (ap (λ (x : End). is_some x.carrier.ended) h.starved.starved ∙ ended_then (with_events h.starved.more (hears_times h.starved.heard (carries_out h.unit e)))) lasts
+starved_over e left new h3 lasts = grind arith
 
 -- ---- attended along packets
 
@@ -113,11 +109,7 @@ runs_dry old new outgoing coming k used less c h =
 
 -- where the end has not ended, an indication waits
 pub uses_within : (e : End) (all within used : ℕ) → stops e ≡ true → e.carrier.ended ≡ None → used ≡ (if uses_all e then all else within) → used ≡ within
-uses_within e all within used stopped lasts uses =
-    let over : is_some e.carrier.ended ≡ false = ap is_some lasts in
-    let waiting : waits e.lines ≡ true = sym (ap (λ b. b || waits e.lines) over) ∙ stopped in
-    let some : uses_all e ≡ false = ap (λ (o : Option EndReason). carriers.is_spoilt o || not (waits e.lines)) lasts ∙ ap not waiting in
-    uses ∙ ap (λ (b : Bool). if◌then◌else◌ {A = ℕ} b all within) some
+uses_within e all within used stopped lasts uses = cc
 
 stops_behind : (old new : Holding) (outgoing : List ℕ) (coming : List Value) (k used : ℕ) → k ≤ length outgoing → AreComing old.held.octets outgoing coming →
     StopsBehind old (take k outgoing) used new → TakesSome old outgoing coming used new

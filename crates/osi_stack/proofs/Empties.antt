@@ -46,12 +46,7 @@ idle_is : (old new : Holding) (piece : List ℕ) (fed : Fed) (told : Carrying) �
     carriers.Feeds (carrying_of old) piece fed told → fed.used ≡ 0 → told ≡ carrying_of old → new ≡ old → IsIdle old piece fed.used new
 idle_is old new piece fed told none quiet attended feeds unused still same =
     let goes = feeds.goes (quiet_end old.end quiet attended) in
-    record {
-      same = same;
-      none = unused;
-      goes = idle_by old new piece fed.used none unused same
-          (nothing_by old fed.used told quiet (subst (λ (p : List ℕ). carriers.Goes (carrying_of old) p fed.used told) none goes) still);
-    }
+    search (idle_by old new piece fed.used none unused same (nothing_by old fed.used told quiet (subst (λ (p : List ℕ). carriers.Goes (carrying_of old) p fed.used told) none goes) still))
 
 nothing_of : (l : List ℕ) → (length l == 0) ≡ true → l ≡ []
 nothing_of [] e = refl

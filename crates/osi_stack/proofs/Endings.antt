@@ -4,8 +4,7 @@ use Rattle.std.proofs.Common.{◌≡◌, ℕ, ◌+◌, ◌-◌, ◌<◌, ◌^◌
 use Rattle.osi_tpkt.proofs.Fronts.{one_fault}
 use Rattle.osi_carrier.proofs.Outcomes.{Compared, compare, init_front, no_further, at_same, offsets_join}
 use Rattle.osi_stack.specs.Feeding.{Refuses}
-use Rattle.osi_stack.specs.Runs.{Call}
-use Rattle.osi_stack.proofs.Vocabulary.{append-nil, take_all, flat_map, Held, IsPartial, IsFaultOf, ArePackets, offset_of, Fed, TpktFault, PacketLaws, fault_behind, front_used, packets_joined, packets_leave, Tpkt, EndReason, Fault, Shown, stops, uses_all, TakesPackets, RunsDry, StopsBehind, Feeds, after_packet, ends, all_lost, all_waiting, hushed, put_back, Account, account_of, with_packets, Calls, HasRoom, CallsAlong, CallsInRoom, used_in, told_in, carried_in, account_along, AreAlike, feeding, telling, carrying, End, Holding, waits, none_of}
+use Rattle.osi_stack.proofs.Vocabulary.{append-nil, take_all, flat_map, Held, IsPartial, IsFaultOf, ArePackets, offset_of, Fed, TpktFault, PacketLaws, fault_behind, front_used, packets_joined, packets_leave, Tpkt, EndReason, Fault, Shown, stops, uses_all, TakesPackets, RunsDry, StopsBehind, Feeds, after_packet, ends, all_lost, all_waiting, hushed, put_back, Account, account_of, with_packets, Calls, HasRoom, CallsAlong, CallsInRoom, used_in, told_in, carried_in, account_along, AreAlike, feeding, telling, carrying, End, Holding, waits, none_of, EndCall as Call}
 use Rattle.osi_stack.proofs.Accounts.{made, after_more, account_quiet, account_told, account_joined, account_packet, packets_apart, packets_done, with_joined}
 use Rattle.osi_stack.proofs.Lasting.{Lasts, account_over, in_front, packets_within, no_packets_end, no_fault_ends, reads_lasts}
 use Rattle.osi_stack.proofs.Lifting.{both, or_first, or_second, never}
@@ -103,7 +102,7 @@ record TakesLast (old : End) (units : List (List ℕ)) : Type 0 where
   all : units ≡ before ++ last ∷ []
   lasts : (with_packets before (account_of [] [] old)).end.carrier.ended ≡ None
 
-stops_not : (e : End) → stops e ≡ false → e.carrier.ended ≡ None
+pub stops_not : (e : End) → stops e ≡ false → e.carrier.ended ≡ None
 stops_not e quiet = none_of e.carrier.ended (or_first (is_some e.carrier.ended) (waits e.lines) quiet)
 
 takes_last : (units : List (List ℕ)) (old new : End) → TakesPackets old units new → stops old ≡ false → stops new ≡ true → TakesLast old units

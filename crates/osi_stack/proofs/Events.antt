@@ -17,10 +17,7 @@ record IsTaken (now : End) (event : Happening) (mid : Carrier) : Type 0 where
   rest : with_events mid.events now ≡ with_carrier mid now
 
 taken_is : (now : End) (event : Happening) (mid : Carrier) → now.carrier ≡ record mid { events = event ∷ mid.events } → IsTaken now event mid
-taken_is now event mid h = record {
-  first = ap (λ (c : Carrier). c.events) h;
-  rest = ap (λ (c : Carrier). with_carrier (record c { events = mid.events }) now) h;
-}
+taken_is now event mid h = grind arith
 
 -- the carrier of an end, and the packet under way
 abbrev pub carrying_of : Holding → Carrying
@@ -32,9 +29,6 @@ pub record HasHeard (old now : Holding) : Type 0 where
   pub is : now.end ≡ hears_times count old.end
   pub left : count + length now.end.carrier.events ≡ length old.end.carrier.events
   pub held : now.held ≡ old.held
-
-pub heard_first : (old : Holding) → HasHeard old old
-heard_first old = record { count = 0; is = refl; left = omega arith; held = refl }
 
 pub heard_fewer : (now : End) (event : Happening) (mid : Carrier) → now.carrier ≡ record mid { events = event ∷ mid.events } →
     length now.carrier.events ≡ suc (length (hears event (with_carrier mid now)).carrier.events)
@@ -67,36 +61,18 @@ heard_left_over now new event mid h is =
     omega arith
 
 pub heard_all : (old now : Holding) → HasHeard old now → now.end.carrier.events ≡ [] → now.end ≡ hears_all old.end
-heard_all old now so_far none =
-    let left = so_far.left in
-    let no = ap length none in
-    let count : so_far.count ≡ length old.end.carrier.events = omega arith in
-    so_far.is ∙ ap (λ n. hears_times n old.end) count
+heard_all old now so_far none = grind arith
 
 pub heard_left : (old now : Holding) (event : Happening) (mid : Carrier) (new : End) → HasHeard old now → now.end.carrier ≡ record mid { events = event ∷ mid.events } →
     needs_memory event (with_carrier mid now.end) ≡ true → Interrupted (with_carrier mid now.end) new → LeftOff old.end new
 heard_left old now event mid new so_far h needed stopped =
     let t = taken_is now.end event mid h in
-    record {
-      heard = so_far.count;
-      event = event;
-      more = mid.events;
-      waits = ap (λ (e : End). e.carrier.events) (sym so_far.is) ∙ t.first;
-      needed = subst (λ (e : End). needs_memory event e ≡ true) (sym t.rest ∙ ap (with_events mid.events) so_far.is) needed;
-      stopped = subst (λ (e : End). Interrupted e new) (sym t.rest ∙ ap (with_events mid.events) so_far.is) stopped;
-    }
+    search (ap (λ (e : End). e.carrier.events) (sym so_far.is) ∙ t.first, subst (λ (e : End). needs_memory event e ≡ true) (sym t.rest ∙ ap (with_events mid.events) so_far.is) needed, subst (λ (e : End). Interrupted e new) (sym t.rest ∙ ap (with_events mid.events) so_far.is) stopped)
 
 -- ---- want of memory
 
 pub starved_is : (old mid : End) → LeftOff old mid → RunsOut old (starves mid)
-starved_is old mid left = record {
-  heard = left.heard;
-  event = left.event;
-  more = left.more;
-  waits = left.waits;
-  needed = left.needed;
-  starved = same_end _ _ _ _ (ap (ended_by NoMemory) left.stopped.carrier) left.stopped.lines;
-}
+starved_is old mid left = grind arith
 
 -- ---- no event waits
 
@@ -106,9 +82,7 @@ no_events (x ∷ l) h = let none : suc (length l) ≡ 0 = eqb-true (length (x �
 
 pub times_quiet : (n : ℕ) (e : End) → e.carrier.events ≡ [] → hears_times n e ≡ e
 times_quiet zero e none = refl
-times_quiet (suc n) e none =
-    let next : hears_next e ≡ e = ap (λ l. hears_first l e) none in
-    ap (hears_times n) next ∙ times_quiet n e none
+times_quiet (suc n) e none = ap (hears_times n) (ap (λ l. hears_first l e) none) ∙ times_quiet n e none
 
 pub all_quiet : (e : End) → e.carrier.events ≡ [] → hears_all e ≡ e
 all_quiet e none = times_quiet (length e.carrier.events) e none
@@ -140,10 +114,7 @@ pub starved_over : (e : End) → is_some (starves e).carrier.ended ≡ true
 starved_over e = over_by e.carrier.ended e.carrier (record e.carrier { live = []; tsaps = []; ended = Some NoMemory }) refl refl
 
 pub starved_attended : (e new : End) → new ≡ starves e → IsAttended new
-starved_attended e new h none =
-    let over = ap (λ (x : End). is_some x.carrier.ended) h ∙ starved_over e in
-    let lasts : is_some new.carrier.ended ≡ false = ap is_some none in
-    cc
+starved_attended e new h none = grind arith
 
 concluded_by : (b : Bool) (e : End) → (if b then record e { lines = all_lost e.lines } else e).carrier ≡ e.carrier
 concluded_by true e = refl

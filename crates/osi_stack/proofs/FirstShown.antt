@@ -15,17 +15,11 @@ pub record IsNone (rows : Rows Line) : Type 0 where
   pub rest : without_first rows ≡ rows
 
 none_cons : (r : ℕ) (l : Line) (rows : Rows Line) → l.waiting ≡ [] → IsNone rows → IsNone ((r, l) ∷ rows)
-none_cons r l rows e more = record {
-  shown = ap (λ w. first_by r w (first_shown rows)) e ∙ more.shown;
-  rest = ap (λ w. rest_by r l w rows (without_first rows)) e ∙ ap (λ k. (r, l) ∷ k) more.rest;
-}
+none_cons r l rows e more = search
 
 none_by : (r : ℕ) (l : Line) (rows : Rows Line) (b : Bool) → line_waits l ≡ b → (length rows ≤ position_or_len (λ row. line_waits row.1) rows → IsNone rows) →
     length ((r, l) ∷ rows) ≤ position_or_len (λ row. line_waits row.1) ((r, l) ∷ rows) → IsNone ((r, l) ∷ rows)
-none_by r l rows true t more h = let none : suc (length rows) ≤ 0 = rw t at h in absurd (omega arith)
-none_by r l rows false t more h =
-    let behind : suc (length rows) ≤ 1 + position_or_len (λ row. line_waits row.1) rows = rw t at h in
-    none_cons r l rows (quiet_line l t) (more (omega arith))
+none_by r l rows b t more h = grind arith
 
 none_at : (rows : Rows Line) → length rows ≤ position_or_len (λ row. line_waits row.1) rows → IsNone rows
 none_at [] h = record { shown = refl; rest = refl }

@@ -7,10 +7,7 @@ use Rattle.osi_stack.proofs.Vocabulary.{position_or_len, common_steps, placed, h
 nowhere_by : {X : Type 0} (r q : ℕ) (y : X) (rows : Rows X) (b : Bool) → (q == r) ≡ b →
     (length rows ≤ position_or_len (λ row. row.0 == r) rows → value_at r rows ≡ None) →
     length ((q, y) ∷ rows) ≤ position_or_len (λ row. row.0 == r) ((q, y) ∷ rows) → value_at r ((q, y) ∷ rows) ≡ None
-nowhere_by r q y rows true t more h = let none : suc (length rows) ≤ 0 = rw t at h in absurd (omega arith)
-nowhere_by r q y rows false t more h =
-    let behind : suc (length rows) ≤ 1 + position_or_len (λ row. row.0 == r) rows = rw t at h in
-    rw t (more (omega arith))
+nowhere_by r q y rows b t more h = grind arith
 
 nowhere_at : {X : Type 0} (r : ℕ) (rows : Rows X) → length rows ≤ position_or_len (λ row. row.0 == r) rows → value_at r rows ≡ None
 nowhere_at r [] h = refl

@@ -21,9 +21,7 @@ hands_none r c = none_by r c (open_link r c)
 
 unlinked : (r : ℕ) (tsdus : List (List ℕ)) (c : Carrier) → open_link r c ≡ None → sent_all r tsdus c ≡ c
 unlinked r [] c e = refl
-unlinked r (tsdu ∷ tsdus) c e =
-    let still : sent r tsdu c ≡ c = ap (λ o. sent_on r tsdu o c) e in
-    ap (sent_all r tsdus) still ∙ unlinked r tsdus c e
+unlinked r (tsdu ∷ tsdus) c e = ap (sent_all r tsdus) (ap (λ o. sent_on r tsdu o c) e) ∙ unlinked r tsdus c e
 
 any_if : (b : Bool) (tsdus : List (List ℕ)) → b ≡ false → list_any (λ (t : List ℕ). nat_lt 1048576 (length t)) tsdus ≡ false → (b || list_any (λ (t : List ℕ). nat_lt 1048576 (length t)) tsdus) ≡ false
 any_if true tsdus e h = absurd (cc)

@@ -1,5 +1,5 @@
 -- An accepted call of a session does the same where indications wait as where all was told.
-use Rattle.std.proofs.Common.{◌≡◌, ℕ, ◌==◌, Bool, true, false, List, [], ◌∷◌, ◌++◌, Option, Some, None, option_map, refl, sym, ap, ◌∙◌}
+use Rattle.std.proofs.Common.{◌≡◌, ℕ, ◌==◌, Bool, true, false, List, [], ◌∷◌, ◌++◌, Option, Some, None, option_map, refl, sym, ap, ◌∙◌, arith}
 use Rattle.osi_stack.proofs.Vocabulary.{append-nil, Rows, value_at, put, Call as SessionCall, Input, Listener, called, Shown, call_error, shown_of, all_waiting, line_by, by_line, to_session, quieted, hushed, put_back, account_of, Line, End}
 use Rattle.osi_stack.proofs.Accounts.{made}
 use Rattle.osi_stack.proofs.Alike.{call_hushed, hush, quieted_value}
@@ -43,13 +43,7 @@ session_hushed r input e =
 
 waiting_by : (r q : ℕ) (x line y : Line) (lines : Rows Line) (b : Bool) → (q == r) ≡ b → x.waiting ≡ line.waiting → value_at r ((q, y) ∷ lines) ≡ Some line →
     (value_at r lines ≡ Some line → all_waiting (put r x lines) ≡ all_waiting lines) → all_waiting (put r x ((q, y) ∷ lines)) ≡ all_waiting ((q, y) ∷ lines)
-waiting_by r q x line y lines true e same here more =
-    let found : Some y ≡ Some line = rw e at here in
-    let is : y ≡ line = cc in
-    rw e (ap (λ (w : List Shown). shown_of q w ++ all_waiting lines) (same ∙ ap (λ (l : Line). l.waiting) (sym is)))
-waiting_by r q x line y lines false e same here more =
-    let behind : value_at r lines ≡ Some line = rw e at here in
-    rw e (ap (λ (l : List (ℕ × Shown)). shown_of q y.waiting ++ l) (more behind))
+waiting_by r q x line y lines b e same here more = grind arith
 
 waiting_put : (r : ℕ) (x line : Line) (lines : Rows Line) → x.waiting ≡ line.waiting → value_at r lines ≡ Some line → all_waiting (put r x lines) ≡ all_waiting lines
 waiting_put r x line [] same here = refl

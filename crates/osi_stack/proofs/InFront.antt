@@ -5,7 +5,7 @@ use Rattle.osi_carrier.specs.Happenings as told
 use Rattle.osi_carrier.specs.Packets as carriers
 use Rattle.osi_carrier.specs.Runs as runs
 use Rattle.osi_carrier.specs.Runs.UserCall.{closes}
-use Rattle.osi_stack.proofs.Vocabulary.{apart_all, open_link, sent, closed_with, sent_all, send_all_error, Happening, value_at, put, packet, user, sends, State as Carrier, SendError, Input, Listener, opened, react, opens, hears, hears_first, hears_next, hears_times, hears_all, with_events, with_carrier, all_lost, concludes, attends, after_packet, line_by, carrier_by, by_line, to_session, put_back, Line, End, sent_unless, answers_by}
+use Rattle.osi_stack.proofs.Vocabulary.{apart_all, open_link, sent, closed_with, sent_all, send_all_error, Happening, value_at, put, packet, user, sends, State as Carrier, SendError, Input, Listener, opened, react, opens, hears, hears_first, hears_next, hears_times, hears_all, with_events, with_carrier, all_lost, concludes, attends, after_packet, line_by, carrier_by, by_line, to_session, put_back, Line, End, sent_unless, answers_by, told_of}
 use Rattle.osi_stack.proofs.Lifting.{packet_is}
 
 -- these octets stand in front
@@ -52,10 +52,7 @@ module _ (o : List ℕ) where
 
   apart_hears : (event : Happening) (e : End) → hears event (put_back o e) ≡ put_back o (hears event e)
   apart_hears (told.opened r) e = apart_opens r (value_at r e.lines) e
-  apart_hears (told.refused r reason) e = apart_session r _ e
-  apart_hears (told.tsdu r octets) e = apart_session r _ e
-  apart_hears (told.closed r reason) e = apart_session r _ e
-  apart_hears (told.faulted r fault) e = apart_session r _ e
+  apart_hears event e = apart_session (told_of event) _ e
 
   apart_first : (events : List Happening) (e : End) → hears_first events (put_back o e) ≡ put_back o (hears_first events e)
   apart_first [] e = refl

@@ -1,5 +1,5 @@
 -- Two accounts that are the same but for lines of connections that are gone stay so, whatever comes.
-use Rattle.std.proofs.Common.{◌≡◌, ℕ, ◌==◌, Bool, true, false, ◌||◌, List, [], ◌∷◌, ◌++◌, Option, Some, None, is_some, refl, sym, ap, ◌∙◌, if◌then◌else◌}
+use Rattle.std.proofs.Common.{◌≡◌, ℕ, ◌==◌, Bool, true, false, ◌||◌, List, [], ◌∷◌, ◌++◌, Option, Some, None, is_some, refl, sym, ap, ◌∙◌, if◌then◌else◌, arith}
 use Rattle.osi_carrier.specs.Packets as carriers
 use Rattle.osi_stack.proofs.Vocabulary.{eqb-true, eq-eqb, or_right, orderly_same, link_of, AreUpTo, Rows, value_at, Connection, asked, State as Carrier, is_open, none_of, implied, Listener, broken, react, is_wait_transport, may_abort, shows_loss, Shown, Lost, shown_at_loss, after_packet, with_carrier, AreApart, HasAsked, IsSound, kept_at, all_waiting, quieted, hushed, put_back, live_lines, pruned, Account, account_of, Line, End, IsAttended, line_waits, session_in, waits}
 use Rattle.osi_stack.proofs.Accounts.{made}
@@ -22,13 +22,9 @@ pub record IsFit (e : End) : Type 0 where
 
 -- once it has ended nothing of it is asked
 pub fit_over : (e : End) → is_some e.carrier.ended ≡ true → IsFit e
-fit_over e over = record {
-  attended = λ lasts. both (is_some e.carrier.ended) over (ap is_some lasts);
-  sound = λ lasts. both (is_some e.carrier.ended) over (ap is_some lasts);
-  asks = λ lasts. both (is_some e.carrier.ended) over (ap is_some lasts);
-}
+fit_over e over = grind arith
 
-quieted_up : (n : ℕ) (lines : Rows Line) → AreUpTo n lines → AreUpTo n (quieted lines)
+pub quieted_up : (n : ℕ) (lines : Rows Line) → AreUpTo n lines → AreUpTo n (quieted lines)
 quieted_up n [] up = tt
 quieted_up n ((q, y) ∷ lines) up = (up.0, quieted_up n lines up.1)
 
@@ -45,7 +41,7 @@ some_quieted : (r : ℕ) (lines : Rows Line) → is_some (value_at r (quieted li
 some_quieted r [] = refl
 some_quieted r ((q, y) ∷ lines) = none_by r q y lines (q == r) refl (some_quieted r lines)
 
-quieted_apart : (lines : Rows Line) → AreApart lines → AreApart (quieted lines)
+pub quieted_apart : (lines : Rows Line) → AreApart lines → AreApart (quieted lines)
 quieted_apart [] apart = tt
 quieted_apart ((q, y) ∷ lines) apart = (none_of (value_at q (quieted lines)) (some_quieted q lines ∙ ap is_some apart.0), quieted_apart lines apart.1)
 
@@ -78,11 +74,7 @@ fit_back o e f = record {
 }
 
 pub fit_packet : SessionLaws → StillWaits → (unit : List ℕ) (e : End) → e.carrier.ended ≡ None → IsFit e → IsFit (after_packet e unit)
-fit_packet laws law unit e lasts f = record {
-  attended = attended_then (with_carrier (carriers.after_packet e.carrier unit) e) (after_packet e unit) (packet_is e unit);
-  sound = packet_sound laws unit e lasts (f.attended lasts) f.sound;
-  asks = packet_asked law unit e lasts (f.sound lasts) f.asks;
-}
+fit_packet laws law unit e lasts f = search (attended_then (with_carrier (carriers.after_packet e.carrier unit) e) (after_packet e unit) (packet_is e unit), packet_sound laws unit e lasts (f.attended lasts) f.sound, packet_asked law unit e lasts (f.sound lasts) f.asks)
 
 -- ---- the session of a connection that is gone shows nothing when it is lost
 
@@ -110,7 +102,7 @@ gone_quiet : (e : End) (r : ℕ) (s : Listener) → e.carrier.ended ≡ None →
 gone_quiet e r s lasts f kept none b false m shows = refl
 gone_quiet e r s lasts f kept none true true m shows =
     let open_is : is_open r e.carrier ≡ true = (f.sound lasts).links lasts r s kept (or_right _ (may_abort s.state.phase) m) in
-    both (is_open r e.carrier) open_is (gone_closed r e.carrier none)
+    both (is_open r e.carrier) open_is (link_live (is_some e.carrier.ended) (value_at r e.carrier.live) none)
 gone_quiet e r s lasts f kept none false true m shows =
     let waits : is_wait_transport s.state.phase ≡ true =
     or_either (may_abort s.state.phase) (is_wait_transport s.state.phase) (implied shows_loss (λ p. may_abort p || is_wait_transport p) refl s.state.phase shows) m in
@@ -126,13 +118,11 @@ gone_shows e r s lasts f kept none = quiet_loss s (gone_quiet e r s lasts f kept
 abbrev ShowNothing : (ℕ → Bool) → Rows Line → Type 0
 ShowNothing K lines = (r : ℕ) (s : Listener) → kept_at r lines ≡ Some s → K r ≡ false → (react s broken).shown ≡ []
 
-kept_first : (q : ℕ) (y : Line) (lines : Rows Line) → kept_at q ((q, y) ∷ lines) ≡ y.session
+pub kept_first : (q : ℕ) (y : Line) (lines : Rows Line) → kept_at q ((q, y) ∷ lines) ≡ y.session
 kept_first q y lines = let e = eq-eqb q q refl in rw e refl
 
 kept_behind : (r q : ℕ) (y : Line) (lines : Rows Line) (s : Listener) (b : Bool) → (q == r) ≡ b → value_at q lines ≡ None → kept_at r lines ≡ Some s → kept_at r ((q, y) ∷ lines) ≡ Some s
-kept_behind r q y lines s true e none is =
-    let no : None ≡ Some s = ap session_in (sym none) ∙ ap (λ k. kept_at k lines) (eqb-true q r e) ∙ is in cc
-kept_behind r q y lines s false e none is = rw e is
+kept_behind r q y lines s b e none is = grind arith
 
 shown_none : (o : Option Listener) → ((s : Listener) → o ≡ Some s → (react s broken).shown ≡ []) → shown_at_loss o ≡ []
 shown_none None h = refl
@@ -159,12 +149,7 @@ pruned_account a = record { end = pruned a.end; told = a.told }
 
 quieted_row : (live : Rows Connection) (q : ℕ) (y : Line) (lines : Rows Line) (b : Bool) → is_some (value_at q live) ≡ b → live_lines live (quieted lines) ≡ quieted (live_lines live lines) →
     live_lines live (quieted ((q, y) ∷ lines)) ≡ quieted (live_lines live ((q, y) ∷ lines))
-quieted_row live q y lines true e more =
-    let K : ℕ → Bool = λ r. is_some (value_at r live) in
-    only_row K q (record y { waiting = [] }) (quieted lines) true e ∙ ap (λ (l : Rows Line). (q, record y { waiting = [] }) ∷ l) more ∙ sym (ap quieted (only_row K q y lines true e))
-quieted_row live q y lines false e more =
-    let K : ℕ → Bool = λ r. is_some (value_at r live) in
-    only_row K q (record y { waiting = [] }) (quieted lines) false e ∙ more ∙ sym (ap quieted (only_row K q y lines false e))
+quieted_row live q y lines b e more = grind arith
 
 pub quieted_live : (live : Rows Connection) (lines : Rows Line) → live_lines live (quieted lines) ≡ quieted (live_lines live lines)
 quieted_live live [] = refl

@@ -15,7 +15,7 @@ first_kept s (inr asked) = subst IsKept (sym asked.1) (record { phase = refl; fe
 came_kept : JoinedLaws → (s : Listener) → CameAbout s → IsKept s
 came_kept law s h = subst IsKept h.is (law.kept h.first h.inputs (first_kept h.first h.fresh))
 
-came_by : (r : ℕ) (s : Listener) (lines : Rows Line) (o : Option Line) → value_at r lines ≡ o → session_in o ≡ Some s → AllCameAbout lines → CameAbout s
+pub came_by : (r : ℕ) (s : Listener) (lines : Rows Line) (o : Option Line) → value_at r lines ≡ o → session_in o ≡ Some s → AllCameAbout lines → CameAbout s
 came_by r s lines None at is all = cc
 came_by r s lines (Some line) at is all = subst (λ (o : Option Listener). IfSome o CameAbout) is (at_line CameAbout r line lines all at)
 
@@ -28,7 +28,7 @@ holds_link p h = implied may_hold needs_link refl p h
 
 pub joined_open : JoinedLaws → (r : ℕ) (s : Listener) (e : End) → IsSettled e → e.carrier.ended ≡ None → kept_at r e.lines ≡ Some s → is_some s.joined ≡ true → is_open r e.carrier ≡ true
 joined_open law r s e settled lasts is some =
-    (settled.sound lasts).links lasts r s is (holds_link s.state.phase (law.held s (kept_of law r s e settled is) some))
+    (settled.sound lasts).links lasts r s is (implied may_hold needs_link refl s.state.phase (law.held s (kept_of law r s e settled is) some))
 
 pub joined_few : JoinedLaws → (r : ℕ) (s : Listener) (e : End) → IsSettled e → kept_at r e.lines ≡ Some s → length (joined_octets s.joined) ≤ most_data
 joined_few law r s e settled is = (kept_of law r s e settled is).few

@@ -1,5 +1,5 @@
 -- What sessions leave of the carrier as it was: the events that wait, and how it ended.
-use Rattle.std.proofs.Common.{◌≡◌, ℕ, List, Option, Some, None, is_some, refl, sym, ap, if◌then◌else◌, ◌∙◌, ◌∷◌, []}
+use Rattle.std.proofs.Common.{◌≡◌, ℕ, List, Option, Some, None, is_some, refl, sym, ap, if◌then◌else◌, ◌∙◌, ◌∷◌, [], arith}
 use Rattle.osi_carrier.specs.Happenings as told
 use Rattle.osi_stack.proofs.Vocabulary.{open_link, link_of, sent_on, closes, closed_on, sent, closed_with, Happening, is_spoilt, value_at, State as Carrier, EndReason, Standing as Link, Class, Zero, Two, Input, hears, to_session, End, told_of, input_of}
 use Rattle.osi_stack.proofs.Stepwise.{Carries, session_carried, event_heard}
@@ -33,10 +33,7 @@ closed_keeps_by r reason None c e = same c
 closed_keeps_by r reason (Some link) c e = closes_keeps r link.0 reason c.class c (lasting c.ended (link_of (value_at r c.live)) link e)
 
 sessions_keep : (c : Carrier) → Carries (Keeps c)
-sessions_keep c = record {
-  sends = λ r tsdu x k. then_keeps c x (sent r tsdu x) k (sent_keeps_by r tsdu (open_link r x) x);
-  closes = λ r x k. then_keeps c x (closed_with r 128 x) k (closed_keeps_by r 128 (open_link r x) x refl);
-}
+sessions_keep c = grind arith
 
 pub session_keeps : (r : ℕ) (input : Input) (e : End) → Keeps e.carrier (to_session r input e).carrier
 session_keeps r input e = session_carried (Keeps e.carrier) (sessions_keep e.carrier) r input e (same e.carrier)

@@ -13,11 +13,7 @@ live_in live lines = sum_by (λ row. live_one live row) lines
 
 without_length_by : (r q : ℕ) (x : Connection) (rows : Rows Connection) (b : Bool) → (q == r) ≡ b → IsSome (value_at r ((q, x) ∷ rows)) →
     (IsSome (value_at r rows) → length (without r rows) + 1 ≡ length rows) → length (without r ((q, x) ∷ rows)) + 1 ≡ length ((q, x) ∷ rows)
-without_length_by r q x rows true e some more = rw e (omega arith)
-without_length_by r q x rows false e some more =
-    let behind : IsSome (value_at r rows) = rw e at some in
-    let shorter = more behind in
-    rw e (omega arith)
+without_length_by r q x rows b e some more = grind arith
 
 without_length : (r : ℕ) (rows : Rows Connection) → IsSome (value_at r rows) → length (without r rows) + 1 ≡ length rows
 without_length r [] some = cc

@@ -1,5 +1,5 @@
 -- A live connection of which something may be shown has addresses.
-use Rattle.std.proofs.Common.{◌≡◌, ℕ, Bool, true, false, List, [], ◌∷◌, Option, Some, None, IsSome, is_some, option_map, refl, sym, ap, subst, ◌∙◌, if◌then◌else◌}
+use Rattle.std.proofs.Common.{◌≡◌, ℕ, Bool, true, false, List, [], ◌∷◌, Option, Some, None, IsSome, is_some, option_map, refl, sym, ap, subst, ◌∙◌, if◌then◌else◌, arith}
 use Rattle.osi_session.specs.Causes.{unit_asks, asks_first, asks_for_connection, is_taken}
 use Rattle.osi_session.specs.Shown.{shows_connect}
 use Rattle.osi_stack.proofs.Vocabulary.{IfSome, tsaps_at, Rows, value_at, TsapIds, known_is, Meaning, CN, Words, as_message, Call, Input, Listener, called, taken, opened, refused, broken, came, react, after_input, shows_loss, Phase, addressed, selectors_in, addresses_at, has_given, phase_of, phase_at, IsNamed, AllNamed, line_by, Selectors, selectors_of, selectors_said, selectors_told, IsSettled, Line, End, session_in, session_at}
@@ -36,9 +36,7 @@ untaken law input not s h = absurd (let t : true ≡ false = sym (law.taken s in
 
 moved_by : {X : Type 0} (law : ShownFirst) (s : Listener) (input : Input) (old told : Option X) (b c : Bool) → shows_connect (react s input).shown ≡ b → shows_loss s.state.phase ≡ c →
     (b ≡ true → IsSome told) → (c ≡ true → IsSome old) → shows_loss (after_input s input).state.phase ≡ true → IsSome (if b then told else old)
-moved_by law s input old told true c shows was tells named k = tells refl
-moved_by law s input old told false true shows was tells named k = named refl
-moved_by law s input old told false false shows was tells named k = absurd (let h : true ≡ false = sym (law.first s input was k) ∙ shows in cc)
+moved_by law s input old told b c shows was tells named k = grind arith
 
 line_named : ShownFirst → (input : Input) → TellsThem input → (line : Line) (o : Option Listener) → line.session ≡ o → IsNamed line → IsNamed (line_by line o input)
 line_named law input tells line None is h = h
@@ -81,10 +79,7 @@ line_known ids (Some s) o h k = both_there ids o (h k)
 
 live_known : (live : Bool) (ids : Option TsapIds) (o : Option Line) → is_some ids ≡ live → IfSome o IsNamed →
     Known (if live then session_in o else None) (if live then addressed ids (selectors_in o) else None)
-live_known false ids o same h k = absurd (cc)
-live_known true None o same h k = absurd (cc)
-live_known true (Some ids) None same h k = absurd (cc)
-live_known true (Some ids) (Some line) same h k = line_known ids line.session line.selectors h k
+live_known live ids o same h k = grind arith
 
 given_known : {X : Type 0} (given : Bool) (session : Option Listener) (x : Option X) → Known session x → IfSome (if given then Some (phase_of session) else None) (λ p. shows_loss p ≡ true → IsSome x)
 given_known false session x h = tt
@@ -100,8 +95,3 @@ known_at r e s =
 some_of : {X Y : Type 0} (f : X → Y) (o : Option X) (q : Option Y) → option_map f o ≡ q → IsSome q → IsSome o
 some_of f None q same h = absurd (let none : false ≡ true = ap is_some same ∙ h in cc)
 some_of f (Some x) q same h = refl
-
-pub known_of : {X Y : Type 0} (f : X → Y) (o : Option X) (q : Option Y) (phase : Option Phase) → option_map f o ≡ q → IfSome phase (λ p. shows_loss p ≡ true → IsSome q) →
-    IfSome phase (λ p. shows_loss p ≡ true → IsSome o)
-known_of f o q None same h = tt
-known_of f o q (Some p) same h = λ k. some_of f o q same (h k)

@@ -1,8 +1,7 @@
 -- Where one list of pieces does not end an end, no other with the same octets does.
 use Rattle.std.proofs.Common.{◌≡◌, ℕ, ◌||◌, Bool, true, false, List, ◌∷◌, ◌++◌, take, Option, Some, None, is_some, refl, sym, ap, subst, ◌∙◌, ◌⊎◌, inl, inr, arith, append_assoc, []}
 use Rattle.osi_stack.specs.Feeding.{Refuses}
-use Rattle.osi_stack.specs.Runs.{Call}
-use Rattle.osi_stack.proofs.Vocabulary.{append-nil, take_all, flat_map, IsPartial, IsFaultOf, ArePackets, Fed, TpktFault, PacketLaws, Parts, parts, no_fault, fault_behind, front_used, packets_over, packets_more, EndReason, NoMemory, uses_all, StopsBehind, FindsNoMemory, Goes, Feeds, after_packet, Account, account_of, with_packet, with_packets, Calls, CallsAlong, used_in, told_in, carried_in, feeding, telling, carrying, End, Holding, waits, none_of}
+use Rattle.osi_stack.proofs.Vocabulary.{append-nil, take_all, flat_map, IsPartial, IsFaultOf, ArePackets, Fed, TpktFault, PacketLaws, Parts, parts, no_fault, fault_behind, front_used, packets_over, packets_more, EndReason, NoMemory, uses_all, StopsBehind, FindsNoMemory, Goes, Feeds, after_packet, Account, account_of, with_packet, with_packets, Calls, CallsAlong, used_in, told_in, carried_in, feeding, telling, carrying, End, Holding, waits, none_of, EndCall as Call}
 use Rattle.osi_stack.proofs.Accounts.{account_packet, packets_apart, packets_done, with_joined}
 use Rattle.osi_stack.proofs.Lifting.{or_first, packets_append, never}
 use Rattle.osi_stack.proofs.Overs.{packet_over, starved_full}
@@ -15,12 +14,10 @@ with_over a unit over = packet_over a.end unit (packets_over (unit ∷ []) a.end
 
 pub account_over : (units : List (List ℕ)) (a : Account) → is_some a.end.carrier.ended ≡ true → is_some (with_packets units a).end.carrier.ended ≡ true
 account_over [] a over = over
-account_over (unit ∷ units) a over = account_over units (with_packet a unit) (with_over a unit over)
+account_over (unit ∷ units) a over = account_over units (with_packet a unit) (packet_over a.end unit (packets_over (unit ∷ []) a.end.carrier over))
 
 over_call : (old : Holding) (call : Call) (new : Holding) → is_some old.end.carrier.ended ≡ true → Calls old call new → new.end.carrier.ended ≡ old.end.carrier.ended
-over_call old (feeding piece fed) new over h = ap (λ (x : Holding). x.end.carrier.ended) (h.over over).1
-over_call old (telling shown) new over h = ap (λ (x : Holding). x.end.carrier.ended) h.1
-over_call old (carrying octets) new over h = ap (λ (x : Holding). x.end.carrier.ended) (sym h)
+over_call old call new over h = grind arith
 
 pub over_calls : (old : Holding) (calls : List Call) (new : Holding) → is_some old.end.carrier.ended ≡ true → CallsAlong old calls new → new.end.carrier.ended ≡ old.end.carrier.ended
 over_calls old [] new over h = ap (λ (x : Holding). x.end.carrier.ended) h
@@ -140,13 +137,7 @@ lasts_on laws old call new later one lasts =
     (subst (λ l. ArePackets lasts.units l lasts.rest) (sym (append_assoc old.held.octets (used_in call) later)) lasts.packets) one.cut in
     let behind = parted_lasts (account_of [] [] old.end) lasts.units one.packets parted.more parted.all lasts.lasts in
     let apart = packets_apart (told_in call) (carried_in call) parted.more (account_of [] [] new.end) in
-    record {
-      units = parted.more;
-      rest = lasts.rest;
-      packets = parted.packets;
-      partial = lasts.partial;
-      lasts = ap (λ (x : Account). x.end.carrier.ended) (sym apart ∙ ap (with_packets parted.more) one.account) ∙ behind;
-    }
+    search (ap (λ (x : Account). x.end.carrier.ended) (sym apart ∙ ap (with_packets parted.more) one.account) ∙ behind)
 
 abbrev LastsOrStarves : Holding → Type 0
 LastsOrStarves new = (new.end.carrier.ended ≡ None) ⊎ (new.end.carrier.ended ≡ Some NoMemory)
@@ -172,13 +163,7 @@ pub reads_lasts : IsPartial [] → (old : Holding) (calls : List Call) (new : Ho
     Lasts old (old.held.octets ++ flat_map used_in calls)
 reads_lasts nothing old calls new partial h lasts =
     let m = calls_read nothing old calls new h lasts in
-    record {
-      units = m.packets;
-      rest = new.held.octets;
-      packets = m.cut;
-      partial = m.partial partial;
-      lasts = ap (λ (x : Account). x.end.carrier.ended) (sym m.account) ∙ lasts;
-    }
+    search (m.partial partial, ap (λ (x : Account). x.end.carrier.ended) (sym m.account) ∙ lasts)
 
 pub pieces_last : PacketLaws → IsPartial [] → (old a b : Holding) (xs ys : List Call) → IsPartial old.held.octets → old.end.carrier.ended ≡ None →
     CallsAlong old xs a → CallsAlong old ys b → flat_map used_in xs ≡ flat_map used_in ys → a.end.carrier.ended ≡ None →

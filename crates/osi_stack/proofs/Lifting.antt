@@ -41,9 +41,7 @@ concludes_not false e h = refl
 concludes_not true e h = cc
 
 pub quiet_attends : (e : End) → IsQuiet e.carrier → attends e ≡ e
-quiet_attends e q =
-    let same = all_quiet e q.events in
-    ap concludes same ∙ concludes_not (is_some e.carrier.ended) e q.lasts
+quiet_attends e q = ap concludes (all_quiet e q.events) ∙ concludes_not (is_some e.carrier.ended) e q.lasts
 
 pub quiet_stops : (e : End) → is_some e.carrier.ended ≡ false → waits e.lines ≡ false → stops e ≡ false
 quiet_stops e over waiting = ap (λ b. b || waits e.lines) over ∙ waiting

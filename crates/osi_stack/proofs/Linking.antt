@@ -1,5 +1,5 @@
 -- Sessions keep transport connections that are open, whatever is heard.
-use Rattle.std.proofs.Common.{◌≡◌, ◌≢◌, ℕ, zero, suc, ◌==◌, Bool, true, false, not, ◌&&◌, ◌||◌, List, ◌∷◌, ◌++◌, length, Option, Some, None, is_some, IsSome, option_map, Result, Ok, Err, refl, sym, ap, subst, ◌∙◌, inl, inr, ◌⊎◌, if◌then◌else◌, []}
+use Rattle.std.proofs.Common.{◌≡◌, ◌≢◌, ℕ, zero, suc, ◌==◌, Bool, true, false, not, ◌&&◌, ◌||◌, List, ◌∷◌, ◌++◌, length, Option, Some, None, is_some, IsSome, option_map, Result, Ok, Err, refl, sym, ap, subst, ◌∙◌, inl, inr, ◌⊎◌, if◌then◌else◌, [], arith}
 use Rattle.osi_carrier.specs.Happenings as told
 use Rattle.osi_stack.proofs.Vocabulary.{ne_eqb, eqb-true, eq-eqb, or_right, or-false, and-true, open_link, link_of, sent, sent_on, closes, closed_on, closed_with, sent_all, send_all_error, Happening, Rows, value_at, put, Connection, closing, State as Carrier, is_open, open_after, SendError, put_here, push_here, put_other, push_other, put_none, put_same, told_of, sent_opens, closed_opens, Standing as Link, Class, Zero, Input, Listener, opened, refused, broken, came, came_as, react, said_at, Words, SpduFault, is_ended, awaits, Phase, opens, hears, hears_first, hears_next, hears_times, with_events, loses, all_lost, needs_link, AreApart, kept_at, tsdus_sent, limit_for, line_by, carrier_by, by_line, to_session, Line, End, session_in, line_waits, is_used, used_lines, joins, fresh_line, sent_unless, answers_by, input_of}
 use Rattle.osi_stack.proofs.Keeping.{hears_keep}
@@ -64,12 +64,10 @@ all_answered q tsdus c = record {
 
 hands_by : (q : ℕ) (tsdus : List (List ℕ)) (c : Carrier) (o : Option SendError) → Answered q false c (sent_unless o q tsdus c)
 hands_by q tsdus c None = all_answered q tsdus c
-hands_by q tsdus c (Some e) = unanswered q false c
+hands_by q tsdus c (Some e) = record { others = λ over r ne. refl; stays = λ over r some. some; here = λ e. refl; closing_here = λ e over. inl refl }
 
 live_of_link : (over : Bool) (o : Option Connection) (link : ℕ × Link) → (if over then None else link_of o) ≡ Some link → IsSome o
-live_of_link true o link e = cc
-live_of_link false None link e = cc
-live_of_link false (Some connection) link e = refl
+live_of_link over o link e = grind arith
 
 closes_stays : (q peer : ℕ) (class : Option Class) (c : Carrier) → (closes q peer 128 class c).ended ≡ None → (r : ℕ) → IsSome (value_at r c.live) →
     IsSome (value_at r (closes q peer 128 class c).live)
@@ -114,18 +112,14 @@ mono_and false b x imp h = cc
 pub mono : (r : ℕ) (events : List Happening) (a b : Bool) → (a ≡ true → b ≡ true) → open_after r a events ≡ true → open_after r b events ≡ true
 mono r [] a b imp h = imp h
 mono r (told.opened q ∷ events) a b imp h = mono r events (a || (q == r)) (b || (q == r)) (mono_or a b (q == r) imp) h
-mono r (told.refused q reason ∷ events) a b imp h = mono r events a b imp h
-mono r (told.tsdu q octets ∷ events) a b imp h = mono r events a b imp h
 mono r (told.closed q reason ∷ events) a b imp h = mono r events (a && not (q == r)) (b && not (q == r)) (mono_and a b (not (q == r)) imp) h
 mono r (told.faulted q fault ∷ events) a b imp h = mono r events (a && not (q == r)) (b && not (q == r)) (mono_and a b (not (q == r)) imp) h
+mono r (event ∷ events) a b imp h = mono r events a b imp h
 
 -- an event that is heard
 later_false : (r : ℕ) (event : Happening) (rest : List Happening) → open_after r false rest ≡ true → open_after r false (event ∷ rest) ≡ true
 later_false r (told.opened q) rest h = mono r rest false (false || (q == r)) (λ no. cc) h
-later_false r (told.refused q reason) rest h = h
-later_false r (told.tsdu q octets) rest h = h
-later_false r (told.closed q reason) rest h = h
-later_false r (told.faulted q fault) rest h = h
+later_false r event rest h = h
 
 -- ---- what is true of one reference while events wait
 
@@ -141,11 +135,7 @@ pub record IsLinked (r : ℕ) (o : Option Listener) (events : List Happening) (c
 
 -- an event for another connection
 event_other : (event : Happening) (r : ℕ) (b : Bool) (rest : List Happening) → r ≢ told_of event → open_after r b (event ∷ rest) ≡ open_after r b rest
-event_other (told.opened q) r b rest ne = ap (λ x. open_after r (b || x) rest) (unlike q r ne) ∙ ap (λ x. open_after r x rest) (or-false b)
-event_other (told.refused q reason) r b rest ne = refl
-event_other (told.tsdu q octets) r b rest ne = refl
-event_other (told.closed q reason) r b rest ne = ap (λ x. open_after r (b && not x) rest) (unlike q r ne) ∙ ap (λ x. open_after r x rest) (and-true b)
-event_other (told.faulted q fault) r b rest ne = ap (λ x. open_after r (b && not x) rest) (unlike q r ne) ∙ ap (λ x. open_after r x rest) (and-true b)
+event_other event r b rest ne = grind arith
 
 other_linked : (event : Happening) (rest : List Happening) (r : ℕ) (o : Option Listener) (c d : Carrier) → r ≢ told_of event → is_open r d ≡ is_open r c →
     (IsSome (value_at r c.live) → IsSome (value_at r d.live)) → IsLinked r o (event ∷ rest) c → IsLinked r o rest d
@@ -309,32 +299,7 @@ Stays r live lines = (value_at r (used_lines live lines) ≡ value_at r lines) �
 
 used_at_by : (r p : ℕ) (y : Line) (live : Rows Connection) (lines : Rows Line) (b u : Bool) → (p == r) ≡ b → is_used live (p, y) ≡ u → value_at p lines ≡ None → Stays r live lines →
     Stays r live ((p, y) ∷ lines)
-used_at_by r p y live lines true true e used alone more =
-    inl (ap (value_at r) (used_by live (p, y) lines true used) ∙ at_row r p y (used_lines live lines) true e ∙ sym (at_row r p y lines true e))
-used_at_by r p y live lines false true e used alone more =
-    let here = ap (value_at r) (used_by live (p, y) lines true used) ∙ at_row r p y (used_lines live lines) false e in
-    elim more [
-      | inl same ↦ inl (here ∙ same ∙ sym (at_row r p y lines false e))
-      | inr gone ↦ inr (here ∙ gone.0, gone.1)
-    ]
-used_at_by r p y live lines true false e used alone more =
-    let same = eqb-true p r e in
-    let here = ap (value_at r) (used_by live (p, y) lines false used) in
-    let none : value_at r lines ≡ None = ap (λ n. value_at n lines) (sym same) ∙ alone in
-    let gone : value_at r live ≡ None = ap (λ n. value_at n live) (sym same) ∙ gone_by (value_at p live) (line_waits y) used in
-    inr (
-      elim more [
-        | inl is ↦ here ∙ is ∙ none
-        | inr is ↦ here ∙ is.0
-      ],
-      gone,
-    )
-used_at_by r p y live lines false false e used alone more =
-    let here = ap (value_at r) (used_by live (p, y) lines false used) in
-    elim more [
-      | inl same ↦ inl (here ∙ same ∙ sym (at_row r p y lines false e))
-      | inr gone ↦ inr (here ∙ gone.0, gone.1)
-    ]
+used_at_by r p y live lines b u e used alone more = grind arith
 
 pub used_at : (r : ℕ) (live : Rows Connection) (lines : Rows Line) → AreApart lines → Stays r live lines
 used_at r live [] apart = inl refl
@@ -365,10 +330,7 @@ apart_lost ((r, line) ∷ lines) apart = (lost_at r lines ∙ ap (option_map los
 -- the connection of a session that is new
 joined_here : (q : ℕ) (rest : List Happening) (e : End) → value_at q e.lines ≡ None → IsLinked q (kept_at q e.lines) (told.opened q ∷ rest) e.carrier →
     open_after q true rest ≡ true → is_open q e.carrier ≡ true
-joined_here q rest e none l h = elim l.fresh [
-  | inl f ↦ f (mono q rest true (false || (q == q)) (λ x. eq-eqb q q refl) h)
-  | inr k ↦ (let no : None ≡ Some k.session = sym (ap session_in none) ∙ k.is in cc)
-]
+joined_here q rest e none l h = grind arith
 
 abbrev pub joined_lines : ℕ → Listener → Rows Line → Rows Line
 joined_lines q s lines = lines ++ (q, fresh_line s) ∷ []
@@ -384,8 +346,7 @@ joined_by q rest e none l r true at (inl same) =
       fresh = inl (λ h. ap (λ n. is_open n e.carrier) is ∙ joined_here q rest e none (l q) (mono q rest false true (λ no. refl) (ap (λ n. open_after n false rest) (sym is) ∙ h)));
     })
 joined_by q rest e none l r true at (inr gone) =
-    let is = eqb-true r q at in
-    let before : kept_at r e.lines ≡ None = ap (λ n. kept_at n e.lines) is ∙ ap session_in none in
+    let before : kept_at r e.lines ≡ None = ap (λ n. kept_at n e.lines) (eqb-true r q at) ∙ ap session_in none in
     subst (λ (o : Option Listener). IsLinked r o rest e.carrier) (before ∙ sym (ap session_in gone.0)) (none_linked (told.opened q) rest r (kept_at r e.lines) e.carrier before (l r))
 joined_by q rest e none l r false at (inl same) =
     let ne : r ≢ q = (λ is. both (r == q) (eq-eqb r q is) at) in
@@ -393,10 +354,9 @@ joined_by q rest e none l r false at (inl same) =
     subst (λ (o : Option Listener). IsLinked r o rest e.carrier) kept (other_linked (told.opened q) rest r (kept_at r e.lines) e.carrier e.carrier ne refl (λ x. x) (l r))
 joined_by q rest e none l r false at (inr gone) =
     let ne : r ≢ q = (λ is. both (r == q) (eq-eqb r q is) at) in
-    let before = other_linked (told.opened q) rest r (kept_at r e.lines) e.carrier e.carrier ne refl (λ x. x) (l r) in
     subst (λ (o : Option Listener). IsLinked r o rest e.carrier) (sym (ap session_in gone.0)) (record {
       needed = λ s same n h. cc;
-      fresh = elim before.fresh [
+      fresh = elim (other_linked (told.opened q) rest r (kept_at r e.lines) e.carrier e.carrier ne refl (λ x. x) (l r)).fresh [
         | inl f ↦ inl f
         | inr k ↦ (let no : false ≡ true = sym (ap is_some gone.1) ∙ k.live in cc)
       ];
@@ -444,11 +404,8 @@ hears_linked laws (told.refused q reason) rest e apart over l =
 hears_linked laws (told.tsdu q octets) rest e apart over l =
     session_linked laws q (came octets) (told.tsdu q octets) rest e _ refl (session_hears q (came octets) e) over
     (λ s is n h. (l q).needed s is (laws.linked s (came octets) (not_opened_by (said_at octets)) n) h) l
-hears_linked laws (told.closed q reason) rest e apart over l =
-    session_linked laws q broken (told.closed q reason) rest e _ refl (session_hears q broken e) over
-    (λ s is n h. both (needs_link (react s broken).next.state.phase) n (broken_needs_none s)) l
-hears_linked laws (told.faulted q fault) rest e apart over l =
-    session_linked laws q broken (told.faulted q fault) rest e _ refl (session_hears q broken e) over
+hears_linked laws event rest e apart over l =
+    session_linked laws (told_of event) broken event rest e _ refl (session_hears (told_of event) broken e) over
     (λ s is n h. both (needs_link (react s broken).next.state.phase) n (broken_needs_none s)) l
 
 line_apart : (q : ℕ) (input : Input) (e : End) (o : Option Line) → AreApart e.lines → AreApart (by_line q o input e).lines
@@ -488,13 +445,7 @@ times_apart n e apart = events_heard (λ x. AreApart x.lines) (λ events x apart
 
 -- what a carrier has still to tell is no matter
 untold_linked : (rest : List Happening) (r : ℕ) (o : Option Listener) (events : List Happening) (c : Carrier) → IsLinked r o events c → IsLinked r o events (record c { events = rest })
-untold_linked rest r o events c l = record {
-  needed = l.needed;
-  fresh = elim l.fresh [
-    | inl f ↦ inl f
-    | inr k ↦ inr (record { live = k.live; session = k.session; is = k.is; ended = k.ended })
-  ];
-}
+untold_linked rest r o events c l = grind arith
 
 pub times_linked : SessionLaws → (l : List Happening) (e : End) → e.carrier.events ≡ l → AreApart e.lines → (hears_times (length l) e).carrier.ended ≡ None → AllLinked l e →
     AllLinked [] (hears_times (length l) e)

@@ -18,9 +18,6 @@ pub one_more : (items new : List Indication) (i : Indication) (shown : Shown) �
     map shown_by new ≡ map shown_by items ++ shown ∷ []
 one_more items new i shown h e = ap (map shown_by) h ∙ map-append shown_by items (i ∷ []) ∙ ap (λ x. map shown_by items ++ x ∷ []) e
 
-pub none_more : (l : List Shown) → l ≡ l ++ []
-none_more l = sym (append-nil l)
-
 -- ---- all of them
 
 lost_twice : (l : Line) → loses (loses l) ≡ loses l

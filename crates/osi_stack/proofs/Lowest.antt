@@ -25,9 +25,7 @@ nothing_by q r line lines false e none more = rw e more
 differ_by : (q r : ℕ) (shown : Shown) (rest : List Shown) (lines : Rows Line) (b : Bool) → (q == r) ≡ b → RiseFrom q lines → waiting_at r lines ≡ shown ∷ rest → (q == r) ≡ false
 differ_by q r shown rest lines false e rise oldest = e
 differ_by q r shown rest lines true e rise oldest =
-    let none : waiting_at q lines ≡ [] = none_at q q lines (omega arith) rise in
-    let there : waiting_at q lines ≡ shown ∷ rest = ap (λ n. waiting_at n lines) (eqb-true q r e) ∙ oldest in
-    let no : [] ≡ shown ∷ rest = sym none ∙ there in
+    let no : [] ≡ shown ∷ rest = sym (none_at q q lines (omega arith) rise) ∙ (ap (λ n. waiting_at n lines) (eqb-true q r e) ∙ oldest) in
     cc
 
 others_by : (q r p : ℕ) (line : Line) (old new : Rows Line) (b : Bool) → (q == p) ≡ b → value_at p new ≡ value_at p old → value_at p ((q, line) ∷ new) ≡ value_at p ((q, line) ∷ old)
@@ -39,12 +37,7 @@ kept_behind q r line old new e same = rw e same
 
 behind_lowest : (q r : ℕ) (shown : Shown) (line : Line) (old new : Rows Line) → (q == r) ≡ false → line.waiting ≡ [] → IsLowest r shown old new →
     IsLowest r shown ((q, line) ∷ old) ((q, line) ∷ new)
-behind_lowest q r shown line old new e none l = record {
-  oldest = ap waiting_of (behind_at q r line old e) ∙ l.oldest ∙ ap (λ w. shown ∷ waiting_of w) (sym (behind_at q r line new e));
-  lowest = λ p below. nothing_by q p line old (q == p) refl none (l.lowest p below);
-  session = kept_behind q r line old new e l.session;
-  others = λ p ne. others_by q r p line old new (q == p) refl (l.others p ne);
-}
+behind_lowest q r shown line old new e none l = grind arith
 
 behind_by : (q : ℕ) (line : Line) (first : Option (ℕ × Shown)) (old new : Rows Line) → line.waiting ≡ [] → RiseFrom q old → TellsLowest first old new →
     TellsLowest first ((q, line) ∷ old) ((q, line) ∷ new)
@@ -65,7 +58,7 @@ here_lowest : (q : ℕ) (shown : Shown) (waiting : List Shown) (line : Line) (li
 here_lowest q shown waiting line lines is rise = record {
   oldest = ap waiting_of (here_at q line lines) ∙ is ∙ ap (λ w. shown ∷ waiting_of w) (sym (here_at q (record line { waiting = waiting }) lines));
   lowest = λ p below. ap waiting_of (behind_at q p line lines (unlike q p (λ same. absurd (omega arith)))) ∙ none_at p q lines (omega arith) rise;
-  session = kept_here q waiting line lines;
+  session = let e = eq-eqb q q refl in rw e refl;
   others = λ p ne. behind_at q p (record line { waiting = waiting }) lines (unlike q p ne) ∙ sym (behind_at q p line lines (unlike q p ne));
 }
 

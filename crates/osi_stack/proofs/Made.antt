@@ -1,10 +1,8 @@
 -- Each session of an end is what its own inputs made of what it began as.
 use Rattle.std.proofs.Common.{◌≡◌, ◌≢◌, ℕ, ◌+◌, ◌<◌, ◌≤◌, ◌==◌, Bool, true, false, ◌||◌, List, ◌∷◌, ◌++◌, length, take, Option, Some, None, is_some, IsSome, refl, sym, ap, subst, ◌∙◌, inl, inr, ◌⊎◌, arith, append_assoc, option_map, if◌then◌else◌, []}
-use Rattle.osi_carrier.specs.Happenings.{opened, refused}
 use Rattle.osi_carrier.specs.Packets as carriers
 use Rattle.osi_stack.specs.Inputs.{Step}
-use Rattle.osi_stack.specs.Runs.{Call}
-use Rattle.osi_stack.proofs.Vocabulary.{eqb-true, eq-eqb, append-nil, AllByRecursion, fresh, IsPartial, ArePackets, Fed, tsap_octets, Local, beyond, push_here, push_other, orderly_same, OneCut, asks, open_link, Happening, tsdu, closed, faulted, told_of, RiseFrom, Rows, value_at, Connection, State as Carrier, EndReason, Broken, Call as SessionCall, Input, Listener, called, opened as linked_up, react, after_inputs, awaits, calls_with, connects, breaks, call_error, connect_error, without_first, TakesPackets, Goes, Feeds, opens, hears, hears_next, hears_times, hears_all, with_events, with_carrier, after_packet, ends, input_of, inputs_told, Past, no_past, then_came, inputs_of, begun_as, made_at, AreMadeBy, told_along, past_called, IsAccepted, serving, using, Steps, StepsAlong, AreApart, Soundness, IsSound, kept_at, to_session, IsOrdered, UserCall, user_does, connecting, calling, breaking, put_back, Calls, used_in, feeding, telling, carrying, Line, End, Holding, IsAttended, fresh_end, session_in, used_lines, joins, waits, fresh_line, Connect}
+use Rattle.osi_stack.proofs.Vocabulary.{eqb-true, eq-eqb, append-nil, AllByRecursion, fresh, IsPartial, ArePackets, Fed, tsap_octets, Local, beyond, push_here, push_other, orderly_same, OneCut, asks, open_link, Happening, tsdu, closed, faulted, told_of, RiseFrom, Rows, value_at, Connection, State as Carrier, EndReason, Broken, Call as SessionCall, Input, Listener, called, opened as linked_up, react, after_inputs, awaits, calls_with, connects, breaks, call_error, connect_error, without_first, TakesPackets, Goes, Feeds, opens, hears, hears_next, hears_times, hears_all, with_events, with_carrier, after_packet, ends, input_of, inputs_told, Past, no_past, then_came, inputs_of, begun_as, made_at, AreMadeBy, told_along, past_called, IsAccepted, serving, using, Steps, StepsAlong, AreApart, Soundness, IsSound, kept_at, to_session, IsOrdered, UserCall, user_does, connecting, calling, breaking, put_back, Calls, used_in, feeding, telling, carrying, Line, End, Holding, IsAttended, fresh_end, session_in, used_lines, joins, waits, fresh_line, Connect, told_opened as opened, told_refused as refused, EndCall as Call}
 use Rattle.osi_stack.proofs.Attending.{session_attended, connect_attended, feeds_attended}
 use Rattle.osi_stack.proofs.Comings.{attended_then}
 use Rattle.osi_stack.proofs.Events.{concluded_carrier}
@@ -157,10 +155,7 @@ line_known g q (Some line) e past here some up k = given_known g q linked_up e p
 caller_known : (g : ℕ) (event : Happening) (rest : List Happening) (e : End) (past : Past) → IsGiven g event → HaveLines e.lines (opened_in (event ∷ rest)) → IsKnown g past e.lines →
     IsKnown g (then_came ((told_of event, input_of event) ∷ []) past) (hears event e).lines
 caller_known g (opened r) rest e past up all k = line_known g r (value_at r e.lines) e past refl all.0 up k
-caller_known g (refused r reason) rest e past up all k = given_known g r _ e past up k
-caller_known g (tsdu r octets) rest e past up all k = given_known g r _ e past up k
-caller_known g (closed r reason) rest e past up all k = given_known g r _ e past up k
-caller_known g (faulted r fault) rest e past up all k = given_known g r _ e past up k
+caller_known g event rest e past up all k = given_known g (told_of event) _ e past up k
 
 -- ---- all events
 
@@ -173,7 +168,7 @@ behind_known : (g : ℕ) (event : ℕ × Input) (more : List (ℕ × Input)) (pa
 behind_known g event more past lines k = subst (λ (p : Past). IsKnown g p lines) (then_joined (event ∷ []) more past) k
 
 none_known : (g : ℕ) (past : Past) (lines : Rows Line) → IsKnown g past lines → IsKnown g (then_came [] past) lines
-none_known g past lines k = subst (λ (p : Past). IsKnown g p lines) (sym (then_none past)) k
+none_known g past lines k = subst (λ (p : Past). IsKnown g p lines) (sym (ap (λ (x : List (ℕ × Input)). record past { inputs = x }) (append-nil past.inputs))) k
 
 times_caller : (g : ℕ) (l : List Happening) (e : End) (past : Past) → e.carrier.events ≡ l → AllByRecursion (IsGiven g) l → HaveLines e.lines (opened_in l) → RiseFrom 0 e.lines →
     IsKnown g past e.lines → IsKnown g (then_came (inputs_told l) past) (hears_times (length l) e).lines
@@ -198,18 +193,9 @@ times_called g h [] e past is comes apart k = subst (λ n. IsKnown n (then_came 
 times_called g h (opened r ∷ rest) e past is comes apart k =
     behind_known h _ (inputs_told rest) past _ (times_called r h rest (hears_next e) _ (rest_is (opened r) rest e is) comes.1 (next_apart (opened r) rest e is apart)
     (next_known r (opened r) rest e _ is (new_known g r (value_at r e.lines) (with_events rest e) past refl comes.0 apart k)))
-times_called g h (refused r reason ∷ rest) e past is comes apart k =
-    behind_known h _ (inputs_told rest) past _ (times_called g h rest (hears_next e) _ (rest_is (refused r reason) rest e is) comes.1 (next_apart (refused r reason) rest e is apart)
-    (next_known g (refused r reason) rest e _ is (given_known g r _ (with_events rest e) past comes.0 k)))
-times_called g h (tsdu r octets ∷ rest) e past is comes apart k =
-    behind_known h _ (inputs_told rest) past _ (times_called g h rest (hears_next e) _ (rest_is (tsdu r octets) rest e is) comes.1 (next_apart (tsdu r octets) rest e is apart)
-    (next_known g (tsdu r octets) rest e _ is (given_known g r _ (with_events rest e) past comes.0 k)))
-times_called g h (closed r reason ∷ rest) e past is comes apart k =
-    behind_known h _ (inputs_told rest) past _ (times_called g h rest (hears_next e) _ (rest_is (closed r reason) rest e is) comes.1 (next_apart (closed r reason) rest e is apart)
-    (next_known g (closed r reason) rest e _ is (given_known g r _ (with_events rest e) past comes.0 k)))
-times_called g h (faulted r fault ∷ rest) e past is comes apart k =
-    behind_known h _ (inputs_told rest) past _ (times_called g h rest (hears_next e) _ (rest_is (faulted r fault) rest e is) comes.1 (next_apart (faulted r fault) rest e is apart)
-    (next_known g (faulted r fault) rest e _ is (given_known g r _ (with_events rest e) past comes.0 k)))
+times_called g h (event ∷ rest) e past is comes apart k =
+    behind_known h _ (inputs_told rest) past _ (times_called g h rest (hears_next e) _ (rest_is event rest e is) comes.1 (next_apart event rest e is apart)
+    (next_known g event rest e _ is (given_known g (told_of event) _ (with_events rest e) past comes.0 k)))
 
 heard_by : (b : Bool) (e : End) (c : Carrier) (past : Past) → e.carrier.is_caller ≡ b → e.carrier.events ≡ [] → Soundness e → IsOrdered e → OpensAlong e.carrier c →
     IsKnown e.carrier.given past e.lines → IsKnown c.given (then_came (inputs_told c.events) past) (hears_times (length c.events) (with_carrier c e)).lines
@@ -228,10 +214,7 @@ heard_by false e c past side none s o a k =
 -- ---- the references that were given stay
 
 session_given : (c : Carrier) → Carries (λ x. x.given ≡ c.given)
-session_given c = record {
-  sends = λ r tsdu x same. sent_given r tsdu (open_link r x) x ∙ same;
-  closes = λ r x same. closed_given r 128 (open_link r x) x ∙ same;
-}
+session_given c = grind arith
 
 times_given : (n : ℕ) (e : End) → (hears_times n e).carrier.given ≡ e.carrier.given
 times_given n e =
@@ -339,42 +322,21 @@ served laws nothing old (carrying octets) new h s lasts =
 -- ---- an end stays sane
 
 sane_carried : (octets : List ℕ) (e : End) → IsSane (put_back octets e) → IsSane e
-sane_carried octets e s = record {
-  attended = s.attended;
-  sound = λ over. (let t = s.sound over in record {
-    orderly = orderly_same (put_back octets e).carrier e.carrier.outgoing e.carrier.events t.orderly;
-    apart = t.apart;
-    known = t.known;
-    links = t.links;
-  });
-  ordered = record { rise = s.ordered.rise; awaiting = s.ordered.awaiting };
-}
+sane_carried octets e s = grind arith
 
 sane_first : (e : End) → IsSane e → IsSane (record e { lines = without_first e.lines })
 sane_first e s = record { attended = s.attended; sound = first_sound e s.sound; ordered = first_ordered e s.ordered }
 
 pub sane_served : SessionLaws → (old : Holding) (call : Call) (new : Holding) → Calls old call new → IsSane old.end → IsSane new.end
-sane_served laws old (feeding piece fed) new h s = record {
-  attended = feeds_attended old new piece fed h s.attended;
-  sound = feeds_sound laws old new piece fed h s.attended s.sound;
-  ordered = feeds_ordered laws old new piece fed h s.attended s.sound s.ordered;
-}
+sane_served laws old (feeding piece fed) new h s = search (feeds_attended old new piece fed h s.attended, feeds_sound laws old new piece fed h s.attended s.sound, feeds_ordered laws old new piece fed h s.attended s.sound s.ordered)
 sane_served laws old (telling shown) new h s = subst (λ (x : Holding). IsSane x.end) (sym h.1) (sane_first old.end s)
 sane_served laws old (carrying octets) new h s = sane_carried octets new.end (subst (λ (x : Holding). IsSane x.end) h s)
 
 pub sane_connect : (c : Connect) (e : End) → connect_error c e ≡ None → IsSane e → IsSane (connects c e)
-sane_connect c e allowed s = record {
-  attended = connect_attended c e s.attended;
-  sound = connect_sound c e allowed s.sound;
-  ordered = connect_ordered c e allowed s.sound s.ordered;
-}
+sane_connect c e allowed s = search (connect_attended c e s.attended, connect_sound c e allowed s.sound, connect_ordered c e allowed s.sound s.ordered)
 
 pub sane_call : SessionLaws → (r : ℕ) (call : SessionCall) (e : End) → IsSane e → IsSane (to_session r (called call) e)
-sane_call laws r call e s = record {
-  attended = session_attended r (called call) e s.attended;
-  sound = call_sound laws r call e s.sound;
-  ordered = call_ordered r (called call) e s.ordered;
-}
+sane_call laws r call e s = search (session_attended r (called call) e s.attended, call_sound laws r call e s.sound, call_ordered r (called call) e s.ordered)
 
 pub sane_fresh : (is_caller : Bool) (local : Local) → IsSane (fresh_end is_caller local)
 sane_fresh is_caller local = record { attended = λ over. refl; sound = fresh_sound is_caller local; ordered = fresh_ordered is_caller local }
@@ -433,16 +395,8 @@ break_over false e is = refl
 
 used_run : SessionLaws → (call : UserCall) (old : Holding) (before : Past) → old.end.carrier.ended ≡ None → IsAccepted call old.end → (user_does call old.end).carrier.ended ≡ None →
     IsRun old before → IsRun (record old { end = user_does call old.end }) (past_called call old.end before)
-used_run laws (connecting c) old before quiet allowed lasts run = record {
-  sane = sane_connect c old.end allowed run.sane;
-  partial = run.partial;
-  known = connect_known c old.end before (run.sane.sound quiet) run.known;
-}
-used_run laws (calling r call) old before quiet allowed lasts run = record {
-  sane = sane_call laws r call old.end run.sane;
-  partial = run.partial;
-  known = call_known r call old.end before allowed (run.sane.sound quiet) run.known;
-}
+used_run laws (connecting c) old before quiet allowed lasts run = search (sane_connect c old.end allowed run.sane, connect_known c old.end before (run.sane.sound quiet) run.known)
+used_run laws (calling r call) old before quiet allowed lasts run = search (sane_call laws r call old.end run.sane, call_known r call old.end before allowed (run.sane.sound quiet) run.known)
 used_run laws breaking old before quiet allowed lasts run = never (breaks old.end) (break_over (is_some old.end.carrier.ended) old.end refl) lasts
 
 step_run : SessionLaws → IsPartial [] → OneCut → (step : Step) (old new : Holding) (before behind : Past) → Steps old before step new behind → new.end.carrier.ended ≡ None →
@@ -451,12 +405,7 @@ step_run laws nothing one_cut (serving call packets) old new before behind h las
     let s = served laws nothing old call new h.0 run.sane lasts in
     let partial = s.partial run.partial in
     let one = one_cut (old.held.octets ++ used_in call) new.held.octets new.held.octets s.packets packets partial partial s.cut h.1 in
-    record {
-      sane = sane_served laws old call new h.0 run.sane;
-      partial = partial;
-      known = subst (λ (p : Past). IsKnown new.end.carrier.given p new.end.lines) (ap (λ (l : List (List ℕ)). then_came (told_along old.end l) before) one.0 ∙ sym h.2)
-          (s.known before run.known);
-    }
+    search (sane_served laws old call new h.0 run.sane, subst (λ (p : Past). IsKnown new.end.carrier.given p new.end.lines) (ap (λ (l : List (List ℕ)). then_came (told_along old.end l) before) one.0 ∙ sym h.2) (s.known before run.known))
 step_run laws nothing one_cut (using call) old new before behind h lasts run =
     subst (λ (x : Holding). IsRun x behind) (sym h.2)
     (subst (λ (p : Past). IsRun (record old { end = user_does call old.end }) p) (sym h.3)
@@ -483,7 +432,7 @@ pub made_along : SessionLaws → IsPartial [] → OneCut → (is_caller : Bool) 
     StepsAlong (record { end = fresh_end is_caller local; held = fresh }) no_past steps new past → new.end.carrier.ended ≡ None → AreMadeBy past new.end
 made_along laws nothing one_cut is_caller local steps new past h lasts =
     (steps_run laws nothing one_cut steps (record { end = fresh_end is_caller local; held = fresh }) new no_past past h lasts (record {
-      sane = sane_fresh is_caller local;
+      sane = record { attended = λ over. refl; sound = fresh_sound is_caller local; ordered = fresh_ordered is_caller local };
       partial = nothing;
       known = record { made = λ r s is. cc; unasked = λ r up. refl; unheard = λ r up. refl };
     })).known.made

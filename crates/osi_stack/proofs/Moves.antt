@@ -26,15 +26,7 @@ by_acts : (r : ℕ) (input : Input) (e : End) (line : Line) (s : Listener) → v
     Acts r input e (to_session r input e)
 by_acts r input e line s here is short =
     let at : to_session r input e ≡ by_line r (Some line) input e = ap (λ o. by_line r o input e) here in
-    record {
-      line = line;
-      session = s;
-      here = here;
-      is = is;
-      lines = ap (λ (x : End). x.lines) at ∙ ap (λ o. put r (line_by line o input) e.lines) is;
-      carrier = ap (λ (x : End). x.carrier) at ∙ ap (λ o. carrier_by r o input e.carrier) is
-          ∙ answers_put r (react s input).closes (limit_for s input) (react s input).reply e.carrier short;
-    }
+    search (ap (λ (x : End). x.lines) at ∙ ap (λ o. put r (line_by line o input) e.lines) is, ap (λ (x : End). x.carrier) at ∙ ap (λ o. carrier_by r o input e.carrier) is ∙ answers_put r (react s input).closes (limit_for s input) (react s input).reply e.carrier short)
 
 pub acts_is : (r : ℕ) (input : Input) (e : End) (s : HasSession r e.lines) → IsShort (limit_for s.session input) (react s.session input).reply → Acts r input e (to_session r input e)
 acts_is r input e s short = by_acts r input e s.line s.session s.here s.is short
@@ -52,7 +44,7 @@ acts_becomes r input old new a =
 
 -- ---- one event
 
-one_heard : (e : End) (event : Happening) → e.carrier.events ≡ event ∷ [] → hears_all e ≡ hears event (with_events [] e)
+pub one_heard : (e : End) (event : Happening) → e.carrier.events ≡ event ∷ [] → hears_all e ≡ hears event (with_events [] e)
 one_heard e event h =
     ap (λ (l : List Happening). hears_times (length l) e) h ∙ ap (λ (l : List Happening). hears_first l e) h
 
@@ -63,7 +55,7 @@ none_told : (e : End) → e.carrier.events ≡ [] → with_events [] e ≡ e
 none_told e h = ap (λ (l : List Happening). with_events l e) (sym h)
 
 attends_none : (e : End) → e.carrier.events ≡ [] → attends e ≡ concludes (with_events [] e)
-attends_none e h = ap concludes (all_quiet e h ∙ sym (none_told e h))
+attends_none e h = ap concludes (all_quiet e h ∙ sym (ap (λ (l : List Happening). with_events l e) (sym h)))
 
 arrives_by : (r : ℕ) (effect : Effect) (v : Value) (e heard : End) → Hears r effect (told_all v e) heard → after_unit e v ≡ concludes heard → Arrives r effect v e (after_unit e v)
 arrives_by r effect v e heard h is = record { heard = heard; hears = h; is = is }
@@ -75,7 +67,7 @@ happens_by r input event v e h same can =
     (attends_one (carries_out v e) event h ∙ ap concludes same)
 
 rests_by : (r : ℕ) (v : Value) (e : End) → (carries_out v e).carrier.events ≡ [] → Arrives r rests v e (after_unit e v)
-rests_by r v e h = arrives_by r rests v e (told_all v e) refl (attends_none (carries_out v e) h)
+rests_by r v e h = arrives_by r rests v e (told_all v e) refl (ap concludes (all_quiet (carries_out v e) h ∙ sym (none_told (carries_out v e) h)))
 
 -- a session of a reference hears that its transport connection is there
 opens_to : (r : ℕ) (e : End) (line : Line) → value_at r e.lines ≡ Some line → hears (told.opened r) e ≡ to_session r opened e
@@ -97,33 +89,17 @@ part_is law place octets = ap came_as (law.parts place octets)
 
 pub arrives : Readings → (r : ℕ) (place : Place) (m : Message) (v : Value) (e : End) → IsWhole m → (carriers.react v e.carrier).events ≡ told_at r place m →
     CanHear r (effect_at place m) e.lines → Arrives r (effect_at place m) v e (after_unit e v)
-arrives law r never (unit m) v e whole h can = rests_by r v e h
-arrives law r never (part place octets) v e whole h can = rests_by r v e h
 arrives law r never ask v e whole h can =
     arrives_by r begins v e (joins r awaits (told_all v e)) refl (attends_one (carries_out v e) (told.opened r) h ∙ ap (λ o. concludes (opens r o (told_all v e))) can)
-arrives law r never agree v e whole h can = rests_by r v e h
-arrives law r never (deny reason) v e whole h can = rests_by r v e h
-arrives law r never (bye reason) v e whole h can = rests_by r v e h
-arrives law r never over v e whole h can = rests_by r v e h
-arrives law r (was_given None) m v e whole h can = rests_by r v e h
-arrives law r (was_given (Some asked)) (unit m) v e whole h can = rests_by r v e h
-arrives law r (was_given (Some asked)) (part place octets) v e whole h can = rests_by r v e h
-arrives law r (was_given (Some asked)) ask v e whole h can = rests_by r v e h
-arrives law r (was_given (Some asked)) agree v e whole h can = happens_by r opened (told.opened r) v e h (opens_to r (told_all v e) can.0.line can.0.here) can
+arrives law r (was_given (Some asked)) agree v e whole h can = happens_by r opened (told.opened r) v e h (ap (λ o. opens r o (told_all v e)) can.0.here) can
 arrives law r (was_given (Some asked)) (deny reason) v e whole h can = happens_by r (refused reason) (told.refused r reason) v e h refl can
-arrives law r (was_given (Some asked)) (bye reason) v e whole h can = rests_by r v e h
-arrives law r (was_given (Some asked)) over v e whole h can = rests_by r v e h
 arrives law r (was_given (Some (linked peer link))) (unit m) v e whole h can =
     happens_by r (taken (words_of m)) (told.tsdu r (written m)) v e h (ap (λ i. to_session r i (told_all v e)) (came_is law m whole)) can
 arrives law r (was_given (Some (linked peer link))) (part place octets) v e whole h can =
     happens_by r (taken (behind_no_token (words.part place octets))) (told.tsdu r (part_octets place octets)) v e h
-    (ap (λ i. to_session r i (told_all v e)) (part_is law place octets)) can
-arrives law r (was_given (Some (linked peer link))) ask v e whole h can = rests_by r v e h
-arrives law r (was_given (Some (linked peer link))) agree v e whole h can = rests_by r v e h
-arrives law r (was_given (Some (linked peer link))) (deny reason) v e whole h can = rests_by r v e h
+    (ap (λ i. to_session r i (told_all v e)) (ap came_as (law.parts place octets))) can
 arrives law r (was_given (Some (linked peer link))) (bye reason) v e whole h can = happens_by r broken (told.closed r reason) v e h refl can
-arrives law r (was_given (Some (linked peer link))) over v e whole h can = rests_by r v e h
-arrives law r (was_given (Some (closing peer))) m v e whole h can = rests_by r v e h
+arrives law r place m v e whole h can = arrives_by r rests v e (told_all v e) refl (attends_none (carries_out v e) h)
 
 -- ---- all are lost
 
@@ -155,9 +131,7 @@ are_lost lines = record {
 shown_first : (r : ℕ) (line : Line) (waiting : List Shown) (lines : Rows Line) → line.waiting ≡ waiting →
     IsFirstOf (first_shown lines) (all_waiting lines) (all_waiting (without_first lines)) →
     IsFirstOf (first_by r waiting (first_shown lines)) (shown_of r waiting ++ all_waiting lines) (all_waiting (rest_by r line waiting lines (without_first lines)))
-shown_first r line [] lines none more =
-    subst (λ (w : List Shown). IsFirstOf (first_shown lines) (all_waiting lines) (shown_of r w ++ all_waiting (without_first lines))) (sym none) more
-shown_first r line (shown ∷ waiting) lines some more = refl
+shown_first r line waiting lines none more = grind arith
 
 pub first_of_all : (lines : Rows Line) → IsFirstOf (first_shown lines) (all_waiting lines) (all_waiting (without_first lines))
 first_of_all [] = (refl, refl)
@@ -175,10 +149,7 @@ first_keep Q r line lines behind here = first_keep_by Q r line line.waiting line
 
 kept_first_by : (q r : ℕ) (line : Line) (waiting : List Shown) (lines : Rows Line) (b : Bool) → (r == q) ≡ b → kept_at q (without_first lines) ≡ kept_at q lines →
     kept_at q (rest_by r line waiting lines (without_first lines)) ≡ kept_at q ((r, line) ∷ lines)
-kept_first_by q r line [] lines false e more = rw e more
-kept_first_by q r line (shown ∷ waiting) lines false e more = rw e refl
-kept_first_by q r line [] lines true e more = rw e refl
-kept_first_by q r line (shown ∷ waiting) lines true e more = rw e refl
+kept_first_by q r line waiting lines b e more = grind arith
 
 -- the sessions are as they were
 pub kept_first : (q : ℕ) (lines : Rows Line) → kept_at q (without_first lines) ≡ kept_at q lines
@@ -227,21 +198,10 @@ granted_by r call s c (Ok step) e h =
     let is : react s (called call) ≡ answered s (Ok step) = ap (answered s) e in
     let sends : send_refusal (send_all_error (tsdus_of (limit_of s.state) step.sent) (open_link r c)) ≡ None = sym (ap (λ (m : Move). move_refusal r (limit_of s.state) m c) is) ∙ h in
     let link = unsent_link (open_link r c) (tsdus_of (limit_of s.state) step.sent) sends in
-    record {
-      step = step;
-      accepted = e;
-      opened = link.opened;
-      short = link.short;
-      reply = ap (λ (m : Move). m.reply) is;
-      closes = ap (λ (m : Move). m.closes) is;
-      shown = ap (λ (m : Move). m.shown) is;
-      next = ap (λ (m : Move). m.next) is;
-    }
+    search (ap (λ (m : Move). m.reply) is, ap (λ (m : Move). m.closes) is, ap (λ (m : Move). m.shown) is, ap (λ (m : Move). m.next) is)
 
 pub line_of : (b : Bool) (o : Option Line) (s : Listener) → (if b then session_in o else None) ≡ Some s → (line : Line) × (o ≡ Some line) × (line.session ≡ Some s)
-line_of true (Some line) s h = (line, refl, h)
-line_of true None s h = cc
-line_of false o s h = cc
+line_of b o s h = grind arith
 
 says_at : (r : ℕ) (call : Call) (e : End) (o : Option Listener) → session_at r e ≡ o → session_refusal r o call e.carrier ≡ None → Says r call e (to_session r (called call) e)
 unfolding by_acts
@@ -286,16 +246,7 @@ used_keep Q live row lines gone stays = used_keep_by Q live row lines (is_used l
 -- lines of live connections stay
 used_live_by : (q p : ℕ) (y : Line) (live : Rows Connection) (lines : Rows Line) (b u : Bool) → (p == q) ≡ b → is_used live (p, y) ≡ u → is_some (value_at q live) ≡ true →
     value_at q (used_lines live lines) ≡ value_at q lines → value_at q (used_lines live ((p, y) ∷ lines)) ≡ value_at q ((p, y) ∷ lines)
-used_live_by q p y live lines b true e used is more =
-    ap (value_at q) (used_by live (p, y) lines true used) ∙ at_row q p y (used_lines live lines) b e
-    ∙ ap (λ (o : Option Line). if◌then◌else◌ {A = Option Line} b (Some y) o) more ∙ sym (at_row q p y lines b e)
-used_live_by q p y live lines true false e used is more =
-    let same = eqb-true p q e in
-    let lives : is_some (value_at p live) ≡ true = ap (λ n. is_some (value_at n live)) same ∙ is in
-    let no : true ≡ false = sym (ap (λ (c : Bool). c || line_waits y) lives) ∙ used in
-    cc
-used_live_by q p y live lines false false e used is more =
-    ap (value_at q) (used_by live (p, y) lines false used) ∙ more ∙ sym (at_row q p y lines false e)
+used_live_by q p y live lines b u e used is more = grind arith
 
 pub used_live : (q : ℕ) (live : Rows Connection) (lines : Rows Line) → is_some (value_at q live) ≡ true → value_at q (used_lines live lines) ≡ value_at q lines
 used_live q live [] is = refl

@@ -23,9 +23,6 @@ closing_needs r c e other = closing_on r c (open_link r c) e other
 
 -- ---- a session
 
-loud : (s : Listener) (move : Move) → is_quiet move ≡ false → takes_memory s move ≡ true
-loud s move h = ap (λ (b : Bool). not b || nat_lt (length (joined_octets s.joined)) (length (joined_octets move.next.joined))) h
-
 -- ---- at a place
 
 pub needs_at : {A E : Type 0} (result : Result A E) (r : ℕ) (rows : Rows Line) (i : ℕ) (row : ℕ × Line) (input : Input) (c : Carrier) → place_of r rows ≡ Some i → row ≡ get_or rows i row →

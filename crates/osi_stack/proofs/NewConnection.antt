@@ -14,11 +14,4 @@ holds carrier lines held = record { end = record { carrier = carrier; lines = li
 pub end_connects : (c : Connect) (old new : Carrier) (held kept : Held) (lines pushed swept : Rows Line) (r : ℕ) (row : ℕ × Line) (session : Listener) →
     r ≡ old.given → session ≡ calls_with c → row ≡ begins_with (r + 1) session → pushed ≡ lines ++ row ∷ [] → new ≡ asked_by c old → kept ≡ held →
     swept ≡ used_lines new.live pushed → holds new swept kept ≡ record { end = connects c (record { carrier = old; lines = lines }); held = held }
-end_connects c old new held kept lines pushed swept r row session given is row_is pushed_is new_is kept_is swept_is =
-    let first : row ≡ begins_with (old.given + 1) (calls_with c) =
-    row_is ∙ ap (λ (n : ℕ). begins_with (n + 1) session) given ∙ ap (begins_with (old.given + 1)) is in
-    let rest : swept ≡ used_lines new.live (lines ++ begins_with (old.given + 1) (calls_with c) ∷ []) =
-    swept_is ∙ ap (used_lines new.live) (pushed_is ∙ ap (λ (x : ℕ × Line). lines ++ x ∷ []) first) in
-    ap (λ (l : Rows Line). holds new l kept) rest
-    ∙ ap (λ (n : Carrier). holds n (used_lines n.live (lines ++ begins_with (old.given + 1) (calls_with c) ∷ [])) kept) new_is
-    ∙ ap (λ (h : Held). record { end = connects c (record { carrier = old; lines = lines }); held = h }) kept_is
+end_connects c old new held kept lines pushed swept r row session given is row_is pushed_is new_is kept_is swept_is = cc

@@ -1,5 +1,5 @@
 -- What is true of each line of an end stays so, whatever is called and fed.
-use Rattle.std.proofs.Common.{◌≡◌, ℕ, ◌+◌, ◌==◌, Bool, true, false, ◌||◌, List, ◌∷◌, ◌++◌, length, Option, Some, None, refl, sym, subst, ◌∙◌, inl, inr, ◌⊎◌, if◌then◌else◌, []}
+use Rattle.std.proofs.Common.{◌≡◌, ℕ, ◌+◌, ◌==◌, Bool, true, false, ◌||◌, List, ◌∷◌, ◌++◌, length, Option, Some, None, refl, sym, subst, ◌∙◌, inl, inr, ◌⊎◌, if◌then◌else◌, [], arith}
 use Rattle.osi_carrier.specs.Happenings as told
 use Rattle.osi_carrier.specs.Packets as carriers
 use Rattle.osi_stack.proofs.Vocabulary.{Fed, Happening, Rows, value_at, put, Connection, Input, opened, refused, broken, came, awaits, Shown, calls_with, connects, breaks, without_first, Feeds, OfLines, hears_times, hears_all, with_events, with_carrier, attends, after_packet, loses, all_lost, Starves, line_by, by_line, to_session, Line, End, Holding, used_lines, fresh_line, Connect, told_of, input_of}
@@ -23,11 +23,7 @@ pub record LinesStay (Q : Line → Type 0) : Type 0 where
 
 at_by : (Q : Line → Type 0) (r q : ℕ) (line y : Line) (lines : Rows Line) (b : Bool) → (q == r) ≡ b → Q y → (value_at r lines ≡ Some line → Q line) →
     value_at r ((q, y) ∷ lines) ≡ Some line → Q line
-at_by Q r q line y lines true e here more h =
-    let found : Some y ≡ Some line = rw e at h in
-    let same : y ≡ line = cc in
-    subst Q same here
-at_by Q r q line y lines false e here more h = more (rw e at h)
+at_by Q r q line y lines b e here more h = grind arith
 
 pub line_at : (Q : Line → Type 0) (r : ℕ) (line : Line) (lines : Rows Line) → OfLines Q lines → value_at r lines ≡ Some line → Q line
 line_at Q r line [] all h = cc
@@ -70,8 +66,7 @@ heard_lines : (Q : Line → Type 0) → LinesStay Q → (event : Happening) (e :
 heard_lines Q law (told.opened q) e all = session_lines Q q opened e law.opened all
 heard_lines Q law (told.refused q reason) e all = session_lines Q q (refused reason) e (λ line. law.refused line reason) all
 heard_lines Q law (told.tsdu q octets) e all = session_lines Q q (came octets) e (λ line. law.came line octets) all
-heard_lines Q law (told.closed q reason) e all = session_lines Q q broken e law.broken all
-heard_lines Q law (told.faulted q fault) e all = session_lines Q q broken e law.broken all
+heard_lines Q law event e all = session_lines Q (told_of event) broken e law.broken all
 
 attends_lines : (Q : Line → Type 0) → LinesStay Q → (e : End) → OfLines Q e.lines → OfLines Q (attends e).lines
 attends_lines Q law e all =

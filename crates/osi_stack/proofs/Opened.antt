@@ -5,11 +5,9 @@ use Rattle.osi_tpdu.specs.Value.{Connect}
 use Rattle.osi_class.specs.Link.{taken}
 use Rattle.osi_class.specs.Negotiation.{Selection, accept, refuse, selected_by}
 use Rattle.osi_class.specs.declared.faults.LinkFault.{LinkFault}
-use Rattle.osi_carrier.specs.Happenings.{opened, refused}
 use Rattle.osi_carrier.specs.Negotiation.{confirmed}
 use Rattle.osi_carrier.specs.React.{answers, opens, breaks, react}
-use Rattle.osi_carrier.specs.State.{ends}
-use Rattle.osi_stack.proofs.Vocabulary.{eqb-true, eq-eqb, or_left, nat_tests, append-nil, AllByRecursion, Value, request, confirm, disconnect, disconnected, data0, data2, acknowledge, error, Standing, Class, Zero, Two, Happening, tsdu, closed, faulted, RiseFrom, told_of, IsOrderly, denies, is_full, has_peer, answers_request, to_unknown, to_asked, tells_of, taking, leaves, to_linked, to_closing, to_connection, to_reference, before_class, to_only, in_zero, in_two, in_class, react_by, reacts, Rows, value_at, put, without, Connection, asked, linked, closing, State, drops, EndReason, put_here, without_here, beyond, put_other, without_other, put_none, push_other, stays_gone, orderly_unit, react_over}
+use Rattle.osi_stack.proofs.Vocabulary.{eqb-true, eq-eqb, or_left, nat_tests, append-nil, AllByRecursion, Value, request, confirm, disconnect, disconnected, data0, data2, acknowledge, error, Standing, Class, Zero, Two, Happening, tsdu, closed, faulted, RiseFrom, told_of, IsOrderly, denies, is_full, has_peer, answers_request, to_unknown, to_asked, tells_of, taking, leaves, to_linked, to_closing, to_connection, to_reference, before_class, to_only, in_zero, in_two, in_class, react_by, reacts, Rows, value_at, put, without, Connection, asked, linked, closing, State, drops, EndReason, put_here, without_here, beyond, put_other, without_other, put_none, push_other, stays_gone, orderly_unit, react_over, told_opened as opened, told_refused as refused, carrier_ends as ends}
 use Rattle.osi_stack.proofs.Answered.{answered, answered_front, answered_behind}
 use Rattle.osi_stack.proofs.Soundness.{units_rise, up_at}
 use Rattle.osi_stack.proofs.Lifting.{both}
@@ -25,14 +23,9 @@ put_at : (q r : ℕ) (c : Connection) (rows : Rows Connection) (b : Bool) (o : O
 put_at q r c rows false o e is other h =
     let ne : q ≢ r = (λ same. let yes : (q == r) ≡ true = eq-eqb q r same in let no : true ≡ false = sym yes ∙ e in cc) in
     sym (put_other q r c rows ne) ∙ h
-put_at q r c rows true None e is other h =
-    let none : value_at q (put r c rows) ≡ None = put_none q r c rows is in
-    let no : None ≡ Some asked = sym none ∙ h in cc
+put_at q r c rows true None e is other h = let no : None ≡ Some asked = sym (put_none q r c rows is) ∙ h in cc
 put_at q r c rows true (Some x) e is other h =
-    let same : q ≡ r = eqb-true q r e in
-    let here : value_at q (put q c rows) ≡ Some c = put_here q c x rows is in
-    let now : value_at q (put q c rows) ≡ Some asked = ap (λ n. value_at q (put n c rows)) same ∙ h in
-    let two : Some c ≡ Some asked = sym here ∙ now in
+    let two : Some c ≡ Some asked = sym (put_here q c x rows is) ∙ (ap (λ n. value_at q (put n c rows)) (eqb-true q r e) ∙ h) in
     let one : c ≡ asked = cc in
     absurd (other one)
 
@@ -44,9 +37,7 @@ without_at q r rows false e rise h =
     let ne : q ≢ r = (λ same. let yes : (q == r) ≡ true = eq-eqb q r same in let no : true ≡ false = sym yes ∙ e in cc) in
     sym (without_other q r rows ne) ∙ h
 without_at q r rows true e rise h =
-    let gone : value_at q (without q rows) ≡ None = without_here q rows rise in
-    let now : value_at q (without q rows) ≡ Some asked = ap (λ n. value_at q (without n rows)) (eqb-true q r e) ∙ h in
-    let no : None ≡ Some asked = sym gone ∙ now in cc
+    let no : None ≡ Some asked = sym (without_here q rows rise) ∙ (ap (λ n. value_at q (without n rows)) (eqb-true q r e) ∙ h) in cc
 
 awaited_without : (r : ℕ) (rows : Rows Connection) → RiseFrom 0 rows → AwaitedBefore rows (without r rows)
 awaited_without r rows rise = λ q h. without_at q r rows (q == r) refl rise h
@@ -75,18 +66,12 @@ closing_not_asked peer e = cc
 abbrev pub opened_in : List Happening → List ℕ
 opened_in [] = []
 opened_in (opened r ∷ events) = r ∷ opened_in events
-opened_in (refused r reason ∷ events) = opened_in events
-opened_in (tsdu r octets ∷ events) = opened_in events
-opened_in (closed r reason ∷ events) = opened_in events
-opened_in (faulted r fault ∷ events) = opened_in events
+opened_in (event ∷ events) = opened_in events
 
 pub opened_join : (a b : List Happening) → opened_in (a ++ b) ≡ opened_in a ++ opened_in b
 opened_join [] b = refl
 opened_join (opened r ∷ a) b = ap (λ l. r ∷ l) (opened_join a b)
-opened_join (refused r reason ∷ a) b = opened_join a b
-opened_join (tsdu r octets ∷ a) b = opened_join a b
-opened_join (closed r reason ∷ a) b = opened_join a b
-opened_join (faulted r fault ∷ a) b = opened_join a b
+opened_join (event ∷ a) b = opened_join a b
 
 -- one that was asked for
 record Agreed (old new : State) (told : List Happening) : Type 0 where
@@ -133,14 +118,7 @@ silent old new same given side awaited stays = record {
 
 telling : (old new : State) (event : Happening) → opened_in (event ∷ []) ≡ [] → IsSome (value_at (told_of event) old.live) → new.events ≡ old.events ++ event ∷ [] → new.given ≡ old.given → new.is_caller ≡ old.is_caller →
     AwaitedBefore old.live new.live → StaysAsked old new (event ∷ []) → Opens old new
-telling old new event none here same given side awaited stays = record {
-  told = event ∷ [];
-  events = same;
-  how = inl (record { is = none; about = (here, tt); given = given });
-  side = side;
-  awaited = awaited;
-  stays = stays;
-}
+telling old new event none here same given side awaited stays = grind arith
 
 opens_none : (s : State) → Opens s s
 opens_none s = silent s s refl refl refl (λ q h. h) (λ q h over. inl h)
@@ -198,12 +176,7 @@ opens_request c s o called = answers_by c s (has_peer c.source s.live) (is_full 
 opens_unknown : (unit : Value) (s : State) → Opens s (to_unknown unit s)
 opens_unknown (disconnect destination source reason user) s = silent s (to_unknown (disconnect destination source reason user) s) refl refl refl (λ q h. h) (λ q h over. inl h)
 opens_unknown (disconnected destination source) s = opens_none s
-opens_unknown (request c) s = opens_end _ s
-opens_unknown (confirm destination c) s = opens_end _ s
-opens_unknown (data0 end user) s = opens_end _ s
-opens_unknown (data2 destination number end user) s = opens_end _ s
-opens_unknown (acknowledge credit destination number) s = opens_end _ s
-opens_unknown (error destination cause) s = opens_end _ s
+opens_unknown unit s = opens_end _ s
 
 -- the answer for one, by whether it is this one
 stays_by : (q r : ℕ) (event : Happening) (new : Rows Connection) (b : Bool) → (r == q) ≡ b → ((r == q) ≡ true → answered q (event ∷ []) ≡ true) → (q ≢ r → value_at q new ≡ Some asked) →
@@ -230,11 +203,7 @@ opens_asked r (disconnect destination source reason user) s o here =
 opens_asked r (error destination cause) s o here =
     telling s (to_asked r (error destination cause) s) (refused r 0) refl (ap is_some here) refl refl refl (awaited_without r s.live o.rise)
     (λ q h over. stays_by q r (refused r 0) _ (r == q) refl (or_left (r == q) false) (λ ne. without_other q r s.live ne ∙ h))
-opens_asked r (request c) s o here = opens_unknown (request c) s
-opens_asked r (disconnected destination source) s o here = opens_unknown (disconnected destination source) s
-opens_asked r (data0 end user) s o here = opens_unknown (data0 end user) s
-opens_asked r (data2 destination number end user) s o here = opens_unknown (data2 destination number end user) s
-opens_asked r (acknowledge credit destination number) s o here = opens_unknown (acknowledge credit destination number) s
+opens_asked r unit s o here = opens_unknown unit s
 
 -- a connection that is there, and was not asked for
 record IsThere (r : ℕ) (s : State) : Type 0 where
@@ -242,10 +211,7 @@ record IsThere (r : ℕ) (s : State) : Type 0 where
   apart : (q : ℕ) → value_at q s.live ≡ Some asked → q ≢ r
 
 there : (r : ℕ) (c : Connection) (s : State) → value_at r s.live ≡ Some c → (c ≡ asked → ⊥) → IsThere r s
-there r c s here other = record {
-  here = ap is_some here;
-  apart = λ q h same. (let two : Some c ≡ Some asked = sym here ∙ ap (λ n. value_at n s.live) (sym same) ∙ h in let one : c ≡ asked = cc in other one);
-}
+there r c s here other = grind arith
 
 opens_settles : (r : ℕ) (whole : List (List ℕ)) (c : Connection) (s t : State) → IsThere r s → (c ≡ asked → ⊥) → t.given ≡ s.given → t.is_caller ≡ s.is_caller → t.live ≡ put r c s.live →
     t.events ≡ s.events → Opens s (tells_of r (take 1 whole) t)
@@ -267,21 +233,14 @@ opens_taking r peer (Ok link) s here = opens_settles r link.ends.joining.whole _
 opens_taking r peer (Err fault) s here = opens_breaks r peer fault s.class s here
 
 opens_leaves : (r peer reason : ℕ) (held : Option Class) (s : State) → IsOrderly s → IsThere r s → Opens s (leaves r peer reason held s)
-opens_leaves r peer reason None s o here = telling s (leaves r peer reason None s) (closed r reason) refl here.here refl refl refl (λ q h. cc) (λ q h over. cc)
-opens_leaves r peer reason (Some Zero) s o here = telling s (leaves r peer reason (Some Zero) s) (closed r reason) refl here.here refl refl refl (λ q h. cc) (λ q h over. cc)
 opens_leaves r peer reason (Some Two) s o here =
     telling s (leaves r peer reason (Some Two) s) (closed r reason) refl here.here refl refl refl (awaited_without r s.live o.rise)
     (λ q h over. inl (without_other q r s.live (here.apart q h) ∙ h))
+opens_leaves r peer reason held s o here = telling s (leaves r peer reason held s) (closed r reason) refl here.here refl refl refl (λ q h. cc) (λ q h over. cc)
 
 opens_linked : (r peer : ℕ) (link : Standing) (unit : Value) (s : State) → IsOrderly s → IsThere r s → Opens s (to_linked r peer link unit s)
 opens_linked r peer link (disconnect destination source reason user) s o here = opens_leaves r peer reason s.class s o here
-opens_linked r peer link (request c) s o here = opens_taking r peer (taken link (request c)) s here
-opens_linked r peer link (confirm destination c) s o here = opens_taking r peer (taken link (confirm destination c)) s here
-opens_linked r peer link (disconnected destination source) s o here = opens_taking r peer (taken link (disconnected destination source)) s here
-opens_linked r peer link (data0 end user) s o here = opens_taking r peer (taken link (data0 end user)) s here
-opens_linked r peer link (data2 destination number end user) s o here = opens_taking r peer (taken link (data2 destination number end user)) s here
-opens_linked r peer link (acknowledge credit destination number) s o here = opens_taking r peer (taken link (acknowledge credit destination number)) s here
-opens_linked r peer link (error destination cause) s o here = opens_taking r peer (taken link (error destination cause)) s here
+opens_linked r peer link unit s o here = opens_taking r peer (taken link unit) s here
 
 opens_dropped : (r : ℕ) (s : State) → IsOrderly s → IsThere r s → Opens s (drops r s)
 opens_dropped r s o here = silent s (drops r s) refl refl refl (awaited_without r s.live o.rise) (λ q h over. inl (without_other q r s.live (here.apart q h) ∙ h))
@@ -289,12 +248,7 @@ opens_dropped r s o here = silent s (drops r s) refl refl refl (awaited_without 
 opens_closing : (r : ℕ) (unit : Value) (s : State) → IsOrderly s → IsThere r s → Opens s (to_closing r unit s)
 opens_closing r (disconnected destination source) s o here = opens_dropped r s o here
 opens_closing r (disconnect destination source reason user) s o here = opens_dropped r s o here
-opens_closing r (request c) s o here = opens_none s
-opens_closing r (confirm destination c) s o here = opens_none s
-opens_closing r (data0 end user) s o here = opens_none s
-opens_closing r (data2 destination number end user) s o here = opens_none s
-opens_closing r (acknowledge credit destination number) s o here = opens_none s
-opens_closing r (error destination cause) s o here = opens_none s
+opens_closing r unit s o here = opens_none s
 
 opens_connection : (r : ℕ) (o : Option Connection) (unit : Value) (s : State) → IsOrderly s → value_at r s.live ≡ o → Opens s (to_connection r o unit s)
 opens_connection r None unit s o here = opens_unknown unit s
@@ -311,21 +265,10 @@ opens_before : (b : Bool) (unit : Value) (s : State) → IsOrderly s → s.is_ca
 opens_before true (confirm destination c) s o e = opens_reference destination (confirm destination c) s o
 opens_before true (disconnect destination source reason user) s o e = opens_reference destination (disconnect destination source reason user) s o
 opens_before true (error destination cause) s o e = opens_reference destination (error destination cause) s o
-opens_before true (request c) s o e = opens_end _ s
-opens_before true (data0 end user) s o e = opens_end _ s
-opens_before true (data2 destination number end user) s o e = opens_end _ s
-opens_before true (acknowledge credit destination number) s o e = opens_end _ s
 opens_before false (request c) s o e = opens_request c s o e
-opens_before false (confirm destination c) s o e = opens_end _ s
-opens_before false (disconnect destination source reason user) s o e = opens_end _ s
-opens_before false (data0 end user) s o e = opens_end _ s
-opens_before false (data2 destination number end user) s o e = opens_end _ s
-opens_before false (acknowledge credit destination number) s o e = opens_end _ s
-opens_before false (error destination cause) s o e = opens_end _ s
-opens_before true (disconnected destination source) s o e = opens_end _ s
-opens_before false (disconnected destination source) s o e = opens_end _ s
+opens_before b unit s o e = opens_end _ s
 
-first_here : (r : ℕ) (x : Connection) (rows : Rows Connection) → value_at r ((r, x) ∷ rows) ≡ Some x
+pub first_here : (r : ℕ) (x : Connection) (rows : Rows Connection) → value_at r ((r, x) ∷ rows) ≡ Some x
 first_here r x rows = let e = eq-eqb r r refl in rw e refl
 
 only_by : (live : Rows Connection) (unit : Value) (s : State) → IsOrderly s → s.live ≡ live → Opens s (to_only live unit s)
@@ -334,14 +277,7 @@ only_by ((r, connection) ∷ rows) unit s o is = opens_connection r (Some connec
 
 opens_zero : (b : Bool) (unit : Value) (s : State) → IsOrderly s → Opens s (in_zero b unit s)
 opens_zero true (request c) s o = opens_end _ s
-opens_zero true (confirm destination c) s o = only_by s.live (confirm destination c) s o refl
-opens_zero true (disconnect destination source reason user) s o = only_by s.live (disconnect destination source reason user) s o refl
-opens_zero true (disconnected destination source) s o = only_by s.live (disconnected destination source) s o refl
-opens_zero true (data0 end user) s o = only_by s.live (data0 end user) s o refl
-opens_zero true (data2 destination number end user) s o = only_by s.live (data2 destination number end user) s o refl
-opens_zero true (acknowledge credit destination number) s o = only_by s.live (acknowledge credit destination number) s o refl
-opens_zero true (error destination cause) s o = only_by s.live (error destination cause) s o refl
-opens_zero false unit s o = only_by s.live unit s o refl
+opens_zero b unit s o = only_by s.live unit s o refl
 
 opens_two : (b : Bool) (unit : Value) (s : State) → IsOrderly s → s.is_caller ≡ b → Opens s (in_two b unit s)
 opens_two true (request c) s o e = opens_end _ s
@@ -420,26 +356,17 @@ IsGiven g event = told_of event ≤ g
 abbrev pub Comes : ℕ → List Happening → ℕ → Type 0
 Comes g [] h = h ≡ g
 Comes g (opened r ∷ more) h = (g < r) × Comes r more h
-Comes g (refused r reason ∷ more) h = (r ≤ g) × Comes g more h
-Comes g (tsdu r octets ∷ more) h = (r ≤ g) × Comes g more h
-Comes g (closed r reason ∷ more) h = (r ≤ g) × Comes g more h
-Comes g (faulted r fault ∷ more) h = (r ≤ g) × Comes g more h
+Comes g (event ∷ more) h = (told_of event ≤ g) × Comes g more h
 
 comes_join : (g : ℕ) (a : List Happening) (h : ℕ) (b : List Happening) (k : ℕ) → Comes g a h → Comes h b k → Comes g (a ++ b) k
 comes_join g [] h b k first second = subst (λ n. Comes n b k) first second
 comes_join g (opened r ∷ a) h b k first second = (first.0, comes_join r a h b k first.1 second)
-comes_join g (refused r reason ∷ a) h b k first second = (first.0, comes_join g a h b k first.1 second)
-comes_join g (tsdu r octets ∷ a) h b k first second = (first.0, comes_join g a h b k first.1 second)
-comes_join g (closed r reason ∷ a) h b k first second = (first.0, comes_join g a h b k first.1 second)
-comes_join g (faulted r fault ∷ a) h b k first second = (first.0, comes_join g a h b k first.1 second)
+comes_join g (event ∷ a) h b k first second = (first.0, comes_join g a h b k first.1 second)
 
 comes_quiet : (g : ℕ) (l : List Happening) (h : ℕ) → h ≡ g → opened_in l ≡ [] → AllByRecursion (IsGiven g) l → Comes g l h
 comes_quiet g [] h same none all = same
 comes_quiet g (opened r ∷ more) h same none all = cc
-comes_quiet g (refused r reason ∷ more) h same none all = (all.0, comes_quiet g more h same none all.1)
-comes_quiet g (tsdu r octets ∷ more) h same none all = (all.0, comes_quiet g more h same none all.1)
-comes_quiet g (closed r reason ∷ more) h same none all = (all.0, comes_quiet g more h same none all.1)
-comes_quiet g (faulted r fault ∷ more) h same none all = (all.0, comes_quiet g more h same none all.1)
+comes_quiet g (event ∷ more) h same none all = (all.0, comes_quiet g more h same none all.1)
 
 -- what was told opens what a caller asked for, and at a called end what is new
 pub record OpensAlong (old new : State) : Type 0 where
@@ -458,16 +385,11 @@ pub record OpensAlong (old new : State) : Type 0 where
   pub lasts : new.ended ≡ None → old.ended ≡ None
 
 caller_by : (old new : State) (told : List Happening) → Unopened old new told ⊎ (Agreed old new told ⊎ Accepted old new told) → old.is_caller ≡ true → AreAwaited old.live (opened_in told)
-caller_by old new told (inl h) caller = subst (AreAwaited old.live) (sym h.is) tt
-caller_by old new told (inr (inl h)) caller = subst (AreAwaited old.live) (sym h.is) (h.here, tt)
-caller_by old new told (inr (inr h)) caller = both old.is_caller caller h.called
+caller_by old new told h3 caller = grind arith
 
 called_by : (old new : State) (told : List Happening) → Unopened old new told ⊎ (Agreed old new told ⊎ Accepted old new told) → NoneAwaited old.live →
     Rises old.given (opened_in told) new.given
-called_by old new told (inl h) none = subst (λ (l : List ℕ). Rises old.given l new.given) (sym h.is) (let same = h.given in omega arith)
-called_by old new told (inr (inl h)) none = absurd (none h.reference h.here)
-called_by old new told (inr (inr h)) none =
-    subst (λ (l : List ℕ). Rises old.given l new.given) (sym h.is) ((omega arith), (let more = h.given in omega arith))
+called_by old new told h3 none = grind arith
 
 about_by : (old new : State) (told : List Happening) → Unopened old new told ⊎ (Agreed old new told ⊎ Accepted old new told) → AllByRecursion (IsOf old) told
 about_by old new told (inl h) = all_still (λ event. IsSome (value_at (told_of event) old.live)) (IsOf old) told (λ event here. inl here) h.about
@@ -517,12 +439,7 @@ along_unit unit s orderly =
 -- one that is there later was there, or is new
 of_before : (old mid : State) (r : ℕ) (o : Option Connection) (b : Bool) → value_at r old.live ≡ o → nat_le r old.given ≡ b → (r ≤ old.given → value_at r old.live ≡ None → value_at r mid.live ≡ None) →
     IsSome (value_at r mid.live) → IsSome (value_at r old.live) ⊎ (old.given < r)
-of_before old mid r (Some c) b is e gone here = inl (ap is_some is)
-of_before old mid r None false is e gone here = inr (grind (arith, nat_tests))
-of_before old mid r None true is e gone here =
-    let up : r ≤ old.given = grind (arith, nat_tests) in
-    let no : false ≡ true = sym (ap is_some (gone up is)) ∙ here in
-    cc
+of_before old mid r o b is e gone here = grind arith
 
 about_join : (old mid : State) (event : Happening) → old.given ≤ mid.given → ((q : ℕ) → q ≤ old.given → value_at q old.live ≡ None → value_at q mid.live ≡ None) → IsOf mid event → IsOf old event
 about_join old mid event rises gone (inl here) = of_before old mid (told_of event) (value_at (told_of event) old.live) (nat_le (told_of event) old.given) refl refl (gone (told_of event)) here
@@ -588,21 +505,7 @@ along_units (unit ∷ units) s orderly =
     along_join s (react unit s) (reacts units (react unit s)) (along_unit unit s orderly) (along_units units (react unit s) (orderly_unit unit s orderly))
 
 pub along_end : (old mid : State) (reason : EndReason) → OpensAlong old mid → OpensAlong old (ends reason mid)
-along_end old mid reason a = record {
-  told = a.told;
-  events = a.events;
-  caller = a.caller;
-  called = a.called;
-  side = a.side;
-  awaited = λ q h. cc;
-  about = a.about;
-  known = a.known;
-  comes = a.comes;
-  rises = a.rises;
-  gone = λ q up none. refl;
-  stays = λ q h over. cc;
-  lasts = λ over. cc;
-}
+along_end old mid reason a = grind arith
 
 pub along_over : (s : State) (reason : EndReason) → OpensAlong s (ends reason s)
 along_over s reason = along_end s s reason (along_none s)

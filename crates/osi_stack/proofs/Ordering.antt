@@ -1,10 +1,8 @@
 -- The lines of an end stand in the order of their references, whatever packets come.
 use Rattle.std.proofs.Common.{◌≡◌, ◌≢◌, ℕ, zero, suc, ◌+◌, ◌<◌, ◌≤◌, ◌==◌, Bool, true, false, ◌||◌, not, List, ◌∷◌, ◌++◌, length, Option, Some, None, Result, Ok, Err, is_some, IsSome, refl, sym, ap, subst, ◌∙◌, inl, inr, ◌⊎◌, arith, if◌then◌else◌, []}
-use Rattle.osi_carrier.specs.Happenings.{opened, refused}
 use Rattle.osi_carrier.specs.Packets as carriers
-use Rattle.osi_carrier.specs.State.{ends as carrier_ends}
 use Rattle.osi_carrier.specs.declared.faults.OpenError.TheVariants.{NotCaller}
-use Rattle.osi_stack.proofs.Vocabulary.{eqb-true, eq-eqb, Fed, units_of, Value, TpduFault, Standing as Link, Class, Zero, Local, open_link, may_connect, sent_on, closes, closed_on, sent, closed_with, Happening, tsdu, closed, faulted, RiseFrom, AreUpTo, IsOrderly, told_of, reacts, Rows, value_at, Connection, asked, closing, State as Carrier, EndReason, Broken, NoMemory, OpenError, beyond, push_here, push_other, free_of, none_of, Input, opened as linked_up, awaits, calls_with, connects, connect_error, terms_error, breaks, carried, without_first, Feeds, opens, hears, hears_next, hears_times, hears_all, with_events, with_carrier, attends, after_packet, ends, starves, loses, all_lost, Starves, AreApart, Soundness, IsSound, line_by, by_line, to_session, IsOrdered, Line, End, Holding, IsAttended, fresh_end, used_lines, fresh_line, Connect, input_of}
+use Rattle.osi_stack.proofs.Vocabulary.{eqb-true, eq-eqb, Fed, units_of, Value, TpduFault, Standing as Link, Class, Zero, Local, open_link, may_connect, sent_on, closes, closed_on, sent, closed_with, Happening, tsdu, closed, faulted, RiseFrom, AreUpTo, IsOrderly, told_of, reacts, Rows, value_at, Connection, asked, closing, State as Carrier, EndReason, Broken, NoMemory, OpenError, beyond, push_here, push_other, free_of, none_of, Input, opened as linked_up, awaits, calls_with, connects, connect_error, terms_error, breaks, carried, without_first, Feeds, opens, hears, hears_next, hears_times, hears_all, with_events, with_carrier, attends, after_packet, ends, starves, loses, all_lost, Starves, AreApart, Soundness, IsSound, line_by, by_line, to_session, IsOrdered, Line, End, Holding, IsAttended, fresh_end, used_lines, fresh_line, Connect, input_of, told_opened as opened, told_refused as refused, carrier_ends}
 use Rattle.osi_stack.proofs.Events.{times_quiet}
 use Rattle.osi_stack.proofs.Lifting.{both, packet_is}
 use Rattle.osi_stack.proofs.Linking.{SessionLaws, first_is, rest_is, used_at, apart_push, joined_lines, put_some}
@@ -106,17 +104,11 @@ opens_heard r (Some line) e some rise = session_heard r linked_up e rise
 
 pub one_heard : (event : Happening) (rest : List Happening) (e : End) → HaveLines e.lines (opened_in (event ∷ rest)) → RiseFrom 0 e.lines → Heard e (hears event e)
 one_heard (opened r) rest e all rise = opens_heard r (value_at r e.lines) e all.0 rise
-one_heard (refused r reason) rest e all rise = session_heard r _ e rise
-one_heard (tsdu r octets) rest e all rise = session_heard r _ e rise
-one_heard (closed r reason) rest e all rise = session_heard r _ e rise
-one_heard (faulted r fault) rest e all rise = session_heard r _ e rise
+one_heard event rest e all rise = session_heard (told_of event) _ e rise
 
 pub have_rest : (event : Happening) (rest : List Happening) (lines : Rows Line) → HaveLines lines (opened_in (event ∷ rest)) → HaveLines lines (opened_in rest)
 have_rest (opened r) rest lines all = all.1
-have_rest (refused r reason) rest lines all = all
-have_rest (tsdu r octets) rest lines all = all
-have_rest (closed r reason) rest lines all = all
-have_rest (faulted r fault) rest lines all = all
+have_rest event rest lines all = all
 
 times_heard : (n : ℕ) (l : List Happening) (e : End) → e.carrier.events ≡ l → HaveLines e.lines (opened_in l) → RiseFrom 0 e.lines → Heard e (hears_times n e)
 times_heard zero l e h all rise = record { rise = rise; kept = λ r some. some }
@@ -163,10 +155,7 @@ record HasRisen (event : Happening) (rest : List Happening) (e : End) (last : �
 
 one_risen : (event : Happening) (rest : List Happening) (e : End) (g h : ℕ) → Rises g (opened_in (event ∷ rest)) h → RiseFrom 0 e.lines → AreUpTo g e.lines → HasRisen event rest e h
 one_risen (opened r) rest e g h rises rise up = record { reached = r; rises = rises.1; heard = opens_up g r (value_at r e.lines) e rises.0 rise up }
-one_risen (refused r reason) rest e g h rises rise up = record { reached = g; rises = rises; heard = session_risen g r _ e rise up }
-one_risen (tsdu r octets) rest e g h rises rise up = record { reached = g; rises = rises; heard = session_risen g r _ e rise up }
-one_risen (closed r reason) rest e g h rises rise up = record { reached = g; rises = rises; heard = session_risen g r _ e rise up }
-one_risen (faulted r fault) rest e g h rises rise up = record { reached = g; rises = rises; heard = session_risen g r _ e rise up }
+one_risen event rest e g h rises rise up = record { reached = g; rises = rises; heard = session_risen g (told_of event) _ e rise up }
 
 times_up : (n : ℕ) (l : List Happening) (e : End) (g h : ℕ) → e.carrier.events ≡ l → Rises g (opened_in l) h → RiseFrom 0 e.lines → AreUpTo g e.lines → RiseFrom 0 (hears_times n e).lines
 times_up zero l e g h is rises rise up = rise
@@ -196,12 +185,10 @@ heard_by true n e c caller none known o a =
     }
 heard_by false n e c is_called none known o a =
     let mid = with_carrier c e in
-    let events : c.events ≡ a.told = a.events ∙ ap (λ (l : List Happening). l ++ a.told) none in
-    let leaves = times_leave n mid in
     let nobody : NoneAwaited e.carrier.live = λ q h. both e.carrier.is_caller (o.awaiting q h).0 is_called in
     record {
-      rise = times_up n a.told mid e.carrier.given c.given events (a.called is_called nobody) o.rise known;
-      awaiting = λ r h. absurd (nobody r (a.awaited r (leaves.awaited r h)));
+      rise = times_up n a.told mid e.carrier.given c.given (a.events ∙ ap (λ (l : List Happening). l ++ a.told) none) (a.called is_called nobody) o.rise known;
+      awaiting = λ r h. absurd (nobody r (a.awaited r ((times_leave n mid).awaited r h)));
     }
 
 heard_ordered : (n : ℕ) (e : End) (c : Carrier) → e.carrier.events ≡ [] → AreUpTo e.carrier.given e.lines → IsOrdered e → OpensAlong e.carrier c → IsOrdered (hears_times n (with_carrier c e))
@@ -301,7 +288,7 @@ connect_ordered c e allowed sound o =
     record {
       rise = rise_connect c e s o.rise;
       awaiting = λ r h. (
-        caller_of e.carrier may,
+        (caller_by e.carrier.is_caller _ may),
         has_used r (e.carrier.live ++ (q, asked) ∷ []) (joined_lines q (calls_with c) e.lines) (apart_push q x e.lines none s.apart) h
             (joined_has r q x e (r == q) refl none o h),
       );

@@ -1,5 +1,5 @@
 -- Once the carrier has ended no session changes it, and it stays ended for the same reason.
-use Rattle.std.proofs.Common.{◌≡◌, ℕ, zero, suc, Bool, true, List, ◌∷◌, length, Option, Some, None, is_some, refl, sym, ap, ◌∙◌, ◌⊎◌, inl, inr, if◌then◌else◌, []}
+use Rattle.std.proofs.Common.{◌≡◌, ℕ, zero, suc, Bool, true, List, ◌∷◌, length, Option, Some, None, is_some, refl, sym, ap, ◌∙◌, ◌⊎◌, inl, inr, if◌then◌else◌, [], arith}
 use Rattle.osi_carrier.specs.Happenings as told
 use Rattle.osi_carrier.specs.Packets as carriers
 use Rattle.osi_carrier.specs.State as states
@@ -17,17 +17,11 @@ none_open r c over = ap (λ (b : Bool). if b then None else link_of (value_at r 
 
 -- what it sends and closes is nothing
 nothing_over : (c : Carrier) → is_some c.ended ≡ true → Carries (λ x. x ≡ c)
-nothing_over c over = record {
-  sends = λ r tsdu x same. ap (λ (k : Carrier). sent r tsdu k) same ∙ ap (λ (o : Option (ℕ × Link)). sent_on r tsdu o c) (none_open r c over);
-  closes = λ r x same. ap (λ (k : Carrier). closed_with r 128 k) same ∙ ap (λ (o : Option (ℕ × Link)). closed_on r 128 o c) (none_open r c over);
-}
+nothing_over c over = grind arith
 
 -- no event changes the carrier
 hears_over : (c : Carrier) → is_some c.ended ≡ true → Hears (λ x. x.carrier ≡ c)
-hears_over c over = record {
-  begins = λ r x none same. same;
-  moves = λ event x same. session_carried (λ k. k ≡ c) (nothing_over c over) (told_of event) (input_of event) x same;
-}
+hears_over c over = grind arith
 
 -- ---- all events
 

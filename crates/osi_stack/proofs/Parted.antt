@@ -54,9 +54,7 @@ silent_at r input c l waiting selectors rows h s =
     ∙ ap (λ (w : List Shown). at r c (react l input).next w selectors rows) (append-nil waiting)
 
 alike_answers : (r m n : ℕ) (a b : Move) (c : Carrier) → m ≡ n → AreAlike a b → answers r m a c ≡ answers r n b c
-alike_answers r m n a b c sizes same =
-    ap (λ (x : Bool). answers_by x r (tsdus_sent m a.reply) c) same.closes ∙ ap (λ (o : Option Meaning). answers_by b.closes r (tsdus_sent m o) c) same.reply
-    ∙ ap (λ (l : ℕ). answers_by b.closes r (tsdus_sent l b.reply) c) sizes
+alike_answers r m n a b c sizes same = cc
 
 -- ---- both runs
 
@@ -75,13 +73,7 @@ runs r rows c waiting selectors l m [] h silent = record { carrier = c; waiting 
 runs r rows c waiting selectors l m (comes place o ∷ acts) h silent =
     let input = came (part_octets place o) in
     let more = runs r rows c waiting selectors (react l input).next m acts h silent.1 in
-    record {
-      carrier = more.carrier;
-      waiting = more.waiting;
-      selectors = more.selectors;
-      parts = ap (to_session_along r (map act_in_octets acts)) (silent_at r input c l waiting selectors rows h silent.0) ∙ more.parts;
-      whole = more.whole;
-    }
+    search (ap (to_session_along r (map act_in_octets acts)) (silent_at r input c l waiting selectors rows h silent.0) ∙ more.parts)
 runs r rows c waiting selectors l m (calls call ∷ acts) h silent =
     let one = react l (called call) in
     let two = react m (called call) in
@@ -90,13 +82,7 @@ runs r rows c waiting selectors l m (calls call ∷ acts) h silent =
     ≡ at r (answers r (limit_of l.state) one c) two.next (waiting ++ one.shown) (names one.shown None selectors) rows =
     ap (λ (d : Carrier). at r d two.next (waiting ++ two.shown) (names two.shown None selectors) rows) (sym (alike_answers r (limit_of l.state) (limit_of m.state) one two c silent.0.0 silent.0.1))
     ∙ ap (λ (w : List Shown). at r (answers r (limit_of l.state) one c) two.next (waiting ++ w) (names w None selectors) rows) (sym silent.0.1.shown) in
-    record {
-      carrier = more.carrier;
-      waiting = more.waiting;
-      selectors = more.selectors;
-      parts = ap (to_session_along r (map act_in_octets acts)) (moves_at r (called call) c l waiting selectors rows h) ∙ more.parts;
-      whole = ap (to_session_along r (calls_in acts)) (moves_at r (called call) c m waiting selectors rows h ∙ same) ∙ more.whole;
-    }
+    search (ap (to_session_along r (map act_in_octets acts)) (moves_at r (called call) c l waiting selectors rows h) ∙ more.parts, ap (to_session_along r (calls_in acts)) (moves_at r (called call) c m waiting selectors rows h ∙ same) ∙ more.whole)
 
 -- ---- the end as it is
 

@@ -43,19 +43,14 @@ read_first old piece quiet attended =
 -- ---- a carrier on which nothing waits
 
 pub quiet_end : (e : End) → stops e ≡ false → IsAttended e → carriers.stops e.carrier ≡ false
-quiet_end e quiet attended =
-    let lasts = or_first (is_some e.carrier.ended) (waits e.lines) quiet in
-    let none = attended (none_of e.carrier.ended lasts) in
-    ap (λ b. b || carriers.waits e.carrier) lasts ∙ ap (λ l. not (length l == 0)) none
+quiet_end e quiet attended = grind arith
 
 -- ---- what was heard
 
 -- the carrier ended with nothing told
 ended_attends : (c d : Carrier) (lines : Rows Line) (reason : EndReason) → d ≡ states.ends reason c → IsQuiet c →
     attends (record { carrier = d; lines = lines }) ≡ ends reason (record { carrier = c; lines = lines })
-ended_attends c d lines reason h q =
-    let over : End = record { carrier = states.ends reason c; lines = lines } in
-    ap (λ (x : Carrier). attends (record { carrier = x; lines = lines })) h ∙ ap concludes (all_quiet over q.events)
+ended_attends c d lines reason h q = grind arith
 
 attends_spoilt : (e new : End) → new ≡ attends e → is_spoilt new.carrier.ended ≡ is_spoilt e.carrier.ended
 attends_spoilt e new h =
@@ -275,12 +270,7 @@ no_room : (old : Holding) (piece : List ℕ) (now : Holding) (rest : List ℕ) (
     (g : carriers.FindsNoMemory (record { state = now.end.carrier; held = now.held }) rest fed told) →
     carriers.FindsNoRoom (record { state = now.end.carrier; held = now.held }) rest g.within g.rest g.before told.state → new.end ≡ ends NoMemory (with_carrier g.before now.end) →
     FindsNoRoom old piece (length (read.front ++ take g.within rest)) g.rest (with_carrier g.before now.end) new.end
-no_room old piece now rest fed told new read g none ended = record {
-  ended = ended;
-  first = first_part g.units read.front now.held.octets g.within rest g.rest read.first none.first g.packets;
-  holds = subst (HasToHold old.held.room g.rest) (sym (looked piece read.front rest g.within read.cut).behind)
-      (less_room now.held.room old.held.room g.rest (drop g.within rest) read.room none.holds);
-}
+no_room old piece now rest fed told new read g none ended = search (first_part g.units read.front now.held.octets g.within rest g.rest read.first none.first g.packets, subst (HasToHold old.held.room g.rest) (sym (looked piece read.front rest g.within read.cut).behind) (less_room now.held.room old.held.room g.rest (drop g.within rest) read.room none.holds))
 
 starved_with : (old : Holding) (piece : List ℕ) (now : Holding) (rest : List ℕ) (fed : ℕ) (told : Carrying) (new : Holding) (read : IsRead old piece now rest) →
     (g : carriers.FindsNoMemory (record { state = now.end.carrier; held = now.held }) rest fed told) → new.held ≡ told.held →
@@ -349,28 +339,6 @@ looks old piece now rest used new read fetch =
 
 -- ---- where reading goes on, and where it ends
 
-pub record IsMeasured (piece rest : List ℕ) (used : ℕ) : Type 0 where
-  pub bound : used ≤ length rest
-  pub some : 0 < length rest → 0 < used
-  pub parts : length (drop used rest) + used ≡ length rest
-  pub within : length rest ≤ length piece
-
-pub measured : (old : Holding) (piece : List ℕ) (now : Holding) (rest : List ℕ) (used : ℕ) (new : Holding) → IsRead old piece now rest → Fetches now rest used new →
-    IsMeasured piece rest used
-measured old piece now rest used new read fetch =
-    let quiet = or_second (is_some now.end.carrier.ended) (carriers.waits now.end.carrier) (quiet_end now.end read.quiet read.attended) in
-    let sizes = ap length read.cut ∙ length-append read.front rest in
-    let dropped = length-drop used rest in
-    let within : used ≤ length rest = elim (fetch.heard) [
-      | inl h ↦ (let fed = fetch.feeds.bound in let same = h.1 in omega arith)
-      | inr h ↦ (let same = h.1 in omega arith)
-    ] in
-    let positive : 0 < length rest → 0 < used = λ some. elim (fetch.heard) [
-      | inl h ↦ (let fed = fetch.feeds.progress quiet some in let same = h.1 in omega arith)
-      | inr h ↦ (let same = h.1 in omega arith)
-    ] in
-    record { bound = within; some = positive; parts = omega arith; within = omega arith }
-
 -- nothing is left of the piece
 all_used : (rest : List ℕ) (used : ℕ) → used ≡ length rest → length (drop used rest) ≡ 0
 all_used rest used e = let dropped = length-drop used rest in omega arith
@@ -396,29 +364,16 @@ uses_waiting false true piece front rest used within w cut bound uses =
     omega arith
 
 uses_ended : (b w : Bool) (all within : ℕ) → w ≡ false → all ≡ (if b || not w then all else within)
-uses_ended true w all within e = refl
-uses_ended false true all within e = cc
-uses_ended false false all within e = refl
+uses_ended b w all within e = grind arith
 
 behind_stops : (old : Holding) (piece rest : List ℕ) (used uses : ℕ) (new : Holding) (b : IsBehind old piece rest used new) → stops new.end ≡ true →
     uses ≡ (if uses_all new.end then length piece else length b.front) → StopsBehind old piece uses new
-behind_stops old piece rest used uses new b stopped e = record {
-  within = length b.front;
-  units = b.units;
-  bound = b.at_most;
-  packets = subst (λ l. ArePackets b.units (old.held.octets ++ l) []) (sym b.seen) b.packets;
-  taken = b.taken;
-  stopped = stopped;
-  uses = e;
-  held = b.held;
-  offset = b.place ∙ ap (λ l. offset_of (old.held.offset + length (old.held.octets ++ l))) (sym b.seen);
-  room = b.room;
-}
+behind_stops old piece rest used uses new b stopped e = grind arith
 
 pub read_waits : (old : Holding) (piece : List ℕ) (now : Holding) (rest : List ℕ) (used : ℕ) (new : Holding) → IsRead old piece now rest → Fetches now rest used new →
     waits new.end.lines ≡ true → Goes old piece (length piece - length (drop used rest)) new
 read_waits old piece now rest used new read fetch waiting = elim (looks old piece now rest used new read fetch) [
-  | inl (inl dry) ↦ both (waits new.end.lines) waiting (quiet_waits new.end dry.runs.quiet)
+  | inl (inl dry) ↦ both (waits new.end.lines) waiting (or_second (is_some new.end.carrier.ended) (waits new.end.lines) dry.runs.quiet)
   | inl (inr b) ↦ inl (inr (behind_stops old piece rest used (length piece - length (drop used rest)) new b (or_right (is_some new.end.carrier.ended) (waits new.end.lines) waiting)
       (uses_waiting (is_spoilt new.end.carrier.ended) (waits new.end.lines) piece b.front rest used b.within waiting b.cut b.bound b.uses)))
   | inr f ↦ (

@@ -18,10 +18,7 @@ pub record IsStill (line : Line) : Type 0 where
   pub lost : shown_at_loss line.session ≡ []
 
 still_loses : (line : Line) → IsStill line → IsStill (loses line)
-still_loses line still = record {
-  waiting = ap (λ (w : List Shown). w ++ shown_at_loss line.session) still.waiting ∙ still.lost;
-  lost = refl;
-}
+still_loses line still = search
 
 -- these references
 module _ (K : ℕ → Bool) where
@@ -115,10 +112,7 @@ module _ (K : ℕ → Bool) where
 
   only_hears : (event : Happening) (e : End) → K (told_of event) ≡ true → hears event (only_end e) ≡ only_end (hears event e)
   only_hears (told.opened r) e here = ap (λ (line : Option Line). opens r line (only_end e)) (only_at r e.lines here) ∙ only_opens r (value_at r e.lines) e here
-  only_hears (told.refused r reason) e here = only_session r _ e here
-  only_hears (told.tsdu r octets) e here = only_session r _ e here
-  only_hears (told.closed r reason) e here = only_session r _ e here
-  only_hears (told.faulted r fault) e here = only_session r _ e here
+  only_hears event e here = only_session (told_of event) _ e here
 
   -- events are of these alone
   abbrev pub AreOf : List Happening → Type 0
@@ -204,10 +198,7 @@ module _ (K : ℕ → Bool) where
 
   still_hears : (event : Happening) (e : End) → K (told_of event) ≡ true → AreStill e.lines → AreStill (hears event e).lines
   still_hears (told.opened r) e here still = still_opens r (value_at r e.lines) e here still
-  still_hears (told.refused r reason) e here still = still_session r _ e here still
-  still_hears (told.tsdu r octets) e here still = still_session r _ e here still
-  still_hears (told.closed r reason) e here still = still_session r _ e here still
-  still_hears (told.faulted r fault) e here still = still_session r _ e here still
+  still_hears event e here still = still_session (told_of event) _ e here still
 
   still_first : (events : List Happening) (e : End) → AreOf events → AreStill e.lines → AreStill (hears_first events e).lines
   still_first [] e all still = still

@@ -32,9 +32,7 @@ pub record IsGone (c : Carrier) (r : ℕ) : Type 0 where
   pub given : r ≤ c.given
 
 pub unreached : (c : Carrier) (r : ℕ) → reached c r ≡ false → IsGone c r
-unreached c r h =
-    let low : nat_lt c.given r ≡ false = or_second (is_live c r) (nat_lt c.given r) h in
-    record { none = none_of (value_at r c.live) (or_first (is_live c r) (nat_lt c.given r) h); given = grind (arith, nat_tests) }
+unreached c r h = grind arith
 
 reached_of : (c : Carrier) (event : Happening) → IsOf c event → reached c (told_of event) ≡ true
 reached_of c event (inl here) = reached_live c (told_of event) here
@@ -90,12 +88,7 @@ session_within r input e q here =
 
 less_by : (K L : ℕ → Bool) → Within K L → (q : ℕ) (y : Line) (lines : Rows Line) (b c : Bool) → L q ≡ b → K q ≡ c → only K (only L lines) ≡ only K lines →
     only K (only L ((q, y) ∷ lines)) ≡ only K ((q, y) ∷ lines)
-less_by K L within q y lines true true e f more =
-    ap (only K) (only_row L q y lines true e) ∙ only_row K q y (only L lines) true f ∙ ap (λ (l : Rows Line). (q, y) ∷ l) more ∙ sym (only_row K q y lines true f)
-less_by K L within q y lines true false e f more =
-    ap (only K) (only_row L q y lines true e) ∙ only_row K q y (only L lines) false f ∙ more ∙ sym (only_row K q y lines false f)
-less_by K L within q y lines false true e f more = both (L q) (within q f) e
-less_by K L within q y lines false false e f more = ap (only K) (only_row L q y lines false e) ∙ more ∙ sym (only_row K q y lines false f)
+less_by K L within q y lines b c e f more = grind arith
 
 pub only_less : (K L : ℕ → Bool) → Within K L → (lines : Rows Line) → only K (only L lines) ≡ only K lines
 only_less K L within [] = refl
@@ -106,9 +99,7 @@ same_row K L q y lines true e f more = only_row K q y lines true e ∙ ap (λ (l
 same_row K L q y lines false e f more = only_row K q y lines false e ∙ more ∙ sym (only_row L q y lines false f)
 
 reached_known : (c : Carrier) (q : ℕ) → q ≤ c.given → reached c q ≡ is_live c q
-reached_known c q low =
-    let old : nat_lt c.given q ≡ false = grind (arith, nat_tests) in
-    ap (λ (b : Bool). is_live c q || b) old ∙ or-false (is_live c q)
+reached_known c q low = grind arith
 
 -- where no line is new
 pub known_live : (c : Carrier) (lines : Rows Line) → AreUpTo c.given lines → only (reached c) lines ≡ live_lines c.live lines

@@ -10,9 +10,7 @@ room_stays old now told new a b is = subst (λ (h : Held). old ≤ h.room) (sym 
 
 -- with less room they have to be held too
 pub less_room : (room less : ℕ) (held left : List ℕ) → less ≤ room → HasToHold room held left → HasToHold less held left
-less_room room less held left bound h =
-    let more = h.more in
-    record { next = h.next; belongs = h.belongs; some = h.some; parted = h.parted; more = omega arith }
+less_room room less held left bound h = grind arith
 
 -- what begins with a packet has no fault
 pub packet_faultless : (u s more : List ℕ) → ArePackets (u ∷ []) s [] → (at : ℕ) (fault : TpktFault) → IsFaultOf at (s ++ more) fault → ⊥

@@ -1,8 +1,6 @@
 -- Two runs in step come to the same, whatever the pieces.
 use Rattle.std.proofs.Common.{◌≡◌, ℕ, ◌+◌, ◌-◌, ◌<◌, ◌^◌, Bool, true, false, List, ◌∷◌, ◌++◌, Option, Some, None, is_some, length, option_map, arith, refl, sym, ap, subst, ◌∙◌, append_assoc, if◌then◌else◌, []}
-use Rattle.osi_carrier.specs.Runs.UserCall.{connects as connects_call}
-use Rattle.osi_stack.specs.Runs.{Call}
-use Rattle.osi_stack.proofs.Vocabulary.{append-nil, flat_map-append, flat_map, Held, IsPartial, ArePackets, offset_of, TpktFault, tsap_octets, apart_all, OneCut, user, Rows, asked, State as Carrier, Broken, called, Shown, connects, calls_with, ends, all_waiting, UserCall, user_does, Round, WaitForLive, MayCall, IsCalled, RoundsBy, RoundsAlong, calls_of, AreInStep, connecting, calling, breaking, hushed, put_back, Account, account_of, with_packet, with_packets, CallsAlong, used_in, told_in, carried_in, account_along, AreAlike, Line, End, Holding, joins, waits, Connect, none_of}
+use Rattle.osi_stack.proofs.Vocabulary.{append-nil, flat_map-append, flat_map, Held, IsPartial, ArePackets, offset_of, TpktFault, tsap_octets, apart_all, OneCut, user, Rows, asked, State as Carrier, Broken, called, Shown, connects, calls_with, ends, all_waiting, UserCall, user_does, Round, WaitForLive, MayCall, IsCalled, RoundsBy, RoundsAlong, calls_of, AreInStep, connecting, calling, breaking, hushed, put_back, Account, account_of, with_packet, with_packets, CallsAlong, used_in, told_in, carried_in, account_along, AreAlike, Line, End, Holding, joins, waits, Connect, none_of, connects_call, EndCall as Call}
 use Rattle.osi_stack.proofs.Accounts.{made, after_more, account_quiet, account_joined, packets_apart}
 use Rattle.osi_stack.proofs.Asking.{wait_push, joins_alike}
 use Rattle.osi_stack.proofs.Endings.{faulted}
@@ -98,7 +96,7 @@ calls_alike May Like l nothing one_cut t o a u p b xs ys c d are h k used lasts 
       offset = at ∙ ap (λ k. offset_of (k + (length (a.held.octets ++ flat_map used_in xs) - length c.held.octets))) are.offset
           ∙ ap (λ l. offset_of (b.held.offset + (length l - length c.held.octets))) same
           ∙ ap (λ l. offset_of (b.held.offset + (length (b.held.octets ++ flat_map used_in ys) - length l))) one.1 ∙ sym at';
-      bound = small_offset c.held.offset _ at;
+      bound = omega arith;
     }
 
 -- ---- a call of the user
@@ -144,7 +142,7 @@ account_connecting t o c e h =
 pub account_called : (t : List (ℕ × Shown)) (o : List ℕ) (call : UserCall) (e : End) → MayCall call e → account_of t o (user_does call e) ≡ called_by call (account_of t o e)
 account_called t o (connecting c) e h = account_connecting t o c e h
 account_called t o (calling r call) e h = account_calling t o r call e h
-account_called t o breaking e h = called_still t o breaking e h
+account_called t o breaking e h = ap (account_of t []) (sym (user_apart o breaking e)) ∙ ap (called_by breaking) (sym (account_still t o e h))
 
 -- accounts that are the same
 pub exactly : Likeness MayCall (λ (x y : Account). x ≡ y)
@@ -161,12 +159,7 @@ exactly = record {
 -- the packet under way stays as it is
 held_alike : (Like : Account → Account → Type 0) (t : List (ℕ × Shown)) (o : List ℕ) (a : Holding) (u : List (ℕ × Shown)) (p : List ℕ) (b c d : Holding) → Are Like t o a u p b → c.held ≡ a.held → d.held ≡ b.held →
     Like (account_of t o c.end) (account_of u p d.end) → Are Like t o c u p d
-held_alike Like t o a u p b c d are h k account = record {
-  same = record { octets = ap (λ (x : Held). x.octets) h ∙ are.same.octets ∙ ap (λ (x : Held). x.octets) (sym k); account = account };
-  partial = subst (λ (x : Held). IsPartial x.octets) (sym h) are.partial;
-  offset = ap (λ (x : Held). x.offset) h ∙ are.offset ∙ ap (λ (x : Held). x.offset) (sym k);
-  bound = subst (λ (x : Held). x.offset < 2 ^ 64) (sym h) are.bound;
-}
+held_alike Like t o a u p b c d are h k account = grind arith
 
 user_alike : (May : UserCall → End → Type 0) (Like : Account → Account → Type 0) → Likeness May Like → (t : List (ℕ × Shown)) (o : List ℕ) (a : Holding) (u : List (ℕ × Shown)) (p : List ℕ) (b : Holding) (call : Option UserCall) (c d : Holding) →
     Are Like t o a u p b → IsCalled May a call c → IsCalled May b call d → Are Like t o c u p d

@@ -13,22 +13,7 @@ part_selectors : (k : Kind) (unit : Contents) (place : Place) → unit.kind ≡ 
     selectors_of (DT unit.information) ≡ selectors_of (meaning unit)
 unfolding meaning
 part_selectors kind.DataTransfer unit place e h = sym (ap (λ (k : Kind). selectors_of (meaning_by k unit.known unit.information)) e)
-part_selectors kind.GiveTokens unit place e h = absurd (cc)
-part_selectors kind.PleaseTokens unit place e h = absurd (cc)
-part_selectors kind.NotFinished unit place e h = absurd (cc)
-part_selectors kind.Finish unit place e h = absurd (cc)
-part_selectors kind.Disconnect unit place e h = absurd (cc)
-part_selectors kind.Refuse unit place e h = absurd (cc)
-part_selectors kind.Connect unit place e h = absurd (cc)
-part_selectors kind.Accept unit place e h = absurd (cc)
-part_selectors kind.Abort unit place e h = absurd (cc)
-part_selectors kind.AbortAccept unit place e h = absurd (cc)
-part_selectors kind.ResynchronizeAck unit place e h = absurd (cc)
-part_selectors kind.MajorSyncPoint unit place e h = absurd (cc)
-part_selectors kind.MajorSyncAck unit place e h = absurd (cc)
-part_selectors kind.MinorSyncPoint unit place e h = absurd (cc)
-part_selectors kind.MinorSyncAck unit place e h = absurd (cc)
-part_selectors kind.Resynchronize unit place e h = absurd (cc)
+part_selectors k unit place e h = absurd (cc)
 
 first_selectors : (unit : Contents) (o : Option Place) → place_of unit ≡ o → selectors_of (as_message (word_at o unit)) ≡ selectors_of (meaning unit)
 first_selectors unit None e = refl

@@ -1,5 +1,5 @@
 -- What happens to a session beside calls and TSDUs.
-use Rattle.std.proofs.Common.{◌≡◌, ℕ, Bool, true, false, [], ◌++◌, map, Option, None, option_map, Result, Ok, refl, sym, ap, subst, ◌∙◌, if◌then◌else◌}
+use Rattle.std.proofs.Common.{◌≡◌, ℕ, Bool, true, false, [], ◌++◌, map, Option, None, option_map, Result, Ok, refl, sym, ap, subst, ◌∙◌, if◌then◌else◌, arith}
 use Rattle.osi_session.specs.Steps.{shown_list}
 use Rattle.osi_session.specs.declared.taken.Taken.{Taken}
 use Rattle.osi_stack.proofs.Vocabulary.{append-nil, in_one, Input, Listener, Move, opened, refused, broken, react, is_wait_transport, Takes, shown_by, Indication}
@@ -39,15 +39,7 @@ broken_is_quiet s = record { reply = refl; closes = refl }
 -- one thing is shown at most, with this answer
 pub quiet_takes : {E : Type 0} (t : Taken) (shown : Option Indication) (move : Move) (old new : Listener) → t.first ≡ shown → t.more.items ≡ [] →
     t.reply ≡ option_map in_one move.reply → t.closes ≡ move.closes → new ≡ move.next → shown_list shown ≡ move.shown → Takes {E = E} (Ok t) move old new
-quiet_takes t shown move old new first more reply closes next is = record {
-  state = next;
-  shown = ap (λ l. shown_list t.first ++ map shown_by l) more ∙ append-nil (shown_list t.first) ∙ ap shown_list first ∙ is;
-  first = λ h. more;
-  reply = reply;
-  closes = closes;
-  err = tt;
-  memory = tt;
-}
+quiet_takes t shown move old new first more reply closes next is = grind arith
 
 pub takes_if : {E : Type 0} (result : Result Taken E) (s : Listener) (i j : Input) (old new : Listener) → j ≡ i →
     Takes result (react s i) old new → Takes result (react s j) old new

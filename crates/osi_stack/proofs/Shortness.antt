@@ -7,28 +7,20 @@ use Rattle.osi_spdu.specs.declared.kinds.Kind.TheVariants.{GiveTokens}
 use Rattle.osi_message.proofs.FittingLaws.{HaveRoom, spelled_fits}
 use Rattle.osi_message.proofs.PlainLaws.{data_written}
 use Rattle.osi_message.proofs.SendingLaws.{HaveDigits}
-use Rattle.osi_session.specs.Sound.{IsSound}
 use Rattle.osi_session.proofs.SentLaws.{sent_alone as call_alone, data_short as data_all_short}
 use Rattle.osi_session.specs.Allowed.{sends}
-use Rattle.osi_session.specs.declared.state.State.{State}
-use Rattle.osi_stack.proofs.Vocabulary.{nat_tests, Contents, Units, nothing, Meaning, DT, IsSendable, unit_with, unit_of, is_second, alone_units, behind_tokens, spelled, written, tsdus_of, sent_alone, sent_short as parts_short, limit_of, is_data, AreShort, allowed, Step, octets_of, most_of, Passed, Call, Accept, Refuse, Data, Give, Please, Minor, MinorConfirm, Major, MajorConfirm, Restart, RestartConfirm, Release, ReleaseAccept, ReleaseRefuse, Abort}
+use Rattle.osi_stack.proofs.Vocabulary.{nat_tests, Contents, Units, nothing, Meaning, DT, IsSendable, unit_with, unit_of, is_second, alone_units, behind_tokens, spelled, written, tsdus_of, sent_alone, sent_short as parts_short, limit_of, is_data, AreShort, allowed, Step, octets_of, most_of, Passed, Call, Accept, Refuse, Data, Give, Please, Minor, MinorConfirm, Major, MajorConfirm, Restart, RestartConfirm, Release, ReleaseAccept, ReleaseRefuse, Abort, IsSoundState as IsSound, SessionState as State}
 
 indicator_short : (b : Bool) (n : ℕ) → length (length_octets b n) ≤ 3
 indicator_short true n = omega arith
 indicator_short false n = omega arith
 
 item_short : (code : ℕ) (value : List ℕ) → length (written_item code value) ≤ 4 + length value
-item_short code value =
-    let total = length-append (length_octets (nat_lt 254 (length value)) (length value)) value in
-    let few = indicator_short (nat_lt 254 (length value)) (length value) in
-    omega arith
+item_short code value = grind arith
 
 unit_short : (unit : Contents) → UnitFits unit → length (unit_octets unit) < 65540
 unfolding unit_octets
-unit_short unit fits =
-    let few = item_short (si_of unit.kind) (body_octets unit.kind unit.known) in
-    let body : length (body_octets unit.kind unit.known) < 65536 = fits in
-    omega arith
+unit_short unit fits = grind arith
 
 one_short : (unit : Contents) → UnitFits unit → length (tsdu_octets (unit ∷ [])) < 65540 + length unit.information
 unfolding tsdu_octets
@@ -98,17 +90,4 @@ whole_short law s c x other h passed sendable = subst AreShort (sym (call_alone 
 -- each TSDU that it sends
 pub tsdus_short : SpduLaws → (s : State) (c : Call) (x : Step) → IsSound s → allowed s c ≡ Ok x → Passed s c x → IsSendable x.sent → AreShort (tsdus_of (limit_of s) x.sent)
 tsdus_short law s (Data octets) x sound h passed sendable = data_all_short parts_short s octets x sound h
-tsdus_short law s (Accept requirements serial sides sizes octets) x sound h passed sendable = whole_short law s (Accept requirements serial sides sizes octets) x refl h passed sendable
-tsdus_short law s (Refuse octets) x sound h passed sendable = whole_short law s (Refuse octets) x refl h passed sendable
-tsdus_short law s (Give tokens) x sound h passed sendable = whole_short law s (Give tokens) x refl h passed sendable
-tsdus_short law s (Please tokens octets) x sound h passed sendable = whole_short law s (Please tokens octets) x refl h passed sendable
-tsdus_short law s (Minor confirm octets) x sound h passed sendable = whole_short law s (Minor confirm octets) x refl h passed sendable
-tsdus_short law s (MinorConfirm n octets) x sound h passed sendable = whole_short law s (MinorConfirm n octets) x refl h passed sendable
-tsdus_short law s (Major octets) x sound h passed sendable = whole_short law s (Major octets) x refl h passed sendable
-tsdus_short law s (MajorConfirm octets) x sound h passed sendable = whole_short law s (MajorConfirm octets) x refl h passed sendable
-tsdus_short law s (Restart n wishes octets) x sound h passed sendable = whole_short law s (Restart n wishes octets) x refl h passed sendable
-tsdus_short law s (RestartConfirm sides octets) x sound h passed sendable = whole_short law s (RestartConfirm sides octets) x refl h passed sendable
-tsdus_short law s (Release octets) x sound h passed sendable = whole_short law s (Release octets) x refl h passed sendable
-tsdus_short law s (ReleaseAccept octets) x sound h passed sendable = whole_short law s (ReleaseAccept octets) x refl h passed sendable
-tsdus_short law s (ReleaseRefuse octets) x sound h passed sendable = whole_short law s (ReleaseRefuse octets) x refl h passed sendable
-tsdus_short law s (Abort octets) x sound h passed sendable = whole_short law s (Abort octets) x refl h passed sendable
+tsdus_short law s c x sound h passed sendable = subst AreShort (sym (call_alone sent_alone s c x h refl)) (call_short law s c x passed sendable, tt)

@@ -16,9 +16,7 @@ use Rattle.osi_stack.proofs.Comings.{attended_kept}
 -- ---- how many references were given
 
 rises_by : (r : ℕ) (old new : Carrier) → How r old new → old.given ≤ new.given
-rises_by r old new (inl kept) = let same = kept.given in omega arith
-rises_by r old new (inr (inl joined)) = let more = joined.given in omega arith
-rises_by r old new (inr (inr over)) = let same = over.given in omega arith
+rises_by r old new h3 = grind arith
 
 pub units_rise : (units : List Value) (c : Carrier) → c.given ≤ (reacts units c).given
 units_rise [] c = omega arith
@@ -72,9 +70,7 @@ sent_given r tsdu None c = refl
 sent_given r tsdu (Some link) c = refl
 
 closes_given : (r peer reason : ℕ) (class : Option Class) (c : Carrier) → (closes r peer reason class c).given ≡ c.given
-closes_given r peer reason None c = refl
-closes_given r peer reason (Some Two) c = refl
-closes_given r peer reason (Some Zero) c = refl
+closes_given r peer reason class c = grind arith
 
 pub closed_given : (r reason : ℕ) (o : Option (ℕ × Link)) (c : Carrier) → (closed_on r reason o c).given ≡ c.given
 closed_given r reason None c = refl
@@ -170,12 +166,7 @@ packet_sound laws packet e lasts none sound over =
 -- ---- calls
 
 pub fresh_sound : (is_caller : Bool) (local : Local) → IsSound (fresh_end is_caller local)
-fresh_sound is_caller local over = record {
-  orderly = orderly_fresh is_caller local;
-  apart = tt;
-  known = tt;
-  links = λ lasts r s is n. cc;
-}
+fresh_sound is_caller local over = grind arith
 
 called_not_opened : (call : Call) → called call ≡ opened → ⊥
 called_not_opened call e = cc
@@ -189,12 +180,7 @@ call_sound laws r call e sound over =
     let before : AllLinked (told.refused r 0 ∷ []) e = (λ q. record { needed = (l q).needed; fresh = (l q).fresh }) in
     let all = session_linked laws r (called call) (told.refused r 0) [] e (to_session r (called call) e) refl (session_hears r (called call) e) over
     (λ t is n h. (l r).needed t is (laws.linked t (called call) (called_not_opened call) n) h) before in
-    record {
-      orderly = f.orderly;
-      apart = session_apart r (called call) e s.apart;
-      known = f.known;
-      links = linked_links (to_session r (called call) e) (λ x. all);
-    }
+    search (session_apart r (called call) e s.apart, linked_links (to_session r (called call) e) (λ x. all))
 
 pub open_none : (o : Option OpenError) (error : Option ConnectError) → after_open o error ≡ None → o ≡ None
 open_none None error h = refl
@@ -235,12 +221,7 @@ connect_sound c e allowed sound over =
     let apart = apart_joins q (calls_with c) (record e { carrier = asked }) none s.apart in
     let l = asked_linked q (calls_with c) e asked none s.apart refl (links_linked e s.links over) (λ r. asks_opens calling to e.carrier r s.orderly) in
     let stays = (λ (r : ℕ). used_at r asked.live (joined_lines q (calls_with c) e.lines) (apart_push q (fresh_line (calls_with c)) e.lines none s.apart)) in
-    record {
-      orderly = orderly;
-      apart = apart;
-      known = (joins_fits q (calls_with c) (record e { carrier = asked }) (record { orderly = orderly; known = up_more e.carrier.given q e.lines (omega arith) s.known })).known;
-      links = linked_links (connects c e) (λ x r. l r (r == q) refl (stays r));
-    }
+    search ((joins_fits q (calls_with c) (record e { carrier = asked }) (record { orderly = orderly; known = up_more e.carrier.given q e.lines (omega arith) s.known })).known, linked_links (connects c e) (λ x r. l r (r == q) refl (stays r)))
 
 -- ---- indications and octets that go
 
@@ -272,14 +253,7 @@ first_sound e sound over =
     }
 
 pub carried_sound : (octets : ℕ) (e : End) → IsSound e → IsSound (carried octets e)
-carried_sound octets e sound over =
-    let s = sound over in
-    record {
-      orderly = orderly_same e.carrier (drop octets e.carrier.outgoing) e.carrier.events s.orderly;
-      apart = s.apart;
-      known = s.known;
-      links = s.links;
-    }
+carried_sound octets e sound over = grind arith
 
 over_sound : (e : End) → is_some e.carrier.ended ≡ true → IsSound e
 over_sound e over lasts = never e over lasts

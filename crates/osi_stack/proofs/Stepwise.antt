@@ -45,10 +45,7 @@ opened_heard P law r (Some line) e here p = law.moves (told.opened r) e p
 
 pub event_heard : (P : End → Type 0) → Hears P → (event : Happening) (e : End) → P e → P (hears event e)
 event_heard P law (told.opened r) e p = opened_heard P law r (value_at r e.lines) e refl p
-event_heard P law (told.refused r reason) e p = law.moves (told.refused r reason) e p
-event_heard P law (told.tsdu r octets) e p = law.moves (told.tsdu r octets) e p
-event_heard P law (told.closed r reason) e p = law.moves (told.closed r reason) e p
-event_heard P law (told.faulted r fault) e p = law.moves (told.faulted r fault) e p
+event_heard P law event e p = law.moves event e p
 
 -- what the carrier has still to tell is no matter
 abbrev pub Untold : (End → Type 0) → Type 0

@@ -8,12 +8,8 @@ use Rattle.osi_stack.proofs.InLive.{or_either}
 -- ---- what happens to a session
 
 pub unopened : (input : Input) → (input ≡ opened → ⊥) → is_opened input ≡ false
-unopened (called call) other = refl
-unopened (taken words) other = refl
-unopened (unread fault) other = refl
 unopened opened other = absurd (other refl)
-unopened (refused reason) other = refl
-unopened broken other = refl
+unopened input other = refl
 
 pub record Published : Type 0 where
   pub over : (s : Listener) (inputs : List Input) → is_over s.state.phase ≡ true → is_over (after_inputs s inputs).state.phase ≡ true

@@ -21,14 +21,14 @@ pub use Rattle.osi_carrier.proofs.Reacts.{none_of, react_over}
 pub use Rattle.osi_carrier.proofs.Reading.{acts_cases, packets_leave, packets_more}
 pub use Rattle.osi_carrier.proofs.ToldOpen.{asks_opens, closed_opens, packet_opens, sent_opens}
 pub use Rattle.osi_carrier.specs.Calls.{Tells, asks, close_error, closed_on, closed_with, closes, ended_by, kept_in, lengths_error, link_of, may_connect, open_link, send_all_error, send_error, sent, sent_all, sent_on, tsaps_at}
-pub use Rattle.osi_carrier.specs.Happenings.{Happening, closed, faulted, happening, tsdu}
+pub use Rattle.osi_carrier.specs.Happenings.{Happening, closed, faulted, happening, tsdu, opened as told_opened, refused as told_refused}
 pub use Rattle.osi_carrier.specs.Orderly.{AreUpTo, IsOrderly, RiseFrom, connection_of, told_of}
 pub use Rattle.osi_carrier.specs.Packets.{ActsBy, Carrying, HasToHold, acts_by, is_spoilt}
 pub use Rattle.osi_carrier.specs.React.{answers_request, before_class, denies, has_peer, in_class, in_two, in_zero, is_full, leaves, react_by, reacts, taking, tells_of, to_asked, to_closing, to_connection, to_linked, to_only, to_reference, to_unknown}
 pub use Rattle.osi_carrier.specs.Rows.{Rows, place_of, put, value_at, without}
 pub use Rattle.osi_carrier.specs.Runs.Act.{packet, user}
-pub use Rattle.osi_carrier.specs.Runs.UserCall.{sends}
-pub use Rattle.osi_carrier.specs.State.{Connection, State, TsapIds, asked, closing, drops, linked}
+pub use Rattle.osi_carrier.specs.Runs.UserCall.{sends, connects as connects_call}
+pub use Rattle.osi_carrier.specs.State.{Connection, State, TsapIds, asked, closing, drops, linked, ends as carrier_ends}
 pub use Rattle.osi_carrier.specs.Told.{is_open, open_after}
 pub use Rattle.osi_carrier.specs.declared.ends.CarrierFault.TheVariants.{Tpkt}
 pub use Rattle.osi_carrier.specs.declared.ends.EndReason.{EndReason}
@@ -62,11 +62,13 @@ pub use Rattle.osi_session.specs.Runs.{HasNumbersInWords, IsFresh}
 pub use Rattle.osi_session.specs.Sessions.{Takes, asking, awaiting, awaits, is_memory, is_quiet, takes_memory}
 pub use Rattle.osi_session.specs.Shown.{Lost, Shown, shown_by}
 pub use Rattle.osi_session.specs.Sizes.{is_data, limit_of}
+pub use Rattle.osi_session.specs.Sound.{IsSound as IsSoundState}
 pub use Rattle.osi_session.specs.declared.faults.CallError.{CallError}
 pub use Rattle.osi_session.specs.declared.faults.CallError.TheVariants.{NoSuchConnection}
 pub use Rattle.osi_session.specs.declared.indications.Indication.{Indication}
 pub use Rattle.osi_session.specs.declared.opening.Opening.{Opening}
 pub use Rattle.osi_session.specs.declared.phases.Phase.{Phase}
+pub use Rattle.osi_session.specs.declared.state.State.{State as SessionState}
 pub use Rattle.osi_spdu.specs.Fields.{bits_of, unit_bits}
 pub use Rattle.osi_spdu.specs.Known.{Contents, Units, nothing}
 pub use Rattle.osi_spdu.specs.Reading.{tsdu_at}
@@ -96,7 +98,7 @@ pub use Rattle.osi_stack.specs.Needs.{needs_memory, session_needs}
 pub use Rattle.osi_stack.specs.Ordered.{IsLowest, IsOrdered, TellsLowest}
 pub use Rattle.osi_stack.specs.Rounds.{AreInStep, IsCalled, MayAsk, MayCall, Round, RoundsAlong, RoundsAsking, RoundsBy, UserCall, WaitForLive, calls_of, user_does}
 pub use Rattle.osi_stack.specs.Rounds.UserCall.{breaking, calling, connecting}
-pub use Rattle.osi_stack.specs.Runs.{Account, AreAlike, AreAlikeByReference, AreAlikeInLive, Calls, CallsAlong, CallsInRoom, HasRoom, LookAlike, Reads, account_along, account_of, carried_in, hushed, live_lines, pruned, put_back, quieted, told_in, used_in, with_packet, with_packets}
+pub use Rattle.osi_stack.specs.Runs.{Account, AreAlike, AreAlikeByReference, AreAlikeInLive, Calls, CallsAlong, CallsInRoom, HasRoom, LookAlike, Reads, account_along, account_of, carried_in, hushed, live_lines, pruned, put_back, quieted, told_in, used_in, with_packet, with_packets, Call as EndCall}
 pub use Rattle.osi_stack.specs.Runs.Call.{carrying, feeding, telling}
 pub use Rattle.osi_stack.specs.Selectors.{Selectors, selectors_of, selectors_said, selectors_told, session_selectors, shows_connect}
 pub use Rattle.osi_stack.specs.Settled.{IsGone, IsSettled}

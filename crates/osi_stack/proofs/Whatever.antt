@@ -1,8 +1,7 @@
 -- Rounds in which connections are asked for whatever waits: two runs in step come to the same but for lines of
 -- connections that are gone.
 use Rattle.std.proofs.Common.{◌≡◌, ℕ, ◌<◌, ◌^◌, true, false, List, [], ◌++◌, Option, Some, None, is_some, refl, sym, ap, ◌∙◌, if◌then◌else◌}
-use Rattle.osi_stack.specs.Runs.{Call}
-use Rattle.osi_stack.proofs.Vocabulary.{flat_map, IsPartial, PacketLaws, OneCut, value_at, Connection, Tpkt, EndReason, Broken, Fault, Call as SessionCall, Listener, called, Shown, connects, connect_error, call_error, after_packet, ends, all_waiting, to_session, UserCall, user_does, Round, MayAsk, RoundsAsking, calls_of, AreInStep, connecting, calling, breaking, hushed, put_back, pruned, Account, account_of, with_packet, CallsInRoom, used_in, told_in, carried_in, AreAlikeInLive, IsSettled, End, Holding, waits, Connect}
+use Rattle.osi_stack.proofs.Vocabulary.{flat_map, IsPartial, PacketLaws, OneCut, value_at, Connection, Tpkt, EndReason, Broken, Fault, Call as SessionCall, Listener, called, Shown, connects, connect_error, call_error, after_packet, ends, all_waiting, to_session, UserCall, user_does, Round, MayAsk, RoundsAsking, calls_of, AreInStep, connecting, calling, breaking, hushed, put_back, pruned, Account, account_of, with_packet, CallsInRoom, used_in, told_in, carried_in, AreAlikeInLive, IsSettled, End, Holding, waits, Connect, EndCall as Call}
 use Rattle.osi_stack.proofs.Accounts.{made}
 use Rattle.osi_stack.proofs.Asked.{waits_asked, connects_pruned, connects_back}
 use Rattle.osi_stack.proofs.Attending.{session_attended, connect_attended}
@@ -39,13 +38,7 @@ one_packet z unit lasts f quiet =
 like_packet : SessionLaws → StillWaits → (x y : Account) (unit : List ℕ) → x.end.carrier.ended ≡ None → LikeInLive x y → LikeInLive (with_packet x unit) (with_packet y unit)
 like_packet laws law x y unit lasts h =
     let still = sym (ended_same x y h) ∙ lasts in
-    record {
-      same = one_packet x unit lasts h.left h.quiet ∙ ap (λ (z : Account). pruned_account (with_packet z unit)) h.same ∙ sym (one_packet y unit still h.right h.quiet_too);
-      left = fit_hushed [] (after_packet x.end unit) (fit_packet laws law unit x.end lasts h.left);
-      right = fit_hushed [] (after_packet y.end unit) (fit_packet laws law unit y.end still h.right);
-      quiet = none_waits (after_packet x.end unit).lines;
-      quiet_too = none_waits (after_packet y.end unit).lines;
-    }
+    search (one_packet x unit lasts h.left h.quiet ∙ ap (λ (z : Account). pruned_account (with_packet z unit)) h.same ∙ sym (one_packet y unit still h.right h.quiet_too), fit_hushed [] (after_packet x.end unit) (fit_packet laws law unit x.end lasts h.left), fit_hushed [] (after_packet y.end unit) (fit_packet laws law unit y.end still h.right), none_waits (after_packet x.end unit).lines, none_waits (after_packet y.end unit).lines)
 
 -- ---- an end
 
@@ -59,13 +52,7 @@ one_end z reason lasts f quiet =
 like_end : (x y : Account) (reason : EndReason) → x.end.carrier.ended ≡ None → LikeInLive x y → LikeInLive (ended reason x) (ended reason y)
 like_end x y reason lasts h =
     let still = sym (ended_same x y h) ∙ lasts in
-    record {
-      same = one_end x reason lasts h.left h.quiet ∙ ap (λ (z : Account). pruned_account (ended reason z)) h.same ∙ sym (one_end y reason still h.right h.quiet_too);
-      left = fit_hushed [] (ends reason x.end) (fit_over (ends reason x.end) refl);
-      right = fit_hushed [] (ends reason y.end) (fit_over (ends reason y.end) refl);
-      quiet = none_waits (ends reason x.end).lines;
-      quiet_too = none_waits (ends reason y.end).lines;
-    }
+    search (one_end x reason lasts h.left h.quiet ∙ ap (λ (z : Account). pruned_account (ended reason z)) h.same ∙ sym (one_end y reason still h.right h.quiet_too), fit_hushed [] (ends reason x.end) (fit_over (ends reason x.end) refl), fit_hushed [] (ends reason y.end) (fit_over (ends reason y.end) refl), none_waits (ends reason x.end).lines, none_waits (ends reason y.end).lines)
 
 -- ---- a call of a session
 
@@ -84,23 +71,13 @@ one_call r call z here lasts f quiet =
     (session_alike r (called call) z.end here (f.sound lasts).known (fit_still z.end lasts f quiet)))
 
 fit_call : SessionLaws → StillWaits → (r : ℕ) (call : SessionCall) (e : End) → IsFit e → IsFit (to_session r (called call) e)
-fit_call laws law r call e f = record {
-  attended = session_attended r (called call) e f.attended;
-  sound = call_sound laws r call e f.sound;
-  asks = call_asked law r call e f.asks;
-}
+fit_call laws law r call e f = search (session_attended r (called call) e f.attended, call_sound laws r call e f.sound, call_asked law r call e f.asks)
 
 like_call : SessionLaws → StillWaits → (r : ℕ) (call : SessionCall) (x y : Account) → is_live x.end.carrier r ≡ true → is_live y.end.carrier r ≡ true → x.end.carrier.ended ≡ None → LikeInLive x y →
     LikeInLive (called_by (calling r call) x) (called_by (calling r call) y)
 like_call laws law r call x y here there lasts h =
     let still = sym (ended_same x y h) ∙ lasts in
-    record {
-      same = one_call r call x here lasts h.left h.quiet ∙ ap (λ (z : Account). pruned_account (called_by (calling r call) z)) h.same ∙ sym (one_call r call y there still h.right h.quiet_too);
-      left = fit_hushed [] (to_session r (called call) x.end) (fit_call laws law r call x.end h.left);
-      right = fit_hushed [] (to_session r (called call) y.end) (fit_call laws law r call y.end h.right);
-      quiet = none_waits (to_session r (called call) x.end).lines;
-      quiet_too = none_waits (to_session r (called call) y.end).lines;
-    }
+    search (one_call r call x here lasts h.left h.quiet ∙ ap (λ (z : Account). pruned_account (called_by (calling r call) z)) h.same ∙ sym (one_call r call y there still h.right h.quiet_too), fit_hushed [] (to_session r (called call) x.end) (fit_call laws law r call x.end h.left), fit_hushed [] (to_session r (called call) y.end) (fit_call laws law r call y.end h.right), none_waits (to_session r (called call) x.end).lines, none_waits (to_session r (called call) y.end).lines)
 
 -- ---- a connection is asked for
 
@@ -117,21 +94,11 @@ one_asked t o c e lasts f =
     ∙ ap (λ (w : List (ℕ × Shown)). made (pruned (connects c (pruned (put_back o (hushed e))))) (t ++ w)) (waits_asked c e)
 
 fit_connect : (c : Connect) (e : End) → connect_error c e ≡ None → IsFit e → IsFit (connects c e)
-fit_connect c e allowed f = record {
-  attended = connect_attended c e f.attended;
-  sound = connect_sound c e allowed f.sound;
-  asks = connect_asked c e f.sound f.asks;
-}
+fit_connect c e allowed f = search (connect_attended c e f.attended, connect_sound c e allowed f.sound, connect_asked c e f.sound f.asks)
 
 like_asked : (t : List (ℕ × Shown)) (o : List ℕ) (a : End) (u : List (ℕ × Shown)) (p : List ℕ) (b : End) (c : Connect) → a.carrier.ended ≡ None → connect_error c a ≡ None → connect_error c b ≡ None →
     LikeInLive (account_of t o a) (account_of u p b) → LikeInLive (account_of t o (connects c a)) (account_of u p (connects c b))
-like_asked t o a u p b c lasts may might h = record {
-  same = one_asked t o c a lasts h.left ∙ ap (asked_of c) h.same ∙ sym (one_asked u p c b (sym (ended_same (account_of t o a) (account_of u p b) h) ∙ lasts) h.right);
-  left = fit_hushed o (connects c a) (fit_connect c a may (fit_back o a h.left));
-  right = fit_hushed p (connects c b) (fit_connect c b might (fit_back p b h.right));
-  quiet = none_waits (connects c a).lines;
-  quiet_too = none_waits (connects c b).lines;
-}
+like_asked t o a u p b c lasts may might h = search (one_asked t o c a lasts h.left ∙ ap (asked_of c) h.same ∙ sym (one_asked u p c b (sym (ended_same (account_of t o a) (account_of u p b) h) ∙ lasts) h.right), fit_hushed o (connects c a) (fit_connect c a may (fit_back o a h.left)), fit_hushed p (connects c b) (fit_connect c b might (fit_back p b h.right)), none_waits (connects c a).lines, none_waits (connects c b).lines)
 
 -- ---- a call of the user
 
