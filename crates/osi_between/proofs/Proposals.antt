@@ -106,7 +106,7 @@ zero_open i j least most least_j most_j =
     let right = zero_link j in
     let there = begins left right (refl, refl, refl) (refl, refl, refl) in
     let back = begins right left (refl, refl, refl) (refl, refl, refl) in
-    search (none_short (under_way (opened_pair left right)) there.1, none_short (under_way (opened_pair right left)) back.1, zero_settled i least most, zero_settled j least_j most_j)
+    search (none_short (under_way (opened_pair left right)) there.1, zero_settled i least most, zero_settled j least_j most_j)
 
 -- with the size of this proposal
 abbrev size_chosen : Local → Option ℕ → Option ℕ

@@ -92,11 +92,7 @@ fetched_packet proper nothing old new octets fed held packet taken stands progre
 -- ---- a packet that is passed by
 
 pub passed_reading : IsPartial [] → (old new : Held) (unit piece : List ℕ) → Passes old unit piece new → IsHolding new → IsReading new
-passed_reading nothing old new unit piece p holding = record {
-  holding = holding;
-  partial = subst IsPartial (sym (ap (λ (h : Held). h.octets) p.after ∙ p.empty)) nothing;
-  fault = ap (λ (h : Held). h.fault) p.after ∙ p.faultless;
-}
+passed_reading nothing old new unit piece p holding = search (subst IsPartial (sym (ap (λ (h : Held). h.octets) p.after ∙ p.empty)) nothing, ap (λ (h : Held). h.fault) p.after ∙ p.faultless)
 
 pub passed_packet : IsPartial [] → (old new : Carrying) (octets packet : List ℕ) → Passes old.held packet octets new.held → IsHolding new.held →
     Acts old.state packet new.state → PacketActs old octets (4 + length packet) new

@@ -152,13 +152,7 @@ lasts_on laws old call new later none one lasts =
     (subst (λ l. ArePackets lasts.units l lasts.rest) (sym (append_assoc old.held.octets (used_in call) later)) lasts.packets) one.packets in
     let state : put_back (told_in call) (carried_in call) new.state ≡ all_done (map packet vs) old.state = one.state ∙ ap (λ l. all_done l old.state) acts in
     let behind = parted_lasts old lasts.units vs parted.more parted.all lasts.lasts in
-    record {
-      units = parted.more;
-      rest = lasts.rest;
-      packets = parted.packets;
-      partial = lasts.partial;
-      lasts = ap (λ (s : State). s.ended) (sym (apart_all (told_in call) (carried_in call) (map packet parted.more) new.state) ∙ ap (all_done (map packet parted.more)) state) ∙ behind;
-    }
+    search (ap (λ (s : State). s.ended) (sym (apart_all (told_in call) (carried_in call) (map packet parted.more) new.state) ∙ ap (all_done (map packet parted.more)) state) ∙ behind)
 
 abbrev LastsOrStarves : Carrying → Type 0
 LastsOrStarves new = (new.state.ended ≡ None) ⊎ (new.state.ended ≡ Some NoMemory)
