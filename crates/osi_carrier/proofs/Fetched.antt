@@ -1,7 +1,7 @@
 -- What the cutter answered, as the carrier's look at the stream.
 use Rattle.std.proofs.Common.{◌≡◌, ℕ, zero, suc, ◌+◌, ◌<◌, ◌≤◌, Bool, true, false, List, [], ◌++◌, length, take, drop, None, Result, Ok, Err, MatchBool, refl, sym, ap, subst, ◌∙◌, inl, inr, arith}
 use Rattle.osi_tpkt.specs.Cutter.{TakesPiece, Belongs, Passes}
-use Rattle.osi_carrier.proofs.Vocabulary.{append-nil, take-append-drop, take_all, length-take-le, Held, IsHolding, IsPacket, IsOnePacket, IsPartial, IsFaultOf, offset_of, Fed, TpktFault, BadVersion, BadLength, OutOfMemory, PacketActs, PartHeld, EndsOver, IsNoFront, Carrying, IsReading, HasToHold, Acts, after_refusal}
+use Rattle.osi_carrier.proofs.Vocabulary.{append-nil, take-append-drop, length-take-le, Held, IsHolding, IsPacket, IsOnePacket, IsPartial, IsFaultOf, offset_of, Fed, TpktFault, BadVersion, BadLength, OutOfMemory, PacketActs, EndsOver, IsNoFront, Carrying, IsReading, HasToHold, Acts, after_refusal}
 
 -- a proper prefix of a packet is no packet
 abbrev pub Proper : Type 0
