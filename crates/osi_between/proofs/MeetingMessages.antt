@@ -1,7 +1,7 @@
 -- What is under way of a connection, after each unit that one of its two carriers takes and after each call.
-use Rattle.std.proofs.Common.{◌≡◌, ℕ, zero, suc, ◌<◌, true, List, [], ◌∷◌, ◌++◌, map, take, Option, Some, None, refl, sym, ap, ◌∙◌, arith, append_assoc}
+use Rattle.std.proofs.Common.{◌≡◌, ℕ, ◌<◌, true, List, [], ◌∷◌, ◌++◌, map, take, Some, None, refl, sym, ap, ◌∙◌, arith, append_assoc}
 use Rattle.osi_between.specs.Meeting.{Carries}
-use Rattle.osi_between.proofs.Vocabulary.{flat_map, append-nil, map-append, Value, data0, disconnected, LinkPair, swapped, parts_under_way, under_way, under_way_before, fresh_ends, all_given, Joining, Standing, Given, unit_of, with_tsdu, zero_standing, tsdus_after, uncut, drained_leaves, Happening, tsdu, closed, pumped, handed_out, Connection, asked, linked, closing, Meeting, talking, left_here, left_there, left_both, waiting_here, waiting_there, parted, here, there, addressed, leaving, farewell, told_open, told_at, messages_back, messages_out, Message, message, bye, over, parting, messages_after, uncut_units, kind_of, AreLike, AreOpen, links, LeftTakes, after_take, after_send}
+use Rattle.osi_between.proofs.Vocabulary.{flat_map, append-nil, map-append, Value, data0, disconnected, LinkPair, swapped, parts_under_way, under_way, under_way_before, fresh_ends, all_given, Joining, Standing, Given, unit_of, with_tsdu, zero_standing, tsdus_after, uncut, drained_leaves, Happening, tsdu, closed, pumped, handed_out, Meeting, talking, left_here, left_there, left_both, waiting_here, waiting_there, parted, here, there, addressed, leaving, told_open, told_at, messages_back, messages_out, Message, message, bye, over, parting, messages_after, uncut_units, kind_of, AreLike, AreOpen, links, LeftTakes, after_take, after_send}
 use Rattle.osi_between.proofs.MessageLaws.{tsdu_messages, messages_behind, messages_front, kinds_begun, kinds_join}
 use Rattle.osi_between.proofs.Turned.{turned_any, turned_any_back, turned_take, turned_send}
 use Rattle.osi_between.proofs.Bringing.{same_like}

@@ -1,7 +1,7 @@
 -- How a connection stands after each unit that one of its two carriers takes, and after each call.
 use Rattle.std.proofs.Common.{is_none, ◌≡◌, ℕ, ◌<◌, ◌||◌, Bool, true, false, List, [], ◌∷◌, ◌++◌, map, take, Some, None, refl, sym, ap, subst, ◌∙◌, arith}
 use Rattle.osi_between.specs.Meeting.{Carries}
-use Rattle.osi_between.proofs.Vocabulary.{uncut_units, list_any, Changes, Brings, progress_in, leaves_use, there, append-nil, map-append, IsOctets, Value, disconnected, LinkPair, swapped, AreOfClass, IsShortTsdu, all_given, Standing, Given, part0, part2, ack, unit_of, is_of_two, with_tsdu, Two, sent, closed_with, tsdu, closed, react, handed_out, IsOrderly, value_at, linked, State, reference_of, AreFor, is_last, Meeting, talking, left_here, left_there, left_both, waiting_here, waiting_there, parted, mirror, here, addressed, leaving, farewell, out, back, Stands, answers_of, Moves, AgreeIn, AreOpen, after_take, after_send, Message, message, bye, over, messages_after}
+use Rattle.osi_between.proofs.Vocabulary.{uncut_units, list_any, Changes, Brings, progress_in, leaves_use, there, append-nil, map-append, IsOctets, Value, disconnected, LinkPair, swapped, AreOfClass, IsShortTsdu, all_given, Standing, Given, unit_of, is_of_two, with_tsdu, Two, sent, closed_with, tsdu, closed, react, handed_out, IsOrderly, value_at, linked, State, reference_of, AreFor, is_last, Meeting, talking, left_here, left_there, left_both, waiting_here, waiting_there, parted, mirror, here, addressed, leaving, farewell, out, back, Stands, answers_of, Moves, AgreeIn, AreOpen, after_take, after_send, Message, message, bye, over, messages_after}
 use Rattle.osi_between.proofs.Bringing.{brings_given, brings_sent, brings_shut, brings_ignored, brings_bye, brings_crossed}
 use Rattle.osi_between.proofs.MeetingMessages.{parting_is, talking_takes, talking_sends, talking_closes, behind_takes, behind_sends, leaving_takes, behind_closes, ignores, kinds_first, both_takes, waiting_over, waiting_crossed}
 use Rattle.osi_between.proofs.Changes.{given_changes, given_ignored, leaving_changes, crossed_changes, over_changes, send_changes, close_changes}

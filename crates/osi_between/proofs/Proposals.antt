@@ -1,5 +1,5 @@
 -- The CR of a caller before a class holds: that it can be written, and what it is answered.
-use Rattle.std.proofs.Common.{◌≡◌, ℕ, ◌<◌, ◌≤◌, ◌^◌, ◌-◌, Bool, true, false, not, ◌&&◌, ◌||◌, List, min, Option, Some, None, option_map, refl, sym, ap, subst, ◌∙◌, ◌⊎◌, inl, inr, arith, if◌then◌else◌}
+use Rattle.std.proofs.Common.{◌≡◌, ℕ, ◌<◌, ◌≤◌, ◌^◌, ◌-◌, Bool, true, false, not, ◌&&◌, ◌||◌, List, min, Option, Some, None, option_map, refl, sym, ap, subst, ◌∙◌, ◌⊎◌, arith, if◌then◌else◌}
 use Rattle.osi_between.specs.Zero.{answer_of}
 use Rattle.osi_between.proofs.Vocabulary.{pow-le-pow_right, size_code, Connect, IsConnect, request, confirm, opened_pair, under_way, fresh_ends, Standing, zero_standing, accept, refuse, selected_by, selected_size, Class, Zero, Local, begins, IsSendable, proposal_by, proposal, proposes_zero, confirmed, agreed_size, opened_link, IsTsap, AreOpen, IsSettled, by_two, by_zero, refusing, terms_of, IsProposed}
 use Rattle.osi_between.proofs.Openings.{asked_sendable, no_octets, none_short}
