@@ -1,5 +1,5 @@
 -- Where an end acts, two carriers stand between as they should, whatever has become of them.
-use Rattle.std.proofs.Common.{◌≡◌, ◌≢◌, ℕ, ◌+◌, ◌≤◌, ◌||◌, Bool, true, false, not, List, [], ◌++◌, length, Option, Some, None, is_some, IfSome, if◌then◌else◌, refl, sym, ap, subst, ◌∙◌, append_assoc, arith, ◌⊎◌, inl, inr}
+use Rattle.std.proofs.Common.{◌≡◌, ◌≢◌, ℕ, ◌+◌, ◌≤◌, ◌||◌, Bool, true, false, not, List, [], ◌++◌, length, Option, Some, None, is_some, IfSome, refl, sym, ap, subst, ◌∙◌, append_assoc, arith, ◌⊎◌, inl, inr}
 use Rattle.osi_between.specs.Between.{under_way}
 use Rattle.osi_between.proofs.Vocabulary.{flat_map, AllByRecursion, append-nil, append_cancel_right, Value, IsSendable, place_at, connection_in, Connection, State, packets, EndReason, units_of, AreFor, Both, side, reach_of, within_reach, arriving, Between, last_of, units_from, lost_from, IsOnTheWay, AreJoinedBy, AreBetween, is_cut, to_come, told_of, put_in, Carries, Acted, becomes, progress_of, BringsTo, under_way_for, ActsFor, Message, messages_to, messages_after, begun_at, AreLike, references_for, class_behind_all, leaves_use, Terms, by_two, accepts_in, class_of}
 use Rattle.osi_between.proofs.Addressing.{units_join, units_same, units_other}

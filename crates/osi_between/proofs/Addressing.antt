@@ -1,6 +1,6 @@
 -- The units for one connection among those of all, and the references that they ask for.
-use Rattle.std.proofs.Common.{◌≡◌, ◌≢◌, ℕ, zero, suc, ◌+◌, ◌==◌, Bool, true, false, List, [], ◌∷◌, ◌++◌, refl, sym, ap, ◌∙◌, arith, if◌then◌else◌}
-use Rattle.osi_between.proofs.Vocabulary.{eq-eqb, ne_eqb, flat_map-append, Value, request, confirm, disconnect, disconnected, data0, data2, acknowledge, error, reference_of, units_of, AreFor, asked_by, requests, behind, live_behind, live_after, HasPlace, HasPlaces}
+use Rattle.std.proofs.Common.{◌≡◌, ◌≢◌, ℕ, zero, suc, ◌+◌, ◌==◌, Bool, true, List, [], ◌∷◌, ◌++◌, refl, sym, ap, ◌∙◌, arith, if◌then◌else◌}
+use Rattle.osi_between.proofs.Vocabulary.{eq-eqb, ne_eqb, flat_map-append, Value, reference_of, units_of, AreFor, asked_by, requests, behind, live_behind, live_after, HasPlace, HasPlaces}
 
 pub units_of_by : (n : ℕ) (u : Value) (us : List Value) (b : Bool) → (reference_of u == n) ≡ b → units_of n (u ∷ us) ≡ (if b then u ∷ units_of n us else units_of n us)
 units_of_by n u us b e = ap (λ (c : Bool). if◌then◌else◌ {A = List Value} c (u ∷ units_of n us) (units_of n us)) e

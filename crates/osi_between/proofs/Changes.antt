@@ -1,8 +1,8 @@
 -- What a carrier of class 2 does with a unit or a call for one connection.
-use Rattle.std.proofs.Common.{◌≡◌, ℕ, Bool, true, false, List, [], ◌∷◌, ◌++◌, map, take, Option, Some, None, Result, Ok, refl, sym, ap, subst, ◌∙◌, arith}
+use Rattle.std.proofs.Common.{◌≡◌, ℕ, Bool, true, List, [], ◌∷◌, ◌++◌, map, take, Option, Some, None, Result, Ok, refl, sym, ap, subst, ◌∙◌, arith}
 use Rattle.osi_carrier.specs.Calls.{closes}
 use Rattle.osi_carrier.proofs.Places.{put_same}
-use Rattle.osi_between.proofs.Vocabulary.{append-nil, Value, disconnect, disconnected, all_given, Standing, Given, part0, part2, ack, unit_of, is_of_two, taken, with_tsdu, LinkFault, Class, Two, link_of, open_link, sent_on, sent, closed_on, closed_with, Happening, tsdu, closed, pumped, react, in_class, in_two, to_reference, to_connection, to_linked, to_closing, taking, handed_out, leaves, IsOrderly, value_at, put, without, Connection, linked, closing, State, packets, put_here, without_here, put_other, without_other, react_quiet, Changes, addressed, leaving}
+use Rattle.osi_between.proofs.Vocabulary.{append-nil, Value, disconnect, disconnected, all_given, Standing, Given, unit_of, is_of_two, taken, with_tsdu, LinkFault, Class, Two, link_of, open_link, sent_on, sent, closed_on, closed_with, Happening, tsdu, closed, pumped, react, in_class, in_two, to_reference, to_connection, to_linked, to_closing, taking, handed_out, leaves, IsOrderly, value_at, put, without, Connection, linked, closing, State, packets, put_here, without_here, put_other, without_other, react_quiet, Changes, addressed, leaving}
 
 -- ---- what changed
 

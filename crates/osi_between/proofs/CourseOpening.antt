@@ -1,7 +1,7 @@
 -- How a connection of class 2 is opened: the CR, the CC, and what the called end sends before the
 -- caller has it open.
-use Rattle.std.proofs.Common.{◌≡◌, ◌≢◌, ℕ, ◌+◌, ◌<◌, ◌≤◌, Bool, true, false, List, [], ◌∷◌, ◌++◌, map, Option, Some, None, refl, sym, ap, subst, ◌∙◌, inl, inr, arith, nat_lt, if◌then◌else◌}
-use Rattle.osi_between.proofs.Vocabulary.{ltb-false, ltb-true, append-nil, map-append, IsOctets, Value, Connect, request, confirm, LinkPair, swapped, opened_pair, under_way, IsShortTsdu, all_given, Standing, Given, with_tsdu, Selection, accept, selected_by, selected_size, Class, Two, Local, references, asks, sent, closed_with, Place, never, was_given, place_at, opened, proposal_by, IsOrderly, react, in_class, before_class, in_two, answers_request, answers, accepts, has_peer, is_full, opens, to_reference, to_connection, value_at, Connection, asked, linked, closing, State, packets, push_here, beyond, put_here, push_other, put_other, react_quiet, unasked, asking, accepting, withdrawing, met, answer_of, IsTsap, IsAskedBy, MayTakeTwo, IsAccepted, Acts, CourseMoves, talking, left_there, addressed, leaving, Message, ask, agree, message, bye, messages_after, uncut_units, kind_of, AreOpen, after_send, not_yet, awaiting, in_use, Brings}
+use Rattle.std.proofs.Common.{◌≡◌, ◌≢◌, ℕ, ◌+◌, ◌<◌, ◌≤◌, Bool, true, false, List, [], ◌∷◌, ◌++◌, map, Option, Some, None, refl, sym, ap, subst, ◌∙◌, inr, arith, nat_lt}
+use Rattle.osi_between.proofs.Vocabulary.{ltb-false, ltb-true, append-nil, map-append, IsOctets, Value, Connect, request, confirm, LinkPair, swapped, opened_pair, under_way, IsShortTsdu, all_given, Standing, Given, with_tsdu, Selection, accept, selected_by, selected_size, Class, Two, Local, references, asks, sent, closed_with, was_given, place_at, opened, proposal_by, IsOrderly, react, answers_request, answers, accepts, has_peer, is_full, opens, to_reference, value_at, Connection, asked, linked, closing, State, packets, push_here, beyond, put_here, push_other, put_other, react_quiet, unasked, asking, accepting, withdrawing, met, answer_of, IsTsap, IsAskedBy, MayTakeTwo, IsAccepted, Acts, CourseMoves, talking, left_there, addressed, leaving, Message, ask, agree, message, bye, messages_after, uncut_units, kind_of, AreOpen, after_send, not_yet, awaiting, in_use, Brings}
 use Rattle.osi_between.proofs.Bringing.{brings_none, brings_sent, brings_shut}
 use Rattle.osi_between.proofs.Changes.{send_changes, close_changes}
 use Rattle.osi_between.proofs.Courses.{given_place, acts_changed, place_changed, none_more}

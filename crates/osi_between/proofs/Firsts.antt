@@ -1,7 +1,7 @@
 -- What is told at one end of two carriers are the first of what was handed in at the other.
-use Rattle.std.proofs.Common.{◌≡◌, ◌≢◌, ℕ, ◌==◌, ◌||◌, Bool, true, false, not, List, [], ◌∷◌, ◌++◌, Option, Some, None, is_some, refl, sym, ap, subst, ◌∙◌, append_assoc, nat_lt, if◌then◌else◌, arith}
+use Rattle.std.proofs.Common.{◌≡◌, ◌≢◌, ℕ, ◌==◌, ◌||◌, Bool, true, false, not, List, [], ◌∷◌, ◌++◌, Some, None, is_some, refl, sym, ap, subst, ◌∙◌, append_assoc, nat_lt, if◌then◌else◌, arith}
 use Rattle.osi_between.specs.Between.{under_way}
-use Rattle.osi_between.proofs.Vocabulary.{flat_map, AllByRecursion, eq-eqb, eqb-true, append-nil, Value, Standing, Place, never, was_given, place_at, connection_in, Happening, opened, refused, tsdu, closed, faulted, value_at, Connection, asked, linked, closing, State, EndReason, AreFor, units_of, Both, side, Between, last_of, units_from, told_of, answers_in, put_in, is_cut, to_come, Carries, AreBetween, tsdus_told, tsdus_in, AreFirstOf, progress_of, told_asked, told_answer, told_opening, is_leaving, Message, ask, agree, deny, message, bye, over, messages_after, begun_at, AreLike, Progress, not_yet, awaiting, in_use, shutting, gone, may_arrive, behind_arrival, behind_arrivals, behind_put, behind_puts, leaves_use, Terms, by_two, by_zero, refusing, accepts_in}
+use Rattle.osi_between.proofs.Vocabulary.{flat_map, AllByRecursion, eq-eqb, eqb-true, append-nil, Value, Standing, Place, was_given, place_at, connection_in, Happening, tsdu, value_at, linked, State, AreFor, units_of, Both, side, Between, last_of, units_from, told_of, answers_in, put_in, is_cut, to_come, Carries, AreBetween, tsdus_told, tsdus_in, AreFirstOf, progress_of, told_asked, told_answer, told_opening, Message, message, over, messages_after, begun_at, AreLike, Progress, not_yet, awaiting, in_use, shutting, gone, may_arrive, behind_arrival, behind_arrivals, behind_put, behind_puts, leaves_use, Terms, by_two, by_zero, refusing, accepts_in}
 use Rattle.osi_between.proofs.Addressing.{units_join, units_same}
 use Rattle.osi_between.proofs.Betweens.{no_open}
 use Rattle.osi_between.proofs.Courses.{is_given}

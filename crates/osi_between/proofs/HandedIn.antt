@@ -1,7 +1,7 @@
 -- TSDUs that are handed in together between two carriers.
-use Rattle.std.proofs.Common.{◌≡◌, refl, sym, ◌∙◌, ap, subst, ℕ, ◌+◌, Bool, true, false, not, nat_lt, if◌then◌else◌, List, [], ◌∷◌, ◌++◌, map, Option, Some, None, is_some, arith, append_assoc}
+use Rattle.std.proofs.Common.{◌≡◌, refl, sym, ◌∙◌, ap, subst, ℕ, ◌+◌, Bool, false, not, nat_lt, if◌then◌else◌, List, [], ◌∷◌, ◌++◌, map, Option, Some, None, is_some, arith, append_assoc}
 use Rattle.osi_between.specs.Between.{under_way}
-use Rattle.osi_between.proofs.Vocabulary.{append-nil, map-append, flat_map, AllByRecursion, IsOctets, IsShortTsdu, Standing, sent, sent_all, Place, never, was_given, place_at, connection_in, value_at, Connection, asked, linked, closing, State, Both, Between, AreBetween, Acted, Carries, side, becomes, last_of, put_in, told_of, progress_of, BringsTo, Message, message, kind_of, AreLike, messages_after, begun_at, Progress, not_yet, awaiting, in_use, shutting, gone, behind_put, behind_puts, behind_arrivals, leaves_use, references_for, asks_in, class_behind_all, Terms, accepts_in, class_of}
+use Rattle.osi_between.proofs.Vocabulary.{append-nil, map-append, flat_map, AllByRecursion, IsOctets, IsShortTsdu, Standing, sent, sent_all, Place, never, was_given, place_at, connection_in, value_at, Connection, linked, State, Both, Between, AreBetween, Acted, Carries, side, becomes, last_of, put_in, told_of, progress_of, BringsTo, Message, message, AreLike, Progress, in_use, behind_puts, leaves_use, references_for, asks_in, class_behind_all, Terms, accepts_in, class_of}
 use Rattle.osi_between.proofs.Bringing.{brings_none, same_like}
 use Rattle.osi_between.proofs.Firsts.{message_put}
 

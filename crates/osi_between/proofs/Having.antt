@@ -1,9 +1,9 @@
 -- What two carriers have of a reference that the caller did not give, and before a class holds.
-use Rattle.std.proofs.Common.{◌≡◌, ℕ, ◌<◌, ◌≤◌, Bool, true, false, List, [], ◌∷◌, ◌++◌, ◌==◌, Option, Some, None, refl, sym, ap, ◌∙◌, arith, if◌then◌else◌}
+use Rattle.std.proofs.Common.{◌≡◌, ℕ, ◌<◌, ◌≤◌, Bool, true, false, List, [], ◌++◌, ◌==◌, Option, Some, None, refl, sym, ap, ◌∙◌, arith, if◌then◌else◌}
 use Rattle.osi_between.specs.Between.{under_way}
 use Rattle.osi_between.specs.Refusing as refusal
 use Rattle.osi_between.specs.Zero as zero
-use Rattle.osi_between.proofs.Vocabulary.{Value, Connect, request, Zero, Two, never, was_given, place_at, connection_in, value_at, Connection, asked, State, units_of, AreFor, Both, Between, AreJoinedBy, AreBetween, is_cut, to_come, Course, unasked, asking, accepting, withdrawing, met, at_end, from_end, Holds, AreJoined, addressed, messages_after, begun_at, AreRefusing, Refusal, rows_in, Terms, by_two, by_zero, refusing, AreJoinedZero, ZeroCourse, HasOne}
+use Rattle.osi_between.proofs.Vocabulary.{Value, never, was_given, place_at, connection_in, value_at, Connection, asked, State, units_of, AreFor, Both, Between, AreJoinedBy, AreBetween, is_cut, to_come, Course, at_end, from_end, Holds, AreJoined, addressed, messages_after, begun_at, AreRefusing, Refusal, rows_in, Terms, by_two, by_zero, refusing, ZeroCourse, HasOne}
 use Rattle.osi_between.proofs.Addressing.{units_join, units_other, front_none}
 use Rattle.osi_between.proofs.JoinedCalls.{next_never, not_asked}
 use Rattle.osi_between.proofs.JoinedMoves.{within_given, given_live}

@@ -4,7 +4,7 @@ use Rattle.osi_tpkt.specs.declared.faults.TpktFault.{TpktFault}
 use Rattle.osi_tpdu.specs.Packet.{units_of}
 use Rattle.osi_tpdu.specs.declared.faults.TpduFault.{TpduFault}
 use Rattle.osi_carrier.specs.Packets.{Acts}
-use Rattle.osi_between.proofs.Vocabulary.{IsPacket, IsFaultOf, Value, AreComing, after_packet, ActsBy, Starves, react, State, packets, ends, NoMemory, all_behind, packet_reacts, unit_read, alone_starved, starved_unit, fault_free, packets_join, Both, side, arriving, Between, units_from, lost_from, IsOnTheWay, AreBetween, Terms}
+use Rattle.osi_between.proofs.Vocabulary.{IsPacket, IsFaultOf, Value, AreComing, after_packet, ActsBy, Starves, react, State, ends, NoMemory, all_behind, packet_reacts, unit_read, alone_starved, starved_unit, fault_free, packets_join, Both, side, arriving, Between, units_from, lost_from, IsOnTheWay, AreBetween, Terms}
 use Rattle.osi_between.proofs.OnTheWay.{TakesFirst, way_takes}
 
 -- what is held and will arrive, and what a break took away, as packets of all units

@@ -1,7 +1,7 @@
 -- The caller asks for a connection; two new carriers are joined; and where nothing is on the way
 -- nothing is under way.
-use Rattle.std.proofs.Common.{◌≡◌, ℕ, ◌+◌, ◌<◌, Bool, true, false, List, [], ◌∷◌, ◌++◌, length, Option, Some, None, refl, sym, ap, subst, ◌∙◌, inl, inr, arith, if◌then◌else◌}
-use Rattle.osi_between.proofs.Vocabulary.{lt-ltb, Value, LinkPair, swapped, IsQuiet, Standing, Given, Local, quiet_unsent, nothing_begun, references, fresh_state, may_connect, asks, Place, never, was_given, place_at, connection_in, value_at, linked, State, free_of, orderly_asks, orderly_fresh, live_after, Course, unasked, asking, accepting, withdrawing, met, at_end, from_end, IsTsap, Holds, StandsBetween, AreJoined, Did, under_way_for, IsEmpty, talking, left_here, left_there, left_both, waiting_here, waiting_there, parted, addressed, ask, messages_to, messages_after, uncut_units, AreOpen}
+use Rattle.std.proofs.Common.{◌≡◌, ℕ, ◌+◌, ◌<◌, Bool, true, false, List, [], ◌∷◌, ◌++◌, length, Option, Some, None, refl, sym, ap, subst, ◌∙◌, inr, arith, if◌then◌else◌}
+use Rattle.osi_between.proofs.Vocabulary.{lt-ltb, Value, LinkPair, swapped, IsQuiet, Standing, Given, Local, quiet_unsent, nothing_begun, references, fresh_state, may_connect, asks, Place, never, was_given, place_at, value_at, linked, State, free_of, orderly_asks, orderly_fresh, live_after, Course, unasked, met, at_end, from_end, IsTsap, Holds, StandsBetween, AreJoined, Did, under_way_for, IsEmpty, talking, addressed, ask, AreOpen}
 use Rattle.osi_between.proofs.CourseOpening.{asks_moves}
 use Rattle.osi_between.proofs.JoinedAsks.{no_more_live}
 use Rattle.osi_between.proofs.JoinedMoves.{joined_caller, within_given, given_live}

@@ -1,6 +1,6 @@
 -- Where one end of two joined carriers acts, each connection stands as it should.
 use Rattle.std.proofs.Common.{◌≡◌, ◌≢◌, ℕ, ◌+◌, ◌<◌, ◌==◌, Bool, true, false, not, List, [], ◌++◌, Option, refl, sym, ap, subst, ◌∙◌, arith}
-use Rattle.osi_between.proofs.Vocabulary.{flat_map, eqb-true, eq-eqb, append-nil, append_cancel_left, Value, LinkPair, Local, Connect, Place, place_at, connection_in, Happening, Connection, State, units_of, AreFor, at_end, messages_from, told_opening, Course, unasked, asking, accepting, withdrawing, met, from_end, IsAskedBy, IsAccepted, HoldsAt, called_local, Acts, BringsTo, CourseMoves, progress_of, StandsBetween, under_way_for, ActsFor, Message, messages_to, AreLike, leaves_use}
+use Rattle.osi_between.proofs.Vocabulary.{flat_map, eqb-true, eq-eqb, append-nil, append_cancel_left, Value, LinkPair, Local, Connect, Place, place_at, connection_in, Happening, Connection, State, units_of, AreFor, at_end, messages_from, told_opening, Course, from_end, IsAskedBy, IsAccepted, HoldsAt, called_local, Acts, BringsTo, CourseMoves, progress_of, StandsBetween, under_way_for, ActsFor, Message, messages_to, AreLike, leaves_use}
 use Rattle.osi_between.proofs.Addressing.{units_join, units_same, units_other}
 use Rattle.osi_between.proofs.Openings.{caller_link}
 

@@ -1,5 +1,5 @@
 -- Two carriers behind a list of moves.
-use Rattle.std.proofs.Common.{arith, ◌≡◌, ℕ, Bool, true, false, List, [], ◌∷◌, Option, None, refl, sym, ap, subst, ◌∙◌, inl, inr}
+use Rattle.std.proofs.Common.{arith, ◌≡◌, ℕ, Bool, true, List, [], ◌∷◌, Option, None, refl, sym, ap, subst, ◌∙◌, inl, inr}
 use Rattle.osi_between.specs.Journey.{ends}
 use Rattle.osi_between.proofs.Vocabulary.{State, Closed, Both, side, Between, AreBetween, becomes, Took, Move, carries, takes, connects, hands_in, closes, tells, breaks, May, moved, MayAll, ended_behind, ended_by_all, StayBetween, Terms, by_two, by_zero, refusing}
 use Rattle.osi_between.proofs.Acting.{by_end, Each}

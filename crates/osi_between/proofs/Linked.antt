@@ -1,7 +1,7 @@
 -- Feeding octets that the other end wrote keeps two carriers joined.
-use Rattle.std.proofs.Common.{◌≡◌, ℕ, Bool, true, false, not, ◌≤◌, List, [], ◌∷◌, ◌++◌, length, take, drop, Option, None, refl, sym, ap, subst, ◌∙◌, inl, inr, arith}
+use Rattle.std.proofs.Common.{◌≡◌, ℕ, Bool, true, false, not, ◌≤◌, List, [], ◌∷◌, ◌++◌, length, take, drop, Option, None, refl, sym, ap, subst, inl, inr, arith}
 use Rattle.osi_between.specs.Linked.{AreLinked, with_state, with_events, TakesFor, WasFed}
-use Rattle.osi_between.proofs.Vocabulary.{Fed, Value, Local, fresh_state, AreComing, place_at, Happening, Carrying, Feeds, is_spoilt, react, State, EndReason, orderly_same, reference_of, TakesUnits, TakesSome, Course, unasked, asking, accepting, withdrawing, met, Holds, answers_at, StandsBetween, AreJoined, JoinedFrom, ActsFor, Did, Message}
+use Rattle.osi_between.proofs.Vocabulary.{Fed, Value, Local, fresh_state, AreComing, place_at, Happening, Carrying, Feeds, is_spoilt, react, State, EndReason, orderly_same, reference_of, TakesUnits, TakesSome, Course, Holds, answers_at, StandsBetween, AreJoined, JoinedFrom, ActsFor, Did, Message}
 use Rattle.osi_between.proofs.Taking.{feeds_some, more_coming}
 use Rattle.osi_between.proofs.JoinedCalls.{fresh_joined}
 use Rattle.osi_between.proofs.JoinedMoves.{seen, takes_one}

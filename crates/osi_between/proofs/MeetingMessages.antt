@@ -1,7 +1,7 @@
 -- What is under way of a connection, after each unit that one of its two carriers takes and after each call.
-use Rattle.std.proofs.Common.{◌≡◌, ℕ, zero, suc, ◌<◌, true, List, [], ◌∷◌, ◌++◌, map, take, Option, Some, None, refl, sym, ap, ◌∙◌, arith, append_assoc}
+use Rattle.std.proofs.Common.{◌≡◌, ℕ, ◌<◌, true, List, [], ◌∷◌, ◌++◌, map, take, Some, None, refl, sym, ap, ◌∙◌, arith, append_assoc}
 use Rattle.osi_between.specs.Meeting.{Carries}
-use Rattle.osi_between.proofs.Vocabulary.{flat_map, append-nil, map-append, Value, data0, disconnected, LinkPair, swapped, parts_under_way, under_way, under_way_before, fresh_ends, all_given, Joining, Standing, Given, unit_of, with_tsdu, zero_standing, tsdus_after, uncut, drained_leaves, Happening, tsdu, closed, pumped, handed_out, Connection, asked, linked, closing, Meeting, talking, left_here, left_there, left_both, waiting_here, waiting_there, parted, here, there, addressed, leaving, farewell, told_open, told_at, messages_back, messages_out, Message, message, bye, over, parting, messages_after, uncut_units, kind_of, AreLike, AreOpen, links, LeftTakes, after_take, after_send}
+use Rattle.osi_between.proofs.Vocabulary.{flat_map, append-nil, map-append, Value, data0, disconnected, LinkPair, swapped, parts_under_way, under_way, under_way_before, fresh_ends, all_given, Joining, Standing, Given, unit_of, with_tsdu, zero_standing, tsdus_after, uncut, drained_leaves, Happening, tsdu, closed, pumped, handed_out, Meeting, talking, left_here, left_there, left_both, waiting_here, waiting_there, parted, here, there, addressed, leaving, told_open, told_at, messages_back, messages_out, Message, message, bye, over, parting, messages_after, uncut_units, kind_of, AreLike, AreOpen, links, LeftTakes, after_take, after_send}
 use Rattle.osi_between.proofs.MessageLaws.{tsdu_messages, messages_behind, messages_front, kinds_begun, kinds_join}
 use Rattle.osi_between.proofs.Turned.{turned_any, turned_any_back, turned_take, turned_send}
 use Rattle.osi_between.proofs.Bringing.{same_like}
@@ -222,24 +222,10 @@ still_carries n old new arrived told leftward same = record {
   after = same_like (there n old) (messages_out n new) (messages_out n old ++ []) (same ∙ sym (append-nil (messages_out n old)));
 }
 
-abbrev pub left_ignores : (n : ℕ) (p : LinkPair) (g : Given) (gs : List Given) (reason : ℕ) → Carries n (left_here p (g ∷ gs) reason) (left_here p gs reason) [] []
-left_ignores n p g gs reason =
-    still_carries n (left_here p (g ∷ gs) reason) (left_here p gs reason) (messages_after [] (unit_of n g ∷ []))
-    (told_nothing (messages_after [] (unit_of n g ∷ [])) (told_at n (Some (closing n))) (λ m. refl))
-    (kinds_first (unit_of n g) (addressed n gs ++ uncut_units p.right.ends.unsent)) refl
-
-abbrev pub both_ignores : (n : ℕ) (hs : List Given) (reason : ℕ) (g : Given) (gs : List Given) (other : ℕ) →
-    Carries n (left_both hs reason (g ∷ gs) other) (left_both hs reason gs other) [] []
-both_ignores n hs reason g gs other =
-    still_carries n (left_both hs reason (g ∷ gs) other) (left_both hs reason gs other) (messages_after [] (unit_of n g ∷ []))
-    (told_nothing (messages_after [] (unit_of n g ∷ [])) (told_at n (Some (closing n))) (λ m. refl))
-    (kinds_first (unit_of n g) ((addressed n gs ++ leaving n other ∷ []) ++ [])) refl
-
-abbrev pub waiting_ignores : (n : ℕ) (g : Given) (gs : List Given) (last : Option ℕ) → Carries n (waiting_here (g ∷ gs) last) (waiting_here gs last) [] []
-waiting_ignores n g gs last =
-    still_carries n (waiting_here (g ∷ gs) last) (waiting_here gs last) (messages_after [] (unit_of n g ∷ []))
-    (told_nothing (messages_after [] (unit_of n g ∷ [])) (told_at n (Some (closing n))) (λ m. refl))
-    (kinds_first (unit_of n g) ((addressed n gs ++ farewell n last ∷ []) ++ [])) refl
+abbrev pub ignores : (n : ℕ) (old new : Meeting) (g : Given) → ((m : Message) → told_at n (here n old) m ≡ []) →
+    AreLike (here n new) (messages_back n old) (messages_after [] (unit_of n g ∷ []) ++ messages_back n new) → Still n old new → Carries n old new [] []
+ignores n old new g silent leftward same =
+    still_carries n old new (messages_after [] (unit_of n g ∷ [])) (told_nothing (messages_after [] (unit_of n g ∷ [])) (told_at n (here n old)) silent) leftward same
 
 abbrev pub both_takes : (n : ℕ) (hs : List Given) (reason other : ℕ) → 0 < n → Carries n (left_both hs reason [] other) (waiting_there hs (Some reason)) [] []
 both_takes n hs reason other some =

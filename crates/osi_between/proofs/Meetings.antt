@@ -1,9 +1,9 @@
 -- How a connection stands after each unit that one of its two carriers takes, and after each call.
 use Rattle.std.proofs.Common.{is_none, ◌≡◌, ℕ, ◌<◌, ◌||◌, Bool, true, false, List, [], ◌∷◌, ◌++◌, map, take, Some, None, refl, sym, ap, subst, ◌∙◌, arith}
 use Rattle.osi_between.specs.Meeting.{Carries}
-use Rattle.osi_between.proofs.Vocabulary.{list_any, Changes, Brings, progress_in, leaves_use, there, append-nil, map-append, IsOctets, Value, disconnected, LinkPair, swapped, AreOfClass, IsShortTsdu, all_given, Standing, Given, part0, part2, ack, unit_of, is_of_two, with_tsdu, Two, sent, closed_with, tsdu, closed, react, handed_out, IsOrderly, value_at, linked, State, reference_of, AreFor, is_last, Meeting, talking, left_here, left_there, left_both, waiting_here, waiting_there, parted, mirror, here, addressed, leaving, farewell, out, back, Stands, answers_of, Moves, AgreeIn, AreOpen, after_take, after_send, Message, message, bye, over, messages_after}
+use Rattle.osi_between.proofs.Vocabulary.{uncut_units, list_any, Changes, Brings, progress_in, leaves_use, there, append-nil, map-append, IsOctets, Value, disconnected, LinkPair, swapped, AreOfClass, IsShortTsdu, all_given, Standing, Given, unit_of, is_of_two, with_tsdu, Two, sent, closed_with, tsdu, closed, react, handed_out, IsOrderly, value_at, linked, State, reference_of, AreFor, is_last, Meeting, talking, left_here, left_there, left_both, waiting_here, waiting_there, parted, mirror, here, addressed, leaving, farewell, out, back, Stands, answers_of, Moves, AgreeIn, AreOpen, after_take, after_send, Message, message, bye, over, messages_after}
 use Rattle.osi_between.proofs.Bringing.{brings_given, brings_sent, brings_shut, brings_ignored, brings_bye, brings_crossed}
-use Rattle.osi_between.proofs.MeetingMessages.{parting_is, talking_takes, talking_sends, talking_closes, behind_takes, behind_sends, leaving_takes, behind_closes, left_ignores, both_ignores, waiting_ignores, both_takes, waiting_over, waiting_crossed}
+use Rattle.osi_between.proofs.MeetingMessages.{parting_is, talking_takes, talking_sends, talking_closes, behind_takes, behind_sends, leaving_takes, behind_closes, ignores, kinds_first, both_takes, waiting_over, waiting_crossed}
 use Rattle.osi_between.proofs.Changes.{given_changes, given_ignored, leaving_changes, crossed_changes, over_changes, send_changes, close_changes}
 use Rattle.osi_between.proofs.Sendables.{all_sendable, range_end, leaving_sendable, over_sendable}
 use Rattle.osi_between.proofs.Turned.{left_takes, sends_passes}
@@ -141,7 +141,7 @@ takes_quietly : (n : ℕ) (old new : Meeting) (s t : State) (unit : Value) → C
     back n old ≡ unit ∷ back n new → is_none (here n new) ≡ list_any is_last (unit ∷ []) → Stands new → (c : Carries n old new [] []) →
     Brings true (progress_in (here n old)) (progress_in (here n new)) (here n old) (here n new) (unit ∷ []) c.arrived [] →
     (leaves_use (progress_in (here n old)) (progress_in (here n new)) ≡ false → c.lost ≡ []) → Moves n old s t (unit ∷ []) []
-takes_quietly n old new s t unit changes same goes_out comes goes stands c brings keeps = search ([], [], goes_out ∙ sym (append-nil (out n old)))
+takes_quietly n old new s t unit changes same goes_out comes goes stands c brings keeps = search (goes_out ∙ sym (append-nil (out n old)))
 
 pub take_here : (n : ℕ) (s : State) (m : Meeting) (unit : Value) (rest : List Value) → 0 < n → n < 65536 → s.ended ≡ None → s.class ≡ Some Two → IsOrderly s →
     value_at n s.live ≡ here n m → Stands m → back n m ≡ unit ∷ rest → Moves n m s (react unit s) (unit ∷ []) (answers_of (here n m) unit)
@@ -150,7 +150,8 @@ take_here n s (left_there p hs reason) unit rest some few quiet class orderly at
 take_here n s (left_here p (g ∷ gs) reason) unit rest some few quiet class orderly at h b =
     at_head n (left_here p (g ∷ gs) reason) s (unit_of n g) unit (addressed n gs) rest [] refl b refl
     (takes_quietly n (left_here p (g ∷ gs) reason) (left_here p gs reason) s _ (unit_of n g) (given_ignored n s g quiet class orderly h.1.0 at) refl refl refl
-    (sym (ap (λ (b : Bool). b || false) (given_stays n g))) (h.0, h.1.1) (left_ignores n p g gs reason) (brings_ignored n g) (λ e. refl))
+    (sym (ap (λ (b : Bool). b || false) (given_stays n g))) (h.0, h.1.1)
+    (ignores n _ _ g (λ m. refl) (kinds_first (unit_of n g) (addressed n gs ++ uncut_units p.right.ends.unsent)) refl) (brings_ignored n g) (λ e. refl))
 take_here n s (left_both hs reason [] other) unit rest some few quiet class orderly at h b =
     at_head n (left_both hs reason [] other) s (leaving n other) unit [] rest [] refl b refl
     (takes_quietly n (left_both hs reason [] other) (waiting_there hs (Some reason)) s _ (leaving n other) (crossed_changes n s other quiet class orderly at) refl refl refl
@@ -158,7 +159,8 @@ take_here n s (left_both hs reason [] other) unit rest some few quiet class orde
 take_here n s (left_both hs reason (g ∷ gs) other) unit rest some few quiet class orderly at h b =
     at_head n (left_both hs reason (g ∷ gs) other) s (unit_of n g) unit (addressed n gs ++ leaving n other ∷ []) rest [] refl b refl
     (takes_quietly n (left_both hs reason (g ∷ gs) other) (left_both hs reason gs other) s _ (unit_of n g) (given_ignored n s g quiet class orderly h.1.0 at) refl refl refl
-    (sym (ap (λ (b : Bool). b || false) (given_stays n g))) (h.0, h.1.1) (both_ignores n hs reason g gs other) (brings_ignored n g) (λ e. refl))
+    (sym (ap (λ (b : Bool). b || false) (given_stays n g))) (h.0, h.1.1)
+    (ignores n _ _ g (λ m. refl) (kinds_first (unit_of n g) ((addressed n gs ++ leaving n other ∷ []) ++ [])) refl) (brings_ignored n g) (λ e. refl))
 take_here n s (waiting_here [] None) unit rest some few quiet class orderly at h b =
     at_head n (waiting_here [] None) s (disconnected n n) unit [] rest [] refl b refl
     (takes_quietly n (waiting_here [] None) parted s _ (disconnected n n) (over_changes n s quiet class orderly at) refl refl refl
@@ -170,7 +172,8 @@ take_here n s (waiting_here [] (Some reason)) unit rest some few quiet class ord
 take_here n s (waiting_here (g ∷ gs) last) unit rest some few quiet class orderly at h b =
     at_head n (waiting_here (g ∷ gs) last) s (unit_of n g) unit (addressed n gs ++ farewell n last ∷ []) rest [] refl b refl
     (takes_quietly n (waiting_here (g ∷ gs) last) (waiting_here gs last) s _ (unit_of n g) (given_ignored n s g quiet class orderly h.0 at) refl refl refl
-    (sym (ap (λ (b : Bool). b || false) (given_stays n g))) h.1 (waiting_ignores n g gs last) (brings_ignored n g) (λ e. refl))
+    (sym (ap (λ (b : Bool). b || false) (given_stays n g))) h.1
+    (ignores n _ _ g (λ m. refl) (kinds_first (unit_of n g) ((addressed n gs ++ farewell n last ∷ []) ++ [])) refl) (brings_ignored n g) (λ e. refl))
 take_here n s m unit rest some few quiet class orderly at h b = cc
 
 -- ---- calls here

@@ -1,6 +1,6 @@
 -- Units read as messages.
-use Rattle.std.proofs.Common.{◌≡◌, ℕ, true, false, List, [], ◌∷◌, ◌++◌, map, refl, ap}
-use Rattle.osi_between.proofs.Vocabulary.{Value, request, confirm, disconnect, disconnected, data0, data2, acknowledge, error, parts_under_way, Given, part0, part2, ack, tsdus_after, uncut, addressed, Message, ask, agree, message, over, parting, messages_after, uncut_units, kind_of}
+use Rattle.std.proofs.Common.{◌≡◌, ℕ, false, List, [], ◌∷◌, ◌++◌, map, refl, ap}
+use Rattle.osi_between.proofs.Vocabulary.{Value, data0, data2, acknowledge, error, parts_under_way, Given, part0, part2, ack, tsdus_after, uncut, addressed, Message, message, messages_after, uncut_units, kind_of}
 
 behind_one : (m : Message) (xs ys : List Message) → xs ≡ ys → m ∷ xs ≡ m ∷ ys
 behind_one m xs ys e = ap (λ (l : List Message). m ∷ l) e

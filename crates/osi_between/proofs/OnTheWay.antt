@@ -24,7 +24,6 @@ pub way_out : (reach : Option ℕ) (held outgoing : List ℕ) (going lost units 
     IsOnTheWay held (within_reach reach (outgoing ++ packets units)) (going_then reach going units) (lost_then reach lost units)
 way_out None held outgoing going lost units none bound w all = grind (arith, front_none, append_assoc, append-nil, packets_join, all_behind)
 way_out (Some k) held outgoing going lost units none bound w all = search (
-  w.never ++ packets units,
   ap (λ (l : List ℕ). held ++ l) (take-append-le k outgoing (packets units) bound) ∙ w.octets,
   sym (append_assoc w.front w.never (packets units)) ∙ ap (λ (l : List ℕ). l ++ packets units) w.rest ∙ sym (packets_join lost units),
   all_behind lost units w.sendable_lost all,

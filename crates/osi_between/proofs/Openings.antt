@@ -1,6 +1,5 @@
 -- Two links of class 2 as a CR and its CC open them.
-use Rattle.std.proofs.Common.{◌≡◌, ℕ, ◌<◌, Bool, false, ◌^◌, ◌≤◌, true, List, [], length, IfSome, min, Option, Some, refl, sym, subst, inl, arith}
-use Rattle.osi_tpdu.proofs.StepLaws.{IsOctets-cons}
+use Rattle.std.proofs.Common.{◌≡◌, ℕ, ◌<◌, Bool, ◌^◌, ◌≤◌, true, List, [], length, IfSome, min, Option, Some, refl, sym, subst, inl, arith}
 use Rattle.osi_class.proofs.Nothing as nothing
 use Rattle.osi_between.proofs.Vocabulary.{AllByRecursion, pow-le-pow_right, IsOctets, size_code, window_units, Connect, IsConnect, request, confirm, opened_pair, under_way, IsShortTsdu, Standing, two_standing, fresh_two, accept, selected_by, selected_size, Class, Two, Local, agree_begins, begins, IsSendable, proposal_by, proposes_zero, alternatives, confirmed, agreed_size, opened_link, answer_of, IsTsap, AreOpen, IsSettled}
 use Rattle.osi_between.proofs.Sendables.{request_sendable, confirm_sendable}

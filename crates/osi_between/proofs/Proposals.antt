@@ -1,5 +1,5 @@
 -- The CR of a caller before a class holds: that it can be written, and what it is answered.
-use Rattle.std.proofs.Common.{◌≡◌, ℕ, ◌<◌, ◌≤◌, ◌^◌, ◌-◌, Bool, true, false, not, ◌&&◌, ◌||◌, List, min, Option, Some, None, option_map, refl, sym, ap, subst, ◌∙◌, ◌⊎◌, inl, inr, arith, if◌then◌else◌}
+use Rattle.std.proofs.Common.{◌≡◌, ℕ, ◌<◌, ◌≤◌, ◌^◌, ◌-◌, Bool, true, false, not, ◌&&◌, ◌||◌, List, min, Option, Some, None, option_map, refl, sym, ap, subst, ◌∙◌, ◌⊎◌, arith, if◌then◌else◌}
 use Rattle.osi_between.specs.Zero.{answer_of}
 use Rattle.osi_between.proofs.Vocabulary.{pow-le-pow_right, size_code, Connect, IsConnect, request, confirm, opened_pair, under_way, fresh_ends, Standing, zero_standing, accept, refuse, selected_by, selected_size, Class, Zero, Local, begins, IsSendable, proposal_by, proposal, proposes_zero, confirmed, agreed_size, opened_link, IsTsap, AreOpen, IsSettled, by_two, by_zero, refusing, terms_of, IsProposed}
 use Rattle.osi_between.proofs.Openings.{asked_sendable, no_octets, none_short}
@@ -106,7 +106,7 @@ zero_open i j least most least_j most_j =
     let right = zero_link j in
     let there = begins left right (refl, refl, refl) (refl, refl, refl) in
     let back = begins right left (refl, refl, refl) (refl, refl, refl) in
-    search (none_short (under_way (opened_pair left right)) there.1, none_short (under_way (opened_pair right left)) back.1, zero_settled i least most, zero_settled j least_j most_j)
+    search (none_short (under_way (opened_pair left right)) there.1, zero_settled i least most, zero_settled j least_j most_j)
 
 -- with the size of this proposal
 abbrev size_chosen : Local → Option ℕ → Option ℕ

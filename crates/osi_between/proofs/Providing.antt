@@ -1,6 +1,6 @@
 -- What two joined carriers do in class 2, as it is put to use between them.
-use Rattle.std.proofs.Common.{◌≡◌, ℕ, ◌+◌, ◌<◌, Bool, true, false, List, [], ◌∷◌, ◌++◌, Option, Some, None, refl, sym, ap, subst, ◌∙◌, arith}
-use Rattle.osi_between.proofs.Vocabulary.{IsOctets, Value, IsShortTsdu, Standing, may_connect, asks, sent, closed_with, was_given, place_at, Happening, react, value_at, linked, State, reference_of, answers_in, IsTsap, Course, unasked, asking, accepting, withdrawing, met, at_end, answers_at, JoinedFrom, Did, Meeting, mirror, here, talking, left_here, left_there, left_both, waiting_here, waiting_there, parted, Message, ask, message, bye, Terms, by_two}
+use Rattle.std.proofs.Common.{◌≡◌, ℕ, ◌+◌, ◌<◌, Bool, true, List, [], ◌∷◌, ◌++◌, Option, Some, None, refl, sym, ap, subst, ◌∙◌, arith}
+use Rattle.osi_between.proofs.Vocabulary.{IsOctets, Value, IsShortTsdu, Standing, may_connect, asks, sent, closed_with, was_given, place_at, Happening, react, value_at, linked, State, reference_of, answers_in, IsTsap, Course, at_end, answers_at, JoinedFrom, Did, Meeting, here, Message, ask, message, bye, Terms, by_two}
 use Rattle.osi_between.proofs.Acting.{steps_two, JoinedAt, Does}
 use Rattle.osi_between.proofs.JoinedCalls.{caller_asks}
 use Rattle.osi_between.proofs.JoinedMoves.{seen, takes_one, sends, closes, given_live, within_given}

@@ -1,7 +1,7 @@
 -- What a caller's and a called end's carrier do of which the called end refuses each CR.
-use Rattle.std.proofs.Common.{◌≡◌, ℕ, ◌+◌, ◌<◌, ◌==◌, Bool, true, false, List, [], ◌∷◌, ◌++◌, length, Option, Some, None, refl, sym, ap, subst, ◌∙◌, inl, arith, nat_lt, if◌then◌else◌}
+use Rattle.std.proofs.Common.{◌≡◌, ℕ, ◌+◌, ◌<◌, ◌==◌, Bool, true, false, List, [], ◌∷◌, ◌++◌, length, Option, Some, None, refl, sym, ap, subst, ◌∙◌, arith, nat_lt, if◌then◌else◌}
 use Rattle.osi_between.specs.Refusing.{unasked, asking, from_end, Holds}
-use Rattle.osi_between.proofs.Vocabulary.{flat_map, eq-eqb, append-nil, IsOctets, Value, Connect, request, disconnect, IsShortTsdu, Standing, Selection, Class, may_connect, class_error, asks, sent, Place, never, was_given, place_at, connection_in, Happening, proposal, react, in_class, before_class, to_connection, to_asked, answers, denies, has_peer, is_full, Rows, value_at, without, Connection, asked, linked, State, packets, without_other, free_of, react_quiet, has_room, reference_of, units_of, AreFor, answers_in, told_of, IsTsap, BringsTo, under_way_for, Message, ask, deny, message, messages_to, not_yet, awaiting, Refusal, denied, rows_in, denying, AreRefusing, refusing, IsProposed}
+use Rattle.osi_between.proofs.Vocabulary.{flat_map, eq-eqb, append-nil, IsOctets, Value, Connect, request, disconnect, IsShortTsdu, Standing, Class, may_connect, class_error, asks, sent, Place, never, was_given, place_at, connection_in, Happening, proposal, react, to_asked, denies, Rows, value_at, without, Connection, asked, linked, State, packets, without_other, free_of, react_quiet, has_room, reference_of, AreFor, answers_in, told_of, IsTsap, BringsTo, under_way_for, Message, ask, deny, message, messages_to, not_yet, awaiting, Refusal, denied, rows_in, denying, AreRefusing, refusing, IsProposed}
 use Rattle.osi_between.proofs.Acting.{JoinedAt, Does}
 use Rattle.osi_between.proofs.Addressing.{units_same, none_left}
 use Rattle.osi_between.proofs.Bringing.{same_like, brings_none}

@@ -1,7 +1,7 @@
 -- The units that carriers write for each other go into packets.
-use Rattle.std.proofs.Common.{◌≡◌, ℕ, ◌+◌, ◌<◌, ◌≤◌, List, [], ◌∷◌, ◌++◌, length, Option, Some, None, IfSome, ap, ◌∙◌, arith, length-append}
+use Rattle.std.proofs.Common.{◌≡◌, ℕ, ◌+◌, ◌<◌, ◌≤◌, List, [], ◌∷◌, ◌++◌, length, Option, IfSome, ap, ◌∙◌, arith, length-append}
 use Rattle.osi_tpdu.specs.Spelling.{Item, item_octets, single}
-use Rattle.osi_between.proofs.Vocabulary.{flat_map, AllByRecursion, flat_map-append, IsOctets, Connect, Parameters, IsConnect, request, confirm, disconnect, disconnected, items_of, written_items, Given, part0, part2, ack, unit_of, HasGivenInRange, unit_fits, unit_length, IsSendable, addressed, leaving}
+use Rattle.osi_between.proofs.Vocabulary.{flat_map, AllByRecursion, flat_map-append, IsOctets, Connect, Parameters, IsConnect, request, confirm, disconnect, disconnected, items_of, written_items, Given, unit_of, HasGivenInRange, unit_fits, unit_length, IsSendable, addressed, leaving}
 
 -- ---- units of links
 

@@ -1,9 +1,9 @@
 -- Over every list of moves what is told at one end are the first of what was handed in at the other.
-use Rattle.std.proofs.Common.{◌≡◌, ℕ, ◌+◌, ◌||◌, Bool, true, false, not, List, [], ◌∷◌, ◌++◌, length, drop, Option, None, is_some, refl, sym, ap, subst, ◌∙◌, append_assoc, nat_lt, if◌then◌else◌, arith, inl, inr}
+use Rattle.std.proofs.Common.{◌≡◌, ℕ, ◌+◌, Bool, true, false, not, List, [], ◌∷◌, ◌++◌, length, drop, Option, None, is_some, refl, sym, ap, subst, ◌∙◌, append_assoc, nat_lt, if◌then◌else◌, arith, inl, inr}
 use Rattle.std.proofs.Math.Seq.{drop-append_seam}
 use Rattle.osi_between.specs.Between.{under_way}
 use Rattle.osi_between.specs.Journey.{ends}
-use Rattle.osi_between.proofs.Vocabulary.{side, flat_map, append-nil, Local, Place, never, was_given, place_at, connection_in, Happening, after_packet, value_at, Connection, State, Closed, reference_of, Both, Between, last_of, AreBetween, is_cut, told_of, answers_in, Acted, becomes, Took, Same, Lost, handed_over, still_to_tell, fresh_both, fresh_between, tsdus_told, tsdus_in, told_in, handed_in, all_told, all_handed_in, AreFirstOf, progress_of, Move, carries, takes, connects, hands_in, closes, tells, breaks, May, moved, MayAll, Message, ask, message, bye, messages_after, uncut_units, unsent_at, begun_at, Terms, by_two, by_zero, refusing, terms_of}
+use Rattle.osi_between.proofs.Vocabulary.{side, flat_map, append-nil, Local, never, was_given, place_at, connection_in, Happening, after_packet, value_at, State, Closed, reference_of, Both, Between, last_of, AreBetween, is_cut, told_of, answers_in, Acted, becomes, Took, Same, Lost, handed_over, still_to_tell, fresh_both, fresh_between, tsdus_told, tsdus_in, told_in, handed_in, all_told, all_handed_in, AreFirstOf, progress_of, Move, carries, takes, connects, hands_in, closes, tells, breaks, May, moved, MayAll, Message, ask, message, bye, Terms, by_two, by_zero, refusing, terms_of}
 use Rattle.osi_between.proofs.Acting.{by_end, Each}
 use Rattle.osi_between.proofs.Firsts.{first_none, first_more, first_through, first_behind, is_over, is_sealed, tsdus_under, sealed_same, or_left, or_still, Fact, fact_lost, fact_still, fact_plain, fact_handed, fact_taken, fact_called, acts_at, stays_open, may_be_open, answers_none}
 use Rattle.osi_between.proofs.Betweens.{took, sends, closes_ends, hands_over, ends_at, no_open, less_some}

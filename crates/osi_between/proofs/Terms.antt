@@ -1,8 +1,6 @@
 -- Whatever two carriers come to: how they begin, and what is asked of them.
-use Rattle.std.proofs.Common.{◌≡◌, ◌≤◌, true, false, not, [], length, None, IfSome, refl, arith}
-use Rattle.osi_between.specs.Refusing as refusals
-use Rattle.osi_between.specs.Zero as zero
-use Rattle.osi_between.proofs.Vocabulary.{empty_partial, Local, fresh_state, side, reach_of, arriving, last_of, units_from, lost_from, IsOnTheWay, AreJoinedBy, AreBetween, fresh_both, fresh_between, Terms, by_two, by_zero, refusing, terms_of}
+use Rattle.std.proofs.Common.{◌≡◌, true, false, not, [], length, refl, arith}
+use Rattle.osi_between.proofs.Vocabulary.{empty_partial, Local, fresh_state, IsOnTheWay, AreJoinedBy, AreBetween, fresh_both, fresh_between, Terms, by_two, by_zero, refusing, terms_of}
 use Rattle.osi_between.proofs.Acting.{by_end}
 use Rattle.osi_between.proofs.JoinedCalls.{fresh_joined}
 use Rattle.osi_between.proofs.Proposals.{come_to_two}

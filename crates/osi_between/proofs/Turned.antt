@@ -1,11 +1,11 @@
 -- What a carrier does to an open link, as turns of the two links of its connection.
-use Rattle.std.proofs.Common.{◌≡◌, ℕ, ◌<◌, Bool, true, false, List, [], ◌∷◌, ◌++◌, map, take, drop, Option, Some, None, Result, Ok, Err, refl, sym, ◌∙◌, ap, subst, arith, append_assoc, nat_lt, length, ◌+◌, if◌then◌else◌, IfOk}
+use Rattle.std.proofs.Common.{◌≡◌, ℕ, ◌<◌, Bool, true, false, List, [], ◌∷◌, ◌++◌, map, take, drop, Option, Result, Ok, Err, refl, sym, ◌∙◌, ap, subst, arith, append_assoc, nat_lt, length, if◌then◌else◌, IfOk}
 use Rattle.osi_class.specs.Runs.{hand_in, give_out, take_in, hand_out, MovesAlong}
 use Rattle.osi_class.proofs.Classes.{zero_turns}
 use Rattle.osi_class.proofs.Oldest.{said, oldest_in_class_0, oldest_in_class_2}
 use Rattle.osi_class.proofs.Short.{stays_short}
 use Rattle.osi_class.proofs.SoundLaws.{move_sound, move_same}
-use Rattle.osi_between.proofs.Vocabulary.{flat_map, AllByRecursion, append-nil, map-append, flat_map-append, IsOctets, Value, request, confirm, disconnect, disconnected, data0, data2, acknowledge, error, LeftMoves, LinkPair, swapped, Turn, at_left, TurnsAlong, opposite, left_in, right_out, under_way_before, under_way, HasWholeTsdus, IsShortTsdu, TakesOldest, Ends, Flow, Sender, is_awaited, acknowledged, all_given, Joining, joined, with_part, Standing, Given, part0, part2, ack, taken, taken_by, taken_flow, unit_of, with_tsdu, with_joined, with_sender, HasGivenInRange, LinkFault, TsduTooLong, OutOfSequence, longest_tsdu, in_range, stays_octets, unit_fits, agree_turns, drained_moves, drained_ends, drained_leaves, choose_ok, at_ok, turns_keep, whole_kept, stays_whole, other_way, pumped, handed_out, IsWell, IsSettled, AgreeIn, AreOpen, links, Passes, after_send, after_take, LeftTakes}
+use Rattle.osi_between.proofs.Vocabulary.{flat_map, AllByRecursion, append-nil, map-append, flat_map-append, IsOctets, Value, LeftMoves, LinkPair, swapped, Turn, at_left, TurnsAlong, opposite, left_in, right_out, under_way_before, under_way, HasWholeTsdus, IsShortTsdu, TakesOldest, Ends, Flow, Sender, all_given, Joining, with_part, Standing, Given, taken, taken_by, unit_of, with_tsdu, with_joined, with_sender, HasGivenInRange, LinkFault, TsduTooLong, in_range, stays_octets, unit_fits, agree_turns, drained_moves, drained_ends, drained_leaves, choose_ok, at_ok, turns_keep, whole_kept, stays_whole, other_way, pumped, handed_out, IsWell, IsSettled, AgreeIn, AreOpen, links, Passes, after_send, after_take, LeftTakes}
 
 -- ---- turns one after the other
 

@@ -1,9 +1,9 @@
 -- What a caller's and a called end's carrier do that come to class 0.
-use Rattle.std.proofs.Common.{◌≡◌, ◌≢◌, ℕ, ◌+◌, Bool, true, false, not, List, [], ◌∷◌, ◌++◌, length, map, take, Option, Some, None, is_some, Result, Ok, refl, sym, ap, subst, ◌∙◌, inl, arith, nat_lt, if◌then◌else◌}
+use Rattle.std.proofs.Common.{◌≡◌, ◌≢◌, ℕ, ◌+◌, Bool, true, false, not, List, [], ◌∷◌, ◌++◌, length, map, take, Option, Some, None, is_some, Ok, refl, sym, ap, subst, ◌∙◌, arith, nat_lt, if◌then◌else◌}
 use Rattle.osi_carrier.specs.declared.faults.OpenError.{OpenError}
 use Rattle.osi_carrier.specs.declared.faults.OpenError.TheVariants.{NotCaller, Ended}
 use Rattle.osi_between.specs.Zero.{unasked, asking, accepting, talking, answer_of, at_end, from_end, IsAccepted, rows_in}
-use Rattle.osi_between.proofs.Vocabulary.{flat_map, append-nil, map-append, IsOctets, Value, Connect, request, confirm, LinkPair, opened_pair, under_way, IsShortTsdu, all_given, Standing, Given, part0, part2, ack, unit_of, taken, with_tsdu, Selection, accept, selected_by, selected_size, LinkFault, Class, Zero, may_connect, class_error, room_error, or_else, asks, sent, sent_on, Place, never, was_given, place_at, connection_in, Happening, opened, tsdu, proposal, acceptance, opened_link, agreed_size, confirmed, pumped, react, in_class, in_zero, to_only, to_connection, taking, settles, pumps, handed_out, answers, accepts, opens, has_peer, is_full, Rows, value_at, put, Connection, asked, linked, State, packets, put_other, react_quiet, has_room, reference_of, units_of, AreFor, told_of, IsTsap, BringsTo, told_opening, under_way_for, addressed, Message, ask, agree, message, messages_to, messages_after, uncut_units, AreOpen, after_take, after_send, not_yet, awaiting, references_for, by_zero, terms_of, IsProposed, ZeroCourse, given_in, class_in, HasOne, AreJoinedZero}
+use Rattle.osi_between.proofs.Vocabulary.{flat_map, append-nil, map-append, IsOctets, Value, Connect, request, confirm, LinkPair, opened_pair, under_way, IsShortTsdu, all_given, Standing, Given, unit_of, taken, with_tsdu, accept, selected_by, selected_size, Class, Zero, may_connect, class_error, or_else, asks, sent, sent_on, Place, never, was_given, place_at, connection_in, Happening, opened, tsdu, proposal, acceptance, opened_link, agreed_size, pumped, react, in_zero, to_only, settles, pumps, handed_out, accepts, opens, Rows, value_at, put, Connection, asked, linked, State, packets, put_other, react_quiet, has_room, reference_of, AreFor, told_of, IsTsap, BringsTo, told_opening, under_way_for, addressed, Message, ask, agree, message, messages_to, messages_after, uncut_units, AreOpen, after_take, after_send, not_yet, awaiting, references_for, by_zero, terms_of, IsProposed, ZeroCourse, given_in, class_in, HasOne, AreJoinedZero}
 use Rattle.osi_between.proofs.Acting.{Does, Steps}
 use Rattle.osi_between.proofs.Addressing.{units_same}
 use Rattle.osi_between.proofs.Bringing.{same_like, brings_none, brings_sent, brings_given}

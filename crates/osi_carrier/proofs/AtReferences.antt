@@ -1,5 +1,5 @@
 -- Rows after a change at one reference.
-use Rattle.std.proofs.Common.{◌≡◌, ◌≢◌, ℕ, suc, ◌+◌, ◌<◌, ◌≤◌, ◌==◌, Bool, true, false, [], ◌∷◌, ◌++◌, length, Some, None, refl, sym, ap, ◌∙◌, arith}
+use Rattle.std.proofs.Common.{◌≡◌, ◌≢◌, ℕ, ◌+◌, ◌<◌, ◌≤◌, ◌==◌, Bool, true, false, [], ◌∷◌, ◌++◌, length, None, refl, arith}
 use Rattle.osi_carrier.proofs.Vocabulary.{eqb-true, RiseFrom, AreUpTo, Rows, value_at, put, without}
 
 -- ---- what stands at another reference

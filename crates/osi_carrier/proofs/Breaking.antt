@@ -24,9 +24,7 @@ broke_taking (Err f) r peer s mid new t fault e same h = tt
 
 pub changed : (s : State) (l k : Rows Connection) (o p : List ℕ) (e f : List Happening) → l ≡ k → o ≡ p → e ≡ f →
     record s { live = l; outgoing = o; events = e } ≡ record s { live = k; outgoing = p; events = f }
-changed s l k o p e f x y z =
-    ap (λ v. record s { live = v; outgoing = o; events = e }) x ∙ ap (λ v. record s { live = k; outgoing = v; events = e }) y
-    ∙ ap (λ v. record s { live = k; outgoing = p; events = v }) z
+changed s l k o p e f x y z = cc
 
 pub told : (event : Event) (events more now : List Event) → more ≡ events → now ≡ more ++ event ∷ [] → map happening now ≡ map happening events ++ happening event ∷ []
 told event events more now same h = ap (map happening) (h ∙ ap (λ l. l ++ event ∷ []) same) ∙ map-append happening events (event ∷ [])

@@ -2,7 +2,7 @@
 use Rattle.std.proofs.Common.{◌≡◌, ◌≢◌, ℕ, ◌+◌, ◌<◌, ◌≤◌, Bool, true, false, List, [], ◌∷◌, ◌++◌, length, take, Option, Some, None, Result, Ok, Err, IsSome, is_some, nat_le, ◌||◌, refl, sym, ap, subst, ◌∙◌, ◌⊎◌, inl, inr, arith, length-append, not, if◌then◌else◌}
 use Rattle.osi_carrier.specs.declared.faults.OpenError.{OpenError}
 use Rattle.osi_carrier.specs.declared.faults.OpenError.TheVariants.{NotCaller, Ended, TooMany, ReferencesUsedUp}
-use Rattle.osi_carrier.proofs.Vocabulary.{nat_tests, append-nil, AllByRecursion, units_of, TpduFault, Value, Connect, request, confirm, disconnect, disconnected, data0, data2, acknowledge, error, Standing, taken, Selection, accept, refuse, selected_by, LinkFault, Class, Zero, Two, Local, Happening, opened, refused, tsdu, closed, faulted, confirmed, fresh_state, class_error, or_else, room_error, may_connect, asks, sent_on, open_link, sent, closes, closed_on, closed_with, ended_by, RiseFrom, AreUpTo, only_of, connection_by, connection_of, told_of, IsOrderly, ChangesOne, acts_by, after_packet, denies, answers, is_full, has_peer, answers_request, to_unknown, opens, to_asked, tells_of, taking, breaks, leaves, to_linked, to_closing, to_connection, to_reference, before_class, to_only, in_zero, in_two, in_class, react, react_by, reacts, Rows, value_at, put, without, Connection, asked, linked, closing, State, drops, ends, EndReason, AreNamed}
+use Rattle.osi_carrier.proofs.Vocabulary.{nat_tests, append-nil, AllByRecursion, units_of, TpduFault, Value, Connect, request, confirm, disconnect, disconnected, data0, error, Standing, taken, Selection, accept, refuse, selected_by, LinkFault, Class, Zero, Two, Local, Happening, refused, confirmed, fresh_state, class_error, or_else, room_error, may_connect, asks, sent_on, open_link, sent, closes, closed_on, closed_with, ended_by, RiseFrom, AreUpTo, only_of, connection_by, connection_of, told_of, IsOrderly, ChangesOne, acts_by, after_packet, denies, answers, is_full, has_peer, answers_request, to_unknown, opens, to_asked, tells_of, taking, breaks, leaves, to_linked, to_closing, to_connection, to_reference, before_class, to_only, in_zero, in_two, in_class, react, react_by, reacts, Rows, value_at, put, without, Connection, asked, closing, State, drops, ends, EndReason, AreNamed}
 use Rattle.osi_carrier.proofs.AtReferences.{put_other, without_other, push_other, put_none, without_none, put_rise, without_rise, push_rise, put_up, without_up, push_up, put_length, without_length}
 use Rattle.osi_carrier.proofs.Naming.{Naming, named, unit_named, asks_named, sent_names, closes_names}
 use Rattle.osi_carrier.proofs.Reacts.{react_over}

@@ -1,13 +1,13 @@
 -- What needs memory writes, tells or keeps something.
-use Rattle.std.proofs.Common.{◌≡◌, ℕ, ◌+◌, ◌<◌, ◌≤◌, ◌⊎◌, inl, inr, ◌||◌, Bool, true, false, List, [], ◌∷◌, ◌++◌, length, take, drop, Option, Some, None, Result, Ok, Err, IfOk, IsOk, OnErr, ◌==◌, map, refl, sym, ap, subst, ◌∙◌, nat_lt, if◌then◌else◌, length-append, arith}
+use Rattle.std.proofs.Common.{◌≡◌, ℕ, ◌+◌, ◌<◌, ◌≤◌, ◌⊎◌, inl, inr, Bool, true, false, List, [], ◌∷◌, ◌++◌, length, take, drop, Option, Some, None, Result, Ok, Err, IfOk, IsOk, OnErr, ◌==◌, map, refl, sym, ap, subst, ◌∙◌, nat_lt, if◌then◌else◌, length-append, arith}
 use Rattle.osi_class.specs.Flow.{Flow, is_awaited}
 use Rattle.osi_class.specs.Joining.{Joining, joined, with_part}
 use Rattle.osi_class.specs.Limits.{longest_tsdu}
 use Rattle.osi_class.specs.Taking.{TakesUnit}
-use Rattle.osi_class.specs.declared.faults.LinkFault.TheVariants.{WrongForm, OutOfSequence, CreditReduced, TsduTooLong, OutOfMemory}
+use Rattle.osi_class.specs.declared.faults.LinkFault.TheVariants.{OutOfSequence, TsduTooLong, OutOfMemory}
 use Rattle.osi_class.proofs.Order.{choose_ok}
 pub use Rattle.std.proofs.lemmas.Bool.{or_cases}
-use Rattle.osi_carrier.proofs.Vocabulary.{or_left, or_right, lt-ltb, ltb-true, sum_by-cons, packet_of, Value, Connect, request, confirm, disconnect, disconnected, data0, data2, acknowledge, error, written, Standing, Hands, taken, taken_by, taken_flow, with_joined, needs_memory, part_needs_memory, LinkFault, Class, Zero, Two, drained_leaves, begun_by, kept_in, grows, Happening, tsdu, pumped, written_by, accepts, breaks, denies, handed_out, leaves, opens, taking, to_unknown, Rows, value_at, put, peer_in, link_in, Connection, linked, State, packets, drops, tells, link_grows, units_after, whole_after, link_after}
+use Rattle.osi_carrier.proofs.Vocabulary.{or_left, or_right, lt-ltb, ltb-true, sum_by-cons, packet_of, Value, Connect, disconnect, disconnected, data0, data2, written, Standing, Hands, taken, taken_by, taken_flow, with_joined, needs_memory, part_needs_memory, LinkFault, Class, Two, drained_leaves, begun_by, kept_in, grows, Happening, tsdu, pumped, written_by, accepts, breaks, denies, handed_out, leaves, opens, taking, to_unknown, Rows, value_at, put, peer_in, link_in, Connection, linked, State, packets, drops, tells, link_grows, units_after, whole_after, link_after}
 use Rattle.osi_carrier.proofs.Opened.{open_is}
 
 -- ---- at a link

@@ -2,7 +2,7 @@
 -- same with others in front of these.
 use Rattle.std.proofs.Common.{◌≡◌, ℕ, ◌+◌, Bool, true, false, List, [], ◌∷◌, ◌++◌, take, map, Option, Some, None, Result, Ok, Err, is_some, refl, ap, ◌∙◌, append_assoc, if◌then◌else◌}
 use Rattle.osi_carrier.specs.Runs.UserCall.{closes as closing_call, breaks as breaking_call}
-use Rattle.osi_carrier.proofs.Vocabulary.{connection_by, units_of, Value, Connect, request, confirm, disconnect, disconnected, data0, data2, acknowledge, error, TpduFault, Standing, taken, Selection, accept, refuse, selected_by, LinkFault, Class, Zero, Two, sent_on, open_link, closes, closed_on, Happening, opened, refused, tsdu, closed, faulted, proposal, acceptance, confirmed, agreed_size, opened_link, acts_by, after_packet, written_by, pumped, denies, tsaps_of, answers, is_full, has_peer, answers_request, to_unknown, opens, to_asked, handed_out, pumps, tells_of, settles, taking, breaks, leaves, to_linked, to_closing, to_connection, to_reference, before_class, to_only, in_zero, in_two, in_class, react, react_by, reacts, Rows, value_at, UserCall, Act, user_does, does, all_done, put_back, connects, sends, packet, user, Connection, asked, linked, closing, State, writes, tells, joins, moves, drops, ends, packets, EndReason}
+use Rattle.osi_carrier.proofs.Vocabulary.{connection_by, units_of, Value, Connect, request, confirm, disconnect, disconnected, data0, error, TpduFault, Standing, taken, Selection, accept, refuse, selected_by, LinkFault, Class, Zero, Two, sent_on, open_link, closes, closed_on, Happening, opened, refused, tsdu, closed, faulted, proposal, acceptance, confirmed, agreed_size, opened_link, acts_by, after_packet, written_by, pumped, denies, tsaps_of, answers, is_full, has_peer, answers_request, to_unknown, opens, to_asked, handed_out, pumps, tells_of, settles, taking, breaks, leaves, to_linked, to_closing, to_connection, to_reference, before_class, to_only, in_zero, in_two, in_class, react, react_by, reacts, Rows, value_at, UserCall, Act, user_does, does, all_done, put_back, connects, sends, packet, user, Connection, asked, linked, closing, State, writes, tells, joins, moves, drops, ends, packets, EndReason}
 
 -- these events and octets stand in front
 module _ (e : List Happening) (o : List ℕ) where

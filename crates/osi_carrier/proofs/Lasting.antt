@@ -1,6 +1,6 @@
 -- Where one list of pieces does not end a carrier, no other with the same octets does.
-use Rattle.std.proofs.Common.{◌≡◌, ℕ, ◌≤◌, ◌||◌, Bool, true, false, List, [], ◌∷◌, ◌++◌, length, take, drop, map, Option, Some, None, Result, Ok, Err, is_some, refl, sym, ap, subst, ◌∙◌, ◌⊎◌, inl, inr, arith, append_assoc, length-append, if◌then◌else◌}
-use Rattle.osi_carrier.proofs.Vocabulary.{append-nil, take_all, take-append-drop, get_or_append_left, flat_map, IsPacket, IsOnePacket, IsPartial, IsFaultOf, stated_length-append, ArePackets, Faulty, Fed, TpktFault, BadVersion, BadLength, OutOfMemory, partial_no_fault, end_no_packet, units_of, Value, TpduFault, Tells, Happening, Carrying, Feeds, Goes, acts_by, after_packet, waits, is_spoilt, UserCall, Call, all_done, packet_in, Calls, CallsAlong, used_in, told_in, carried_in, called_in, put_back, packet, feeding, telling, carrying, calling, State, EndReason, NoMemory}
+use Rattle.std.proofs.Common.{◌≡◌, ℕ, ◌≤◌, ◌||◌, Bool, true, false, List, [], ◌∷◌, ◌++◌, length, take, drop, map, Option, Some, None, Result, is_some, refl, sym, ap, subst, ◌∙◌, ◌⊎◌, inl, inr, arith, append_assoc, length-append, if◌then◌else◌}
+use Rattle.osi_carrier.proofs.Vocabulary.{append-nil, take_all, take-append-drop, get_or_append_left, flat_map, IsPacket, IsOnePacket, IsPartial, IsFaultOf, stated_length-append, ArePackets, Faulty, Fed, TpktFault, partial_no_fault, end_no_packet, units_of, Value, TpduFault, Tells, Happening, Carrying, Feeds, Goes, acts_by, after_packet, waits, is_spoilt, UserCall, Call, all_done, packet_in, Calls, CallsAlong, used_in, told_in, carried_in, called_in, put_back, packet, feeding, telling, carrying, calling, State, EndReason, NoMemory}
 use Rattle.osi_carrier.proofs.InFront.{apart_all}
 use Rattle.osi_carrier.proofs.Pieces.{calls_read, reads_one, ReadsOne, only_packets, packets_done, all_joined}
 use Rattle.osi_carrier.proofs.Reacts.{none_of, reacts_over}
@@ -152,13 +152,7 @@ lasts_on laws old call new later none one lasts =
     (subst (λ l. ArePackets lasts.units l lasts.rest) (sym (append_assoc old.held.octets (used_in call) later)) lasts.packets) one.packets in
     let state : put_back (told_in call) (carried_in call) new.state ≡ all_done (map packet vs) old.state = one.state ∙ ap (λ l. all_done l old.state) acts in
     let behind = parted_lasts old lasts.units vs parted.more parted.all lasts.lasts in
-    record {
-      units = parted.more;
-      rest = lasts.rest;
-      packets = parted.packets;
-      partial = lasts.partial;
-      lasts = ap (λ (s : State). s.ended) (sym (apart_all (told_in call) (carried_in call) (map packet parted.more) new.state) ∙ ap (all_done (map packet parted.more)) state) ∙ behind;
-    }
+    search (ap (λ (s : State). s.ended) (sym (apart_all (told_in call) (carried_in call) (map packet parted.more) new.state) ∙ ap (all_done (map packet parted.more)) state) ∙ behind)
 
 abbrev LastsOrStarves : Carrying → Type 0
 LastsOrStarves new = (new.state.ended ≡ None) ⊎ (new.state.ended ≡ Some NoMemory)

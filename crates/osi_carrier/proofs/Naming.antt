@@ -1,8 +1,8 @@
 -- Which connections have transport selectors, and that these stay.
-use Rattle.std.proofs.Common.{◌≡◌, ℕ, ◌+◌, ◌≤◌, ◌==◌, Bool, true, false, List, [], ◌∷◌, ◌++◌, Option, Some, None, is_some, IsSome, Result, Ok, Err, refl, sym, ap, subst, ◌∙◌, arith, if◌then◌else◌}
+use Rattle.std.proofs.Common.{◌≡◌, ℕ, ◌+◌, ◌==◌, Bool, true, false, List, [], ◌∷◌, ◌++◌, Option, Some, None, is_some, IsSome, Result, Ok, Err, refl, sym, ap, subst, ◌∙◌, arith, if◌then◌else◌}
 use Rattle.std.proofs.Common.{eq-eqb}
 use Rattle.osi_carrier.specs.References.{references, dropped}
-use Rattle.osi_carrier.proofs.Vocabulary.{connection_by, eqb-true, Value, Connect, request, confirm, disconnect, disconnected, data0, data2, acknowledge, error, Standing, taken, Selection, accept, refuse, selected_by, LinkFault, Class, Zero, Two, Local, fresh_state, asks, sent_on, sent, open_link, closes, closed_on, closed_with, ended_by, tsaps_at, AreNamed, KeepsTsaps, confirmed, IsOrderly, denies, answers, is_full, has_peer, answers_request, to_unknown, opens, to_asked, taking, breaks, leaves, to_linked, to_closing, to_connection, to_reference, before_class, to_only, in_zero, in_two, in_class, react, react_by, Rows, value_at, put, without, Connection, asked, linked, closing, TsapIds, State, ends, EndReason}
+use Rattle.osi_carrier.proofs.Vocabulary.{connection_by, eqb-true, Value, Connect, request, confirm, disconnect, disconnected, data0, error, Standing, taken, Selection, accept, refuse, selected_by, LinkFault, Class, Zero, Two, Local, fresh_state, asks, sent_on, sent, open_link, closes, closed_on, closed_with, ended_by, tsaps_at, AreNamed, KeepsTsaps, confirmed, IsOrderly, denies, answers, is_full, has_peer, answers_request, to_unknown, opens, to_asked, taking, breaks, leaves, to_linked, to_closing, to_connection, to_reference, before_class, to_only, in_zero, in_two, in_class, react, react_by, Rows, value_at, put, without, Connection, asked, linked, closing, TsapIds, State, ends, EndReason}
 use Rattle.osi_carrier.proofs.Apart.{without_here}
 use Rattle.osi_carrier.proofs.AtReferences.{without_other, push_other}
 

@@ -1,6 +1,6 @@
 -- What is open, and what is not.
 use Rattle.std.proofs.Common.{◌≡◌, ℕ, List, Bool, true, false, Option, Some, None, is_some, refl, ap, if◌then◌else◌}
-use Rattle.osi_carrier.proofs.Vocabulary.{Standing, value_at, open_link, link_of, WaitsAlone, WaitsOn, peer_in, link_in, State, Connection, asked, linked, closing}
+use Rattle.osi_carrier.proofs.Vocabulary.{Standing, value_at, open_link, link_of, WaitsAlone, WaitsOn, peer_in, link_in, State, Connection, linked}
 
 pub open_is : (o : Option Connection) (peer : ℕ) → peer_in o ≡ Some peer → o ≡ Some (linked peer (link_in o))
 open_is (Some (linked q link)) peer e = cc

@@ -1,9 +1,8 @@
 -- Over every run of calls a carrier has done what the packets of the octets used and its user's calls do.
 use Rattle.std.proofs.Common.{◌≡◌, ℕ, ◌+◌, ◌-◌, ◌<◌, ◌^◌, ◌||◌, Bool, true, false, List, [], ◌∷◌, ◌++◌, length, take, map, Option, Some, None, is_some, refl, sym, ap, subst, ◌∙◌, inl, inr, arith, append_assoc, length-append, if◌then◌else◌}
 use Rattle.std.proofs.lemmas.List.Concat.{flat_map-append}
-use Rattle.osi_carrier.specs.Runs.UserCall.{closes, breaks}
 pub use Rattle.osi_tpkt.proofs.Runs.{packets_joined}
-use Rattle.osi_carrier.proofs.Vocabulary.{append-nil, take_all, flat_map, Held, IsPartial, ArePackets, offset_of, Fed, Tells, sent_on, open_link, closes as closes_at, closed_on, Happening, Standing, Class, Zero, Two, Carrying, Feeds, Goes, RunsDry, StopsBehind, TakesPackets, after_packet, waits, is_spoilt, UserCall, Act, Call, user_does, does, all_done, packet_in, call_in, Calls, CallsAlong, used_in, told_in, carried_in, called_in, put_back, Reads, AreAlike, connects, sends, packet, user, feeding, telling, carrying, calling, State, ends, EndReason}
+use Rattle.osi_carrier.proofs.Vocabulary.{append-nil, take_all, flat_map, IsPartial, ArePackets, offset_of, Fed, Tells, sent_on, closes as closes_at, closed_on, Happening, Standing, Class, Carrying, Feeds, Goes, RunsDry, StopsBehind, TakesPackets, after_packet, waits, UserCall, Act, Call, user_does, does, all_done, packet_in, call_in, Calls, CallsAlong, used_in, told_in, carried_in, called_in, put_back, Reads, AreAlike, packet, user, feeding, telling, carrying, calling, State, ends, EndReason}
 use Rattle.osi_carrier.proofs.InFront.{apart_all}
 use Rattle.osi_carrier.proofs.Reacts.{none_of}
 use Rattle.osi_carrier.proofs.Reading.{packets_leave}

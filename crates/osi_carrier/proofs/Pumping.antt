@@ -1,6 +1,6 @@
 -- Writing all that a link gives, one unit after the other.
 use Rattle.std.proofs.Common.{◌≡◌, ℕ, ◌+◌, ◌*◌, ◌<◌, ◌≤◌, List, [], ◌∷◌, ◌++◌, length, take, map, refl, sym, ap, ◌∙◌, append_assoc, length-append, arith, inl, inr}
-use Rattle.osi_carrier.proofs.Vocabulary.{cases_lt, append-nil, take_at, packet_of, Value, written, Drained, drained, octets_of, octets_in, Standing, Given, part0, part2, ack, unit_of, next, pumped, written_by, packets}
+use Rattle.osi_carrier.proofs.Vocabulary.{cases_lt, append-nil, take_at, packet_of, Value, written, Drained, drained, octets_of, octets_in, Standing, Given, part0, unit_of, next, pumped, written_by, packets}
 
 pub packets_join : (us vs : List Value) → packets (us ++ vs) ≡ packets us ++ packets vs
 packets_join [] vs = refl

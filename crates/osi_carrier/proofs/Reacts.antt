@@ -1,5 +1,5 @@
 -- Units one after the other, and units after the end.
-use Rattle.std.proofs.Common.{◌≡◌, List, [], ◌∷◌, ◌++◌, Option, Some, None, refl, sym, ap, subst, ◌∙◌, true, false, is_some, inl, inr, append_assoc, arith}
+use Rattle.std.proofs.Common.{◌≡◌, List, [], ◌∷◌, ◌++◌, Option, None, refl, sym, ap, ◌∙◌, true, false, is_some, inl, append_assoc, arith}
 use Rattle.osi_carrier.specs.Packets.{Act}
 use Rattle.osi_carrier.proofs.Vocabulary.{append-nil, Value, grows, react, react_by, reacts, in_class, State, ends, NoMemory}
 

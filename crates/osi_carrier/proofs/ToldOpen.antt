@@ -1,8 +1,8 @@
 -- The events tell which connections are open.
-use Rattle.std.proofs.Common.{◌≡◌, ◌≢◌, ℕ, ◌+◌, ◌≤◌, ◌==◌, Bool, true, false, ◌&&◌, ◌||◌, not, List, [], ◌∷◌, ◌++◌, take, Option, Some, None, Result, Ok, Err, is_some, refl, sym, ap, subst, ◌∙◌, arith, append_assoc, if◌then◌else◌}
+use Rattle.std.proofs.Common.{◌≡◌, ◌≢◌, ℕ, ◌+◌, ◌==◌, Bool, true, false, ◌&&◌, ◌||◌, not, List, [], ◌∷◌, ◌++◌, take, Option, Some, None, Result, Ok, Err, is_some, refl, sym, ap, subst, ◌∙◌, arith, append_assoc, if◌then◌else◌}
 use Rattle.std.proofs.Common.{eq-eqb}
 use Rattle.osi_carrier.specs.Told.{is_open, open_after, TellsOpen}
-use Rattle.osi_carrier.proofs.Vocabulary.{connection_by, eqb-true, append-nil, units_of, Value, Connect, request, confirm, disconnect, disconnected, data0, data2, acknowledge, error, TpduFault, Standing, taken, Selection, accept, refuse, selected_by, LinkFault, Class, Zero, Two, asks, link_of, open_link, sent_on, sent, closes, closed_on, closed_with, Happening, opened, refused, tsdu, closed, faulted, confirmed, RiseFrom, AreUpTo, IsOrderly, acts_by, after_packet, denies, answers, is_full, has_peer, answers_request, to_unknown, opens, to_asked, tells_of, taking, breaks, leaves, to_linked, to_closing, to_connection, to_reference, before_class, to_only, in_zero, in_two, in_class, react, react_by, reacts, Rows, value_at, put, without, Connection, asked, linked, closing, State, ends, EndReason}
+use Rattle.osi_carrier.proofs.Vocabulary.{connection_by, eqb-true, append-nil, units_of, Value, Connect, request, confirm, disconnect, disconnected, data0, error, TpduFault, Standing, taken, Selection, accept, refuse, selected_by, LinkFault, Class, Zero, Two, asks, link_of, open_link, sent_on, sent, closes, closed_on, closed_with, Happening, opened, refused, closed, faulted, confirmed, RiseFrom, AreUpTo, IsOrderly, acts_by, after_packet, denies, answers, is_full, has_peer, answers_request, to_unknown, opens, to_asked, tells_of, taking, breaks, leaves, to_linked, to_closing, to_connection, to_reference, before_class, to_only, in_zero, in_two, in_class, react, react_by, reacts, Rows, value_at, put, without, Connection, asked, linked, closing, State, ends, EndReason}
 use Rattle.osi_carrier.proofs.Apart.{put_here, without_here, push_here, beyond}
 use Rattle.osi_carrier.proofs.AtReferences.{put_other, without_other, push_other}
 use Rattle.osi_carrier.proofs.Effects.{orderly_unit}

@@ -1,6 +1,6 @@
 -- How long the written form of a unit is, and that one unit makes one packet.
 use Rattle.std.proofs.Common.{◌≡◌, ℕ, ◌+◌, ◌≤◌, [], ◌∷◌, length, ap, arith, length-append}
-use Rattle.osi_carrier.proofs.Vocabulary.{append-nil, packet_of, Value, request, confirm, disconnect, disconnected, data0, data2, acknowledge, error, user_data, written, written_header, Fits, header_octets, octets_of, Given, part0, part2, ack, unit_of, packets}
+use Rattle.osi_carrier.proofs.Vocabulary.{append-nil, packet_of, Value, request, confirm, data0, data2, acknowledge, user_data, written, written_header, Fits, header_octets, octets_of, Given, part0, part2, ack, unit_of, packets}
 
 pub one_packet_of : (unit : Value) → packets (unit ∷ []) ≡ packet_of (written unit)
 one_packet_of unit = append-nil (packet_of (written unit))

@@ -323,6 +323,7 @@ impl Connections {
     }
 
     /// How far the connection at this place is.
+    #[inline(always)]
     pub fn phase(&self, place: usize, reference: u16) -> &Phase
         requires { place_of reference self.now ≡ Some place }
         ensures { value_at reference self.now ≡ Some (connection result.now) }

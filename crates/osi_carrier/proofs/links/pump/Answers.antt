@@ -1,4 +1,4 @@
-use Rattle.std.proofs.Common.{ℕ, ◌<◌, length, take, ap, subst, ◌∙◌, arith}
+use Rattle.std.proofs.Common.{ℕ, ◌<◌, take, ap, subst, ◌∙◌, arith}
 use Rattle.osi_carrier.proofs.Vocabulary.{any_standing, next, given, Gives, written_by}
 use Rattle.osi_carrier.proofs.Pumping.{pumping_next, pumping_full, pumping_room, pumping_short}
 use Rattle.osi_carrier.proofs.Growing.{some_written}
