@@ -33,8 +33,7 @@ pub is_acted : (s : State) (u : Meaning) → Acted s u → is_acted_on s u ≡ t
 is_acted s u h = grind (arith, no_fault_of)
 
 over_parts : (p : Phase) → is_over p ≡ (is_aborting p || is_ended p)
-over_parts WaitTransport = refl
-over_parts _ = refl
+over_parts p = grind arith
 
 pub over_of : (a e : Bool) (p : Phase) → is_aborting p ≡ a → is_ended p ≡ e → is_over p ≡ (a || e)
 over_of a e p h k = over_parts p ∙ rw (h, k) refl
@@ -52,8 +51,7 @@ aborting_cases : (P : State → Type 0) (s : State) (u : Meaning) → P s → P 
 aborting_cases P s u h k = grind arith
 
 ended_cases : (P : State → Type 0) (s : State) (u : Meaning) → P s → P (in_ended s u).next
-ended_cases P s (AB bits octets) h = h
-ended_cases P s _ h = h
+ended_cases P s u h = grind arith
 
 -- what a unit leaves: what was, or the end, or the abort, or what the table says of a unit that is acted on
 pub record Leaves (P : Bool → State → Type 0) (s : State) (u : Meaning) : Type 0 where

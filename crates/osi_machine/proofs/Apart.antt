@@ -8,15 +8,13 @@ call_other : (m : Machine) (side : Side) (r : ℕ) (c : Call) (k : ℕ) → (k �
 call_other m side r c k n a = grind (arith, with_other)
 
 ended_now : (side : Side) (m : Machine) → end_of side (marked_ended side closed_here m) ≡ Some closed_here
-ended_now Left m = refl
-ended_now Right m = refl
+ended_now side m = grind arith
 
 no_end : {A : Type 0} (e f : Option Ending) → e ≡ Some closed_here → e ≡ f → is_some f ≡ false → A
 no_end e f p q n = absurd (let z = sym (ap is_some (sym q ∙ p)) ∙ n in cc)
 
 same_end : (side : Side) (m : Machine) (known : Option Class) → end_of side (record m { known = known }) ≡ end_of side m
-same_end Left m known = refl
-same_end Right m known = refl
+same_end side m known = grind arith
 
 taking_other : (m : Machine) (side : Side) (r : ℕ) (keep : ℕ → ℕ) (t : Taking) (k : ℕ) → (k ≡ r → ⊥) → is_some (end_of side m) ≡ false → end_of side (after_taking m side r keep t) ≡ end_of side m
     → connection_at k (after_taking m side r keep t).worlds ≡ connection_at k m.worlds

@@ -39,8 +39,7 @@ over_calls s [] o = o
 over_calls s (c ∷ calls) o = over_calls (left_by s (called c)) calls (ap (λ (x : State). is_over x.phase) (unmoved s c error.Ended (refused s c o)) ∙ o)
 
 either : (b : Bool) (x y : Outcome) → is_over x.next.phase ≡ true → is_over y.next.phase ≡ true → is_over (if b then x else y).next.phase ≡ true
-either true x y p q = p
-either false x y p q = q
+either b x y p q = grind arith
 
 over_all : (s : State) (us : List Meaning) → is_over s.phase ≡ true → is_over (respond_all s us).next.phase ≡ true
 unfolding respond_all

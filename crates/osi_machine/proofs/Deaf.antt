@@ -102,8 +102,7 @@ deaf_next s u r f = grind arith
 
 -- a side that will wait has asked already
 pub not_both : (b : Bool) → not b ≡ true → b ≡ true → ⊥
-not_both true p q = cc
-not_both false p q = cc
+not_both b p q = grind arith
 
 pub deaf_end : (s : State) (us : List Meaning) → is_restarting (flush s us).phase ≡ true → AllFit s us → flush s us ≡ s
 deaf_end s [] r f = refl

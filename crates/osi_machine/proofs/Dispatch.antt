@@ -84,8 +84,7 @@ taking_stands laws w (u ∷ us) e s = by_test (drops w.own.session u)
 -- ---- seen from the other side
 
 twice : (o : Owner) → turned_owner (turned_owner o) ≡ o
-twice Own = refl
-twice _ = refl
+twice o = grind arith
 
 pub turned_twice : (o : Owners) → turned_owners (turned_owners o) ≡ o
 turned_twice o = λ i t. twice (o t) i

@@ -48,8 +48,7 @@ an_offer : Offer
 an_offer = record { requirements = 0; serial = 0; wishes = for_asker; calling_selector = None; called_selector = None; sizes = no_sizes; octets = [] }
 
 untold_fine : (d : Side) (o : Offer) → (untold d o).faulted ≡ false
-untold_fine Left o = refl
-untold_fine Right o = refl
+untold_fine d o = grind arith
 
 none_from : (ws : List World) (r : ℕ) → slice_get ws r ≡ None → length ws < suc r
 none_from [] r e = omega arith

@@ -105,8 +105,7 @@ stands_same k s u st = grind arith
 
 fewer_stops : (k : Tokens) (s : State) (u : Meaning) → stops (less k s) u ≡ stops s u
 unfolding stands
-fewer_stops k s (RS j n w o) = refl
-fewer_stops k s _ = refl
+fewer_stops k s u = grind arith
 
 gives_step : (k : Tokens) (s : State) (u : Meaning) → Gives k s → Fits s u → Steps (Fewer k) s (less k s) u
 gives_step k s u h f = search (arith, fewer_good, fewer_stops, fewer_becomes, stands_same, next_acted, restart_due)
@@ -118,8 +117,7 @@ fewer_step k s r u (inr (e, d)) f = subst (λ (q : State). Steps (Fewer k) s q u
 
 less_shows : (k : Tokens) (s : State) (u : Meaning) (v : List Item) → view_next (less k s) u v ≡ view_next s u v
 unfolding stands
-less_shows k s (RS j n w o) v = refl
-less_shows k s _ v = refl
+less_shows k s u v = grind arith
 
 pub fewer_shows : (k : Tokens) (s r : State) (u : Meaning) (v : List Item) → Fewer k s r → view_next r u v ≡ view_next s u v
 fewer_shows k s r u v (inl (e, h)) = ap (λ (q : State). view_next q u v) e ∙ less_shows k s u v

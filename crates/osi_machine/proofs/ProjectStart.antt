@@ -128,8 +128,7 @@ pub absent_left : (s : State) (o : Owners) (k : Token) → o k ≡ Absent → le
 absent_left s o k e = by_test (is_over s.phase) (λ q. rw q (ap own_to_pool e)) (λ q. rw q e)
 
 pub absent_back : (p : Owner) → turned_owner p ≡ Absent → p ≡ Absent
-absent_back Absent e = refl
-absent_back _ e = absurd (cc)
+absent_back p e = grind arith
 
 -- what is left of what is under way
 abbrev cut_asks : ℕ → Way → Way

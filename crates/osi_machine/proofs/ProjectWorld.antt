@@ -60,8 +60,7 @@ core_answer laws broken w t u x small h l true q (Ok g) e = record {
 core_answer laws broken w t u x small h l false q (Ok g) e = search (stop_projects, Tells, stop_told)
 
 answers_as : (broken : Bool) (w : World) (x : Call) (a : Answer) → answered_by broken (session_of w) x w a ≡ after_answer broken x w a
-answers_as broken w x (Ok g) = refl
-answers_as broken w x (Err e) = refl
+answers_as broken w x a = grind arith
 
 pub refused : (s : State) (x : Call) → is_over s.phase ≡ true → allowed s x ≡ Err error.Ended
 unfolding allowed

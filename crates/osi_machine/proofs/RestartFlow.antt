@@ -25,8 +25,7 @@ pub record Flow (s r : State) (us : List Meaning) : Type 0 where
 -- ---- what comes before a restart is discarded
 
 pub or_true : (b : Bool) → (b || true) ≡ true
-or_true true = refl
-or_true false = refl
+or_true b = grind arith
 
 not_asking : (s : State) → Lively s → is_restarting s.phase ≡ false
 not_asking s h = excluded is_lively is_restarting refl s.phase h

@@ -108,8 +108,7 @@ call_knows laws t side q r c x y h = search (arith, eqb-true, call_same, quiet_h
 
 marked_knows : (side : Side) (e : Ending) (t : Tables) (r : ℕ) (x y : Words) → HoldsAt side t.broken x y (connection_at r t.lines)
     → HoldsAt side (marked_ended side e t).broken x y (connection_at r (marked_ended side e t).lines)
-marked_knows Left e t r x y h = h
-marked_knows Right e t r x y h = h
+marked_knows side e t r x y h = grind arith
 
 ended_knows : SayLaws → (side : Side) (keep : ℕ → ℕ) (b : Bool) (ls : List Line) (r : ℕ) (x y : Words) (o : Option Line) → connection_at r ls ≡ o → HoldsAt side b x y o
     → HoldsAt side b x y (connection_at r (ended_lines side keep 1 ls))
@@ -257,8 +256,7 @@ run_knows laws r t (s ∷ steps) x y h =
     (one_by_one y (said_at Right r t s) (heard_at Right r t s) (said_in Right r (step t s) steps) (heard_in Right r (step t s) steps)) next)
 
 start_knows : (r : ℕ) (terms : Terms) → Knows r (start terms) silent silent
-start_knows zero terms = (refl, refl)
-start_knows (suc r) terms = (refl, refl)
+start_knows r terms = grind arith
 
 line_of_side : (side : Side) (b : Bool) (x y : Words) (o : Option Line) (l : Line) → HoldsAt side b x y o → side_of side o ≡ Some l → Told b l x y
 line_of_side side b x y None l h e = absurd (cc)
@@ -271,8 +269,7 @@ then_under_way : (a : Bool) (ch : List Message) (said heard : List Meaning) → 
 then_under_way a ch said heard h = (h.lost, append_assoc heard (units_in ch) h.lost ∙ h.splits)
 
 or_false : (a b : Bool) → a ≡ false → b ≡ false → (a || b) ≡ true → ⊥
-or_false true b e f g = cc
-or_false false b e f g = cc
+or_false a b e f g = grind arith
 
 and_all : (a : Bool) (ch : List Message) (said heard : List Meaning) → (a ≡ true → ⊥) → Carried a ch said heard → heard ++ units_in ch ≡ said
 and_all a ch said heard n h = search (arith, append-nil)

@@ -114,8 +114,7 @@ stage_call laws b w t u first second c small (inr (inl h)) s =
 stage_call laws b w t u first second c small (inr (inr h)) s = call_tabled laws b w first second t u c small h s
 
 if_follows : (b : Bool) (t t' : Tables) (m m' : Machine) → Follows t m → Follows t' m' → Follows (if b then t else t') (if b then m else m')
-if_follows true t t' m m' h k = h
-if_follows false t t' m m' h k = k
+if_follows b t t' m m' h k = grind arith
 
 line_call : SessionLaws → (m : Machine) (ls : List Line) (side : Side) (r : ℕ) (c : Call) → HasSerial c → AllTabled ls m.worlds → (l : Line) (w : World) → Tabled l w → StageOf m.broken w
     → Follows (tables.call_in (tables_of m ls) side r c (Some l)) (call_in m side r c (Some w))
@@ -258,8 +257,7 @@ cut_tabled left right r (l ∷ ls) [] h = absurd h
 -- ---- a step, and a list of steps
 
 pub end_as : (side : Side) (m : Machine) (ls : List Line) → tables.end_of side (tables_of m ls) ≡ end_of side m
-end_as Left m ls = refl
-end_as Right m ls = refl
+end_as side m ls = grind arith
 
 step_of : SessionLaws → SaysItsUnit → (terms : Terms) (m : Machine) (ls : List Line) (s : Step) → HasNumber s → AllTabled ls m.worlds → IsGood terms Whole m → Follows (tables.step (tables_of m ls) s) (step m s)
 step_of laws says terms m ls (connects o) small k g =

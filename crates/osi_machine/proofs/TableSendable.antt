@@ -39,8 +39,7 @@ replied_sendable None h = tt
 replied_sendable (Some m) h = (h, tt)
 
 rest_sendable : (x : Message) (ms : List Message) → AreSendable (x ∷ ms) → AreSendable ms
-rest_sendable (unit m) ms h = h.1
-rest_sendable x ms h = h
+rest_sendable x ms h = grind arith
 
 -- ---- a move
 
@@ -164,8 +163,7 @@ abbrev Sound : Tables → Type 0
 Sound t = AllByRecursion IsSoundLine t.lines
 
 if_sound : (b : Bool) (t u : Tables) → Sound t → Sound u → Sound (if b then t else u)
-if_sound true t u h k = h
-if_sound false t u h k = k
+if_sound b t u h k = grind arith
 
 asked_sound : (t : Tables) (o : Offer) → CanBeOffered o → Sound t → (a : Option Refusal) → refusal t o ≡ a → Sound (asked_in t o a)
 asked_sound t o small h (Some e) q = h
@@ -187,8 +185,7 @@ ended_lines_sound laws side keep k [] h = tt
 ended_lines_sound laws side keep k (l ∷ ls) h = (side_line side _ (ends_line laws (keep k) (seen_from side l) (side_line side l h.0)), ended_lines_sound laws side keep (k + 1) ls h.1)
 
 marked_sound : (side : Side) (e : Ending) (t : Tables) → Sound t → Sound (marked_ended side e t)
-marked_sound Left e t h = h
-marked_sound Right e t h = h
+marked_sound side e t h = grind arith
 
 end_sound : SendLaws → (side : Side) (e : Ending) (keep : ℕ → ℕ) (t : Tables) → Sound t → Sound (after_end side e keep t)
 end_sound laws side e keep t h = marked_sound side e

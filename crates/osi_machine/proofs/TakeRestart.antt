@@ -83,12 +83,10 @@ cut_seen w k n t o us s st = same_cut w k n t o us (record { all = s; wins = st 
 -- ---- tokens
 
 pub pool_own : (p : Owner) → is_own (all_to_pool p) ≡ false
-pool_own Own = refl
-pool_own _ = refl
+pool_own p = grind arith
 
 pub pool_theirs : (p : Owner) → is_own (turned_owner (all_to_pool p)) ≡ false
-pool_theirs Own = refl
-pool_theirs _ = refl
+pool_theirs p = grind arith
 
 -- ---- the two halves
 

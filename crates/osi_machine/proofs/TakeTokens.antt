@@ -36,8 +36,7 @@ pub record Gains (w : Core) (u : Meaning) (us : List Meaning) (r : State) (k : T
   pub caller : r.is_caller ≡ w.own.session.is_caller
 
 to_own_is : (p : Owner) → is_to_own p ≡ true → p ≡ ToOwn
-to_own_is ToOwn h = refl
-to_own_is _ h = absurd (cc)
+to_own_is p h = grind arith
 
 rest : (w : Core) (u : Meaning) (us : List Meaning) (r : State) (k : Tokens) → Stands (at w (u ∷ us)) → Gains w u us r k → AllFit r us
 rest w u us r k h g = search arith

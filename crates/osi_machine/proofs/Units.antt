@@ -20,8 +20,7 @@ pub next_acted : (s : State) (u : Meaning) → drops s u ≡ false → next s u 
 next_acted s u d = ap (λ (b : Bool). if b then s else becomes s u) d
 
 pub and_false : (b : Bool) → (b && false) ≡ false
-and_false true = refl
-and_false false = refl
+and_false b = grind arith
 
 -- a restart is never discarded unread
 pub restart_acted : (s : State) (u : Meaning) → stops s u ≡ true → drops s u ≡ false
@@ -49,8 +48,7 @@ due_view s u v h f = by_test (drops s u) (λ d. rw d) (λ d. absurd (let n = non
 -- ---- no unit leads to Restarting
 
 pub chosen : (P : State → Type 0) (b : Bool) (x y : State) → P x → P y → P (if b then x else y)
-chosen P true x y h k = h
-chosen P false x y h k = k
+chosen P b x y h k = grind arith
 
 abbrev Hears : State → Type 0
 Hears s = hears s.phase ≡ true

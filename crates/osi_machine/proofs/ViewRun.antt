@@ -104,8 +104,7 @@ taken_tells w (u ∷ us) t e s h shown k =
     (unit_tells t w.own.session u w.own.view w.own.said w.own.got f.0.plain (f.0.good d) (λ o. let z = s.consistent.own.fresh o in (z.view, z.said, z.got)) h))))
 
 taken_peer : (w : Core) (us : List Meaning) (t : Told) → Tells t w.peer.session w.peer.view w.peer.said w.peer.got → Tells t (taking w us).peer.session (taking w us).peer.view (taking w us).peer.said (taking w us).peer.got
-taken_peer w [] t h = h
-taken_peer w (u ∷ us) t h = h
+taken_peer w us t h = grind arith
 
 -- ---- a step
 

@@ -34,12 +34,10 @@ turned_stage b w s t (inr (inr h)) = inr (inr (turned_repeats b w s t h))
 -- ---- a call
 
 same_told : (s : Told) (c : Call) (a : Answer) → told_answer s c a ≡ told_of_call s c (error_of a)
-same_told s c (Ok g) = refl
-same_told s c (Err e) = refl
+same_told s c a = grind arith
 
 pub call_offer : (b : Bool) (c : Call) (w : World) (a : Answer) → (after_answer b c w a).offer ≡ w.offer
-call_offer b c w (Ok g) = refl
-call_offer b c w (Err e) = refl
+call_offer b c w a = grind arith
 
 refused_stage : (b : Bool) (w : World) (s t : Told) (c : Call) → Refuses (session_of w) c → Stage b w s t
     → Stage b (after_answer b c w (allowed (session_of w) c)) (told_of_call s c (error_of (allowed (session_of w) c))) t
