@@ -1,6 +1,6 @@
 -- The outcomes of a unit: it is discarded, or it is a fault, or it is acted on.
-use Rattle.std.proofs.Common.{◌≡◌, refl, sym, ◌∙◌, ap, subst, ℕ, Bool, true, false, not, ◌&&◌, ◌||◌, if◌then◌else◌, List, [], ◌∷◌, Option, Some, None, is_none, arith}
-use Rattle.osi_machine.proofs.Vocabulary.{and_parts, not-true, or_parts, not-false, State, Phase, WaitTransport, Aborting, Ended, Meaning, AB, UnitFault, Outcome, Condition, is_over, is_aborting, is_ended, is_expected, si, conditions, first_fault, becomes, nothing, good, judged, in_aborting, in_ended, take_expected, respond_unit, without_tokens, drops, AllMet, Good, next, is_acted_on, Fits}
+use Rattle.std.proofs.Common.{◌≡◌, refl, sym, ◌∙◌, subst, ℕ, Bool, true, false, not, ◌||◌, if◌then◌else◌, List, [], ◌∷◌, Option, Some, None, is_none, arith}
+use Rattle.osi_machine.proofs.Vocabulary.{and_parts, not-true, not-false, State, Phase, Aborting, Ended, Meaning, UnitFault, Outcome, Condition, is_over, is_aborting, is_ended, first_fault, becomes, nothing, good, judged, in_aborting, in_ended, take_expected, respond_unit, without_tokens, drops, AllMet, Good, next, is_acted_on, Fits}
 use Rattle.osi_machine.proofs.PhaseLaws.{by_test}
 
 none_if : (b : Bool) (a : Option UnitFault) (f : UnitFault) → (if b then a else Some f) ≡ None → (b ≡ true) × (a ≡ None)

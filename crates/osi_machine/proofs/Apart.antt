@@ -1,7 +1,6 @@
 -- A step of one connection changes no other.
-use Rattle.std.proofs.Common.{◌≡◌, refl, sym, ◌∙◌, ap, ℕ, Bool, true, false, if◌then◌else◌, List, [], ◌∷◌, map, Option, Some, None, is_some, arith}
-use Rattle.osi_session.specs.declared.faults.CallError.TheVariants as error
-use Rattle.osi_machine.proofs.Vocabulary.{Call, Side, Left, Right, Class, class_0, class_2, Message, World, Taking, message_taken, closed, Ending, closed_here, Machine, connection_at, seen_from, end_of, stays, noted, shown_at, call_in, side_of, marked_ended, closes_by, after_taking, without_first, learns, taken_in, delivered_to, AreApart}
+use Rattle.std.proofs.Common.{◌≡◌, refl, sym, ◌∙◌, ap, ℕ, false, List, [], ◌∷◌, Option, Some, None, is_some, arith}
+use Rattle.osi_machine.proofs.Vocabulary.{Call, Side, Class, Message, World, Taking, message_taken, Ending, closed_here, Machine, connection_at, seen_from, end_of, call_in, side_of, marked_ended, after_taking, without_first, learns, taken_in, delivered_to, AreApart}
 use Rattle.osi_machine.proofs.Places.{with_other, there_still}
 
 call_other : (m : Machine) (side : Side) (r : ℕ) (c : Call) (k : ℕ) → (k ≡ r → ⊥) → (a : Option World) → connection_at k (call_in m side r c (side_of side a)).worlds ≡ connection_at k m.worlds

@@ -4,7 +4,7 @@ use Rattle.std.proofs.Common.{◌≡◌, refl, sym, ◌∙◌, ap, subst, ℕ, B
 use Rattle.osi_session.specs.declared.faults.CallError.TheVariants as error
 use Rattle.osi_session.specs.Moves.{answered as answered_move}
 use Rattle.osi_machine.specs.Calm.{left_by, after_calls, after_message, IsCalm, StaysCalm, IsNoFaultBehind}
-use Rattle.osi_machine.proofs.Vocabulary.{cases_Bool, AllByRecursion, list_any, Input, called, taken, opened, refused as refused_input, broken, Standing, rests, begun, denied as denied_by, react, verdict, is_faulty, respond_all, acting, and_then, said_of, State, Meaning, DT, Call, HasSerial, CallError, Granted, Answer, Outcome, allowed, is_over, is_wait_transport, respond_unit, AllFit, Core, stays_in_core, answered, taking, Message, unit, ask, agree, deny, bye, over, World, turned, session_of, Machine, connection_at, Told, IsRun, Tables, IsTableRun, AtEachSide}
+use Rattle.osi_machine.proofs.Vocabulary.{cases_Bool, AllByRecursion, list_any, Input, called, taken, Standing, react, verdict, is_faulty, respond_all, acting, and_then, said_of, State, Meaning, DT, Call, HasSerial, CallError, Granted, Answer, Outcome, allowed, is_over, is_wait_transport, respond_unit, Core, stays_in_core, answered, taking, Message, unit, ask, agree, deny, bye, over, World, turned, session_of, Machine, connection_at, Told, IsRun, Tables, IsTableRun, AtEachSide}
 use Rattle.osi_machine.proofs.CoreLaws.{SessionLaws}
 use Rattle.osi_machine.proofs.Dispatch.{called_stands, taking_stands}
 use Rattle.osi_machine.proofs.MachineLaws.{stage_at}

@@ -1,6 +1,6 @@
 -- The calls of MinorConfirm and of MajorConfirm keep what is true of both sides.
 use Rattle.std.proofs.Common.{◌≡◌, refl, sym, ◌∙◌, ap, subst, ℕ, ◌+◌, ◌-◌, ◌==◌, ◌≤◌, ◌<◌, Bool, true, false, not, ◌&&◌, ◌||◌, nat_le, nat_lt, if◌then◌else◌, List, [], ◌⊎◌, inl, inr, Ok, arith}
-use Rattle.osi_machine.proofs.Vocabulary.{append-nil, and_parts, ltb-true, leb-true, lt-ltb, le-leb, eq-eqb, cases_lt, and_from, list_any, State, Phase, Numbers, FunctionalUnits, Ready, MajorDue, Meaning, AC, DT, GT, PT, MIP, MIA, MAP, MAA, RS, RA, FN, NF, data_token, is_wait_cn, is_connecting, is_ready, is_major_asked, is_major_due, is_releasing, is_release_due, is_restarting, is_restart_due, in_major, may_hold, may_confirm_minor, takes_minor_ack, lower, point_taken, minor_confirmed, major_confirmed, becomes, drops, next, Good, MinorConfirm, MajorConfirm, Item, points, AreNumberedFrom, seen, is_plain, AllFit, heard_view, stops, needs_token, Core, answered, is_opening}
+use Rattle.osi_machine.proofs.Vocabulary.{append-nil, and_parts, ltb-true, leb-true, lt-ltb, le-leb, eq-eqb, cases_lt, and_from, list_any, State, Phase, Numbers, FunctionalUnits, Ready, MajorDue, Meaning, MIA, MAA, data_token, is_ready, is_major_asked, is_major_due, is_releasing, is_release_due, is_restarting, may_hold, may_confirm_minor, takes_minor_ack, lower, point_taken, minor_confirmed, major_confirmed, becomes, drops, next, Good, MinorConfirm, MajorConfirm, Item, points, AreNumberedFrom, seen, is_plain, AllFit, heard_view, stops, needs_token, Core, answered, is_opening}
 use Rattle.osi_machine.proofs.PhaseLaws.{implied_both, implied, excluded, implied_two, by_either, by_test}
 use Rattle.osi_machine.proofs.Units.{next_cases, next_hears}
 use Rattle.osi_machine.proofs.ChannelLaws.{kept_heard, heard_flush}

@@ -1,5 +1,5 @@
 -- The call of Data keeps what is true of both sides.
-use Rattle.std.proofs.Common.{◌≡◌, refl, sym, ◌∙◌, ap, subst, ℕ, ◌+◌, Bool, true, false, not, ◌&&◌, if◌then◌else◌, List, [], ◌∷◌, ◌++◌, inl, inr, Ok, append_assoc, arith}
+use Rattle.std.proofs.Common.{◌≡◌, refl, sym, ◌∙◌, ap, subst, ℕ, ◌+◌, Bool, true, false, not, if◌then◌else◌, List, [], ◌∷◌, ◌++◌, inl, inr, Ok, append_assoc, arith}
 use Rattle.osi_machine.proofs.Vocabulary.{append-nil, State, FunctionalUnits, DT, data_token, has, available, is_ready, may_hold, is_restarting, is_restart_due, has_right, Data, drops, Item, Octets, Point, cutat, AreNumberedFrom, Owners, turned_owners, seen, AllFit, flush, heard, hears, view_next, heard_view, data_of, Party, Core, answered, is_opening, IsConsistent, AreConsistent, and_from, not-true, and_right}
 use Rattle.osi_machine.proofs.PhaseLaws.{implied, excluded, implied_two, by_either}
 use Rattle.osi_machine.proofs.ChannelLaws.{fit_append, hears_kept, due_end, heard_flush, view_append, data_append}

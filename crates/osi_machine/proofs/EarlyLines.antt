@@ -1,6 +1,6 @@
 -- While no class is known each connection waits for its caller's first message, or is dead; and where a called
 -- end denies, no agreement is under way.
-use Rattle.std.proofs.Common.{◌≡◌, refl, sym, ◌∙◌, ap, subst, ℕ, Bool, true, false, List, [], ◌∷◌, take, Option, Some, None, Ok, Err, inl, inr, arith}
+use Rattle.std.proofs.Common.{◌≡◌, refl, sym, ◌∙◌, ap, subst, ℕ, Bool, true, false, List, ◌∷◌, take, Option, Some, None, Ok, Err, inl, inr, arith}
 use Rattle.osi_machine.proofs.Vocabulary.{append-nil, list_any, Meaning, Call, Answer, allowed, respond_unit, Message, unit, ask, agree, deny, bye, over, Transport, not_yet, waiting, linked, closing, gone, World, turned, session_of, put, replied, after_answer, Terms, denies, message_taken, closed, ended_at, without_first, Told, or_parts}
 use Rattle.osi_machine.proofs.Lines.{cut_to}
 use Rattle.osi_machine.proofs.Projects.{not_both}

@@ -1,7 +1,7 @@
 -- A side that gives tokens away: what is under way to it goes on fitting, and leaves it the same but for
 -- those tokens.
-use Rattle.std.proofs.Common.{◌≡◌, refl, sym, ◌∙◌, ap, subst, Bool, true, false, not, ◌&&◌, ◌||◌, if◌then◌else◌, List, ◌⊎◌, inl, inr, arith}
-use Rattle.osi_machine.proofs.Vocabulary.{and_parts, or_left, and_from, not-true, State, Tokens, Meaning, CN, AC, DT, GT, PT, MIP, MIA, MAP, MAA, RS, RA, FN, NF, Token, data_token, minor, major, release, has, some, is_empty, is_within, is_disjoint, without, united, available, lacks, may_ask, is_wait_cn, is_connecting, is_releasing, is_restarting, is_restart_due, becomes, stands, drops, Good, Item, Fits, stops, view_next}
+use Rattle.std.proofs.Common.{◌≡◌, refl, sym, ◌∙◌, ap, subst, Bool, true, false, not, ◌&&◌, ◌||◌, List, ◌⊎◌, inl, inr, arith}
+use Rattle.osi_machine.proofs.Vocabulary.{and_parts, or_left, and_from, not-true, State, Tokens, Meaning, DT, GT, MIP, MAP, FN, Token, data_token, minor, major, release, has, some, is_empty, is_within, is_disjoint, without, united, available, lacks, may_ask, is_restart_due, becomes, stands, Good, Item, Fits, stops, view_next}
 use Rattle.osi_machine.proofs.PhaseLaws.{excluded, cut_or}
 use Rattle.osi_machine.proofs.Units.{next_acted, restart_due, due_next}
 use Rattle.osi_machine.proofs.ChannelLaws.{Steps}

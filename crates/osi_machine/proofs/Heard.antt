@@ -1,6 +1,6 @@
 -- What a side will have seen when it has heard all before a restart that stands, and what is confirmed then.
-use Rattle.std.proofs.Common.{◌≡◌, refl, sym, ◌∙◌, ap, subst, ℕ, ◌+◌, ◌≤◌, ◌<◌, Bool, true, false, if◌then◌else◌, List, [], ◌∷◌, ◌++◌, append_assoc, arith}
-use Rattle.osi_machine.proofs.Vocabulary.{append-nil, leb-true, ltb-true, and_parts, State, Meaning, CN, AC, RF, DT, GT, PT, MIP, MIA, MAP, MAA, RS, RA, FN, DN, NF, AB, AA, is_wait_cn, is_connecting, is_acknowledgeable, point_taken, minor_confirmed, major_confirmed, becomes, drops, Good, next, Item, Octets, Point, minor_kind, major_point, points, Begins, seen, is_plain, Fits, AllFit, stops, heard, hears, view_next, heard_view, Party, is_opening, IsConsistent}
+use Rattle.std.proofs.Common.{◌≡◌, refl, sym, ◌∙◌, ap, subst, ℕ, ◌+◌, ◌≤◌, true, false, List, [], ◌∷◌, ◌++◌, append_assoc, arith}
+use Rattle.osi_machine.proofs.Vocabulary.{append-nil, State, Meaning, DT, MIP, MAP, RS, point_taken, minor_confirmed, major_confirmed, becomes, drops, Good, next, Item, Octets, Point, minor_kind, major_point, points, Begins, seen, is_plain, Fits, AllFit, stops, heard, hears, view_next, heard_view, Party, is_opening, IsConsistent}
 use Rattle.osi_machine.proofs.Records.{hearing, Views}
 use Rattle.osi_machine.proofs.PhaseLaws.{by_test}
 use Rattle.osi_machine.proofs.Units.{fit_cases}

@@ -1,6 +1,6 @@
 -- Calls that send a unit which changes no state: what is sent, and what both sides then are.
-use Rattle.std.proofs.Common.{◌≡◌, refl, sym, ◌∙◌, ap, subst, ℕ, Bool, true, false, not, ◌&&◌, ◌||◌, if◌then◌else◌, List, [], ◌∷◌, ◌++◌, ◌⊎◌, inl, inr, arith}
-use Rattle.osi_machine.proofs.Vocabulary.{list_any, State, FunctionalUnits, Meaning, DT, PT, Tokens, Token, data_token, has, available, has_right, is_within, is_ready, may_ask, may_hold, takes_data, takes_please, is_restarting, is_restart_due, becomes, drops, next, Item, Owners, Owner, Own, Absent, turned_owner, turned_owners, is_own, is_to_own, is_absent, seen, Fits, AllFit, flush, stops, heard, hears, view_next, heard_view, Party, is_opening, and_from, not_from_false}
+use Rattle.std.proofs.Common.{◌≡◌, refl, sym, ◌∙◌, ap, subst, ℕ, Bool, true, false, not, ◌&&◌, ◌||◌, List, [], ◌∷◌, ◌++◌, ◌⊎◌, inl, inr, arith}
+use Rattle.osi_machine.proofs.Vocabulary.{list_any, State, FunctionalUnits, Meaning, DT, PT, Tokens, Token, data_token, has, available, has_right, is_within, is_ready, may_ask, may_hold, takes_data, takes_please, is_restarting, is_restart_due, becomes, Item, Owners, Owner, turned_owner, turned_owners, is_own, is_to_own, is_absent, seen, Fits, AllFit, flush, heard, hears, heard_view, Party, is_opening, not_from_false}
 use Rattle.osi_machine.proofs.PhaseLaws.{implied_both, implied, excluded, if_first, by_either}
 use Rattle.osi_machine.proofs.Units.{next_cases, next_hears}
 use Rattle.osi_machine.proofs.ChannelLaws.{fit_append, flush_append, kept_heard, heard_flush, heard_append, heard_append_due, view_append, view_append_due}

@@ -1,8 +1,8 @@
 -- What the moves of one connection keep is true of each connection of a machine after every list of steps.
-use Rattle.std.proofs.Common.{◌≡◌, refl, sym, ◌∙◌, ap, subst, ℕ, zero, suc, ◌+◌, ◌==◌, ◌<◌, ◌≤◌, Bool, true, false, not, ◌&&◌, ◌||◌, if◌then◌else◌, List, [], ◌∷◌, ◌++◌, map, length, length-append, Option, Some, None, is_some, append_assoc, arith}
+use Rattle.std.proofs.Common.{◌≡◌, refl, sym, ◌∙◌, ap, subst, ℕ, zero, suc, ◌+◌, ◌==◌, ◌<◌, ◌≤◌, Bool, true, false, ◌&&◌, if◌then◌else◌, List, [], ◌∷◌, ◌++◌, map, length, length-append, Option, Some, None, is_some, append_assoc, arith}
 use Rattle.osi_session.specs.declared.faults.CallError.TheVariants as error
 use Rattle.osi_machine.specs.Machine.{ends_there}
-use Rattle.osi_machine.proofs.Vocabulary.{append-nil, AllByRecursion, slice_get, Shown, CallError, Call, HasSerial, allowed, is_profile, Offer, CanBeOffered, Side, Left, Right, Class, class_0, class_2, Message, Transport, World, session_of, asked_with, after_answer, Terms, closed, shown_at_end, Ending, closed_here, Refusal, Step, connects, calls, delivers, breaks, ends, Entry, connect_answered, call_answered, shown_at, ended, Machine, start, connection_at, replaced, seen_from, end_of, stays, noted, is_given, refusal_by, transport_of, refusal, asked_in, error_of, call_in, side_of, ended_worlds, shown_in_order, marked_ended, after_end, closes_by, after_taking, learns, taken_in, delivered_to, cut_channels, is_told, step, run, HasNumber, Told, told_by, is_side, record_of, untold, told_of, and_right, not-false, offers_in}
+use Rattle.osi_machine.proofs.Vocabulary.{append-nil, AllByRecursion, slice_get, Shown, CallError, Call, HasSerial, allowed, is_profile, Offer, CanBeOffered, Side, Left, Right, Class, class_0, class_2, Message, Transport, World, session_of, asked_with, after_answer, Terms, closed, shown_at_end, Ending, closed_here, Refusal, Step, Entry, connect_answered, call_answered, shown_at, ended, Machine, start, connection_at, replaced, seen_from, stays, noted, is_given, refusal_by, transport_of, refusal, asked_in, error_of, call_in, side_of, ended_worlds, shown_in_order, marked_ended, after_end, closes_by, after_taking, learns, taken_in, delivered_to, cut_channels, step, run, HasNumber, Told, told_by, is_side, record_of, untold, told_of, and_right, not-false, offers_in}
 use Rattle.osi_machine.proofs.ViewFold.{told_all}
 use Rattle.osi_machine.proofs.ViewRun.{record_append, other}
 use Rattle.osi_machine.proofs.Lines.{told_of_call, taking_of, IsKept, IsBy, told_more, told_same, other_number, call_by, shown_by, other_side, call_own, shown_own, Lines, seen_told, change_line}

@@ -2,7 +2,7 @@
 use Rattle.std.proofs.Common.{◌≡◌, refl, sym, ◌∙◌, ap, subst, ℕ, zero, suc, ◌+◌, Bool, true, false, not, ◌&&◌, ◌||◌, if◌then◌else◌, List, [], ◌∷◌, ◌++◌, map, Option, Some, None, is_some, inl, inr, ◌⊎◌, arith}
 use Rattle.osi_session.specs.declared.faults.CallError.TheVariants as error
 use Rattle.osi_machine.specs.Machine.{ends_there}
-use Rattle.osi_machine.proofs.Vocabulary.{AllByRecursion, list_any, slice_get, Shown, Lost, Call, allowed, shows_loss, Offer, Side, Left, Right, Class, class_0, class_2, Message, agree, Transport, waiting, World, turned, session_of, asked_with, after_answer, Taking, Terms, accepts, denies, message_taken, closed, ended_at, shown_at_end, Ending, closed_here, Refusal, Step, connects, calls, delivers, breaks, ends, Entry, connect_answered, call_answered, shown_at, ended, Machine, start, connection_at, replaced, with_connection, seen_from, end_of, stays, noted, is_given, is_waiting, is_known, is_class_0, transport_of, refusal, asked_in, error_of, call_in, side_of, ended_worlds, shown_in_order, marked_ended, after_end, closes_by, after_taking, without_first, learns, taken_in, delivered_to, cut_channels, is_told, step, run, HasNumber, Told, is_side, is_loss, loses, LosesByItsEnd, IsRun, or_parts}
+use Rattle.osi_machine.proofs.Vocabulary.{AllByRecursion, list_any, slice_get, Shown, Call, allowed, shows_loss, Offer, Side, Left, Right, Class, class_0, class_2, Message, Transport, waiting, World, turned, session_of, asked_with, after_answer, Taking, Terms, accepts, denies, message_taken, closed, ended_at, shown_at_end, Ending, closed_here, Refusal, Step, connects, calls, delivers, breaks, ends, Entry, connect_answered, call_answered, shown_at, ended, Machine, start, connection_at, replaced, with_connection, seen_from, end_of, stays, noted, is_given, is_waiting, is_known, is_class_0, transport_of, refusal, asked_in, error_of, call_in, side_of, ended_worlds, shown_in_order, marked_ended, after_end, closes_by, after_taking, without_first, learns, taken_in, delivered_to, cut_channels, is_told, step, run, HasNumber, Told, is_side, is_loss, loses, LosesByItsEnd, IsRun, or_parts}
 use Rattle.osi_machine.proofs.CoreLaws.{SessionLaws}
 use Rattle.osi_machine.proofs.Projects.{stopped}
 use Rattle.osi_machine.proofs.Lines.{Lines, cut_to}

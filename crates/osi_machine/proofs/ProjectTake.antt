@@ -1,7 +1,7 @@
 -- A unit is taken at a whole connection, and in the core.
 use Rattle.std.proofs.Common.{◌≡◌, refl, sym, ◌∙◌, ap, subst, ℕ, ◌+◌, Bool, true, false, not, ◌&&◌, ◌||◌, if◌then◌else◌, List, [], ◌∷◌, ◌++◌, map, length, Option, Some, None, ◌⊎◌, inl, inr, arith}
 use Rattle.osi_machine.specs.Core.{turned}
-use Rattle.osi_machine.proofs.Vocabulary.{or_parts, append-nil, length-append, list_any, TokenSetting, TsduMaximumSize, State, Meaning, CN, AC, RF, GT, RS, RA, AB, Token, has, Outcome, is_over, is_acceptable, are_sizes, has_data, functional_units, respond_unit, becomes, stands, drops, reply_for, Item, cutat, Owners, is_own, turned_owner, left_by, is_acted_on, seen, got_in, cut_by, owners_after, is_plain, AllFit, Fits, Core, taking, Message, unit, Kept, World, put, mark_after, replied, after_unit, turned as turned_world, without_first}
+use Rattle.osi_machine.proofs.Vocabulary.{or_parts, append-nil, length-append, list_any, TokenSetting, TsduMaximumSize, State, Meaning, CN, AC, RF, GT, RS, RA, AB, Token, has, is_over, is_acceptable, are_sizes, has_data, functional_units, respond_unit, becomes, stands, reply_for, Item, cutat, Owners, is_own, turned_owner, left_by, is_acted_on, seen, got_in, cut_by, owners_after, is_plain, Fits, Core, taking, Message, unit, World, put, mark_after, replied, after_unit, turned as turned_world, without_first}
 use Rattle.osi_machine.proofs.Records.{Stands}
 use Rattle.osi_machine.proofs.Acting.{no_fault}
 use Rattle.osi_machine.proofs.Alive.{alive}

@@ -1,6 +1,6 @@
 -- What follows for two users from what is true of both sides.
-use Rattle.std.proofs.Common.{◌≡◌, refl, sym, ◌∙◌, ap, subst, ℕ, zero, suc, ◌+◌, ◌-◌, ◌≤◌, ◌<◌, Bool, true, false, not, ◌&&◌, if◌then◌else◌, List, [], ◌∷◌, ◌++◌, length, length-append, inl, inr, append_assoc, arith}
-use Rattle.osi_machine.proofs.Vocabulary.{append-nil, is_profile, State, Numbers, has, Meaning, DT, MIP, MAP, FunctionalUnits, is_restarting, functional_units, Item, Octets, Point, PointKind, points, upto, AreNumberedFrom, Begins, Agree, Owner, Own, turned_owner, is_own, is_acted_on, seen, cut_by, data_of, Offer, CanBeOffered, Party, Core, taking, core_start, is_opening, IsReached, OneHolder, HoldsItsOwn, TakesNoFault, SeesTheHistory, ViewsAgree, GotWhatWasSaid, TakesTheNextItem, ConfirmedIsSeen}
+use Rattle.std.proofs.Common.{◌≡◌, refl, sym, ◌∙◌, ap, subst, ℕ, zero, suc, ◌+◌, ◌-◌, ◌≤◌, ◌<◌, Bool, true, false, not, if◌then◌else◌, List, [], ◌∷◌, ◌++◌, length, length-append, inl, inr, append_assoc, arith}
+use Rattle.osi_machine.proofs.Vocabulary.{append-nil, is_profile, State, Numbers, Meaning, DT, MIP, MAP, FunctionalUnits, is_restarting, Item, Octets, Point, PointKind, points, upto, AreNumberedFrom, Begins, Agree, is_acted_on, seen, cut_by, data_of, Offer, CanBeOffered, Party, Core, taking, core_start, is_opening, IsReached, OneHolder, HoldsItsOwn, TakesNoFault, SeesTheHistory, ViewsAgree, GotWhatWasSaid, TakesTheNextItem, ConfirmedIsSeen}
 use Rattle.osi_machine.proofs.Records.{hearing, Views, Stands}
 use Rattle.osi_machine.proofs.Units.{next_hears}
 use Rattle.osi_machine.proofs.ChannelLaws.{kept_heard}

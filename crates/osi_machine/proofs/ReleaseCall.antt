@@ -1,6 +1,6 @@
 -- The calls of Release and of ReleaseRefuse keep what is true of both sides.
-use Rattle.std.proofs.Common.{◌≡◌, refl, sym, ◌∙◌, ap, subst, ℕ, ◌≤◌, ◌<◌, Bool, true, false, not, ◌&&◌, ◌||◌, if◌then◌else◌, List, [], ◌∷◌, ◌++◌, inl, inr, Ok, arith}
-use Rattle.osi_machine.proofs.Vocabulary.{append-nil, and_parts, and_from, not-true, or_parts, and_right, list_any, State, Phase, Numbers, FunctionalUnits, Ready, Releasing, ReleaseDue, Tokens, Meaning, AC, DT, GT, PT, MIP, MIA, MAP, MAA, RS, RA, FN, NF, Token, data_token, minor, major, has, available, each, has_right, is_empty, is_within, is_disjoint, is_ready, is_releasing, is_release_due, is_restarting, is_restart_due, is_wait_cn, is_connecting, is_major_asked, lower, passes_restarting, has_no_effect, may_hold, becomes, next, Good, Release, ReleaseRefuse, AreNumberedFrom, turned_owners, is_plain, Fits, AllFit, flush, stops, heard_view, needs_token, Core, answered, is_opening}
+use Rattle.std.proofs.Common.{◌≡◌, refl, sym, ◌∙◌, ap, subst, ℕ, ◌≤◌, ◌<◌, Bool, true, false, not, ◌&&◌, ◌||◌, List, [], ◌∷◌, ◌++◌, Ok, arith}
+use Rattle.osi_machine.proofs.Vocabulary.{append-nil, and_parts, not-true, or_parts, and_right, list_any, State, Phase, Numbers, FunctionalUnits, Ready, Releasing, ReleaseDue, Tokens, Meaning, DT, GT, PT, MIP, MIA, MAP, RS, FN, NF, Token, data_token, minor, major, has, available, each, has_right, is_empty, is_within, is_disjoint, is_ready, is_releasing, is_release_due, is_restarting, is_restart_due, lower, passes_restarting, has_no_effect, may_hold, becomes, next, Good, Release, ReleaseRefuse, AreNumberedFrom, turned_owners, is_plain, Fits, AllFit, flush, stops, heard_view, needs_token, Core, answered, is_opening}
 use Rattle.osi_machine.proofs.PhaseLaws.{implied_both, implied, excluded, by_either, by_test}
 use Rattle.osi_machine.proofs.Units.{next_cases, fit_cases, next_acted, next_dropped, next_hears}
 use Rattle.osi_machine.proofs.ChannelLaws.{kept_all, kept_heard, heard_flush}

@@ -1,7 +1,7 @@
 -- The call of Restart keeps what is true of both sides.
-use Rattle.std.proofs.Common.{◌≡◌, refl, sym, ◌∙◌, ap, subst, ℕ, ◌+◌, ◌-◌, ◌≤◌, true, false, not, ◌&&◌, ◌||◌, if◌then◌else◌, List, [], ◌∷◌, ◌++◌, Ok, inl, inr, arith}
+use Rattle.std.proofs.Common.{◌≡◌, refl, sym, ◌∙◌, ap, subst, ℕ, ◌+◌, ◌-◌, ◌≤◌, true, false, ◌||◌, List, [], ◌∷◌, ◌++◌, Ok, arith}
 use Rattle.osi_spdu.specs.declared.fields.ResyncType.TheVariants as resync
-use Rattle.osi_machine.proofs.Vocabulary.{append-nil, leb-true, and_parts, and_from, both_ways, TokenSetting, State, FunctionalUnits, RS, has, available, is_restarting, is_restart_due, is_release_due, restarted_at, is_restartable, offered, Restart, IsSound, next, Item, points, cutat, Begins, Owner, Own, turned_owner, turned_owners, is_own, is_to_own, is_absent, own_to_pool, given_up, flush, heard, hears, data_of, Party, Core, answered, AreConsistent}
+use Rattle.osi_machine.proofs.Vocabulary.{append-nil, leb-true, and_parts, TokenSetting, State, FunctionalUnits, RS, has, available, is_restarting, is_restart_due, is_release_due, restarted_at, is_restartable, offered, Restart, IsSound, Item, points, cutat, Begins, Owner, turned_owner, turned_owners, is_own, is_to_own, is_absent, own_to_pool, given_up, flush, heard, hears, data_of, Party, Core, answered, AreConsistent}
 use Rattle.osi_machine.proofs.PhaseLaws.{by_test}
 use Rattle.osi_machine.proofs.ChannelLaws.{fit_append, flush_append, due_end, data_append}
 use Rattle.osi_machine.proofs.HistoryLaws.{upto_append}

@@ -1,6 +1,6 @@
 -- What is under way to a side when it asks for a restart: all of it is discarded, but for one restart.
-use Rattle.std.proofs.Common.{◌≡◌, refl, sym, ◌∙◌, ap, ℕ, Bool, true, false, ◌&&◌, ◌||◌, nat_le, if◌then◌else◌, List, [], ◌∷◌, ◌⊎◌, inl, inr, arith}
-use Rattle.osi_machine.proofs.Vocabulary.{and_parts, TokenSetting, ResyncType, State, Meaning, RS, is_restarting, is_restart_due, passes_restarting, restarted_at, stands, next, Item, cutat, seen, Fits, AllFit, flush, stops, heard, view_next, heard_view, is_opening}
+use Rattle.std.proofs.Common.{◌≡◌, refl, ℕ, Bool, true, false, ◌||◌, List, [], ◌∷◌, ◌⊎◌, inl, arith}
+use Rattle.osi_machine.proofs.Vocabulary.{and_parts, TokenSetting, ResyncType, State, Meaning, RS, is_restarting, is_restart_due, passes_restarting, restarted_at, stands, next, Item, Fits, AllFit, flush, stops, heard, heard_view}
 use Rattle.osi_machine.proofs.PhaseLaws.{excluded, if_first, by_test}
 use Rattle.osi_machine.proofs.Units.{fit_cases, next_dropped, none_due, restart_due, and_false}
 use Rattle.osi_machine.proofs.Begun.{becomes_open, is_lively, Lively, becomes_lively}

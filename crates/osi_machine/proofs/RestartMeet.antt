@@ -1,5 +1,5 @@
 -- How two sides meet after one of them has asked for a restart.
-use Rattle.std.proofs.Common.{◌≡◌, refl, sym, ◌∙◌, ap, subst, ℕ, ◌+◌, ◌==◌, ◌≤◌, Bool, true, false, not, ◌&&◌, ◌||◌, nat_le, nat_lt, if◌then◌else◌, List, inl, inr, arith}
+use Rattle.std.proofs.Common.{◌≡◌, refl, sym, ◌∙◌, ap, subst, ℕ, ◌+◌, ◌==◌, ◌≤◌, Bool, true, false, not, ◌&&◌, ◌||◌, nat_le, nat_lt, List, inl, inr, arith}
 use Rattle.osi_spdu.specs.declared.fields.ResyncType.TheVariants as resync
 use Rattle.osi_machine.proofs.Vocabulary.{lt-ltb, le-ltb, le-leb, eq-eqb, ne_eqb, cases_order, and_from, not-true, TokenSetting, State, FunctionalUnits, Restarting, RS, may_restart, takes_restart, is_restarting, is_restart_due, is_connecting, without_tokens, restarted_at, stands, points, Fits, flush, hears, Core, is_opening}
 use Rattle.osi_machine.proofs.PhaseLaws.{implied_both, implied, excluded, implied_two, by_test}

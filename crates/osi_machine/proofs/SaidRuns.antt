@@ -1,9 +1,8 @@
 -- What each side of a connection said, and what the other heard of it, over lists of steps.
 use Rattle.std.proofs.Common.{◌≡◌, refl, sym, ◌∙◌, ap, subst, ℕ, zero, suc, ◌+◌, Bool, true, false, not, ◌&&◌, ◌||◌, ◌==◌, if◌then◌else◌, List, [], ◌∷◌, ◌++◌, append_assoc, map, Option, Some, None, is_some, inl, inr, ◌⊎◌, arith}
-use Rattle.osi_session.specs.declared.faults.CallError.TheVariants as error
 use Rattle.osi_session.specs.Phases.{is_ended}
-use Rattle.osi_machine.specs.Tables.{asked_with, after_call, message_taken, closed, start, seen_from, side_of, end_of, stays, noted, refusal, asked_in, call_in, shown_in_order, marked_ended, after_end, closes_by, without_first, taken_in, delivered_to, cut_channels, step, run}
-use Rattle.osi_machine.proofs.Vocabulary.{eqb-true, eq-eqb, append-nil, slice_get, called, react, Meaning, Call, Begins, Offer, Side, Left, Right, Class, class_2, Message, Transport, Terms, Ending, closed_here, Refusal, Step, connects, calls, delivers, breaks, ends, shown_at, ended, connection_at, with_connection, is_given, learns, is_told, Line, Turn, Tables, ends_there, ended_lines, after_turn, cut_line, one_or_none, said_to, heard_of, said_to_first, heard_of_first, said_at_delivery, heard_at_delivery, said_at_call, said_at, heard_at, said_in, heard_in, other_side, units_in, is_parting, IsHeardAsSaid}
+use Rattle.osi_machine.specs.Tables.{after_call, message_taken, closed, start, seen_from, side_of, end_of, stays, noted, refusal, asked_in, call_in, marked_ended, after_end, closes_by, without_first, taken_in, delivered_to, cut_channels, step, run}
+use Rattle.osi_machine.proofs.Vocabulary.{eqb-true, eq-eqb, append-nil, slice_get, called, react, Meaning, Call, Begins, Offer, Side, Left, Right, Class, class_2, Message, Transport, Terms, Ending, closed_here, Refusal, Step, connects, calls, delivers, breaks, ends, shown_at, connection_at, with_connection, is_given, learns, Line, Turn, Tables, ends_there, ended_lines, after_turn, cut_line, one_or_none, said_to, heard_of, said_to_first, heard_of_first, said_at_delivery, heard_at_delivery, said_at_call, said_at, heard_at, said_in, heard_in, other_side, units_in, IsHeardAsSaid}
 use Rattle.osi_machine.proofs.Places.{with_other, with_same, ended_there, cut_there, some_same}
 use Rattle.osi_machine.proofs.SaidLines.{SayLaws, Words, silent, and_more, Carried}
 use Rattle.osi_machine.proofs.SaidMoves.{Told, turned_told, call_told, close_told, ends_told, cut_told, asked_told, message_told}

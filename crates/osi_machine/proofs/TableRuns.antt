@@ -1,10 +1,10 @@
 -- Over every list of steps the tables do what the machine does.
-use Rattle.std.proofs.Common.{◌≡◌, refl, sym, ◌∙◌, ap, subst, ℕ, zero, suc, ◌+◌, Bool, true, false, not, ◌||◌, if◌then◌else◌, List, [], ◌∷◌, ◌++◌, map, Option, Some, None, is_some, inl, inr, arith}
+use Rattle.std.proofs.Common.{◌≡◌, refl, sym, ◌∙◌, ap, subst, ℕ, zero, suc, ◌+◌, Bool, not, ◌||◌, if◌then◌else◌, List, [], ◌∷◌, ◌++◌, map, Option, Some, None, is_some, inl, inr, arith}
 use Rattle.osi_machine.specs.Machine.{ends_there}
 use Rattle.osi_machine.specs.Tables as tables
 use Rattle.osi_machine.proofs.Vocabulary.{AllByRecursion, slice_get, taken, broken as broken_off, react, Shown, said_of, CallError, Call, HasSerial, Meaning, allowed, Offer, Side, Left, Right, Class, class_2, Message, unit, Transport, linked, World, turned, session_of, after_answer, Taking, unit_taken, Terms, message_taken, shown_at_end, Ending, closed_here, Refusal, Step, connects, calls, delivers, breaks, ends, Entry, connect_answered, call_answered, shown_at, Machine, start, connection_at, replaced, with_connection, seen_from, end_of, stays, noted, is_given, refusal_by, transport_of, refusal, asked_in, error_of, call_in, side_of, ended_worlds, shown_in_order, marked_ended, after_end, closes_by, after_taking, without_first, learns, taken_in, delivered_to, cut_channels, is_told, step, run, HasNumber, Line, Turn, Tables, cut_line, Told, told_of}
 use Rattle.osi_machine.proofs.CoreLaws.{SessionLaws}
-use Rattle.osi_machine.proofs.ProjectStart.{Way, agreed, asks, replies, caller_refuses, called_refuses, Refuses}
+use Rattle.osi_machine.proofs.ProjectStart.{Way, asks, replies, caller_refuses, called_refuses, Refuses}
 use Rattle.osi_machine.proofs.LinesRun.{IsGood, step_good}
 use Rattle.osi_machine.proofs.Whole.{Stage, Whole, whole_kept, turned_back, turned_stage}
 use Rattle.osi_machine.proofs.MachineLaws.{line_at}

@@ -1,7 +1,7 @@
 -- A unit is taken that changes nothing of its taker's state: data, a request for tokens, and all that is
 -- discarded. It keeps what is true of both sides.
 use Rattle.std.proofs.Common.{◌≡◌, refl, sym, ◌∙◌, ap, subst, ℕ, Bool, true, false, not, ◌&&◌, ◌||◌, if◌then◌else◌, List, [], ◌∷◌, ◌++◌, append_assoc, arith}
-use Rattle.osi_machine.proofs.Vocabulary.{append-nil, list_any, State, FunctionalUnits, Meaning, DT, PT, Tokens, data_token, is_empty, takes_data, has_no_effect, is_restarting, is_restart_due, drops, next, Item, Owners, turned_owners, is_acted_on, got_in, cut_by, owners_after, AllFit, flush, stops, heard, hears, view_next, heard_view, data_in, data_of, needs_token, Party, Core, taking, is_opening, IsConsistent, AreConsistent}
+use Rattle.osi_machine.proofs.Vocabulary.{append-nil, list_any, State, FunctionalUnits, Meaning, DT, PT, Tokens, is_empty, takes_data, has_no_effect, is_restarting, is_restart_due, drops, next, Item, Owners, turned_owners, is_acted_on, got_in, cut_by, owners_after, AllFit, flush, stops, heard, hears, view_next, heard_view, data_in, data_of, Party, Core, taking, is_opening, IsConsistent, AreConsistent}
 use Rattle.osi_machine.proofs.PhaseLaws.{excluded, if_first, by_test}
 use Rattle.osi_machine.proofs.Units.{restart_acted, next_acted, next_dropped, next_hears}
 use Rattle.osi_machine.proofs.Records.{Meeting, Half, Views, Counting, Counts, IsOfProfile, Pair, Stands}

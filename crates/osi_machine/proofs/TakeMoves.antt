@@ -1,7 +1,7 @@
 -- A unit is taken that cuts nothing off: what has to be known of it, so that all that is true of both sides
 -- stays.
 use Rattle.std.proofs.Common.{◌≡◌, refl, sym, ◌∙◌, ap, subst, ℕ, ◌≤◌, ◌<◌, Bool, true, false, not, if◌then◌else◌, List, [], ◌∷◌, ◌++◌, arith}
-use Rattle.osi_machine.proofs.Vocabulary.{append-nil, list_any, State, Tokens, has, data_token, Meaning, lower, is_restarting, is_restart_due, is_release_due, is_releasing, drops, next, Item, cutat, AreNumberedFrom, Owners, turned_owners, is_acted_on, seen, got_in, cut_by, owners_after, AllFit, flush, stops, heard, hears, view_next, heard_view, data_in, data_of, needs_token, Party, Core, taking, AreConsistent}
+use Rattle.osi_machine.proofs.Vocabulary.{append-nil, list_any, State, data_token, Meaning, lower, is_restarting, is_restart_due, is_release_due, is_releasing, drops, next, Item, cutat, AreNumberedFrom, Owners, turned_owners, is_acted_on, seen, got_in, cut_by, owners_after, AllFit, flush, stops, heard, hears, view_next, heard_view, data_in, data_of, needs_token, Party, Core, taking, AreConsistent}
 use Rattle.osi_machine.proofs.Records.{Meeting, Half, Counting, IsOfProfile, Stands}
 use Rattle.osi_machine.proofs.Units.{next_hears}
 use Rattle.osi_machine.proofs.ChannelLaws.{kept_heard, due_end}

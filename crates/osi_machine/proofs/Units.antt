@@ -1,6 +1,6 @@
 -- What a unit does to the state of its taker, case by case.
-use Rattle.std.proofs.Common.{◌≡◌, refl, sym, ap, subst, Bool, true, false, ◌&&◌, if◌then◌else◌, List, arith}
-use Rattle.osi_machine.proofs.Vocabulary.{State, Phase, Meaning, CN, AC, RF, DT, GT, PT, MIP, MIA, MAP, MAA, RS, RA, FN, DN, NF, AB, AA, is_wait_cn, is_connecting, is_restarting, is_restart_due, takes_data, takes_please, takes_minor_ack, takes_restart, is_ready, is_major_asked, is_releasing, may_ask, is_expected, is_acceptable, becomes, stands, drops, next, Good, Item, is_plain, Fits, stops, hears, view_next}
+use Rattle.std.proofs.Common.{◌≡◌, refl, ap, Bool, true, false, ◌&&◌, if◌then◌else◌, List, arith}
+use Rattle.osi_machine.proofs.Vocabulary.{State, Phase, Meaning, RS, is_restarting, is_restart_due, is_expected, becomes, drops, next, Good, Item, is_plain, Fits, stops, hears, view_next}
 use Rattle.osi_machine.proofs.PhaseLaws.{by_test}
 
 -- ---- a unit is dropped, or acted on

@@ -1,7 +1,7 @@
 -- Over every list of steps of the core, the records of both sides tell what each has seen.
 use Rattle.std.proofs.Common.{◌≡◌, refl, sym, ◌∙◌, ap, subst, ℕ, Bool, true, false, not, if◌then◌else◌, List, [], ◌∷◌, ◌++◌, map, Option, Some, None, Ok, Err, arith}
 use Rattle.osi_machine.specs.Core.{turned, called}
-use Rattle.osi_machine.proofs.Vocabulary.{AllByRecursion, Shown, CallError, State, Call, Granted, Answer, Outcome, Meaning, is_over, nothing, good, drops, allowed, respond_unit, Item, Agree, is_acted_on, seen, got_in, AllFit, Core, CoreStep, call_at, take_at, Side, Left, Right, Offer, stays_in_core, view_called, speaks, answered, taking, takes, core_step, core_run, core_start, IsNumberedStep, Entry, call_answered, shown_at, error_of, Told, told_call, told_shown, told_entry, told_by, is_of, record_of, untold, call_entries, take_entries, core_entries, core_journal, left_told, right_told, AreTold}
+use Rattle.osi_machine.proofs.Vocabulary.{AllByRecursion, Shown, CallError, State, Call, Granted, Answer, Outcome, Meaning, is_over, nothing, good, drops, allowed, respond_unit, Agree, is_acted_on, seen, got_in, AllFit, Core, CoreStep, call_at, take_at, Side, Left, Right, Offer, stays_in_core, view_called, speaks, answered, taking, takes, core_step, core_run, core_start, IsNumberedStep, Entry, call_answered, shown_at, error_of, Told, told_call, told_shown, told_entry, told_by, is_of, record_of, untold, call_entries, take_entries, core_entries, core_journal, left_told, right_told, AreTold}
 use Rattle.osi_machine.proofs.CoreLaws.{SessionLaws}
 use Rattle.osi_machine.proofs.Records.{Stands}
 use Rattle.osi_machine.proofs.Alive.{alive}
