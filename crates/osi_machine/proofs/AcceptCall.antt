@@ -1,12 +1,12 @@
 -- The call of Accept keeps what is true of both sides.
-use Rattle.std.proofs.Common.{◌≡◌, refl, sym, ◌∙◌, ap, subst, ℕ, Bool, true, false, not, ◌&&◌, if◌then◌else◌, List, [], ◌∷◌, ◌++◌, Ok, arith}
-use Rattle.osi_machine.proofs.Vocabulary.{and_parts, and_from, agreed_base, TokenSetting, TsduMaximumSize, State, FunctionalUnits, Sides, Meaning, AC, Tokens, Token, has, available, functional_units, both_units, units_within, has_data, is_profile, settle, setting_of, of_asker, of_answerer, stated, answers_wishes, base_for, serial_for, opened_with, is_answering, is_connecting, is_restarting, is_restart_due, may_hold, Accept, are_sizes, answered_sizes, becomes, drops, next, Item, turned_owners, settled_by, Fits, flush, heard, hears, heard_view, data_of, Party, Core, answered, is_opening, IsFresh, AreConsistent}
+use Rattle.std.proofs.Common.{◌≡◌, refl, sym, ◌∙◌, ap, subst, ℕ, Bool, true, false, not, ◌&&◌, List, [], ◌∷◌, ◌++◌, Ok, arith}
+use Rattle.osi_machine.proofs.Vocabulary.{append-nil, and_parts, and_from, agreed_base, TsduMaximumSize, State, FunctionalUnits, Sides, Meaning, AC, Tokens, Token, has, available, functional_units, both_units, units_within, settle, setting_of, of_answerer, base_for, serial_for, opened_with, is_answering, is_connecting, is_restarting, is_restart_due, may_hold, Accept, are_sizes, answered_sizes, becomes, drops, next, turned_owners, settled_by, Fits, flush, heard, hears, heard_view, data_of, Party, Core, answered, is_opening, IsFresh, AreConsistent}
 use Rattle.osi_machine.proofs.PhaseLaws.{implied, excluded, implied_two, if_first}
 use Rattle.osi_machine.proofs.Units.{next_acted}
 use Rattle.osi_machine.proofs.ChannelLaws.{fit_append, flush_append, heard_append, view_append, data_append}
 use Rattle.osi_machine.proofs.Tokens.{none_held}
 use Rattle.osi_machine.proofs.Records.{flushed, hearing, Meeting, Half, Views, Counts, IsOfProfile, Pair, Stands}
-use Rattle.osi_machine.proofs.Idle.{append_nil, list_any_append}
+use Rattle.osi_machine.proofs.Idle.{list_any_append}
 use Rattle.osi_machine.proofs.Deaf.{AllEmpty, all_empty, empty_fits, empty_end, empty_heard, empty_view}
 use Rattle.osi_machine.proofs.Opening.{none_answering, waiting}
 use Rattle.osi_machine.proofs.Profiles.{profile_of, profile_data, within_duplex, within_half, within_both, same_first}
@@ -155,7 +155,7 @@ peer_views : (w : Core) (u n : ℕ) (a : Sides) (z : TsduMaximumSize) (o : List 
 peer_views w u n a z o q = record {
   ends = λ l. view_append w.peer.session w.own.sent m w.peer.view q.all.peer.fits (other_owes_none w u q)
       ∙ if_first (drops (flushed w.peer w.own) m) (heard_view w.peer.session w.own.sent w.peer.view) (heard_view w.peer.session w.own.sent w.peer.view) refl
-      ∙ q.all.peer_views.ends listens ∙ sym (append_nil w.history);
+      ∙ q.all.peer_views.ends listens ∙ sym (append-nil w.history);
   cut = λ c. absurd (let e = ap (λ (s : State). is_restarting s.phase) (sym (heard_after w u n a z o q)) ∙ c in cc);
   due = λ d. absurd (let e = excluded is_connecting is_restart_due refl w.peer.session.phase (other_connects w u q) in cc);
   stream = λ d. streams (q.all.peer_views.stream (duplex d));
@@ -175,8 +175,8 @@ peer_views w u n a z o q = record {
     streams : (w.peer.got ++ data_of w.own.sent ≡ w.own.said) × (w.history ≡ [])
         → (w.peer.got ++ data_of (w.own.sent ++ acceptance w.own.session u n a z o ∷ []) ≡ w.own.said ++ []) × (w.history ++ [] ≡ [])
     streams old = (
-      ap (λ (d : List (List ℕ)). w.peer.got ++ d) (data_append w.own.sent (m ∷ []) ∙ append_nil (data_of w.own.sent)) ∙ old.0 ∙ sym (append_nil w.own.said),
-      append_nil w.history ∙ old.1,
+      ap (λ (d : List (List ℕ)). w.peer.got ++ d) (data_append w.own.sent (m ∷ []) ∙ append-nil (data_of w.own.sent)) ∙ old.0 ∙ sym (append-nil w.own.said),
+      append-nil w.history ∙ old.1,
     )
 
 -- ---- the numbers

@@ -1,6 +1,6 @@
 -- The outcomes of a unit: it is discarded, or it is a fault, or it is acted on.
-use Rattle.std.proofs.Common.{◌≡◌, refl, sym, ◌∙◌, ap, subst, ℕ, Bool, true, false, not, ◌&&◌, ◌||◌, if◌then◌else◌, List, [], ◌∷◌, Option, Some, None, is_none, arith}
-use Rattle.osi_machine.proofs.Vocabulary.{and_parts, not-true, or_parts, not-false, State, Phase, WaitTransport, Aborting, Ended, Meaning, AB, UnitFault, Outcome, Condition, is_over, is_aborting, is_ended, is_expected, si, conditions, first_fault, becomes, nothing, good, judged, in_aborting, in_ended, take_expected, respond_unit, without_tokens, drops, AllMet, Good, next, is_acted_on, Fits}
+use Rattle.std.proofs.Common.{◌≡◌, refl, sym, ◌∙◌, subst, ℕ, Bool, true, false, not, ◌||◌, if◌then◌else◌, List, [], ◌∷◌, Option, Some, None, is_none, arith}
+use Rattle.osi_machine.proofs.Vocabulary.{and_parts, not-true, not-false, State, Phase, Aborting, Ended, Meaning, UnitFault, Outcome, Condition, is_over, is_aborting, is_ended, first_fault, becomes, nothing, good, judged, in_aborting, in_ended, take_expected, respond_unit, without_tokens, drops, AllMet, Good, next, is_acted_on, Fits}
 use Rattle.osi_machine.proofs.PhaseLaws.{by_test}
 
 none_if : (b : Bool) (a : Option UnitFault) (f : UnitFault) → (if b then a else Some f) ≡ None → (b ≡ true) × (a ≡ None)
@@ -33,8 +33,7 @@ pub is_acted : (s : State) (u : Meaning) → Acted s u → is_acted_on s u ≡ t
 is_acted s u h = grind (arith, no_fault_of)
 
 over_parts : (p : Phase) → is_over p ≡ (is_aborting p || is_ended p)
-over_parts WaitTransport = refl
-over_parts _ = refl
+over_parts p = grind arith
 
 pub over_of : (a e : Bool) (p : Phase) → is_aborting p ≡ a → is_ended p ≡ e → is_over p ≡ (a || e)
 over_of a e p h k = over_parts p ∙ rw (h, k) refl
@@ -52,8 +51,7 @@ aborting_cases : (P : State → Type 0) (s : State) (u : Meaning) → P s → P 
 aborting_cases P s u h k = grind arith
 
 ended_cases : (P : State → Type 0) (s : State) (u : Meaning) → P s → P (in_ended s u).next
-ended_cases P s (AB bits octets) h = h
-ended_cases P s _ h = h
+ended_cases P s u h = grind arith
 
 -- what a unit leaves: what was, or the end, or the abort, or what the table says of a unit that is acted on
 pub record Leaves (P : Bool → State → Type 0) (s : State) (u : Meaning) : Type 0 where

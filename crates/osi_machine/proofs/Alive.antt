@@ -1,7 +1,7 @@
 -- A side of a connection where nothing is lost is never over, so that a unit that it takes is discarded, or
 -- answered as the table says: no unit is a fault.
-use Rattle.std.proofs.Common.{◌≡◌, refl, subst, Bool, true, false, not, if◌then◌else◌, List, ◌∷◌, ◌++◌, arith}
-use Rattle.osi_machine.proofs.Vocabulary.{State, Phase, Meaning, CN, AC, DT, GT, PT, MIP, MIA, MAP, MAA, RS, RA, FN, NF, nothing, good, is_over, is_wait_cn, is_connecting, is_restarting, takes_data, takes_please, takes_minor_ack, takes_restart, may_ask, is_ready, is_major_asked, is_releasing, is_expected, respond_unit, drops, next, Owners, is_acted_on, seen, got_in, is_plain, Fits, AllFit, flush, view_next, Party, party_taking}
+use Rattle.std.proofs.Common.{◌≡◌, refl, subst, true, false, not, if◌then◌else◌, List, ◌∷◌, ◌++◌, arith}
+use Rattle.osi_machine.proofs.Vocabulary.{State, Phase, Meaning, nothing, good, is_over, is_expected, respond_unit, drops, next, Owners, got_in, is_plain, Fits, AllFit, flush, view_next, Party, party_taking}
 use Rattle.osi_machine.proofs.PhaseLaws.{implied_two, by_test}
 use Rattle.osi_machine.proofs.Units.{fit_cases}
 use Rattle.osi_machine.proofs.ChannelLaws.{kept_all}

@@ -1,22 +1,19 @@
 -- A step of one connection changes no other.
-use Rattle.std.proofs.Common.{◌≡◌, refl, sym, ◌∙◌, ap, ℕ, Bool, true, false, if◌then◌else◌, List, [], ◌∷◌, map, Option, Some, None, is_some, arith}
-use Rattle.osi_session.specs.declared.faults.CallError.TheVariants as error
-use Rattle.osi_machine.proofs.Vocabulary.{Call, Side, Left, Right, Class, class_0, class_2, Message, World, Taking, message_taken, closed, Ending, closed_here, Machine, connection_at, seen_from, end_of, stays, noted, shown_at, call_in, side_of, marked_ended, closes_by, after_taking, without_first, learns, taken_in, delivered_to, AreApart}
+use Rattle.std.proofs.Common.{◌≡◌, refl, sym, ◌∙◌, ap, ℕ, false, List, [], ◌∷◌, Option, Some, None, is_some, arith}
+use Rattle.osi_machine.proofs.Vocabulary.{Call, Side, Class, Message, World, Taking, message_taken, Ending, closed_here, Machine, connection_at, seen_from, end_of, call_in, side_of, marked_ended, after_taking, without_first, learns, taken_in, delivered_to, AreApart}
 use Rattle.osi_machine.proofs.Places.{with_other, there_still}
 
 call_other : (m : Machine) (side : Side) (r : ℕ) (c : Call) (k : ℕ) → (k ≡ r → ⊥) → (a : Option World) → connection_at k (call_in m side r c (side_of side a)).worlds ≡ connection_at k m.worlds
 call_other m side r c k n a = grind (arith, with_other)
 
 ended_now : (side : Side) (m : Machine) → end_of side (marked_ended side closed_here m) ≡ Some closed_here
-ended_now Left m = refl
-ended_now Right m = refl
+ended_now side m = grind arith
 
 no_end : {A : Type 0} (e f : Option Ending) → e ≡ Some closed_here → e ≡ f → is_some f ≡ false → A
 no_end e f p q n = absurd (let z = sym (ap is_some (sym q ∙ p)) ∙ n in cc)
 
 same_end : (side : Side) (m : Machine) (known : Option Class) → end_of side (record m { known = known }) ≡ end_of side m
-same_end Left m known = refl
-same_end Right m known = refl
+same_end side m known = grind arith
 
 taking_other : (m : Machine) (side : Side) (r : ℕ) (keep : ℕ → ℕ) (t : Taking) (k : ℕ) → (k ≡ r → ⊥) → is_some (end_of side m) ≡ false → end_of side (after_taking m side r keep t) ≡ end_of side m
     → connection_at k (after_taking m side r keep t).worlds ≡ connection_at k m.worlds

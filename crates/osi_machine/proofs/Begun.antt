@@ -1,7 +1,7 @@
 -- What no unit changes once a connection is open, and what a side that is being asked for nothing goes
 -- through.
-use Rattle.std.proofs.Common.{◌≡◌, refl, sym, ◌∙◌, subst, ℕ, Bool, true, false, ◌&&◌, ◌||◌, if◌then◌else◌, List, [], ◌∷◌, ◌⊎◌, inl, inr, arith}
-use Rattle.osi_machine.proofs.Vocabulary.{or_left, list_any, State, Phase, FunctionalUnits, Tokens, Meaning, CN, AC, RF, DT, GT, PT, MIP, MIA, MAP, MAA, RS, RA, FN, DN, NF, AB, AA, Token, data_token, has, may_hold, is_wait_cn, is_connecting, is_restarting, is_restart_due, may_ask, is_ready, is_release_due, has_no_effect, passes_restarting, becomes, stands, drops, Good, next, is_plain, Fits, AllFit, flush, stops, heard, needs_token, is_opening}
+use Rattle.std.proofs.Common.{◌≡◌, refl, sym, ◌∙◌, subst, ℕ, Bool, true, false, ◌||◌, List, [], ◌∷◌, ◌⊎◌, inl, inr, arith}
+use Rattle.osi_machine.proofs.Vocabulary.{or_left, list_any, State, Phase, FunctionalUnits, Tokens, Meaning, CN, AC, RF, DT, GT, PT, MIP, MIA, MAP, MAA, RS, RA, FN, DN, NF, AB, AA, Token, data_token, has, is_wait_cn, is_connecting, is_restarting, is_restart_due, may_ask, is_ready, is_release_due, has_no_effect, becomes, Good, next, is_plain, Fits, AllFit, flush, stops, heard, needs_token, is_opening}
 use Rattle.osi_machine.proofs.PhaseLaws.{excluded, by_test}
 use Rattle.osi_machine.proofs.Units.{fit_cases, restart_due, due_next}
 use Rattle.osi_machine.proofs.ChannelLaws.{kept_all, kept_heard, due_end}

@@ -4,7 +4,7 @@ use Rattle.std.proofs.Common.{◌≡◌, refl, sym, ◌∙◌, ap, subst, ℕ, B
 use Rattle.osi_session.specs.declared.faults.CallError.TheVariants as error
 use Rattle.osi_session.specs.Moves.{answered as answered_move}
 use Rattle.osi_machine.specs.Calm.{left_by, after_calls, after_message, IsCalm, StaysCalm, IsNoFaultBehind}
-use Rattle.osi_machine.proofs.Vocabulary.{cases_Bool, AllByRecursion, list_any, Input, called, taken, opened, refused as refused_input, broken, Standing, rests, begun, denied as denied_by, react, verdict, is_faulty, respond_all, acting, and_then, said_of, State, Meaning, DT, Call, HasSerial, CallError, Granted, Answer, Outcome, allowed, is_over, is_wait_transport, respond_unit, AllFit, Core, stays_in_core, answered, taking, Message, unit, ask, agree, deny, bye, over, World, turned, session_of, Machine, connection_at, Told, IsRun, Tables, IsTableRun, AtEachSide}
+use Rattle.osi_machine.proofs.Vocabulary.{cases_Bool, AllByRecursion, list_any, Input, called, taken, Standing, react, verdict, is_faulty, respond_all, acting, and_then, said_of, State, Meaning, DT, Call, HasSerial, CallError, Granted, Answer, Outcome, allowed, is_over, is_wait_transport, respond_unit, Core, stays_in_core, answered, taking, Message, unit, ask, agree, deny, bye, over, World, turned, session_of, Machine, connection_at, Told, IsRun, Tables, IsTableRun, AtEachSide}
 use Rattle.osi_machine.proofs.CoreLaws.{SessionLaws}
 use Rattle.osi_machine.proofs.Dispatch.{called_stands, taking_stands}
 use Rattle.osi_machine.proofs.MachineLaws.{stage_at}
@@ -39,8 +39,7 @@ over_calls s [] o = o
 over_calls s (c ∷ calls) o = over_calls (left_by s (called c)) calls (ap (λ (x : State). is_over x.phase) (unmoved s c error.Ended (refused s c o)) ∙ o)
 
 either : (b : Bool) (x y : Outcome) → is_over x.next.phase ≡ true → is_over y.next.phase ≡ true → is_over (if b then x else y).next.phase ≡ true
-either true x y p q = p
-either false x y p q = q
+either b x y p q = grind arith
 
 over_all : (s : State) (us : List Meaning) → is_over s.phase ≡ true → is_over (respond_all s us).next.phase ≡ true
 unfolding respond_all

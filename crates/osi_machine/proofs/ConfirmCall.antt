@@ -1,11 +1,11 @@
 -- The calls of MinorConfirm and of MajorConfirm keep what is true of both sides.
 use Rattle.std.proofs.Common.{◌≡◌, refl, sym, ◌∙◌, ap, subst, ℕ, ◌+◌, ◌-◌, ◌==◌, ◌≤◌, ◌<◌, Bool, true, false, not, ◌&&◌, ◌||◌, nat_le, nat_lt, if◌then◌else◌, List, [], ◌⊎◌, inl, inr, Ok, arith}
-use Rattle.osi_machine.proofs.Vocabulary.{and_parts, ltb-true, leb-true, lt-ltb, le-leb, eq-eqb, cases_lt, and_from, list_any, State, Phase, Numbers, FunctionalUnits, Ready, MajorDue, Meaning, AC, DT, GT, PT, MIP, MIA, MAP, MAA, RS, RA, FN, NF, data_token, is_wait_cn, is_connecting, is_ready, is_major_asked, is_major_due, is_releasing, is_release_due, is_restarting, is_restart_due, in_major, may_hold, may_confirm_minor, takes_minor_ack, lower, point_taken, minor_confirmed, major_confirmed, becomes, drops, next, Good, MinorConfirm, MajorConfirm, Item, points, AreNumberedFrom, seen, is_plain, AllFit, heard_view, stops, needs_token, Core, answered, is_opening}
-use Rattle.osi_machine.proofs.PhaseLaws.{implied, excluded, implied_two, by_either, by_test}
+use Rattle.osi_machine.proofs.Vocabulary.{append-nil, and_parts, ltb-true, leb-true, lt-ltb, le-leb, eq-eqb, cases_lt, and_from, list_any, State, Phase, Numbers, FunctionalUnits, Ready, MajorDue, Meaning, MIA, MAA, data_token, is_ready, is_major_asked, is_major_due, is_releasing, is_release_due, is_restarting, may_hold, may_confirm_minor, takes_minor_ack, lower, point_taken, minor_confirmed, major_confirmed, becomes, drops, next, Good, MinorConfirm, MajorConfirm, Item, points, AreNumberedFrom, seen, is_plain, AllFit, heard_view, stops, needs_token, Core, answered, is_opening}
+use Rattle.osi_machine.proofs.PhaseLaws.{implied_both, implied, excluded, implied_two, by_either, by_test}
 use Rattle.osi_machine.proofs.Units.{next_cases, next_hears}
 use Rattle.osi_machine.proofs.ChannelLaws.{kept_heard, heard_flush}
 use Rattle.osi_machine.proofs.Begun.{flush_open, heard_open}
-use Rattle.osi_machine.proofs.Idle.{end_units, append_nil, list_any_append}
+use Rattle.osi_machine.proofs.Idle.{end_units, list_any_append}
 use Rattle.osi_machine.proofs.DataCall.{none_owed}
 use Rattle.osi_machine.proofs.Records.{flushed, hearing, matched, Stands}
 use Rattle.osi_machine.proofs.NumberLaws.{lower_first, lower_second, lower_from, heard_turned}
@@ -155,14 +155,13 @@ confirm_sending w n octets k h = record {
   now = own_answers w n k;
   none = none_never w.peer.sent;
   unit = assumption;
-  shows = λ s v. sym (append_nil v);
+  shows = λ s v. sym (append-nil v);
   good = λ l i.
       let fx = flushed w.own w.peer in
       let fy = flushed w.peer w.own in
       let a = own_answers w n k in
       record {
-        expected = implied_two (λ p q. matched p q && is_confirming p) (λ p q. takes_minor_ack q) refl (flushed w.own w.peer).phase (flushed w.peer w.own).phase
-            (and_from (matched (flushed w.own w.peer).phase (flushed w.peer w.own).phase) (is_confirming (flushed w.own w.peer).phase) h.own.meeting.meets i.phase);
+        expected = implied_both matched (λ p q. is_confirming p) (λ p q. takes_minor_ack q) refl (flushed w.own w.peer).phase (flushed w.peer w.own).phase h.own.meeting.meets i.phase;
         met = (
           ap (λ (u : FunctionalUnits). u.minor) (sym h.own.meeting.units ∙ end_units w.owner w.own w.peer h.own (open_now w a)) ∙ k.selected,
           (
@@ -175,7 +174,7 @@ confirm_sending w n octets k h = record {
   meets = λ l i. h.own.meeting.meets;
   release = λ s i r. r;
   releasing = λ s i r. absurd (let x = excluded is_confirming is_releasing refl s.phase i.phase in cc);
-  sees = λ l. ap (heard_view w.own.session w.peer.sent) (append_nil w.own.view) ∙ h.own_views.ends l ∙ sym (append_nil w.history);
+  sees = λ l. ap (heard_view w.own.session w.peer.sent) (append-nil w.own.view) ∙ h.own_views.ends l ∙ sym (append-nil w.history);
   duplex = λ d. refl;
   flag = λ f. keeps_flag w (MIA n octets) (λ s. refl) (own_answers w n k) h;
   below = λ l m from to. all_above w m (own_answers w n k) h (hears_there (flushed w.peer w.own) (MIA n octets) refl l) from
@@ -186,7 +185,7 @@ confirm_sending w n octets k h = record {
       (λ d. was_below w m (own_answers w n k) h from) (λ d e. let x = k.to in omega arith) to;
   other_reach = λ f. next_cases (λ q. lower w.own.session.numbers.next q.numbers.confirmed ≤ n + 1) (flushed w.peer w.own) (MIA n octets)
       (λ d. let x = was_reach w (own_answers w n k) h in let y = k.from in omega arith) (λ d. lower_second w.own.session.numbers.next (n + 1));
-  numbered = λ p. subst (AreNumberedFrom (flushed w.own w.peer).base) (sym (append_nil w.history)) p;
+  numbered = λ p. subst (AreNumberedFrom (flushed w.own w.peer).base) (sym (append-nil w.history)) p;
   one_way = λ d. ap (λ (b : Bool). b && list_any (needs_token data_token) w.peer.sent) (list_any_append (needs_token data_token) w.own.sent (MIA n octets) refl) ∙ h.pair.one_way d;
 }
 
@@ -255,16 +254,15 @@ due_sending w octets k h = record {
   now = k;
   none = none_never w.peer.sent;
   unit = assumption;
-  shows = λ s v. sym (append_nil v);
+  shows = λ s v. sym (append-nil v);
   good = λ l i. record {
-    expected = implied_two (λ p q. matched p q && is_major_due p) (λ p q. is_major_asked q) refl (flushed w.own w.peer).phase (flushed w.peer w.own).phase
-        (and_from (matched (flushed w.own w.peer).phase (flushed w.peer w.own).phase) (is_major_due (flushed w.own w.peer).phase) h.own.meeting.meets (ap is_major_due i.phase));
+    expected = implied_both matched (λ p q. is_major_due p) (λ p q. is_major_asked q) refl (flushed w.own w.peer).phase (flushed w.peer w.own).phase h.own.meeting.meets (ap is_major_due i.phase);
     met = (due_number w k h l, tt);
   };
   meets = λ l i. refl;
   release = λ s i r. absurd (cc);
   releasing = λ s i r. absurd (cc);
-  sees = λ l. ap (heard_view w.own.session w.peer.sent) (append_nil w.own.view) ∙ h.own_views.ends l ∙ sym (append_nil w.history);
+  sees = λ l. ap (heard_view w.own.session w.peer.sent) (append-nil w.own.view) ∙ h.own_views.ends l ∙ sym (append-nil w.history);
   duplex = λ d. refl;
   flag = λ f. keeps_flag w (MAA (w.own.session.numbers.next - 1) octets) (λ s. refl) (due_answers w k) h;
   below = λ l n from to. all_above w n (due_answers w k) h (hears_there (flushed w.peer w.own) (MAA (w.own.session.numbers.next - 1) octets) refl l) from
@@ -280,14 +278,13 @@ due_sending w octets k h = record {
       (λ q. q)) in
       omega arith);
   other_reach = λ f. lower_first w.own.session.numbers.next (next (flushed w.peer w.own) (MAA (w.own.session.numbers.next - 1) octets)).numbers.confirmed;
-  numbered = λ p. subst (AreNumberedFrom (flushed w.own w.peer).base) (sym (append_nil w.history)) p;
+  numbered = λ p. subst (AreNumberedFrom (flushed w.own w.peer).base) (sym (append-nil w.history)) p;
   one_way = λ d. ap (λ (b : Bool). b && list_any (needs_token data_token) w.peer.sent)
       (list_any_append (needs_token data_token) w.own.sent (MAA (w.own.session.numbers.next - 1) octets) refl) ∙ h.pair.one_way d;
 }
 
 major_due_is : (p : Phase) → is_major_due p ≡ true → p ≡ MajorDue
-major_due_is MajorDue h = refl
-major_due_is _ h = absurd (cc)
+major_due_is p h = grind arith
 
 pub major_confirm_stands : (w : Core) (octets : List ℕ) → IsGranted w (MajorConfirm octets) → Stands w
     → Stands (answered w (MajorConfirm octets) (Ok (granted w.own.session (MajorConfirm octets))))

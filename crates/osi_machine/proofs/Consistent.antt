@@ -1,6 +1,6 @@
 -- Each call and each unit keeps what is true of a side by itself.
-use Rattle.std.proofs.Common.{◌≡◌, refl, ◌∙◌, ap, ℕ, ◌+◌, ◌==◌, ◌≤◌, ◌<◌, Bool, true, false, not, ◌&&◌, ◌||◌, nat_le, nat_lt, if◌then◌else◌, List, [], ◌∷◌, ◌++◌, arith}
-use Rattle.osi_machine.proofs.Vocabulary.{leb-true, ltb-true, eqb-true, and_parts, State, Phase, Call, Accept, Data, Give, Please, Minor, MinorConfirm, Major, Restart, Release, Meaning, CN, AC, DT, GT, PT, MIP, MIA, MAP, RS, AA, is_ready, is_answering, is_connecting, is_wait_cn, is_major_due, is_releasing, is_restarting, may_give, may_ask, may_confirm_minor, takes_data, takes_please, takes_minor_ack, may_call, needs, after, is_acceptable, becomes, stands, from_base, point_sent, point_taken, minor_confirmed, major_confirmed, restarted_at, IsSound, Good, Item, Octets, Point, minor_kind, major_point, points, cutat, seen, got_in, Party, speaks, view_called, party_taking, is_opening, IsConsistent, AllHold}
+use Rattle.std.proofs.Common.{◌≡◌, refl, ◌∙◌, ℕ, ◌+◌, ◌≤◌, Bool, true, false, not, ◌||◌, nat_le, nat_lt, if◌then◌else◌, List, [], ◌∷◌, ◌++◌, arith}
+use Rattle.osi_machine.proofs.Vocabulary.{append-nil, leb-true, ltb-true, eqb-true, and_parts, State, Phase, Call, Accept, Data, Give, Please, Minor, MinorConfirm, Major, Restart, Release, Meaning, CN, AC, DT, GT, PT, MIP, MIA, MAP, RS, AA, is_ready, is_answering, is_connecting, is_wait_cn, is_major_due, is_releasing, is_restarting, may_give, may_ask, may_confirm_minor, takes_data, takes_please, takes_minor_ack, may_call, needs, after, is_acceptable, becomes, stands, from_base, point_sent, point_taken, minor_confirmed, major_confirmed, restarted_at, IsSound, Good, Item, Octets, Point, minor_kind, major_point, points, cutat, seen, got_in, Party, speaks, view_called, party_taking, is_opening, IsConsistent, AllHold}
 use Rattle.osi_machine.proofs.PhaseLaws.{implied, excluded}
 use Rattle.osi_machine.proofs.Acting.{unit_cases}
 use Rattle.osi_machine.proofs.HistoryLaws.{points_append, points_cut}
@@ -19,10 +19,6 @@ lines_of x h = grind arith
 
 pub consistent : (x : Party) → IsSound x.session → Lines x.session x.view x.said x.got → IsConsistent x
 consistent x sound h = grind arith
-
-append_nil {ℓ} : {A : Type ℓ} → (xs : List A) → xs ++ [] ≡ xs
-append_nil [] = refl
-append_nil (x ∷ xs) = ap (λ r. x ∷ r) (append_nil xs)
 
 -- ---- moves of the count
 
@@ -138,7 +134,7 @@ unit_lines s (RS kind n wishes octets) v said got g sound h =
     let from = leb-true s.base n b.0 in
     chosen_lines (λ r w. Lines r w said (got ++ [])) (stands s n) _ s (cutat s.base v n) v
     (λ e. let to = stood_below s n b.1 e in calm _ _ _ _ refl (points_cut s.base n v from (omega arith)))
-    (λ e. record { count = h.count; major = h.major; asked = h.asked; asker = h.asker; fresh = λ k. let f = h.fresh k in (f.0, f.1, f.2, f.3, append_nil got ∙ f.4) })
+    (λ e. record { count = h.count; major = h.major; asked = h.asked; asker = h.asker; fresh = λ k. let f = h.fresh k in (f.0, f.1, f.2, f.3, append-nil got ∙ f.4) })
 unit_lines s AA v said got g sound h = absurd (let e = g.expected in cc)
 unit_lines s _ v said got g sound h = calm _ _ _ _ refl h.count
 

@@ -1,8 +1,8 @@
 -- Every step of the core keeps what is true of each side by itself.
-use Rattle.std.proofs.Common.{◌≡◌, refl, sym, subst, ℕ, ◌<◌, Bool, true, false, if◌then◌else◌, List, [], ◌∷◌, ◌++◌, None, Ok, Err, arith}
+use Rattle.std.proofs.Common.{◌≡◌, refl, sym, subst, true, List, [], ◌∷◌, ◌++◌, None, Ok, Err, arith}
 use Rattle.osi_machine.specs.Floor.{Input, Standing, react}
 use Rattle.osi_machine.specs.Core.{turned, called}
-use Rattle.osi_machine.proofs.Vocabulary.{AllByRecursion, Passed, AllHold, State, Granted, Answer, Call, HasSerial, Meaning, Outcome, IsNumbered, IsSound, AreOrdered, allowed, respond_unit, alone, respond, after, call_input, taken_input, call_move, after_inputs, HasNumbers, IsSendable, functional_units, has_points, from_base, may_call, needs, sends, Party, Core, CoreStep, call_at, take_at, Side, Left, Right, Offer, CanBeOffered, stays_in_core, party_called, answered, party_taking, taking, takes, at_side, core_step, core_run, offer_sent, core_start, IsConsistent, AreConsistent, IsNumberedStep, is_sized}
+use Rattle.osi_machine.proofs.Vocabulary.{AllByRecursion, Passed, AllHold, State, Granted, Answer, Call, HasSerial, Meaning, Outcome, IsNumbered, IsSound, allowed, respond_unit, alone, respond, after, call_input, taken_input, call_move, after_inputs, HasNumbers, IsSendable, may_call, needs, sends, Party, Core, CoreStep, call_at, take_at, Side, Left, Right, Offer, CanBeOffered, stays_in_core, party_called, answered, taking, takes, at_side, core_step, core_run, core_start, IsConsistent, AreConsistent, IsNumberedStep, is_sized}
 use Rattle.osi_machine.proofs.Consistent.{Lines, lines_of, consistent, call_lines, taken_lines}
 use Rattle.osi_machine.proofs.PhaseLaws.{by_test}
 

@@ -1,13 +1,13 @@
 -- The call of Data keeps what is true of both sides.
-use Rattle.std.proofs.Common.{◌≡◌, refl, sym, ◌∙◌, ap, subst, ℕ, ◌+◌, Bool, true, false, not, ◌&&◌, if◌then◌else◌, List, [], ◌∷◌, ◌++◌, inl, inr, Ok, append_assoc, arith}
-use Rattle.osi_machine.proofs.Vocabulary.{State, FunctionalUnits, DT, data_token, has, available, is_ready, may_hold, is_restarting, is_restart_due, has_right, Data, drops, Item, Octets, Point, cutat, AreNumberedFrom, Owners, turned_owners, seen, AllFit, flush, heard, hears, view_next, heard_view, data_of, Party, Core, answered, is_opening, IsConsistent, AreConsistent, and_from, not-true, and_right}
+use Rattle.std.proofs.Common.{◌≡◌, refl, sym, ◌∙◌, ap, subst, ℕ, ◌+◌, Bool, true, false, not, if◌then◌else◌, List, [], ◌∷◌, ◌++◌, inl, inr, Ok, append_assoc, arith}
+use Rattle.osi_machine.proofs.Vocabulary.{append-nil, State, FunctionalUnits, DT, data_token, has, available, is_ready, may_hold, is_restarting, is_restart_due, has_right, Data, drops, Item, Octets, Point, cutat, AreNumberedFrom, Owners, turned_owners, seen, AllFit, flush, heard, hears, view_next, heard_view, data_of, Party, Core, answered, is_opening, IsConsistent, AreConsistent, and_from, not-true, and_right}
 use Rattle.osi_machine.proofs.PhaseLaws.{implied, excluded, implied_two, by_either}
 use Rattle.osi_machine.proofs.ChannelLaws.{fit_append, hears_kept, due_end, heard_flush, view_append, data_append}
 use Rattle.osi_machine.proofs.HistoryLaws.{cut_append}
 use Rattle.osi_machine.proofs.Tokens.{Holds, nothing_to_see}
 use Rattle.osi_machine.proofs.Begun.{none_needs}
 use Rattle.osi_machine.proofs.Records.{flushed, hearing, Half, Views, IsOfProfile, Pair, Stands}
-use Rattle.osi_machine.proofs.Idle.{IsIdle, flush_idle, heard_idle, sending, own_half, peer_half, own_counts, peer_counts, own_views, HasRight, right_of, end_units, data_fits, append_nil}
+use Rattle.osi_machine.proofs.Idle.{IsIdle, flush_idle, heard_idle, sending, own_half, peer_half, own_counts, peer_counts, own_views, HasRight, right_of, end_units, data_fits}
 
 idle : (octets : List ℕ) → IsIdle (DT octets)
 idle octets s = refl
@@ -18,7 +18,7 @@ none_owed o x y h asked = search (arith, hears_kept, not-true, implied_two, and_
 
 -- what is added, and what is seen of it
 pub said_seen : (b : Bool) (h : List Item) (i : Item) → (if b then h else h ++ i ∷ []) ≡ h ++ (if b then [] else i ∷ [])
-said_seen true h i = sym (append_nil h)
+said_seen true h i = sym (append-nil h)
 said_seen false h i = refl
 
 numbered_octets : (d : Bool) (b : ℕ) (h : List Item) (octets : List ℕ) → AreNumberedFrom b h → AreNumberedFrom b (h ++ (if d then [] else Octets octets ∷ []))
@@ -59,8 +59,8 @@ own_sees h x y octets f p ready (inl held) k listens =
 own_sees h x y octets f p ready (inr none) k listens =
     let d = is_duplex x.session p none in
     let nil : added x.session octets ≡ [] = ap (λ (b : Bool). if b then [] else Octets octets ∷ []) d in
-    ap (heard_view x.session y.sent) (ap (λ (r : List Item). x.view ++ r) nil ∙ append_nil x.view) ∙ k.ends listens
-    ∙ sym (ap (λ (r : List Item). h ++ r) nil ∙ append_nil h)
+    ap (heard_view x.session y.sent) (ap (λ (r : List Item). x.view ++ r) nil ∙ append-nil x.view) ∙ k.ends listens
+    ∙ sym (ap (λ (r : List Item). h ++ r) nil ∙ append-nil h)
 
 -- ---- what the other sees
 

@@ -1,7 +1,7 @@
 -- A connection that its caller has left before it was agreed to: nothing comes of it any more.
-use Rattle.std.proofs.Common.{◌≡◌, refl, sym, ◌∙◌, ap, subst, ℕ, zero, suc, Bool, true, false, not, ◌||◌, if◌then◌else◌, List, [], ◌∷◌, take, ◌⊎◌, arith}
+use Rattle.std.proofs.Common.{◌≡◌, refl, sym, ap, subst, ℕ, zero, suc, Bool, true, false, not, ◌||◌, List, [], ◌∷◌, take, ◌⊎◌, arith}
 use Rattle.osi_session.specs.declared.faults.CallError.TheVariants as error
-use Rattle.osi_machine.proofs.Vocabulary.{list_any, Lost, State, Phase, Call, Answer, allowed, is_over, shows_loss, Message, unit, ask, bye, over, Transport, not_yet, waiting, linked, closing, gone, World, turned, session_of, put, after_answer, Terms, accepts, denies, message_taken, ended_at, shown_at_end, is_waiting, without_first, Told, or_parts, not-true}
+use Rattle.osi_machine.proofs.Vocabulary.{list_any, Lost, State, Phase, Call, Answer, allowed, is_over, shows_loss, Message, Transport, waiting, gone, World, turned, session_of, put, after_answer, Terms, message_taken, ended_at, shown_at_end, is_waiting, without_first, Told, or_parts, not-true}
 use Rattle.osi_machine.proofs.PhaseLaws.{implied, if_no}
 use Rattle.osi_machine.proofs.ProjectEnd.{is_unit}
 use Rattle.osi_machine.proofs.ProjectWorld.{refused}

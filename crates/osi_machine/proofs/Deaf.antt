@@ -1,6 +1,6 @@
 -- What is under way to a side that has asked for a restart, or that expects nothing.
 use Rattle.std.proofs.Common.{◌≡◌, refl, sym, ◌∙◌, ap, subst, ℕ, Bool, true, false, not, ◌&&◌, ◌||◌, if◌then◌else◌, List, [], ◌∷◌, ◌++◌, ◌⊎◌, inl, inr, arith}
-use Rattle.osi_machine.proofs.Vocabulary.{TokenSetting, ResyncType, State, RestartDue, Meaning, RS, is_restarting, is_restart_due, is_expected, has_no_effect, passes_restarting, without_tokens, restarted_at, becomes, stands, drops, next, Item, cutat, seen, is_plain, Fits, AllFit, flush, stops, heard, hears, view_next, heard_view, or_left}
+use Rattle.osi_machine.proofs.Vocabulary.{TokenSetting, ResyncType, State, RestartDue, Meaning, RS, is_restarting, is_restart_due, is_expected, has_no_effect, passes_restarting, without_tokens, restarted_at, stands, drops, next, Item, seen, is_plain, Fits, AllFit, flush, stops, heard, hears, view_next, heard_view, or_left}
 use Rattle.osi_machine.proofs.PhaseLaws.{excluded, if_first, by_test}
 use Rattle.osi_machine.proofs.Units.{next_dropped, next_acted, and_false}
 use Rattle.osi_machine.proofs.ChannelLaws.{hears_kept, heard_flush, heard_append, view_append}
@@ -102,8 +102,7 @@ deaf_next s u r f = grind arith
 
 -- a side that will wait has asked already
 pub not_both : (b : Bool) → not b ≡ true → b ≡ true → ⊥
-not_both true p q = cc
-not_both false p q = cc
+not_both b p q = grind arith
 
 pub deaf_end : (s : State) (us : List Meaning) → is_restarting (flush s us).phase ≡ true → AllFit s us → flush s us ≡ s
 deaf_end s [] r f = refl

@@ -1,7 +1,7 @@
 -- Every step of the core keeps what is true of both sides.
-use Rattle.std.proofs.Common.{◌≡◌, refl, sym, ◌∙◌, subst, ℕ, Bool, true, false, not, ◌&&◌, if◌then◌else◌, List, [], ◌∷◌, Ok, Err, arith}
+use Rattle.std.proofs.Common.{◌≡◌, refl, sym, subst, true, false, List, [], ◌∷◌, Ok, Err, arith}
 use Rattle.osi_machine.specs.Core.{turned, called}
-use Rattle.osi_machine.proofs.Vocabulary.{AllByRecursion, Granted, Answer, Call, Accept, Data, Give, Please, Minor, MinorConfirm, Major, MajorConfirm, Restart, RestartConfirm, Release, ReleaseRefuse, HasSerial, Meaning, CN, AC, RF, DT, GT, PT, MIP, MIA, MAP, MAA, RS, RA, FN, DN, NF, AB, AA, stands, drops, allowed, is_empty, Owner, Own, Owners, turned_owner, turned_owners, is_plain, AllFit, Core, CoreStep, call_at, take_at, Side, Left, Right, stays_in_core, answered, taking, takes, at_side, core_step, core_run, IsNumberedStep, not-true}
+use Rattle.osi_machine.proofs.Vocabulary.{AllByRecursion, Granted, Answer, Call, Accept, Data, Give, Please, Minor, MinorConfirm, Major, MajorConfirm, Restart, RestartConfirm, Release, ReleaseRefuse, HasSerial, Meaning, CN, AC, RF, DT, GT, PT, MIP, MIA, MAP, MAA, RS, RA, FN, DN, NF, AB, AA, stands, drops, allowed, is_empty, Owner, Owners, turned_owner, turned_owners, is_plain, AllFit, Core, CoreStep, call_at, take_at, Side, Left, Right, stays_in_core, answered, taking, takes, at_side, core_step, core_run, IsNumberedStep, not-true}
 use Rattle.osi_machine.proofs.CoreLaws.{SessionLaws, turned_kept, IsGranted, granted, is_granted}
 use Rattle.osi_machine.proofs.Records.{Half, Pair, Stands}
 use Rattle.osi_machine.proofs.DataCall.{data_stands}
@@ -84,8 +84,7 @@ taking_stands laws w (u ∷ us) e s = by_test (drops w.own.session u)
 -- ---- seen from the other side
 
 twice : (o : Owner) → turned_owner (turned_owner o) ≡ o
-twice Own = refl
-twice _ = refl
+twice o = grind arith
 
 pub turned_twice : (o : Owners) → turned_owners (turned_owners o) ≡ o
 turned_twice o = λ i t. twice (o t) i

@@ -1,8 +1,7 @@
 -- While no class is known each connection waits for its caller's first message, or is dead; and where a called
 -- end denies, no agreement is under way.
-use Rattle.std.proofs.Common.{◌≡◌, refl, sym, ◌∙◌, ap, subst, ℕ, Bool, true, false, List, [], ◌∷◌, take, Option, Some, None, Ok, Err, inl, inr, arith}
-use Rattle.osi_machine.proofs.Vocabulary.{list_any, Meaning, Call, Answer, allowed, respond_unit, Message, unit, ask, agree, deny, bye, over, Transport, not_yet, waiting, linked, closing, gone, World, turned, session_of, put, replied, after_answer, Terms, denies, message_taken, closed, ended_at, without_first, Told, or_parts}
-use Rattle.osi_machine.proofs.Idle.{append_nil}
+use Rattle.std.proofs.Common.{◌≡◌, refl, sym, ◌∙◌, ap, subst, ℕ, Bool, true, false, List, ◌∷◌, take, Option, Some, None, Ok, Err, inl, inr, arith}
+use Rattle.osi_machine.proofs.Vocabulary.{append-nil, list_any, Meaning, Call, Answer, allowed, respond_unit, Message, unit, ask, agree, deny, bye, over, Transport, not_yet, waiting, linked, closing, gone, World, turned, session_of, put, replied, after_answer, Terms, denies, message_taken, closed, ended_at, without_first, Told, or_parts}
 use Rattle.osi_machine.proofs.Lines.{cut_to}
 use Rattle.osi_machine.proofs.Projects.{not_both}
 use Rattle.osi_machine.proofs.ProjectStart.{Opens, caller_refuses, called_refuses, caller_ends, called_ends}
@@ -57,7 +56,7 @@ none_back w h = record { own = h.peer; peer = h.own }
 put_some : (b : Bool) (ms : List Message) (r : Option Meaning) → list_any is_agree ms ≡ false → list_any is_agree (put b (replied r) ms) ≡ false
 put_some b ms (Some m) h = put_none is_agree b ms (unit m) refl h
 put_some true ms None h = h
-put_some false ms None h = ap (list_any is_agree) (append_nil ms) ∙ h
+put_some false ms None h = ap (list_any is_agree) (append-nil ms) ∙ h
 
 pub none_call : (b : Bool) (w : World) (x : Call) (a : Answer) → NoAgree w → NoAgree (after_answer b x w a)
 none_call b w x (Ok g) h = record { own = put_none is_agree b w.own.channel (unit g.sent) refl h.own; peer = h.peer }

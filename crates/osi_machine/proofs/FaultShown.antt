@@ -1,7 +1,7 @@
 -- After every list of steps no entry of the journal is a fault that is shown, whatever its reference.
 use Rattle.std.proofs.Common.{◌≡◌, refl, sym, ◌∙◌, ap, ℕ, zero, suc, ◌<◌, Bool, true, false, ◌||◌, if◌then◌else◌, List, [], ◌∷◌, length, Option, Some, None, arith}
 use Rattle.osi_machine.specs.Examples.{for_asker}
-use Rattle.osi_machine.proofs.Vocabulary.{or_assoc, or-false, or-true, list_any, slice_get, Call, no_sizes, Offer, Side, Left, Right, World, Machine, Entry, call_answered, shown_at, connection_at, Told, told_call, told_entry, told_by, is_of, record_of, untold, told_of, IsRun, is_fault, HasNoFault, or_parts}
+use Rattle.osi_machine.proofs.Vocabulary.{or_assoc, or-false, or-true, list_any, slice_get, Call, no_sizes, Offer, Side, Left, Right, World, Machine, Entry, shown_at, connection_at, Told, told_call, told_entry, told_by, is_of, record_of, untold, told_of, IsRun, is_fault, HasNoFault, or_parts}
 use Rattle.osi_machine.proofs.CoreLaws.{SessionLaws}
 use Rattle.osi_machine.proofs.Lines.{own_entry}
 use Rattle.osi_machine.proofs.LinesRun.{IsGood}
@@ -48,8 +48,7 @@ an_offer : Offer
 an_offer = record { requirements = 0; serial = 0; wishes = for_asker; calling_selector = None; called_selector = None; sizes = no_sizes; octets = [] }
 
 untold_fine : (d : Side) (o : Offer) → (untold d o).faulted ≡ false
-untold_fine Left o = refl
-untold_fine Right o = refl
+untold_fine d o = grind arith
 
 none_from : (ws : List World) (r : ℕ) → slice_get ws r ≡ None → length ws < suc r
 none_from [] r e = omega arith

@@ -1,7 +1,7 @@
 -- A side that gives tokens away: what is under way to it goes on fitting, and leaves it the same but for
 -- those tokens.
-use Rattle.std.proofs.Common.{◌≡◌, refl, sym, ◌∙◌, ap, subst, Bool, true, false, not, ◌&&◌, ◌||◌, if◌then◌else◌, List, ◌⊎◌, inl, inr, arith}
-use Rattle.osi_machine.proofs.Vocabulary.{and_parts, or_left, and_from, not-true, State, Tokens, Meaning, CN, AC, DT, GT, PT, MIP, MIA, MAP, MAA, RS, RA, FN, NF, Token, data_token, minor, major, release, has, some, is_empty, is_within, is_disjoint, without, united, available, lacks, may_ask, is_wait_cn, is_connecting, is_releasing, is_restarting, is_restart_due, becomes, stands, drops, Good, Item, Fits, stops, view_next}
+use Rattle.std.proofs.Common.{◌≡◌, refl, sym, ◌∙◌, ap, subst, Bool, true, false, not, ◌&&◌, ◌||◌, List, ◌⊎◌, inl, inr, arith}
+use Rattle.osi_machine.proofs.Vocabulary.{and_parts, or_left, and_from, not-true, State, Tokens, Meaning, DT, GT, MIP, MAP, FN, Token, data_token, minor, major, release, has, some, is_empty, is_within, is_disjoint, without, united, available, lacks, may_ask, is_restart_due, becomes, stands, Good, Item, Fits, stops, view_next}
 use Rattle.osi_machine.proofs.PhaseLaws.{excluded, cut_or}
 use Rattle.osi_machine.proofs.Units.{next_acted, restart_due, due_next}
 use Rattle.osi_machine.proofs.ChannelLaws.{Steps}
@@ -105,8 +105,7 @@ stands_same k s u st = grind arith
 
 fewer_stops : (k : Tokens) (s : State) (u : Meaning) → stops (less k s) u ≡ stops s u
 unfolding stands
-fewer_stops k s (RS j n w o) = refl
-fewer_stops k s _ = refl
+fewer_stops k s u = grind arith
 
 gives_step : (k : Tokens) (s : State) (u : Meaning) → Gives k s → Fits s u → Steps (Fewer k) s (less k s) u
 gives_step k s u h f = search (arith, fewer_good, fewer_stops, fewer_becomes, stands_same, next_acted, restart_due)
@@ -118,8 +117,7 @@ fewer_step k s r u (inr (e, d)) f = subst (λ (q : State). Steps (Fewer k) s q u
 
 less_shows : (k : Tokens) (s : State) (u : Meaning) (v : List Item) → view_next (less k s) u v ≡ view_next s u v
 unfolding stands
-less_shows k s (RS j n w o) v = refl
-less_shows k s _ v = refl
+less_shows k s u v = grind arith
 
 pub fewer_shows : (k : Tokens) (s r : State) (u : Meaning) (v : List Item) → Fewer k s r → view_next r u v ≡ view_next s u v
 fewer_shows k s r u v (inl (e, h)) = ap (λ (q : State). view_next q u v) e ∙ less_shows k s u v

@@ -1,12 +1,12 @@
 -- The call of Give keeps what is true of both sides.
 use Rattle.std.proofs.Common.{◌≡◌, refl, sym, ◌∙◌, ap, subst, ℕ, Bool, true, false, not, ◌&&◌, ◌||◌, if◌then◌else◌, List, [], ◌∷◌, ◌++◌, inl, inr, Ok, arith}
-use Rattle.osi_machine.proofs.Vocabulary.{State, FunctionalUnits, GT, Tokens, Token, has, available, is_empty, is_within, may_give, may_ask, may_hold, is_restarting, is_restart_due, Give, drops, next, Item, cutat, Owner, ToThem, turned_owner, turned_owners, is_own, is_to_own, is_absent, passed_to, Fits, flush, heard, hears, heard_view, data_of, Party, Core, answered, is_opening, AreConsistent, and_from}
-use Rattle.osi_machine.proofs.PhaseLaws.{implied, excluded, implied_two, by_either}
+use Rattle.osi_machine.proofs.Vocabulary.{append-nil, State, FunctionalUnits, GT, Tokens, Token, has, available, is_empty, is_within, may_give, may_ask, may_hold, is_restarting, is_restart_due, Give, drops, next, Item, cutat, Owner, ToThem, turned_owner, turned_owners, is_own, is_to_own, is_absent, passed_to, Fits, flush, heard, hears, heard_view, data_of, Party, Core, answered, is_opening, AreConsistent, and_from}
+use Rattle.osi_machine.proofs.PhaseLaws.{implied_both, implied, excluded, by_either}
 use Rattle.osi_machine.proofs.Units.{next_cases, next_acted, next_dropped}
 use Rattle.osi_machine.proofs.ChannelLaws.{fit_append, flush_append, heard_flush, heard_append, data_append, Runs, alike, alike_view}
 use Rattle.osi_machine.proofs.Tokens.{united_has, without_has}
 use Rattle.osi_machine.proofs.Records.{flushed, hearing, matched, Meeting, Half, Views, IsOfProfile, Stands}
-use Rattle.osi_machine.proofs.Idle.{end_units, other_lacks, append_nil, view_idle, list_any_append}
+use Rattle.osi_machine.proofs.Idle.{end_units, other_lacks, view_idle, list_any_append}
 use Rattle.osi_machine.proofs.DataCall.{none_owed}
 use Rattle.osi_machine.proofs.Fewer.{less, Gives, Fewer, fewer_step, fewer_shows, but_held, within_has, disjoint_of}
 use Rattle.osi_machine.proofs.Retoken.{Like, like, itself, Tokens_of, retoken, recount}
@@ -48,11 +48,9 @@ dropped_not e r h k = grind arith
 
 other_asks : (w : Core) (k : Tokens) → Giving w k → Half w.owner w.own w.peer → drops (flushed w.peer w.own) (GT k) ≡ false → may_ask (flushed w.peer w.own).phase ≡ true
 other_asks w k g h d = by_either (runs w k g h).flush
-    (λ z. implied_two (λ p q. matched p q && may_ask p) (λ p q. may_ask q) refl (flushed w.own w.peer).phase (flushed w.peer w.own).phase
-    (and_from (matched (flushed w.own w.peer).phase (flushed w.peer w.own).phase) (may_ask (flushed w.own w.peer).phase) h.meeting.meets z.1.phase))
+    (λ z. implied_both matched (λ p q. may_ask p) (λ p q. may_ask q) refl (flushed w.own w.peer).phase (flushed w.peer w.own).phase h.meeting.meets z.1.phase)
     (λ z. absurd (dropped_not _ _ d
-    (implied_two (λ p q. matched p q && is_restart_due p) (λ p q. is_restarting q) refl (flushed w.own w.peer).phase (flushed w.peer w.own).phase
-    (and_from (matched (flushed w.own w.peer).phase (flushed w.peer w.own).phase) (is_restart_due (flushed w.own w.peer).phase) h.meeting.meets z.1))))
+    (implied_both matched (λ p q. is_restart_due p) (λ p q. is_restarting q) refl (flushed w.own w.peer).phase (flushed w.peer w.own).phase h.meeting.meets z.1)))
 
 give_fits : (w : Core) (k : Tokens) → Giving w k → Half w.owner w.own w.peer → Half (turned_owners w.owner) w.peer w.own → Fits (flushed w.peer w.own) (GT k)
 give_fits w k g h j = record {
@@ -151,26 +149,23 @@ own_like_end : (w : Core) (k : Tokens) → Giving w k → Half w.owner w.own w.p
 own_like_end w k g h = like _ _ (but_held k (flushed w.own w.peer) _ (runs w k g h).flush)
 
 own_views : (w : Core) (k : Tokens) → Giving w k → Half w.owner w.own w.peer → Views w.history w.own w.peer → Views (w.history ++ []) (giver w.own k) w.peer
-own_views w k g h v = grind (arith, same_seen, append_nil, own_like_heard, own_like_end)
-  where
-    data_same : w.own.got ++ data_of w.peer.sent ≡ w.peer.said → w.own.got ++ data_of w.peer.sent ≡ w.peer.said
-    data_same e = e
+own_views w k g h v = grind (arith, same_seen, append-nil, own_like_heard, own_like_end)
 
 peer_views : (w : Core) (k : Tokens) → Giving w k → Half w.owner w.own w.peer → Half (turned_owners w.owner) w.peer w.own → Views w.history w.peer w.own
     → Views (w.history ++ []) w.peer (giver w.own k)
 peer_views w k g h j v = record {
   ends = λ l. view_idle (GT k) (λ s a. refl) w.peer.session w.own.sent w.peer.view j.fits (fit_append w.peer.session w.own.sent (GT k) j.fits (give_fits w k g h j))
-      ∙ v.ends (ap hears (sym (peer_like_heard w k g h j).phase) ∙ l) ∙ sym (append_nil w.history);
+      ∙ v.ends (ap hears (sym (peer_like_heard w k g h j).phase) ∙ l) ∙ sym (append-nil w.history);
   cut = λ r. v.cut (ap is_restarting (sym (peer_like_heard w k g h j).phase) ∙ r)
-      ∙ ap (λ (a : List Item). cutat w.peer.session.base a w.peer.session.numbers.next) (sym (append_nil w.history));
+      ∙ ap (λ (a : List Item). cutat w.peer.session.base a w.peer.session.numbers.next) (sym (append-nil w.history));
   due = λ d. ap (λ (a : List Item). a ++ []) (v.due d);
   stream = λ d. streams (v.stream (ap (λ (u : FunctionalUnits). u.duplex) (sym (subst (Like (flushed w.peer w.own)) (sym (other_end w k)) (given_like k (flushed w.peer w.own))).units) ∙ d));
 }
   where
     streams : (w.peer.got ++ data_of w.own.sent ≡ w.own.said) × (w.history ≡ []) → (w.peer.got ++ data_of (w.own.sent ++ GT k ∷ []) ≡ w.own.said ++ []) × (w.history ++ [] ≡ [])
     streams old = (
-      ap (λ (r : List (List ℕ)). w.peer.got ++ r) (data_append w.own.sent (GT k ∷ []) ∙ append_nil (data_of w.own.sent)) ∙ old.0 ∙ sym (append_nil w.own.said),
-      append_nil w.history ∙ old.1,
+      ap (λ (r : List (List ℕ)). w.peer.got ++ r) (data_append w.own.sent (GT k ∷ []) ∙ append-nil (data_of w.own.sent)) ∙ old.0 ∙ sym (append-nil w.own.said),
+      append-nil w.history ∙ old.1,
     )
 
 -- ---- the call
@@ -214,5 +209,5 @@ give_stands w k g s c = record {
       s.peer_counts (itself w.peer.session) (peer_like_heard w k g s.own s.peer) (own_like_heard w k g s.own) (like w.own.session (less k w.own.session) refl);
   pair =
       let e = own_like_end w k g s.own in
-      grind (arith, flushed, append_nil, list_any_append, IsOfProfile);
+      grind (arith, flushed, append-nil, list_any_append, IsOfProfile);
 }

@@ -1,17 +1,16 @@
 -- What a side will have seen when it has heard all before a restart that stands, and what is confirmed then.
-use Rattle.std.proofs.Common.{◌≡◌, refl, sym, ◌∙◌, ap, subst, ℕ, ◌+◌, ◌≤◌, ◌<◌, Bool, true, false, if◌then◌else◌, List, [], ◌∷◌, ◌++◌, append_assoc, arith}
-use Rattle.osi_machine.proofs.Vocabulary.{leb-true, ltb-true, and_parts, State, Meaning, CN, AC, RF, DT, GT, PT, MIP, MIA, MAP, MAA, RS, RA, FN, DN, NF, AB, AA, is_wait_cn, is_connecting, is_acknowledgeable, point_taken, minor_confirmed, major_confirmed, becomes, drops, Good, next, Item, Octets, Point, minor_kind, major_point, points, Begins, seen, is_plain, Fits, AllFit, stops, heard, hears, view_next, heard_view, Party, is_opening, IsConsistent}
+use Rattle.std.proofs.Common.{◌≡◌, refl, sym, ◌∙◌, ap, subst, ℕ, ◌+◌, ◌≤◌, true, false, List, [], ◌∷◌, ◌++◌, append_assoc, arith}
+use Rattle.osi_machine.proofs.Vocabulary.{append-nil, State, Meaning, DT, MIP, MAP, RS, point_taken, minor_confirmed, major_confirmed, becomes, drops, Good, next, Item, Octets, Point, minor_kind, major_point, points, Begins, seen, is_plain, Fits, AllFit, stops, heard, hears, view_next, heard_view, Party, is_opening, IsConsistent}
 use Rattle.osi_machine.proofs.Records.{hearing, Views}
 use Rattle.osi_machine.proofs.PhaseLaws.{by_test}
 use Rattle.osi_machine.proofs.Units.{fit_cases}
 use Rattle.osi_machine.proofs.HistoryLaws.{points_append}
-use Rattle.osi_machine.proofs.Idle.{append_nil}
 use Rattle.osi_machine.proofs.ViewLaws.{heard_counted}
 
 -- ---- what was seen stays
 
 same_begins : (v w : List Item) → w ≡ v → Begins v w
-same_begins v w e = ([], append_nil v ∙ sym e)
+same_begins v w e = ([], append-nil v ∙ sym e)
 
 seen_begins : (s : State) (u : Meaning) (v : List Item) → stops s u ≡ false → Begins v (seen s u v)
 seen_begins s (DT o) v st = by_test s.units.duplex (λ e. rw e (same_begins v v refl)) (λ e. rw e (Octets o ∷ [], refl))

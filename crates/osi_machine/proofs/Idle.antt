@@ -1,7 +1,7 @@
 -- Calls that send a unit which changes no state: what is sent, and what both sides then are.
-use Rattle.std.proofs.Common.{◌≡◌, refl, sym, ◌∙◌, ap, subst, ℕ, Bool, true, false, not, ◌&&◌, ◌||◌, if◌then◌else◌, List, [], ◌∷◌, ◌++◌, ◌⊎◌, inl, inr, arith}
-use Rattle.osi_machine.proofs.Vocabulary.{list_any, State, FunctionalUnits, Meaning, DT, PT, Tokens, Token, data_token, has, available, has_right, is_within, is_ready, may_ask, may_hold, takes_data, takes_please, is_restarting, is_restart_due, becomes, drops, next, Item, Owners, Owner, Own, Absent, turned_owner, turned_owners, is_own, is_to_own, is_absent, seen, Fits, AllFit, flush, stops, heard, hears, view_next, heard_view, Party, is_opening, and_from, not_from_false}
-use Rattle.osi_machine.proofs.PhaseLaws.{implied, excluded, implied_two, if_first, by_either}
+use Rattle.std.proofs.Common.{◌≡◌, refl, sym, ◌∙◌, ap, subst, ℕ, Bool, true, false, not, ◌&&◌, ◌||◌, List, [], ◌∷◌, ◌++◌, ◌⊎◌, inl, inr, arith}
+use Rattle.osi_machine.proofs.Vocabulary.{list_any, State, FunctionalUnits, Meaning, DT, PT, Tokens, Token, data_token, has, available, has_right, is_within, is_ready, may_ask, may_hold, takes_data, takes_please, is_restarting, is_restart_due, becomes, Item, Owners, Owner, turned_owner, turned_owners, is_own, is_to_own, is_absent, seen, Fits, AllFit, flush, heard, hears, heard_view, Party, is_opening, not_from_false}
+use Rattle.osi_machine.proofs.PhaseLaws.{implied_both, implied, excluded, if_first, by_either}
 use Rattle.osi_machine.proofs.Units.{next_cases, next_hears}
 use Rattle.osi_machine.proofs.ChannelLaws.{fit_append, flush_append, kept_heard, heard_flush, heard_append, heard_append_due, view_append, view_append_due}
 use Rattle.osi_machine.proofs.Begun.{flush_open, is_lively, ends_lively, is_talking, Talks, ends_talking}
@@ -47,12 +47,10 @@ pub right_of : (s : State) (t : Token) → has_right s t ≡ true → HasRight s
 right_of s t h = grind arith
 
 own_not_theirs : (o : Owner) → is_own o ≡ true → (is_own (turned_owner o) || is_to_own (turned_owner o)) ≡ false
-own_not_theirs Own h = refl
-own_not_theirs _ h = absurd (cc)
+own_not_theirs o h = grind arith
 
 absent_not_theirs : (o : Owner) → is_absent o ≡ true → (is_own (turned_owner o) || is_to_own (turned_owner o)) ≡ false
-absent_not_theirs Absent h = refl
-absent_not_theirs _ h = absurd (cc)
+absent_not_theirs o h = grind arith
 
 pub end_units : (o : Owners) (x y : Party) → Half o x y → is_opening x.session.phase ≡ false → (flushed x y).units ≡ x.session.units
 end_units o x y h p = (flush_open x.session y.sent p h.fits).units
@@ -88,17 +86,14 @@ pub other_takes_data : (o : Owners) (x y : Party) → Half o x y → IsOfProfile
     → is_restarting (flushed y x).phase ≡ false → takes_data (flushed y x).phase ≡ true
 other_takes_data o x y h p ready right listens =
     elim (ends_talking x.session y.sent (talks o x y h p ready right) h.fits) [
-      | inl t ↦ implied_two (λ p q. matched p q && is_talking p) (λ p q. takes_data q) refl (flushed x y).phase (flushed y x).phase
-          (and_from (matched (flushed x y).phase (flushed y x).phase) (is_talking (flushed x y).phase) h.meeting.meets t.phase)
+      | inl t ↦ implied_both matched (λ p q. is_talking p) (λ p q. takes_data q) refl (flushed x y).phase (flushed y x).phase h.meeting.meets t.phase
       | inr due ↦ absurd (
-          let r = implied_two (λ p q. matched p q && is_restart_due p) (λ p q. is_restarting q) refl (flushed x y).phase (flushed y x).phase
-          (and_from (matched (flushed x y).phase (flushed y x).phase) (is_restart_due (flushed x y).phase) h.meeting.meets due) in
+          let r = implied_both matched (λ p q. is_restart_due p) (λ p q. is_restarting q) refl (flushed x y).phase (flushed y x).phase h.meeting.meets due in
           cc)
     ]
 
 restarting_of : (b : Bool) → (false || (b && true)) ≡ false → b ≡ false
-restarting_of true h = absurd (cc)
-restarting_of false h = refl
+restarting_of b h = grind arith
 
 pub data_fits : (o : Owners) (x y : Party) (octets : List ℕ) → Half o x y → Half (turned_owners o) y x → IsOfProfile (flushed x y).units
     → is_ready x.session.phase ≡ true → HasRight x.session data_token → Fits (flushed y x) (DT octets)
@@ -127,11 +122,9 @@ please_fits o x y tokens octets h asks within = record {
   plain = refl;
   good = λ d. record {
     expected = by_either (ends_lively x.session y.sent (implied may_ask is_lively refl x.session.phase asks) h.fits)
-        (λ t. implied_two (λ p q. matched p q && is_lively p) (λ p q. takes_please q) refl (flushed x y).phase (flushed y x).phase
-        (and_from (matched (flushed x y).phase (flushed y x).phase) (is_lively (flushed x y).phase) h.meeting.meets t))
+        (λ t. implied_both matched (λ p q. is_lively p) (λ p q. takes_please q) refl (flushed x y).phase (flushed y x).phase h.meeting.meets t)
         (λ due. absurd (dropped _ _ d
-        (implied_two (λ p q. matched p q && is_restart_due p) (λ p q. is_restarting q) refl (flushed x y).phase (flushed y x).phase
-        (and_from (matched (flushed x y).phase (flushed y x).phase) (is_restart_due (flushed x y).phase) h.meeting.meets due))));
+        (implied_both matched (λ p q. is_restart_due p) (λ p q. is_restarting q) refl (flushed x y).phase (flushed y x).phase h.meeting.meets due)));
     met = (all, tt);
   };
 }
@@ -147,10 +140,6 @@ please_fits o x y tokens octets h asks within = record {
     dropped _ _ h k = cc
 
 -- ---- what is seen after such a call
-
-pub append_nil {ℓ} : {A : Type ℓ} → (xs : List A) → xs ++ [] ≡ xs
-append_nil [] = refl
-append_nil (x ∷ xs) = ap (λ r. x ∷ r) (append_nil xs)
 
 -- where this side holds the data token or with duplex, what it adds is seen last
 pub own_views : (h h' : List Item) (x y : Party) (m : Meaning) (v : List Item) (said : List (List ℕ)) → IsIdle m → AllFit x.session y.sent

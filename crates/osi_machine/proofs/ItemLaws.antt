@@ -1,5 +1,5 @@
 -- Data or a point that is taken is the item of the history at the mark of the side that takes it.
-use Rattle.std.proofs.Common.{◌≡◌, sym, ◌∙◌, ap, subst, ℕ, Bool, true, false, ◌&&◌, List, [], ◌∷◌, ◌++◌, take, length, inl, inr, arith}
+use Rattle.std.proofs.Common.{◌≡◌, sym, ◌∙◌, ap, subst, ℕ, Bool, true, false, List, [], ◌∷◌, ◌++◌, take, length, inl, inr, arith}
 use Rattle.osi_machine.proofs.Vocabulary.{State, Meaning, is_over, Item, Begins, is_acted_on, Message, unit, World, turned, session_of, Machine, Told, brings, IsRun, OfEach, TakesItsItem, TakeTheirItems}
 use Rattle.osi_machine.proofs.CoreLaws.{SessionLaws}
 use Rattle.osi_machine.proofs.Promises.{none_brought, sees_the_history, takes_the_next_item}

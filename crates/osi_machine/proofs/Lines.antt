@@ -62,12 +62,10 @@ shown_by side r (i ∷ shown) d k n =
     ap (λ (b : Bool). if b then shown_at side r i ∷ record_of d k (map (shown_at side r) shown) else record_of d k (map (shown_at side r) shown)) n ∙ shown_by side r shown d k n
 
 self_side : (side : Side) → is_side side side ≡ true
-self_side Left = refl
-self_side Right = refl
+self_side side = grind arith
 
 pub other_side : (side : Side) → is_side (other side) side ≡ false
-other_side Left = refl
-other_side Right = refl
+other_side side = grind arith
 
 pub own_entry : (side : Side) (r : ℕ) → (is_side side side && (r == r)) ≡ true
 own_entry side r = rw (self_side side, eq-eqb r r refl) refl

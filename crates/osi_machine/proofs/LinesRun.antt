@@ -1,9 +1,8 @@
 -- What the moves of one connection keep is true of each connection of a machine after every list of steps.
-use Rattle.std.proofs.Common.{◌≡◌, refl, sym, ◌∙◌, ap, subst, ℕ, zero, suc, ◌+◌, ◌==◌, ◌<◌, ◌≤◌, Bool, true, false, not, ◌&&◌, ◌||◌, if◌then◌else◌, List, [], ◌∷◌, ◌++◌, map, length, length-append, Option, Some, None, is_some, append_assoc, arith}
+use Rattle.std.proofs.Common.{◌≡◌, refl, sym, ◌∙◌, ap, subst, ℕ, zero, suc, ◌+◌, ◌==◌, ◌<◌, ◌≤◌, Bool, true, false, ◌&&◌, if◌then◌else◌, List, [], ◌∷◌, ◌++◌, map, length, length-append, Option, Some, None, is_some, append_assoc, arith}
 use Rattle.osi_session.specs.declared.faults.CallError.TheVariants as error
 use Rattle.osi_machine.specs.Machine.{ends_there}
-use Rattle.osi_machine.proofs.Vocabulary.{AllByRecursion, slice_get, Shown, CallError, Call, HasSerial, allowed, is_profile, Offer, CanBeOffered, Side, Left, Right, Class, class_0, class_2, Message, Transport, World, session_of, asked_with, after_answer, Terms, closed, shown_at_end, Ending, closed_here, Refusal, Step, connects, calls, delivers, breaks, ends, Entry, connect_answered, call_answered, shown_at, ended, Machine, start, connection_at, replaced, seen_from, end_of, stays, noted, is_given, refusal_by, transport_of, refusal, asked_in, error_of, call_in, side_of, ended_worlds, shown_in_order, marked_ended, after_end, closes_by, after_taking, learns, taken_in, delivered_to, cut_channels, is_told, step, run, HasNumber, Told, told_by, is_side, record_of, untold, told_of, and_right, not-false, offers_in}
-use Rattle.osi_machine.proofs.Idle.{append_nil}
+use Rattle.osi_machine.proofs.Vocabulary.{append-nil, AllByRecursion, slice_get, Shown, CallError, Call, HasSerial, allowed, is_profile, Offer, CanBeOffered, Side, Left, Right, Class, class_0, class_2, Message, Transport, World, session_of, asked_with, after_answer, Terms, closed, shown_at_end, Ending, closed_here, Refusal, Step, Entry, connect_answered, call_answered, shown_at, ended, Machine, start, connection_at, replaced, seen_from, stays, noted, is_given, refusal_by, transport_of, refusal, asked_in, error_of, call_in, side_of, ended_worlds, shown_in_order, marked_ended, after_end, closes_by, after_taking, learns, taken_in, delivered_to, cut_channels, step, run, HasNumber, Told, told_by, is_side, record_of, untold, told_of, and_right, not-false, offers_in}
 use Rattle.osi_machine.proofs.ViewFold.{told_all}
 use Rattle.osi_machine.proofs.ViewRun.{record_append, other}
 use Rattle.osi_machine.proofs.Lines.{told_of_call, taking_of, IsKept, IsBy, told_more, told_same, other_number, call_by, shown_by, other_side, call_own, shown_own, Lines, seen_told, change_line}
@@ -198,7 +197,7 @@ end_lines terms P q b side keep j es k (w ∷ ws) (o ∷ os) f h = (
         ∙ ap (λ (x : List Entry). x ++ record_of d k (map (shown_at side k) shown ++ rest)) (f d k (omega arith))
         ∙ record_append d k (map (shown_at side k) shown) rest
         ∙ ap (λ (x : List Entry). record_of d k (map (shown_at side k) shown) ++ x) (late side d k (k + 1) ws (omega arith))
-        ∙ append_nil (record_of d k (map (shown_at side k) shown))
+        ∙ append-nil (record_of d k (map (shown_at side k) shown))
 end_lines terms P q b side keep j es k [] (o ∷ os) f h = absurd h
 end_lines terms P q b side keep j es k (w ∷ ws) [] f h = absurd h
 
@@ -221,11 +220,11 @@ end_good terms P q m side e keep g = marked_good terms P side e _ (record {
   none = λ d o. told_same d 0 o m.journal _ (none_told d 0 (late side d 0 1 m.worlds (omega arith))) ∙ g.none d o;
   agreed = g.agreed;
   asked = none_asked m.journal (shown_in_order side 1 m.worlds ++ ended side e ∷ [])
-      (offers_append (shown_in_order side 1 m.worlds) (ended side e ∷ []) ∙ append_nil (offers_in (shown_in_order side 1 m.worlds)) ∙ order_offers side 1 m.worlds) ∙ g.asked;
+      (offers_append (shown_in_order side 1 m.worlds) (ended side e ∷ []) ∙ append-nil (offers_in (shown_in_order side 1 m.worlds)) ∙ order_offers side 1 m.worlds) ∙ g.asked;
 })
   where
     none_told : (d : Side) (n : ℕ) → record_of d n (shown_in_order side 1 m.worlds) ≡ [] → record_of d n (shown_in_order side 1 m.worlds ++ ended side e ∷ []) ≡ []
-    none_told d n f = record_append d n (shown_in_order side 1 m.worlds) (ended side e ∷ []) ∙ append_nil (record_of d n (shown_in_order side 1 m.worlds)) ∙ f
+    none_told d n f = record_append d n (shown_in_order side 1 m.worlds) (ended side e ∷ []) ∙ append-nil (record_of d n (shown_in_order side 1 m.worlds)) ∙ f
 
 -- ---- a delivery
 

@@ -2,7 +2,7 @@
 use Rattle.std.proofs.Common.{◌≡◌, refl, sym, ◌∙◌, ap, subst, ℕ, zero, suc, ◌+◌, Bool, true, false, not, ◌&&◌, ◌||◌, if◌then◌else◌, List, [], ◌∷◌, ◌++◌, map, Option, Some, None, is_some, inl, inr, ◌⊎◌, arith}
 use Rattle.osi_session.specs.declared.faults.CallError.TheVariants as error
 use Rattle.osi_machine.specs.Machine.{ends_there}
-use Rattle.osi_machine.proofs.Vocabulary.{AllByRecursion, list_any, slice_get, Shown, Lost, Call, allowed, shows_loss, Offer, Side, Left, Right, Class, class_0, class_2, Message, agree, Transport, waiting, World, turned, session_of, asked_with, after_answer, Taking, Terms, accepts, denies, message_taken, closed, ended_at, shown_at_end, Ending, closed_here, Refusal, Step, connects, calls, delivers, breaks, ends, Entry, connect_answered, call_answered, shown_at, ended, Machine, start, connection_at, replaced, with_connection, seen_from, end_of, stays, noted, is_given, is_waiting, is_known, is_class_0, transport_of, refusal, asked_in, error_of, call_in, side_of, ended_worlds, shown_in_order, marked_ended, after_end, closes_by, after_taking, without_first, learns, taken_in, delivered_to, cut_channels, is_told, step, run, HasNumber, Told, is_side, is_loss, loses, LosesByItsEnd, IsRun, or_parts}
+use Rattle.osi_machine.proofs.Vocabulary.{AllByRecursion, list_any, slice_get, Shown, Call, allowed, shows_loss, Offer, Side, Left, Right, Class, class_0, class_2, Message, Transport, waiting, World, turned, session_of, asked_with, after_answer, Taking, Terms, accepts, denies, message_taken, closed, ended_at, shown_at_end, Ending, closed_here, Refusal, Step, connects, calls, delivers, breaks, ends, Entry, connect_answered, call_answered, shown_at, ended, Machine, start, connection_at, replaced, with_connection, seen_from, end_of, stays, noted, is_given, is_waiting, is_known, is_class_0, transport_of, refusal, asked_in, error_of, call_in, side_of, ended_worlds, shown_in_order, marked_ended, after_end, closes_by, after_taking, without_first, learns, taken_in, delivered_to, cut_channels, is_told, step, run, HasNumber, Told, is_side, is_loss, loses, LosesByItsEnd, IsRun, or_parts}
 use Rattle.osi_machine.proofs.CoreLaws.{SessionLaws}
 use Rattle.osi_machine.proofs.Projects.{stopped}
 use Rattle.osi_machine.proofs.Lines.{Lines, cut_to}
@@ -38,11 +38,6 @@ one_with zero ws w v e f h = h
 one_with (suc r) ws w v e f h = one_replaced r ws w v e f h
 
 -- each moves alone
-all_ended : (P : World → Type 0) (side : Side) (keep : ℕ → ℕ) (k : ℕ) (ws : List World) → ((n : ℕ) (w : World) → P w → P (seen_from side (ends_there n (seen_from side w)))) → AllByRecursion P ws
-    → AllByRecursion P (ended_worlds side keep k ws)
-all_ended P side keep k [] f h = tt
-all_ended P side keep k (w ∷ ws) f h = (f (keep k) w h.0, all_ended P side keep (k + 1) ws f h.1)
-
 all_from : (P Q : World → Type 0) (side : Side) (keep : ℕ → ℕ) (k : ℕ) (ws : List World) → ((n : ℕ) (w : World) → P w → Q (seen_from side (ends_there n (seen_from side w)))) → AllByRecursion P ws
     → AllByRecursion Q (ended_worlds side keep k ws)
 all_from P Q side keep k [] f h = tt
@@ -52,7 +47,7 @@ one_ended : (side : Side) (keep : ℕ → ℕ) (k : ℕ) (ws : List World) → (
     → OneAlive (ended_worlds side keep k ws)
 one_ended side keep k [] f h = tt
 one_ended side keep k (w ∷ ws) f (inl h) = inl (f (keep k) w h.0, one_ended side keep (k + 1) ws f h.1)
-one_ended side keep k (w ∷ ws) f (inr h) = inr (all_ended IsDead side keep (k + 1) ws f h)
+one_ended side keep k (w ∷ ws) f (inr h) = inr (all_from IsDead IsDead side keep (k + 1) ws f h)
 
 all_cut : (P : World → Type 0) (left right : ℕ → ℕ) (k : ℕ) (ws : List World) → ((i j : ℕ) (w : World) → P w → P (cut_to i j w)) → AllByRecursion P ws → AllByRecursion P (cut_channels left right k ws)
 all_cut P left right k [] f h = tt
@@ -118,8 +113,7 @@ dead_side_takes b terms keep Left w x xs e h = dead_takes b terms keep w x xs h
 dead_side_takes b terms keep Right w x xs e h = dead_taken b terms keep (turned w) x xs (back IsDead w h) e
 
 known_before : (terms : Terms) (tr : Transport) (x : Message) (known : Option Class) → is_known (learns terms tr x known) ≡ false → is_known known ≡ false
-known_before (accepts class) waiting agree known h = absurd (cc)
-known_before terms tr x known h = h
+known_before terms tr x known h = grind arith
 
 none_agreed : (terms : Terms) (x : Message) (known : Option Class) → (is_denial terms ≡ true → is_agree x ≡ false) → is_known (learns terms waiting x known) ≡ false → is_agree x ≡ false
 none_agreed terms x known f h = grind arith
@@ -168,8 +162,7 @@ none_more p [] ys h k = k
 none_more p (x ∷ xs) ys h k = let a = or_parts (p x) (list_any p xs) h in let b = none_more p xs ys a.1 k in rw (a.0, b) refl
 
 one_kept : (d side : Side) (r : ℕ) (i : Shown) → is_lost i ≡ false → is_loss d (shown_at side r i) ≡ false
-one_kept d side r Lost h = absurd (cc)
-one_kept d side r _ h = refl
+one_kept d side r i h = grind arith
 
 shown_kept : (d side : Side) (r : ℕ) (shown : List Shown) → list_any is_lost shown ≡ false → list_any (is_loss d) (map (shown_at side r) shown) ≡ false
 shown_kept d side r [] h = refl
@@ -180,8 +173,7 @@ shown_kept d side r (i ∷ shown) h =
     rw (b, c) refl
 
 one_other : (d side : Side) (r : ℕ) (i : Shown) → is_side d side ≡ false → is_loss d (shown_at side r i) ≡ false
-one_other d side r Lost h = h
-one_other d side r _ h = refl
+one_other d side r i h = grind arith
 
 shown_other : (d side : Side) (r : ℕ) (shown : List Shown) → is_side d side ≡ false → list_any (is_loss d) (map (shown_at side r) shown) ≡ false
 shown_other d side r [] h = refl
@@ -228,8 +220,7 @@ record Moves (m : Machine) (known : Option Class) (side : Side) (w v : World) (e
   kept : (d : Side) → list_any (is_loss d) es ≡ false
 
 end_same : (d side : Side) (m : Machine) (known : Option Class) (r : ℕ) (v : World) (es : List Entry) → end_of d (noted es (stays (record m { known = known }) side r v)) ≡ end_of d m
-end_same Left side m known r v es = refl
-end_same Right side m known r v es = refl
+end_same d side m known r v es = grind arith
 
 move_calm : (m : Machine) (known : Option Class) (side : Side) (r : ℕ) (w v : World) (es : List Entry) → connection_at r m.worlds ≡ Some w → Moves m known side w v es → IsCalm m
     → IsCalm (noted es (stays (record m { known = known }) side r v))
@@ -286,7 +277,7 @@ lost_calm terms m side e keep t g c = marked_calm side e _
     (λ a. one_ended side keep 1 m.worlds (λ n w h. dead_side_ends side n w h) (c.alone a))
     (λ n. all_from (λ w. StageOf m.broken w × IsEarly w) IsEarly side keep 1 m.worlds (λ i w h. ends_or_not IsEarly side i w (early_ends_at m.broken side i w h) h.1)
     (both_of (StageOf m.broken) IsEarly m.worlds (stages m.broken m.journal 1 m.worlds g.offers g.lines) (c.early n)))
-    (λ n. all_ended NoAgree side keep 1 m.worlds (λ i w h. none_side_ends side i w h) (c.denied n))
+    (λ n. all_from NoAgree NoAgree side keep 1 m.worlds (λ i w h. none_side_ends side i w h) (c.denied n))
   where
     other_end : (d : Side) → loses (end_of d (marked_ended side e (noted (shown_in_order side 1 m.worlds ++ ended side e ∷ []) (record m { worlds = ended_worlds side keep 1 m.worlds })))) ≡ false
         → loses (end_of d (noted (shown_in_order side 1 m.worlds ++ ended side e ∷ []) (record m { worlds = ended_worlds side keep 1 m.worlds }))) ≡ false → loses (end_of d m) ≡ false
@@ -301,8 +292,7 @@ not_2 : (terms : Terms) → by_terms terms (Some class_0) ≡ true → is_class_
 not_2 terms h = grind arith
 
 not_denied : (terms : Terms) (class : Class) → by_terms terms (Some class) ≡ true → is_denial terms ≡ true → ⊥
-not_denied (accepts class) c h d = absurd (cc)
-not_denied (denies r) c h d = absurd (cc)
+not_denied terms class h d = grind arith
 
 -- m is the machine with what the taker was shown, v what is left of the connection
 over_calm : (m : Machine) (side : Side) (r : ℕ) (keep : ℕ → ℕ) (w v : World) → connection_at r m.worlds ≡ Some w → is_some (end_of side m) ≡ false → m.known ≡ Some class_0
@@ -439,8 +429,7 @@ new_none true o = record { own = refl; peer = refl }
 new_none false o = record { own = refl; peer = refl }
 
 none_waits : (known : Option Class) (asked : List Transport) → (not (is_known known) && list_any is_waiting asked) ≡ false → is_known known ≡ false → list_any is_waiting asked ≡ false
-none_waits None asked h n = h
-none_waits (Some class) asked h n = absurd (cc)
+none_waits known asked h n = grind arith
 
 one_asked : (m : Machine) (w : World) → IsCalm m → (not (is_known m.known) && list_any is_waiting (map transport_of m.worlds)) ≡ false → is_class_0 m.known ≡ false → is_class_2 m.terms ≡ false
     → (known : Option Class) → m.known ≡ known → OneAlive (m.worlds ++ w ∷ [])

@@ -1,9 +1,6 @@
 -- No message that is taken shows a loss, and no agreement is under way where a called end denies.
-use Rattle.std.proofs.Common.{◌≡◌, refl, sym, ◌∙◌, ap, ℕ, Bool, true, false, not, if◌then◌else◌, List, [], ◌∷◌, Option, Some, None, inl, inr, arith}
-use Rattle.osi_session.specs.Respond.{judged}
-use Rattle.osi_session.specs.declared.faults.UnitFault.{UnitFault}
-use Rattle.osi_session.specs.declared.faults.UnitFault.TheVariants.{Unexpected}
-use Rattle.osi_machine.proofs.Vocabulary.{list_any, Shown, Lost, Aborted, PeerAbort, bad, names, State, Meaning, CN, RS, AB, AA, Outcome, nothing, is_wait_cn, is_aborting, is_ended, is_expected, is_acceptable, in_aborting, in_ended, drops, si, conditions, first_fault, take_expected, respond_unit, shown_for, stands, shows_loss, Message, unit, ask, agree, deny, bye, over, Transport, not_yet, waiting, linked, closing, gone, World, session_of, Terms, accepts, denies, message_taken, without_first, Told}
+use Rattle.std.proofs.Common.{◌≡◌, refl, sym, ◌∙◌, ap, ℕ, Bool, true, false, List, ◌∷◌, inl, inr, arith}
+use Rattle.osi_machine.proofs.Vocabulary.{list_any, Shown, Lost, State, Meaning, take_expected, respond_unit, shown_for, shows_loss, Message, unit, ask, agree, deny, bye, over, Transport, not_yet, waiting, linked, closing, gone, World, session_of, Terms, accepts, denies, message_taken, without_first, Told}
 use Rattle.osi_machine.proofs.Projects.{stopped}
 use Rattle.osi_machine.proofs.ProjectEnd.{comes_unit}
 use Rattle.osi_machine.proofs.ProjectStart.{Way, nothing_sent, asked, agreed, denied, asks, replies}

@@ -1,7 +1,7 @@
 -- What the records of both sides tell after every list of steps of the machine.
-use Rattle.std.proofs.Common.{◌≡◌, refl, sym, ◌∙◌, ap, subst, ℕ, zero, suc, ◌+◌, ◌<◌, Bool, true, false, not, ◌&&◌, ◌||◌, List, [], ◌∷◌, ◌++◌, length, Option, Some, None, inl, inr, ◌⊎◌, arith}
+use Rattle.std.proofs.Common.{◌≡◌, refl, sym, ◌∙◌, ap, subst, ℕ, zero, suc, ◌+◌, ◌<◌, Bool, true, false, not, ◌||◌, List, [], ◌∷◌, ◌++◌, length, Option, Some, None, inl, inr, ◌⊎◌, arith}
 use Rattle.osi_machine.specs.Core.{turned as turned_core}
-use Rattle.osi_machine.proofs.Vocabulary.{or_comm, slice_get, has, is_over, FunctionalUnits, Item, Point, PointKind, points, Begins, Agree, turned_owner, is_own, Offer, Left, Right, Core, is_opening, World, turned, session_of, Machine, Entry, connection_at, Told, told_of, IsRun, OfEach, HasOneHolder, ShowNoFault, RecordsAgree, ShownAsAsked, ConfirmedThere, ConfirmedInBoth}
+use Rattle.osi_machine.proofs.Vocabulary.{or_comm, slice_get, is_over, FunctionalUnits, Item, Point, PointKind, points, Begins, Agree, Offer, Left, Right, Core, is_opening, World, turned, Machine, Entry, connection_at, Told, told_of, IsRun, OfEach, HasOneHolder, ShowNoFault, RecordsAgree, ShownAsAsked, ConfirmedThere, ConfirmedInBoth}
 use Rattle.osi_machine.proofs.CoreLaws.{SessionLaws}
 use Rattle.osi_machine.proofs.Records.{Stands}
 use Rattle.osi_machine.proofs.Alive.{alive}

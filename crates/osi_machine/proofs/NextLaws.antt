@@ -1,7 +1,7 @@
 -- Data that is first under way to a side is no fault there; and a side that is left is over.
-use Rattle.std.proofs.Common.{◌≡◌, refl, sym, ◌∙◌, ap, subst, ℕ, Bool, true, false, List, [], ◌∷◌, ◌++◌, map, Some, inl, inr, arith}
+use Rattle.std.proofs.Common.{◌≡◌, refl, sym, ◌∙◌, subst, ℕ, Bool, true, false, List, [], ◌∷◌, map, Some, inl, inr, arith}
 use Rattle.osi_session.proofs.VerdictLaws.{good_is_fine}
-use Rattle.osi_machine.proofs.Vocabulary.{cases_Bool, list_any, verdict, is_faulty, State, Meaning, DT, is_over, drops, Fits, AllFit, Message, unit, World, turned, session_of, Machine, connection_at, Told, IsRun, Tables, IsTableRun, AtEachSide, IsNoFaultNext, is_leaving, IsOverWhenLeft}
+use Rattle.osi_machine.proofs.Vocabulary.{cases_Bool, list_any, verdict, is_faulty, State, Meaning, DT, is_over, Fits, AllFit, Message, unit, World, turned, session_of, Machine, connection_at, Told, IsRun, Tables, IsTableRun, AtEachSide, IsNoFaultNext, is_leaving, IsOverWhenLeft}
 use Rattle.osi_machine.proofs.CoreLaws.{SessionLaws}
 use Rattle.osi_machine.proofs.Projects.{stopped, Carried, session_is, not_both}
 use Rattle.osi_machine.proofs.ProjectTake.{split_first}

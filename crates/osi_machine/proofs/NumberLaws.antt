@@ -1,6 +1,6 @@
 -- The lower of two numbers, and what the units on the way do to the direction of points.
-use Rattle.std.proofs.Common.{◌≡◌, refl, ℕ, ◌≤◌, ◌<◌, true, false, ◌||◌, nat_lt, if◌then◌else◌, List, [], ◌∷◌, arith}
-use Rattle.osi_machine.proofs.Vocabulary.{ltb-true, ltb-false, or_parts, list_any, State, Meaning, CN, AC, RF, DT, GT, PT, MIP, MIA, MAP, MAA, RS, RA, FN, DN, NF, AB, AA, data_token, lower, is_wait_cn, is_connecting, stands, point_taken, minor_confirmed, major_confirmed, restarted_at, becomes, next, Good, is_plain, AllFit, heard, stops, needs_token, is_opening}
+use Rattle.std.proofs.Common.{◌≡◌, ℕ, ◌≤◌, ◌<◌, true, false, nat_lt, List, [], ◌∷◌, arith}
+use Rattle.osi_machine.proofs.Vocabulary.{ltb-true, ltb-false, or_parts, list_any, State, Meaning, data_token, lower, point_taken, minor_confirmed, major_confirmed, restarted_at, becomes, next, Good, is_plain, AllFit, heard, stops, needs_token, is_opening}
 use Rattle.osi_machine.proofs.PhaseLaws.{by_test}
 use Rattle.osi_machine.proofs.Units.{next_cases, fit_cases, chosen}
 use Rattle.osi_machine.proofs.ChannelLaws.{kept_heard}

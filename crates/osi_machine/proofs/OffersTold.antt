@@ -1,7 +1,6 @@
 -- The journal tells what was asked for with each connection.
 use Rattle.std.proofs.Common.{◌≡◌, refl, ◌∙◌, ap, ℕ, ◌+◌, List, [], ◌∷◌, ◌++◌, map, None}
-use Rattle.osi_machine.proofs.Vocabulary.{Shown, Offer, Side, World, shown_at_end, Entry, connect_answered, shown_at, Machine, seen_from, shown_in_order, offers_in}
-use Rattle.osi_machine.proofs.Idle.{append_nil}
+use Rattle.osi_machine.proofs.Vocabulary.{append-nil, Shown, Offer, Side, World, shown_at_end, Entry, connect_answered, shown_at, Machine, seen_from, shown_in_order, offers_in}
 
 abbrev pub offer_of : World → Offer
 offer_of w = w.offer
@@ -16,7 +15,7 @@ offers_append (e ∷ es) fs = offers_append es fs
 
 -- entries that ask for nothing
 pub none_asked : (j es : List Entry) → offers_in es ≡ [] → offers_in (j ++ es) ≡ offers_in j
-none_asked j es e = offers_append j es ∙ ap (λ (os : List Offer). offers_in j ++ os) e ∙ append_nil (offers_in j)
+none_asked j es e = offers_append j es ∙ ap (λ (os : List Offer). offers_in j ++ os) e ∙ append-nil (offers_in j)
 
 pub shown_offers : (side : Side) (r : ℕ) (shown : List Shown) → offers_in (map (shown_at side r) shown) ≡ []
 shown_offers side r [] = refl

@@ -1,6 +1,6 @@
 -- What is under way while a connection is being opened: nothing that acts.
-use Rattle.std.proofs.Common.{◌≡◌, refl, subst, true, false, if◌then◌else◌, List, [], ◌∷◌, arith}
-use Rattle.osi_machine.proofs.Vocabulary.{State, Phase, Meaning, CN, AC, RF, DT, GT, PT, MIP, MIA, MAP, MAA, RS, RA, FN, DN, NF, AB, AA, is_wait_cn, is_connecting, is_answering, is_restarting, is_ready, is_major_asked, is_releasing, may_ask, takes_data, takes_please, takes_minor_ack, takes_restart, is_expected, is_acceptable, has_no_effect, passes_restarting, becomes, stands, drops, Good, next, is_plain, Fits, AllFit, flush, both_ways}
+use Rattle.std.proofs.Common.{◌≡◌, refl, subst, true, false, List, [], ◌∷◌, arith}
+use Rattle.osi_machine.proofs.Vocabulary.{State, Phase, Meaning, is_connecting, is_answering, is_restarting, is_expected, has_no_effect, passes_restarting, becomes, drops, Good, next, is_plain, Fits, AllFit, flush, both_ways}
 use Rattle.osi_machine.proofs.PhaseLaws.{excluded}
 use Rattle.osi_machine.proofs.Units.{next_dropped, next_acted}
 use Rattle.osi_machine.proofs.Deaf.{AllEmpty, dropped_empty}

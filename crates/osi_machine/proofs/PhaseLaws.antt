@@ -11,8 +11,7 @@ pub every_is : (f : Phase → Bool) → every f ≡ true → (p : Phase) → f p
 every_is f h p = grind arith
 
 pub cut_or : (a b : Bool) → (not a || b) ≡ true → a ≡ true → b ≡ true
-cut_or true b h k = h
-cut_or false b h k = absurd (cc)
+cut_or a b h k = grind arith
 
 -- a test that another implies in each phase
 pub implied : (f g : Phase → Bool) → every (λ p. not (f p) || g p) ≡ true → (p : Phase) → f p ≡ true → g p ≡ true
@@ -35,6 +34,10 @@ every_two_is f h p q = every_is (f p) (every_is (λ r. every (f r)) h p) q
 -- a test of two phases that another implies
 pub implied_two : (f g : Phase → Phase → Bool) → every_two (λ p q. not (f p q) || g p q) ≡ true → (p q : Phase) → f p q ≡ true → g p q ≡ true
 implied_two f g h p q k = cut_or (f p q) (g p q) (every_two_is (λ p q. not (f p q) || g p q) h p q) k
+
+-- a test of two phases that two others imply
+pub implied_both : (m f g : Phase → Phase → Bool) → every_two (λ p q. not (m p q && f p q) || g p q) ≡ true → (p q : Phase) → m p q ≡ true → f p q ≡ true → g p q ≡ true
+implied_both m f g h p q k l = implied_two (λ p q. m p q && f p q) g h p q (rw (k, l) refl)
 
 -- by whether a test holds
 pub by_test : {A : Type 0} → (b : Bool) → (b ≡ true → A) → (b ≡ false → A) → A

@@ -1,7 +1,7 @@
 -- The calls of Minor and of Major keep what is true of both sides.
-use Rattle.std.proofs.Common.{◌≡◌, refl, sym, ◌∙◌, ap, subst, ℕ, ◌+◌, ◌==◌, ◌≤◌, ◌<◌, Bool, true, false, not, ◌&&◌, ◌||◌, nat_le, nat_lt, if◌then◌else◌, List, [], ◌∷◌, ◌++◌, ◌⊎◌, inl, inr, Ok, arith}
+use Rattle.std.proofs.Common.{◌≡◌, refl, sym, ◌∙◌, ap, subst, ℕ, ◌+◌, ◌≤◌, ◌<◌, Bool, true, false, not, ◌&&◌, ◌||◌, nat_le, nat_lt, if◌then◌else◌, List, [], ◌∷◌, ◌++◌, ◌⊎◌, inl, inr, Ok, arith}
 use Rattle.osi_machine.proofs.Vocabulary.{and_parts, ltb-true, leb-true, lt-ltb, le-leb, eq-eqb, or_left, and_from, not-true, not-false, and_right, list_any, State, Phase, Numbers, FunctionalUnits, Ready, MajorAsked, Meaning, DT, GT, PT, MIP, MIA, MAP, RS, FN, Token, data_token, minor, major, has, available, has_right, is_ready, is_major_asked, is_restarting, is_restart_due, may_ask, may_hold, takes_please, takes_minor_ack, takes_restart, lower, point_sent, point_taken, minor_confirmed, becomes, drops, next, Good, has_no_effect, passes_restarting, Minor, Major, after, Item, PointKind, Point, points, minor_kind, major_point, AreNumberedFrom, is_plain, heard_view, stops, needs_token, Core, answered, is_opening, AreConsistent}
-use Rattle.osi_machine.proofs.PhaseLaws.{implied, excluded, implied_two, by_test}
+use Rattle.osi_machine.proofs.PhaseLaws.{implied_both, implied, excluded, by_test}
 use Rattle.osi_machine.proofs.ChannelLaws.{heard_flush}
 use Rattle.osi_machine.proofs.Tokens.{Holds, empty_has, united_has, nothing_to_see, heard_holds}
 use Rattle.osi_machine.proofs.Begun.{none_needs, flush_open, heard_open}
@@ -227,8 +227,7 @@ point_one_way w m a h = and_right (list_any (needs_token data_token) (w.own.sent
 -- ---- the other takes it
 
 there_ready : (w : Core) → Stands w → (flushed w.own w.peer).phase ≡ Ready → is_ready (flushed w.peer w.own).phase ≡ true
-there_ready w h e = implied_two (λ p q. matched p q && is_ready p) (λ p q. is_ready q) refl (flushed w.own w.peer).phase (flushed w.peer w.own).phase
-    (and_from (matched (flushed w.own w.peer).phase (flushed w.peer w.own).phase) (is_ready (flushed w.own w.peer).phase) h.own.meeting.meets (ap is_ready e))
+there_ready w h e = implied_both matched (λ p q. is_ready p) (λ p q. is_ready q) refl (flushed w.own w.peer).phase (flushed w.peer w.own).phase h.own.meeting.meets (ap is_ready e)
 
 there_lacks : (w : Core) (t : Token) → Points w → Stands w → HasRight w.own.session t → is_ready (flushed w.peer w.own).phase ≡ true → not (has (flushed w.peer w.own).held t) ≡ true
 there_lacks w t a h right r =

@@ -1,5 +1,5 @@
 -- The units that an AC selects.
-use Rattle.std.proofs.Common.{◌≡◌, refl, sym, ◌∙◌, ap, subst, ℕ, ◌==◌, Bool, true, false, not, ◌&&◌, ◌||◌, if◌then◌else◌, arith}
+use Rattle.std.proofs.Common.{◌≡◌, ◌∙◌, ap, ℕ, Bool, true, false, not, ◌&&◌, ◌||◌, arith}
 use Rattle.std.proofs.lemmas.Nat.{and_assoc, and_le_r}
 use Rattle.std.specs.Int.RustNames.{bit_and}
 use Rattle.osi_machine.proofs.Vocabulary.{eqb-true, and_parts, names, FunctionalUnits, functional_units, both_units, units_within, has_data, has_points, is_profile, base_for, serial_for, agreed_base}

@@ -1,9 +1,8 @@
 -- A call at a whole connection, and in the core.
-use Rattle.std.proofs.Common.{◌≡◌, refl, sym, ◌∙◌, ap, subst, ℕ, ◌+◌, ◌≤◌, Bool, true, false, not, ◌||◌, if◌then◌else◌, List, [], ◌∷◌, ◌++◌, append_assoc, map, length, ◌⊎◌, inl, inr, Ok, arith}
-use Rattle.osi_machine.proofs.Vocabulary.{length-append, map-append, list_any, Passed, State, Meaning, Token, is_over, Call, Restart, Granted, allowed, after, sends, may_call, Numbers, Item, cutat, Owner, Own, Owners, is_own, turned_owner, given_up, own_to_pool, left_by, is_plain, Core, stays_in_core, says, view_called, owners_called, answered, Message, unit, Kept, World, put, mark_called, after_call}
+use Rattle.std.proofs.Common.{◌≡◌, refl, sym, ◌∙◌, ap, subst, ℕ, Bool, true, false, ◌||◌, if◌then◌else◌, List, [], ◌∷◌, ◌++◌, append_assoc, map, length, inl, inr, Ok, arith}
+use Rattle.osi_machine.proofs.Vocabulary.{append-nil, length-append, map-append, list_any, Passed, State, Meaning, Token, is_over, Call, Granted, allowed, after, sends, may_call, Numbers, Item, Owner, Owners, is_own, turned_owner, given_up, own_to_pool, left_by, is_plain, Core, stays_in_core, says, view_called, owners_called, answered, Message, unit, Kept, World, put, mark_called, after_call}
 use Rattle.osi_machine.proofs.CoreLaws.{SessionLaws, granted}
 use Rattle.osi_machine.proofs.Records.{Stands}
-use Rattle.osi_machine.proofs.Idle.{append_nil}
 use Rattle.osi_machine.proofs.Promises.{sees_the_history}
 use Rattle.osi_machine.proofs.RestartCall.{same_cut, in_range, given_theirs}
 use Rattle.osi_machine.proofs.Projects.{stopped, IsLast, IsTail, Carried, OneSide, Projects, one_over}
@@ -35,10 +34,10 @@ carried_more false channel sent s r m h = record {
   there = sent ++ m ∷ [];
   lost = [];
   tail = [];
-  splits = append_nil (sent ++ m ∷ []);
+  splits = append-nil (sent ++ m ∷ []);
   carries = ap (λ (ms : List Message). ms ++ unit m ∷ []) (h.carries ∙ ap (λ (us : List Meaning). map unit (h.there ++ us)) (none_last s h.lost h.tail h.last)
-      ∙ ap (map unit) (append_nil h.there ∙ sym (append_nil h.there) ∙ ap (λ (r : List Meaning). h.there ++ r) (sym (by_either h.whole (λ e. e) (λ e. absurd (cc)))) ∙ h.splits))
-      ∙ sym (map-append unit sent (m ∷ [])) ∙ ap (map unit) (sym (append_nil (sent ++ m ∷ [])));
+      ∙ ap (map unit) (append-nil h.there ∙ sym (append-nil h.there) ∙ ap (λ (r : List Meaning). h.there ++ r) (sym (by_either h.whole (λ e. e) (λ e. absurd (cc)))) ∙ h.splits))
+      ∙ sym (map-append unit sent (m ∷ [])) ∙ ap (map unit) (sym (append-nil (sent ++ m ∷ [])));
   whole = inl refl;
   last = tt;
 }
@@ -51,9 +50,9 @@ carried_last false channel sent s m k h = record {
   there = sent;
   lost = [];
   tail = m ∷ [];
-  splits = append_nil sent;
+  splits = append-nil sent;
   carries = ap (λ (ms : List Message). ms ++ unit m ∷ []) (h.carries ∙ ap (λ (us : List Meaning). map unit (h.there ++ us)) (none_last s h.lost h.tail h.last)
-      ∙ ap (map unit) (append_nil h.there ∙ sym (append_nil h.there) ∙ ap (λ (r : List Meaning). h.there ++ r) (sym (by_either h.whole (λ e. e) (λ e. absurd (cc)))) ∙ h.splits))
+      ∙ ap (map unit) (append-nil h.there ∙ sym (append-nil h.there) ∙ ap (λ (r : List Meaning). h.there ++ r) (sym (by_either h.whole (λ e. e) (λ e. absurd (cc)))) ∙ h.splits))
       ∙ sym (map-append unit sent (m ∷ []));
   whole = inl refl;
   last = (refl, refl, k);
@@ -68,8 +67,7 @@ pub left_theirs : (s : State) (o : Owners) (t : Token) → is_own (turned_owner 
 left_theirs s o t = by_test (is_over s.phase) (λ e. rw e (sym (given_theirs (o t)))) (λ e. rw e)
 
 pub own_gone : (p : Owner) → is_own (own_to_pool p) ≡ false
-own_gone Own = refl
-own_gone _ = refl
+own_gone p = grind arith
 
 owns_called : (s : State) (c : Call) (o p : Owners) (t : Token) → is_own (o t) ≡ is_own (p t) → is_own (owners_called s c o t) ≡ is_own (owners_called s c p t)
 owns_called s c o p t e = grind (arith, own_gone)
@@ -147,7 +145,7 @@ stop_projects laws broken w c x g k lives p e =
     let s' = c.own.session in
     let now = stop_over s' x k in
     subst (λ (r : Granted). Projects broken (after_call broken s' x r w) c) (sym q.gives) (record {
-      history = ap (λ (d : List Item). w.history ++ d) (stop_silent s' x k) ∙ append_nil w.history ∙ p.history;
+      history = ap (λ (d : List Item). w.history ++ d) (stop_silent s' x k) ∙ append-nil w.history ∙ p.history;
       own = one_over broken (after_call broken s' x (granted s' x) w) c p.own.begun now (record {
         acked = ap (λ (v : Numbers). v.confirmed) (stop_numbers s' x k);
         based = grind arith;

@@ -17,8 +17,7 @@ record Cut (k : ℕ) (over_now : Bool) (s : State) (there lost tail : List Meani
   last : IsTail over_now s gone_now rest
 
 none_taken : (k : ℕ) → take k (map unit []) ≡ []
-none_taken zero = refl
-none_taken (suc k) = refl
+none_taken k = grind arith
 
 cut_tail : (k : ℕ) (over_now : Bool) (s : State) (lost tail : List Meaning) → IsTail over_now s lost tail → Cut k over_now s [] lost tail
 cut_tail zero over_now s lost tail h = record { kept = []; gone_now = lost; rest = []; splits = refl; carries = refl; last = tt }

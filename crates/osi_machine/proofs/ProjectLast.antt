@@ -1,7 +1,7 @@
 -- The last unit of a side that is over is taken, and a side that is over takes a unit.
-use Rattle.std.proofs.Common.{◌≡◌, ℕ, refl, sym, ◌∙◌, ap, subst, Bool, true, false, ◌&&◌, ◌||◌, if◌then◌else◌, List, [], ◌∷◌, arith}
+use Rattle.std.proofs.Common.{◌≡◌, ℕ, refl, ◌∙◌, ap, Bool, true, false, if◌then◌else◌, List, [], ◌∷◌, arith}
 use Rattle.osi_machine.specs.Core.{turned}
-use Rattle.osi_machine.proofs.Vocabulary.{list_any, State, Ended, without_tokens, Meaning, CN, AC, RF, DT, GT, PT, MIP, MIA, MAP, MAA, RS, RA, FN, DN, NF, AB, AA, Outcome, nothing, good, is_over, is_aborting, is_ended, in_aborting, in_ended, is_wait_cn, is_connecting, is_answering, is_ready, is_major_asked, is_releasing, is_release_due, is_restarting, may_ask, takes_data, takes_please, takes_minor_ack, is_expected, respond_unit, stands, next, becomes, Item, is_acted_on, cut_by, is_plain, AllFit, flush, stops, heard, Core, Message, unit, World, session_of, put, replied, mark_after, after_unit, turned as turned_world, without_first, and_from, not-false, or_parts}
+use Rattle.osi_machine.proofs.Vocabulary.{State, Ended, without_tokens, Meaning, nothing, good, is_over, is_connecting, is_answering, is_release_due, is_expected, respond_unit, stands, next, becomes, Item, is_acted_on, cut_by, is_plain, AllFit, stops, heard, Core, Message, unit, World, session_of, mark_after, after_unit, turned as turned_world, without_first, and_from, not-false, or_parts}
 use Rattle.osi_machine.proofs.PhaseLaws.{excluded, implied_two, if_second, by_test}
 use Rattle.osi_machine.proofs.Records.{Stands}
 use Rattle.osi_machine.proofs.Units.{fit_cases, and_false}

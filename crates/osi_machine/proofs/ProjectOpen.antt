@@ -2,7 +2,7 @@
 -- agrees to it, and the core begins.
 use Rattle.std.proofs.Common.{◌≡◌, refl, sym, ◌∙◌, ap, subst, ℕ, Bool, true, false, List, [], ◌∷◌, ◌++◌, ◌⊎◌, inl, inr, arith}
 use Rattle.osi_machine.specs.Core.{turned}
-use Rattle.osi_machine.proofs.Vocabulary.{list_any, State, Ended, Meaning, awaiting, without_tokens, turned_owner, Offer, offering, offer_sent, core_start, Message, unit, ask, agree, deny, Transport, not_yet, linked, gone, World, session_of, put, moved, Taking, unchanged, Terms, accepts, denies, asked_at, message_taken, turned as turned_world, without_first, Told}
+use Rattle.osi_machine.proofs.Vocabulary.{list_any, State, Ended, Meaning, awaiting, without_tokens, Offer, offering, offer_sent, core_start, Message, unit, ask, agree, deny, not_yet, linked, gone, World, session_of, put, moved, Taking, unchanged, Terms, accepts, denies, asked_at, message_taken, turned as turned_world, without_first, Told}
 use Rattle.osi_machine.proofs.Promises.{offer_stands}
 use Rattle.osi_machine.proofs.ViewFold.{Tells, told_all}
 use Rattle.osi_machine.proofs.Projects.{stopped, parts, is_begun, Alike, Carried, OneSide}

@@ -1,7 +1,7 @@
 -- A whole connection that was asked for and not yet agreed to: nobody owns, sees or sends anything.
-use Rattle.std.proofs.Common.{◌≡◌, refl, sym, ◌∙◌, ap, ℕ, zero, Bool, true, false, not, ◌||◌, if◌then◌else◌, List, [], ◌∷◌, take, ◌⊎◌, inl, inr, Err, arith}
+use Rattle.std.proofs.Common.{◌≡◌, refl, sym, ◌∙◌, ap, ℕ, zero, Bool, true, false, not, ◌||◌, List, [], ◌∷◌, take, ◌⊎◌, inl, inr, Err, arith}
 use Rattle.osi_session.specs.declared.faults.CallError.TheVariants as error
-use Rattle.osi_machine.proofs.Vocabulary.{take-nil, may_abort, State, Phase, Token, Call, Accept, Refuse, Give, Please, MinorConfirm, MajorConfirm, Restart, RestartConfirm, ReleaseAccept, ReleaseRefuse, Abort, CallError, allowed, may_call, is_over, is_wait_transport, is_wait_cn, is_answering, is_ready, is_major_due, is_release_due, is_restart_due, may_give, may_ask, may_confirm_minor, may_restart, is_profile, awaiting, lost, Owner, Absent, Owners, own_to_pool, turned_owner, left_by, Offer, CanBeOffered, Left, Right, Message, ask, agree, deny, Transport, not_yet, waiting, linked, gone, Kept, kept_of, End, World, session_of, shortened, asked_with, ended_at, shown_at_end, turned as turned_world, Told, untold, or_left, or_right}
+use Rattle.osi_machine.proofs.Vocabulary.{take-nil, State, Phase, Token, Call, CallError, allowed, may_call, is_over, is_wait_transport, is_wait_cn, is_profile, awaiting, Owner, Absent, Owners, own_to_pool, turned_owner, left_by, Offer, CanBeOffered, Left, Right, Message, ask, agree, deny, Transport, not_yet, waiting, linked, gone, Kept, kept_of, End, World, session_of, asked_with, ended_at, shown_at_end, turned as turned_world, Told, untold, or_left, or_right}
 use Rattle.osi_machine.proofs.PhaseLaws.{excluded, if_yes, if_no, by_test}
 use Rattle.osi_machine.proofs.ViewFold.{told_all}
 use Rattle.osi_machine.proofs.Projects.{stopped, is_begun}
@@ -128,8 +128,7 @@ pub absent_left : (s : State) (o : Owners) (k : Token) → o k ≡ Absent → le
 absent_left s o k e = by_test (is_over s.phase) (λ q. rw q (ap own_to_pool e)) (λ q. rw q e)
 
 pub absent_back : (p : Owner) → turned_owner p ≡ Absent → p ≡ Absent
-absent_back Absent e = refl
-absent_back _ e = absurd (cc)
+absent_back p e = grind arith
 
 -- what is left of what is under way
 abbrev cut_asks : ℕ → Way → Way

@@ -1,9 +1,8 @@
 -- A unit is taken at a whole connection, and in the core.
 use Rattle.std.proofs.Common.{◌≡◌, refl, sym, ◌∙◌, ap, subst, ℕ, ◌+◌, Bool, true, false, not, ◌&&◌, ◌||◌, if◌then◌else◌, List, [], ◌∷◌, ◌++◌, map, length, Option, Some, None, ◌⊎◌, inl, inr, arith}
 use Rattle.osi_machine.specs.Core.{turned}
-use Rattle.osi_machine.proofs.Vocabulary.{length-append, list_any, TokenSetting, TsduMaximumSize, State, Meaning, CN, AC, RF, GT, RS, RA, AB, Token, has, Outcome, is_over, is_acceptable, are_sizes, has_data, functional_units, respond_unit, becomes, stands, drops, reply_for, Item, cutat, Owners, is_own, turned_owner, left_by, is_acted_on, seen, got_in, cut_by, owners_after, is_plain, AllFit, Fits, Core, taking, Message, unit, Kept, World, put, mark_after, replied, after_unit, turned as turned_world, without_first}
+use Rattle.osi_machine.proofs.Vocabulary.{or_parts, append-nil, length-append, list_any, TokenSetting, TsduMaximumSize, State, Meaning, CN, AC, RF, GT, RS, RA, AB, Token, has, is_over, is_acceptable, are_sizes, has_data, functional_units, respond_unit, becomes, stands, reply_for, Item, cutat, Owners, is_own, turned_owner, left_by, is_acted_on, seen, got_in, cut_by, owners_after, is_plain, Fits, Core, taking, Message, unit, World, put, mark_after, replied, after_unit, turned as turned_world, without_first}
 use Rattle.osi_machine.proofs.Records.{Stands}
-use Rattle.osi_machine.proofs.Idle.{append_nil}
 use Rattle.osi_machine.proofs.Acting.{no_fault}
 use Rattle.osi_machine.proofs.Alive.{alive}
 use Rattle.osi_machine.proofs.TakeMoves.{at}
@@ -56,7 +55,7 @@ plain_reply s _ p k = refl
 -- the channel of its taker stays
 pub put_nothing : (broken : Bool) (channel : List Message) → put broken [] channel ≡ channel
 put_nothing true channel = refl
-put_nothing false channel = append_nil channel
+put_nothing false channel = append-nil channel
 
 -- ---- the first unit of the core's channel
 
@@ -110,10 +109,6 @@ carried_on : (broken : Bool) (channel channel' : List Message) (sent : List Mean
     → Carried broken b channel' sent r
 carried_on broken channel channel' sent s r b e f h = subst (λ (x : Bool). Carried broken x channel' sent r) (sym f) (grind (arith, none_last))
 
-or_second : (a b : Bool) → (a || b) ≡ false → b ≡ false
-or_second true b h = absurd (cc)
-or_second false b h = h
-
 giver_side : (broken : Bool) (w : World) (c : Core) (u : Meaning) (us : List Meaning) (ms : List Message) → Takes broken w c u us ms
     → OneSide broken (turned_world (took broken w c u ms)) (turned (taking c (u ∷ us)))
 giver_side broken w c u us ms k = record {
@@ -132,7 +127,7 @@ giver_side broken w c u us ms k = record {
       };
   carried = λ l. carried_on broken w.own.channel _ c.own.sent c.own.session (respond_unit c.own.session u).next _ (same_channel broken w c u us ms k) (lives_then broken w c u us ms k)
       (subst (λ (b : Bool). Carried broken b w.own.channel c.own.sent c.own.session) k.lives (k.old.peer.carried l));
-  parted = λ l. or_second (parts (unit u)) (list_any parts ms) (ap (list_any parts) (sym k.channel) ∙ k.old.peer.parted l);
+  parted = λ l. (or_parts (parts (unit u)) (list_any parts ms) (ap (list_any parts) (sym k.channel) ∙ k.old.peer.parted l)).1;
 }
   where
     theirs : stopped w.peer ≡ false → (t : Token) (b : Bool)

@@ -1,10 +1,9 @@
 -- A whole connection at every step: one of which nothing is lost repeats it, and the records of both sides
 -- tell what that one has seen.
-use Rattle.std.proofs.Common.{◌≡◌, refl, sym, ◌∙◌, ap, subst, ℕ, Bool, true, false, if◌then◌else◌, List, [], ◌∷◌, inl, inr, Ok, Err, arith}
+use Rattle.std.proofs.Common.{◌≡◌, refl, sym, ◌∙◌, ap, subst, Bool, true, false, if◌then◌else◌, List, [], ◌∷◌, inl, inr, Ok, Err, arith}
 use Rattle.osi_session.specs.declared.faults.CallError.TheVariants as error
 use Rattle.osi_session.specs.Respond.{shown_for}
-use Rattle.osi_machine.specs.Core.{turned}
-use Rattle.osi_machine.proofs.Vocabulary.{Aborted, PeerAbort, names, closes_for, State, Meaning, RF, DN, AB, AA, Call, Answer, HasSerial, Outcome, allowed, is_over, is_aborting, is_ended, is_wait_cn, in_aborting, in_ended, respond_unit, drops, is_plain, Core, stays_in_core, answered, Message, unit, World, session_of, after_call, after_answer, after_unit, Taking, unit_taken, turned as turned_world, without_first, Told, told_call}
+use Rattle.osi_machine.proofs.Vocabulary.{closes_for, State, Meaning, Call, Answer, HasSerial, Outcome, allowed, is_over, respond_unit, drops, is_plain, Core, stays_in_core, answered, Message, unit, World, session_of, after_call, after_answer, after_unit, Taking, unit_taken, turned as turned_world, without_first, Told, told_call}
 use Rattle.osi_machine.proofs.CoreLaws.{SessionLaws}
 use Rattle.osi_machine.proofs.Records.{Stands}
 use Rattle.osi_machine.proofs.Acting.{no_fault}
@@ -60,8 +59,7 @@ core_answer laws broken w t u x small h l true q (Ok g) e = record {
 core_answer laws broken w t u x small h l false q (Ok g) e = search (stop_projects, Tells, stop_told)
 
 answers_as : (broken : Bool) (w : World) (x : Call) (a : Answer) → answered_by broken (session_of w) x w a ≡ after_answer broken x w a
-answers_as broken w x (Ok g) = refl
-answers_as broken w x (Err e) = refl
+answers_as broken w x a = grind arith
 
 pub refused : (s : State) (x : Call) → is_over s.phase ≡ true → allowed s x ≡ Err error.Ended
 unfolding allowed

@@ -1,11 +1,10 @@
 -- What follows for two users from what is true of both sides.
-use Rattle.std.proofs.Common.{◌≡◌, refl, sym, ◌∙◌, ap, subst, ℕ, zero, suc, ◌+◌, ◌-◌, ◌≤◌, ◌<◌, Bool, true, false, not, ◌&&◌, if◌then◌else◌, List, [], ◌∷◌, ◌++◌, length, length-append, inl, inr, append_assoc, arith}
-use Rattle.osi_machine.proofs.Vocabulary.{is_profile, State, Numbers, has, Meaning, DT, MIP, MAP, FunctionalUnits, is_restarting, functional_units, Item, Octets, Point, PointKind, points, upto, AreNumberedFrom, Begins, Agree, Owner, Own, turned_owner, is_own, is_acted_on, seen, cut_by, data_of, Offer, CanBeOffered, Party, Core, taking, core_start, is_opening, IsReached, OneHolder, HoldsItsOwn, TakesNoFault, SeesTheHistory, ViewsAgree, GotWhatWasSaid, TakesTheNextItem, ConfirmedIsSeen}
+use Rattle.std.proofs.Common.{◌≡◌, refl, sym, ◌∙◌, ap, subst, ℕ, zero, suc, ◌+◌, ◌-◌, ◌≤◌, ◌<◌, Bool, true, false, not, if◌then◌else◌, List, [], ◌∷◌, ◌++◌, length, length-append, inl, inr, append_assoc, arith}
+use Rattle.osi_machine.proofs.Vocabulary.{append-nil, is_profile, State, Numbers, Meaning, DT, MIP, MAP, FunctionalUnits, is_restarting, Item, Octets, Point, PointKind, points, upto, AreNumberedFrom, Begins, Agree, is_acted_on, seen, cut_by, data_of, Offer, CanBeOffered, Party, Core, taking, core_start, is_opening, IsReached, OneHolder, HoldsItsOwn, TakesNoFault, SeesTheHistory, ViewsAgree, GotWhatWasSaid, TakesTheNextItem, ConfirmedIsSeen}
 use Rattle.osi_machine.proofs.Records.{hearing, Views, Stands}
 use Rattle.osi_machine.proofs.Units.{next_hears}
 use Rattle.osi_machine.proofs.ChannelLaws.{kept_heard}
 use Rattle.osi_machine.proofs.Begun.{flush_open, heard_open}
-use Rattle.osi_machine.proofs.Idle.{append_nil}
 use Rattle.osi_machine.proofs.Heard.{begins_points, heard_grown, listener_begins, begins_twice}
 use Rattle.osi_machine.proofs.Alive.{first_is_no_fault}
 use Rattle.osi_machine.proofs.CoreLaws.{SessionLaws}
@@ -86,7 +85,7 @@ got_what_was_said w s d = by_test (is_opening w.own.session.phase)
 -- ---- what is taken
 
 pub none_brought : (w : Core) → Stands w → Begins (w.own.view ++ []) w.history
-none_brought w s = subst (λ (v : List Item). Begins v w.history) (sym (append_nil w.own.view)) (sees_the_history w s)
+none_brought w s = subst (λ (v : List Item). Begins v w.history) (sym (append-nil w.own.view)) (sees_the_history w s)
 
 -- what was seen after it
 seen_next : SessionLaws → (w : Core) (u : Meaning) (us : List Meaning) → w.peer.sent ≡ u ∷ us → is_acted_on w.own.session u ≡ true → Stands w
@@ -123,7 +122,7 @@ fewer_points v j m before i e = elim (agree_of v before (j ∷ m) (i ∷ []) e) 
     same = sym (length-append v (j ∷ m)) ∙ ap length e ∙ length-append before (i ∷ [])
 
     by : (r : List Item) → before ++ r ≡ v → points v ≤ points before
-    by [] q = let a = ap points (sym (append_nil before) ∙ q) in omega arith
+    by [] q = let a = ap points (sym (append-nil before) ∙ q) in omega arith
     by (x ∷ r) q =
         let a = sym (length-append before (x ∷ r)) ∙ ap length q in
         let b = same in
@@ -140,7 +139,7 @@ seen_there b n before kind octets v h a p q l = elim (begins_agree (before ++ Po
     number = numbered_at b before n kind octets p.0 (subst (AreNumberedFrom b) (sym p.1 ∙ append_assoc before (Point n kind octets ∷ []) p.0) a)
 
     by : (m : List Item) → v ++ m ≡ before ++ Point n kind octets ∷ [] → Begins (before ++ Point n kind octets ∷ []) v
-    by [] e = ([], append_nil (before ++ Point n kind octets ∷ []) ∙ sym e ∙ append_nil v)
+    by [] e = ([], append-nil (before ++ Point n kind octets ∷ []) ∙ sym e ∙ append-nil v)
     by (j ∷ m) e =
         let f = fewer_points v j m before (Point n kind octets) e in
         let k = number in

@@ -1,13 +1,13 @@
 -- The calls of Release and of ReleaseRefuse keep what is true of both sides.
-use Rattle.std.proofs.Common.{◌≡◌, refl, sym, ◌∙◌, ap, subst, ℕ, ◌≤◌, ◌<◌, Bool, true, false, not, ◌&&◌, ◌||◌, if◌then◌else◌, List, [], ◌∷◌, ◌++◌, inl, inr, Ok, arith}
-use Rattle.osi_machine.proofs.Vocabulary.{and_parts, and_from, not-true, or_parts, and_right, list_any, State, Phase, Numbers, FunctionalUnits, Ready, Releasing, ReleaseDue, Tokens, Meaning, AC, DT, GT, PT, MIP, MIA, MAP, MAA, RS, RA, FN, NF, Token, data_token, minor, major, has, available, each, has_right, is_empty, is_within, is_disjoint, is_ready, is_releasing, is_release_due, is_restarting, is_restart_due, is_wait_cn, is_connecting, is_major_asked, lower, passes_restarting, has_no_effect, may_hold, becomes, next, Good, Release, ReleaseRefuse, AreNumberedFrom, turned_owners, is_plain, Fits, AllFit, flush, stops, heard_view, needs_token, Core, answered, is_opening}
-use Rattle.osi_machine.proofs.PhaseLaws.{implied, excluded, implied_two, by_either, by_test}
+use Rattle.std.proofs.Common.{◌≡◌, refl, sym, ◌∙◌, ap, subst, ℕ, ◌≤◌, ◌<◌, Bool, true, false, not, ◌&&◌, ◌||◌, List, [], ◌∷◌, ◌++◌, Ok, arith}
+use Rattle.osi_machine.proofs.Vocabulary.{append-nil, and_parts, not-true, or_parts, and_right, list_any, State, Phase, Numbers, FunctionalUnits, Ready, Releasing, ReleaseDue, Tokens, Meaning, DT, GT, PT, MIP, MIA, MAP, RS, FN, NF, Token, data_token, minor, major, has, available, each, has_right, is_empty, is_within, is_disjoint, is_ready, is_releasing, is_release_due, is_restarting, is_restart_due, lower, passes_restarting, has_no_effect, may_hold, becomes, next, Good, Release, ReleaseRefuse, AreNumberedFrom, turned_owners, is_plain, Fits, AllFit, flush, stops, heard_view, needs_token, Core, answered, is_opening}
+use Rattle.osi_machine.proofs.PhaseLaws.{implied_both, implied, excluded, by_either, by_test}
 use Rattle.osi_machine.proofs.Units.{next_cases, fit_cases, next_acted, next_dropped, next_hears}
 use Rattle.osi_machine.proofs.ChannelLaws.{kept_all, kept_heard, heard_flush}
 use Rattle.osi_machine.proofs.Tokens.{each_has}
 use Rattle.osi_machine.proofs.Begun.{flush_open, none_needs}
 use Rattle.osi_machine.proofs.Fewer.{is_empty_of, within_has, disjoint_has}
-use Rattle.osi_machine.proofs.Idle.{HasRight, right_of, other_lacks, end_units, append_nil, list_any_append}
+use Rattle.osi_machine.proofs.Idle.{HasRight, right_of, other_lacks, end_units, list_any_append}
 use Rattle.osi_machine.proofs.Records.{flushed, hearing, matched, IsOfProfile, Stands}
 use Rattle.osi_machine.proofs.Shift.{Shift, listening_stands, none_never}
 use Rattle.osi_machine.proofs.DataCall.{none_owed}
@@ -16,12 +16,10 @@ use Rattle.osi_machine.proofs.Deaf.{not_both}
 use Rattle.osi_machine.proofs.CoreLaws.{IsGranted, granted}
 
 pub is_ready_is : (p : Phase) → is_ready p ≡ true → p ≡ Ready
-is_ready_is Ready h = refl
-is_ready_is _ h = absurd (cc)
+is_ready_is p h = grind arith
 
 pub is_release_due_is : (p : Phase) → is_release_due p ≡ true → p ≡ ReleaseDue
-is_release_due_is ReleaseDue h = refl
-is_release_due_is _ h = absurd (cc)
+is_release_due_is p h = grind arith
 
 -- the same, in another phase
 abbrev pub in_phase : Phase → State → State
@@ -42,8 +40,7 @@ record Releases (s : State) : Type 0 where
   right : (t : Token) → HasRight s t
 
 has_it : (s : State) (t : Token) → HasRight s t → has (available s.units) t ≡ true → has s.held t ≡ true
-has_it s t (inl h) a = h
-has_it s t (inr n) a = absurd (cc)
+has_it s t h2 a = grind arith
 
 -- no token is left to come
 none_to_come : (s : State) (k : Tokens) → ((t : Token) → HasRight s t) → is_within k (available s.units) ≡ true → is_disjoint k s.held ≡ true → is_empty k ≡ true
@@ -159,8 +156,7 @@ duplex_none : (w : Core) → Asks w → Stands w → w.own.session.units.duplex 
 duplex_none w a h d = by_test (list_any is_finish w.peer.sent)
     (λ e. absurd (
     let r = finish_ends w.own.session w.peer.sent (excluded is_ready is_restarting refl w.own.session.phase a.phase) (open_now w a) (profile.alone d).2 h.own.fits e in
-    let m = implied_two (λ p q. matched p q && is_release_due p) (λ p q. is_releasing q) refl (flushed w.own w.peer).phase (flushed w.peer w.own).phase
-    (and_from (matched (flushed w.own w.peer).phase (flushed w.peer w.own).phase) (is_release_due (flushed w.own w.peer).phase) h.own.meeting.meets r) in
+    let m = implied_both matched (λ p q. is_release_due p) (λ p q. is_releasing q) refl (flushed w.own w.peer).phase (flushed w.peer w.own).phase h.own.meeting.meets r in
     let n = unreleased w.peer.session w.own.sent there h.peer.fits in
     cc))
     (λ e. e)
@@ -250,10 +246,9 @@ release_sending w octets a h =
           (λ e. let p = subst IsOfProfile (own_units w a h) h.pair.profile in
           duplex_none w a h (p.duplex ∙ ap not (no_half w.own.session.units e)));
       unit = assumption;
-      shows = λ s v. sym (append_nil v);
+      shows = λ s v. sym (append-nil v);
       good = λ l i.
-          let ready = implied_two (λ p q. matched p q && is_ready p) (λ p q. is_ready q) refl (flushed w.own w.peer).phase (flushed w.peer w.own).phase
-          (and_from (matched (flushed w.own w.peer).phase (flushed w.peer w.own).phase) (is_ready (flushed w.own w.peer).phase) h.own.meeting.meets (ap is_ready i.phase)) in
+          let ready = implied_both matched (λ p q. is_ready p) (λ p q. is_ready q) refl (flushed w.own w.peer).phase (flushed w.peer w.own).phase h.own.meeting.meets (ap is_ready i.phase) in
           record {
             expected = ready;
             met = (is_empty_of (flushed w.peer w.own).held (λ t. other_lacks w.owner w.own w.peer t h.own h.peer (open_now w a) (a.right t) owed (implied is_ready may_hold refl (flushed w.peer w.own).phase ready)), tt);
@@ -261,7 +256,7 @@ release_sending w octets a h =
       meets = λ l i. refl;
       release = λ s i r. absurd (cc);
       releasing = λ s i r. refl;
-      sees = λ l. ap (heard_view w.own.session w.peer.sent) (append_nil w.own.view) ∙ h.own_views.ends l ∙ sym (append_nil w.history);
+      sees = λ l. ap (heard_view w.own.session w.peer.sent) (append-nil w.own.view) ∙ h.own_views.ends l ∙ sym (append-nil w.history);
       duplex = λ d. refl;
       flag = λ f. ap (λ (v : Numbers). v.answers) n.numbers ∙ h.own_counts.flag f;
       below = λ l k from to. h.own_counts.below (n.hears l) k from to;
@@ -269,7 +264,7 @@ release_sending w octets a h =
       other_flag = h.peer_counts.flag;
       other_below = λ k from to. h.peer_counts.below n.heeds k (subst (λ (q : State). q.base ≤ k) (sym n.heard) from) (subst (λ (v : Numbers). k < v.confirmed) n.numbers to);
       other_reach = λ f. subst (λ (v : Numbers). lower w.own.session.numbers.next v.confirmed ≤ w.own.session.numbers.confirmed) (sym n.numbers) (h.peer_counts.reach f);
-      numbered = λ p. subst (AreNumberedFrom (flushed w.own w.peer).base) (sym (append_nil w.history)) p;
+      numbered = λ p. subst (AreNumberedFrom (flushed w.own w.peer).base) (sym (append-nil w.history)) p;
       one_way = release_one_way w octets a h;
     }
 
@@ -307,8 +302,7 @@ record Refuses (w : Core) : Type 0 where
   selected : w.own.session.units.negotiated_release ≡ true
 
 other_releasing : (w : Core) → Stands w → (flushed w.own w.peer).phase ≡ ReleaseDue → is_releasing (flushed w.peer w.own).phase ≡ true
-other_releasing w h i = implied_two (λ p q. matched p q && is_release_due p) (λ p q. is_releasing q) refl (flushed w.own w.peer).phase (flushed w.peer w.own).phase
-    (and_from (matched (flushed w.own w.peer).phase (flushed w.peer w.own).phase) (is_release_due (flushed w.own w.peer).phase) h.own.meeting.meets (ap is_release_due i))
+other_releasing w h i = implied_both matched (λ p q. is_release_due p) (λ p q. is_releasing q) refl (flushed w.own w.peer).phase (flushed w.peer w.own).phase h.own.meeting.meets (ap is_release_due i)
 
 refusal_sending : (w : Core) (octets : List ℕ) → Refuses w → Stands w → Sending w refusal_shift (NF octets) []
 refusal_sending w octets a h =
@@ -320,12 +314,12 @@ refusal_sending w octets a h =
       now = is_release_due_is w.own.session.phase a.phase;
       none = none_never w.peer.sent;
       unit = assumption;
-      shows = λ s v. sym (append_nil v);
+      shows = λ s v. sym (append-nil v);
       good = λ l i. record { expected = other_releasing w h i; met = (ap (λ (v : FunctionalUnits). v.negotiated_release) units ∙ a.selected, tt) };
       meets = λ l i. refl;
       release = λ s i r. absurd (cc);
       releasing = λ s i r. absurd (cc);
-      sees = λ l. ap (heard_view w.own.session w.peer.sent) (append_nil w.own.view) ∙ h.own_views.ends l ∙ sym (append_nil w.history);
+      sees = λ l. ap (heard_view w.own.session w.peer.sent) (append-nil w.own.view) ∙ h.own_views.ends l ∙ sym (append-nil w.history);
       duplex = λ d. refl;
       flag = λ f. ap (λ (v : Numbers). v.answers) n.numbers ∙ h.own_counts.flag f;
       below = λ l k from to. h.own_counts.below (n.hears l) k from to;
@@ -333,7 +327,7 @@ refusal_sending w octets a h =
       other_flag = h.peer_counts.flag;
       other_below = λ k from to. h.peer_counts.below n.heeds k (subst (λ (q : State). q.base ≤ k) (sym n.heard) from) (subst (λ (v : Numbers). k < v.confirmed) n.numbers to);
       other_reach = λ f. subst (λ (v : Numbers). lower w.own.session.numbers.next v.confirmed ≤ w.own.session.numbers.confirmed) (sym n.numbers) (h.peer_counts.reach f);
-      numbered = λ p. subst (AreNumberedFrom (flushed w.own w.peer).base) (sym (append_nil w.history)) p;
+      numbered = λ p. subst (AreNumberedFrom (flushed w.own w.peer).base) (sym (append-nil w.history)) p;
       one_way = λ d. ap (λ (b : Bool). b && list_any (needs_token data_token) w.peer.sent) (list_any_append (needs_token data_token) w.own.sent (NF octets) refl) ∙ h.pair.one_way d;
     }
 

@@ -1,14 +1,14 @@
 -- The call of Restart keeps what is true of both sides.
-use Rattle.std.proofs.Common.{◌≡◌, refl, sym, ◌∙◌, ap, subst, ℕ, ◌+◌, ◌-◌, ◌≤◌, true, false, not, ◌&&◌, ◌||◌, if◌then◌else◌, List, [], ◌∷◌, ◌++◌, Ok, inl, inr, arith}
+use Rattle.std.proofs.Common.{◌≡◌, refl, sym, ◌∙◌, ap, subst, ℕ, ◌+◌, ◌-◌, ◌≤◌, true, false, ◌||◌, List, [], ◌∷◌, ◌++◌, Ok, arith}
 use Rattle.osi_spdu.specs.declared.fields.ResyncType.TheVariants as resync
-use Rattle.osi_machine.proofs.Vocabulary.{leb-true, and_parts, and_from, both_ways, TokenSetting, State, FunctionalUnits, RS, has, available, is_restarting, is_restart_due, is_release_due, restarted_at, is_restartable, offered, Restart, IsSound, next, Item, points, cutat, Begins, Owner, Own, turned_owner, turned_owners, is_own, is_to_own, is_absent, own_to_pool, given_up, flush, heard, hears, data_of, Party, Core, answered, AreConsistent}
+use Rattle.osi_machine.proofs.Vocabulary.{append-nil, leb-true, and_parts, TokenSetting, State, FunctionalUnits, RS, has, available, is_restarting, is_restart_due, is_release_due, restarted_at, is_restartable, offered, Restart, IsSound, Item, points, cutat, Begins, Owner, turned_owner, turned_owners, is_own, is_to_own, is_absent, own_to_pool, given_up, flush, heard, hears, data_of, Party, Core, answered, AreConsistent}
 use Rattle.osi_machine.proofs.PhaseLaws.{by_test}
 use Rattle.osi_machine.proofs.ChannelLaws.{fit_append, flush_append, due_end, data_append}
 use Rattle.osi_machine.proofs.HistoryLaws.{upto_append}
 use Rattle.osi_machine.proofs.Tokens.{none_held}
 use Rattle.osi_machine.proofs.Begun.{flush_open, heard_open}
 use Rattle.osi_machine.proofs.Records.{flushed, hearing, Meeting, Half, Views, Counting, Counts, IsOfProfile, Pair, Stands}
-use Rattle.osi_machine.proofs.Idle.{append_nil, list_any_append}
+use Rattle.osi_machine.proofs.Idle.{list_any_append}
 use Rattle.osi_machine.proofs.NumberLaws.{lower_second, lower_less, lower_both, heard_turned}
 use Rattle.osi_machine.proofs.Deaf.{crossed, restart_next, heard_restart, view_restart}
 use Rattle.osi_machine.proofs.Heard.{Grown, heard_grown, listener_begins}
@@ -49,19 +49,16 @@ was_units w n q s = (flush_open w.own.session w.peer.sent (begun w n q) s.own.fi
 -- ---- tokens
 
 given_own : (p : Owner) → false ≡ is_own (own_to_pool p)
-given_own Own = refl
-given_own _ = refl
+given_own p = grind arith
 
 given_absent : (p : Owner) → is_absent p ≡ true → is_absent (own_to_pool p) ≡ true
 given_absent p h = grind arith
 
 pub given_theirs : (p : Owner) → is_own (turned_owner p) ≡ is_own (turned_owner (own_to_pool p))
-given_theirs Own = refl
-given_theirs _ = refl
+given_theirs p = grind arith
 
 given_wanted : (p : Owner) → (is_own (turned_owner p) || is_to_own (turned_owner p)) ≡ (is_own (turned_owner (own_to_pool p)) || is_to_own (turned_owner (own_to_pool p)))
-given_wanted Own = refl
-given_wanted _ = refl
+given_wanted p = grind arith
 
 -- ---- the two halves
 
@@ -123,19 +120,19 @@ own_views w n t o q s = record {
   cut = λ c.
       let le = subst (λ (k : ℕ). n ≤ k) s.consistent.own.count q.top in
       same_cut w.own.session.base n w.own.view w.history (listener_begins w.history w.own w.peer s.own_views (own_hears w n q s)) le
-      ∙ ap (λ (h : List Item). cutat w.own.session.base h n) (sym (append_nil w.history));
+      ∙ ap (λ (h : List Item). cutat w.own.session.base h n) (sym (append-nil w.history));
   due = λ d. absurd (cc);
   stream = λ d.
       let k = s.own_views.stream (ap (λ (u : FunctionalUnits). u.duplex) (was_units w n q s ∙ sym (own_units w n t q s)) ∙ d) in
-      (k.0, append_nil w.history ∙ k.1);
+      (k.0, append-nil w.history ∙ k.1);
 }
 
 peer_views : (w : Core) (n : ℕ) (t : TokenSetting) (o : List ℕ) → Restarts w n → Stands w → Views (w.history ++ []) w.peer (asker w.own n t o)
 peer_views w n t o q s = record {
   ends = λ l. view_restart w.peer.session w.own.sent resync.Restart n t o w.peer.view s.peer.fits (not_due w n q s)
-      ∙ s.peer_views.ends (subst (λ (r : State). hears r.phase ≡ true) (other_before w n t o q s) l) ∙ sym (append_nil w.history);
+      ∙ s.peer_views.ends (subst (λ (r : State). hears r.phase ≡ true) (other_before w n t o q s) l) ∙ sym (append-nil w.history);
   cut = λ c. s.peer_views.cut (subst (λ (r : State). is_restarting r.phase ≡ true) (other_before w n t o q s) c)
-      ∙ ap (λ (h : List Item). cutat w.peer.session.base h w.peer.session.numbers.next) (sym (append_nil w.history));
+      ∙ ap (λ (h : List Item). cutat w.peer.session.base h w.peer.session.numbers.next) (sym (append-nil w.history));
   due = λ d. absurd (
       let e = due_end w.peer.session w.own.sent d s.peer.fits in
       let f = subst (λ (r : State). is_restart_due r.phase ≡ true) (sym e) d in
@@ -150,8 +147,8 @@ peer_views w n t o q s = record {
     streams : (w.peer.got ++ data_of w.own.sent ≡ w.own.said) × (w.history ≡ [])
         → (w.peer.got ++ data_of (w.own.sent ++ RS resync.Restart n t o ∷ []) ≡ w.own.said ++ []) × (w.history ++ [] ≡ [])
     streams old = (
-      ap (λ (d : List (List ℕ)). w.peer.got ++ d) (data_append w.own.sent (RS resync.Restart n t o ∷ []) ∙ append_nil (data_of w.own.sent)) ∙ old.0 ∙ sym (append_nil w.own.said),
-      append_nil w.history ∙ old.1,
+      ap (λ (d : List (List ℕ)). w.peer.got ++ d) (data_append w.own.sent (RS resync.Restart n t o ∷ []) ∙ append-nil (data_of w.own.sent)) ∙ old.0 ∙ sym (append-nil w.own.said),
+      append-nil w.history ∙ old.1,
     )
 
 -- ---- the numbers
@@ -196,7 +193,7 @@ pair_kept : (w : Core) (n : ℕ) (t : TokenSetting) (o : List ℕ) → Restarts 
 pair_kept w n t o q s =
     let was : (flushed w.own w.peer).base ≡ w.own.session.base = (flush_open w.own.session w.peer.sent (begun w n q) s.own.fits).base in
     let same : (flushed w.own w.peer).units ≡ (flush (asked w.own.session n t) w.peer.sent).units = was_units w n q s ∙ sym (own_units w n t q s) in
-    grind (arith, asked, append_nil, own_base, list_any_append, IsOfProfile)
+    grind (arith, asked, append-nil, own_base, list_any_append, IsOfProfile)
 
 -- ---- the call
 

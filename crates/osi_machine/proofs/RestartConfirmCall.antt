@@ -1,12 +1,12 @@
 -- The call of RestartConfirm keeps what is true of both sides.
 use Rattle.std.proofs.Common.{◌≡◌, refl, sym, ◌∙◌, ap, subst, ℕ, Bool, true, false, not, ◌&&◌, if◌then◌else◌, List, [], ◌∷◌, ◌++◌, Ok, arith}
-use Rattle.osi_machine.proofs.Vocabulary.{eq-eqb, and_from, TokenSetting, State, FunctionalUnits, Sides, Ready, Meaning, RA, Tokens, Token, has, available, settle, setting_of, of_asker, of_answerer, stated, answers_wishes, is_restarting, is_restart_due, may_hold, RestartConfirm, becomes, next, turned_owners, settled_by, Fits, flush, heard, hears, heard_view, data_of, Party, Core, answered, AreConsistent}
+use Rattle.osi_machine.proofs.Vocabulary.{append-nil, eq-eqb, and_from, TokenSetting, State, FunctionalUnits, Sides, Ready, Meaning, RA, Tokens, Token, has, available, settle, setting_of, of_answerer, is_restarting, is_restart_due, may_hold, RestartConfirm, becomes, next, turned_owners, settled_by, Fits, flush, heard, heard_view, data_of, Party, Core, answered, AreConsistent}
 use Rattle.osi_machine.proofs.PhaseLaws.{excluded, implied_two}
 use Rattle.osi_machine.proofs.Units.{none_due, next_acted, and_false}
 use Rattle.osi_machine.proofs.ChannelLaws.{fit_append, flush_append, heard_append, view_append, data_append}
 use Rattle.osi_machine.proofs.Tokens.{none_held}
 use Rattle.osi_machine.proofs.Records.{flushed, hearing, Meeting, Half, Views, Counting, Counts, IsOfProfile, Pair, Stands}
-use Rattle.osi_machine.proofs.Idle.{append_nil, list_any_append}
+use Rattle.osi_machine.proofs.Idle.{list_any_append}
 use Rattle.osi_machine.proofs.Deaf.{AllEmpty, all_empty, empty_fits, empty_end, empty_heard, empty_view, deaf_end, deaf_heard, deaf_view}
 use Rattle.osi_machine.proofs.Settled.{settled_answers, answerer_there, asker_holds, own_held, own_wanted, own_absent, their_held, their_wanted, their_absent}
 
@@ -125,7 +125,7 @@ peer_views w a o due s = record {
   ends = λ l. view_append w.peer.session w.own.sent u w.peer.view s.peer.fits (other_owes_none w due s)
       ∙ ap (λ (b : Bool). if b then heard_view w.peer.session w.own.sent w.peer.view else heard_view w.peer.session w.own.sent w.peer.view) (and_false (is_restarting (flushed w.peer w.own).phase))
       ∙ deaf_view w.peer.session w.own.sent w.peer.view (other_waits w due s) s.peer.fits
-      ∙ s.own_views.due due ∙ sym (append_nil w.history);
+      ∙ s.own_views.due due ∙ sym (append-nil w.history);
   cut = λ c. absurd (let e = ap (λ (q : State). is_restarting q.phase) (sym (heard_after w a o due s)) ∙ c in cc);
   due = λ d. absurd (let e = excluded is_restarting is_restart_due refl w.peer.session.phase (other_asks w due s) in cc);
   stream = λ d. streams (s.peer_views.stream (ap (λ (q : State). q.units.duplex) (sym (end_after w a o)) ∙ d));
@@ -137,8 +137,8 @@ peer_views w a o due s = record {
     streams : (w.peer.got ++ data_of w.own.sent ≡ w.own.said) × (w.history ≡ [])
         → (w.peer.got ++ data_of (w.own.sent ++ answer w.own.session a o ∷ []) ≡ w.own.said ++ []) × (w.history ++ [] ≡ [])
     streams old = (
-      ap (λ (d : List (List ℕ)). w.peer.got ++ d) (data_append w.own.sent (u ∷ []) ∙ append_nil (data_of w.own.sent)) ∙ old.0 ∙ sym (append_nil w.own.said),
-      append_nil w.history ∙ old.1,
+      ap (λ (d : List (List ℕ)). w.peer.got ++ d) (data_append w.own.sent (u ∷ []) ∙ append-nil (data_of w.own.sent)) ∙ old.0 ∙ sym (append-nil w.own.said),
+      append-nil w.history ∙ old.1,
     )
 
 -- ---- the numbers
@@ -162,7 +162,7 @@ pair_kept : (w : Core) (a : Sides) (o : List ℕ) → is_restart_due w.own.sessi
 pair_kept w a o due s =
     let r = confirmed w.own.session a in
     let end = empty_end r w.peer.sent (none_under_way w due s) in
-    grind (arith, own_end, flushed, append_nil, list_any_append, IsOfProfile)
+    grind (arith, own_end, flushed, append-nil, list_any_append, IsOfProfile)
 
 -- ---- the call
 

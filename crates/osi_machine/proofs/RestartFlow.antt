@@ -1,6 +1,6 @@
 -- What is under way to a side when it asks for a restart: all of it is discarded, but for one restart.
-use Rattle.std.proofs.Common.{◌≡◌, refl, sym, ◌∙◌, ap, ℕ, Bool, true, false, ◌&&◌, ◌||◌, nat_le, if◌then◌else◌, List, [], ◌∷◌, ◌⊎◌, inl, inr, arith}
-use Rattle.osi_machine.proofs.Vocabulary.{and_parts, TokenSetting, ResyncType, State, Meaning, RS, is_restarting, is_restart_due, passes_restarting, restarted_at, stands, next, Item, cutat, seen, Fits, AllFit, flush, stops, heard, view_next, heard_view, is_opening}
+use Rattle.std.proofs.Common.{◌≡◌, refl, ℕ, Bool, true, false, ◌||◌, List, [], ◌∷◌, ◌⊎◌, inl, arith}
+use Rattle.osi_machine.proofs.Vocabulary.{and_parts, TokenSetting, ResyncType, State, Meaning, RS, is_restarting, is_restart_due, passes_restarting, restarted_at, stands, next, Item, Fits, AllFit, flush, stops, heard, heard_view}
 use Rattle.osi_machine.proofs.PhaseLaws.{excluded, if_first, by_test}
 use Rattle.osi_machine.proofs.Units.{fit_cases, next_dropped, none_due, restart_due, and_false}
 use Rattle.osi_machine.proofs.Begun.{becomes_open, is_lively, Lively, becomes_lively}
@@ -25,8 +25,7 @@ pub record Flow (s r : State) (us : List Meaning) : Type 0 where
 -- ---- what comes before a restart is discarded
 
 pub or_true : (b : Bool) → (b || true) ≡ true
-or_true true = refl
-or_true false = refl
+or_true b = grind arith
 
 not_asking : (s : State) → Lively s → is_restarting s.phase ≡ false
 not_asking s h = excluded is_lively is_restarting refl s.phase h

@@ -1,8 +1,8 @@
 -- How two sides meet after one of them has asked for a restart.
-use Rattle.std.proofs.Common.{◌≡◌, refl, sym, ◌∙◌, ap, subst, ℕ, ◌+◌, ◌==◌, ◌≤◌, Bool, true, false, not, ◌&&◌, ◌||◌, nat_le, nat_lt, if◌then◌else◌, List, inl, inr, arith}
+use Rattle.std.proofs.Common.{◌≡◌, refl, sym, ◌∙◌, ap, subst, ℕ, ◌+◌, ◌==◌, ◌≤◌, Bool, true, false, not, ◌&&◌, ◌||◌, nat_le, nat_lt, List, inl, inr, arith}
 use Rattle.osi_spdu.specs.declared.fields.ResyncType.TheVariants as resync
 use Rattle.osi_machine.proofs.Vocabulary.{lt-ltb, le-ltb, le-leb, eq-eqb, ne_eqb, cases_order, and_from, not-true, TokenSetting, State, FunctionalUnits, Restarting, RS, may_restart, takes_restart, is_restarting, is_restart_due, is_connecting, without_tokens, restarted_at, stands, points, Fits, flush, hears, Core, is_opening}
-use Rattle.osi_machine.proofs.PhaseLaws.{implied, excluded, implied_two, by_test}
+use Rattle.osi_machine.proofs.PhaseLaws.{implied_both, implied, excluded, implied_two, by_test}
 use Rattle.osi_machine.proofs.Units.{next_hears}
 use Rattle.osi_machine.proofs.ChannelLaws.{kept_heard, heard_flush}
 use Rattle.osi_machine.proofs.Records.{flushed, hearing, matched, Stands}
@@ -102,7 +102,7 @@ pub other_asked : (w : Core) → Stands w → is_restart_due (flushed w.own w.pe
 other_asked w s d =
     let fx = (flushed w.own w.peer).phase in
     let fy = (flushed w.peer w.own).phase in
-    implied_two (λ p q. matched p q && is_restart_due p) (λ p q. is_restarting q) refl fx fy (and_from (matched fx fy) (is_restart_due fx) s.own.meeting.meets d)
+    implied_both matched (λ p q. is_restart_due p) (λ p q. is_restarting q) refl fx fy s.own.meeting.meets d
 
 -- the sides will meet
 pub ends_meet : (w : Core) (n : ℕ) (t : TokenSetting) → Restarts w n → Stands w

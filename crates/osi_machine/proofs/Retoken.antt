@@ -1,6 +1,6 @@
 -- The lines of a half, and of the numbers, where only tokens move.
-use Rattle.std.proofs.Common.{◌≡◌, refl, sym, ◌∙◌, ap, subst, ℕ, ◌≤◌, ◌<◌, true, false, ◌||◌, arith}
-use Rattle.osi_machine.proofs.Vocabulary.{State, Numbers, Token, has, available, lower, may_hold, Owners, is_own, is_to_own, is_absent, hears}
+use Rattle.std.proofs.Common.{◌≡◌, refl, ap, true, false, ◌||◌, arith}
+use Rattle.osi_machine.proofs.Vocabulary.{State, Token, has, available, may_hold, Owners, is_own, is_to_own, is_absent}
 use Rattle.osi_machine.proofs.Records.{matched, Meeting, Counting}
 
 -- all but the tokens is the same

@@ -1,5 +1,5 @@
 -- What each side of a connection said, what the other heard of it, and what is under way: at one line.
-use Rattle.std.proofs.Common.{◌≡◌, refl, sym, ◌∙◌, ap, subst, ℕ, zero, suc, Bool, true, false, ◌||◌, List, [], ◌∷◌, ◌++◌, append_assoc, take, drop, Option, Some, None, Ok, inl, inr, ◌⊎◌, arith}
+use Rattle.std.proofs.Common.{◌≡◌, refl, sym, ◌∙◌, ap, ℕ, zero, suc, Bool, true, false, ◌||◌, List, [], ◌∷◌, ◌++◌, append_assoc, take, drop, Option, Ok, inl, inr, ◌⊎◌, arith}
 use Rattle.osi_session.specs.Phases.{is_ended}
 use Rattle.osi_machine.proofs.Vocabulary.{append-nil, list_any, Input, broken as broken_off, Standing, react, after_input, may_abort, State, Meaning, Call, Granted, allowed, Begins, Message, unit, agree, deny, Transport, not_yet, waiting, put, replied, one_or_none, units_in}
 use Rattle.osi_machine.proofs.EarlyLines.{is_agree}

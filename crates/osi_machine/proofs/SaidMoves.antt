@@ -1,5 +1,5 @@
 -- What each side of a connection said, and what the other heard of it, over all that may happen to a line.
-use Rattle.std.proofs.Common.{◌≡◌, refl, sym, ◌∙◌, ap, subst, ℕ, Bool, true, false, ◌||◌, if◌then◌else◌, List, [], ◌∷◌, ◌++◌, take, Option, Some, None, Ok, Err, inl, arith}
+use Rattle.std.proofs.Common.{◌≡◌, refl, sym, ◌∙◌, ap, subst, ℕ, Bool, true, false, ◌||◌, List, [], ◌∷◌, take, Option, Some, None, Ok, Err, arith}
 use Rattle.osi_session.specs.Moves.{answered as answered_move}
 use Rattle.osi_session.specs.Phases.{is_over, is_ended, is_wait_transport}
 use Rattle.osi_machine.specs.Tables.{turned, asked_with, after_call, message_taken, closed, ended_at, without_first}

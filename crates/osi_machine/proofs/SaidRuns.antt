@@ -1,9 +1,8 @@
 -- What each side of a connection said, and what the other heard of it, over lists of steps.
 use Rattle.std.proofs.Common.{◌≡◌, refl, sym, ◌∙◌, ap, subst, ℕ, zero, suc, ◌+◌, Bool, true, false, not, ◌&&◌, ◌||◌, ◌==◌, if◌then◌else◌, List, [], ◌∷◌, ◌++◌, append_assoc, map, Option, Some, None, is_some, inl, inr, ◌⊎◌, arith}
-use Rattle.osi_session.specs.declared.faults.CallError.TheVariants as error
 use Rattle.osi_session.specs.Phases.{is_ended}
-use Rattle.osi_machine.specs.Tables.{asked_with, after_call, message_taken, closed, start, seen_from, side_of, end_of, stays, noted, refusal, asked_in, call_in, shown_in_order, marked_ended, after_end, closes_by, without_first, taken_in, delivered_to, cut_channels, step, run}
-use Rattle.osi_machine.proofs.Vocabulary.{eqb-true, eq-eqb, append-nil, slice_get, called, react, Meaning, Call, Begins, Offer, Side, Left, Right, Class, class_2, Message, Transport, Terms, Ending, closed_here, Refusal, Step, connects, calls, delivers, breaks, ends, shown_at, ended, connection_at, with_connection, is_given, learns, is_told, Line, Turn, Tables, ends_there, ended_lines, after_turn, cut_line, one_or_none, said_to, heard_of, said_to_first, heard_of_first, said_at_delivery, heard_at_delivery, said_at_call, said_at, heard_at, said_in, heard_in, other_side, units_in, is_parting, IsHeardAsSaid}
+use Rattle.osi_machine.specs.Tables.{after_call, message_taken, closed, start, seen_from, side_of, end_of, stays, noted, refusal, asked_in, call_in, marked_ended, after_end, closes_by, without_first, taken_in, delivered_to, cut_channels, step, run}
+use Rattle.osi_machine.proofs.Vocabulary.{eqb-true, eq-eqb, append-nil, slice_get, called, react, Meaning, Call, Begins, Offer, Side, Left, Right, Class, class_2, Message, Transport, Terms, Ending, closed_here, Refusal, Step, connects, calls, delivers, breaks, ends, shown_at, connection_at, with_connection, is_given, learns, Line, Turn, Tables, ends_there, ended_lines, after_turn, cut_line, one_or_none, said_to, heard_of, said_to_first, heard_of_first, said_at_delivery, heard_at_delivery, said_at_call, said_at, heard_at, said_in, heard_in, other_side, units_in, IsHeardAsSaid}
 use Rattle.osi_machine.proofs.Places.{with_other, with_same, ended_there, cut_there, some_same}
 use Rattle.osi_machine.proofs.SaidLines.{SayLaws, Words, silent, and_more, Carried}
 use Rattle.osi_machine.proofs.SaidMoves.{Told, turned_told, call_told, close_told, ends_told, cut_told, asked_told, message_told}
@@ -108,8 +107,7 @@ call_knows laws t side q r c x y h = search (arith, eqb-true, call_same, quiet_h
 
 marked_knows : (side : Side) (e : Ending) (t : Tables) (r : ℕ) (x y : Words) → HoldsAt side t.broken x y (connection_at r t.lines)
     → HoldsAt side (marked_ended side e t).broken x y (connection_at r (marked_ended side e t).lines)
-marked_knows Left e t r x y h = h
-marked_knows Right e t r x y h = h
+marked_knows side e t r x y h = grind arith
 
 ended_knows : SayLaws → (side : Side) (keep : ℕ → ℕ) (b : Bool) (ls : List Line) (r : ℕ) (x y : Words) (o : Option Line) → connection_at r ls ≡ o → HoldsAt side b x y o
     → HoldsAt side b x y (connection_at r (ended_lines side keep 1 ls))
@@ -257,8 +255,7 @@ run_knows laws r t (s ∷ steps) x y h =
     (one_by_one y (said_at Right r t s) (heard_at Right r t s) (said_in Right r (step t s) steps) (heard_in Right r (step t s) steps)) next)
 
 start_knows : (r : ℕ) (terms : Terms) → Knows r (start terms) silent silent
-start_knows zero terms = (refl, refl)
-start_knows (suc r) terms = (refl, refl)
+start_knows r terms = grind arith
 
 line_of_side : (side : Side) (b : Bool) (x y : Words) (o : Option Line) (l : Line) → HoldsAt side b x y o → side_of side o ≡ Some l → Told b l x y
 line_of_side side b x y None l h e = absurd (cc)
@@ -271,8 +268,7 @@ then_under_way : (a : Bool) (ch : List Message) (said heard : List Meaning) → 
 then_under_way a ch said heard h = (h.lost, append_assoc heard (units_in ch) h.lost ∙ h.splits)
 
 or_false : (a b : Bool) → a ≡ false → b ≡ false → (a || b) ≡ true → ⊥
-or_false true b e f g = cc
-or_false false b e f g = cc
+or_false a b e f g = grind arith
 
 and_all : (a : Bool) (ch : List Message) (said heard : List Meaning) → (a ≡ true → ⊥) → Carried a ch said heard → heard ++ units_in ch ≡ said
 and_all a ch said heard n h = search (arith, append-nil)

@@ -1,9 +1,8 @@
 -- The tokens of both sides, once an answerer has settled them.
-use Rattle.std.proofs.Common.{◌≡◌, refl, sym, ◌∙◌, ap, Bool, true, false, not, ◌&&◌, ◌||◌, if◌then◌else◌, arith}
+use Rattle.std.proofs.Common.{◌≡◌, refl, Bool, true, false, not, ◌&&◌, ◌||◌, if◌then◌else◌, arith}
 use Rattle.osi_spdu.specs.declared.settings.TokenSetting.{TokenSetting}
 use Rattle.osi_spdu.specs.declared.settings.Wish.{Wish}
 use Rattle.osi_spdu.specs.declared.settings.Side.{Side}
-use Rattle.osi_spdu.specs.declared.settings.Side.TheVariants as side
 use Rattle.osi_spdu.specs.Fields.{wish_of}
 use Rattle.osi_session.specs.Sides.{wish_for, sides_by, settled, stated_side, allows}
 use Rattle.osi_machine.proofs.Vocabulary.{FunctionalUnits, Sides, Token, data_token, minor, major, release, has, each, available, side_for, is_asker, settle, stated, setting_of, of_asker, of_answerer, answers_wishes, Owner, Own, ToThem, Absent, turned_owner, is_own, is_to_own, is_absent}

@@ -1,6 +1,6 @@
 -- A call that changes no more of a side than its phase and its numbers: what is under way to it goes on
 -- fitting, and leaves it the same but for that change, until a restart stands.
-use Rattle.std.proofs.Common.{◌≡◌, refl, sym, ◌∙◌, ap, subst, ℕ, Bool, true, false, not, ◌&&◌, ◌||◌, if◌then◌else◌, List, [], ◌∷◌, ◌++◌, ◌⊎◌, inl, inr, arith}
+use Rattle.std.proofs.Common.{◌≡◌, refl, sym, ◌∙◌, ap, subst, ℕ, Bool, true, false, not, ◌&&◌, ◌||◌, if◌then◌else◌, List, [], ◌∷◌, ◌⊎◌, inl, inr, arith}
 use Rattle.osi_machine.proofs.Vocabulary.{list_any, State, TokenSetting, Meaning, RS, RestartDue, may_hold, is_restarting, is_restart_due, has_no_effect, passes_restarting, restarted_at, without_tokens, becomes, stands, drops, next, Good, Item, seen, is_plain, Fits, AllFit, flush, stops, heard, view_next, heard_view, or_parts}
 use Rattle.osi_machine.proofs.PhaseLaws.{excluded, by_test}
 use Rattle.osi_machine.proofs.Units.{next_acted, next_dropped, restart_acted, none_due}

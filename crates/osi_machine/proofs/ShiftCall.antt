@@ -1,13 +1,12 @@
 -- A call that changes no more of a side than its phase and its numbers: what has to be known of it, so that
 -- all that is true of both sides stays.
 use Rattle.std.proofs.Common.{◌≡◌, refl, sym, ◌∙◌, ap, subst, ℕ, ◌≤◌, ◌<◌, Bool, true, false, not, ◌&&◌, ◌||◌, if◌then◌else◌, List, [], ◌∷◌, ◌++◌, ◌⊎◌, inl, inr, arith}
-use Rattle.osi_machine.proofs.Vocabulary.{list_any, State, FunctionalUnits, Tokens, Meaning, Token, has, available, data_token, lower, is_answering, is_connecting, is_release_due, is_releasing, is_restarting, is_restart_due, may_hold, has_no_effect, passes_restarting, becomes, drops, next, Good, Item, cutat, AreNumberedFrom, turned_owners, is_own, is_to_own, seen, is_plain, Fits, flush, stops, heard, hears, view_next, heard_view, data_in, data_of, needs_token, Party, Core, AreConsistent, and_from, not-true}
-use Rattle.osi_machine.proofs.PhaseLaws.{excluded, implied_two, by_either, by_test}
+use Rattle.osi_machine.proofs.Vocabulary.{append-nil, list_any, State, FunctionalUnits, Tokens, Meaning, Token, has, available, data_token, lower, is_answering, is_connecting, is_release_due, is_releasing, is_restarting, is_restart_due, may_hold, has_no_effect, passes_restarting, becomes, drops, next, Good, Item, cutat, AreNumberedFrom, turned_owners, is_own, is_to_own, seen, is_plain, Fits, flush, stops, heard, hears, view_next, heard_view, data_in, data_of, needs_token, Party, Core, AreConsistent, and_from, not-true}
+use Rattle.osi_machine.proofs.PhaseLaws.{implied_both, excluded, implied_two, by_either, by_test}
 use Rattle.osi_machine.proofs.Units.{next_cases, next_acted, next_dropped, next_hears}
 use Rattle.osi_machine.proofs.ChannelLaws.{fit_append, flush_append, heard_flush, heard_append, view_append, data_append}
 use Rattle.osi_machine.proofs.HistoryLaws.{cut_append}
 use Rattle.osi_machine.proofs.Records.{flushed, hearing, matched, Meeting, Half, Views, Counting, Counts, IsOfProfile, Stands}
-use Rattle.osi_machine.proofs.Idle.{append_nil}
 use Rattle.osi_machine.proofs.DataCall.{none_owed}
 use Rattle.osi_machine.proofs.TakeMoves.{none_due_there}
 use Rattle.osi_machine.proofs.Shift.{Shift, Still, still, Due, Shifted, Shifts, shifts, shift_view, shifted_still, shifted_listens, inv_listens, after_listens}
@@ -85,12 +84,10 @@ acts_listening s m h k = rw (k, h) refl
 
 sides : (w : Core) (k : Shift) (m : Meaning) (more : List Item) → Sending w k m more → Stands w → Deaf w k m ⊎ Acts w k m
 sides w k m more g h = by_either (runs w k m more g h).flush
-    (λ z. let l = not-true (is_restarting (flushed w.peer w.own).phase) (implied_two (λ p q. matched p q && may_hold p) (λ p q. not (is_restarting q)) refl (flushed w.own w.peer).phase (flushed w.peer w.own).phase
-    (and_from (matched (flushed w.own w.peer).phase (flushed w.peer w.own).phase) (may_hold (flushed w.own w.peer).phase) h.own.meeting.meets (k.holds (flushed w.own w.peer) z.1))) in
+    (λ z. let l = not-true (is_restarting (flushed w.peer w.own).phase) (implied_both matched (λ p q. may_hold p) (λ p q. not (is_restarting q)) refl (flushed w.own w.peer).phase (flushed w.peer w.own).phase h.own.meeting.meets (k.holds (flushed w.own w.peer) z.1)) in
     let a = acts_listening (flushed w.peer w.own) m l g.unit.effect in
     inr (record { listens = l; inv = z.1; there = z.0; same = next_acted (flushed w.peer w.own) m a; acts = a }))
-    (λ d. let r = implied_two (λ p q. matched p q && is_restart_due p) (λ p q. is_restarting q) refl (flushed w.own w.peer).phase (flushed w.peer w.own).phase
-    (and_from (matched (flushed w.own w.peer).phase (flushed w.peer w.own).phase) (is_restart_due (flushed w.own w.peer).phase) h.own.meeting.meets d.due) in
+    (λ d. let r = implied_both matched (λ p q. is_restart_due p) (λ p q. is_restarting q) refl (flushed w.own w.peer).phase (flushed w.peer w.own).phase h.own.meeting.meets d.due in
     inl (record { asked = r; due = d; same = next_dropped (flushed w.peer w.own) m (drops_waiting (flushed w.peer w.own) m r g.unit.waits) }))
 
 other_fits : (w : Core) (k : Shift) (m : Meaning) (more : List Item) → Sending w k m more → Stands w → Fits (flushed w.peer w.own) m
@@ -169,8 +166,7 @@ other_wants w k m more g h may t =
     ∙ subst (λ (q : State). has q.held t ≡ (is_own (turned_owners w.owner t) || is_to_own (turned_owners w.owner t))) (heard_end w k m more g h)
     (h.peer.meeting.wants (ap (λ (q : State). may_hold q.phase) (heard_end w k m more g h) ∙ by_either (sides w k m more g h)
     (λ d. ap (λ (q : State). may_hold q.phase) (sym d.same) ∙ may)
-    (λ a. implied_two (λ p q. matched p q && may_hold p) (λ p q. may_hold q) refl (flushed w.own w.peer).phase (flushed w.peer w.own).phase
-    (and_from (matched (flushed w.own w.peer).phase (flushed w.peer w.own).phase) (may_hold (flushed w.own w.peer).phase) h.own.meeting.meets (k.holds (flushed w.own w.peer) a.inv)))) t)
+    (λ a. implied_both matched (λ p q. may_hold p) (λ p q. may_hold q) refl (flushed w.own w.peer).phase (flushed w.peer w.own).phase h.own.meeting.meets (k.holds (flushed w.own w.peer) a.inv))) t)
 
 other_restart : (w : Core) (k : Shift) (m : Meaning) (more : List Item) → Sending w k m more → Stands w → is_restarting (next (flushed w.peer w.own) m).phase ≡ true
     → ((next (flushed w.peer w.own) m).numbers.next ≡ (flush (k.to w.own.session) w.peer.sent).numbers.next)
@@ -187,8 +183,7 @@ other_released w k m more g h r = by_either (runs w k m more g h).flush
     (λ d. absurd (let n = excluded is_restart_due is_releasing refl (flush (k.to w.own.session) w.peer.sent).phase d.other in let p = here in cc))
   where
     here : is_releasing (flush (k.to w.own.session) w.peer.sent).phase ≡ true
-    here = implied_two (λ p q. matched p q && is_release_due q) (λ p q. is_releasing p) refl (flush (k.to w.own.session) w.peer.sent).phase (next (flushed w.peer w.own) m).phase
-        (and_from (matched (flush (k.to w.own.session) w.peer.sent).phase (next (flushed w.peer w.own) m).phase) (is_release_due (next (flushed w.peer w.own) m).phase) (meets_after w k m more g h) r)
+    here = implied_both matched (λ p q. is_release_due q) (λ p q. is_releasing p) refl (flush (k.to w.own.session) w.peer.sent).phase (next (flushed w.peer w.own) m).phase (meets_after w k m more g h) r
 
 peer_half : (w : Core) (k : Shift) (m : Meaning) (more : List Item) → Sending w k m more → Stands w → Half (turned_owners w.owner) w.peer (sender w.own (k.to w.own.session) m more)
 peer_half w k m more g h = record {
@@ -200,8 +195,7 @@ peer_half w k m more g h = record {
         units = b.units ∙ h.peer.meeting.units ∙ sym a.units;
         base = b.base ∙ h.peer.meeting.base ∙ sym a.base;
         restart = other_restart w k m more g h;
-        connect = λ r. absurd (not_answering (runs w k m more g h).flush (implied_two (λ p q. matched p q && is_connecting q) (λ p q. is_answering p) refl (flush (k.to w.own.session) w.peer.sent).phase (next fy m).phase
-            (and_from (matched (flush (k.to w.own.session) w.peer.sent).phase (next fy m).phase) (is_connecting (next fy m).phase) (meets_after w k m more g h) r)));
+        connect = λ r. absurd (not_answering (runs w k m more g h).flush (implied_both matched (λ p q. is_connecting q) (λ p q. is_answering p) refl (flush (k.to w.own.session) w.peer.sent).phase (next fy m).phase (meets_after w k m more g h) r));
         holds = h.peer.meeting.holds;
         wants = other_wants w k m more g h;
         absent = λ t n. h.peer.meeting.absent t (ap (λ (u : FunctionalUnits). has (available u) t) (sym b.units) ∙ n);
@@ -237,7 +231,7 @@ own_views w k m more g h = record {
 }
   where
     streams : (flushed w.own w.peer).units.duplex ≡ true → (w.own.got ++ data_of w.peer.sent ≡ w.peer.said) × (w.history ++ more ≡ [])
-    streams d = let s = h.own_views.stream d in (s.0, ap (λ (v : List Item). w.history ++ v) (g.duplex d) ∙ append_nil w.history ∙ s.1)
+    streams d = let s = h.own_views.stream d in (s.0, ap (λ (v : List Item). w.history ++ v) (g.duplex d) ∙ append-nil w.history ∙ s.1)
 
 peer_sees : (w : Core) (k : Shift) (m : Meaning) (more : List Item) → Sending w k m more → Stands w → hears (next (flushed w.peer w.own) m).phase ≡ true
     → heard_view w.peer.session (w.own.sent ++ m ∷ []) w.peer.view ≡ w.history ++ more
@@ -268,9 +262,9 @@ peer_views w k m more g h = record {
     streams : (flushed w.peer w.own).units.duplex ≡ true → (w.peer.got ++ data_of (w.own.sent ++ m ∷ []) ≡ w.own.said ++ []) × (w.history ++ more ≡ [])
     streams d =
         let s = h.peer_views.stream d in
-        let e = data_append w.own.sent (m ∷ []) ∙ ap (λ (r : List (List ℕ)). data_of w.own.sent ++ (r ++ [])) g.unit.empty ∙ append_nil (data_of w.own.sent) in (
-          ap (λ (r : List (List ℕ)). w.peer.got ++ r) e ∙ s.0 ∙ sym (append_nil w.own.said),
-          ap (λ (v : List Item). w.history ++ v) (g.duplex (ap (λ (u : FunctionalUnits). u.duplex) h.own.meeting.units ∙ d)) ∙ append_nil w.history ∙ s.1,
+        let e = data_append w.own.sent (m ∷ []) ∙ ap (λ (r : List (List ℕ)). data_of w.own.sent ++ (r ++ [])) g.unit.empty ∙ append-nil (data_of w.own.sent) in (
+          ap (λ (r : List (List ℕ)). w.peer.got ++ r) e ∙ s.0 ∙ sym (append-nil w.own.said),
+          ap (λ (v : List Item). w.history ++ v) (g.duplex (ap (λ (u : FunctionalUnits). u.duplex) h.own.meeting.units ∙ d)) ∙ append-nil w.history ∙ s.1,
         )
 
 -- ---- the numbers

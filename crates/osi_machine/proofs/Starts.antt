@@ -1,6 +1,6 @@
 -- What is true of both sides is true where the CN of a caller is under way.
-use Rattle.std.proofs.Common.{◌≡◌, refl, sym, ap, subst, Bool, true, ◌&&◌, if◌then◌else◌, unwrap_or, arith}
-use Rattle.osi_machine.proofs.Vocabulary.{State, Answering, Ended, are_sizes, has_data, functional_units, serial_for, offered, is_restarting, without_tokens, awaiting, next, no_owner, turned_owners, Fits, Offer, CanBeOffered, offering, offer_sent, core_start, and_from}
+use Rattle.std.proofs.Common.{◌≡◌, sym, ap, Bool, true, if◌then◌else◌, unwrap_or, arith}
+use Rattle.osi_machine.proofs.Vocabulary.{State, Answering, Ended, are_sizes, has_data, functional_units, serial_for, offered, is_restarting, without_tokens, awaiting, next, no_owner, turned_owners, Offer, CanBeOffered, offering, offer_sent, core_start, and_from}
 use Rattle.osi_machine.proofs.Tokens.{has_set}
 use Rattle.osi_machine.proofs.CoreLaws.{starts}
 use Rattle.osi_machine.proofs.Records.{Meeting, Counting, IsOfProfile, Stands}

@@ -1,8 +1,7 @@
 -- A connection of the machine as its two sides keep it, and that every move of it is the same in tables.
-use Rattle.std.proofs.Common.{◌≡◌, refl, sym, ◌∙◌, ap, subst, ◌+◌, Bool, true, false, List, [], ◌∷◌, take, Option, Some, Ok, Err, arith}
-use Rattle.osi_session.specs.Moves.{answered as answered_move}
+use Rattle.std.proofs.Common.{◌≡◌, refl, sym, ◌∙◌, ap, subst, ◌+◌, Bool, true, false, List, ◌∷◌, take, Option, Some, Ok, Err, arith}
 use Rattle.osi_machine.specs.Tables as tables
-use Rattle.osi_machine.proofs.Vocabulary.{called, taken, react, said_of, State, WaitTransport, Ended, Meaning, Token, Call, HasSerial, Answer, Granted, CallError, without_tokens, allowed, respond, respond_unit, awaiting, points, is_own, turned_owner, given_up, left_by, offering, offer_sent, Message, unit, Transport, not_yet, waiting, linked, kept_of, World, turned, session_of, put, replied, after_call, after_answer, Taking, unit_taken, error_of, without_first, Seat, Line, Turn, Told}
+use Rattle.osi_machine.proofs.Vocabulary.{called, taken, react, said_of, State, WaitTransport, Ended, Meaning, Token, Call, HasSerial, Answer, Granted, CallError, without_tokens, allowed, respond, respond_unit, awaiting, points, is_own, given_up, left_by, offering, offer_sent, Message, unit, Transport, not_yet, waiting, linked, kept_of, World, turned, session_of, after_call, after_answer, Taking, unit_taken, error_of, without_first, Seat, Line, Turn, Told}
 use Rattle.osi_machine.proofs.CoreLaws.{SessionLaws}
 use Rattle.osi_machine.proofs.RestartCall.{given_theirs}
 use Rattle.osi_machine.proofs.Projects.{is_begun, not_both}

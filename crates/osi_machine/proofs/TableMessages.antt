@@ -1,7 +1,7 @@
 -- Every message but a session unit does the same in tables; so do a close, an end, a break and a new connection.
 use Rattle.std.proofs.Common.{◌≡◌, refl, sym, ◌∙◌, ap, ℕ, ◌+◌, Bool, true, false, if◌then◌else◌, List, [], ◌∷◌, take, Option, Some, None, arith}
 use Rattle.osi_machine.specs.Tables as tables
-use Rattle.osi_machine.proofs.Vocabulary.{opened, refused, broken as broken_off, Move, react, begun, denied, rests, RefusedByTransport, WaitTransport, Connecting, Ended, Meaning, Token, Tokens, no_token, is_wait_transport, without_tokens, awaiting, lost, points, is_own, owned, left_by, Offer, offering, offer_sent, Message, unit, ask, agree, deny, bye, over, Transport, not_yet, waiting, linked, closing, gone, Kept, kept_of, World, turned, session_of, asked_with, put, replied, unchanged, moves, moved, Terms, accepts, denies, asked_at, message_taken, shortened, closed, ended_at, shown_at_end}
+use Rattle.osi_machine.proofs.Vocabulary.{opened, refused, broken as broken_off, Move, react, denied, rests, RefusedByTransport, WaitTransport, Ended, Meaning, is_wait_transport, without_tokens, awaiting, lost, points, owned, left_by, Offer, offering, offer_sent, Message, unit, ask, agree, deny, bye, over, Transport, not_yet, waiting, linked, closing, gone, Kept, kept_of, World, turned, session_of, asked_with, put, unchanged, moves, moved, Terms, accepts, denies, asked_at, message_taken, shortened, closed, ended_at, shown_at_end}
 use Rattle.osi_machine.proofs.Projects.{stopped, is_begun}
 use Rattle.osi_machine.proofs.ProjectCall.{own_gone, left_theirs}
 use Rattle.osi_machine.proofs.ProjectTake.{put_nothing}

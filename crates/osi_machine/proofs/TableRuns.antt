@@ -1,10 +1,10 @@
 -- Over every list of steps the tables do what the machine does.
-use Rattle.std.proofs.Common.{◌≡◌, refl, sym, ◌∙◌, ap, subst, ℕ, zero, suc, ◌+◌, Bool, true, false, not, ◌||◌, if◌then◌else◌, List, [], ◌∷◌, ◌++◌, map, Option, Some, None, is_some, inl, inr, arith}
+use Rattle.std.proofs.Common.{◌≡◌, refl, sym, ◌∙◌, ap, subst, ℕ, zero, suc, ◌+◌, Bool, not, ◌||◌, if◌then◌else◌, List, [], ◌∷◌, ◌++◌, map, Option, Some, None, is_some, inl, inr, arith}
 use Rattle.osi_machine.specs.Machine.{ends_there}
 use Rattle.osi_machine.specs.Tables as tables
 use Rattle.osi_machine.proofs.Vocabulary.{AllByRecursion, slice_get, taken, broken as broken_off, react, Shown, said_of, CallError, Call, HasSerial, Meaning, allowed, Offer, Side, Left, Right, Class, class_2, Message, unit, Transport, linked, World, turned, session_of, after_answer, Taking, unit_taken, Terms, message_taken, shown_at_end, Ending, closed_here, Refusal, Step, connects, calls, delivers, breaks, ends, Entry, connect_answered, call_answered, shown_at, Machine, start, connection_at, replaced, with_connection, seen_from, end_of, stays, noted, is_given, refusal_by, transport_of, refusal, asked_in, error_of, call_in, side_of, ended_worlds, shown_in_order, marked_ended, after_end, closes_by, after_taking, without_first, learns, taken_in, delivered_to, cut_channels, is_told, step, run, HasNumber, Line, Turn, Tables, cut_line, Told, told_of}
 use Rattle.osi_machine.proofs.CoreLaws.{SessionLaws}
-use Rattle.osi_machine.proofs.ProjectStart.{Way, agreed, asks, replies, caller_refuses, called_refuses, Refuses}
+use Rattle.osi_machine.proofs.ProjectStart.{Way, asks, replies, caller_refuses, called_refuses, Refuses}
 use Rattle.osi_machine.proofs.LinesRun.{IsGood, step_good}
 use Rattle.osi_machine.proofs.Whole.{Stage, Whole, whole_kept, turned_back, turned_stage}
 use Rattle.osi_machine.proofs.MachineLaws.{line_at}
@@ -114,8 +114,7 @@ stage_call laws b w t u first second c small (inr (inl h)) s =
 stage_call laws b w t u first second c small (inr (inr h)) s = call_tabled laws b w first second t u c small h s
 
 if_follows : (b : Bool) (t t' : Tables) (m m' : Machine) → Follows t m → Follows t' m' → Follows (if b then t else t') (if b then m else m')
-if_follows true t t' m m' h k = h
-if_follows false t t' m m' h k = k
+if_follows b t t' m m' h k = grind arith
 
 line_call : SessionLaws → (m : Machine) (ls : List Line) (side : Side) (r : ℕ) (c : Call) → HasSerial c → AllTabled ls m.worlds → (l : Line) (w : World) → Tabled l w → StageOf m.broken w
     → Follows (tables.call_in (tables_of m ls) side r c (Some l)) (call_in m side r c (Some w))
@@ -258,8 +257,7 @@ cut_tabled left right r (l ∷ ls) [] h = absurd h
 -- ---- a step, and a list of steps
 
 pub end_as : (side : Side) (m : Machine) (ls : List Line) → tables.end_of side (tables_of m ls) ≡ end_of side m
-end_as Left m ls = refl
-end_as Right m ls = refl
+end_as side m ls = grind arith
 
 step_of : SessionLaws → SaysItsUnit → (terms : Terms) (m : Machine) (ls : List Line) (s : Step) → HasNumber s → AllTabled ls m.worlds → IsGood terms Whole m → Follows (tables.step (tables_of m ls) s) (step m s)
 step_of laws says terms m ls (connects o) small k g =

@@ -1,12 +1,12 @@
 -- Every unit that is under way can be sent, and the numbers of each session are in order.
-use Rattle.std.proofs.Common.{◌≡◌, refl, sym, subst, ℕ, zero, suc, ◌+◌, ◌<◌, Bool, true, false, not, ◌&&◌, ◌||◌, if◌then◌else◌, List, [], ◌∷◌, ◌++◌, map, length, take, Option, Some, None, is_some, Ok, Err, arith}
+use Rattle.std.proofs.Common.{◌≡◌, refl, sym, subst, ℕ, zero, suc, ◌+◌, Bool, true, false, if◌then◌else◌, List, [], ◌∷◌, ◌++◌, map, length, take, Option, Some, None, is_some, Ok, Err, arith}
 use Rattle.osi_session.specs.declared.faults.CallError.TheVariants as error
 use Rattle.osi_session.specs.Moves.{answered as answered_move, after_inputs}
 use Rattle.osi_session.specs.Runs.{HasNumbers}
 use Rattle.osi_session.specs.Sessions.{CanBeSent}
 use Rattle.osi_message.specs.Written.{is_second, user_data_of}
-use Rattle.osi_machine.specs.Tables.{asked_with, shortened, after_call, message_taken, closed, ended_at, start, seen_from, side_of, end_of, stays, noted, transport_of, refusal, asked_in, call_in, shown_in_order, marked_ended, after_end, closes_by, without_first, taken_in, delivered_to, cut_channels, step, run}
-use Rattle.osi_machine.proofs.Vocabulary.{leb-true, ltb-false, or_parts, not-false, AllByRecursion, Input, called, taken, opened, refused, broken as broken_off, Standing, Move, react, begun, denied, rests, Said, said_of, IsAddress, State, Meaning, WaitTransport, Call, HasSerial, Granted, Answer, IsSmall, IsSound, IsSendable, allowed, respond, without_tokens, awaiting, is_wait_transport, Offer, CanBeOffered, Side, Left, Right, offering, offer_sent, Class, class_2, Message, unit, ask, agree, deny, bye, over, Transport, not_yet, waiting, linked, closing, gone, put, replied, Terms, accepts, denies, Ending, closed_here, Refusal, Step, connects, calls, delivers, breaks, ends, call_answered, shown_at, ended, connection_at, is_given, is_long_selector, is_long, refusal_by, learns, is_told, HasNumber, Line, Turn, Tables, in_transport, puts, made, ends_there, ended_lines, after_turn, AreSendable, IsSoundLine, AreSoundLines, IsTableRun}
+use Rattle.osi_machine.specs.Tables.{asked_with, shortened, after_call, message_taken, closed, ended_at, start, seen_from, side_of, stays, noted, transport_of, refusal, asked_in, call_in, shown_in_order, marked_ended, after_end, closes_by, without_first, taken_in, delivered_to, cut_channels, step, run}
+use Rattle.osi_machine.proofs.Vocabulary.{leb-true, ltb-false, or_parts, not-false, AllByRecursion, Input, called, taken, opened, refused, broken as broken_off, Standing, Move, react, Said, said_of, IsAddress, State, Meaning, WaitTransport, Call, HasSerial, Granted, Answer, IsSound, IsSendable, allowed, respond, without_tokens, awaiting, Offer, CanBeOffered, Side, Left, Right, offering, offer_sent, Class, class_2, Message, unit, ask, agree, deny, bye, over, Transport, not_yet, waiting, linked, closing, gone, put, replied, Terms, accepts, denies, Ending, closed_here, Refusal, Step, call_answered, ended, connection_at, is_given, is_long_selector, is_long, refusal_by, learns, HasNumber, Line, Turn, Tables, in_transport, puts, made, ends_there, ended_lines, after_turn, AreSendable, IsSoundLine, AreSoundLines, IsTableRun}
 use Rattle.osi_machine.proofs.LinesRun.{if_none}
 use Rattle.osi_machine.proofs.Places.{all_more, all_with, all_at}
 use Rattle.osi_machine.proofs.PhaseLaws.{by_test}
@@ -39,8 +39,7 @@ replied_sendable None h = tt
 replied_sendable (Some m) h = (h, tt)
 
 rest_sendable : (x : Message) (ms : List Message) → AreSendable (x ∷ ms) → AreSendable ms
-rest_sendable (unit m) ms h = h.1
-rest_sendable x ms h = h
+rest_sendable x ms h = grind arith
 
 -- ---- a move
 
@@ -164,8 +163,7 @@ abbrev Sound : Tables → Type 0
 Sound t = AllByRecursion IsSoundLine t.lines
 
 if_sound : (b : Bool) (t u : Tables) → Sound t → Sound u → Sound (if b then t else u)
-if_sound true t u h k = h
-if_sound false t u h k = k
+if_sound b t u h k = grind arith
 
 asked_sound : (t : Tables) (o : Offer) → CanBeOffered o → Sound t → (a : Option Refusal) → refusal t o ≡ a → Sound (asked_in t o a)
 asked_sound t o small h (Some e) q = h
@@ -187,8 +185,7 @@ ended_lines_sound laws side keep k [] h = tt
 ended_lines_sound laws side keep k (l ∷ ls) h = (side_line side _ (ends_line laws (keep k) (seen_from side l) (side_line side l h.0)), ended_lines_sound laws side keep (k + 1) ls h.1)
 
 marked_sound : (side : Side) (e : Ending) (t : Tables) → Sound t → Sound (marked_ended side e t)
-marked_sound Left e t h = h
-marked_sound Right e t h = h
+marked_sound side e t h = grind arith
 
 end_sound : SendLaws → (side : Side) (e : Ending) (keep : ℕ → ℕ) (t : Tables) → Sound t → Sound (after_end side e keep t)
 end_sound laws side e keep t h = marked_sound side e

@@ -1,6 +1,6 @@
 -- The answer to a restart, a CN and an AC are taken. Each keeps what is true of both sides.
 use Rattle.std.proofs.Common.{◌≡◌, refl, sym, ◌∙◌, ap, ℕ, Bool, true, false, not, if◌then◌else◌, List, ◌∷◌, Option, unwrap_or, arith}
-use Rattle.osi_machine.proofs.Vocabulary.{TokenSetting, TsduMaximumSize, State, FunctionalUnits, Answering, Ended, Meaning, CN, AC, RA, Tokens, Token, no_token, has, both_units, functional_units, stated, of_asker, is_connecting, is_restarting, is_releasing, is_over, is_acceptable, may_hold, without_tokens, becomes, drops, next, AllFit, flush, Core, taking, is_opening}
+use Rattle.osi_machine.proofs.Vocabulary.{TokenSetting, TsduMaximumSize, State, FunctionalUnits, Answering, Ended, Meaning, CN, AC, RA, Tokens, Token, no_token, has, both_units, functional_units, stated, of_asker, is_connecting, is_releasing, is_over, is_acceptable, may_hold, without_tokens, becomes, drops, next, AllFit, flush, Core, taking, is_opening}
 use Rattle.osi_machine.proofs.PhaseLaws.{implied, excluded, implied_two, by_test}
 use Rattle.osi_machine.proofs.Units.{next_acted}
 use Rattle.osi_machine.proofs.Tokens.{none_held}

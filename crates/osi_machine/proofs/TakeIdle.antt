@@ -1,12 +1,11 @@
 -- A unit is taken that changes nothing of its taker's state: data, a request for tokens, and all that is
 -- discarded. It keeps what is true of both sides.
 use Rattle.std.proofs.Common.{◌≡◌, refl, sym, ◌∙◌, ap, subst, ℕ, Bool, true, false, not, ◌&&◌, ◌||◌, if◌then◌else◌, List, [], ◌∷◌, ◌++◌, append_assoc, arith}
-use Rattle.osi_machine.proofs.Vocabulary.{list_any, State, FunctionalUnits, Meaning, DT, PT, Tokens, data_token, is_empty, takes_data, has_no_effect, is_restarting, is_restart_due, drops, next, Item, Owners, turned_owners, is_acted_on, got_in, cut_by, owners_after, AllFit, flush, stops, heard, hears, view_next, heard_view, data_in, data_of, needs_token, Party, Core, taking, is_opening, IsConsistent, AreConsistent}
+use Rattle.osi_machine.proofs.Vocabulary.{append-nil, list_any, State, FunctionalUnits, Meaning, DT, PT, Tokens, is_empty, takes_data, has_no_effect, is_restarting, is_restart_due, drops, next, Item, Owners, turned_owners, is_acted_on, got_in, cut_by, owners_after, AllFit, flush, stops, heard, hears, view_next, heard_view, data_in, data_of, Party, Core, taking, is_opening, IsConsistent, AreConsistent}
 use Rattle.osi_machine.proofs.PhaseLaws.{excluded, if_first, by_test}
 use Rattle.osi_machine.proofs.Units.{restart_acted, next_acted, next_dropped, next_hears}
 use Rattle.osi_machine.proofs.Records.{Meeting, Half, Views, Counting, Counts, IsOfProfile, Pair, Stands}
 use Rattle.osi_machine.proofs.ChannelLaws.{kept_heard, due_end}
-use Rattle.osi_machine.proofs.Idle.{append_nil}
 use Rattle.osi_machine.proofs.DataCall.{none_owed}
 use Rattle.osi_machine.proofs.Alive.{alive, taken_party, takes_as}
 use Rattle.osi_machine.proofs.Begun.{flush_open}
@@ -88,7 +87,7 @@ data_got x octets us d e =
 please_got : (x : Party) (k : Tokens) (octets : List ℕ) (us : List Meaning) → (taken_party x (PT k octets)).got ++ data_of us ≡ x.got ++ data_of (PT k octets ∷ us)
 please_got x k octets us = ap (λ (r : List (List ℕ)). r ++ data_of us) (by_test (drops x.session (PT k octets))
     (λ e. rw e)
-    (λ e. rw e (append_nil x.got)))
+    (λ e. rw e (append-nil x.got)))
 
 -- ---- all that is said of both sides
 
@@ -173,8 +172,7 @@ dropped_not_acted : (s : State) (u : Meaning) → drops s u ≡ true → is_acte
 dropped_not_acted s u d = grind arith
 
 nothing_in : (u : Meaning) → has_no_effect u ≡ true → data_in u ≡ []
-nothing_in (DT octets) h = absurd (cc)
-nothing_in _ h = refl
+nothing_in u h = grind arith
 
 -- with duplex there is no restart, so that no data is discarded
 dropped_data : (x : Party) (u : Meaning) → drops x.session u ≡ true → IsConsistent x

@@ -1,11 +1,10 @@
 -- A unit is taken that cuts nothing off: what has to be known of it, so that all that is true of both sides
 -- stays.
 use Rattle.std.proofs.Common.{◌≡◌, refl, sym, ◌∙◌, ap, subst, ℕ, ◌≤◌, ◌<◌, Bool, true, false, not, if◌then◌else◌, List, [], ◌∷◌, ◌++◌, arith}
-use Rattle.osi_machine.proofs.Vocabulary.{list_any, State, Tokens, has, data_token, Meaning, lower, is_restarting, is_restart_due, is_release_due, is_releasing, drops, next, Item, cutat, AreNumberedFrom, Owners, turned_owners, is_acted_on, seen, got_in, cut_by, owners_after, AllFit, flush, stops, heard, hears, view_next, heard_view, data_in, data_of, needs_token, Party, Core, taking, AreConsistent}
+use Rattle.osi_machine.proofs.Vocabulary.{append-nil, list_any, State, data_token, Meaning, lower, is_restarting, is_restart_due, is_release_due, is_releasing, drops, next, Item, cutat, AreNumberedFrom, Owners, turned_owners, is_acted_on, seen, got_in, cut_by, owners_after, AllFit, flush, stops, heard, hears, view_next, heard_view, data_in, data_of, needs_token, Party, Core, taking, AreConsistent}
 use Rattle.osi_machine.proofs.Records.{Meeting, Half, Counting, IsOfProfile, Stands}
 use Rattle.osi_machine.proofs.Units.{next_hears}
 use Rattle.osi_machine.proofs.ChannelLaws.{kept_heard, due_end}
-use Rattle.osi_machine.proofs.Idle.{append_nil}
 use Rattle.osi_machine.proofs.DataCall.{none_owed}
 use Rattle.osi_machine.proofs.Retoken.{Tokens_of}
 use Rattle.osi_machine.proofs.TakeIdle.{rest_of, one_less}
@@ -121,7 +120,7 @@ same_tokens o now end other heard peer r m e = search arith
 
 -- what shows no data gets none
 pub none_got : (x : Party) (u : Meaning) → got_in x.session u ≡ [] → (if drops x.session u then x.got else x.got ++ got_in x.session u) ≡ x.got
-none_got x u e = if_first (drops x.session u) x.got (x.got ++ got_in x.session u) (ap (λ (g : List (List ℕ)). x.got ++ g) e ∙ append_nil x.got)
+none_got x u e = if_first (drops x.session u) x.got (x.got ++ got_in x.session u) (ap (λ (g : List (List ℕ)). x.got ++ g) e ∙ append-nil x.got)
 
 pub same_stream : (got : List (List ℕ)) (u : Meaning) (us : List Meaning) → data_in u ≡ [] → got ++ data_of us ≡ got ++ data_of (u ∷ us)
 same_stream got u us e = ap (λ (d : List (List ℕ)). got ++ (d ++ data_of us)) (sym e)

@@ -1,6 +1,6 @@
 -- A request for release, its refusal, and a confirmation are taken. Each keeps what is true of both sides.
-use Rattle.std.proofs.Common.{◌≡◌, refl, sym, subst, ℕ, Bool, true, false, not, ◌&&◌, List, ◌∷◌, ◌⊎◌, inl, inr, arith}
-use Rattle.osi_machine.proofs.Vocabulary.{and_parts, and_from, not-true, State, Meaning, FN, NF, MIA, MAA, is_releasing, is_release_due, is_restarting, is_restart_due, minor_confirmed, major_confirmed, Ready, ReleaseDue, drops, next, becomes, flush, heard, Core}
+use Rattle.std.proofs.Common.{◌≡◌, refl, sym, subst, ℕ, true, false, ◌&&◌, List, ◌∷◌, ◌⊎◌, inl, inr, arith}
+use Rattle.osi_machine.proofs.Vocabulary.{both_ways, and_from, State, Meaning, FN, NF, MIA, MAA, is_releasing, is_release_due, is_restarting, is_restart_due, minor_confirmed, major_confirmed, Ready, ReleaseDue, drops, next, becomes, flush, heard, Core}
 use Rattle.osi_machine.proofs.PhaseLaws.{excluded, implied_two}
 use Rattle.osi_machine.proofs.Records.{matched, Stands}
 use Rattle.osi_machine.proofs.Units.{next_acted}
@@ -17,9 +17,6 @@ pub finish_calm : (w : Core) (octets : List ℕ) (us : List Meaning) → drops w
 finish_calm w octets us d h = grind arith
 
 -- ---- its refusal: the other does not owe the answer any more
-
-not_both : (p : Bool) → p ≡ true → p ≡ false → ⊥
-not_both p h k = cc
 
 after_refusal : (w : Core) (octets : List ℕ) (us : List Meaning) → drops w.own.session (NF octets) ≡ false → Stands (at w (NF octets ∷ us))
     → is_release_due (heard w.peer.session w.own.sent).phase ≡ true → ⊥
@@ -38,8 +35,8 @@ after_refusal w octets us d h r =
   where
     by : is_releasing (flush w.own.session (NF octets ∷ us)).phase ≡ true
         → Lively (flush w.own.session (NF octets ∷ us)) ⊎ (is_restart_due (flush w.own.session (NF octets ∷ us)).phase ≡ true) → ⊥
-    by here (inl l) = not_both _ l (excluded is_releasing is_lively refl (flush w.own.session (NF octets ∷ us)).phase here)
-    by here (inr l) = not_both _ l (excluded is_releasing is_restart_due refl (flush w.own.session (NF octets ∷ us)).phase here)
+    by here (inl l) = both_ways _ (excluded is_releasing is_lively refl (flush w.own.session (NF octets ∷ us)).phase here) l
+    by here (inr l) = both_ways _ (excluded is_releasing is_restart_due refl (flush w.own.session (NF octets ∷ us)).phase here) l
 
 pub not_finished_calm : (w : Core) (octets : List ℕ) (us : List Meaning) → drops w.own.session (NF octets) ≡ false → Stands (at w (NF octets ∷ us))
     → Calm w (NF octets) us (record w.own.session { phase = Ready })

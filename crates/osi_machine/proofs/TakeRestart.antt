@@ -1,7 +1,7 @@
 -- A restart is taken. It keeps what is true of both sides: where it stands it cuts what was seen and the
 -- history, and where it does not it changes nothing.
-use Rattle.std.proofs.Common.{◌≡◌, refl, sym, ◌∙◌, ap, subst, ℕ, ◌-◌, ◌==◌, ◌≤◌, ◌<◌, Bool, true, false, not, ◌&&◌, ◌||◌, if◌then◌else◌, List, [], ◌∷◌, ◌++◌, arith}
-use Rattle.osi_machine.proofs.Vocabulary.{and_parts, and_from, TokenSetting, ResyncType, State, RestartDue, Meaning, RS, Tokens, has, is_restarting, is_restart_due, is_release_due, may_hold, without_tokens, restarted_at, stands, next, Item, upto, cutat, Owner, Own, turned_owner, turned_owners, is_own, all_to_pool, pooled, is_acted_on, seen, cut_by, owners_after, Fits, AllFit, flush, heard, hears, view_next, heard_view, data_of, Party, Core, taking, AreConsistent}
+use Rattle.std.proofs.Common.{◌≡◌, refl, sym, ◌∙◌, ap, subst, ℕ, ◌-◌, ◌≤◌, ◌<◌, Bool, true, false, not, if◌then◌else◌, List, [], ◌∷◌, arith}
+use Rattle.osi_machine.proofs.Vocabulary.{and_parts, and_from, TokenSetting, ResyncType, State, RestartDue, Meaning, RS, is_restarting, without_tokens, restarted_at, stands, next, Item, upto, cutat, Owner, turned_owner, turned_owners, is_own, all_to_pool, pooled, is_acted_on, seen, cut_by, owners_after, Fits, flush, heard, view_next, Party, Core, taking, AreConsistent}
 use Rattle.osi_machine.proofs.PhaseLaws.{excluded, implied_two}
 use Rattle.osi_machine.proofs.Units.{none_due, restart_due}
 use Rattle.osi_machine.proofs.HistoryLaws.{upto_twice, numbered_cut}
@@ -83,12 +83,10 @@ cut_seen w k n t o us s st = same_cut w k n t o us (record { all = s; wins = st 
 -- ---- tokens
 
 pub pool_own : (p : Owner) → is_own (all_to_pool p) ≡ false
-pool_own Own = refl
-pool_own _ = refl
+pool_own p = grind arith
 
 pub pool_theirs : (p : Owner) → is_own (turned_owner (all_to_pool p)) ≡ false
-pool_theirs Own = refl
-pool_theirs _ = refl
+pool_theirs p = grind arith
 
 -- ---- the two halves
 

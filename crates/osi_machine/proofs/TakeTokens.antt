@@ -1,6 +1,6 @@
 -- A unit is taken that brings tokens. It keeps what is true of both sides.
-use Rattle.std.proofs.Common.{◌≡◌, refl, sym, ◌∙◌, ap, subst, ℕ, ◌≤◌, ◌<◌, Bool, true, false, not, ◌&&◌, ◌||◌, if◌then◌else◌, List, [], ◌∷◌, arith}
-use Rattle.osi_machine.proofs.Vocabulary.{and_parts, or_right, State, FunctionalUnits, Meaning, GT, Tokens, Token, has, available, is_within, is_disjoint, united, lower, may_ask, may_hold, is_restarting, is_restart_due, is_release_due, is_releasing, drops, next, Owner, Own, ToOwn, turned_owner, turned_owners, is_own, is_to_own, is_absent, passed_to, is_acted_on, seen, got_in, cut_by, owners_after, AllFit, flush, stops, heard, hears, data_in, Core, taking, is_opening}
+use Rattle.std.proofs.Common.{◌≡◌, ℕ, ◌≤◌, ◌<◌, true, false, List, [], ◌∷◌, arith}
+use Rattle.osi_machine.proofs.Vocabulary.{and_parts, or_right, State, Meaning, GT, Tokens, Token, has, available, united, lower, may_hold, is_release_due, is_releasing, drops, next, Owner, Own, ToOwn, turned_owners, is_to_own, passed_to, seen, got_in, cut_by, owners_after, AllFit, flush, stops, heard, hears, data_in, Core, taking}
 use Rattle.osi_machine.proofs.PhaseLaws.{implied, excluded, if_second}
 use Rattle.osi_machine.proofs.Records.{Stands}
 use Rattle.osi_machine.proofs.Retoken.{Tokens_of}
@@ -36,8 +36,7 @@ pub record Gains (w : Core) (u : Meaning) (us : List Meaning) (r : State) (k : T
   pub caller : r.is_caller ≡ w.own.session.is_caller
 
 to_own_is : (p : Owner) → is_to_own p ≡ true → p ≡ ToOwn
-to_own_is ToOwn h = refl
-to_own_is _ h = absurd (cc)
+to_own_is p h = grind arith
 
 rest : (w : Core) (u : Meaning) (us : List Meaning) (r : State) (k : Tokens) → Stands (at w (u ∷ us)) → Gains w u us r k → AllFit r us
 rest w u us r k h g = search arith

@@ -1,5 +1,5 @@
 -- A restart is taken that does not stand: its taker has asked for one that does. Nothing changes.
-use Rattle.std.proofs.Common.{◌≡◌, refl, ◌∙◌, ap, ℕ, Bool, false, if◌then◌else◌, List, ◌∷◌, arith}
+use Rattle.std.proofs.Common.{◌≡◌, refl, ◌∙◌, ap, ℕ, Bool, false, if◌then◌else◌, List, ◌∷◌}
 use Rattle.osi_machine.proofs.Vocabulary.{TokenSetting, ResyncType, Meaning, RS, stands, cutat, pooled, turned_owners, is_acted_on, cut_by, owners_after, flush, heard, Core, taking}
 use Rattle.osi_machine.proofs.CoreLaws.{SessionLaws}
 use Rattle.osi_machine.proofs.Records.{Stands}

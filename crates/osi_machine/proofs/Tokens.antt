@@ -1,6 +1,6 @@
 -- Tokens: a side that holds one, and what that keeps out of its channel.
-use Rattle.std.proofs.Common.{◌≡◌, refl, ◌∙◌, Bool, true, false, not, ◌&&◌, ◌||◌, if◌then◌else◌, List, [], ◌∷◌, arith}
-use Rattle.osi_machine.proofs.Vocabulary.{and_parts, or_left, State, Tokens, Meaning, CN, AC, RF, DT, GT, PT, MIP, MIA, MAP, MAA, RS, RA, FN, DN, NF, AB, AA, Token, data_token, minor, major, release, has, set_of, each, some, no_token, is_empty, without, united, lacks, may_hold, is_wait_cn, is_connecting, is_restarting, becomes, drops, Good, next, Item, seen, is_plain, Fits, AllFit, stops, heard, is_data_or_minor, is_no_release, needs_token, view_next, heard_view}
+use Rattle.std.proofs.Common.{◌≡◌, refl, ◌∙◌, Bool, true, false, not, ◌&&◌, ◌||◌, List, [], ◌∷◌, arith}
+use Rattle.osi_machine.proofs.Vocabulary.{and_parts, or_left, State, Tokens, Meaning, Token, data_token, minor, major, has, set_of, each, some, no_token, is_empty, without, united, lacks, may_hold, becomes, drops, Good, next, Item, seen, is_plain, Fits, AllFit, stops, heard, is_data_or_minor, is_no_release, needs_token, view_next, heard_view}
 use Rattle.osi_machine.proofs.PhaseLaws.{excluded, by_test}
 use Rattle.osi_machine.proofs.Units.{fit_cases}
 use Rattle.osi_machine.proofs.Deaf.{not_both}

@@ -1,6 +1,6 @@
 -- What a unit does to the state of its taker, case by case.
-use Rattle.std.proofs.Common.{◌≡◌, refl, sym, ap, subst, Bool, true, false, ◌&&◌, if◌then◌else◌, List, arith}
-use Rattle.osi_machine.proofs.Vocabulary.{State, Phase, Meaning, CN, AC, RF, DT, GT, PT, MIP, MIA, MAP, MAA, RS, RA, FN, DN, NF, AB, AA, is_wait_cn, is_connecting, is_restarting, is_restart_due, takes_data, takes_please, takes_minor_ack, takes_restart, is_ready, is_major_asked, is_releasing, may_ask, is_expected, is_acceptable, becomes, stands, drops, next, Good, Item, is_plain, Fits, stops, hears, view_next}
+use Rattle.std.proofs.Common.{◌≡◌, refl, ap, Bool, true, false, ◌&&◌, if◌then◌else◌, List, arith}
+use Rattle.osi_machine.proofs.Vocabulary.{State, Phase, Meaning, RS, is_restarting, is_restart_due, is_expected, becomes, drops, next, Good, Item, is_plain, Fits, stops, hears, view_next}
 use Rattle.osi_machine.proofs.PhaseLaws.{by_test}
 
 -- ---- a unit is dropped, or acted on
@@ -20,8 +20,7 @@ pub next_acted : (s : State) (u : Meaning) → drops s u ≡ false → next s u 
 next_acted s u d = ap (λ (b : Bool). if b then s else becomes s u) d
 
 pub and_false : (b : Bool) → (b && false) ≡ false
-and_false true = refl
-and_false false = refl
+and_false b = grind arith
 
 -- a restart is never discarded unread
 pub restart_acted : (s : State) (u : Meaning) → stops s u ≡ true → drops s u ≡ false
@@ -49,8 +48,7 @@ due_view s u v h f = by_test (drops s u) (λ d. rw d) (λ d. absurd (let n = non
 -- ---- no unit leads to Restarting
 
 pub chosen : (P : State → Type 0) (b : Bool) (x y : State) → P x → P y → P (if b then x else y)
-chosen P true x y h k = h
-chosen P false x y h k = k
+chosen P b x y h k = grind arith
 
 abbrev Hears : State → Type 0
 Hears s = hears s.phase ≡ true

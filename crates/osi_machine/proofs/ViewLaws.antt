@@ -1,7 +1,7 @@
 -- What will have been seen before a restart that stands: its points are counted by V(M), and there are no
 -- fewer of them than now.
 use Rattle.std.proofs.Common.{◌≡◌, refl, sym, ◌∙◌, ap, subst, ℕ, ◌+◌, ◌≤◌, Bool, true, false, if◌then◌else◌, List, [], ◌∷◌, ◌++◌, arith}
-use Rattle.osi_machine.proofs.Vocabulary.{State, Meaning, CN, AC, RF, DT, GT, PT, MIP, MIA, MAP, MAA, RS, RA, FN, DN, NF, AB, AA, is_wait_cn, is_connecting, is_ready, takes_data, is_major_due, is_acceptable, point_taken, minor_confirmed, major_confirmed, becomes, drops, next, Good, Item, Octets, Point, points, minor_kind, major_point, cutat, AreNumberedFrom, seen, is_plain, Fits, AllFit, stops, heard, view_next, heard_view, is_opening}
+use Rattle.osi_machine.proofs.Vocabulary.{State, Meaning, CN, AC, DT, GT, PT, MIP, MIA, MAP, MAA, RS, RA, FN, NF, is_wait_cn, is_connecting, is_ready, takes_data, is_major_due, is_acceptable, point_taken, minor_confirmed, major_confirmed, becomes, drops, next, Good, Item, Octets, Point, points, minor_kind, major_point, cutat, AreNumberedFrom, seen, is_plain, Fits, AllFit, stops, heard, view_next, heard_view, is_opening}
 use Rattle.osi_machine.proofs.PhaseLaws.{implied, excluded, by_test}
 use Rattle.osi_machine.proofs.Units.{next_acted, chosen}
 use Rattle.osi_machine.proofs.NumberLaws.{Turned, heard_turned}

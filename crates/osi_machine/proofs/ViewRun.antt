@@ -1,7 +1,7 @@
 -- Over every list of steps of the core, the records of both sides tell what each has seen.
 use Rattle.std.proofs.Common.{◌≡◌, refl, sym, ◌∙◌, ap, subst, ℕ, Bool, true, false, not, if◌then◌else◌, List, [], ◌∷◌, ◌++◌, map, Option, Some, None, Ok, Err, arith}
 use Rattle.osi_machine.specs.Core.{turned, called}
-use Rattle.osi_machine.proofs.Vocabulary.{AllByRecursion, Shown, CallError, State, Call, Granted, Answer, Outcome, Meaning, is_over, nothing, good, drops, allowed, respond_unit, Item, Agree, is_acted_on, seen, got_in, AllFit, Core, CoreStep, call_at, take_at, Side, Left, Right, Offer, stays_in_core, view_called, speaks, answered, taking, takes, core_step, core_run, core_start, IsNumberedStep, Entry, call_answered, shown_at, error_of, Told, told_call, told_shown, told_entry, told_by, is_of, record_of, untold, call_entries, take_entries, core_entries, core_journal, left_told, right_told, AreTold}
+use Rattle.osi_machine.proofs.Vocabulary.{AllByRecursion, Shown, CallError, State, Call, Granted, Answer, Outcome, Meaning, is_over, nothing, good, drops, allowed, respond_unit, Agree, is_acted_on, seen, got_in, AllFit, Core, CoreStep, call_at, take_at, Side, Left, Right, Offer, stays_in_core, view_called, speaks, answered, taking, takes, core_step, core_run, core_start, IsNumberedStep, Entry, call_answered, shown_at, error_of, Told, told_call, told_shown, told_entry, told_by, is_of, record_of, untold, call_entries, take_entries, core_entries, core_journal, left_told, right_told, AreTold}
 use Rattle.osi_machine.proofs.CoreLaws.{SessionLaws}
 use Rattle.osi_machine.proofs.Records.{Stands}
 use Rattle.osi_machine.proofs.Alive.{alive}
@@ -104,8 +104,7 @@ taken_tells w (u ∷ us) t e s h shown k =
     (unit_tells t w.own.session u w.own.view w.own.said w.own.got f.0.plain (f.0.good d) (λ o. let z = s.consistent.own.fresh o in (z.view, z.said, z.got)) h))))
 
 taken_peer : (w : Core) (us : List Meaning) (t : Told) → Tells t w.peer.session w.peer.view w.peer.said w.peer.got → Tells t (taking w us).peer.session (taking w us).peer.view (taking w us).peer.said (taking w us).peer.got
-taken_peer w [] t h = h
-taken_peer w (u ∷ us) t h = h
+taken_peer w us t h = grind arith
 
 -- ---- a step
 

@@ -1,6 +1,6 @@
 -- A connection of the machine, at every step: it was asked for and not yet agreed to, or one of which nothing
 -- is lost repeats it; and what the records of both sides tell.
-use Rattle.std.proofs.Common.{◌≡◌, refl, sym, ◌∙◌, subst, ℕ, Bool, true, false, List, [], ◌∷◌, ◌⊎◌, inl, inr, Ok, Err, arith}
+use Rattle.std.proofs.Common.{◌≡◌, refl, sym, ◌∙◌, subst, ℕ, Bool, true, false, List, [], ◌∷◌, ◌⊎◌, inl, inr, arith}
 use Rattle.osi_machine.proofs.Vocabulary.{Call, HasSerial, Answer, allowed, is_profile, Offer, CanBeOffered, Left, Right, Message, Transport, World, session_of, asked_with, after_answer, Terms, message_taken, closed, ended_at, shown_at_end, turned, error_of, without_first, Told, untold}
 use Rattle.osi_machine.proofs.CoreLaws.{SessionLaws}
 use Rattle.osi_machine.proofs.Dispatch.{turned_twice}
@@ -34,12 +34,10 @@ turned_stage b w s t (inr (inr h)) = inr (inr (turned_repeats b w s t h))
 -- ---- a call
 
 same_told : (s : Told) (c : Call) (a : Answer) → told_answer s c a ≡ told_of_call s c (error_of a)
-same_told s c (Ok g) = refl
-same_told s c (Err e) = refl
+same_told s c a = grind arith
 
 pub call_offer : (b : Bool) (c : Call) (w : World) (a : Answer) → (after_answer b c w a).offer ≡ w.offer
-call_offer b c w (Ok g) = refl
-call_offer b c w (Err e) = refl
+call_offer b c w a = grind arith
 
 refused_stage : (b : Bool) (w : World) (s t : Told) (c : Call) → Refuses (session_of w) c → Stage b w s t
     → Stage b (after_answer b c w (allowed (session_of w) c)) (told_of_call s c (error_of (allowed (session_of w) c))) t
