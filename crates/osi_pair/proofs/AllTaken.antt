@@ -4,14 +4,12 @@ use Rattle.osi_tpdu.specs.Writing.{written}
 use Rattle.osi_carrier.proofs.Coming.{unit_packet}
 use Rattle.osi_carrier.specs.Coming.{IsSendable}
 use Rattle.osi_between.specs.Messages as carrier
-use Rattle.osi_session.specs.declared.state.State.{State as Session}
-use Rattle.osi_class.specs.Link.{Standing}
 use Rattle.osi_machine.specs.Core as machine
 use Rattle.osi_machine.specs.Floor.{Meaning}
 use Rattle.osi_machine.specs.Sayings.{units_in, is_parting, IsHeardAsSaid}
 use Rattle.osi_machine.specs.Worlds as worlds
 use Rattle.osi_pair.specs.Promises.{sent_by, kept_at as kept_by}
-use Rattle.osi_pair.proofs.Vocabulary.{append-nil, AllByRecursion, completed_partial, partial_not_whole, IsPartial, packet_of, Value, begun_by, kept_in, link_of, was_given, place_at, value_at, Connection, State, asked, linked, closing, packets, Both, Between, AreBetween, IsOnTheWay, AreJoinedBy, arriving, reach_of, within_reach, last_of, lost_from, units_from, under_way, IsStill, IsAllThere, is_cut, progress_of, Progress, Terms, terms_of, Step, side_of, turned, Message, Listener, kept_at, session_at, joined_of, joined_in, End, TwoEnds, end_at, taken_by, AreTakenInOrder, AreAtRest, IsOpenAt, begun_of, kept_of, IsAllTaken, HoldLess, other, terms_in, is_caller, transport_in, carriers_of, AreAlike, HasLine, StandsAt, AreUnderWay, word_in, HasJoined, IsInOrder, Reach, Side, Left, Right, EndReason, Word, joins, left_of, IsJoinedAs, joined_octets, may_hold, joined_holds, implied, needs_link, is_open, given_live}
+use Rattle.osi_pair.proofs.Vocabulary.{append-nil, AllByRecursion, completed_partial, partial_not_whole, IsPartial, packet_of, Value, begun_by, kept_in, link_of, was_given, place_at, value_at, Connection, State, asked, linked, closing, packets, Both, Between, AreBetween, IsOnTheWay, AreJoinedBy, arriving, reach_of, within_reach, last_of, lost_from, units_from, under_way, IsStill, IsAllThere, is_cut, progress_of, Progress, Terms, terms_of, Step, side_of, turned, Message, Listener, kept_at, session_at, joined_of, joined_in, End, TwoEnds, end_at, taken_by, AreTakenInOrder, AreAtRest, IsOpenAt, begun_of, kept_of, IsAllTaken, HoldLess, other, terms_in, is_caller, transport_in, carriers_of, AreAlike, HasLine, StandsAt, AreUnderWay, word_in, HasJoined, IsInOrder, Reach, Side, Left, Right, EndReason, Word, joins, left_of, IsJoinedAs, joined_octets, may_hold, joined_holds, implied, needs_link, is_open, given_live, SessionState as Session, Link as Standing}
 use Rattle.osi_pair.proofs.NothingKept.{open_there, open_here, none_begun, none_joined as all_none_joined}
 use Rattle.osi_pair.proofs.StandingFinish.{order_of}
 use Rattle.osi_pair.proofs.StandingPromises.{tables_at, line_at, outside_by, within}

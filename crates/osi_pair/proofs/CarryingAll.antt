@@ -1,8 +1,7 @@
 -- At two ends that stand at a list of steps no indication waits, and so nothing holds up a carry.
 use Rattle.std.proofs.Common.{◌≡◌, ◌∙◌, ℕ, Bool, false, not, ◌||◌, ◌==◌, List, [], ◌∷◌, ◌++◌, map, length, min, refl, ap, subst}
-use Rattle.osi_stack.specs.State.{Line}
 use Rattle.osi_pair.specs.declared.events.Event.TheVariants.{Call}
-use Rattle.osi_pair.proofs.Vocabulary.{Rows, Shown, waits, TwoEnds, end_at, reachable, Moves, CarriesAsMuch, CarriesWhereQuiet, IsReached, other, waiting_in, Applied, Event, Connect, Carry, Break, Told, Side, Left, Right}
+use Rattle.osi_pair.proofs.Vocabulary.{Rows, Shown, waits, TwoEnds, end_at, reachable, Moves, CarriesAsMuch, CarriesWhereQuiet, IsReached, other, waiting_in, Applied, Event, Connect, Carry, Break, Told, Side, Left, Right, EndLine as Line}
 use Rattle.osi_pair.proofs.StandingPackets.{still_waits}
 
 quiet_at : (side : Side) (p : TwoEnds) → IsReached p → waits (end_at side p).end.lines ≡ false
@@ -12,7 +11,4 @@ quiet_at Right p is = still_waits p.right.end.lines is.stands.stands.quiet_right
 pub carries_as_much : (event : Event) (p : TwoEnds) (applied : Applied) → IsReached p → CarriesWhereQuiet event p applied → CarriesAsMuch event p applied
 carries_as_much (Carry side most) p applied is h =
     subst (λ (b : Bool). Moves b (min most (reachable side p)) applied) (ap not (quiet_at (other side) p is)) h
-carries_as_much (Connect asked) p applied is h = h
-carries_as_much (Call side reference request) p applied is h = h
-carries_as_much (Break left right) p applied is h = h
-carries_as_much (Told side) p applied is h = h
+carries_as_much event p applied is h = h

@@ -1,10 +1,9 @@
 -- Between two events each end holds less than a packet.
 use Rattle.std.proofs.Common.{◌≡◌, ◌∙◌, ℕ, Bool, true, false, ◌||◌, List, [], ◌∷◌, take, Option, Some, None, is_some, IsSome, inl, inr, refl, sym, ap, subst}
 use Rattle.osi_stack.specs.Feeding.{Goes}
-use Rattle.osi_stack.specs.declared.connecting.Connect.{Connect as Wanted}
 use Rattle.osi_tpkt.specs.declared.cutting.Fed.{Fed}
 use Rattle.osi_pair.specs.declared.events.Event.TheVariants.{Call}
-use Rattle.osi_pair.proofs.Vocabulary.{Local, EndReason, Call as Asked, called_by, CallError, connect_error, call_error, Feeds, Holding, waits, ConnectError, empty_partial, IsPartial, Crossing, CarriesPieces, crossing, TwoEnds, fresh_ends, end_at, connected_by, called_by_error, after_connect, after_call, after_break, Entry, Does, IsToldOfBreak, HoldLess, other, Event, Connect, Carry, Break, Told, Side, Left, Right}
+use Rattle.osi_pair.proofs.Vocabulary.{Local, EndReason, Call as Asked, called_by, CallError, connect_error, call_error, Feeds, Holding, waits, ConnectError, empty_partial, IsPartial, Crossing, CarriesPieces, crossing, TwoEnds, fresh_ends, end_at, connected_by, called_by_error, after_connect, after_call, after_break, Entry, Does, IsToldOfBreak, HoldLess, other, Event, Connect, Carry, Break, Told, Side, Left, Right, ConnectCall as Wanted}
 
 -- an end holds less than a packet
 abbrev pub HoldsLess : Holding → Type 0

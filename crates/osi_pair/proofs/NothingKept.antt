@@ -1,12 +1,11 @@
 -- Where nothing is on the way between two ends, a connection that is open at one is open at the other, and
 -- nothing of what came is kept.
 use Rattle.std.proofs.Common.{◌≡◌, refl, sym, ◌∙◌, ap, subst, ℕ, ◌+◌, Bool, true, false, ◌==◌, nat_lt, if◌then◌else◌, List, [], ◌∷◌, ◌++◌, length, Option, Some, None, is_some, arith}
-use Rattle.osi_class.specs.Link.{Standing}
 use Rattle.osi_between.proofs.Refusals.{none_open}
 use Rattle.osi_between.proofs.ZeroLaws.{at_one, not_here, not_asked}
 use Rattle.osi_between.specs.Zero as zero
-use Rattle.osi_stack.specs.State.{Line}
-use Rattle.osi_pair.proofs.Vocabulary.{eqb-true, eq-eqb, sum_by-cons, Value, swapped, Local, absent, begun_by, kept_in, Place, never, was_given, place_at, RiseFrom, Rows, value_at, Connection, State, linked, given_live, within_given, AreJoinedBy, Course, unasked, asking, accepting, withdrawing, met, at_end, from_end, talking, left_here, left_there, left_both, waiting_here, waiting_there, parted, Terms, by_two, by_zero, refusing, joined_octets, Listener, kept_at, session_in, joined_of, joined_live, joined_in}
+use Rattle.osi_stack.proofs.Opened.{first_here}
+use Rattle.osi_pair.proofs.Vocabulary.{eqb-true, eq-eqb, sum_by-cons, Value, swapped, Local, absent, begun_by, kept_in, Place, never, was_given, place_at, RiseFrom, Rows, value_at, Connection, State, linked, given_live, within_given, AreJoinedBy, Course, unasked, asking, accepting, withdrawing, met, at_end, from_end, talking, left_here, left_there, left_both, waiting_here, waiting_there, parted, Terms, by_two, by_zero, refusing, joined_octets, Listener, kept_at, session_in, joined_of, joined_live, joined_in, Link as Standing, EndLine as Line, kept_first}
 
 -- ---- a connection that is open at one end
 
@@ -27,30 +26,14 @@ last_there (v ∷ us) u e = cc
 
 -- class 2: at the called end, and at the caller
 linked_there : (n p : ℕ) (x : Standing) (called : Local) (g : Course) → at_end true n g ≡ was_given (Some (linked p x)) → from_end false n called g ≡ [] → IsLinked (at_end false n g)
-linked_there n p x called unasked a back = absurd (cc)
-linked_there n p x called (asking c) a back = absurd (cc)
-linked_there n p x called (accepting c l) a back = absurd (cc)
-linked_there n p x called (withdrawing c l reason) a back = absurd (cc)
 linked_there n p x called (met (talking l)) a back = record { peer = n; link = (swapped l).left; is = refl }
-linked_there n p x called (met (left_here l us reason)) a back = absurd (cc)
 linked_there n p x called (met (left_there l us reason)) a back = absurd (last_there _ _ back)
-linked_there n p x called (met (left_both us reason vs last)) a back = absurd (cc)
-linked_there n p x called (met (waiting_here us last)) a back = absurd (cc)
-linked_there n p x called (met (waiting_there us last)) a back = absurd (cc)
-linked_there n p x called (met parted) a back = absurd (cc)
+linked_there n p x called g a back = absurd (cc)
 
 linked_here : (n p : ℕ) (x : Standing) (called : Local) (g : Course) → at_end false n g ≡ was_given (Some (linked p x)) → from_end true n called g ≡ [] → from_end false n called g ≡ [] → IsLinked (at_end true n g)
-linked_here n p x called unasked a out back = absurd (cc)
-linked_here n p x called (asking c) a out back = absurd (cc)
-linked_here n p x called (accepting c l) a out back = absurd (cc)
-linked_here n p x called (withdrawing c l reason) a out back = absurd (cc)
 linked_here n p x called (met (talking l)) a out back = record { peer = n; link = l.left; is = refl }
 linked_here n p x called (met (left_here l us reason)) a out back = absurd (last_there _ _ out)
-linked_here n p x called (met (left_there l us reason)) a out back = absurd (cc)
-linked_here n p x called (met (left_both us reason vs last)) a out back = absurd (cc)
-linked_here n p x called (met (waiting_here us last)) a out back = absurd (cc)
-linked_here n p x called (met (waiting_there us last)) a out back = absurd (cc)
-linked_here n p x called (met parted) a out back = absurd (cc)
+linked_here n p x called g a out back = absurd (cc)
 
 at_place : (n : ℕ) (s : State) → IsLinked (place_at n s) → IsLinkedAt n s
 at_place n s l = grind arith
@@ -86,9 +69,6 @@ open_here (refusing reason) s r n p x j at = absurd (let no : None ≡ Some (lin
 
 -- ---- the octets of all connections
 
-row_there : (r : ℕ) (x : Connection) (rows : Rows Connection) → value_at r ((r, x) ∷ rows) ≡ Some x
-row_there r x rows = ap (λ (b : Bool). if b then Some x else value_at r rows) (eq-eqb r r refl)
-
 row_behind : (r q : ℕ) (x y : Connection) (rows : Rows Connection) → RiseFrom r rows → value_at q rows ≡ Some y → value_at q ((r, x) ∷ rows) ≡ Some y
 row_behind r q x y rows rise at = by (r == q) refl
   where
@@ -102,15 +82,12 @@ row_behind r q x y rows rise at = by (r == q) refl
 pub none_begun : (n : ℕ) (rows : Rows Connection) → RiseFrom n rows → ((r : ℕ) (x : Connection) → value_at r rows ≡ Some x → begun_by x ≡ 0) → kept_in rows ≡ 0
 none_begun n [] rise all = refl
 none_begun n ((r, x) ∷ rows) rise all =
-    let first : begun_by x ≡ 0 = all r x (row_there r x rows) in
+    let first : begun_by x ≡ 0 = all r x (first_here r x rows) in
     let rest : kept_in rows ≡ 0 = none_begun r rows rise.1 (λ q y at. all q y (row_behind r q x y rows rise.1 at)) in
     let sum : kept_in ((r, x) ∷ rows) ≡ begun_by x + kept_in rows = sum_by-cons (λ (row : ℕ × Connection). begun_by row.1) (r, x) rows in
     sum ∙ omega arith
 
 -- ---- the octets that sessions have joined
-
-there_by : (r : ℕ) (line : Line) (lines : Rows Line) → kept_at r ((r, line) ∷ lines) ≡ line.session
-there_by r line lines = ap (λ (b : Bool). session_in (if b then Some line else value_at r lines)) (eq-eqb r r refl)
 
 behind_by : (r q : ℕ) (line : Line) (lines : Rows Line) (l : Listener) → RiseFrom r lines → kept_at q lines ≡ Some l → kept_at q ((r, line) ∷ lines) ≡ Some l
 behind_by r q line lines l rise at = by (r == q) refl
@@ -129,7 +106,7 @@ pub none_joined : (n : ℕ) (live : Rows Connection) (lines : Rows Line) → Ris
     ((r : ℕ) (l : Listener) → is_some (value_at r live) ≡ true → kept_at r lines ≡ Some l → l.joined ≡ None) → joined_in live lines ≡ 0
 none_joined n live [] rise all = refl
 none_joined n live ((r, line) ∷ lines) rise all =
-    let first : joined_live live (r, line) ≡ 0 = none_of (is_some (value_at r live)) line.session (λ l lives is. all r l lives (there_by r line lines ∙ is)) in
+    let first : joined_live live (r, line) ≡ 0 = none_of (is_some (value_at r live)) line.session (λ l lives is. all r l lives (kept_first r line lines ∙ is)) in
     let rest : joined_in live lines ≡ 0 = none_joined r live lines rise.1 (λ q l lives at. all q l lives (behind_by r q line lines l rise.1 at)) in
     let sum : joined_in live ((r, line) ∷ lines) ≡ joined_live live (r, line) + joined_in live lines = sum_by-cons (λ (row : ℕ × Line). joined_live live row) (r, line) lines in
     sum ∙ omega arith

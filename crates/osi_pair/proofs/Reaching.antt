@@ -13,11 +13,10 @@ reached_told (Some reason) side p steps held s = reached_by p steps held s
 reached_told None side p steps held s = reached_by p _ held s.stands
 
 reached_after : (event : Event) (old new : TwoEnds) (steps : List Step) → HoldLess new → StandsAfter event old new steps → IsReached new
-reached_after (Connect asked) old new steps held s = reached_by new _ held s
-reached_after (Call side reference request) old new steps held s = reached_by new _ held s
 reached_after (Carry side most) old new steps held s = reached_by new _ held s.stands
 reached_after (Break left right) old new steps held s = reached_by new _ held s.stands
 reached_after (Told side) old new steps held s = reached_told (end_at side old).end.carrier.ended side new steps held s
+reached_after event old new steps held s = reached_by new _ held s
 
 pub reached_event : EventLaws → (event : Event) (old new : TwoEnds) (octets : ℕ) → CanHappen event → misfit event old ≡ None → Does event old octets new → IsReached old →
     IsReached new

@@ -1,16 +1,14 @@
 -- The carrier of an end acts for a connection that is open there: nothing is taken, and its session makes no
 -- move. How two ends stand then.
 use Rattle.std.proofs.Common.{◌≡◌, ◌≢◌, ℕ, ◌<◌, ◌≤◌, Bool, true, false, nat_lt, if◌then◌else◌, List, [], ◌++◌, length, Option, Some, None, option_map, refl, sym, ap, subst, ◌∙◌, arith, not}
-use Rattle.osi_carrier.specs.Rows.{put}
 use Rattle.osi_between.specs.Messages as carrier
-use Rattle.osi_pair.proofs.Vocabulary.{nat_tests, append-nil, Place, never, was_given, place_at, connection_in, IsOrderly, value_at, Connection, State, beyond, put_here, put_other, Between, AreBetween, Carries, last_of, under_way, put_in, is_cut, Acted, becomes, side, progress_of, AreLike, Progress, in_use, progress_in, leaves_use, connection_at, Line, Tables, seen_from, stays, Message, with_same, with_other, with_count, none_there, with_carrier, End, Holding, TwoEnds, end_at, Entry, other, side_in, is_caller, class_in, carriers_of, IsSeated, IsInOrder, Stands, Goes, HasJoined, Side, Left, Right, given_live, Held, Terms, waiting_in}
+use Rattle.osi_pair.proofs.Vocabulary.{nat_tests, append-nil, Place, never, was_given, place_at, connection_in, IsOrderly, value_at, Connection, State, beyond, put_here, put_other, Between, AreBetween, Carries, last_of, under_way, put_in, is_cut, Acted, becomes, side, progress_of, AreLike, Progress, in_use, progress_in, leaves_use, connection_at, Line, Tables, seen_from, stays, Message, with_same, with_other, with_count, none_there, with_carrier, End, Holding, TwoEnds, end_at, Entry, other, side_in, is_caller, class_in, carriers_of, IsSeated, IsInOrder, Stands, Goes, HasJoined, Side, Left, Right, given_live, Held, Terms, waiting_in, put_row as put, SessionState}
 use Rattle.osi_pair.proofs.StandingActs.{StandsOn, there, of_end}
 use Rattle.osi_pair.proofs.StandingFinish.{terms_at, order_of, was_at, GivenAfter}
 use Rattle.osi_pair.proofs.StandingSeats.{transport_by, HasSession, place_by, session_of_seat, seat_of_session}
 use Rattle.osi_pair.proofs.StandingTurned.{IsSeen, seen, seen_twice, with_holding, holding_here, holding_there, Others, LinesAfter, Turned, turned_pair, turned_stands, out_there, back_here, GoesTo, still_there}
 use Rattle.osi_pair.proofs.StandingWays.{shuts, back_waits}
 use Rattle.osi_pair.proofs.StandingCut.{end_back}
-use Rattle.osi_session.specs.declared.state.State.{State as SessionState}
 
 -- ---- the carrier
 

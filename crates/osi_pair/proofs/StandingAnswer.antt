@@ -25,9 +25,6 @@ ended_refuses s call e = grind arith
 
 -- ---- a reference
 
-not_given : (r : ℕ) (c : Carrier) → c.given < r → has_given r c ≡ false
-not_given r c h = grind arith
-
 was_there : (r : ℕ) (c : Carrier) → 0 < r → r ≤ c.given → has_given r c ≡ true
 was_there r c some h = ap (λ (b : Bool). b && nat_le r c.given) (lt-ltb 0 r some) ∙ le-leb r c.given h
 

@@ -4,8 +4,7 @@ use Rattle.std.proofs.Common.{◌≡◌, ℕ, Bool, true, false, if◌then◌els
 use Rattle.osi_carrier.specs.Packets as carriers
 use Rattle.osi_carrier.specs.React.{react as carrier_react}
 use Rattle.osi_machine.specs.Worlds as worlds
-use Rattle.osi_session.specs.declared.state.State.{State}
-use Rattle.osi_pair.proofs.Vocabulary.{Held, Place, never, was_given, place_at, asked, linked, closing, reference_of, Between, last_of, progress_of, in_use, Terms, by_two, by_zero, refusing, class_of, learns, Tables, Message, Transport, unit, ask, agree, deny, bye, over, accepts, Meaning, said_of, Input, opened, refused, taken, broken, Standing, begun, denied, rests, react, after_input, is_wait_transport, is_ended, Outcome, respond, respond_unit, after_packet, IsSound, TwoEnds, end_at, is_caller, class_in, terms_in, carriers_of, Stands, Side, Left, Right}
+use Rattle.osi_pair.proofs.Vocabulary.{Held, Place, never, was_given, place_at, asked, linked, closing, reference_of, Between, last_of, progress_of, in_use, Terms, by_two, by_zero, refusing, class_of, learns, Tables, Message, Transport, unit, ask, agree, deny, bye, over, accepts, Meaning, said_of, Input, opened, refused, taken, broken, Standing, begun, denied, rests, react, after_input, is_wait_transport, is_ended, Outcome, respond, respond_unit, after_packet, IsSound, TwoEnds, end_at, is_caller, class_in, terms_in, carriers_of, Stands, Side, Left, Right, SessionState as State}
 use Rattle.osi_pair.proofs.StandingAnswers.{answered_shown, closed_shown, silent_shown}
 use Rattle.osi_pair.proofs.StandingArrived.{PacketActs}
 use Rattle.osi_pair.proofs.StandingArriving.{is_linked}
@@ -65,23 +64,13 @@ no_close b e f = cc
 
 tells_alone : AnswerLaws → (octets : List ℕ) (m : Message) (x : Standing) → (react x (heard_by (tells octets) m)).closes ≡ true → ClosesAlone (tells octets) m x
 tells_alone laws octets (unit u) x h = record { reply = taken_alone laws x u h; used = refl }
-tells_alone laws octets ask x h = absurd (no_close _ (broken_stays x) h)
-tells_alone laws octets agree x h = absurd (no_close _ (broken_stays x) h)
-tells_alone laws octets (deny reason) x h = absurd (no_close _ (broken_stays x) h)
-tells_alone laws octets (bye reason) x h = absurd (no_close _ (broken_stays x) h)
-tells_alone laws octets over x h = absurd (no_close _ (broken_stays x) h)
+tells_alone laws octets m x h = absurd (no_close _ (broken_stays x) h)
 
 pub closes_alone : AnswerLaws → (row : Row) (m : Message) (x : Standing) → is_move row ≡ true → (react x (heard_by row m)).closes ≡ true → ClosesAlone row m x
 closes_alone laws (tells octets) m x is h = tells_alone laws octets m x h
 closes_alone laws agrees m x is h = absurd (no_close _ (opened_stays x) h)
 closes_alone laws (denies reason) m x is h = absurd (no_close _ (refused_stays x reason) h)
-closes_alone laws quiet m x is h = cc
-closes_alone laws still m x is h = cc
-closes_alone laws begins m x is h = cc
-closes_alone laws (refuses reason) m x is h = cc
-closes_alone laws (leaves reason) m x is h = cc
-closes_alone laws (ignores octets) m x is h = cc
-closes_alone laws (ends last) m x is h = cc
+closes_alone laws row m x is h = cc
 
 -- ---- the class is known
 

@@ -1,13 +1,11 @@
 -- A session moved, and sends a unit, or closes its connection of class 2: how two ends stand when that was done,
 -- and its user was shown what the move shows.
 use Rattle.std.proofs.Common.{◌≡◌, ℕ, ◌≤◌, zero, suc, Bool, true, false, if◌then◌else◌, List, [], ◌∷◌, ◌++◌, length, map, Option, Some, None, refl, sym, ap, subst, ◌∙◌, ◌⊎◌, inl, inr, arith}
-use Rattle.osi_class.specs.Link.{Standing as Link}
 use Rattle.osi_machine.specs.Core as machine
 use Rattle.osi_machine.specs.Machine as entries
 use Rattle.osi_machine.specs.Tables.{closed, noted as noted_in}
 use Rattle.osi_machine.specs.Worlds as worlds
-use Rattle.osi_stack.specs.State.{Line}
-use Rattle.osi_pair.proofs.Vocabulary.{append-nil, Held, open_link, sent, sent_on, closes, closed_on, closed_with, AreUpTo, Rows, State as Carrier, EndReason, in_use, gone, by_two, Class, Zero, Two, connection_at, delivers, shown_at, replaced, with_connection, Line as TableLine, Turn, Tables, seen_from, stays, puts, closes_by, after_turn, step, Message, unit, put, replied, Meaning, tsdus_sent, written, is_ended, Shown, after_packet, concludes, with_carrier, IsSound, kept_at, answers, End, Holding, answers_by, hands_none, handed, sent_by_itself, TwoEnds, end_at, Entry, side_in, IsInOrder, Stands, waiting_in, quieted, shown_entries, end_entries, told_entries, Side, Left, Right}
+use Rattle.osi_pair.proofs.Vocabulary.{append-nil, Held, open_link, sent, sent_on, closes, closed_on, closed_with, AreUpTo, Rows, State as Carrier, EndReason, in_use, gone, by_two, Class, Zero, Two, connection_at, delivers, shown_at, replaced, with_connection, Line as TableLine, Turn, Tables, seen_from, stays, puts, closes_by, after_turn, step, Message, unit, put, replied, Meaning, tsdus_sent, written, is_ended, Shown, after_packet, concludes, with_carrier, IsSound, kept_at, answers, End, Holding, answers_by, hands_none, handed, sent_by_itself, TwoEnds, end_at, Entry, side_in, IsInOrder, Stands, waiting_in, quieted, shown_entries, end_entries, told_entries, Side, Left, Right, Link, EndLine as Line, quieted_at}
 use Rattle.osi_pair.proofs.StandingActs.{StandsOn}
 use Rattle.osi_pair.proofs.StandingArrived.{CarrierLaws}
 use Rattle.osi_pair.proofs.StandingCall.{put_nothing}
@@ -18,7 +16,6 @@ use Rattle.osi_pair.proofs.StandingListens.{as_made}
 use Rattle.osi_pair.proofs.StandingMoved.{Moving, move_of, loud_lines, moved_end, IsLinkedAt, known_by, moved_line, turn_of, moved_tables, HasMoved}
 use Rattle.osi_pair.proofs.StandingMoves.{is_move}
 use Rattle.osi_pair.proofs.StandingPacket.{terms_then}
-use Rattle.osi_pair.proofs.StandingQuiet.{quiet_kept}
 use Rattle.osi_pair.proofs.StandingRests.{open_by}
 use Rattle.osi_pair.proofs.StandingRows.{Row, quiet, still, begins, refuses, agrees, denies, tells, leaves, ignores, ends, after}
 use Rattle.osi_pair.proofs.StandingCall.{open_is}
@@ -49,7 +46,7 @@ shown_is Right p e h n shown c lines lasts waits =
 
 -- it is in order, as it was where it has the connections that its sessions need
 order_then : (e : End) (c : Carrier) (lines : Rows Line) → e.lines ≡ quieted lines → c.ended ≡ None → c.given ≡ e.carrier.given → c.events ≡ e.carrier.events → IsInOrder e → IsSound (answered_end c lines) → IsInOrder (with_carrier c e)
-order_then e c lines same lasts given events was sound = grind (arith, quiet_kept)
+order_then e c lines same lasts given events was sound = grind (arith, quieted_at)
 
 sent_events : (n : ℕ) (tsdu : List ℕ) (c : Carrier) (peer : ℕ) (link : Link) → open_link n c ≡ Some (peer, link) → (sent n tsdu c).events ≡ c.events
 sent_events n tsdu c peer link is = ap (λ (o : Option (ℕ × Link)). (sent_on n tsdu o c).events) is

@@ -2,13 +2,12 @@
 -- then.
 use Rattle.std.proofs.Common.{◌≡◌, ◌≢◌, ℕ, ◌+◌, ◌<◌, Bool, true, false, not, List, [], ◌∷◌, ◌++◌, Some, None, refl, sym, ap, subst, ◌∙◌, arith}
 use Rattle.osi_tpdu.specs.Writing.{written}
-use Rattle.osi_class.specs.Link.{Standing}
 use Rattle.osi_carrier.specs.Coming.{IsSendable}
 use Rattle.osi_carrier.specs.Packets.{after_packet}
 use Rattle.osi_carrier.specs.React.{react}
 use Rattle.osi_carrier.specs.State.{ends}
 use Rattle.osi_between.specs.Messages.{Message, bye}
-use Rattle.osi_pair.proofs.Vocabulary.{flat_map, AllByRecursion, IsOctets, IsPacket, Value, IsShortTsdu, sent, closed_with, place_at, connection_in, Happening, value_at, State, linked, Closed, reference_of, Both, side, Between, last_of, units_from, AreBetween, under_way, told_of, answers_in, put_in, Acted, becomes, Took, Same, still_to_tell, progress_of, message, AreLike, behind_arrivals, behind_puts, leaves_use, may_arrive, references_for, class_behind_all, Terms, by_two, by_zero, accepts_in, class_of}
+use Rattle.osi_pair.proofs.Vocabulary.{flat_map, AllByRecursion, IsOctets, IsPacket, Value, IsShortTsdu, sent, closed_with, place_at, connection_in, Happening, value_at, State, linked, Closed, reference_of, Both, side, Between, last_of, units_from, AreBetween, under_way, told_of, answers_in, put_in, Acted, becomes, Took, Same, still_to_tell, progress_of, message, AreLike, behind_arrivals, behind_puts, leaves_use, may_arrive, references_for, class_behind_all, Terms, by_two, by_zero, accepts_in, class_of, Link as Standing}
 use Rattle.osi_pair.proofs.StandingArriving.{IsFirstFor, first_for}
 use Rattle.osi_pair.proofs.StandingRows.{Row, before, after, arrived_in, put_for, told_for, is_row, row_of, row_after}
 

@@ -111,21 +111,18 @@ confirm_comes : (c : Connect) (n : ℕ) (u : Value) → confirm n c ≡ u → co
 confirm_comes c n u e = subst (λ (x : Value). comes_asked true x ≡ true) e refl
 
 to_caller : (n : ℕ) (caller called : State) (g : Course) (u : Value) (vs : List Value) → 0 < n → Holds n caller called g → from_end false n called.local g ≡ u ∷ vs → ComesBy true n caller g (at_end true n g) u
-to_caller n caller called unasked u vs some h e = none_first u vs e
-to_caller n caller called (asking c) u vs some h e = none_first u vs e
 to_caller n caller called (accepting c p) u vs some h e = record { may = confirm_comes _ n u (first_is _ u _ vs e); class = λ x. cc; given = λ x. cc; waits = λ x. refl }
 to_caller n caller called (withdrawing c p reason) u vs some h e = record { may = confirm_comes _ n u (first_is _ u _ vs e); class = λ x. cc; given = λ x. cc; waits = λ x. refl }
 to_caller n caller called (met m) u vs some h e = record { may = met_comes n m u vs some e; class = λ x. h.class; given = λ x. cc; waits = λ x. refl }
+to_caller n caller called g u vs some h e = none_first u vs e
 
 request_comes : (c : Connect) (u : Value) → request c ≡ u → comes_new u ≡ true
 request_comes c u e = subst (λ (x : Value). comes_new x ≡ true) e refl
 
 to_called : (n : ℕ) (caller called : State) (g : Course) (u : Value) (vs : List Value) → 0 < n → Holds n caller called g → from_end true n called.local g ≡ u ∷ vs → ComesBy false n caller g (at_end false n g) u
-to_called n caller called unasked u vs some h e = none_first u vs e
 to_called n caller called (asking c) u vs some h e = record { may = request_comes c u (first_is (request c) u [] vs e); class = λ x. cc; given = λ x. cc; waits = λ x. cc }
-to_called n caller called (accepting c p) u vs some h e = none_first u vs e
-to_called n caller called (withdrawing c p reason) u vs some h e = none_first u vs e
 to_called n caller called (met m) u vs some h e = record { may = met_back n m u vs some e; class = λ x. h.class; given = λ x. cc; waits = λ x. not_asked (was_given (here n (mirror m))) (met_asked n (mirror m)) x }
+to_called n caller called g u vs some h e = none_first u vs e
 
 given_by : (n given : ℕ) (o : Option Connection) (b : Bool) → nat_lt given n ≡ b → ((if nat_lt given n then never else was_given o) ≡ never → ⊥) → n ≤ given
 given_by n given o b e none = grind arith
@@ -175,19 +172,17 @@ one_first (g ∷ gs) u vs e = one_unit u (unit_of 1 g) (first_is (unit_of 1 g) u
 
 zero_to_caller : (caller called : Local) (g : ZeroCourse) (u : Value) (vs : List Value) → zero_class.Holds caller called g → zero_class.from_end false called g ≡ u ∷ vs →
     ZeroBy true (zero_class.at_end true g) (zero_class.at_end true g) u
-zero_to_caller caller called zero_class.unasked u vs h e = none_first u vs e
-zero_to_caller caller called (zero_class.asking c) u vs h e = none_first u vs e
 zero_to_caller caller called (zero_class.accepting c p) u vs h e =
     record { first = one_unit u (confirm 1 _) (first_is _ u _ vs e) refl; may = confirm_comes _ 1 u (first_is _ u _ vs e); class = λ x. cc; given = refl; waits = λ x. refl }
 zero_to_caller caller called (zero_class.talking p) u vs h e = record { first = one_first p.leftward u vs e; may = open_first 1 p.leftward u vs e; class = λ x. refl; given = refl; waits = λ x. refl }
+zero_to_caller caller called g u vs h e = none_first u vs e
 
 zero_to_called : (caller called : Local) (g : ZeroCourse) (u : Value) (vs : List Value) → zero_class.Holds caller called g → zero_class.from_end true called g ≡ u ∷ vs →
     ZeroBy false (zero_class.at_end true g) (zero_class.at_end false g) u
-zero_to_called caller called zero_class.unasked u vs h e = none_first u vs e
 zero_to_called caller called (zero_class.asking c) u vs h e =
     record { first = one_unit u (request c) (first_is (request c) u [] vs e) (source_is 1 caller c h); may = request_comes c u (first_is (request c) u [] vs e); class = λ x. cc; given = refl; waits = λ x. cc }
-zero_to_called caller called (zero_class.accepting c p) u vs h e = none_first u vs e
 zero_to_called caller called (zero_class.talking p) u vs h e = record { first = one_first p.rightward u vs e; may = open_first 1 p.rightward u vs e; class = λ x. refl; given = refl; waits = λ x. cc }
+zero_to_called caller called g u vs h e = none_first u vs e
 
 place_by : (n : ℕ) (s : State) (given : ℕ) (live : Rows Connection) → s.given ≡ given → s.live ≡ live → place_at n s ≡ (if nat_lt given n then never else was_given (value_at n live))
 place_by n s given live e f = grind arith
@@ -211,9 +206,8 @@ refusing_to_caller reason caller stage u vs h l e = grind arith
 
 refusing_to_called : (reason : ℕ) (caller called : State) (stage : Refusal) (u : Value) (vs : List Value) → refusal.Holds caller stage → called.given ≡ 0 →
     refusal.from_end true reason caller.given stage ≡ u ∷ vs → IsFirstFor (refusing reason) false caller (place_at (reference_of u) called) u
-refusing_to_called reason caller called refusal.unasked u vs h zero_given e = none_first u vs e
 refusing_to_called reason caller called (refusal.asking c) u vs h zero_given e = grind (arith, first_is, source_is, never_at, request_comes, not_asked)
-refusing_to_called reason caller called refusal.denied u vs h zero_given e = none_first u vs e
+refusing_to_called reason caller called stage u vs h zero_given e = none_first u vs e
 
 -- ---- at either end
 

@@ -2,16 +2,13 @@
 use Rattle.std.proofs.Common.{◌≡◌, ◌≢◌, ℕ, ◌<◌, ◌≤◌, Bool, true, false, if◌then◌else◌, List, [], ◌∷◌, ◌++◌, map, Option, Some, None, is_some, nat_lt, refl, sym, ap, subst, ◌∙◌, inl, inr, arith}
 use Rattle.osi_between.specs.Messages as carrier
 use Rattle.osi_machine.specs.Tables as tables
-use Rattle.osi_session.specs.Sessions.{awaits}
-use Rattle.osi_stack.specs.State.{Line}
-use Rattle.osi_pair.proofs.Vocabulary.{nat_tests, Held, Value, Place, never, was_given, place_at, Rows, value_at, Connection, State, asked, linked, closing, push_here, beyond, push_other, reference_of, Between, progress_of, not_yet, in_use, leaves_use, delivers, learns, Tables, seen_from, end_of, step, unseen, Listener, Standing, AreApart, told_all, kept_at, session_in, is_used, used_lines, fresh_line, used_by, used_at, Stays, apart_push, used_live, TwoEnds, end_at, side_in, is_caller, carriers_of, message_in, Stands, waiting_in, Side, after_message, StaysCalm, kind_of, Message, unit, ask, agree, deny, bye, over}
+use Rattle.osi_pair.proofs.Vocabulary.{nat_tests, Held, Value, Place, never, was_given, place_at, Rows, value_at, Connection, State, asked, linked, closing, push_here, beyond, push_other, reference_of, Between, progress_of, not_yet, in_use, leaves_use, delivers, learns, Tables, seen_from, end_of, step, unseen, Listener, Standing, AreApart, told_all, kept_at, session_in, is_used, used_lines, fresh_line, used_by, used_at, Stays, apart_push, used_live, TwoEnds, end_at, side_in, is_caller, carriers_of, message_in, Stands, waiting_in, Side, after_message, StaysCalm, kind_of, Message, unit, ask, agree, deny, bye, over, awaits_cn as awaits, EndLine as Line, SessionState}
 use Rattle.osi_pair.proofs.StandingArrived.{PacketActs}
 use Rattle.osi_pair.proofs.StandingFinish.{terms_at, DidAt, TablesAfter, line_then, is_agree, last_is, order_of, finish, known_then, was_at}
 use Rattle.osi_pair.proofs.StandingRests.{step_opens, tables_delivered, is_awaited, learns_row, rests, turn_rests, sends_then}
 use Rattle.osi_pair.proofs.StandingResting.{acted_end, line_at, EndThen, NextFor, transport_before, out_row, back_alone, back_then}
 use Rattle.osi_pair.proofs.StandingRows.{Row, begins, before, after, arrived_in}
 use Rattle.osi_pair.proofs.StandingSeats.{transport_by, lives_in, live_there, HasSession}
-use Rattle.osi_session.specs.declared.state.State.{State as SessionState}
 use Rattle.osi_pair.proofs.StandingQuiet.{none_first, none_second}
 
 -- ---- lines with a new one, of which those are dropped that are of no use

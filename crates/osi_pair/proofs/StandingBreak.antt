@@ -2,8 +2,7 @@
 use Rattle.std.proofs.Common.{◌≡◌, refl, sym, ◌∙◌, ap, subst, ℕ, zero, suc, ◌+◌, ◌≤◌, Bool, true, false, if◌then◌else◌, List, [], ◌∷◌, ◌++◌, length, map, take, min, Option, Some, None, option_map, is_some, arith, ◌<◌, inl, inr}
 use Rattle.osi_between.specs.Between.{Lost}
 use Rattle.osi_between.specs.Messages as carrier
-use Rattle.osi_session.specs.declared.state.State.{State}
-use Rattle.osi_pair.proofs.Vocabulary.{AllByRecursion, slice_get, Local, place_at, Between, Both, AreBetween, under_way, broken_at, fresh_both, fresh_between, is_cut, progress_of, kind_of, Progress, Terms, terms_of, connection_at, Step, breaks, HasNumber, IsTableRun, Seat, Line, Tables, turned, cut_channels, step, run, start, Message, TwoEnds, sent_by, after_break, fresh_ends, terms_in, carriers_of, AreAlike, IsSeated, IsLine, IsInOrder, Stands, StandsAt, StandsAtBreak, AreUnderWay, word_in, HasLine, HasJoined, IsSound, Holding, fresh_end, Left, Right, EndReason, cut_there, cut_count}
+use Rattle.osi_pair.proofs.Vocabulary.{AllByRecursion, slice_get, Local, place_at, Between, Both, AreBetween, under_way, broken_at, fresh_both, fresh_between, is_cut, progress_of, kind_of, Progress, Terms, terms_of, connection_at, Step, breaks, HasNumber, IsTableRun, Seat, Line, Tables, turned, cut_channels, step, run, start, Message, TwoEnds, sent_by, after_break, fresh_ends, terms_in, carriers_of, AreAlike, IsSeated, IsLine, IsInOrder, Stands, StandsAt, StandsAtBreak, AreUnderWay, word_in, HasLine, HasJoined, IsSound, Holding, fresh_end, Left, Right, EndReason, cut_there, cut_count, SessionState as State}
 use Rattle.osi_pair.proofs.StandingAhead.{TakeLaws, TakesFrom, takes_from}
 use Rattle.osi_pair.proofs.StandingWays.{Takes, Front, front_at, map_take, alike_take}
 use Rattle.osi_pair.proofs.StandingCut.{IsWithin, outside_not, within_or}

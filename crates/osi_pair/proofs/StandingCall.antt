@@ -1,21 +1,16 @@
 -- A call of the user of an end is a call of the machine.
 use Rattle.std.proofs.Common.{◌≡◌, ◌≢◌, refl, sym, ◌∙◌, ap, subst, ℕ, zero, suc, ◌<◌, ◌≤◌, ◌==◌, Bool, true, false, nat_lt, if◌then◌else◌, List, [], ◌∷◌, ◌++◌, length, map, Option, Some, None, is_some, IsSome, IfSome, Ok, Err, arith}
-use Rattle.osi_class.specs.Link.{Standing as Link}
-use Rattle.osi_carrier.specs.Rows.{put}
 use Rattle.osi_between.specs.Between as two
 use Rattle.osi_between.specs.Messages as carrier
 use Rattle.osi_machine.specs.Machine as entries
 use Rattle.osi_machine.specs.Tables.{after_call}
 use Rattle.osi_machine.specs.Tables as tables
 use Rattle.osi_machine.specs.Worlds as worlds
-use Rattle.osi_session.specs.Allowed.{Step}
 use Rattle.osi_session.specs.Listening as words
-use Rattle.osi_session.specs.Sound.{IsSound as IsSoundState}
-use Rattle.osi_session.specs.declared.state.State.{State}
 use Rattle.osi_stack.specs.Messages.{puts}
 use Rattle.osi_stack.specs.State as stack
 use Rattle.osi_pair.specs.Entries.{calls}
-use Rattle.osi_pair.proofs.Vocabulary.{eqb-true, eq-eqb, append-nil, AllByRecursion, slice_get, IsOctets, IsShortTsdu, open_link, link_of, sent, sent_on, sent_all, Place, never, was_given, place_at, RiseFrom, Rows, value_at, Connection, asked, linked, closing, State as Carrier, EndReason, put_here, put_other, Both, Between, AreBetween, Acted, Carries, becomes, last_of, progress_of, Progress, in_use, leaves_use, Terms, terms_of, IsTableRun, AreSoundLines, connection_at, with_connection, call_answered, is_given, replaced, Seat, Line, Tables, seen_from, side_of, stays, made, call_in, step, Message, unit, replied, IsInOctets, Meaning, IsSendable, words_sent, tsdus_of, Answer, allowed, octets_of, Passed, Call, HasSerial, Listener, called, answered, react, Shown, limit_of, CallError, call_error, AllCameAbout, IsSound, put_by, Says, kept_at, line_by as line_then, to_session, End, Holding, session_in, session_at, IsAttended, puts_words, TwoEnds, end_at, with_end, noted, called_by_error, other, side_in, is_caller, carriers_of, transport_in, is_parting, IsSeated, IsLine, HasLine, IsInOrder, Stands, HasJoined, joining, word_in, waiting_in, Word, Side, Left, Right, IsJoinedAs, called_calm}
+use Rattle.osi_pair.proofs.Vocabulary.{eqb-true, eq-eqb, append-nil, AllByRecursion, slice_get, IsOctets, IsShortTsdu, open_link, link_of, sent, sent_on, sent_all, Place, never, was_given, place_at, RiseFrom, Rows, value_at, Connection, asked, linked, closing, State as Carrier, EndReason, put_here, put_other, Both, Between, AreBetween, Acted, Carries, becomes, last_of, progress_of, Progress, in_use, leaves_use, Terms, terms_of, IsTableRun, AreSoundLines, connection_at, with_connection, call_answered, is_given, replaced, Seat, Line, Tables, seen_from, side_of, stays, made, call_in, step, Message, unit, replied, IsInOctets, Meaning, IsSendable, words_sent, tsdus_of, Answer, allowed, octets_of, Passed, Call, HasSerial, Listener, called, answered, react, Shown, limit_of, CallError, call_error, AllCameAbout, IsSound, put_by, Says, kept_at, line_by as line_then, to_session, End, Holding, session_in, session_at, IsAttended, puts_words, TwoEnds, end_at, with_end, noted, called_by_error, other, side_in, is_caller, carriers_of, transport_in, is_parting, IsSeated, IsLine, HasLine, IsInOrder, Stands, HasJoined, joining, word_in, waiting_in, Word, Side, Left, Right, IsJoinedAs, called_calm, Link, put_row as put, SessionStep as Step, IsSoundState, SessionState as State}
 use Rattle.osi_pair.proofs.StandingActs.{out_way, back_way, place_given, OfEnd, of_end, NoneBeyond, more_said, StandsOn}
 use Rattle.osi_pair.proofs.StandingAnswer.{line_error, Answered}
 use Rattle.osi_pair.proofs.StandingListens.{calls_so, calls_keep}

@@ -3,14 +3,11 @@ use Rattle.std.proofs.Common.{◌≡◌, refl, sym, ◌∙◌, ap, subst, ℕ, �
 use Rattle.osi_machine.specs.Machine as entries
 use Rattle.osi_machine.specs.Tables.{after_call}
 use Rattle.osi_machine.specs.Tables as tables
-use Rattle.osi_session.specs.Allowed.{Step as Granted}
-use Rattle.osi_session.specs.Sound.{IsSound as IsSoundState}
-use Rattle.osi_session.specs.declared.state.State.{State}
 use Rattle.osi_session.proofs.SentLaws.{limit_sized}
 use Rattle.osi_session.specs.declared.faults.CallError.TheVariants as error
 use Rattle.osi_pair.specs.Ends as ends
 use Rattle.osi_pair.specs.Entries.{calls}
-use Rattle.osi_pair.proofs.Vocabulary.{leb-true, AllByRecursion, IsOctets, Local, State as Carrier, EndReason, Between, AreBetween, terms_of, IsTableRun, IsSoundSeat, IsSoundLine, connection_at, with_connection, call_answered, is_given, Step, Seat, Line, Tables, seen_from, side_of, call_in, step, run, unit, IsSendable, tsdus_of, allowed, octets_of, most_of, sends, Call, Data, HasSerial, Listener, called, react, limit_of, CallError, has_given, session_refusal, call_error, kept_at, Holding, session_at, End, TwoEnds, end_at, side_in, terms_in, class_in, ending_in, carriers_of, Stands, StandsAt, most_data, Side, Left, Right}
+use Rattle.osi_pair.proofs.Vocabulary.{leb-true, AllByRecursion, IsOctets, Local, State as Carrier, EndReason, Between, AreBetween, terms_of, IsTableRun, IsSoundSeat, IsSoundLine, connection_at, with_connection, call_answered, is_given, Step, Seat, Line, Tables, seen_from, side_of, call_in, step, run, unit, IsSendable, tsdus_of, allowed, octets_of, most_of, sends, Call, Data, HasSerial, Listener, called, react, limit_of, CallError, has_given, session_refusal, call_error, kept_at, Holding, session_at, End, TwoEnds, end_at, side_in, terms_in, class_in, ending_in, carriers_of, Stands, StandsAt, most_data, Side, Left, Right, SessionStep as Granted, IsSoundState, SessionState as State}
 use Rattle.osi_pair.proofs.StandingActs.{There, there, more_said, StandsOn, begun_with, one_step, of_end}
 use Rattle.osi_pair.proofs.StandingAnswer.{line_error, answer_same}
 use Rattle.osi_pair.proofs.StandingCall.{CallLaws, refused_stands, after_by, now_of, new_of, tables_now, Called, called_is, seat_session, sent_words, MayAct, acted_at, lasts_now, quiet_now, order_now, line_acts, others_left}

@@ -5,8 +5,7 @@ use Rattle.osi_between.specs.Messages as carrier
 use Rattle.osi_machine.specs.Tables as tables
 use Rattle.osi_stack.specs.Calls.{connects}
 use Rattle.osi_stack.specs.State as stack
-use Rattle.osi_stack.specs.declared.connecting.Connect.{Connect}
-use Rattle.osi_pair.proofs.Vocabulary.{eqb-true, eq-eqb, leb-true, leb-false, nat_tests, tsap_octets, may_connect, was_given, place_at, RiseFrom, Rows, value_at, Connection, asked, State as Carrier, EndReason, OpenError, push_here, absent, beyond, push_other, free_of, Both, Between, AreBetween, Acted, becomes, under_way, is_cut, progress_of, IsTsap, Progress, not_yet, awaiting, leaves_use, Terms, terms_of, Offer, Step, connects as connecting, connection_at, connect_answered, Refusal, Line, Tables, asked_with, refusal, asked_in, calling, step, run, ask, Listener, Shown, is_profile, unit_bits, named_by, is_long, terms_error, after_open, connect_error, calls_with, AllCameAbout, Soundness, IsSound, kept_at, End, Holding, session_in, is_used, used_lines, IsAttended, fresh_line, ConnectError, NotSelected, TooLong, used_by, used_live, rise_push, asked_of, CanBeAsked, TwoEnds, noted, connected_by, answer_with, after_connect, asks as asked_entry, carriers_of, transport_in, offer_in, answer_in, refusal_in, IsSeated, IsLine, HasLine, IsInOrder, Stands, StandsAt, HasJoined, whole, waiting_in, Left, none_of}
+use Rattle.osi_pair.proofs.Vocabulary.{eqb-true, eq-eqb, leb-true, leb-false, nat_tests, tsap_octets, may_connect, was_given, place_at, RiseFrom, Rows, value_at, Connection, asked, State as Carrier, EndReason, OpenError, push_here, absent, beyond, push_other, free_of, Both, Between, AreBetween, Acted, becomes, under_way, is_cut, progress_of, IsTsap, Progress, not_yet, awaiting, leaves_use, Terms, terms_of, Offer, Step, connects as connecting, connection_at, connect_answered, Refusal, Line, Tables, asked_with, refusal, asked_in, calling, step, run, ask, Listener, Shown, is_profile, unit_bits, named_by, is_long, terms_error, after_open, connect_error, calls_with, AllCameAbout, Soundness, IsSound, kept_at, End, Holding, session_in, is_used, used_lines, IsAttended, fresh_line, ConnectError, NotSelected, TooLong, used_by, used_live, rise_push, asked_of, CanBeAsked, TwoEnds, noted, connected_by, answer_with, after_connect, asks as asked_entry, carriers_of, transport_in, offer_in, answer_in, refusal_in, IsSeated, IsLine, HasLine, IsInOrder, Stands, StandsAt, HasJoined, whole, waiting_in, Left, none_of, ConnectCall as Connect}
 use Rattle.osi_pair.proofs.WordLaws.{wholes}
 use Rattle.osi_pair.proofs.StandingActs.{out_way, place_given, place_ahead, more_said, StandsOn, begun_with, one_step}
 use Rattle.osi_pair.proofs.StandingCall.{session_now_is}

@@ -5,8 +5,7 @@ use Rattle.osi_between.proofs.MessageLaws.{messages_front}
 use Rattle.osi_machine.specs.Core as machine
 use Rattle.osi_machine.specs.Worlds.{not_yet, gone}
 use Rattle.osi_machine.specs.Worlds as worlds
-use Rattle.osi_session.specs.declared.state.State.{State as Session}
-use Rattle.osi_pair.proofs.Vocabulary.{slice_get, IfSome, append-nil, Value, Place, never, was_given, place_at, connection_in, Rows, value_at, Connection, asked, linked, closing, State, units_of, Between, Both, is_cut, to_come, under_way, side, last_of, units_from, kind_of, messages_after, begun_at, Progress, connection_at, is_given, Seat, Line, awaits, seen_from, ends_there, ended_lines, Message, Transport, waiting, IsInOctets, Meaning, Listener, Standing, broken as broken_off, react, kept_at, Holding, both, AreAlike, is_parting, transport_in, IsSeated, AreUnderWay, word_in, EndReason}
+use Rattle.osi_pair.proofs.Vocabulary.{slice_get, IfSome, append-nil, Value, Place, never, was_given, place_at, connection_in, Rows, value_at, Connection, asked, linked, closing, State, units_of, Between, Both, is_cut, to_come, under_way, side, last_of, units_from, kind_of, messages_after, begun_at, Progress, connection_at, is_given, Seat, Line, awaits, seen_from, ends_there, ended_lines, Message, Transport, waiting, IsInOctets, Meaning, Listener, Standing, broken as broken_off, react, kept_at, Holding, both, AreAlike, is_parting, transport_in, IsSeated, AreUnderWay, word_in, EndReason, SessionState as Session}
 use Rattle.osi_pair.proofs.StandingWays.{Takes, front_takes, as_now, map_take, alike_take}
 use Rattle.osi_pair.proofs.StandingWays as ways
 use Rattle.osi_pair.proofs.StandingLost.{is_over}

@@ -5,10 +5,9 @@ use Rattle.osi_tpdu.specs.declared.tsaps.Tsap.{Tsap}
 use Rattle.osi_session.specs.Calls as call
 use Rattle.osi_session.specs.declared.requests.Request.{Request}
 use Rattle.osi_session.specs.declared.requests.Request.TheVariants as request
-use Rattle.osi_stack.specs.declared.connecting.Connect.{Connect as Wanted}
 use Rattle.osi_pair.specs.Asked as here
 use Rattle.osi_pair.specs.declared.events.Event.TheVariants.{Call}
-use Rattle.osi_pair.proofs.Vocabulary.{named_by, are_sizes, IsOctets, tsap_octets, Step, connects, calls, octets_of, Call as Asked, HasSerial, called_by, CanHappen, StandsAfter, asked_of, CanBeAsked, CarriesFrom, TwoEnds, end_at, after_connect, after_call, after_break, TellsBreak, misfit, misfit_break, misfit_told, Does, other, side_in, offer_in, StandsAt, StandsAtArrivals, StandsAtBreak, StandsAtTold, Event, Connect, Carry, Break, Told, Reach, Side}
+use Rattle.osi_pair.proofs.Vocabulary.{named_by, are_sizes, IsOctets, tsap_octets, Step, connects, calls, octets_of, Call as Asked, HasSerial, called_by, CanHappen, StandsAfter, asked_of, CanBeAsked, CarriesFrom, TwoEnds, end_at, after_connect, after_call, after_break, TellsBreak, misfit, misfit_break, misfit_told, Does, other, side_in, offer_in, StandsAt, StandsAtArrivals, StandsAtBreak, StandsAtTold, Event, Connect, Carry, Break, Told, Reach, Side, ConnectCall as Wanted}
 
 -- ---- what is asked for
 

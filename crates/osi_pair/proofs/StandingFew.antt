@@ -1,16 +1,12 @@
 -- Of what comes of one packet no more than 81 indications wait: 17 of one TSDU, and a loss for each of 64 connections.
 use Rattle.std.proofs.Common.{◌≡◌, ◌≢◌, ℕ, zero, suc, ◌+◌, ◌≤◌, ◌==◌, ◌⊎◌, inl, inr, Bool, true, false, if◌then◌else◌, List, [], ◌∷◌, ◌++◌, length, map, nat_lt, Option, Some, None, is_some, IsSome, Result, Ok, Err, refl, sym, ap, subst, ◌∙◌, arith}
-use Rattle.osi_carrier.specs.Happenings.{opened, refused}
 use Rattle.osi_carrier.specs.Packets as carriers
 use Rattle.osi_carrier.specs.React.{react as carrier_react}
-use Rattle.osi_carrier.specs.Rows.{put}
 use Rattle.osi_carrier.specs.State as states
 use Rattle.osi_session.specs.Listening.{Input, Move, begun, denied, rests, react}
 use Rattle.osi_session.specs.Listening as inputs
 use Rattle.osi_session.specs.declared.faults.UnitFault.{UnitFault}
 use Rattle.osi_session.specs.declared.faults.UnitFault.TheVariants.{Spelling}
-use Rattle.osi_session.specs.declared.state.State.{State}
-use Rattle.osi_session.specs.Sessions.{awaits}
 use Rattle.osi_session.proofs.ShownLaws.{words_show}
 use Rattle.osi_spdu.specs.Reading.{◌>>=◌, Next, Placed, next_at, unit_at, behind_at, ended, continued, contents_of, tsdu_at}
 use Rattle.osi_spdu.specs.Kinds.{category_of}
@@ -19,7 +15,7 @@ use Rattle.osi_spdu.specs.declared.kinds.Category.TheVariants.{Zero, One, Two}
 use Rattle.osi_spdu.specs.declared.faults.SpduFault.{SpduFault}
 use Rattle.osi_stack.specs.Moving.{noted}
 use Rattle.osi_stack.specs.State.{Line, joins}
-use Rattle.osi_pair.proofs.Vocabulary.{eqb-true, eq-eqb, length-append, length-map, Held, IsPacket, Value, never, was_given, place_at, Happening, tsdu, closed, RiseFrom, Rows, value_at, Connection, asked, linked, closing, State as Carrier, NoMemory, put_other, put_rise, reference_of, Both, Between, AreBetween, side, progress_of, Progress, awaiting, in_use, shutting, Terms, Tables, word, said_at, said_if_read, Words, Listener, taker_of, came, came_as, shows_loss, is_wait_transport, is_wait_cn, is_over, nothing, bad, respond_fault, Shown, BadUnit, Contents, Units, after_packet, attends, concludes, hears, hears_all, hears_first, hears_next, hears_times, all_lost, opens, starves, with_carrier, with_events, shown_at_loss, RunsOut, Starves, kept_at, told_all, line_by, to_session, by_line, needs_memory, End, session_in, all_quiet, never_starved, hears_keep, TwoEnds, end_at, is_caller, carriers_of, Stands, waiting_in, Side, Left, Right}
+use Rattle.osi_pair.proofs.Vocabulary.{eqb-true, eq-eqb, length-append, length-map, Held, IsPacket, Value, never, was_given, place_at, Happening, tsdu, closed, RiseFrom, Rows, value_at, Connection, asked, linked, closing, State as Carrier, NoMemory, put_other, put_rise, reference_of, Both, Between, AreBetween, side, progress_of, Progress, awaiting, in_use, shutting, Terms, Tables, word, said_at, said_if_read, Words, Listener, taker_of, came, came_as, shows_loss, is_wait_transport, is_wait_cn, is_over, nothing, bad, respond_fault, Shown, BadUnit, Contents, Units, after_packet, attends, concludes, hears, hears_all, hears_first, hears_next, hears_times, all_lost, opens, starves, with_carrier, with_events, shown_at_loss, RunsOut, Starves, kept_at, told_all, line_by, to_session, by_line, needs_memory, End, session_in, all_quiet, never_starved, hears_keep, TwoEnds, end_at, is_caller, carriers_of, Stands, waiting_in, Side, Left, Right, told_opened as opened, told_refused as refused, put_row as put, SessionState as State, awaits_cn as awaits}
 use Rattle.osi_pair.proofs.StandingArrived.{PacketActs}
 use Rattle.osi_pair.proofs.StandingBegins.{begun_waits}
 use Rattle.osi_pair.proofs.StandingFinish.{terms_at, order_of, was_at}
@@ -56,8 +52,7 @@ few_more unit r few = grind arith
 
 few_continued : (c : Category) (unit : Placed) → FewIn 17 (continued c unit)
 few_continued Zero unit = few_more (contents_of unit []) (behind_at 16 unit.end unit.rest) (few_behind 16 unit.end unit.rest)
-few_continued One unit = few_one unit.end unit.rest (contents_of unit [])
-few_continued Two unit = few_one unit.end unit.rest (contents_of unit [])
+few_continued c unit = few_one unit.end unit.rest (contents_of unit [])
 
 few_by : (r : Result Placed SpduFault) → FewIn 17 (r >>= λ unit. continued (category_of unit.kind) unit)
 few_by (Ok unit) = few_continued (category_of unit.kind) unit

@@ -2,12 +2,9 @@
 use Rattle.std.proofs.Common.{◌≡◌, ◌≢◌, ℕ, Bool, true, false, if◌then◌else◌, List, [], ◌∷◌, length, Some, None, is_some, IfSome, refl, sym, ap, ◌∙◌, arith}
 use Rattle.osi_carrier.specs.Packets as carriers
 use Rattle.osi_carrier.specs.React.{react as carrier_react}
-use Rattle.osi_carrier.specs.Rows.{put}
 use Rattle.osi_machine.specs.Worlds as worlds
-use Rattle.osi_stack.specs.State.{Line}
-use Rattle.osi_pair.proofs.Vocabulary.{Value, Happening, Rows, value_at, State as Carrier, Progress, IsInOctets, Input, Standing, react, is_ended, listening, awaits, carries_out, after_packet, attends, concludes, hears, hears_all, hears_times, hears_first, with_carrier, with_events, all_lost, told_all, kept_at, line_after, End, session_in, put_here, put_other, quiet_attends, packet_is, is_parting, quieted}
+use Rattle.osi_pair.proofs.Vocabulary.{Value, Happening, Rows, value_at, State as Carrier, Progress, IsInOctets, Input, Standing, react, is_ended, listening, awaits, carries_out, after_packet, attends, concludes, hears, hears_all, hears_times, hears_first, with_carrier, with_events, all_lost, told_all, kept_at, line_after, End, session_in, put_here, put_other, quiet_attends, packet_is, is_parting, quieted, put_row as put, EndLine as Line, quieted_at, one_heard}
 use Rattle.osi_pair.proofs.StandingListens.{as_made}
-use Rattle.osi_pair.proofs.StandingQuiet.{quiet_kept}
 use Rattle.osi_pair.proofs.StandingResting.{acted_end}
 use Rattle.osi_pair.proofs.StandingSeats.{transport_by, HasSession}
 
@@ -22,9 +19,6 @@ pub nothing_heard : (e : End) (packet : List ℕ) (u : Value) → carriers.after
 nothing_heard e packet u acts none lasts =
     carried_out e packet u acts ∙ quiet_attends (carries_out u e) (record { lasts = ap is_some lasts; events = none })
     ∙ ap (λ (l : List Happening). with_events l (carries_out u e)) none
-
-one_heard : (e : End) (event : Happening) → e.carrier.events ≡ event ∷ [] → hears_all e ≡ hears event (with_events [] e)
-one_heard e event h = grind arith
 
 -- it told one thing
 pub one_told : (e : End) (packet : List ℕ) (u : Value) (event : Happening) → carriers.after_packet e.carrier packet ≡ carrier_react u e.carrier → (carrier_react u e.carrier).events ≡ event ∷ [] →
@@ -45,11 +39,11 @@ lasting e h = grind arith
 pub kept_then : (n : ℕ) (line was : Line) (x : Standing) (input : Input) (lines : Rows Line) → value_at n lines ≡ Some was →
     kept_at n (quieted (lines_then n line x input lines)) ≡ Some (listening (react x input).next)
 kept_then n line was x input lines here =
-    quiet_kept n (lines_then n line x input lines) ∙ ap session_in (put_here n (line_after line (as_made (react x input))) was lines here)
+    quieted_at n (lines_then n line x input lines) ∙ ap session_in (put_here n (line_after line (as_made (react x input))) was lines here)
 
 pub kept_other : (n q : ℕ) (line : Line) (x : Standing) (input : Input) (lines : Rows Line) → q ≢ n → kept_at q (quieted (lines_then n line x input lines)) ≡ kept_at q lines
 kept_other n q line x input lines apart =
-    quiet_kept q (lines_then n line x input lines) ∙ ap session_in (put_other q n (line_after line (as_made (react x input))) lines apart)
+    quieted_at q (lines_then n line x input lines) ∙ ap session_in (put_other q n (line_after line (as_made (react x input))) lines apart)
 
 pub session_then : (n : ℕ) (line was : Line) (x : Standing) (input : Input) (lines : Rows Line) (g : Progress) → value_at n lines ≡ Some was →
     (is_parting (transport_by g) ≡ true → is_ended (react x input).next.state.phase ≡ true) → (transport_by g ≡ worlds.not_yet → (react x input).next ≡ awaits) → IfSome (react x input).next.waiting IsInOctets →

@@ -1,12 +1,10 @@
 -- A message arrives of which a session hears: what the carrier tells, and what happens to the session, row by row.
 use Rattle.std.proofs.Common.{◌≡◌, ℕ, true, false, List, [], ◌∷◌, Option, Some, None, IfSome, refl, sym, ap, subst, ◌∙◌, ◌⊎◌, inl, inr, ◌++◌, arith}
-use Rattle.osi_carrier.specs.Happenings.{opened, refused}
 use Rattle.osi_between.specs.Messages as carrier
 use Rattle.osi_machine.specs.Worlds as worlds
 use Rattle.osi_session.specs.Listening as words
 use Rattle.osi_session.specs.Moves as session
-use Rattle.osi_stack.specs.State.{Line}
-use Rattle.osi_pair.proofs.Vocabulary.{Units, Happening, tsdu, closed, value_at, in_use, gone, offer_sent, Seat, awaits, Message, unit, ask, agree, deny, bye, over, IsInOctets, Meaning, DT, said_by_units, words_of, IsSendable, said_of, written, came, Input, taken, Standing, react, is_ended, HasNumbersInWords, CanBeSent, excluded, hears, opens, needs_link, limit_for, to_session, End, came_numbers, Readings, came_is, message_in, is_parting, joining, IsKeptIn, Listener, kept_none, part_octets, Last, part_comes}
+use Rattle.osi_pair.proofs.Vocabulary.{Units, Happening, tsdu, closed, value_at, in_use, gone, offer_sent, Seat, awaits, Message, unit, ask, agree, deny, bye, over, IsInOctets, Meaning, DT, said_by_units, words_of, IsSendable, said_of, written, came, Input, taken, Standing, react, is_ended, HasNumbersInWords, CanBeSent, excluded, hears, opens, needs_link, limit_for, to_session, End, came_numbers, Readings, came_is, message_in, is_parting, joining, IsKeptIn, Listener, kept_none, part_octets, Last, part_comes, told_opened as opened, told_refused as refused, EndLine as Line}
 use Rattle.osi_pair.proofs.StandingMoves.{heard_by, is_move}
 use Rattle.osi_pair.proofs.StandingPacket.{is_heard}
 use Rattle.osi_pair.proofs.StandingReplies.{CanGo, ReplyLaws, GoesBy, goes_taken, goes_opened, goes_refused, silent_refused, ended_refused, goes_broken, silent_broken, ended_broken, offer_goes}

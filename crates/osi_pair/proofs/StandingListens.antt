@@ -3,15 +3,11 @@ use Rattle.std.proofs.Common.{◌≡◌, Some, ap, ◌∙◌, ℕ, List, Option,
 use Rattle.osi_session.specs.Listening as words
 use Rattle.osi_session.specs.Allowed.{most_data}
 use Rattle.osi_session.specs.Joining.{kept_in}
-use Rattle.osi_session.specs.declared.state.State.{State}
 use Rattle.osi_session.proofs.MoveLaws.{taken_is}
 use Rattle.osi_message.specs.Tokens.{no_token}
 use Rattle.osi_message.specs.Words.{part}
-use Rattle.osi_message.specs.declared.places.Place.{Place}
-use Rattle.osi_stack.specs.State.{Line}
-use Rattle.osi_stack.specs.declared.connecting.Connect.{Connect}
-use Rattle.osi_session.specs.Sessions.{awaits as awaits_cn}
-use Rattle.osi_pair.proofs.Vocabulary.{Input, Standing, Move, react, called, answered, taken, listening, standing_of, in_words, is_apart, kept_none, moves_as_whole, others, word_behind, words_of_message, Listener, Answer, allowed, Call, respond_word, IsKeptIn, IsJoinedAs, IsNoFault, IsJoined, IsKept, discards, call_keeps, first_arrives, middle_arrives, last_arrives, joining, IsInOrder, part_comes, is_over, is_restarting, DT, GT, said_of, words_of, says, First, Middle, Last, Phase, inputs_kept, CameAbout, AllCameAbout, calls_with, kept_at, End, session_in, at_line, Rows, value_at}
+use Rattle.osi_stack.proofs.Joinings.{came_by}
+use Rattle.osi_pair.proofs.Vocabulary.{Input, Standing, Move, react, called, answered, taken, listening, standing_of, in_words, is_apart, kept_none, moves_as_whole, others, word_behind, words_of_message, Listener, Answer, allowed, Call, respond_word, IsKeptIn, IsJoinedAs, IsNoFault, IsJoined, IsKept, discards, call_keeps, first_arrives, middle_arrives, last_arrives, joining, IsInOrder, part_comes, is_over, is_restarting, DT, GT, said_of, words_of, says, First, Middle, Last, Phase, inputs_kept, CameAbout, AllCameAbout, calls_with, kept_at, End, session_in, at_line, Rows, value_at, SessionState as State, PartPlace as Place, EndLine as Line, ConnectCall as Connect, awaits_cn}
 
 -- a move of the session of the tables, as that of the end makes it
 abbrev pub as_made : Move → words.Move
@@ -86,10 +82,6 @@ pub over_fine : (s : State) (octets : List ℕ) → is_over s.phase ≡ true →
 over_fine s octets over = rw over refl
 
 -- ---- what a session of an end has joined its phase keeps
-
-came_by : (r : ℕ) (s : Listener) (lines : Rows Line) (o : Option Line) → value_at r lines ≡ o → session_in o ≡ Some s → AllCameAbout lines → CameAbout s
-came_by r s lines None at is all = cc
-came_by r s lines (Some line) at is all = subst (λ (o : Option Listener). IfSome o CameAbout) is (at_line CameAbout r line lines all at)
 
 first_kept : (s : Listener) → (s ≡ awaits_cn) ⊎ ((c : Connect) × (s ≡ calls_with c)) → IsKept s
 first_kept s h1 = grind arith

@@ -1,13 +1,11 @@
 -- A message arrived of which a session heard: how two ends stand when the session has made its move, and nothing
 -- of what it sends was handed to the carrier, and nothing was closed.
 use Rattle.std.proofs.Common.{◌≡◌, ◌≢◌, ℕ, ◌<◌, ◌≤◌, Bool, true, false, nat_lt, if◌then◌else◌, List, [], ◌∷◌, length, map, Option, Some, None, is_some, option_map, refl, sym, ap, subst, ◌∙◌, arith, ◌⊎◌, inl, inr, IfSome, ◌++◌}
-use Rattle.osi_class.specs.Link.{Standing as Link}
 use Rattle.osi_carrier.specs.React.{react as carrier_react}
 use Rattle.osi_machine.specs.Core as machine
 use Rattle.osi_machine.specs.Worlds as worlds
 use Rattle.osi_stack.specs.Moving.{noted}
-use Rattle.osi_stack.specs.State.{Line}
-use Rattle.osi_pair.proofs.Vocabulary.{Held, Value, link_of, Place, never, was_given, place_at, IsOrderly, Rows, value_at, Connection, State as Carrier, asked, linked, closing, is_open, EndReason, orderly_unit, orderly_same, reference_of, Between, under_way, is_cut, last_of, progress_of, not_yet, in_use, gone, Progress, awaiting, class_of, IsTableRun, AreSoundLines, IsSoundLine, AreSendable, is_leaving, connection_at, delivers, learns, Line as TableLine, Turn, Tables, seen_from, after_turn, step, Message, unit, ask, agree, deny, bye, over, put, replied, SessionLaws, Meaning, DT, Input, Standing, Move, taken, opened, refused, broken as broken_off, react, listening, after_packet, concludes, told_all, kept_at, answers, End, session_in, packet_rises, TwoEnds, end_at, other, side_in, is_caller, class_in, carriers_of, message_in, AreAlike, IsInOrder, Stands, Goes, joining, HasJoined, waiting_in, quieted, Side, IsNoFault, IsJoinedAs, Listener, kind_of, IsInOctets, part_octets, First, Middle, Last, Left, Right, after_message, StaysCalm, left_is, said_of}
+use Rattle.osi_pair.proofs.Vocabulary.{Held, Value, link_of, Place, never, was_given, place_at, IsOrderly, Rows, value_at, Connection, State as Carrier, asked, linked, closing, is_open, EndReason, orderly_unit, orderly_same, reference_of, Between, under_way, is_cut, last_of, progress_of, not_yet, in_use, gone, Progress, awaiting, class_of, IsTableRun, AreSoundLines, IsSoundLine, AreSendable, is_leaving, connection_at, delivers, learns, Line as TableLine, Turn, Tables, seen_from, after_turn, step, Message, unit, ask, agree, deny, bye, over, put, replied, SessionLaws, Meaning, DT, Input, Standing, Move, taken, opened, refused, broken as broken_off, react, listening, after_packet, concludes, told_all, kept_at, answers, End, session_in, packet_rises, TwoEnds, end_at, other, side_in, is_caller, class_in, carriers_of, message_in, AreAlike, IsInOrder, Stands, Goes, joining, HasJoined, waiting_in, quieted, Side, IsNoFault, IsJoinedAs, Listener, kind_of, IsInOctets, part_octets, First, Middle, Last, Left, Right, after_message, StaysCalm, left_is, said_of, Link, EndLine as Line, PartPlace, SessionState}
 use Rattle.osi_pair.proofs.StandingArrived.{PacketActs}
 use Rattle.osi_pair.proofs.StandingFinish.{terms_at, DidAt, line_then, last_is, order_of, was_at}
 use Rattle.osi_pair.proofs.StandingHeard.{lines_then, kept_then, one_told}
@@ -25,11 +23,9 @@ use Rattle.osi_pair.proofs.StandingRows.{Row, before, after, arrived_in, quiet, 
 use Rattle.osi_pair.proofs.StandingSeats.{transport_by, value_same, HasSession, lives_in, session_of_seat, transport_at}
 use Rattle.osi_pair.proofs.StandingTurned.{IsSeen, with_holding, turned_pair, turned_stands}
 use Rattle.osi_pair.proofs.StandingWaiting.{is_calling}
-use Rattle.osi_message.specs.declared.places.Place.{Place as PartPlace}
 use Rattle.osi_between.specs.Messages as carrier
 use Rattle.osi_pair.proofs.StandingWays.{NextOf, Comes, BehindFirst, IsAlone, IsLast, Begins, GoesOn, is_tsdu, no_part}
 use Rattle.osi_session.specs.Allowed.{most_data}
-use Rattle.osi_session.specs.declared.state.State.{State as SessionState}
 use Rattle.osi_pair.proofs.StandingAhead.{TakeLaws, TakesFrom, takes_from, takes_here, takes_then}
 use Rattle.osi_pair.proofs.StandingLost.{is_over as is_lost}
 

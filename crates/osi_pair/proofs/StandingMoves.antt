@@ -3,8 +3,7 @@ use Rattle.std.proofs.Common.{◌≡◌, ◌≢◌, ℕ, ◌≤◌, Bool, true, 
 use Rattle.osi_between.specs.Messages as carrier
 use Rattle.osi_machine.specs.Tables.{hears}
 use Rattle.osi_machine.specs.Worlds as worlds
-use Rattle.osi_stack.specs.State.{Line}
-use Rattle.osi_pair.proofs.Vocabulary.{Held, place_at, Rows, value_at, reference_of, Between, last_of, progress_of, leaves_use, connection_at, delivers, learns, Seat, Line as TableLine, Turn, Tables, awaits, seen_from, end_of, after_turn, step, without_first, message_taken, Message, unit, ask, agree, deny, bye, over, put, replied, IsInOctets, said_of, Meaning, Input, taken, opened, refused, broken as broken_off, Standing, Move, react, is_ended, kept_at, End, TwoEnds, end_at, other, side_in, is_caller, class_in, carriers_of, message_in, is_parting, Stands, Goes, quieted, Side, kind_of}
+use Rattle.osi_pair.proofs.Vocabulary.{Held, place_at, Rows, value_at, reference_of, Between, last_of, progress_of, leaves_use, connection_at, delivers, learns, Seat, Line as TableLine, Turn, Tables, awaits, seen_from, end_of, after_turn, step, without_first, message_taken, Message, unit, ask, agree, deny, bye, over, put, replied, IsInOctets, said_of, Meaning, Input, taken, opened, refused, broken as broken_off, Standing, Move, react, is_ended, kept_at, End, TwoEnds, end_at, other, side_in, is_caller, class_in, carriers_of, message_in, is_parting, Stands, Goes, quieted, Side, kind_of, EndLine as Line}
 use Rattle.osi_pair.proofs.StandingArrived.{PacketActs}
 use Rattle.osi_pair.proofs.StandingFinish.{terms_at, DidAt, TablesAfter, OtherSessions, line_then, finish}
 use Rattle.osi_pair.proofs.StandingHeard.{lines_then, kept_other, session_then}

@@ -3,9 +3,7 @@ use Rattle.std.proofs.Common.{◌≡◌, refl, sym, ◌∙◌, subst, ℕ, ◌<�
 use Rattle.std.proofs.lemmas.Nat.{and_le_r}
 use Rattle.std.specs.Int.RustNames.{bit_and}
 use Rattle.osi_spdu.specs.declared.fields.TsduMaximumSize.{TsduMaximumSize}
-use Rattle.osi_session.specs.Allowed.{Step}
-use Rattle.osi_session.specs.declared.state.State.{State}
-use Rattle.osi_pair.proofs.Vocabulary.{eqb-true, leb-true, nat_le, are_sizes, is_size, IsOctets, IsInOctets, IsSendable, names, AllHold, needs, sends, refusal_reason, octets_of, Passed, Call, Accept, Refuse, Data, Give, Please, Minor, MinorConfirm, Major, MajorConfirm, Restart, RestartConfirm, Release, ReleaseAccept, ReleaseRefuse, Abort, answered_sizes, is_profile}
+use Rattle.osi_pair.proofs.Vocabulary.{eqb-true, leb-true, nat_le, are_sizes, is_size, IsOctets, IsInOctets, IsSendable, names, AllHold, needs, sends, refusal_reason, octets_of, Passed, Call, Accept, Refuse, Data, Give, Please, Minor, MinorConfirm, Major, MajorConfirm, Restart, RestartConfirm, Release, ReleaseAccept, ReleaseRefuse, Abort, answered_sizes, is_profile, SessionStep as Step, SessionState as State}
 
 both_right : (a b : Bool) → (a && b) ≡ true → b ≡ true
 both_right a b h = grind arith

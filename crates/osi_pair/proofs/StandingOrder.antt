@@ -1,11 +1,8 @@
 -- An end whose session has moved is in order before what it sends is handed over.
 use Rattle.std.proofs.Common.{◌≡◌, ◌≢◌, ℕ, ◌≤◌, ◌==◌, Bool, true, false, if◌then◌else◌, [], Option, Some, None, is_some, refl, sym, ap, subst, ◌∙◌, arith}
-use Rattle.osi_class.specs.Link.{Standing as Link}
-use Rattle.osi_carrier.specs.Rows.{put}
 use Rattle.osi_session.specs.Listening as words
 use Rattle.osi_stack.specs.Moving.{noted}
-use Rattle.osi_stack.specs.State.{Line}
-use Rattle.osi_pair.proofs.Vocabulary.{eqb-true, eq-eqb, link_of, IsOrderly, value_at, Connection, State as Carrier, is_open, EndReason, put_here, put_other, put_rise, put_up, Listener, Input, Standing, react, HasNumbersInWords, CameAbout, AllCameAbout, needs_link, kept_at, limit_for, answers, line_by, line_after, carrier_by, by_line, to_session, End, session_in, session_all, came_moves, apart_put, up_more, IsInOrder}
+use Rattle.osi_pair.proofs.Vocabulary.{eqb-true, eq-eqb, link_of, IsOrderly, value_at, Connection, State as Carrier, is_open, EndReason, put_here, put_other, put_rise, put_up, Listener, Input, Standing, react, HasNumbersInWords, CameAbout, AllCameAbout, needs_link, kept_at, limit_for, answers, line_by, line_after, carrier_by, by_line, to_session, End, session_in, session_all, came_moves, apart_put, up_more, IsInOrder, Link, put_row as put, EndLine as Line}
 use Rattle.osi_pair.proofs.StandingHeard.{lines_then}
 use Rattle.osi_pair.proofs.StandingListens.{as_made}
 

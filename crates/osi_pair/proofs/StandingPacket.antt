@@ -2,14 +2,12 @@
 -- delivery.
 use Rattle.std.proofs.Common.{◌≡◌, ℕ, ◌≤◌, Bool, true, false, List, [], ◌∷◌, ◌++◌, Option, Some, None, option_map, refl, sym, ap, subst, ◌∙◌, ◌⊎◌, inl, inr, arith}
 use Rattle.osi_carrier.specs.Coming.{IsSendable}
-use Rattle.osi_carrier.specs.Happenings.{opened}
 use Rattle.osi_carrier.specs.Packets as carriers
 use Rattle.osi_carrier.specs.React.{react as carrier_react}
 use Rattle.osi_between.specs.Messages as carrier
 use Rattle.osi_machine.specs.Core as machine
-use Rattle.osi_session.specs.Sessions.{awaits}
 use Rattle.osi_stack.specs.State.{Line, joins}
-use Rattle.osi_pair.proofs.Vocabulary.{AllByRecursion, append-nil, Held, IsPacket, Value, place_at, RiseFrom, Rows, value_at, State, reference_of, Both, side, Between, last_of, AreBetween, is_cut, under_way, progress_of, leaves_use, not_yet, shutting, Terms, terms_of, by_two, by_zero, refusing, Local, beyond, Ending, Step, connects, calls, delivers, breaks, HasNumber, ends as ends_side, Line as TableLine, Tables, end_of, step, run, start, Message, unit, ask, agree, deny, bye, over, after_unit, carries_out, AllCameAbout, after_packet, attends, concludes, opens, IsSound, told_all, End, IsAttended, rise_joins, TwoEnds, end_at, Entry, side_in, is_caller, terms_in, ending_in, carriers_of, packet_taken, AreDeliveries, StandsAtDeliveries, IsInOrder, Stands, StandsAt, Goes, HasJoined, message_in, waiting_in, Side, Left, Right, is_leaving, other, kind_of as message_kind, after_message, StaysCalm}
+use Rattle.osi_pair.proofs.Vocabulary.{AllByRecursion, append-nil, Held, IsPacket, Value, place_at, RiseFrom, Rows, value_at, State, reference_of, Both, side, Between, last_of, AreBetween, is_cut, under_way, progress_of, leaves_use, not_yet, shutting, Terms, terms_of, by_two, by_zero, refusing, Local, beyond, Ending, Step, connects, calls, delivers, breaks, HasNumber, ends as ends_side, Line as TableLine, Tables, end_of, step, run, start, Message, unit, ask, agree, deny, bye, over, after_unit, carries_out, AllCameAbout, after_packet, attends, concludes, opens, IsSound, told_all, End, IsAttended, rise_joins, TwoEnds, end_at, Entry, side_in, is_caller, terms_in, ending_in, carriers_of, packet_taken, AreDeliveries, StandsAtDeliveries, IsInOrder, Stands, StandsAt, Goes, HasJoined, message_in, waiting_in, Side, Left, Right, is_leaving, other, kind_of as message_kind, after_message, StaysCalm, told_opened as opened, awaits_cn as awaits, SessionState}
 use Rattle.osi_pair.proofs.StandingArrived.{CarrierLaws, PacketActs, packet_acts}
 use Rattle.osi_pair.proofs.StandingBegins.{asks_same, begun_lines, begun_waits, begins_unit, new_at}
 use Rattle.osi_pair.proofs.StandingFinish.{terms_at, DidAt, is_agree, last_is, order_of, was_at}
@@ -20,7 +18,6 @@ use Rattle.osi_pair.proofs.StandingRows.{Row, quiet, still, begins, refuses, agr
 use Rattle.osi_pair.proofs.StandingTurned.{with_holding, turned_pair, turned_stands, IsSeen}
 use Rattle.osi_pair.proofs.StandingWays.{Alone, is_tsdu}
 use Rattle.osi_pair.proofs.StandingSeats.{session_of_seat}
-use Rattle.osi_session.specs.declared.state.State.{State as SessionState}
 use Rattle.osi_pair.proofs.StandingBreak.{run_behind}
 
 -- what is proved of two carriers and of one end

@@ -1,10 +1,9 @@
 -- Packets that an end takes one after the other, of which none stops but perhaps the last.
 use Rattle.std.proofs.Common.{◌≡◌, ℕ, ◌≤◌, ◌==◌, ◌||◌, false, not, List, [], ◌∷◌, ◌++◌, length, Option, Some, None, is_some, refl, sym, ap, subst, ◌∙◌, if◌then◌else◌, arith}
 use Rattle.osi_machine.specs.Core as machine
-use Rattle.osi_stack.specs.Hearing.{ends}
-use Rattle.osi_stack.specs.State.{Line}
 use Rattle.osi_stack.proofs.FirstShown.{quiet_none}
-use Rattle.osi_pair.proofs.Vocabulary.{append-nil, append_assoc, Held, IsPacket, ArePackets, Rows, EndReason, NoMemory, Ending, no_memory, Step, connects, calls, delivers, breaks, ends as ends_side, Tables, end_of, after_end, step, run, start, Shown, TakesPackets, stops, after_packet, Starves, End, Holding, waits, or_first, or_second, TwoEnds, end_at, noted, Entry, side_in, terms_in, AreDeliveries, AreArrivals, StandsAt, StandsAtArrivals, waiting_in, quieted, told_entries, Reach, Side, Left, Right, reach_after, none_of}
+use Rattle.osi_stack.proofs.Endings.{stops_not}
+use Rattle.osi_pair.proofs.Vocabulary.{append-nil, append_assoc, Held, IsPacket, ArePackets, Rows, EndReason, NoMemory, Ending, no_memory, Step, connects, calls, delivers, breaks, ends as ends_side, Tables, end_of, after_end, step, run, start, Shown, TakesPackets, stops, after_packet, Starves, End, Holding, waits, or_first, or_second, TwoEnds, end_at, noted, Entry, side_in, terms_in, AreDeliveries, AreArrivals, StandsAt, StandsAtArrivals, waiting_in, quieted, told_entries, Reach, Side, Left, Right, reach_after, none_of, ends_end as ends, EndLine as Line}
 use Rattle.osi_pair.proofs.StandingBreak.{run_behind}
 use Rattle.osi_pair.proofs.StandingFinish.{terms_at}
 use Rattle.osi_pair.proofs.StandingHanded.{CarriedLaw, with_held, handed_at}
@@ -67,9 +66,6 @@ still_waits ((r, line) ∷ lines) e =
     ∙ still_waits lines (none_second (λ shown. (r, shown)) line.waiting (waiting_in lines) e)
 
 -- an end that does not stop lasts, and nothing waits
-pub stops_not : (e : End) → stops e ≡ false → e.carrier.ended ≡ None
-stops_not e h = none_of e.carrier.ended (or_first (is_some e.carrier.ended) (waits e.lines) h)
-
 pub stops_quiet : (e : End) → stops e ≡ false → waiting_in e.lines ≡ []
 stops_quiet e h = none_waiting e.lines (or_second (is_some e.carrier.ended) (waits e.lines) h)
 

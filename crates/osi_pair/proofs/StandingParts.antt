@@ -2,13 +2,11 @@
 -- under way until its last part arrives, so that they stay.
 use Rattle.std.proofs.Common.{◌≡◌, ℕ, ◌≤◌, false, true, List, [], Some, None, refl, sym, ap, subst, ◌∙◌, arith}
 use Rattle.osi_carrier.specs.React.{react as carrier_react}
-use Rattle.osi_carrier.specs.Rows.{put}
 use Rattle.osi_machine.specs.Worlds as worlds
 use Rattle.osi_session.specs.Listening.{rests}
 use Rattle.osi_session.specs.Listening as words
 use Rattle.osi_stack.specs.Moving.{noted}
-use Rattle.osi_stack.specs.State.{Line}
-use Rattle.osi_pair.proofs.Vocabulary.{Held, place_at, tsdu, IsOrderly, Rows, State as Carrier, put_here, put_other, orderly_unit, orderly_same, reference_of, Between, last_of, progress_of, leaves_use, Line as TableLine, Tables, Message, part_octets, IsJoinedAs, Listener, came, came_as, part_comes, HasNumbersInWords, after_packet, concludes, told_all, kept_at, line_after, to_session, End, session_in, came_numbers, hands_none, packet_rises, TwoEnds, end_at, other, is_caller, joining, HasJoined, Goes, IsInOrder, Stands, waiting_in, Side}
+use Rattle.osi_pair.proofs.Vocabulary.{Held, place_at, tsdu, IsOrderly, Rows, State as Carrier, put_here, put_other, orderly_unit, orderly_same, reference_of, Between, last_of, progress_of, leaves_use, Line as TableLine, Tables, Message, part_octets, IsJoinedAs, Listener, came, came_as, part_comes, HasNumbersInWords, after_packet, concludes, told_all, kept_at, line_after, to_session, End, session_in, came_numbers, hands_none, packet_rises, TwoEnds, end_at, other, is_caller, joining, HasJoined, Goes, IsInOrder, Stands, waiting_in, Side, put_row as put, EndLine as Line}
 use Rattle.osi_pair.proofs.StandingFinish.{TablesAfter, OtherSessions, is_agree, order_of, finish, known_then}
 use Rattle.osi_pair.proofs.StandingHeard.{one_told, lasting}
 use Rattle.osi_pair.proofs.StandingMoved.{MovingLaws, PacketAt, PartArrives, opened_then, lives_then, open_at, seat_transport}

@@ -3,10 +3,8 @@ use Rattle.std.proofs.Common.{◌≡◌, ℕ, zero, suc, ◌+◌, ◌-◌, ◌�
 use Rattle.osi_carrier.specs.Packets as carriers
 use Rattle.osi_carrier.specs.State as states
 use Rattle.osi_stack.specs.Feeding.{Goes}
-use Rattle.osi_stack.specs.Hearing.{ends}
-use Rattle.osi_stack.specs.State.{Line}
 use Rattle.osi_stack.proofs.Rooms.{found_how}
-use Rattle.osi_pair.proofs.Vocabulary.{drop-nil, append-nil, length-append, length-take, length-drop, Held, IsPacket, IsFaultOf, ArePackets, offset_of, TpktFault, is_spoilt, State, Rows, EndReason, NoMemory, Both, Between, AreBetween, side, Terms, Step, run, start, Shown, carried, TakesPackets, stops, uses_all, RunsDry, StopsBehind, Refuses, FindsNoMemory, attends, hears_all, hears_times, with_events, with_carrier, Starves, End, Holding, waits, all_quiet, concluded_carrier, starved_over, Crossing, CarriesPiece, crossing, TwoEnds, end_at, reachable, Entry, within, reach_after, other, terms_in, carriers_of, StandsAt, StandsAtArrivals, waiting_in, quieted, told_entries, ShowsFirst, Reach, Side, Left, Right}
+use Rattle.osi_pair.proofs.Vocabulary.{drop-nil, append-nil, length-append, length-take, length-drop, Held, IsPacket, IsFaultOf, ArePackets, offset_of, TpktFault, is_spoilt, State, Rows, EndReason, NoMemory, Both, Between, AreBetween, side, Terms, Step, run, start, Shown, carried, TakesPackets, stops, uses_all, RunsDry, StopsBehind, Refuses, FindsNoMemory, attends, hears_all, hears_times, with_events, with_carrier, Starves, End, Holding, waits, all_quiet, concluded_carrier, starved_over, Crossing, CarriesPiece, crossing, TwoEnds, end_at, reachable, Entry, within, reach_after, other, terms_in, carriers_of, StandsAt, StandsAtArrivals, waiting_in, quieted, told_entries, ShowsFirst, Reach, Side, Left, Right, ends_end as ends, EndLine as Line}
 use Rattle.osi_pair.proofs.StandingFinish.{terms_at, order_of}
 use Rattle.osi_pair.proofs.StandingHanded.{CarriedLaw, handed, HoldsMore, handed_at}
 use Rattle.osi_pair.proofs.StandingPacket.{quiet_of}

@@ -35,7 +35,7 @@ words_by js es e = grind arith
 abbrev pub tables_at : TwoEnds → List Step → Tables
 tables_at p steps = run (start (terms_in (terms_of p.left.end.carrier.local p.right.end.carrier.local))) steps
 
-is_run : (p : TwoEnds) (steps : List Step) → StandsAt p steps → IsTableRun (tables_at p steps)
+pub is_run : (p : TwoEnds) (steps : List Step) → StandsAt p steps → IsTableRun (tables_at p steps)
 is_run p steps h = grind arith
 
 journal_at : (p : TwoEnds) (steps : List Step) → StandsAt p steps → journal_in p.journal ≡ (tables_at p steps).journal

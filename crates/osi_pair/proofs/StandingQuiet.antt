@@ -1,26 +1,7 @@
 -- The lines of an end, when all that waited was shown.
 use Rattle.std.proofs.Common.{◌≡◌, ℕ, ◌==◌, Bool, true, false, if◌then◌else◌, List, [], ◌∷◌, ◌++◌, map, Option, Some, None, option_map, refl, sym, ap, ◌∙◌, arith}
-use Rattle.osi_carrier.specs.Rows.{put}
 use Rattle.osi_session.specs.Listening.{Move}
-use Rattle.osi_stack.specs.State.{Line}
-use Rattle.osi_pair.proofs.Vocabulary.{eqb-true, append-nil, RiseFrom, AreUpTo, Rows, value_at, Shown, AllCameAbout, AreApart, kept_at, line_after, End, session_in, IsInOrder, waiting_in, quieted}
-
-abbrev pub quiet_line : Line → Line
-quiet_line line = record line { waiting = [] }
-
-value_by : (n r : ℕ) (line : Line) (lines : Rows Line) (b : Bool) → (r == n) ≡ b → value_at n (quieted lines) ≡ option_map quiet_line (value_at n lines) →
-    value_at n (quieted ((r, line) ∷ lines)) ≡ option_map quiet_line (value_at n ((r, line) ∷ lines))
-value_by n r line lines b e more = grind arith
-
-pub quiet_value : (n : ℕ) (lines : Rows Line) → value_at n (quieted lines) ≡ option_map quiet_line (value_at n lines)
-quiet_value n [] = refl
-quiet_value n ((r, line) ∷ lines) = value_by n r line lines (r == n) refl (quiet_value n lines)
-
-quiet_session : (o : Option Line) → session_in (option_map quiet_line o) ≡ session_in o
-quiet_session o = grind arith
-
-pub quiet_kept : (n : ℕ) (lines : Rows Line) → kept_at n (quieted lines) ≡ kept_at n lines
-quiet_kept n lines = ap session_in (quiet_value n lines) ∙ quiet_session (value_at n lines)
+use Rattle.osi_pair.proofs.Vocabulary.{eqb-true, append-nil, RiseFrom, AreUpTo, Rows, value_at, Shown, AllCameAbout, AreApart, kept_at, line_after, End, session_in, IsInOrder, waiting_in, quieted, put_row as put, EndLine as Line, quieted_at, quieted_apart, quieted_up}
 
 pub quiet_waits : (lines : Rows Line) → waiting_in (quieted lines) ≡ []
 quiet_waits [] = refl
@@ -43,17 +24,6 @@ quiet_same ((r, line) ∷ lines) e =
 
 -- ---- an end stays in order
 
-quiet_none : (o : Option Line) → o ≡ None → option_map quiet_line o ≡ None
-quiet_none o e = ap (option_map quiet_line) e
-
-quiet_apart : (lines : Rows Line) → AreApart lines → AreApart (quieted lines)
-quiet_apart [] h = tt
-quiet_apart ((r, line) ∷ lines) h = (quiet_value r lines ∙ quiet_none (value_at r lines) h.0, quiet_apart lines h.1)
-
-quiet_up : (n : ℕ) (lines : Rows Line) → AreUpTo n lines → AreUpTo n (quieted lines)
-quiet_up n [] h = tt
-quiet_up n ((r, line) ∷ lines) h = (h.0, quiet_up n lines h.1)
-
 quiet_rise : (n : ℕ) (lines : Rows Line) → RiseFrom n lines → RiseFrom n (quieted lines)
 quiet_rise n [] h = tt
 quiet_rise n ((r, line) ∷ lines) h = (h.0, quiet_rise r lines h.1)
@@ -63,7 +33,7 @@ quiet_came [] h = tt
 quiet_came ((r, line) ∷ lines) h = (h.0, quiet_came lines h.1)
 
 pub quiet_order : (e : End) → IsInOrder e → IsInOrder (record e { lines = quieted e.lines })
-quiet_order e o = grind (arith, quiet_apart, quiet_up, quiet_kept, quiet_rise, quiet_came)
+quiet_order e o = grind (arith, quieted_apart, quieted_up, quieted_at, quiet_rise, quiet_came)
 
 -- ---- what one session shows
 

@@ -3,8 +3,7 @@ use Rattle.std.proofs.Common.{◌≡◌, refl, sym, ◌∙◌, ap, subst, ℕ, z
 use Rattle.osi_carrier.specs.declared.faults.OpenError.TheVariants as opening
 use Rattle.osi_machine.specs.Machine as machine
 use Rattle.osi_machine.specs.Worlds as worlds
-use Rattle.osi_stack.specs.declared.connecting.Connect.{Connect}
-use Rattle.osi_pair.proofs.Vocabulary.{eqb-true, nat_tests, length-map, list_any, slice_get, Class, Zero, Two, may_connect, class_error, room_error, or_else, was_given, RiseFrom, AreUpTo, Rows, value_at, Connection, asked, linked, closing, State as Carrier, EndReason, OpenError, absent, Both, Between, AreBetween, Terms, terms_of, Ending, Refusal, has_ended, negotiating, one_connection, too_many, references_used_up, not_selected, too_long, connection_at, is_waiting, is_live, is_known, is_class_0, live_count, is_long_selector, refusal_by, Line, Tables, refusal, transport_of, Transport, unit_bits, is_profile, calling_octets, called_octets, is_long_address, is_long, terms_error, after_open, connect_error, ConnectError, NotSelected, TooLong, asked_of, TwoEnds, answer_with, transport_in, class_in, ending_in, offer_in, answer_in, carriers_of, Stands}
+use Rattle.osi_pair.proofs.Vocabulary.{eqb-true, nat_tests, length-map, list_any, slice_get, Class, Zero, Two, may_connect, class_error, room_error, or_else, was_given, RiseFrom, AreUpTo, Rows, value_at, Connection, asked, linked, closing, State as Carrier, EndReason, OpenError, absent, Both, Between, AreBetween, Terms, terms_of, Ending, Refusal, has_ended, negotiating, one_connection, too_many, references_used_up, not_selected, too_long, connection_at, is_waiting, is_live, is_known, is_class_0, live_count, is_long_selector, refusal_by, Line, Tables, refusal, transport_of, Transport, unit_bits, is_profile, calling_octets, called_octets, is_long_address, is_long, terms_error, after_open, connect_error, ConnectError, NotSelected, TooLong, asked_of, TwoEnds, answer_with, transport_in, class_in, ending_in, offer_in, answer_in, carriers_of, Stands, ConnectCall as Connect}
 use Rattle.osi_pair.proofs.StandingActs.{place_given}
 
 -- ---- the live connections are those of the lines

@@ -2,9 +2,8 @@
 use Rattle.std.proofs.Common.{◌≡◌, ◌<◌, ◌≤◌, ℕ, ◌&&◌, Bool, true, false, not, if◌then◌else◌, [], length, Some, None, IfSome, refl, sym, ap, subst, ◌∙◌, arith}
 use Rattle.osi_message.specs.Written.{unit_of}
 use Rattle.osi_session.specs.Respond.{over}
-use Rattle.osi_session.specs.declared.state.State.{State}
 use Rattle.osi_stack.proofs.Shortness.{SpduLaws, sent_short}
-use Rattle.osi_pair.proofs.Vocabulary.{IsOctets, Offer, offer_sent, IsInOctets, Meaning, CN, RF, AB, AA, Said, said_of, IsSendable, written, Input, opened, refused, broken, taken, Standing, begun, denied, rests, react, is_wait_transport, is_aborting, is_ended, Outcome, in_aborting, in_ended, reply_for, respond, respond_unit, Verdict, dropped, faulty, fine, verdict, enacted, functional_units, has_data, are_sizes}
+use Rattle.osi_pair.proofs.Vocabulary.{IsOctets, Offer, offer_sent, IsInOctets, Meaning, CN, RF, AB, AA, Said, said_of, IsSendable, written, Input, opened, refused, broken, taken, Standing, begun, denied, rests, react, is_wait_transport, is_aborting, is_ended, Outcome, in_aborting, in_ended, reply_for, respond, respond_unit, Verdict, dropped, faulty, fine, verdict, enacted, functional_units, has_data, are_sizes, SessionState as State}
 
 -- what is sent can be handed to the carrier
 pub record CanGo (x : Meaning) : Type 0 where

@@ -1,8 +1,7 @@
 -- Two ends stand as they should behind a unit with which no session acts.
 use Rattle.std.proofs.Common.{◌≡◌, ℕ, ◌<◌, ◌≤◌, Bool, true, false, List, [], ◌∷◌, ◌++◌, Option, Some, None, is_some, option_map, refl, sym, ap, subst, ◌∙◌, arith, inr}
 use Rattle.osi_between.specs.Messages as carrier
-use Rattle.osi_stack.specs.State.{Line}
-use Rattle.osi_pair.proofs.Vocabulary.{append-nil, Held, Value, Place, place_at, connection_in, Rows, State, reference_of, Between, last_of, under_way, put_in, is_cut, progress_of, AreLike, kind_of, Progress, leaves_use, connection_at, delivers, learns, Line as TableLine, Tables, seen_from, end_of, step, unseen, Message, Standing, Shown, told_all, kept_at, End, TwoEnds, end_at, other, side_in, is_caller, carriers_of, IsInOrder, Stands, Goes, HasJoined, joining, is_parting, message_in, waiting_in, Reach, Side, Left, Right, Listener, discards, is_ended, is_over, implied, gone_is, StaysCalm, over_calm}
+use Rattle.osi_pair.proofs.Vocabulary.{append-nil, Held, Value, Place, place_at, connection_in, Rows, State, reference_of, Between, last_of, under_way, put_in, is_cut, progress_of, AreLike, kind_of, Progress, leaves_use, connection_at, delivers, learns, Line as TableLine, Tables, seen_from, end_of, step, unseen, Message, Standing, Shown, told_all, kept_at, End, TwoEnds, end_at, other, side_in, is_caller, carriers_of, IsInOrder, Stands, Goes, HasJoined, joining, is_parting, message_in, waiting_in, Reach, Side, Left, Right, Listener, discards, is_ended, is_over, implied, gone_is, StaysCalm, over_calm, EndLine as Line, SessionState}
 use Rattle.osi_pair.proofs.StandingArrived.{PacketActs}
 use Rattle.osi_pair.proofs.StandingFinish.{terms_at, DidAt, TablesAfter, OtherSessions, is_agree, line_then, finish, known_then, was_at}
 use Rattle.osi_pair.proofs.StandingRests.{step_opens, tables_delivered, tables_rest, is_awaited, learns_row, turn_rests, answer_for, unless_broken, put_unless, answers_same, rests, sends_then, spare_by}
@@ -12,7 +11,6 @@ use Rattle.osi_pair.proofs.StandingTurned.{IsSeen, seen, seen_twice, with_holdin
 use Rattle.osi_pair.proofs.StandingWays.{shuts, out_keeps, back_comes, back_waits, Comes, Alone, alone_of, is_tsdu, BehindFirst, behind_first}
 use Rattle.osi_pair.proofs.StandingCut.{cut_none, end_out, end_back}
 use Rattle.osi_pair.proofs.StandingListens.{kept_of, discards_over}
-use Rattle.osi_session.specs.declared.state.State.{State as SessionState}
 
 -- ---- the end that took the unit
 
@@ -78,16 +76,10 @@ none_sent true channel = sym (append-nil channel)
 none_sent false channel = sym (append-nil channel)
 
 pub sends_is : (row : Row) (broken : Bool) (channel : List Message) → leaves_use (before row) (after row) ≡ false → sends_then row broken channel ≡ channel ++ unless_broken broken (answer_for row)
-sends_is quiet broken channel e = none_sent broken channel
-sends_is still broken channel e = none_sent broken channel
 sends_is begins broken channel e = put_unless broken (answer_for begins) channel
 sends_is (refuses reason) broken channel e = put_unless broken (answer_for (refuses reason)) channel
-sends_is agrees broken channel e = none_sent broken channel
-sends_is (denies reason) broken channel e = none_sent broken channel
-sends_is (tells octets) broken channel e = none_sent broken channel
 sends_is (leaves reason) broken channel e = cc
-sends_is (ignores octets) broken channel e = none_sent broken channel
-sends_is (ends m) broken channel e = none_sent broken channel
+sends_is row broken channel e = none_sent broken channel
 
 pub out_row : (s : Side) (p : TwoEnds) (b : Between) (t : Tables) (e : End) (h : Held) (n : ℕ) (l : TableLine) → Stands p b t → (d : DidAt s p b e h n) → IsSeen s n p b l → leaves_use (before d.row) (after d.row) ≡ false →
     (end_at s p).end.carrier.ended ≡ None →

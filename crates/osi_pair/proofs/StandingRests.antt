@@ -3,9 +3,8 @@
 use Rattle.std.proofs.Common.{◌≡◌, ℕ, Bool, true, false, if◌then◌else◌, List, [], ◌∷◌, ◌++◌, length, map, Option, Some, None, is_some, refl, sym, ap, subst, ◌∙◌, ◌⊎◌, inl, inr, arith}
 use Rattle.osi_between.specs.Messages as carrier
 use Rattle.osi_machine.specs.Core as machine
-use Rattle.osi_machine.specs.Tables.{noted}
 use Rattle.osi_machine.specs.Worlds as worlds
-use Rattle.osi_pair.proofs.Vocabulary.{append-nil, kind_of, AreLike, Terms, by_two, by_zero, refusing, Ending, delivers, shown_at, connection_at, with_connection, learns, Seat, Line, Turn, Tables, seen_from, side_of, unseen, without_first, message_taken, taken_in, delivered_to, after_turn, closes_by, stays, end_of, step, Message, Transport, unit, ask, agree, deny, bye, over, put, with_same, with_other, with_count, Standing, side_in, message_in, word_in, terms_in, Word, Side}
+use Rattle.osi_pair.proofs.Vocabulary.{append-nil, kind_of, AreLike, Terms, by_two, by_zero, refusing, Ending, delivers, shown_at, connection_at, with_connection, learns, Seat, Line, Turn, Tables, seen_from, side_of, unseen, without_first, message_taken, taken_in, delivered_to, after_turn, closes_by, stays, end_of, step, Message, Transport, unit, ask, agree, deny, bye, over, put, with_same, with_other, with_count, Standing, side_in, message_in, word_in, terms_in, Word, Side, noted_in as noted}
 use Rattle.osi_pair.proofs.StandingFinish.{TablesAfter, line_then}
 use Rattle.osi_pair.proofs.StandingRows.{Row, quiet, still, begins, refuses, agrees, denies, tells, leaves, ignores, ends, before, after, arrived_in, put_for, is_row}
 use Rattle.osi_pair.proofs.StandingSeats.{transport_by}

@@ -1,11 +1,9 @@
 -- What may come to an end, row by row: where the connection stands there, the message with which the unit
 -- arrives, if any, and what is put in answer.
 use Rattle.std.proofs.Common.{◌≡◌, ℕ, zero, suc, true, false, List, [], ◌∷◌, Some, None, refl, arith}
-use Rattle.osi_class.specs.Link.{Standing}
-use Rattle.osi_carrier.specs.Happenings.{opened, refused}
 use Rattle.osi_between.specs.Messages.{Message, ask, agree, deny, bye, over}
 use Rattle.osi_between.specs.Progress as progress
-use Rattle.osi_pair.proofs.Vocabulary.{flat_map, AllByRecursion, Value, request, confirm, disconnect, disconnected, data0, data2, acknowledge, error, Place, never, was_given, connection_in, Happening, tsdu, closed, asked, linked, closing, told_of, answers_in, progress_of, message, messages_after, begun_at, Progress, not_yet, awaiting, in_use, shutting, behind_arrivals, behind_puts, may_arrive, Terms, by_two, by_zero, refusing, accepts_in}
+use Rattle.osi_pair.proofs.Vocabulary.{flat_map, AllByRecursion, Value, request, confirm, disconnect, disconnected, data0, data2, acknowledge, error, Place, never, was_given, connection_in, Happening, tsdu, closed, asked, linked, closing, told_of, answers_in, progress_of, message, messages_after, begun_at, Progress, not_yet, awaiting, in_use, shutting, behind_arrivals, behind_puts, may_arrive, Terms, by_two, by_zero, refusing, accepts_in, Link as Standing, told_opened as opened, told_refused as refused}
 use Rattle.osi_pair.proofs.StandingArriving.{comes}
 
 pub data Row : Type 0 where
@@ -104,9 +102,8 @@ row_never (refusing reason) n (request c) h = record { row = refuses reason; is 
 row_never terms n u h = cc
 
 row_confirm : (terms : Terms) (n : ℕ) (u : Value) → accepts_in terms ≡ true → messages_after [] (u ∷ []) ≡ agree ∷ [] → HasRow terms n (was_given (Some asked)) (agree ∷ []) (answers_in terms (was_given (Some asked)) u)
-row_confirm by_two n u e h = record { row = agrees; is = tt; stands = refl; comes_as = refl; answers = refl; told = refl }
-row_confirm by_zero n u e h = record { row = agrees; is = tt; stands = refl; comes_as = refl; answers = refl; told = refl }
 row_confirm (refusing reason) n u e h = cc
+row_confirm terms n u e h = record { row = agrees; is = tt; stands = refl; comes_as = refl; answers = refl; told = refl }
 
 row_asked : (terms : Terms) (n : ℕ) (u : Value) → comes (accepts_in terms) (was_given (Some asked)) u ≡ true → HasRow terms n (was_given (Some asked)) (messages_after [] (u ∷ [])) (answers_in terms (was_given (Some asked)) u)
 row_asked by_two n (confirm destination c) h = row_confirm by_two n (confirm destination c) refl refl
@@ -116,19 +113,16 @@ row_asked terms n u h = cc
 
 -- at an open connection, where CRs are accepted
 row_quiet : (terms : Terms) (n peer : ℕ) (link : Standing) (put : List Message) → accepts_in terms ≡ true → put ≡ [] → HasRow terms n (was_given (Some (linked peer link))) [] put
-row_quiet by_two n peer link put e none = record { row = quiet; is = tt; stands = refl; comes_as = refl; answers = none; told = refl }
-row_quiet by_zero n peer link put e none = record { row = quiet; is = tt; stands = refl; comes_as = refl; answers = none; told = refl }
 row_quiet (refusing reason) n peer link put e none = cc
+row_quiet terms n peer link put e none = record { row = quiet; is = tt; stands = refl; comes_as = refl; answers = none; told = refl }
 
 row_tells : (terms : Terms) (n peer : ℕ) (link : Standing) (octets : List ℕ) (put : List Message) → accepts_in terms ≡ true → put ≡ [] → HasRow terms n (was_given (Some (linked peer link))) (message octets ∷ []) put
-row_tells by_two n peer link octets put e none = record { row = tells octets; is = tt; stands = refl; comes_as = refl; answers = none; told = refl }
-row_tells by_zero n peer link octets put e none = record { row = tells octets; is = tt; stands = refl; comes_as = refl; answers = none; told = refl }
 row_tells (refusing reason) n peer link octets put e none = cc
+row_tells terms n peer link octets put e none = record { row = tells octets; is = tt; stands = refl; comes_as = refl; answers = none; told = refl }
 
 row_leaves : (terms : Terms) (n peer : ℕ) (link : Standing) (reason : ℕ) (put : List Message) → accepts_in terms ≡ true → put ≡ over ∷ [] → HasRow terms n (was_given (Some (linked peer link))) (bye reason ∷ []) put
-row_leaves by_two n peer link reason put e one = record { row = leaves reason; is = tt; stands = refl; comes_as = refl; answers = one; told = refl }
-row_leaves by_zero n peer link reason put e one = record { row = leaves reason; is = tt; stands = refl; comes_as = refl; answers = one; told = refl }
 row_leaves (refusing reason) n peer link why put e one = cc
+row_leaves terms n peer link reason put e one = record { row = leaves reason; is = tt; stands = refl; comes_as = refl; answers = one; told = refl }
 
 row_linked : (terms : Terms) (n peer : ℕ) (link : Standing) (u : Value) → accepts_in terms ≡ true → comes true (was_given (Some (linked peer link))) u ≡ true →
     ((v : Value) → answers_in terms (was_given (Some (linked peer link))) v ≡ answers_in by_two (was_given (Some (linked peer link))) v) →
@@ -143,9 +137,8 @@ row_linked terms n peer link u e h a = cc
 
 -- at one that is closing
 row_still : (terms : Terms) (n peer : ℕ) (put : List Message) → accepts_in terms ≡ true → put ≡ [] → HasRow terms n (was_given (Some (closing peer))) [] put
-row_still by_two n peer put e none = record { row = still; is = tt; stands = refl; comes_as = refl; answers = none; told = refl }
-row_still by_zero n peer put e none = record { row = still; is = tt; stands = refl; comes_as = refl; answers = none; told = refl }
 row_still (refusing reason) n peer put e none = cc
+row_still terms n peer put e none = record { row = still; is = tt; stands = refl; comes_as = refl; answers = none; told = refl }
 
 row_shut : (terms : Terms) (n peer : ℕ) (m : Message) (put : List Message) → accepts_in terms ≡ true → may_arrive shutting m ≡ true → put ≡ [] →
     HasRow terms n (was_given (Some (closing peer))) (m ∷ []) put
@@ -167,12 +160,9 @@ row_closing terms n peer (request c) put e may none = row_shut terms n peer ask 
 row_closing terms n peer (confirm destination c) put e may none = row_shut terms n peer agree put e may.0 none
 row_closing terms n peer (disconnect destination source reason user) put e may none = row_shut terms n peer _ put e may.0 none
 row_closing terms n peer (disconnected destination source) put e may none = row_shut terms n peer over put e may.0 none
-row_closing terms n peer (data0 false user) put e may none = row_still terms n peer put e none
 row_closing terms n peer (data0 true user) put e may none = row_shut terms n peer _ put e may.0 none
-row_closing terms n peer (data2 destination number false user) put e may none = row_still terms n peer put e none
 row_closing terms n peer (data2 destination number true user) put e may none = row_shut terms n peer _ put e may.0 none
-row_closing terms n peer (acknowledge credit destination number) put e may none = row_still terms n peer put e none
-row_closing terms n peer (error destination cause) put e may none = row_still terms n peer put e none
+row_closing terms n peer u put e may none = row_still terms n peer put e none
 
 pub row_of : (terms : Terms) (n : ℕ) (place : Place) (u : Value) → comes (accepts_in terms) place u ≡ true →
     AllByRecursion (λ m. may_arrive (progress_of place) m ≡ true) (messages_after (begun_at (connection_in place)) (u ∷ [])) →

@@ -2,8 +2,7 @@
 use Rattle.std.proofs.Common.{◌≡◌, ℕ, ◌<◌, Bool, true, false, nat_lt, if◌then◌else◌, List, Option, Some, None, is_some, IfSome, refl, sym, ap, ◌∙◌, arith}
 use Rattle.osi_between.specs.Progress as progress
 use Rattle.osi_machine.specs.Worlds as worlds
-use Rattle.osi_stack.specs.State.{Line}
-use Rattle.osi_pair.proofs.Vocabulary.{nat_tests, Held, Place, never, was_given, place_at, IsOrderly, Rows, value_at, Connection, asked, linked, closing, State, beyond, progress_of, Progress, not_yet, awaiting, in_use, shutting, Seat, awaits, Message, Transport, IsInOctets, Listener, Standing, is_ended, kept_at, End, Holding, session_in, session_at, transport_in, is_parting, IsSeated, joining}
+use Rattle.osi_pair.proofs.Vocabulary.{nat_tests, Held, Place, never, was_given, place_at, IsOrderly, Rows, value_at, Connection, asked, linked, closing, State, beyond, progress_of, Progress, not_yet, awaiting, in_use, shutting, Seat, awaits, Message, Transport, IsInOctets, Listener, Standing, is_ended, kept_at, End, Holding, session_in, session_at, transport_in, is_parting, IsSeated, joining, EndLine as Line}
 
 -- ---- by how far the connection is
 

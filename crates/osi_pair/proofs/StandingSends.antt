@@ -1,9 +1,8 @@
 -- An end sends a unit on an open connection: the tables put it.
 use Rattle.std.proofs.Common.{◌≡◌, ℕ, Bool, true, false, List, [], ◌∷◌, Some, None, is_some, refl, sym, ap, subst, ◌∙◌, arith}
-use Rattle.osi_class.specs.Link.{Standing as Link}
 use Rattle.osi_between.specs.Messages as carrier
 use Rattle.osi_machine.specs.Worlds as worlds
-use Rattle.osi_pair.proofs.Vocabulary.{IsOctets, IsShortTsdu, sent, place_at, value_at, State, linked, Between, last_of, under_way, put_in, is_cut, progress_of, Progress, in_use, leaves_use, connection_at, Line, Tables, seen_from, stays, puts, Message, Transport, unit, put, Meaning, written, with_carrier, Holding, TwoEnds, end_at, other, side_in, is_caller, carriers_of, IsInOrder, Stands, HasJoined, Side, Left, Right, given_live}
+use Rattle.osi_pair.proofs.Vocabulary.{IsOctets, IsShortTsdu, sent, place_at, value_at, State, linked, Between, last_of, under_way, put_in, is_cut, progress_of, Progress, in_use, leaves_use, connection_at, Line, Tables, seen_from, stays, puts, Message, Transport, unit, put, Meaning, written, with_carrier, Holding, TwoEnds, end_at, other, side_in, is_caller, carriers_of, IsInOrder, Stands, HasJoined, Side, Left, Right, given_live, Link}
 use Rattle.osi_pair.proofs.StandingActed.{ActsOn, CarrierActs, end_with, pair_with, ways_at, acted_line, acted_stands, seen_at, session_in_use, stood_in_use, stands_now, OutNow, acted_by}
 use Rattle.osi_pair.proofs.StandingActs.{StandsOn}
 use Rattle.osi_pair.proofs.StandingArrived.{CarrierLaws}

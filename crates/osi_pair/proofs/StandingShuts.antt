@@ -1,13 +1,10 @@
 -- In class 0 a session closes: the end comes. There is one connection, so that what its session shows stands in
 -- the order of the tables.
 use Rattle.std.proofs.Common.{◌≡◌, ℕ, ◌≤◌, Bool, true, false, List, [], ◌∷◌, ◌++◌, map, Option, Some, None, refl, sym, ap, subst, ◌∙◌, arith}
-use Rattle.osi_class.specs.Link.{Standing as Link}
 use Rattle.osi_carrier.specs.State as carriers
-use Rattle.osi_machine.specs.Tables.{noted as noted_in}
 use Rattle.osi_machine.specs.Worlds as worlds
-use Rattle.osi_stack.specs.State.{Line}
 use Rattle.osi_pair.specs.Entries.{ends}
-use Rattle.osi_pair.proofs.Vocabulary.{append-nil, append_assoc, map-append, Held, closed_with, Place, never, was_given, RiseFrom, AreUpTo, Rows, value_at, State, linked, Closed, Both, Between, AreBetween, last_of, Terms, by_zero, given_in, closed_here, delivers, shown_at, Tables, closes_by, stays, after_end, step, Message, Meaning, tsdus_sent, Input, react, Shown, after_packet, concludes, all_lost, shown_at_loss, answers, End, answers_by, TwoEnds, end_at, Entry, side_in, is_caller, carriers_of, Stands, waiting_in, quieted, shown_entries, Side, Left, Right}
+use Rattle.osi_pair.proofs.Vocabulary.{append-nil, append_assoc, map-append, Held, closed_with, Place, never, was_given, RiseFrom, AreUpTo, Rows, value_at, State, linked, Closed, Both, Between, AreBetween, last_of, Terms, by_zero, given_in, closed_here, delivers, shown_at, Tables, closes_by, stays, after_end, step, Message, Meaning, tsdus_sent, Input, react, Shown, after_packet, concludes, all_lost, shown_at_loss, answers, End, answers_by, TwoEnds, end_at, Entry, side_in, is_caller, carriers_of, Stands, waiting_in, quieted, shown_entries, Side, Left, Right, Link, noted_in, EndLine as Line}
 use Rattle.osi_pair.proofs.StandingAnswering.{AnswerLaws, closes_alone, known_zero}
 use Rattle.osi_pair.proofs.StandingAnswers.{answered_end, line_with, closing_by, move_ends, linked_closes, moved_order}
 use Rattle.osi_pair.proofs.StandingArrived.{CarrierLaws, PacketActs}

@@ -1,11 +1,11 @@
 -- A packet is taken: how two ends stand at a list of steps, when its users were shown what came of it.
 use Rattle.std.proofs.Common.{◌≡◌, ℕ, false, List, [], ◌∷◌, ◌++◌, Option, None, refl, sym, ap, subst, ◌∙◌, arith}
 use Rattle.osi_machine.specs.Core as machine
-use Rattle.osi_stack.specs.State.{Line}
-use Rattle.osi_pair.proofs.Vocabulary.{AllByRecursion, Held, IsPacket, Rows, State, EndReason, Between, Terms, IsTableRun, Step, connects, calls, delivers, breaks, HasNumber, ends as ends_side, Tables, run, start, Shown, after_packet, End, TwoEnds, end_at, noted, side_in, is_caller, terms_in, carriers_of, AreDeliveries, AreArrivals, StandsAtArrivals, Stands, StandsAt, waiting_in, quieted, told_entries, Side}
+use Rattle.osi_pair.proofs.Vocabulary.{AllByRecursion, Held, IsPacket, Rows, State, EndReason, Between, Terms, IsTableRun, Step, connects, calls, delivers, breaks, HasNumber, ends as ends_side, Tables, run, start, Shown, after_packet, End, TwoEnds, end_at, noted, side_in, is_caller, terms_in, carriers_of, AreDeliveries, AreArrivals, StandsAtArrivals, Stands, StandsAt, waiting_in, quieted, told_entries, Side, EndLine as Line}
 use Rattle.osi_pair.proofs.StandingArrived.{PacketActs, packet_acts}
 use Rattle.osi_pair.proofs.StandingFinish.{terms_at, order_of}
 use Rattle.osi_pair.proofs.StandingPacket.{PacketLaws, StandsBehind, is_heard, unheard_packet, terms_then, both_carrier, both_held}
+pub use Rattle.osi_pair.proofs.StandingPromises.{tables_at, is_run}
 use Rattle.osi_pair.proofs.StandingQuiet.{quiet_same}
 use Rattle.osi_pair.proofs.StandingShown.{shown_pair, StandsShown}
 use Rattle.osi_pair.proofs.StandingTurned.{with_holding, turned_pair}
@@ -41,12 +41,6 @@ pub unheard_shown : PacketLaws → (s : Side) (p : TwoEnds) (b : Between) (t : T
 unheard_shown laws s p b t packet h old alive pa e = behind_shown s p t packet h (unheard_packet laws s p b t packet h old alive pa e)
 
 -- ---- at a list of steps
-
-abbrev pub tables_at : TwoEnds → List Step → Tables
-tables_at p steps = run (start (terms_in (terms_at p))) steps
-
-pub is_run : (p : TwoEnds) (steps : List Step) → StandsAt p steps → IsTableRun (tables_at p steps)
-is_run p steps at = record { agreed = _; steps = steps; numbered = at.numbered; reached = refl }
 
 -- what arrives has no number
 numbered_then : (s : machine.Side) (xs ys : List Step) → AllByRecursion HasNumber xs → AreArrivals s ys → AllByRecursion HasNumber (xs ++ ys)

@@ -1,7 +1,6 @@
 -- A packet is taken by an end that lasts: however it is heard, two ends stand at what arrived.
 use Rattle.std.proofs.Common.{◌≡◌, ℕ, Bool, true, false, List, ◌++◌, None, refl, ◌⊎◌, inl, inr, arith}
-use Rattle.osi_stack.specs.Hearing.{ends as ends_end}
-use Rattle.osi_pair.proofs.Vocabulary.{Held, IsPacket, NoMemory, Between, IsTableRun, Step, Tables, after_packet, Starves, End, TwoEnds, end_at, is_caller, carriers_of, StandsAtArrivals, Stands, StandsAt, Side}
+use Rattle.osi_pair.proofs.Vocabulary.{Held, IsPacket, NoMemory, Between, IsTableRun, Step, Tables, after_packet, Starves, End, TwoEnds, end_at, is_caller, carriers_of, StandsAtArrivals, Stands, StandsAt, Side, ends_end}
 use Rattle.osi_pair.proofs.StandingAnswering.{AnswerLaws, moving_packet}
 use Rattle.osi_pair.proofs.StandingArrived.{PacketActs}
 use Rattle.osi_pair.proofs.StandingFinish.{terms_at}

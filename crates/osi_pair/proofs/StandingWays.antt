@@ -2,12 +2,10 @@
 use Rattle.std.proofs.Common.{◌≡◌, ℕ, zero, suc, Bool, true, false, ◌||◌, ◌≤◌, ◌⊎◌, inl, inr, List, [], ◌∷◌, ◌++◌, length, map, take, drop, Option, Some, None, refl, sym, ap, subst, ◌∙◌, append_assoc, arith}
 use Rattle.osi_between.specs.Messages as carrier
 use Rattle.osi_between.specs.Progress as progress
-use Rattle.osi_session.specs.declared.state.State.{State}
-use Rattle.osi_pair.proofs.Vocabulary.{take-append_seam, length-map, map-append, append-nil, take-append-drop, Place, never, was_given, connection_in, asked, linked, closing, progress_of, kind_of, AreLike, Progress, not_yet, awaiting, in_use, shutting, Message, unit, ask, agree, deny, bye, over, EndReason, AreAlike, message_in, word_in, AreUnderWay, IsOverWhenLeft, after_message, IsCalm, StaysCalm, IsNoFaultBehind, over_calm, Word, whole, part, joins, left_of, IsBegun, AreInOrder, MayFollow, most_data, is_leaving, DT, part_octets, First, Middle, Last, list_any}
+use Rattle.osi_pair.proofs.Vocabulary.{take-append_seam, length-map, map-append, append-nil, take-append-drop, Place, never, was_given, connection_in, asked, linked, closing, progress_of, kind_of, AreLike, Progress, not_yet, awaiting, in_use, shutting, Message, unit, ask, agree, deny, bye, over, EndReason, AreAlike, message_in, word_in, AreUnderWay, IsOverWhenLeft, after_message, IsCalm, StaysCalm, IsNoFaultBehind, over_calm, Word, whole, part, joins, left_of, IsBegun, AreInOrder, MayFollow, most_data, is_leaving, DT, part_octets, First, Middle, Last, list_any, SessionState as State, PartPlace}
 use Rattle.osi_pair.proofs.WordLaws.{IsRest, Next, FrontOf, next_is, front_of, cut_behind, cut_fits, AreWords, wholes, put_words, MayLeave, leave_behind, joins_whole, whole_order, whole_left}
 use Rattle.osi_pair.proofs.StandingRows.{Row, quiet, still, begins, refuses, agrees, denies, tells, leaves, ignores, ends, before, after}
 use Rattle.std.proofs.lemmas.List.Folds.{list_any-append}
-use Rattle.osi_message.specs.declared.places.Place.{Place as PartPlace}
 
 abbrev pub Sent : Type 0
 Sent = List carrier.Message
@@ -18,11 +16,9 @@ pub same_alike : (g : Progress) (xs ys : Sent) → xs ≡ ys → AreAlike g xs y
 same_alike g xs ys h = grind arith
 
 alike_append : (g : Progress) (xs ys zs : Sent) → AreAlike g xs ys → AreAlike g (xs ++ zs) (ys ++ zs)
-alike_append not_yet xs ys zs h = ap (λ l. l ++ zs) h
-alike_append awaiting xs ys zs h = ap (λ l. l ++ zs) h
-alike_append in_use xs ys zs h = ap (λ l. l ++ zs) h
 alike_append shutting xs ys zs h = map-append kind_of xs zs ∙ ap (λ l. l ++ map kind_of zs) h ∙ sym (map-append kind_of ys zs)
 alike_append progress.gone xs ys zs h = map-append kind_of xs zs ∙ ap (λ l. l ++ map kind_of zs) h ∙ sym (map-append kind_of ys zs)
+alike_append g xs ys zs h = ap (λ l. l ++ zs) h
 
 pub map_take : {A B : Type 0} (f : A → B) (k : ℕ) (xs : List A) → map f (take k xs) ≡ take k (map f xs)
 map_take f (suc k) (x ∷ xs) = ap (λ r. f x ∷ r) (map_take f k xs)
@@ -34,11 +30,9 @@ kinds_take xs ys gone h =
     ∙ ap (λ (k : ℕ). take k (map kind_of ys ++ map kind_of gone)) (sym (length-map ys kind_of)) ∙ take-append_seam (map kind_of ys) (map kind_of gone)
 
 pub alike_take : (g : Progress) (xs ys gone : Sent) → AreAlike g xs (ys ++ gone) → AreAlike g (take (length ys) xs) ys
-alike_take not_yet xs ys gone h = ap (take (length ys)) h ∙ take-append_seam ys gone
-alike_take awaiting xs ys gone h = ap (take (length ys)) h ∙ take-append_seam ys gone
-alike_take in_use xs ys gone h = ap (take (length ys)) h ∙ take-append_seam ys gone
 alike_take shutting xs ys gone h = kinds_take xs ys gone h
 alike_take progress.gone xs ys gone h = kinds_take xs ys gone h
+alike_take g xs ys gone h = ap (take (length ys)) h ∙ take-append_seam ys gone
 
 -- ---- where one place stays
 
@@ -263,11 +257,9 @@ split_kinds g (x ∷ ms) m rest f h =
     record { first = x; others = ms; parts = refl; is = f (word_in x ∷ []) (m ∷ []) (ap (λ y. y ∷ []) one); stays = f (map word_in ms) rest more }
 
 split : (g : Progress) (ms : List Word) (m : carrier.Message) (rest : Sent) → AreAlike g (map word_in ms) (m ∷ rest) → SplitWords g g ms m rest
-split not_yet ms m rest h = split_same not_yet ms m rest (λ xs ys e. e) h
-split awaiting ms m rest h = split_same awaiting ms m rest (λ xs ys e. e) h
-split in_use ms m rest h = split_same in_use ms m rest (λ xs ys e. e) h
 split shutting ms m rest h = split_kinds shutting ms m rest (λ xs ys e. e) h
 split progress.gone ms m rest h = split_kinds progress.gone ms m rest (λ xs ys e. e) h
+split g ms m rest h = split_same g ms m rest (λ xs ys e. e) h
 
 alike_kind : (g : Progress) (x y : carrier.Message) → AreAlike g (x ∷ []) (y ∷ []) → kind_of x ≡ kind_of y
 alike_kind g x y h = grind arith

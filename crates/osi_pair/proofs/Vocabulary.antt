@@ -19,18 +19,18 @@ pub use Rattle.osi_carrier.proofs.Apart.{absent, beyond, push_here, put_here}
 pub use Rattle.osi_carrier.proofs.AtReferences.{push_other, put_other, put_rise, put_up, without_other}
 pub use Rattle.osi_carrier.proofs.Effects.{free_of, orderly_same, orderly_unit}
 pub use Rattle.osi_carrier.specs.Calls.{begun_by, class_error, closed_on, closed_with, closes, ended_by, kept_in, link_of, may_connect, open_link, or_else, room_error, sent, sent_all, sent_on}
-pub use Rattle.osi_carrier.specs.Happenings.{Happening, closed, tsdu}
+pub use Rattle.osi_carrier.specs.Happenings.{Happening, closed, tsdu, opened as told_opened, refused as told_refused}
 pub use Rattle.osi_carrier.specs.Orderly.{AreUpTo, IsOrderly, RiseFrom}
 pub use Rattle.osi_carrier.specs.Packets.{is_spoilt}
 pub use Rattle.osi_carrier.specs.Place.{Place, connection_in, never, place_at, was_given}
-pub use Rattle.osi_carrier.specs.Rows.{Rows, value_at, without}
+pub use Rattle.osi_carrier.specs.Rows.{Rows, value_at, without, put as put_row}
 pub use Rattle.osi_carrier.specs.State.{Connection, State, asked, closing, linked, packets}
 pub use Rattle.osi_carrier.specs.Told.{is_open}
 pub use Rattle.osi_carrier.specs.declared.ends.EndReason.{EndReason}
 pub use Rattle.osi_carrier.specs.declared.ends.EndReason.TheVariants.{Broken, Closed, NoMemory}
 pub use Rattle.osi_carrier.specs.declared.faults.OpenError.{OpenError}
 pub use Rattle.osi_class.specs.Between.{IsShortTsdu, swapped}
-pub use Rattle.osi_class.specs.Link.{Given, ack, part0, part2, unit_of}
+pub use Rattle.osi_class.specs.Link.{Given, ack, part0, part2, unit_of, Standing as Link}
 pub use Rattle.osi_class.specs.declared.terms.Class.{Class}
 pub use Rattle.osi_class.specs.declared.terms.Class.TheVariants.{Two, Zero}
 pub use Rattle.osi_class.specs.declared.terms.Local.{Local}
@@ -43,7 +43,7 @@ pub use Rattle.osi_machine.specs.Core.{Offer, offer_sent}
 pub use Rattle.osi_machine.specs.Floor.{Token, data_token, has, major, minor, no_token, release}
 pub use Rattle.osi_machine.specs.Machine.{Ending, HasNumber, IsLegal, Machine, Refusal, Step, breaks, call_answered, calls, closed_here, connect_answered, connection_at, connects, delivers, ends, has_ended, is_class_0, is_given, is_known, is_live, is_long_selector, is_waiting, learns, live_count, negotiating, no_memory, not_selected, one_connection, references_used_up, refusal_by, replaced, shown_at, told_of_break, too_long, too_many, with_connection}
 pub use Rattle.osi_machine.specs.Runs.{is_loss, loses}
-pub use Rattle.osi_machine.specs.Tables.{Line, Seat, Tables, Turn, after_end, after_turn, asked_in, asked_with, awaits, call_in, calling, closes_by, cut_channels, delivered_to, end_of, ended_lines, ends_there, made, message_taken, puts, refusal, run, seen_from, shortened, shown_in_order, side_of, start, stays, step, taken_in, transport_of, turned, unseen, without_first}
+pub use Rattle.osi_machine.specs.Tables.{Line, Seat, Tables, Turn, after_end, after_turn, asked_in, asked_with, awaits, call_in, calling, closes_by, cut_channels, delivered_to, end_of, ended_lines, ends_there, made, message_taken, puts, refusal, run, seen_from, shortened, shown_in_order, side_of, start, stays, step, taken_in, transport_of, turned, unseen, without_first, noted as noted_in}
 pub use Rattle.osi_machine.specs.Views.{is_side}
 pub use Rattle.osi_machine.specs.Worlds.{Kept, Message, Transport, World, accepts, agree, ask, bye, deny, over, put, replied, unit, waiting}
 pub use Rattle.osi_message.specs.InOctets.{IsInOctets}
@@ -55,12 +55,13 @@ unfoldable pub use Rattle.osi_message.specs.Reading.{said_at}
 pub use Rattle.osi_message.specs.Sendable.{IsSendable, said_of, words_of}
 pub use Rattle.osi_message.specs.Words.{Words, part_octets, says, word_octets}
 pub use Rattle.osi_message.specs.Written.{written}
+pub use Rattle.osi_message.specs.declared.places.Place.{Place as PartPlace}
 pub use Rattle.osi_message.specs.declared.places.Place.TheVariants.{First, Last, Middle}
 pub use Rattle.osi_session.proofs.JoinedLaws.{inputs_kept, joined_holds}
 pub use Rattle.osi_session.proofs.KeptLaws.{call_keeps, first_arrives, gone_is, last_arrives, middle_arrives}
 pub use Rattle.osi_session.proofs.PhaseLaws.{excluded, implied}
 pub use Rattle.osi_session.proofs.WordLaws.{kept_none, moves_as_whole, others, word_behind, words_of_message}
-pub use Rattle.osi_session.specs.Allowed.{AllHold, Answer, Passed, may_call, most_of, needs, octets_of, refusal_reason, sends, sized}
+pub use Rattle.osi_session.specs.Allowed.{AllHold, Answer, Passed, may_call, most_of, needs, octets_of, refusal_reason, sends, sized, Step as SessionStep}
 unfoldable pub use Rattle.osi_session.specs.Allowed.{allowed}
 pub use Rattle.osi_session.specs.Calls.{Abort, Accept, Call, Data, Give, HasSerial, Major, MajorConfirm, Minor, MinorConfirm, Please, Refuse, Release, ReleaseAccept, ReleaseRefuse, Restart, RestartConfirm, called_by}
 pub use Rattle.osi_session.specs.Joining.{joined_octets, respond_word}
@@ -73,25 +74,29 @@ pub use Rattle.osi_session.specs.Phases.{is_aborting, is_ended, is_over, is_rest
 pub use Rattle.osi_session.specs.Respond.{Outcome, Verdict, bad, dropped, enacted, faulty, fine, in_aborting, in_ended, nothing, reply_for, respond, respond_unit, verdict}
 unfoldable pub use Rattle.osi_session.specs.Respond.{respond_fault}
 pub use Rattle.osi_session.specs.Runs.{HasNumbersInWords}
-pub use Rattle.osi_session.specs.Sessions.{CanBeSent}
+pub use Rattle.osi_session.specs.Sessions.{CanBeSent, awaits as awaits_cn}
 pub use Rattle.osi_session.specs.Shown.{BadUnit, Lost, PeerAbort, Shown, shown_by}
 pub use Rattle.osi_session.specs.Sizes.{answered_sizes, fits_limit, limit_of}
+pub use Rattle.osi_session.specs.Sound.{IsSound as IsSoundState}
 pub use Rattle.osi_session.specs.Units.{functional_units, has_data}
 unfoldable pub use Rattle.osi_session.specs.Units.{is_profile}
 pub use Rattle.osi_session.specs.Whole.{in_words, is_apart, listening, standing_of}
 pub use Rattle.osi_session.specs.declared.faults.CallError.{CallError}
 pub use Rattle.osi_session.specs.declared.phases.Phase.{Phase}
+pub use Rattle.osi_session.specs.declared.state.State.{State as SessionState}
 pub use Rattle.osi_spdu.specs.Fields.{unit_bits}
 pub use Rattle.osi_spdu.specs.Known.{Contents, Units}
 pub use Rattle.osi_spdu.specs.Sizes.{are_sizes, named_by}
 pub use Rattle.osi_spdu.specs.Values.{is_size}
+pub use Rattle.osi_stack.proofs.Alike.{quieted_at}
 pub use Rattle.osi_stack.proofs.Events.{all_quiet, concluded_carrier, never_starved, starved_over}
 pub use Rattle.osi_stack.proofs.Folds.{at_line, came_moves, came_numbers, session_all}
 pub use Rattle.osi_stack.proofs.Handing.{handed, hands_none, puts_words, sent_by_itself}
+pub use Rattle.osi_stack.proofs.InLive.{kept_first, quieted_apart, quieted_up}
 pub use Rattle.osi_stack.proofs.Keeping.{hears_keep}
 pub use Rattle.osi_stack.proofs.Lifting.{both, or_first, or_second, packet_is, quiet_attends}
 pub use Rattle.osi_stack.proofs.Linking.{Stays, apart_push, apart_put, used_at, used_by}
-pub use Rattle.osi_stack.proofs.Moves.{Readings, are_lost, came_is, used_live}
+pub use Rattle.osi_stack.proofs.Moves.{Readings, are_lost, came_is, used_live, one_heard}
 pub use Rattle.osi_carrier.proofs.Reacts.{none_of}
 pub use Rattle.osi_stack.proofs.Rising.{rise_joins, rise_push}
 pub use Rattle.osi_stack.proofs.Soundness.{packet_rises, up_more}
@@ -99,13 +104,14 @@ pub use Rattle.osi_stack.specs.Calls.{after_open, call_error, called_octets, cal
 pub use Rattle.osi_stack.specs.Coming.{after_unit, carries_out}
 pub use Rattle.osi_stack.specs.Feeding.{Feeds, FindsNoMemory, Refuses, RunsDry, StopsBehind, TakesPackets, stops, uses_all}
 pub use Rattle.osi_stack.specs.Folds.{AllCameAbout, CameAbout}
-pub use Rattle.osi_stack.specs.Hearing.{RunsOut, Starves, after_packet, all_lost, attends, concludes, hears, hears_all, hears_first, hears_next, hears_times, opens, shown_at_loss, starves, with_carrier, with_events}
+pub use Rattle.osi_stack.specs.Hearing.{RunsOut, Starves, after_packet, all_lost, attends, concludes, hears, hears_all, hears_first, hears_next, hears_times, opens, shown_at_loss, starves, with_carrier, with_events, ends as ends_end}
 pub use Rattle.osi_stack.specs.Links.{AreApart, IsSound, Soundness, needs_link}
 pub use Rattle.osi_stack.specs.Messages.{Says, kept_at, put_by, told_all}
 pub use Rattle.osi_stack.specs.Moving.{answers, by_line, carrier_by, limit_for, line_after, line_by, to_session}
 pub use Rattle.osi_stack.specs.Needs.{needs_memory}
-pub use Rattle.osi_stack.specs.State.{End, Holding, IsAttended, fresh_end, fresh_line, is_used, joined_in, joined_live, joined_of, session_at, session_in, used_lines, waits}
+pub use Rattle.osi_stack.specs.State.{End, Holding, IsAttended, fresh_end, fresh_line, is_used, joined_in, joined_live, joined_of, session_at, session_in, used_lines, waits, Line as EndLine}
 pub use Rattle.osi_stack.specs.Transport.{answers_by}
+pub use Rattle.osi_stack.specs.declared.connecting.Connect.{Connect as ConnectCall}
 pub use Rattle.osi_stack.specs.declared.connecting.ConnectError.{ConnectError}
 pub use Rattle.osi_stack.specs.declared.connecting.ConnectError.TheVariants.{NotSelected, TooLong}
 pub use Rattle.osi_tpdu.specs.Limits.{tsap_octets}

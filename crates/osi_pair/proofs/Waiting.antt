@@ -1,8 +1,7 @@
 -- What waits for the users, one by one.
 use Rattle.std.proofs.Common.{◌≡◌, ◌∙◌, ℕ, List, [], ◌∷◌, ◌++◌, map, Some, None, refl, sym, ap, arith}
 use Rattle.osi_stack.specs.Calls.{without_first}
-use Rattle.osi_stack.specs.State.{Line}
-use Rattle.osi_pair.proofs.Vocabulary.{Rows, Shown, first_by, first_shown, rest_by, waiting_in, quieted}
+use Rattle.osi_pair.proofs.Vocabulary.{Rows, Shown, first_by, first_shown, rest_by, waiting_in, quieted, EndLine as Line}
 
 none_by : (r : ℕ) (w : List Shown) (lines : Rows Line) → first_by r w (first_shown lines) ≡ None →
     (first_shown lines ≡ None → waiting_in lines ≡ []) → map (λ shown. (r, shown)) w ++ waiting_in lines ≡ []

@@ -11,10 +11,9 @@ joins_append b (part Last o ∷ xs) ys = ap (λ r. unit (DT (begun_octets b ++ o
 
 pub left_append : (b : Option (List ℕ)) (xs ys : List Word) → left_of b (xs ++ ys) ≡ left_of (left_of b xs) ys
 left_append b [] ys = refl
-left_append b (whole m ∷ xs) ys = left_append None xs ys
 left_append b (part First o ∷ xs) ys = left_append (Some o) xs ys
 left_append b (part Middle o ∷ xs) ys = left_append (Some (begun_octets b ++ o)) xs ys
-left_append b (part Last o ∷ xs) ys = left_append None xs ys
+left_append b (x ∷ xs) ys = left_append None xs ys
 
 pub order_append : (b : Option (List ℕ)) (xs ys : List Word) → AreInOrder b xs → AreInOrder (left_of b xs) ys → AreInOrder b (xs ++ ys)
 order_append b [] ys h k = k
