@@ -1,20 +1,7 @@
 -- The line of a reference, at its place among the lines.
 use Rattle.std.proofs.Common.{◌≡◌, ℕ, ◌+◌, ◌≤◌, ◌==◌, Bool, suc, true, false, [], ◌∷◌, length, get_or, set, is_some, Option, Some, None, Result, Ok, Err, OnOk, IfErr, refl, sym, ap, subst, ◌∙◌, arith}
+pub use Rattle.osi_carrier.proofs.Places.{nowhere}
 use Rattle.osi_stack.proofs.Vocabulary.{position_or_len, common_steps, placed, here_is, Carrying, Rows, value_at, place_of, put, State as Carrier, Call, Input, Listener, CallError, session_refusal, session_error, Refuses, line_by, carrier_by, by_line, to_session, Line, End, session_in}
-
--- ---- a reference that has no place
-
-nowhere_by : {X : Type 0} (r q : ℕ) (y : X) (rows : Rows X) (b : Bool) → (q == r) ≡ b →
-    (length rows ≤ position_or_len (λ row. row.0 == r) rows → value_at r rows ≡ None) →
-    length ((q, y) ∷ rows) ≤ position_or_len (λ row. row.0 == r) ((q, y) ∷ rows) → value_at r ((q, y) ∷ rows) ≡ None
-nowhere_by r q y rows b t more h = grind arith
-
-nowhere_at : {X : Type 0} (r : ℕ) (rows : Rows X) → length rows ≤ position_or_len (λ row. row.0 == r) rows → value_at r rows ≡ None
-nowhere_at r [] h = refl
-nowhere_at r ((q, y) ∷ rows) h = nowhere_by r q y rows (q == r) refl (nowhere_at r rows) h
-
-pub nowhere : (r : ℕ) (rows : Rows Line) → place_of r rows ≡ None → value_at r rows ≡ None
-nowhere r rows e = nowhere_at r rows (grind (arith, common_steps))
 
 found_by : (r : ℕ) (rows : Rows Line) (o : Option ℕ) → place_of r rows ≡ o → is_some o ≡ is_some (value_at r rows)
 found_by r rows None e = sym (ap is_some (nowhere r rows e))
@@ -45,7 +32,7 @@ heard_rows (Ok a) r rows items i row new c d input e here same h k =
     same_end d.state (carrier_by r row.1.session input c.state) (set items i new) (put r line rows)
     (ap (λ (x : Carrying). x.state) k ∙ ap (λ n. carrier_by n row.1.session input c.state) named)
     (ap (λ l. set l i new) same ∙ ap (λ x. set rows i x) (h ∙ ap (λ n. (n, line)) named) ∙ sym (p.put_is line))
-    ∙ sym (ap (λ o. by_line r o input (record { carrier = c.state; lines = rows })) (here_is r rows i row e here))
+    ∙ sym (ap (λ o. by_line r o input (record { carrier = c.state; lines = rows })) (here_is r rows rows i row e here refl))
 
 -- ---- calls at a place
 
@@ -54,11 +41,11 @@ pub refusal_at : (r : ℕ) (rows : Rows Line) (i : ℕ) (row : ℕ × Line) (cal
 refusal_at r rows i row call c e here =
     let p = placed r rows i row e in
     let named = ap (λ (x : ℕ × Line). x.0) here ∙ p.named in
-    ap (λ n. session_refusal n row.1.session call c) named ∙ sym (ap (λ o. session_refusal r (session_in o) call c) (here_is r rows i row e here))
+    ap (λ n. session_refusal n row.1.session call c) named ∙ sym (ap (λ o. session_refusal r (session_in o) call c) (here_is r rows rows i row e here refl))
 
 pub session_here : (r : ℕ) (rows : Rows Line) (i : ℕ) (row : ℕ × Line) → place_of r rows ≡ Some i → row ≡ get_or rows i row →
     row.1.session ≡ session_in (value_at r rows)
-session_here r rows i row e here = sym (ap session_in (here_is r rows i row e here))
+session_here r rows i row e here = sym (ap session_in (here_is r rows rows i row e here refl))
 
 pub allowed_at : {A E : Type 0} (result : Result A E) (r : ℕ) (rows : Rows Line) (i : ℕ) (row : ℕ × Line) (call : Call) (c : Carrier) → place_of r rows ≡ Some i →
     row ≡ get_or rows i row → OnOk result (session_refusal row.0 row.1.session call c ≡ None) → OnOk result (session_refusal r (session_in (value_at r rows)) call c ≡ None)

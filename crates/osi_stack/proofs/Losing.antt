@@ -45,7 +45,7 @@ stopped_rows (Err f) r rows items i row new e here same h =
     let p = placed r rows i row e in
     let named = ap (λ (x : ℕ × Line). x.0) here ∙ p.named in
     ap all_lost (ap (λ l. set l i new) same ∙ ap (λ x. set rows i x) (h ∙ ap (λ n. (n, loses row.1)) named) ∙ sym (p.put_is (loses row.1)))
-    ∙ lost_put r row.1 rows (here_is r rows i row e here)
+    ∙ lost_put r row.1 rows (here_is r rows rows i row e here refl)
 
 -- ---- one after the other
 

@@ -1,4 +1,4 @@
-use Rattle.std.proofs.Common.{◌≡◌, Some, None, get_or, sym, ap, ◌∙◌}
+use Rattle.std.proofs.Common.{refl, ◌≡◌, Some, None, get_or, sym, ap, ◌∙◌}
 use Rattle.osi_stack.proofs.Vocabulary.{here_is, Rows, place_of, selectors_in, Line}
 use Rattle.osi_stack.proofs.Found.{nowhere}
 use Rattle.osi_stack.proofs.lines.Lines.selectors.Goals as goal
@@ -13,4 +13,4 @@ returns c =
     let row = c.index.result.now in
     let some : place_of c.args.reference c.args.self.now ≡ Some c.in-Some.place = ap (λ (l : Rows Line). place_of c.args.reference l) (sym (c.as_slice.ensures.value ∙ c.self.view_is)) ∙ sym c.place_in-place.ensures ∙ c.in-Some.is in
     let here = c.index.ensures ∙ ap (λ (l : Rows Line). get_or l c.in-Some.place row) c.self.view_is in
-    c.selectors.ensures ∙ sym (ap selectors_in (here_is c.args.reference c.args.self.now c.in-Some.place row some here))
+    c.selectors.ensures ∙ sym (ap selectors_in (here_is c.args.reference c.args.self.now c.args.self.now c.in-Some.place row some here refl))
