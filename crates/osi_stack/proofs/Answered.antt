@@ -25,9 +25,6 @@ answered_behind r (opened q ∷ first) later h = or_right (q == r) (answered r (
 answered_behind r (refused q reason ∷ first) later h = or_right (q == r) (answered r (first ++ later)) (answered_behind r first later h)
 answered_behind r (event ∷ first) later h = answered_behind r first later h
 
-other_first : (q r : ℕ) (b : Bool) → r ≢ q → ((q == r) || b) ≡ b
-other_first q r b ne = ap (λ (x : Bool). x || b) (ne_eqb q r (λ same. ne (sym same)))
-
 -- an event of another connection
 pub answered_other : (r : ℕ) (event : Happening) (events : List Happening) → r ≢ told_of event → answered r (event ∷ events) ≡ answered r events
 answered_other r event events ne = grind arith

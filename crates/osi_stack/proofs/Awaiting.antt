@@ -91,24 +91,13 @@ session_asked law q input event rest e of over quiet all =
 
 -- ---- one event
 
-unwaiting : (s : Listener) (b : Bool) → is_wait_transport s.state.phase ≡ b → is_wait_transport (if b then begun s else rests s).next.state.phase ≡ false
-unwaiting s true e = refl
-unwaiting s false e = e
-
-unwaiting_denied : (s : Listener) (reason : ℕ) (b : Bool) → is_wait_transport s.state.phase ≡ b → is_wait_transport (if b then denied reason s else rests s).next.state.phase ≡ false
-unwaiting_denied s reason true e = refl
-unwaiting_denied s reason false e = e
-
 opened_waits : (s : Listener) → is_wait_transport (react s opened).next.state.phase ≡ false
 unfolding react
-opened_waits s = unwaiting s (is_wait_transport s.state.phase) refl
+opened_waits s = grind arith
 
 refused_waits : (s : Listener) (reason : ℕ) → is_wait_transport (react s (refused reason)).next.state.phase ≡ false
 unfolding react
-refused_waits s reason = unwaiting_denied s reason (is_wait_transport s.state.phase) refl
-
-awaits_none : {A : Type 0} (s : Listener) → s ≡ awaits → is_wait_transport s.state.phase ≡ true → A
-awaits_none s is n = let no : false ≡ true = ap (λ (x : Listener). is_wait_transport x.state.phase) (sym is) ∙ n in cc
+refused_waits s reason = grind arith
 
 joined_asked : (q : ℕ) (rest : List Happening) (e : End) → AreApart e.lines → value_at q e.lines ≡ None → AllAsked (told.opened q ∷ rest) e → AllAsked rest (opens q None e)
 joined_asked q rest e apart none all =

@@ -51,10 +51,7 @@ heard_rows (Ok a) r rows items i row new c d input e here same h k =
 
 pub refusal_at : (r : ℕ) (rows : Rows Line) (i : ℕ) (row : ℕ × Line) (call : Call) (c : Carrier) → place_of r rows ≡ Some i → row ≡ get_or rows i row →
     session_refusal row.0 row.1.session call c ≡ session_refusal r (session_in (value_at r rows)) call c
-refusal_at r rows i row call c e here =
-    let p = placed r rows i row e in
-    let named = ap (λ (x : ℕ × Line). x.0) here ∙ p.named in
-    ap (λ n. session_refusal n row.1.session call c) named ∙ sym (ap (λ o. session_refusal r (session_in o) call c) (here_is r rows i row e here))
+refusal_at r rows i row call c e here = grind (arith, placed, session_refusal, session_in, here_is)
 
 pub session_here : (r : ℕ) (rows : Rows Line) (i : ℕ) (row : ℕ × Line) → place_of r rows ≡ Some i → row ≡ get_or rows i row →
     row.1.session ≡ session_in (value_at r rows)

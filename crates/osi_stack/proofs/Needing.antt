@@ -27,7 +27,4 @@ closing_needs r c e other = closing_on r c (open_link r c) e other
 
 pub needs_at : {A E : Type 0} (result : Result A E) (r : ℕ) (rows : Rows Line) (i : ℕ) (row : ℕ × Line) (input : Input) (c : Carrier) → place_of r rows ≡ Some i → row ≡ get_or rows i row →
     OnErr result (session_needs row.0 row.1.session input c ≡ true) → OnErr result (session_needs r (session_in (value_at r rows)) input c ≡ true)
-needs_at result r rows i row input c e here h =
-    let named = ap (λ (x : ℕ × Line). x.0) here ∙ (placed r rows i row e).named in
-    subst (λ (n : ℕ). OnErr result (session_needs n (session_in (value_at r rows)) input c ≡ true)) named
-    (subst (λ (o : Option Listener). OnErr result (session_needs row.0 o input c ≡ true)) (session_here r rows i row e here) h)
+needs_at result r rows i row input c e here h = grind (arith, placed, session_needs, session_in, value_at, session_here)

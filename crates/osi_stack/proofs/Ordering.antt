@@ -72,10 +72,7 @@ has_first r ((p, y) ∷ lines) h =
 
 -- that of a live connection is of use
 has_used : (r : ℕ) (live : Rows Connection) (lines : Rows Line) → AreApart lines → value_at r live ≡ Some asked → IsSome (value_at r lines) → IsSome (value_at r (used_lines live lines))
-has_used r live lines apart here h = elim (used_at r live lines apart) [
-  | inl same ↦ subst IsSome (sym same) h
-  | inr gone ↦ (let no : None ≡ Some asked = sym gone.1 ∙ here in cc)
-]
+has_used r live lines apart here h = grind (arith, used_at, asked)
 
 -- ---- what a caller hears
 
@@ -266,9 +263,6 @@ fresh_ordered is_caller local = record { rise = tt; awaiting = λ r h. cc }
 caller_by : (b : Bool) (o : Option OpenError) → (if not b then Some NotCaller else o) ≡ None → b ≡ true
 caller_by true o h = refl
 caller_by false o h = cc
-
-caller_of : (c : Carrier) → may_connect c ≡ None → c.is_caller ≡ true
-caller_of c h = caller_by c.is_caller _ h
 
 -- the new connection, and those before it
 joined_has : (r q : ℕ) (x : Line) (e : End) (b : Bool) → (r == q) ≡ b → value_at q e.lines ≡ None → IsOrdered e → value_at r (e.carrier.live ++ (q, asked) ∷ []) ≡ Some asked →

@@ -11,14 +11,6 @@ use Rattle.osi_stack.proofs.Stepwise.{Carries, session_carried, event_heard, Hea
 
 -- ---- what sessions do
 
--- no connection of it is open
-none_open : (r : ℕ) (c : Carrier) → is_some c.ended ≡ true → open_link r c ≡ None
-none_open r c over = ap (λ (b : Bool). if b then None else link_of (value_at r c.live)) over
-
--- what it sends and closes is nothing
-nothing_over : (c : Carrier) → is_some c.ended ≡ true → Carries (λ x. x ≡ c)
-nothing_over c over = grind arith
-
 -- no event changes the carrier
 hears_over : (c : Carrier) → is_some c.ended ≡ true → Hears (λ x. x.carrier ≡ c)
 hears_over c over = grind arith
@@ -26,10 +18,7 @@ hears_over c over = grind arith
 -- ---- all events
 
 first_over : (events : List Happening) (e : End) → is_some e.carrier.ended ≡ true → (hears_first events e).carrier.ended ≡ e.carrier.ended
-first_over [] e over = refl
-first_over (event ∷ events) e over =
-    let mid = with_events events e in
-    ap (λ (c : Carrier). c.ended) (event_heard (λ x. x.carrier ≡ mid.carrier) (hears_over mid.carrier over) event mid refl)
+first_over events e over = search (arith, with_events, event_heard, hears_over)
 
 pub times_over : (n : ℕ) (e : End) → is_some e.carrier.ended ≡ true → (hears_times n e).carrier.ended ≡ e.carrier.ended
 times_over zero e over = refl

@@ -40,12 +40,7 @@ up_more m n [] less up = tt
 up_more m n ((r, line) ∷ lines) less up = ((let here = up.0 in omega arith), up_more m n lines less up.1)
 
 up_at_by : (r n : ℕ) (rows : Rows Connection) (b : Bool) → nat_le r n ≡ b → AreUpTo n rows → IsSome (value_at r rows) → r ≤ n
-up_at_by r n rows true e up some = grind (arith, nat_tests)
-up_at_by r n rows false e up some =
-    let above : n < r = grind (arith, nat_tests) in
-    let none = beyond r n rows up above in
-    let no : false ≡ true = sym (ap is_some none) ∙ some in
-    cc
+up_at_by r n rows b e up some = grind (arith, nat_tests, beyond, is_some)
 
 -- a live connection has a reference that was given
 pub up_at : (r n : ℕ) (rows : Rows Connection) → AreUpTo n rows → IsSome (value_at r rows) → r ≤ n
@@ -69,12 +64,8 @@ pub sent_given : (r : ℕ) (tsdu : List ℕ) (o : Option (ℕ × Link)) (c : Car
 sent_given r tsdu None c = refl
 sent_given r tsdu (Some link) c = refl
 
-closes_given : (r peer reason : ℕ) (class : Option Class) (c : Carrier) → (closes r peer reason class c).given ≡ c.given
-closes_given r peer reason class c = grind arith
-
 pub closed_given : (r reason : ℕ) (o : Option (ℕ × Link)) (c : Carrier) → (closed_on r reason o c).given ≡ c.given
-closed_given r reason None c = refl
-closed_given r reason (Some (peer, link)) c = closes_given r peer reason c.class c
+closed_given r reason o c = grind arith
 
 -- the carrier is orderly, and lines have references that were given
 pub record Fits (e : End) : Type 0 where
@@ -243,14 +234,7 @@ first_apart [] apart = tt
 first_apart ((r, line) ∷ lines) apart = first_keep AreApart r line lines (first_gone r lines apart.0, first_apart lines apart.1) (λ left. apart)
 
 pub first_sound : (e : End) → IsSound e → IsSound (record e { lines = without_first e.lines })
-first_sound e sound over =
-    let s = sound over in
-    record {
-      orderly = s.orderly;
-      apart = first_apart e.lines s.apart;
-      known = first_up e.carrier.given e.lines s.known;
-      links = λ lasts r t is n. s.links lasts r t (sym (kept_first r e.lines) ∙ is) n;
-    }
+first_sound e sound over = grind (arith, first_apart, first_up, kept_first)
 
 pub carried_sound : (octets : ℕ) (e : End) → IsSound e → IsSound (carried octets e)
 carried_sound octets e sound over = grind arith
