@@ -2,7 +2,7 @@
 use Rattle.std.proofs.Common.{option_map, ◌≡◌, ℕ, ◌==◌, Bool, true, false, not, List, [], ◌∷◌, length, Option, Some, None, is_some, refl, sym, ap, ◌∙◌, if◌then◌else◌, arith}
 use Rattle.osi_carrier.specs.Runs as runs
 use Rattle.osi_stack.specs.Runs.{Call, told_of}
-use Rattle.osi_stack.proofs.Vocabulary.{limit_of, flat_map, kept_in, Rows, value_at, State as Carrier, Meaning, Call as SessionCall, Listener, called, react, CallError, NoSuchConnection, has_given, connect_error, call_error, or_else, reply_refusal, session_refusal, phase_of, phase_at, quieted, hushed, put_back, carried_in, AreAlike, AreAlikeByReference, LookAlike, Line, End, Holding, session_in, session_at, joined_in}
+use Rattle.osi_stack.proofs.Vocabulary.{flat_map, kept_in, Rows, value_at, Call as SessionCall, Listener, NoSuchConnection, has_given, connect_error, call_error, session_refusal, phase_of, phase_at, quieted, hushed, put_back, carried_in, AreAlike, AreAlikeByReference, LookAlike, Line, End, Holding, session_in, session_at, joined_in}
 use Rattle.osi_stack.proofs.Keeps.{joined_quiet, kept_same}
 
 -- a line for which nothing waits

@@ -1,6 +1,6 @@
 -- Which connections that were asked for are told to be agreed to, or denied.
-use Rattle.std.proofs.Common.{◌≡◌, ◌≢◌, ℕ, ◌+◌, ◌==◌, Bool, true, false, ◌||◌, List, [], ◌∷◌, ◌++◌, refl, sym, ap, ◌∙◌, ◌⊎◌, arith}
-use Rattle.osi_stack.proofs.Vocabulary.{ne_eqb, or_right, Happening, tsdu, closed, faulted, told_of, told_opened as opened, told_refused as refused}
+use Rattle.std.proofs.Common.{◌≡◌, ◌≢◌, ℕ, ◌+◌, ◌==◌, Bool, true, false, ◌||◌, List, [], ◌∷◌, ◌++◌, refl, ◌∙◌, ◌⊎◌, arith}
+use Rattle.osi_stack.proofs.Vocabulary.{or_right, Happening, told_of, told_opened as opened, told_refused as refused}
 
 -- that a connection is agreed to, or denied, is among these
 abbrev pub answered : ℕ → List Happening → Bool

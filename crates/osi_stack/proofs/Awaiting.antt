@@ -2,8 +2,7 @@
 use Rattle.std.proofs.Common.{◌≡◌, ◌≢◌, ℕ, ◌+◌, ◌==◌, Bool, true, false, ◌||◌, List, ◌∷◌, ◌++◌, length, Option, Some, None, is_some, refl, sym, ap, subst, ◌∙◌, inl, inr, ◌⊎◌, arith, if◌then◌else◌, []}
 use Rattle.osi_carrier.specs.Happenings as told
 use Rattle.osi_carrier.specs.Packets as carriers
-use Rattle.osi_session.specs.Listening.{rests}
-use Rattle.osi_stack.proofs.Vocabulary.{eqb-true, eq-eqb, Fed, Standing as Link, Class, Zero, Local, beyond, push_here, put_other, push_other, open_link, link_of, sent_on, closes, closed_on, Happening, IsOrderly, told_of, value_at, Connection, asked, closing, State as Carrier, Broken, Call, Input, Listener, called, opened, refused, broken, came, begun, denied, react, is_wait_transport, awaits, connects, calls_with, breaks, carried, without_first, Feeds, opens, hears, hears_next, hears_times, hears_all, with_events, with_carrier, after_packet, ends, AreApart, HasAsked, Soundness, IsSound, kept_at, to_session, Line, End, Holding, IsAttended, fresh_end, waits, Connect, input_of}
+use Rattle.osi_stack.proofs.Vocabulary.{eqb-true, eq-eqb, Fed, Standing as Link, Class, Zero, Local, beyond, push_here, put_other, push_other, open_link, link_of, sent_on, closes, closed_on, Happening, IsOrderly, told_of, value_at, Connection, asked, closing, State as Carrier, Broken, Call, Input, Listener, called, opened, refused, react, is_wait_transport, awaits, connects, calls_with, breaks, carried, without_first, Feeds, opens, hears, hears_next, hears_times, hears_all, with_events, with_carrier, after_packet, ends, AreApart, HasAsked, Soundness, IsSound, kept_at, to_session, Line, End, Holding, IsAttended, fresh_end, waits, Connect, input_of}
 use Rattle.osi_stack.proofs.Answered.{answered, answered_other, answered_behind}
 use Rattle.osi_stack.proofs.Events.{concluded_carrier}
 use Rattle.osi_stack.proofs.Keeping.{session_keeps}

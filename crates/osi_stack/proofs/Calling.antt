@@ -1,6 +1,6 @@
 -- What a call sends, and what it does not do.
 use Rattle.std.proofs.Common.{◌≡◌, ℕ, Bool, false, List, [], ◌++◌, Option, Some, None, is_none, Result, Ok, Err, OnOk, IfErr, refl, sym, ap, subst, ◌∙◌, if◌then◌else◌, arith}
-use Rattle.osi_stack.proofs.Vocabulary.{append-nil, Carrying, send_all_error, open_link, State as Carrier, Meaning, tsdus_sent, Answer, allowed, Call, CallError, Listener, Move, called, answered, react, Shown, limit_of, send_refusal, reply_refusal, move_refusal, or_else, Refuses, answers, line_by, carrier_by, shows_connect, Line, hands, answers_by}
+use Rattle.osi_stack.proofs.Vocabulary.{append-nil, Carrying, send_all_error, open_link, State as Carrier, Meaning, tsdus_sent, Answer, allowed, Call, CallError, Listener, Move, called, answered, react, limit_of, send_refusal, reply_refusal, move_refusal, or_else, Refuses, answers, line_by, carrier_by, Line, hands, answers_by}
 
 -- a call shows nothing and closes nothing, and one that is accepted sends something
 pub record IsCall (move : Move) : Type 0 where

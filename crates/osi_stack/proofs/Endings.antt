@@ -4,7 +4,7 @@ use Rattle.std.proofs.Common.{◌≡◌, ℕ, ◌+◌, ◌-◌, ◌<◌, ◌^◌
 use Rattle.osi_tpkt.proofs.Fronts.{one_fault}
 use Rattle.osi_carrier.proofs.Outcomes.{Compared, compare, init_front, no_further, at_same, offsets_join}
 use Rattle.osi_stack.specs.Feeding.{Refuses}
-use Rattle.osi_stack.proofs.Vocabulary.{append-nil, take_all, flat_map, Held, IsPartial, IsFaultOf, ArePackets, offset_of, Fed, TpktFault, PacketLaws, fault_behind, front_used, packets_joined, packets_leave, Tpkt, EndReason, Fault, Shown, stops, uses_all, TakesPackets, RunsDry, StopsBehind, Feeds, after_packet, ends, all_lost, all_waiting, hushed, put_back, Account, account_of, with_packets, Calls, HasRoom, CallsAlong, CallsInRoom, used_in, told_in, carried_in, account_along, AreAlike, feeding, telling, carrying, End, Holding, waits, none_of, EndCall as Call}
+use Rattle.osi_stack.proofs.Vocabulary.{append-nil, take_all, flat_map, Held, IsPartial, IsFaultOf, ArePackets, offset_of, Fed, TpktFault, PacketLaws, fault_behind, front_used, packets_joined, packets_leave, Tpkt, Fault, Shown, stops, uses_all, TakesPackets, RunsDry, StopsBehind, Feeds, after_packet, ends, all_lost, all_waiting, hushed, put_back, Account, account_of, with_packets, Calls, HasRoom, CallsAlong, CallsInRoom, used_in, told_in, carried_in, account_along, AreAlike, feeding, telling, carrying, End, Holding, waits, none_of, EndCall as Call}
 use Rattle.osi_stack.proofs.Accounts.{made, after_more, account_quiet, account_told, account_joined, account_packet, packets_apart, packets_done, with_joined}
 use Rattle.osi_stack.proofs.Lasting.{Lasts, account_over, in_front, packets_within, no_packets_end, no_fault_ends, reads_lasts}
 use Rattle.osi_stack.proofs.Lifting.{both, or_first, or_second, never}

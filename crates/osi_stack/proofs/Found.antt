@@ -1,5 +1,5 @@
 -- The line of a reference, at its place among the lines.
-use Rattle.std.proofs.Common.{◌≡◌, ℕ, ◌+◌, ◌≤◌, ◌==◌, Bool, suc, true, false, [], ◌∷◌, length, get_or, set, is_some, Option, Some, None, Result, Ok, Err, OnOk, IfErr, refl, sym, ap, subst, ◌∙◌, arith}
+use Rattle.std.proofs.Common.{◌≡◌, ℕ, ◌+◌, ◌≤◌, ◌==◌, Bool, [], ◌∷◌, length, get_or, set, is_some, Option, Some, None, Result, Ok, Err, OnOk, IfErr, refl, sym, ap, subst, ◌∙◌, arith}
 use Rattle.osi_stack.proofs.Vocabulary.{position_or_len, common_steps, placed, here_is, Carrying, Rows, value_at, place_of, put, State as Carrier, Call, Input, Listener, CallError, session_refusal, session_error, Refuses, line_by, carrier_by, by_line, to_session, Line, End, session_in}
 
 -- ---- a reference that has no place

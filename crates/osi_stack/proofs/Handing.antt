@@ -1,8 +1,8 @@
 -- TSDUs that are handed over together.
-use Rattle.std.proofs.Common.{◌≡◌, ◌∙◌, refl, sym, ap, ℕ, ◌≤◌, Bool, true, false, ◌||◌, List, [], ◌∷◌, length, map, nat_lt, Option, Some, None, option_map, unwrap_or, Ok, Err, Result, arith, if◌then◌else◌}
+use Rattle.std.proofs.Common.{◌≡◌, ◌∙◌, refl, sym, ap, ℕ, ◌≤◌, Bool, true, false, ◌||◌, List, [], ◌∷◌, length, map, nat_lt, Option, Some, None, option_map, unwrap_or, arith, if◌then◌else◌}
 use Rattle.osi_carrier.specs.declared.faults.SendError.TheVariants.{TooLong}
-use Rattle.osi_stack.specs.declared.told.Told.TheVariants.{Opened, Refused, Tsdu, Lost}
-use Rattle.osi_stack.proofs.Vocabulary.{list_any, nat_tests, or-false, send_error, send_all_error, lengths_error, open_link, sent, sent_on, sent_all, State as Carrier, SendError, Standing as Link, Meaning, DT, is_parted, tsdus_sent, in_one, said_at, Words, Word, says, part, word_octets, sent_alone, Listener, Move, came, came_as, SpduFault, AreShort, message_of, does, puts, limit_for, answers, told_input, sent_unless, hands, answers_by, Told}
+use Rattle.osi_stack.specs.declared.told.Told.TheVariants.{Tsdu}
+use Rattle.osi_stack.proofs.Vocabulary.{list_any, nat_tests, or-false, send_error, send_all_error, lengths_error, open_link, sent, sent_on, sent_all, State as Carrier, SendError, Standing as Link, Meaning, DT, is_parted, tsdus_sent, in_one, Words, Word, says, part, word_octets, sent_alone, Listener, Move, came, AreShort, message_of, does, puts, limit_for, answers, told_input, sent_unless, hands, answers_by, Told}
 
 -- ---- one, and none
 

@@ -1,6 +1,6 @@
 -- An accepted call of a session does the same where indications wait as where all was told.
 use Rattle.std.proofs.Common.{◌≡◌, ℕ, ◌==◌, Bool, true, false, List, [], ◌∷◌, ◌++◌, Option, Some, None, option_map, refl, sym, ap, ◌∙◌, arith}
-use Rattle.osi_stack.proofs.Vocabulary.{append-nil, Rows, value_at, put, Call as SessionCall, Input, Listener, called, Shown, call_error, shown_of, all_waiting, line_by, by_line, to_session, quieted, hushed, put_back, account_of, Line, End}
+use Rattle.osi_stack.proofs.Vocabulary.{append-nil, Rows, value_at, put, Call as SessionCall, Input, Listener, called, Shown, call_error, all_waiting, line_by, by_line, to_session, quieted, hushed, put_back, account_of, Line, End}
 use Rattle.osi_stack.proofs.Accounts.{made}
 use Rattle.osi_stack.proofs.Alike.{call_hushed, hush, quieted_value}
 use Rattle.osi_stack.proofs.Moves.{says_is}

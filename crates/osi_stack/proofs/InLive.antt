@@ -1,7 +1,7 @@
 -- Two accounts that are the same but for lines of connections that are gone stay so, whatever comes.
 use Rattle.std.proofs.Common.{◌≡◌, ℕ, ◌==◌, Bool, true, false, ◌||◌, List, [], ◌∷◌, ◌++◌, Option, Some, None, is_some, refl, sym, ap, ◌∙◌, if◌then◌else◌, arith}
 use Rattle.osi_carrier.specs.Packets as carriers
-use Rattle.osi_stack.proofs.Vocabulary.{eqb-true, eq-eqb, or_right, orderly_same, link_of, AreUpTo, Rows, value_at, Connection, asked, State as Carrier, is_open, none_of, implied, Listener, broken, react, is_wait_transport, may_abort, shows_loss, Shown, Lost, shown_at_loss, after_packet, with_carrier, AreApart, HasAsked, IsSound, kept_at, all_waiting, quieted, hushed, put_back, live_lines, pruned, Account, account_of, Line, End, IsAttended, line_waits, session_in, waits}
+use Rattle.osi_stack.proofs.Vocabulary.{eq-eqb, or_right, orderly_same, link_of, AreUpTo, Rows, value_at, Connection, asked, is_open, none_of, implied, Listener, broken, react, is_wait_transport, may_abort, shows_loss, Shown, shown_at_loss, after_packet, with_carrier, AreApart, HasAsked, IsSound, kept_at, all_waiting, quieted, hushed, put_back, live_lines, pruned, Account, account_of, Line, End, IsAttended, line_waits, waits}
 use Rattle.osi_stack.proofs.Accounts.{made}
 use Rattle.osi_stack.proofs.Alike.{quieted_at}
 use Rattle.osi_stack.proofs.Awaiting.{StillWaits, packet_asked}
@@ -9,7 +9,7 @@ use Rattle.osi_stack.proofs.Comings.{attended_then}
 use Rattle.osi_stack.proofs.FirstShown.{quiet_line}
 use Rattle.osi_stack.proofs.Lifting.{both, or_first, or_second, packet_is}
 use Rattle.osi_stack.proofs.Linking.{SessionLaws}
-use Rattle.osi_stack.proofs.Pruning.{only_row, AreStill}
+use Rattle.osi_stack.proofs.Pruning.{AreStill}
 use Rattle.osi_stack.proofs.Reached.{reached, unreached, SameInLive}
 use Rattle.osi_stack.proofs.Soundness.{packet_sound}
 

@@ -1,7 +1,7 @@
 -- What sessions leave of the carrier as it was: the events that wait, and how it ended.
-use Rattle.std.proofs.Common.{◌≡◌, ℕ, List, Option, Some, None, is_some, refl, sym, ap, if◌then◌else◌, ◌∙◌, ◌∷◌, [], arith}
+use Rattle.std.proofs.Common.{◌≡◌, ℕ, None, refl, if◌then◌else◌, ◌∙◌, ◌∷◌, [], arith}
 use Rattle.osi_carrier.specs.Happenings as told
-use Rattle.osi_stack.proofs.Vocabulary.{open_link, link_of, sent_on, closes, closed_on, sent, closed_with, Happening, is_spoilt, value_at, State as Carrier, EndReason, Standing as Link, Class, Zero, Two, Input, hears, to_session, End, told_of, input_of}
+use Rattle.osi_stack.proofs.Vocabulary.{Happening, is_spoilt, State as Carrier, Input, hears, to_session, End, told_of, input_of}
 use Rattle.osi_stack.proofs.Stepwise.{Carries, session_carried, event_heard}
 
 pub record Keeps (old new : Carrier) : Type 0 where

@@ -2,8 +2,8 @@
 use Rattle.std.proofs.Common.{◌≡◌, ℕ, Bool, true, false, not, Option, Some, None, Result, Ok, Err, is_some, IsSome, refl, sym, ap, subst, ◌∙◌, if◌then◌else◌, arith}
 use Rattle.osi_carrier.proofs.ByStage.{no_link}
 use Rattle.osi_session.specs.declared.faults.CallError.TheVariants as error
-use Rattle.osi_session.specs.declared.phases.Phase.TheVariants.{WaitTransport, WaitCn, Connecting, Answering, Ready, MajorAsked, MajorDue, Releasing, ReleaseDue, Restarting, RestartDue, Aborting, Ended}
-use Rattle.osi_stack.proofs.Vocabulary.{OnOk, OnErr, IfErr, Held, Carrying, Rows, value_at, Connection, State as Carrier, is_open, EndReason, allowed, Call, Listener, Move, called, answered, react, is_wait_transport, is_over, limit_of, CallError, Phase, has_given, move_refusal, session_refusal, session_error, call_error, table_error, Refuses, by_rule, needs_link, kept_at, IsSettled, Line, End, Holding, holding, session_in, session_at, SessionState as State}
+use Rattle.osi_session.specs.declared.phases.Phase.TheVariants.{Aborting, Ended}
+use Rattle.osi_stack.proofs.Vocabulary.{OnOk, OnErr, IfErr, Held, Carrying, Rows, value_at, Connection, State as Carrier, is_open, EndReason, allowed, Call, Listener, called, answered, react, is_wait_transport, is_over, limit_of, CallError, Phase, has_given, move_refusal, session_refusal, session_error, call_error, table_error, Refuses, by_rule, needs_link, kept_at, IsSettled, Line, End, Holding, holding, session_in, session_at, SessionState as State}
 use Rattle.osi_stack.proofs.Settling.{answered_by_table}
 
 -- ---- a session that is over

@@ -1,8 +1,8 @@
 -- A live connection of which something may be shown has addresses.
-use Rattle.std.proofs.Common.{◌≡◌, ℕ, Bool, true, false, List, [], ◌∷◌, Option, Some, None, IsSome, is_some, option_map, refl, sym, ap, subst, ◌∙◌, if◌then◌else◌, arith}
-use Rattle.osi_session.specs.Causes.{unit_asks, asks_first, asks_for_connection, is_taken}
+use Rattle.std.proofs.Common.{◌≡◌, ℕ, Bool, true, false, List, [], ◌∷◌, Option, Some, None, IsSome, is_some, refl, sym, ◌∙◌, if◌then◌else◌, arith}
+use Rattle.osi_session.specs.Causes.{asks_for_connection, is_taken}
 use Rattle.osi_session.specs.Shown.{shows_connect}
-use Rattle.osi_stack.proofs.Vocabulary.{IfSome, tsaps_at, Rows, value_at, TsapIds, known_is, Meaning, CN, Words, as_message, Call, Input, Listener, called, taken, opened, refused, broken, came, react, after_input, shows_loss, Phase, addressed, selectors_in, addresses_at, has_given, phase_of, phase_at, IsNamed, AllNamed, line_by, Selectors, selectors_of, selectors_said, selectors_told, IsSettled, Line, End, session_in, session_at}
+use Rattle.osi_stack.proofs.Vocabulary.{IfSome, tsaps_at, Rows, value_at, TsapIds, known_is, Call, Input, Listener, called, taken, opened, refused, broken, came, react, after_input, shows_loss, addressed, selectors_in, addresses_at, has_given, phase_of, phase_at, IsNamed, AllNamed, line_by, selectors_told, IsSettled, Line, End, session_in, session_at}
 use Rattle.osi_stack.proofs.OfLines.{LinesStay, line_at}
 
 -- what a user is shown first

@@ -1,8 +1,8 @@
 -- What packets that tell nothing do to an end, and what the last of them does.
 use Rattle.std.proofs.Common.{◌≡◌, ℕ, ◌||◌, Bool, true, false, List, ◌∷◌, ◌++◌, Option, Some, None, is_some, refl, sym, ap, subst, ◌∙◌, if◌then◌else◌, [], arith}
 use Rattle.osi_carrier.specs.Packets as carriers
-use Rattle.osi_stack.proofs.Vocabulary.{ArePackets, Rows, State as Carrier, EndReason, stops, TakesPackets, attends, after_packet, with_carrier, all_lost, concludes, Line, End, waits}
-use Rattle.osi_stack.proofs.Events.{no_events, all_quiet}
+use Rattle.osi_stack.proofs.Vocabulary.{ArePackets, Rows, State as Carrier, EndReason, stops, TakesPackets, attends, after_packet, with_carrier, Line, End, waits}
+use Rattle.osi_stack.proofs.Events.{no_events}
 
 pub both : {A : Type 0} (b : Bool) → b ≡ true → b ≡ false → A
 both true h k = cc

@@ -1,7 +1,7 @@
 -- Sessions keep transport connections that are open, whatever is heard.
 use Rattle.std.proofs.Common.{◌≡◌, ◌≢◌, ℕ, zero, suc, ◌==◌, Bool, true, false, not, ◌&&◌, ◌||◌, List, ◌∷◌, ◌++◌, length, Option, Some, None, is_some, IsSome, option_map, Result, Ok, Err, refl, sym, ap, subst, ◌∙◌, inl, inr, ◌⊎◌, if◌then◌else◌, [], arith}
 use Rattle.osi_carrier.specs.Happenings as told
-use Rattle.osi_stack.proofs.Vocabulary.{ne_eqb, eqb-true, eq-eqb, or_right, or-false, and-true, open_link, link_of, sent, sent_on, closes, closed_on, closed_with, sent_all, send_all_error, Happening, Rows, value_at, put, Connection, closing, State as Carrier, is_open, open_after, SendError, put_here, push_here, put_other, push_other, put_none, put_same, told_of, sent_opens, closed_opens, Standing as Link, Class, Zero, Input, Listener, opened, refused, broken, came, came_as, react, said_at, Words, SpduFault, is_ended, awaits, Phase, opens, hears, hears_first, hears_next, hears_times, with_events, loses, all_lost, needs_link, AreApart, kept_at, tsdus_sent, limit_for, line_by, carrier_by, by_line, to_session, Line, End, session_in, line_waits, is_used, used_lines, joins, fresh_line, sent_unless, answers_by, input_of}
+use Rattle.osi_stack.proofs.Vocabulary.{ne_eqb, eqb-true, eq-eqb, or_right, and-true, open_link, link_of, sent, sent_on, closes, closed_on, closed_with, sent_all, send_all_error, Happening, Rows, value_at, put, Connection, closing, State as Carrier, is_open, open_after, SendError, put_here, push_here, put_other, push_other, put_none, put_same, told_of, sent_opens, closed_opens, Standing as Link, Class, Zero, Input, Listener, opened, refused, broken, came, came_as, react, said_at, Words, SpduFault, is_ended, awaits, Phase, opens, hears, hears_first, hears_next, hears_times, with_events, loses, all_lost, needs_link, AreApart, kept_at, tsdus_sent, limit_for, line_by, carrier_by, by_line, to_session, Line, End, session_in, is_used, used_lines, joins, fresh_line, sent_unless, answers_by, input_of}
 use Rattle.osi_stack.proofs.Keeping.{hears_keep}
 use Rattle.osi_stack.proofs.Lifting.{both}
 use Rattle.osi_stack.proofs.Moves.{lost_at, used_keep}

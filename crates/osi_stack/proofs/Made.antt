@@ -2,7 +2,7 @@
 use Rattle.std.proofs.Common.{◌≡◌, ◌≢◌, ℕ, ◌+◌, ◌<◌, ◌≤◌, ◌==◌, Bool, true, false, ◌||◌, List, ◌∷◌, ◌++◌, length, take, Option, Some, None, is_some, IsSome, refl, sym, ap, subst, ◌∙◌, inl, inr, ◌⊎◌, arith, append_assoc, option_map, if◌then◌else◌, []}
 use Rattle.osi_carrier.specs.Packets as carriers
 use Rattle.osi_stack.specs.Inputs.{Step}
-use Rattle.osi_stack.proofs.Vocabulary.{eqb-true, eq-eqb, append-nil, AllByRecursion, fresh, IsPartial, ArePackets, Fed, tsap_octets, Local, beyond, push_here, push_other, orderly_same, OneCut, asks, open_link, Happening, tsdu, closed, faulted, told_of, RiseFrom, Rows, value_at, Connection, State as Carrier, EndReason, Broken, Call as SessionCall, Input, Listener, called, opened as linked_up, react, after_inputs, awaits, calls_with, connects, breaks, call_error, connect_error, without_first, TakesPackets, Goes, Feeds, opens, hears, hears_next, hears_times, hears_all, with_events, with_carrier, after_packet, ends, input_of, inputs_told, Past, no_past, then_came, inputs_of, begun_as, made_at, AreMadeBy, told_along, past_called, IsAccepted, serving, using, Steps, StepsAlong, AreApart, Soundness, IsSound, kept_at, to_session, IsOrdered, UserCall, user_does, connecting, calling, breaking, put_back, Calls, used_in, feeding, telling, carrying, Line, End, Holding, IsAttended, fresh_end, session_in, used_lines, joins, waits, fresh_line, Connect, told_opened as opened, told_refused as refused, EndCall as Call}
+use Rattle.osi_stack.proofs.Vocabulary.{eqb-true, eq-eqb, append-nil, AllByRecursion, fresh, IsPartial, ArePackets, Fed, tsap_octets, Local, beyond, push_here, push_other, OneCut, asks, Happening, told_of, RiseFrom, Rows, value_at, Connection, State as Carrier, Broken, Call as SessionCall, Input, Listener, called, opened as linked_up, react, after_inputs, awaits, calls_with, connects, breaks, call_error, connect_error, without_first, TakesPackets, Goes, Feeds, opens, hears, hears_next, hears_times, hears_all, with_events, with_carrier, after_packet, ends, input_of, inputs_told, Past, no_past, then_came, inputs_of, begun_as, made_at, AreMadeBy, told_along, past_called, IsAccepted, serving, using, Steps, StepsAlong, AreApart, Soundness, IsSound, kept_at, to_session, IsOrdered, UserCall, user_does, connecting, calling, breaking, put_back, Calls, used_in, feeding, telling, carrying, Line, End, Holding, IsAttended, fresh_end, session_in, used_lines, joins, waits, fresh_line, Connect, told_opened as opened, EndCall as Call}
 use Rattle.osi_stack.proofs.Attending.{session_attended, connect_attended, feeds_attended}
 use Rattle.osi_stack.proofs.Comings.{attended_then}
 use Rattle.osi_stack.proofs.Events.{concluded_carrier}
@@ -12,7 +12,7 @@ use Rattle.osi_stack.proofs.Moves.{kept_first, says_is}
 use Rattle.osi_stack.proofs.Opened.{opened_in, NoneAwaited, IsGiven, Comes, OpensAlong}
 use Rattle.osi_stack.proofs.Ordering.{HaveLines, have_still, have_rest, one_heard, awaited_lines, packet_along, packet_ordered, connect_ordered, call_ordered, feeds_ordered, first_ordered, fresh_ordered}
 use Rattle.osi_stack.proofs.Runs.{call_lasts, reads_dry, reads_stopped, ReadsOne, none_ended}
-use Rattle.osi_stack.proofs.Soundness.{concludes_lasting, packet_sound, connect_sound, call_sound, feeds_sound, first_sound, fresh_sound, up_at, sent_given, closed_given}
+use Rattle.osi_stack.proofs.Soundness.{concludes_lasting, packet_sound, connect_sound, call_sound, feeds_sound, first_sound, fresh_sound, up_at}
 use Rattle.osi_stack.proofs.Stepwise.{Carries, session_carried, events_heard}
 
 -- ---- inputs

@@ -1,11 +1,11 @@
 -- What a session that makes a move leaves, and a message that arrives.
-use Rattle.std.proofs.Common.{◌≡◌, ℕ, suc, ◌≤◌, ◌==◌, Bool, true, false, not, ◌||◌, List, [], ◌∷◌, ◌++◌, length, nat_lt, Option, Some, None, is_some, IsSome, option_map, Result, Ok, Err, refl, sym, ap, subst, ◌∙◌, arith, if◌then◌else◌}
+use Rattle.std.proofs.Common.{◌≡◌, ℕ, ◌≤◌, ◌==◌, Bool, true, false, not, ◌||◌, List, [], ◌∷◌, ◌++◌, length, nat_lt, Option, Some, None, is_some, IsSome, option_map, Result, Ok, Err, refl, sym, ap, subst, ◌∙◌, arith, if◌then◌else◌}
 use Rattle.osi_carrier.specs.Place.{Place, never, was_given}
 use Rattle.osi_carrier.specs.Happenings as told
 use Rattle.osi_carrier.specs.React as carriers
 use Rattle.osi_message.specs.Words as words
 use Rattle.osi_stack.specs.Messages.{part}
-use Rattle.osi_stack.proofs.Vocabulary.{eqb-true, nat_tests, list_any, Value, send_all_error, open_link, Happening, Rows, value_at, put, Connection, asked, linked, closing, State as Carrier, put_here, put_other, Standing as Link, Meaning, said_by_units, said_at, said_if_read, Units, SpduFault, words_of, IsSendable, words_sent, tsdus_of, tsdus_sent, behind_no_token, part_octets, written, spelled, Place as PartPlace, tsdu_at, Input, Listener, Move, called, opened, refused, broken, taken, came, came_as, answered, react, awaits, limit_of, Shown, first_shown, first_by, without_first, rest_by, has_given, send_refusal, move_refusal, session_refusal, call_error, carries_out, after_unit, opens, hears, hears_times, hears_first, hears_all, with_events, concludes, attends, shown_at_loss, loses, all_lost, Message, unit, ask, agree, deny, bye, over, IsWhole, put_by, puts, Acts, Effect, begins, happens, rests, effect_at, told_at, HasSession, AreShort, IsShort, CanHear, Hears, told_all, Arrives, kept_at, waiting_of, Becomes, IsGranted, Says, AreLost, shown_of, all_waiting, IsFirstOf, limit_for, line_by, carrier_by, by_line, to_session, Line, End, session_in, session_at, line_waits, waits, is_used, used_lines, joins, answers_by, Answer, allowed, Call, CallError}
+use Rattle.osi_stack.proofs.Vocabulary.{nat_tests, list_any, Value, send_all_error, open_link, Happening, Rows, value_at, put, Connection, asked, linked, State as Carrier, put_here, put_other, Standing as Link, Meaning, said_by_units, said_at, said_if_read, Units, SpduFault, words_of, IsSendable, words_sent, tsdus_of, tsdus_sent, behind_no_token, part_octets, written, spelled, Place as PartPlace, tsdu_at, Input, Listener, Move, called, opened, refused, broken, taken, came, came_as, answered, react, awaits, limit_of, Shown, first_shown, first_by, without_first, rest_by, has_given, send_refusal, move_refusal, session_refusal, call_error, carries_out, after_unit, opens, hears, hears_times, hears_first, hears_all, with_events, concludes, attends, shown_at_loss, loses, all_lost, Message, unit, ask, agree, deny, bye, IsWhole, put_by, puts, Acts, Effect, begins, happens, rests, effect_at, told_at, HasSession, AreShort, IsShort, CanHear, Hears, told_all, Arrives, kept_at, waiting_of, Becomes, IsGranted, Says, AreLost, shown_of, all_waiting, IsFirstOf, limit_for, line_by, carrier_by, by_line, to_session, Line, End, session_in, session_at, line_waits, waits, is_used, used_lines, joins, answers_by, Answer, allowed, Call, CallError}
 use Rattle.osi_stack.proofs.Handing.{hands_none, handed, puts_words}
 use Rattle.osi_stack.proofs.Events.{all_quiet}
 use Rattle.osi_stack.proofs.FirstShown.{quiet_line}

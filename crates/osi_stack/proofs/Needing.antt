@@ -1,11 +1,9 @@
 -- What needs memory shows, sends or keeps something.
-use Rattle.std.proofs.Common.{◌≡◌, ℕ, ◌||◌, ◌&&◌, not, Bool, true, false, List, [], ◌∷◌, length, map, get_or, nat_lt, Option, Some, None, is_some, is_none, option_map, unwrap_or, Result, OnErr, refl, sym, ap, subst, ◌∙◌, inl, inr, arith}
-use Rattle.osi_carrier.proofs.Growing.{written_grows, or_cases}
+use Rattle.std.proofs.Common.{◌≡◌, ℕ, ◌||◌, ◌&&◌, true, [], ◌∷◌, get_or, Option, Some, None, Result, OnErr, refl, ◌∙◌, arith}
+use Rattle.osi_carrier.proofs.Growing.{written_grows}
 use Rattle.osi_carrier.specs.Growth.{grows}
-use Rattle.osi_session.specs.Respond.{is_nil}
-use Rattle.osi_stack.proofs.Vocabulary.{or_right, or_left, disconnect, Standing, Class, Zero, Two, placed, closes, closed_on, closed_with, close_error, open_link, Rows, value_at, place_of, State as Carrier, Meaning, in_one, joined_octets, Input, Listener, Move, react, is_quiet, takes_memory, Shown, shown_by, Indication, session_needs, Line, session_in, told_input, answers_by, Told}
+use Rattle.osi_stack.proofs.Vocabulary.{disconnect, Standing, Class, Zero, placed, closes, closed_on, closed_with, close_error, open_link, Rows, value_at, place_of, State as Carrier, Input, session_needs, Line, session_in}
 use Rattle.osi_stack.proofs.Found.{session_here}
-use Rattle.osi_stack.proofs.Handing.{answer_heard}
 
 -- ---- a DR
 

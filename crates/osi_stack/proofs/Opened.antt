@@ -1,13 +1,13 @@
 -- Which connections units open: those that were asked for, and at a called end new ones. One that was asked for is
 -- so until its user is told that it is agreed to, or denied.
-use Rattle.std.proofs.Common.{◌≡◌, ◌≢◌, ℕ, ◌+◌, ◌<◌, ◌≤◌, ◌==◌, Bool, true, false, List, [], ◌∷◌, ◌++◌, take, nat_le, Option, Some, None, Result, Ok, Err, is_some, IsSome, refl, sym, ap, subst, ◌∙◌, inl, inr, ◌⊎◌, arith, append_assoc, if◌then◌else◌}
+use Rattle.std.proofs.Common.{◌≡◌, ◌≢◌, ℕ, ◌+◌, ◌<◌, ◌≤◌, ◌==◌, Bool, true, false, List, [], ◌∷◌, ◌++◌, take, Option, Some, None, Result, Ok, Err, is_some, IsSome, refl, sym, ap, subst, ◌∙◌, inl, inr, ◌⊎◌, arith, append_assoc, if◌then◌else◌}
 use Rattle.osi_tpdu.specs.Value.{Connect}
 use Rattle.osi_class.specs.Link.{taken}
 use Rattle.osi_class.specs.Negotiation.{Selection, accept, refuse, selected_by}
 use Rattle.osi_class.specs.declared.faults.LinkFault.{LinkFault}
 use Rattle.osi_carrier.specs.Negotiation.{confirmed}
 use Rattle.osi_carrier.specs.React.{answers, opens, breaks, react}
-use Rattle.osi_stack.proofs.Vocabulary.{eqb-true, eq-eqb, or_left, nat_tests, append-nil, AllByRecursion, Value, request, confirm, disconnect, disconnected, data0, data2, acknowledge, error, Standing, Class, Zero, Two, Happening, tsdu, closed, faulted, RiseFrom, told_of, IsOrderly, denies, is_full, has_peer, answers_request, to_unknown, to_asked, tells_of, taking, leaves, to_linked, to_closing, to_connection, to_reference, before_class, to_only, in_zero, in_two, in_class, react_by, reacts, Rows, value_at, put, without, Connection, asked, linked, closing, State, drops, EndReason, put_here, without_here, beyond, put_other, without_other, put_none, push_other, stays_gone, orderly_unit, react_over, told_opened as opened, told_refused as refused, carrier_ends as ends}
+use Rattle.osi_stack.proofs.Vocabulary.{eqb-true, eq-eqb, or_left, append-nil, AllByRecursion, Value, request, confirm, disconnect, disconnected, data0, data2, acknowledge, error, Standing, Class, Zero, Two, Happening, tsdu, closed, faulted, RiseFrom, told_of, IsOrderly, denies, is_full, has_peer, answers_request, to_unknown, to_asked, tells_of, taking, leaves, to_linked, to_closing, to_connection, to_reference, before_class, to_only, in_zero, in_two, in_class, react_by, reacts, Rows, value_at, put, without, Connection, asked, linked, closing, State, drops, EndReason, put_here, without_here, beyond, put_other, without_other, put_none, push_other, stays_gone, orderly_unit, react_over, told_opened as opened, told_refused as refused, carrier_ends as ends}
 use Rattle.osi_stack.proofs.Answered.{answered, answered_front, answered_behind}
 use Rattle.osi_stack.proofs.Soundness.{units_rise, up_at}
 use Rattle.osi_stack.proofs.Lifting.{both}

@@ -2,7 +2,7 @@
 use Rattle.std.proofs.Common.{◌≡◌, ◌≢◌, ℕ, zero, suc, ◌+◌, ◌<◌, ◌≤◌, ◌==◌, Bool, true, false, ◌||◌, not, List, ◌∷◌, ◌++◌, length, Option, Some, None, Result, Ok, Err, is_some, IsSome, refl, sym, ap, subst, ◌∙◌, inl, inr, ◌⊎◌, arith, if◌then◌else◌, []}
 use Rattle.osi_carrier.specs.Packets as carriers
 use Rattle.osi_carrier.specs.declared.faults.OpenError.TheVariants.{NotCaller}
-use Rattle.osi_stack.proofs.Vocabulary.{eqb-true, eq-eqb, Fed, units_of, Value, TpduFault, Standing as Link, Class, Zero, Local, open_link, may_connect, sent_on, closes, closed_on, sent, closed_with, Happening, tsdu, closed, faulted, RiseFrom, AreUpTo, IsOrderly, told_of, reacts, Rows, value_at, Connection, asked, closing, State as Carrier, EndReason, Broken, NoMemory, OpenError, beyond, push_here, push_other, free_of, none_of, Input, opened as linked_up, awaits, calls_with, connects, connect_error, terms_error, breaks, carried, without_first, Feeds, opens, hears, hears_next, hears_times, hears_all, with_events, with_carrier, attends, after_packet, ends, starves, loses, all_lost, Starves, AreApart, Soundness, IsSound, line_by, by_line, to_session, IsOrdered, Line, End, Holding, IsAttended, fresh_end, used_lines, fresh_line, Connect, input_of, told_opened as opened, told_refused as refused, carrier_ends}
+use Rattle.osi_stack.proofs.Vocabulary.{eqb-true, eq-eqb, Fed, units_of, Value, TpduFault, Standing as Link, Class, Zero, Local, open_link, may_connect, sent_on, closes, closed_on, sent, closed_with, Happening, tsdu, RiseFrom, AreUpTo, IsOrderly, told_of, reacts, Rows, value_at, Connection, asked, closing, State as Carrier, EndReason, Broken, NoMemory, OpenError, beyond, push_here, push_other, free_of, none_of, Input, opened as linked_up, awaits, calls_with, connects, connect_error, terms_error, breaks, carried, without_first, Feeds, opens, hears, hears_next, hears_times, hears_all, with_events, with_carrier, attends, after_packet, ends, starves, loses, all_lost, Starves, AreApart, Soundness, IsSound, line_by, by_line, to_session, IsOrdered, Line, End, Holding, IsAttended, fresh_end, used_lines, fresh_line, Connect, input_of, told_opened as opened, carrier_ends}
 use Rattle.osi_stack.proofs.Events.{times_quiet}
 use Rattle.osi_stack.proofs.Lifting.{both, packet_is}
 use Rattle.osi_stack.proofs.Linking.{SessionLaws, first_is, rest_is, used_at, apart_push, joined_lines, put_some}

@@ -1,13 +1,13 @@
 -- Once the carrier has ended no session changes it, and it stays ended for the same reason.
-use Rattle.std.proofs.Common.{◌≡◌, ℕ, zero, suc, Bool, true, List, ◌∷◌, length, Option, Some, None, is_some, refl, sym, ap, ◌∙◌, ◌⊎◌, inl, inr, if◌then◌else◌, [], arith}
+use Rattle.std.proofs.Common.{◌≡◌, ℕ, zero, suc, true, List, ◌∷◌, length, Option, Some, None, is_some, refl, sym, ap, ◌∙◌, ◌⊎◌, inl, inr, if◌then◌else◌, [], arith}
 use Rattle.osi_carrier.specs.Happenings as told
 use Rattle.osi_carrier.specs.Packets as carriers
 use Rattle.osi_carrier.specs.State as states
-use Rattle.osi_stack.proofs.Vocabulary.{open_link, link_of, closed_on, closed_with, sent, sent_on, Happening, value_at, State as Carrier, EndReason, NoMemory, acts_cases, Standing as Link, hears_first, hears_next, hears_times, hears_all, with_events, with_carrier, attends, after_packet, starves, RunsOut, Starves, End, told_of, input_of}
+use Rattle.osi_stack.proofs.Vocabulary.{Happening, State as Carrier, EndReason, NoMemory, acts_cases, hears_first, hears_next, hears_times, hears_all, with_events, with_carrier, attends, after_packet, starves, RunsOut, Starves, End}
 use Rattle.osi_stack.proofs.Events.{times_quiet, concluded_carrier}
 use Rattle.osi_stack.proofs.Lifting.{packet_is}
 use Rattle.osi_stack.proofs.Linking.{rest_is, times_last}
-use Rattle.osi_stack.proofs.Stepwise.{Carries, session_carried, event_heard, Hears}
+use Rattle.osi_stack.proofs.Stepwise.{event_heard, Hears}
 
 -- ---- what sessions do
 

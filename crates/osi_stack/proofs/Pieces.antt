@@ -1,13 +1,13 @@
 -- A piece of the stream, read by looks that each take packets up to one that tells something.
-use Rattle.std.proofs.Common.{◌≡◌, ℕ, zero, suc, ◌+◌, ◌-◌, ◌<◌, ◌≤◌, ◌||◌, ◌==◌, not, true, false, Bool, List, [], ◌∷◌, ◌++◌, length, take, drop, Option, Some, None, Result, Ok, Err, is_some, refl, sym, ap, subst, ◌∙◌, inl, inr, ◌⊎◌, arith, length-append, length-drop, append_assoc, if◌then◌else◌}
+use Rattle.std.proofs.Common.{◌≡◌, ℕ, zero, suc, ◌+◌, ◌-◌, ◌<◌, ◌≤◌, ◌||◌, ◌==◌, not, true, false, Bool, List, [], ◌∷◌, ◌++◌, length, take, drop, Option, Some, None, Result, is_some, refl, sym, ap, subst, ◌∙◌, inl, inr, ◌⊎◌, arith, length-append, length-drop, append_assoc, if◌then◌else◌}
 use Rattle.std.proofs.Math.Seq.{drop-append_seam}
 use Rattle.osi_carrier.specs.Packets as carriers
 use Rattle.osi_carrier.specs.State as states
 use Rattle.osi_stack.specs.Feeding.{Refuses}
-use Rattle.osi_stack.proofs.Vocabulary.{append-nil, take-append-drop, take_at, or_right, or_left, IsPartial, IsFaultOf, ArePackets, offset_of, TpktFault, units_of, Value, TpduFault, none_of, packets_more, packets_leave, Carrying, HasToHold, is_spoilt, ActsBy, acts_by, Rows, State as Carrier, Tpkt, EndReason, Fault, NoMemory, stops, uses_all, TakesPackets, RunsDry, StopsBehind, FindsNoRoom, FindsNoMemory, Goes, Fetches, attends, with_carrier, ends, hears_all, concludes, RunsOut, Starves, Line, End, Holding, IsAttended, waits}
-use Rattle.osi_stack.proofs.Events.{all_quiet, never_starved, concluded_carrier, all_keep_by}
+use Rattle.osi_stack.proofs.Vocabulary.{append-nil, take-append-drop, take_at, or_right, or_left, IsPartial, IsFaultOf, ArePackets, offset_of, TpktFault, Value, TpduFault, packets_more, packets_leave, Carrying, HasToHold, is_spoilt, ActsBy, Rows, State as Carrier, Tpkt, EndReason, Fault, NoMemory, stops, uses_all, TakesPackets, RunsDry, StopsBehind, FindsNoRoom, FindsNoMemory, Goes, Fetches, attends, with_carrier, ends, hears_all, RunsOut, Starves, Line, End, Holding, IsAttended, waits}
+use Rattle.osi_stack.proofs.Events.{never_starved, concluded_carrier, all_keep_by}
 use Rattle.osi_stack.proofs.Rooms.{room_stays, less_room, packet_faultless, first_part}
-use Rattle.osi_stack.proofs.Lifting.{both, or_first, or_second, IsQuiet, quiet_is, quiet_attends, quiet_stops, lift_dry, last_is, takes_append, packets_append, packets_part, lift_last}
+use Rattle.osi_stack.proofs.Lifting.{both, or_second, IsQuiet, quiet_is, quiet_attends, quiet_stops, lift_dry, last_is, takes_append, packets_append, packets_part, lift_last}
 
 -- ---- where reading a piece is
 

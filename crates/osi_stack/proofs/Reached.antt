@@ -3,9 +3,9 @@
 use Rattle.std.proofs.Common.{◌≡◌, ℕ, ◌<◌, ◌≤◌, Bool, true, false, ◌||◌, nat_lt, List, [], ◌∷◌, ◌++◌, length, Option, None, is_some, refl, sym, ap, subst, ◌∙◌, inl, inr, arith}
 use Rattle.osi_carrier.specs.Happenings as told
 use Rattle.osi_carrier.specs.Packets as carriers
-use Rattle.osi_stack.proofs.Vocabulary.{nat_tests, AllByRecursion, or_right, or-false, sent_gone, closed_gone, Happening, AreUpTo, IsOrderly, told_of, Rows, value_at, Connection, State as Carrier, EndReason, none_of, Input, hears_times, hears_all, with_carrier, after_packet, ends, all_waiting, to_session, live_lines, pruned, Line, End, input_of}
+use Rattle.osi_stack.proofs.Vocabulary.{nat_tests, AllByRecursion, or_right, sent_gone, closed_gone, Happening, AreUpTo, IsOrderly, told_of, Rows, value_at, Connection, State as Carrier, EndReason, Input, hears_times, hears_all, with_carrier, after_packet, ends, all_waiting, to_session, live_lines, pruned, Line, End, input_of}
 use Rattle.osi_stack.proofs.Events.{concluded_carrier}
-use Rattle.osi_stack.proofs.Lifting.{both, or_first, or_second, packet_is}
+use Rattle.osi_stack.proofs.Lifting.{both, packet_is}
 use Rattle.osi_stack.proofs.Opened.{IsOf}
 use Rattle.osi_stack.proofs.Ordering.{packet_along}
 use Rattle.osi_stack.proofs.Stepwise.{Carries, session_carried, events_heard}

@@ -1,5 +1,5 @@
 -- The room for the octets of a packet, and where it does not suffice.
-use Rattle.std.proofs.Common.{◌≡◌, ℕ, ◌≤◌, List, [], ◌∷◌, ◌++◌, length, take, refl, sym, ap, subst, ◌∙◌, inl, inr, ◌⊎◌, arith, length-append, append_assoc}
+use Rattle.std.proofs.Common.{◌≡◌, ℕ, ◌≤◌, List, [], ◌∷◌, ◌++◌, length, take, sym, ap, subst, ◌∙◌, inl, inr, ◌⊎◌, arith, length-append, append_assoc}
 use Rattle.osi_tpkt.proofs.Streams.{fault_no_packet}
 use Rattle.osi_carrier.proofs.Parts.{empty_list}
 use Rattle.osi_stack.proofs.Vocabulary.{Held, IsFaultOf, ArePackets, TpktFault, packets_leave, HasToHold, NoMemory, FindsNoMemory, ends, Starves, Holding}

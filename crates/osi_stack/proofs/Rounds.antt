@@ -1,6 +1,6 @@
 -- Two runs in step come to the same, whatever the pieces.
 use Rattle.std.proofs.Common.{◌≡◌, ℕ, ◌+◌, ◌-◌, ◌<◌, ◌^◌, Bool, true, false, List, ◌∷◌, ◌++◌, Option, Some, None, is_some, length, option_map, arith, refl, sym, ap, subst, ◌∙◌, append_assoc, if◌then◌else◌, []}
-use Rattle.osi_stack.proofs.Vocabulary.{append-nil, flat_map-append, flat_map, Held, IsPartial, ArePackets, offset_of, TpktFault, tsap_octets, apart_all, OneCut, user, Rows, asked, State as Carrier, Broken, called, Shown, connects, calls_with, ends, all_waiting, UserCall, user_does, Round, WaitForLive, MayCall, IsCalled, RoundsBy, RoundsAlong, calls_of, AreInStep, connecting, calling, breaking, hushed, put_back, Account, account_of, with_packet, with_packets, CallsAlong, used_in, told_in, carried_in, account_along, AreAlike, Line, End, Holding, joins, waits, Connect, none_of, connects_call, EndCall as Call}
+use Rattle.osi_stack.proofs.Vocabulary.{append-nil, flat_map-append, flat_map, IsPartial, ArePackets, offset_of, TpktFault, tsap_octets, apart_all, OneCut, user, Rows, asked, State as Carrier, Broken, called, Shown, connects, calls_with, ends, all_waiting, UserCall, user_does, Round, WaitForLive, MayCall, IsCalled, RoundsBy, RoundsAlong, calls_of, AreInStep, connecting, calling, breaking, hushed, put_back, Account, account_of, with_packet, with_packets, CallsAlong, used_in, told_in, carried_in, account_along, AreAlike, Line, End, Holding, joins, waits, Connect, none_of, connects_call, EndCall as Call}
 use Rattle.osi_stack.proofs.Accounts.{made, after_more, account_quiet, account_joined, packets_apart}
 use Rattle.osi_stack.proofs.Asking.{wait_push, joins_alike}
 use Rattle.osi_stack.proofs.Endings.{faulted}

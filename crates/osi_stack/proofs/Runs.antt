@@ -1,6 +1,6 @@
 -- Over every run of calls an end comes to what the packets of the octets used make of it.
-use Rattle.std.proofs.Common.{◌≡◌, ℕ, ◌+◌, ◌-◌, ◌<◌, ◌^◌, ◌||◌, Bool, true, false, List, ◌∷◌, ◌++◌, length, take, Option, None, is_some, refl, sym, ap, subst, ◌∙◌, inl, inr, arith, append_assoc, length-append, []}
-use Rattle.osi_stack.proofs.Vocabulary.{append-nil, take_all, flat_map, Held, IsPartial, ArePackets, offset_of, Fed, EndReason, OneCut, packets_joined, packets_leave, Shown, RunsDry, StopsBehind, FindsNoMemory, Goes, Feeds, Account, account_of, with_packets, Calls, CallsAlong, used_in, told_in, carried_in, account_along, Reads, AreAlike, feeding, telling, carrying, End, Holding, waits, none_of, EndCall as Call}
+use Rattle.std.proofs.Common.{◌≡◌, ℕ, ◌+◌, ◌-◌, ◌<◌, ◌^◌, ◌||◌, Bool, true, List, ◌∷◌, ◌++◌, length, take, Option, None, is_some, refl, sym, ap, subst, ◌∙◌, inl, inr, arith, append_assoc, length-append, []}
+use Rattle.osi_stack.proofs.Vocabulary.{append-nil, take_all, flat_map, IsPartial, ArePackets, offset_of, Fed, OneCut, packets_joined, packets_leave, Shown, RunsDry, StopsBehind, FindsNoMemory, Goes, Feeds, Account, account_of, with_packets, Calls, CallsAlong, used_in, told_in, carried_in, account_along, Reads, AreAlike, feeding, telling, carrying, End, Holding, waits, EndCall as Call}
 use Rattle.osi_stack.proofs.Accounts.{after_more, account_told, account_joined, packets_apart, with_joined, packets_done}
 use Rattle.osi_stack.proofs.Comings.{uses_within}
 use Rattle.osi_stack.proofs.Throughout.{starved_ended}

@@ -1,8 +1,8 @@
 -- What happens to a session beside calls and TSDUs.
-use Rattle.std.proofs.Common.{◌≡◌, ℕ, Bool, true, false, [], ◌++◌, map, Option, None, option_map, Result, Ok, refl, sym, ap, subst, ◌∙◌, if◌then◌else◌, arith}
+use Rattle.std.proofs.Common.{◌≡◌, ℕ, false, [], ◌++◌, Option, None, option_map, Result, Ok, refl, sym, subst, ◌∙◌, if◌then◌else◌, arith}
 use Rattle.osi_session.specs.Steps.{shown_list}
 use Rattle.osi_session.specs.declared.taken.Taken.{Taken}
-use Rattle.osi_stack.proofs.Vocabulary.{append-nil, in_one, Input, Listener, Move, opened, refused, broken, react, is_wait_transport, Takes, shown_by, Indication}
+use Rattle.osi_stack.proofs.Vocabulary.{in_one, Input, Listener, Move, opened, refused, broken, react, Takes, Indication}
 
 -- nothing is sent, and nothing closed
 pub record IsQuiet (move : Move) : Type 0 where

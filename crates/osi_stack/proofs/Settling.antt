@@ -4,7 +4,7 @@ use Rattle.osi_carrier.specs.Packets as carriers
 use Rattle.osi_session.specs.Units.{is_profile}
 use Rattle.osi_stack.specs.declared.connecting.ConnectError.TheVariants.{NotSelected}
 use Rattle.osi_session.specs.declared.faults.CallError.TheVariants as error
-use Rattle.osi_stack.proofs.Vocabulary.{OnOk, OnErr, IfErr, IfSome, tsap_octets, units_of, Value, TpduFault, Local, Units, said_by_units, Fed, may_connect, IsOrderly, reacts, Rows, value_at, Connection, State as Carrier, EndReason, Broken, NoMemory, free_of, orderly_fresh, orderly_units, orderly_packet, orderly_asks, orderly_end, orderly_ended, orderly_same, Call, HasSerial, Input, Listener, called, taken, react, after_inputs, HasProfile, Opening, unit_bits, OpenError, ConnectError, awaiting, asking, is_memory, HasNumbersInWords, CallError, connects, connect_error, terms_error, after_open, opening_of, calls_with, breaks, carried, without_first, has_given, call_error, table_error, session_refusal, session_error, RefusesBy, Refuses, by_rule, stops, Goes, Feeds, hears_all, hears_times, with_events, with_carrier, attends, after_packet, starves, Starves, to_session, Line, End, Holding, IsAttended, fresh_end, session_in, session_at, waits, CameAbout, IsProfiled, IsNamed, OfSessions, IsSettled, Connect, IsSound, none_of}
+use Rattle.osi_stack.proofs.Vocabulary.{OnOk, OnErr, IfErr, IfSome, tsap_octets, units_of, Value, TpduFault, Local, Units, said_by_units, Fed, may_connect, IsOrderly, reacts, Rows, value_at, Connection, State as Carrier, EndReason, Broken, NoMemory, orderly_fresh, orderly_units, orderly_packet, orderly_asks, orderly_end, orderly_ended, orderly_same, Call, HasSerial, Input, Listener, called, taken, react, after_inputs, HasProfile, Opening, unit_bits, OpenError, ConnectError, awaiting, asking, HasNumbersInWords, CallError, connects, connect_error, terms_error, after_open, opening_of, calls_with, breaks, carried, without_first, has_given, call_error, table_error, session_refusal, session_error, Refuses, by_rule, stops, Goes, Feeds, hears_all, hears_times, with_events, with_carrier, attends, after_packet, starves, Starves, to_session, Line, End, Holding, IsAttended, fresh_end, session_in, session_at, waits, CameAbout, IsProfiled, IsNamed, OfSessions, IsSettled, Connect, IsSound}
 use Rattle.osi_stack.proofs.Answering.{Below, answered_is}
 use Rattle.osi_stack.proofs.Awaiting.{StillWaits, fresh_asked, connect_asked, call_asked, feeds_asked, first_asked, carried_asked, breaks_asked}
 use Rattle.osi_stack.proofs.Attending.{session_attended, connect_attended, breaks_attended, feeds_attended}

@@ -1,15 +1,13 @@
 -- What a session sends is no longer than a TSDU may be.
-use Rattle.std.proofs.Common.{◌≡◌, ℕ, ◌+◌, ◌<◌, ◌≤◌, Bool, true, false, List, [], ◌∷◌, ◌++◌, length, nat_le, nat_lt, Ok, refl, sym, ap, subst, arith, length-append, if◌then◌else◌}
-use Rattle.osi_spdu.specs.Kinds.{si_of}
-use Rattle.osi_spdu.specs.Spelling.{length_octets}
-use Rattle.osi_spdu.specs.Writing.{written_item, unit_octets, body_octets, tsdu_octets, UnitFits, TsduFits}
+use Rattle.std.proofs.Common.{◌≡◌, ℕ, ◌+◌, ◌<◌, ◌≤◌, Bool, true, false, List, [], ◌∷◌, ◌++◌, length, nat_le, Ok, refl, sym, ap, subst, arith, length-append, if◌then◌else◌}
+use Rattle.osi_spdu.specs.Writing.{unit_octets, tsdu_octets, UnitFits, TsduFits}
 use Rattle.osi_spdu.specs.declared.kinds.Kind.TheVariants.{GiveTokens}
 use Rattle.osi_message.proofs.FittingLaws.{HaveRoom, spelled_fits}
 use Rattle.osi_message.proofs.PlainLaws.{data_written}
 use Rattle.osi_message.proofs.SendingLaws.{HaveDigits}
 use Rattle.osi_session.proofs.SentLaws.{sent_alone as call_alone, data_short as data_all_short}
 use Rattle.osi_session.specs.Allowed.{sends}
-use Rattle.osi_stack.proofs.Vocabulary.{nat_tests, Contents, Units, nothing, Meaning, DT, IsSendable, unit_with, unit_of, is_second, alone_units, behind_tokens, spelled, written, tsdus_of, sent_alone, sent_short as parts_short, limit_of, is_data, AreShort, allowed, Step, octets_of, most_of, Passed, Call, Accept, Refuse, Data, Give, Please, Minor, MinorConfirm, Major, MajorConfirm, Restart, RestartConfirm, Release, ReleaseAccept, ReleaseRefuse, Abort, IsSoundState as IsSound, SessionState as State}
+use Rattle.osi_stack.proofs.Vocabulary.{nat_tests, Contents, Units, nothing, Meaning, DT, IsSendable, unit_with, unit_of, is_second, alone_units, behind_tokens, spelled, written, tsdus_of, sent_alone, sent_short as parts_short, limit_of, AreShort, allowed, Step, octets_of, most_of, Passed, Call, Data, IsSoundState as IsSound, SessionState as State}
 
 unit_short : (unit : Contents) → UnitFits unit → length (unit_octets unit) < 65540
 unfolding unit_octets

@@ -1,9 +1,9 @@
 -- What is true of every end, whatever is called and fed.
-use Rattle.std.proofs.Common.{◌≡◌, ◌≢◌, ℕ, ◌+◌, ◌==◌, ◌<◌, ◌≤◌, Bool, true, false, ◌||◌, List, ◌∷◌, ◌++◌, length, drop, nat_le, Option, Some, None, is_some, IsSome, option_map, Result, Ok, Err, refl, sym, ap, subst, ◌∙◌, inl, inr, ◌⊎◌, arith, if◌then◌else◌, []}
+use Rattle.std.proofs.Common.{◌≡◌, ◌≢◌, ℕ, ◌+◌, ◌==◌, ◌<◌, ◌≤◌, Bool, true, false, ◌||◌, List, ◌∷◌, ◌++◌, length, nat_le, Option, Some, None, is_some, IsSome, option_map, Result, Ok, Err, refl, sym, ap, subst, ◌∙◌, inl, inr, ◌⊎◌, arith, if◌then◌else◌, []}
 use Rattle.osi_carrier.specs.Happenings as told
 use Rattle.osi_carrier.specs.Packets as carriers
 use Rattle.osi_carrier.specs.React.{react as carrier_react}
-use Rattle.osi_stack.proofs.Vocabulary.{eqb-true, eq-eqb, nat_tests, units_of, Value, TpduFault, Standing as Link, Class, Zero, Two, open_link, may_connect, asks, sent_on, closes, closed_on, Happening, AreUpTo, IsOrderly, connection_of, told_of, reacts, Rows, value_at, Connection, State as Carrier, is_open, open_after, EndReason, OpenError, beyond, push_here, put_up, push_other, How, effect, orderly_packet, orderly_asks, orderly_sent, orderly_closed, orderly_same, orderly_fresh, packet_opens, asks_opens, Call, Input, Listener, called, opened, awaits, connects, connect_error, after_open, terms_error, calls_with, breaks, carried, without_first, Feeds, Connect, ConnectError, tsap_octets, Fed, Local, Broken, hears_times, hears_all, with_carrier, after_packet, ends, all_lost, needs_link, AreApart, HasLinks, Soundness, IsSound, kept_at, line_by, by_line, to_session, Line, End, Holding, IsAttended, fresh_end, session_in, used_lines, joins, fresh_line, input_of}
+use Rattle.osi_stack.proofs.Vocabulary.{eqb-true, eq-eqb, nat_tests, units_of, Value, TpduFault, Standing as Link, open_link, may_connect, asks, sent_on, closes, closed_on, Happening, AreUpTo, IsOrderly, connection_of, told_of, reacts, Rows, value_at, Connection, State as Carrier, is_open, open_after, EndReason, OpenError, beyond, push_here, put_up, push_other, How, effect, orderly_packet, orderly_asks, orderly_sent, orderly_closed, orderly_same, packet_opens, asks_opens, Call, Input, Listener, called, opened, awaits, connects, connect_error, after_open, terms_error, calls_with, breaks, carried, without_first, Feeds, Connect, ConnectError, tsap_octets, Fed, Local, Broken, hears_times, hears_all, with_carrier, after_packet, ends, all_lost, needs_link, AreApart, HasLinks, Soundness, IsSound, kept_at, line_by, by_line, to_session, Line, End, Holding, IsAttended, fresh_end, session_in, used_lines, joins, fresh_line, input_of}
 use Rattle.osi_stack.proofs.Events.{concluded_carrier}
 use Rattle.osi_stack.proofs.Moves.{kept_first, used_keep, first_keep}
 use Rattle.osi_stack.proofs.Keeping.{session_keeps}

@@ -1,6 +1,6 @@
 -- What each packet keeps, and the end, feeding keeps.
-use Rattle.std.proofs.Common.{◌≡◌, ℕ, ◌||◌, Bool, true, false, List, ◌∷◌, Option, Some, None, is_some, refl, sym, ap, subst, ◌∙◌, inl, inr, ◌⊎◌, if◌then◌else◌, [], arith}
-use Rattle.osi_stack.proofs.Vocabulary.{ArePackets, Fed, State as Carrier, EndReason, Broken, NoMemory, breaks, TakesPackets, Goes, Feeds, after_packet, ends, hears_times, with_carrier, with_events, Starves, End, Holding, waits}
+use Rattle.std.proofs.Common.{◌≡◌, ℕ, ◌||◌, Bool, true, List, ◌∷◌, Option, None, is_some, refl, sym, subst, ◌∙◌, inl, inr, ◌⊎◌, if◌then◌else◌, [], arith}
+use Rattle.osi_stack.proofs.Vocabulary.{ArePackets, Fed, EndReason, Broken, NoMemory, breaks, TakesPackets, Goes, Feeds, after_packet, ends, hears_times, with_carrier, with_events, Starves, End, Holding, waits}
 use Rattle.osi_stack.proofs.Rooms.{found_how}
 use Rattle.osi_stack.proofs.Events.{starved_over}
 use Rattle.osi_stack.proofs.Lifting.{lasting_of}
