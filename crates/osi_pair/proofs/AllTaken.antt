@@ -9,7 +9,7 @@ use Rattle.osi_machine.specs.Floor.{Meaning}
 use Rattle.osi_machine.specs.Sayings.{units_in, is_parting, IsHeardAsSaid}
 use Rattle.osi_machine.specs.Worlds as worlds
 use Rattle.osi_pair.specs.Promises.{sent_by, kept_at as kept_by}
-use Rattle.osi_pair.proofs.Vocabulary.{append-nil, AllByRecursion, completed_partial, partial_not_whole, IsPartial, packet_of, Value, begun_by, kept_in, link_of, was_given, place_at, value_at, Connection, State, asked, linked, closing, packets, Both, Between, AreBetween, IsOnTheWay, AreJoinedBy, arriving, reach_of, within_reach, last_of, lost_from, units_from, under_way, IsStill, IsAllThere, is_cut, progress_of, Progress, Terms, terms_of, Step, side_of, turned, Message, Listener, kept_at, session_at, joined_of, joined_in, End, TwoEnds, end_at, taken_by, AreTakenInOrder, AreAtRest, IsOpenAt, begun_of, kept_of, IsAllTaken, HoldLess, other, terms_in, is_caller, transport_in, carriers_of, AreAlike, HasLine, StandsAt, AreUnderWay, word_in, HasJoined, IsInOrder, Reach, Side, Left, Right, EndReason, Word, joins, left_of, IsJoinedAs, joined_octets, may_hold, joined_holds, implied, needs_link, is_open, given_live, SessionState as Session, Link as Standing}
+use Rattle.osi_pair.proofs.Vocabulary.{append-nil, AllByRecursion, completed_partial, partial_not_whole, IsPartial, packet_of, Value, begun_by, kept_in, was_given, place_at, value_at, Connection, State, linked, packets, Both, Between, AreBetween, IsOnTheWay, AreJoinedBy, arriving, reach_of, within_reach, last_of, lost_from, units_from, under_way, IsStill, IsAllThere, is_cut, progress_of, Progress, Terms, terms_of, Step, side_of, turned, Message, Listener, kept_at, session_at, joined_of, joined_in, End, TwoEnds, end_at, taken_by, AreTakenInOrder, AreAtRest, IsOpenAt, begun_of, kept_of, IsAllTaken, HoldLess, other, terms_in, is_caller, transport_in, carriers_of, AreAlike, HasLine, StandsAt, AreUnderWay, word_in, HasJoined, IsInOrder, Reach, Side, Left, Right, EndReason, Word, joins, left_of, IsJoinedAs, joined_octets, may_hold, joined_holds, implied, needs_link, is_open, given_live, SessionState as Session, Link as Standing}
 use Rattle.osi_pair.proofs.NothingKept.{open_there, open_here, none_begun, none_joined as all_none_joined}
 use Rattle.osi_pair.proofs.StandingFinish.{order_of}
 use Rattle.osi_pair.proofs.StandingPromises.{tables_at, line_at, outside_by, within}
@@ -213,8 +213,7 @@ open_linked n e lasts h = grind arith
 
 joined_open : (n : ℕ) (e : End) (l : Listener) → IsInOrder e → e.carrier.ended ≡ None → kept_at n e.lines ≡ Some l → is_some l.joined ≡ true → IsOpenAt n e
 joined_open n e l order lasts at some =
-    let keeps = session_kept n l e order at in
-    open_linked n e lasts (order.sound.links lasts n l at (implied may_hold needs_link refl l.state.phase (joined_holds l keeps some)))
+    open_linked n e lasts (order.sound.links lasts n l at (implied may_hold needs_link refl l.state.phase (joined_holds l (session_kept n l e order at) some)))
 
 there_open : (side : Side) (p : TwoEnds) (steps : List Step) (h : StandsAt p steps) → Resting p → (r : ℕ) → IsOpenAt r (end_at side p).end → IsOpenAt r (end_at (other side) p).end
 there_open Left p steps h rest r o =

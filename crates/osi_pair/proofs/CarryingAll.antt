@@ -1,7 +1,6 @@
 -- At two ends that stand at a list of steps no indication waits, and so nothing holds up a carry.
-use Rattle.std.proofs.Common.{◌≡◌, ◌∙◌, ℕ, Bool, false, not, ◌||◌, ◌==◌, List, [], ◌∷◌, ◌++◌, map, length, min, refl, ap, subst}
-use Rattle.osi_pair.specs.declared.events.Event.TheVariants.{Call}
-use Rattle.osi_pair.proofs.Vocabulary.{Rows, Shown, waits, TwoEnds, end_at, reachable, Moves, CarriesAsMuch, CarriesWhereQuiet, IsReached, other, waiting_in, Applied, Event, Connect, Carry, Break, Told, Side, Left, Right, EndLine as Line}
+use Rattle.std.proofs.Common.{◌≡◌, ◌∙◌, Bool, false, not, ◌||◌, ◌==◌, [], ◌∷◌, ◌++◌, min, ap, subst}
+use Rattle.osi_pair.proofs.Vocabulary.{waits, TwoEnds, end_at, reachable, Moves, CarriesAsMuch, CarriesWhereQuiet, IsReached, other, Applied, Event, Carry, Side, Left, Right}
 use Rattle.osi_pair.proofs.StandingPackets.{still_waits}
 
 quiet_at : (side : Side) (p : TwoEnds) → IsReached p → waits (end_at side p).end.lines ≡ false

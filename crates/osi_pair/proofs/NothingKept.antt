@@ -1,11 +1,11 @@
 -- Where nothing is on the way between two ends, a connection that is open at one is open at the other, and
 -- nothing of what came is kept.
-use Rattle.std.proofs.Common.{◌≡◌, refl, sym, ◌∙◌, ap, subst, ℕ, ◌+◌, Bool, true, false, ◌==◌, nat_lt, if◌then◌else◌, List, [], ◌∷◌, ◌++◌, length, Option, Some, None, is_some, arith}
+use Rattle.std.proofs.Common.{◌≡◌, refl, sym, ◌∙◌, ap, subst, ℕ, ◌+◌, Bool, true, false, ◌==◌, if◌then◌else◌, List, [], ◌∷◌, ◌++◌, Option, Some, None, is_some, arith}
 use Rattle.osi_between.proofs.Refusals.{none_open}
-use Rattle.osi_between.proofs.ZeroLaws.{at_one, not_here, not_asked}
+use Rattle.osi_between.proofs.ZeroLaws.{at_one}
 use Rattle.osi_between.specs.Zero as zero
 use Rattle.osi_stack.proofs.Opened.{first_here}
-use Rattle.osi_pair.proofs.Vocabulary.{eqb-true, eq-eqb, sum_by-cons, Value, swapped, Local, absent, begun_by, kept_in, Place, never, was_given, place_at, RiseFrom, Rows, value_at, Connection, State, linked, given_live, within_given, AreJoinedBy, Course, unasked, asking, accepting, withdrawing, met, at_end, from_end, talking, left_here, left_there, left_both, waiting_here, waiting_there, parted, Terms, by_two, by_zero, refusing, joined_octets, Listener, kept_at, session_in, joined_of, joined_live, joined_in, Link as Standing, EndLine as Line, kept_first}
+use Rattle.osi_pair.proofs.Vocabulary.{eqb-true, sum_by-cons, Value, swapped, Local, absent, begun_by, kept_in, Place, was_given, place_at, RiseFrom, Rows, value_at, Connection, State, linked, given_live, within_given, AreJoinedBy, Course, met, at_end, from_end, talking, left_here, left_there, Terms, by_two, by_zero, refusing, Listener, kept_at, session_in, joined_of, joined_live, joined_in, Link as Standing, EndLine as Line, kept_first}
 
 -- ---- a connection that is open at one end
 
@@ -84,8 +84,7 @@ none_begun n [] rise all = refl
 none_begun n ((r, x) ∷ rows) rise all =
     let first : begun_by x ≡ 0 = all r x (first_here r x rows) in
     let rest : kept_in rows ≡ 0 = none_begun r rows rise.1 (λ q y at. all q y (row_behind r q x y rows rise.1 at)) in
-    let sum : kept_in ((r, x) ∷ rows) ≡ begun_by x + kept_in rows = sum_by-cons (λ (row : ℕ × Connection). begun_by row.1) (r, x) rows in
-    sum ∙ omega arith
+    (sum_by-cons (λ (row : ℕ × Connection). begun_by row.1) (r, x) rows) ∙ omega arith
 
 -- ---- the octets that sessions have joined
 
@@ -108,5 +107,4 @@ none_joined n live [] rise all = refl
 none_joined n live ((r, line) ∷ lines) rise all =
     let first : joined_live live (r, line) ≡ 0 = none_of (is_some (value_at r live)) line.session (λ l lives is. all r l lives (kept_first r line lines ∙ is)) in
     let rest : joined_in live lines ≡ 0 = none_joined r live lines rise.1 (λ q l lives at. all q l lives (behind_by r q line lines l rise.1 at)) in
-    let sum : joined_in live ((r, line) ∷ lines) ≡ joined_live live (r, line) + joined_in live lines = sum_by-cons (λ (row : ℕ × Line). joined_live live row) (r, line) lines in
-    sum ∙ omega arith
+    (sum_by-cons (λ (row : ℕ × Line). joined_live live row) (r, line) lines) ∙ omega arith

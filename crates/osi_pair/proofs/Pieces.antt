@@ -1,5 +1,5 @@
 -- Pieces are carried one after the other.
-use Rattle.std.proofs.Common.{◌≡◌, ◌∙◌, ℕ, ◌+◌, ◌-◌, Bool, true, false, List, [], ◌∷◌, sum, map, Result, Ok, Err, OnOk, OnErr, is_err, refl, sym, ap, subst}
+use Rattle.std.proofs.Common.{◌≡◌, ◌∙◌, ℕ, ◌+◌, ◌-◌, Bool, true, false, List, [], ◌∷◌, sum, map, Result, Ok, Err, OnOk, OnErr, is_err, sym, ap, subst}
 use Rattle.std.proofs.Math.Nat.{add_comm}
 use Rattle.osi_pair.specs.Carrying.{Carries}
 use Rattle.osi_pair.specs.declared.entries.Entry.{Entry}

@@ -1,7 +1,6 @@
 -- Two ends at which an event has come to be.
 use Rattle.std.proofs.Common.{◌≡◌, ℕ, List, Option, Some, None}
-use Rattle.osi_pair.specs.declared.events.Event.TheVariants.{Call}
-use Rattle.osi_pair.proofs.Vocabulary.{EndReason, Step, CanHappen, StandsAfter, TwoEnds, end_at, misfit, Does, HoldLess, IsReached, StandsAt, StandsAtTold, Event, Connect, Carry, Break, Told, Side}
+use Rattle.osi_pair.proofs.Vocabulary.{EndReason, Step, CanHappen, StandsAfter, TwoEnds, end_at, misfit, Does, HoldLess, IsReached, StandsAt, StandsAtTold, Event, Carry, Break, Told, Side}
 use Rattle.osi_pair.proofs.HoldingLess.{event_less}
 use Rattle.osi_pair.proofs.StandingEvent.{EventLaws, event_stands}
 

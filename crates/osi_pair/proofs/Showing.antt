@@ -1,7 +1,7 @@
 -- Indications are shown one after the other.
-use Rattle.std.proofs.Common.{◌≡◌, ◌∙◌, ℕ, ◌+◌, List, [], ◌∷◌, ◌++◌, length, Option, Some, None, refl, sym, ap, ap₂, subst, inl, inr}
+use Rattle.std.proofs.Common.{◌≡◌, ◌∙◌, ℕ, ◌+◌, List, [], ◌∷◌, ◌++◌, length, Option, Some, None, sym, ap, ap₂, subst, inl}
 use Rattle.osi_stack.specs.Calls.{without_first}
-use Rattle.osi_pair.proofs.Vocabulary.{append_assoc, append-nil, length-append, map-append, Rows, EndReason, Shown, first_shown, Holding, Entry, shows, waiting_in, quieted, shown_entries, end_entries, told_entries, Tells, Side, EndLine as Line}
+use Rattle.osi_pair.proofs.Vocabulary.{append_assoc, length-append, map-append, Rows, EndReason, Shown, first_shown, Holding, Entry, shows, waiting_in, quieted, shown_entries, end_entries, told_entries, Tells, Side, EndLine as Line}
 use Rattle.osi_pair.proofs.Waiting.{none_waits, none_taken, next_is}
 
 -- so many were shown

@@ -1,12 +1,12 @@
 -- The carrier of an end acts for a connection that is open there: nothing is taken, and its session makes no
 -- move. How two ends stand then.
-use Rattle.std.proofs.Common.{◌≡◌, ◌≢◌, ℕ, ◌<◌, ◌≤◌, Bool, true, false, nat_lt, if◌then◌else◌, List, [], ◌++◌, length, Option, Some, None, option_map, refl, sym, ap, subst, ◌∙◌, arith, not}
+use Rattle.std.proofs.Common.{◌≡◌, ◌≢◌, ℕ, ◌<◌, ◌≤◌, Bool, true, false, nat_lt, if◌then◌else◌, List, [], ◌++◌, Option, Some, None, option_map, refl, sym, ap, subst, ◌∙◌, arith, not}
 use Rattle.osi_between.specs.Messages as carrier
-use Rattle.osi_pair.proofs.Vocabulary.{nat_tests, append-nil, Place, never, was_given, place_at, connection_in, IsOrderly, value_at, Connection, State, beyond, put_here, put_other, Between, AreBetween, Carries, last_of, under_way, put_in, is_cut, Acted, becomes, side, progress_of, AreLike, Progress, in_use, progress_in, leaves_use, connection_at, Line, Tables, seen_from, stays, Message, with_same, with_other, with_count, none_there, with_carrier, End, Holding, TwoEnds, end_at, Entry, other, side_in, is_caller, class_in, carriers_of, IsSeated, IsInOrder, Stands, Goes, HasJoined, Side, Left, Right, given_live, Held, Terms, waiting_in, put_row as put, SessionState}
+use Rattle.osi_pair.proofs.Vocabulary.{append-nil, Place, never, was_given, place_at, connection_in, value_at, Connection, State, put_here, put_other, Between, AreBetween, Carries, last_of, under_way, put_in, is_cut, Acted, becomes, side, progress_of, AreLike, Progress, in_use, progress_in, leaves_use, connection_at, Line, Tables, seen_from, stays, Message, with_same, with_other, with_count, none_there, with_carrier, End, Holding, TwoEnds, end_at, Entry, other, side_in, is_caller, class_in, carriers_of, IsSeated, IsInOrder, Stands, Goes, HasJoined, Side, Left, Right, given_live, Held, Terms, waiting_in, put_row as put, SessionState}
 use Rattle.osi_pair.proofs.StandingActs.{StandsOn, there, of_end}
 use Rattle.osi_pair.proofs.StandingFinish.{terms_at, order_of, was_at, GivenAfter}
-use Rattle.osi_pair.proofs.StandingSeats.{transport_by, HasSession, place_by, session_of_seat, seat_of_session}
-use Rattle.osi_pair.proofs.StandingTurned.{IsSeen, seen, seen_twice, with_holding, holding_here, holding_there, Others, LinesAfter, Turned, turned_pair, turned_stands, out_there, back_here, GoesTo, still_there}
+use Rattle.osi_pair.proofs.StandingSeats.{transport_by, HasSession, place_by, seat_of_session}
+use Rattle.osi_pair.proofs.StandingTurned.{IsSeen, seen, seen_twice, with_holding, holding_here, holding_there, Others, LinesAfter, Turned, turned_pair, turned_stands, out_there, back_here, GoesTo}
 use Rattle.osi_pair.proofs.StandingWays.{shuts, back_waits}
 use Rattle.osi_pair.proofs.StandingCut.{end_back}
 
@@ -109,9 +109,6 @@ acted_line g channel l = record {
 abbrev pub OutNow : Side → ℕ → TwoEnds → Between → TwoEnds → Between → SessionState → List Message → Type 0
 OutNow s n p b new c x channel = GoesTo s (end_at (other s) p) n new c (progress_of (place_at n (last_of (is_caller (other s)) b))) x channel
 
-in_use_lasts : (g : Progress) → g ≡ in_use → shuts g ≡ true → (h : Bool) → h ≡ true
-in_use_lasts g e f h = let no_way : false ≡ true = sym (ap shuts e) ∙ f in cc
-
 seen_acts : (s : Side) (p : TwoEnds) (b : Between) (t : Tables) (n : ℕ) (g : Progress) (c : State) (put : List carrier.Message) (channel : List Message) (l : Line) → Stands p b t → (end_at s p).end.carrier.ended ≡ None →
     (a : CarrierActs s p b n g c put) → IsInOrder (end_with s c p) → IsSeen s n p b l → HasSession n (end_at s p).end.lines g l.own.session → OutNow s n p b (pair_with s c p) a.now l.peer.session.state channel →
     IsSeen s n (pair_with s c p) a.now (acted_line g channel l)
@@ -128,7 +125,7 @@ seen_acts s p b t n g c put channel l old alive a order i x out =
       back = back_here s p a.now e h n (progress_of (place_at n (last_of (is_caller s) a.now))) l.own.session.state l.peer.channel
           (back_waits (end_at s p).end.carrier.ended e.carrier.ended (progress_of (place_at n (last_of (is_caller s) b))) (place_at n (last_of (is_caller s) a.now)) (is_cut (is_caller (other s)) (carriers_of p))
           (is_cut (is_caller (other s)) (carriers_of (pair_with s c p))) (HasJoined n (end_at s p)) (HasJoined n (record { end = e; held = h })) l.own.session.state l.peer.channel (under_way (is_caller (other s)) n (carriers_of p) b) (under_way (is_caller (other s)) n (carriers_of (pair_with s c p)) a.now)
-          (λ f. in_use_lasts (progress_of (place_at n (last_of (is_caller s) b))) stood f (shuts (progress_of (place_at n (last_of (is_caller s) a.now))))) i.back alive
+          (λ f. (let no_way : false ≡ true = sym (ap shuts stood) ∙ f in cc)) i.back alive
           (end_back s (record { end = e; held = h }) p) (λ x held. held) a.ways.came);
     }
 

@@ -1,11 +1,11 @@
 -- What an end that acted for a connection leaves under way for it, and two ends whose journal says more.
-use Rattle.std.proofs.Common.{◌≡◌, refl, sym, ◌∙◌, ap, subst, ℕ, zero, suc, ◌<◌, ◌≤◌, Bool, true, false, nat_le, nat_lt, if◌then◌else◌, List, [], ◌∷◌, ◌++◌, length, map, Option, Some, None, option_map, is_some, IsSome, arith}
+use Rattle.std.proofs.Common.{◌≡◌, refl, sym, ◌∙◌, ap, subst, ℕ, zero, suc, ◌<◌, ◌≤◌, Bool, true, false, nat_le, if◌then◌else◌, List, [], ◌∷◌, ◌++◌, length, map, Option, Some, None, is_some, IsSome, arith}
 use Rattle.osi_between.specs.Messages as carrier
 use Rattle.osi_machine.specs.Machine as entries
-use Rattle.osi_pair.proofs.Vocabulary.{lt-ltb, leb-true, leb-false, nat_tests, map-append, AllByRecursion, Place, never, was_given, place_at, value_at, State as Carrier, Between, Carries, last_of, under_way, put_in, is_cut, progress_of, Progress, Terms, terms_of, connection_at, Step, HasNumber, Seat, Line, Tables, step, run, start, Message, put, Holding, TwoEnds, end_at, noted, Entry, other, is_caller, terms_in, carriers_of, entry_in, AreAlike, IsUnderWay, IsInOrder, IsLine, Stands, StandsAt, Goes, word_in, HasJoined, HasLine, waiting_in, Word, Reach, Side, Left, Right, StaysCalm, noted_in}
+use Rattle.osi_pair.proofs.Vocabulary.{lt-ltb, leb-true, leb-false, map-append, AllByRecursion, Place, never, was_given, place_at, value_at, State as Carrier, Between, Carries, last_of, under_way, put_in, is_cut, progress_of, Progress, Terms, terms_of, connection_at, Step, HasNumber, Seat, Line, Tables, step, run, start, Message, put, Holding, TwoEnds, end_at, noted, Entry, other, is_caller, terms_in, carriers_of, entry_in, AreAlike, IsUnderWay, IsInOrder, IsLine, Stands, StandsAt, Goes, word_in, HasJoined, HasLine, waiting_in, Word, Side, Left, Right, StaysCalm, noted_in}
 use Rattle.osi_pair.proofs.StandingCut.{cut_none, cut_out, cut_back}
 use Rattle.osi_pair.proofs.StandingRests.{unless_broken, put_unless, words_put, are_put, put_same, put_spare}
-use Rattle.osi_pair.proofs.StandingWays.{as_now, out_puts, same_alike, alike_trans, like_alike}
+use Rattle.osi_pair.proofs.StandingWays.{as_now, out_puts, like_alike}
 use Rattle.osi_pair.proofs.StandingTurned.{GoesTo}
 use Rattle.osi_pair.proofs.WordLaws.{AreWords}
 

@@ -1,11 +1,10 @@
 -- A call is answered as the machine answers it.
-use Rattle.std.proofs.Common.{◌≡◌, refl, sym, ◌∙◌, ap, subst, ℕ, zero, suc, ◌<◌, ◌≤◌, ◌&&◌, Bool, true, false, not, nat_le, nat_lt, if◌then◌else◌, length, Option, Some, None, is_some, IsSome, Err, arith}
+use Rattle.std.proofs.Common.{◌≡◌, refl, sym, ◌∙◌, ap, ℕ, zero, suc, ◌<◌, ◌≤◌, ◌&&◌, Bool, true, false, not, nat_le, if◌then◌else◌, length, Option, Some, None, is_some, arith}
 use Rattle.osi_machine.specs.Worlds.{gone, not_yet}
-use Rattle.osi_session.specs.Allowed.{met}
 use Rattle.osi_session.specs.declared.faults.CallError.TheVariants as error
 use Rattle.osi_session.specs.declared.phases.Phase.TheVariants.{Ended}
-use Rattle.osi_pair.proofs.Vocabulary.{lt-ltb, le-leb, leb-true, leb-false, nat_tests, was_given, place_at, value_at, Connection, asked, linked, closing, State as Carrier, EndReason, Between, connection_at, is_given, Seat, Line, Tables, seen_from, side_of, Answer, may_call, octets_of, most_of, sends, sized, allowed, Call, HasSerial, Listener, Standing, called, answered, react, is_ended, is_over, fits_limit, CallError, Phase, has_given, session_refusal, session_error, call_error, table_error, AllCameAbout, Soundness, End, Holding, session_in, session_at, TwoEnds, end_at, side_in, transport_in, is_parting, IsSeated, Stands, Side}
-use Rattle.osi_pair.proofs.StandingActs.{OfEnd, of_end, there, NoneBeyond, place_given, place_ahead}
+use Rattle.osi_pair.proofs.Vocabulary.{lt-ltb, le-leb, leb-true, leb-false, was_given, place_at, value_at, Connection, State as Carrier, Between, connection_at, is_given, Seat, Line, Tables, seen_from, side_of, allowed, Call, HasSerial, Listener, Standing, called, react, is_ended, CallError, has_given, session_error, call_error, table_error, AllCameAbout, Soundness, End, Holding, session_in, session_at, TwoEnds, end_at, side_in, transport_in, is_parting, IsSeated, Stands, Side}
+use Rattle.osi_pair.proofs.StandingActs.{of_end, there, NoneBeyond, place_given, place_ahead}
 use Rattle.osi_pair.proofs.StandingListens.{calls_so}
 use Rattle.osi_pair.proofs.StandingTurned.{seen}
 
@@ -52,8 +51,7 @@ seat_by r h seat call None some within at s =
     over_gone : IsSeated r h seat → seat.transport ≡ gone → is_ended seat.session.state.phase ≡ true
     over_gone x e = x.over_now (ap is_parting e)
 seat_by r h seat call (Some x) some within at s =
-    let place : place_at r h.end.carrier ≡ was_given (Some x) = place_given r h.end.carrier within ∙ ap was_given at in
-    let given : is_given seat.transport ≡ true = ap is_given (s.transport ∙ ap transport_in place) ∙ live_given x in
+    let given : is_given seat.transport ≡ true = ap is_given (s.transport ∙ ap transport_in (place_given r h.end.carrier within ∙ ap was_given at)) ∙ live_given x in
     by_given r call h.end true (was_there r h.end.carrier some within) ∙ ap (λ (o : Option Listener). session_error o call) (s.live (ap is_some at))
     ∙ (calls_so s.joined seat.session call).2
     ∙ sym (ap (λ (b : Bool). if◌then◌else◌ {A = Option CallError} b (react seat.session (called call)).error (Some error.NoSuchConnection)) given)
@@ -86,12 +84,8 @@ table_at none r side p b t call (Some l) s at =
 abbrev pub Answered : Type 0
 Answered = (r : ℕ) (call : Call) (e : End) → HasSerial call → e.carrier.ended ≡ None → Soundness e → AllCameAbout e.lines → call_error r call e ≡ table_error r call e
 
-table_alone : Answered → (r : ℕ) (side : Side) (p : TwoEnds) (b : Between) (t : Tables) (call : Call) (ended : Option EndReason) → HasSerial call → OfEnd side p b t →
-    (end_at side p).end.carrier.ended ≡ ended → call_error r call (end_at side p).end ≡ table_error r call (end_at side p).end
-table_alone answers r side p b t call ended serial h is = grind arith
-
 pub answer_same : NoneBeyond → Answered → (r : ℕ) (side : Side) (p : TwoEnds) (b : Between) (t : Tables) (call : Call) → HasSerial call → Stands p b t →
     call_error r call (end_at side p).end ≡ line_error (side_of (side_in side) (connection_at r t.lines)) call
 answer_same none answers r side p b t call serial s =
-    table_alone answers r side p b t call (end_at side p).end.carrier.ended serial (of_end side p b t s) refl
+    grind (arith, of_end side p b t s)
     ∙ table_at none r side p b t call (connection_at r t.lines) s refl

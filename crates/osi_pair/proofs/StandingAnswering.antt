@@ -2,21 +2,18 @@
 -- answers, or closes its connection of class 2.
 use Rattle.std.proofs.Common.{◌≡◌, ℕ, Bool, true, false, if◌then◌else◌, List, Option, Some, None, option_map, refl, sym, ap, subst, ◌∙◌, ◌⊎◌, inl, inr, arith}
 use Rattle.osi_carrier.specs.Packets as carriers
-use Rattle.osi_carrier.specs.React.{react as carrier_react}
 use Rattle.osi_machine.specs.Worlds as worlds
-use Rattle.osi_pair.proofs.Vocabulary.{Held, Place, never, was_given, place_at, asked, linked, closing, reference_of, Between, last_of, progress_of, in_use, Terms, by_two, by_zero, refusing, class_of, learns, Tables, Message, Transport, unit, ask, agree, deny, bye, over, accepts, Meaning, said_of, Input, opened, refused, taken, broken, Standing, begun, denied, rests, react, after_input, is_wait_transport, is_ended, Outcome, respond, respond_unit, after_packet, IsSound, TwoEnds, end_at, is_caller, class_in, terms_in, carriers_of, Stands, Side, Left, Right, SessionState as State}
+use Rattle.osi_pair.proofs.Vocabulary.{Held, Between, in_use, Terms, by_two, by_zero, class_of, learns, Tables, Message, Transport, unit, accepts, Meaning, said_of, Input, opened, refused, taken, broken, Standing, react, after_input, is_wait_transport, is_ended, respond, respond_unit, after_packet, IsSound, TwoEnds, end_at, is_caller, class_in, terms_in, carriers_of, Stands, Side, SessionState as State}
 use Rattle.osi_pair.proofs.StandingAnswers.{answered_shown, closed_shown, silent_shown}
 use Rattle.osi_pair.proofs.StandingArrived.{PacketActs}
-use Rattle.osi_pair.proofs.StandingArriving.{is_linked}
 use Rattle.osi_pair.proofs.StandingFinish.{terms_at, order_of}
 use Rattle.osi_pair.proofs.StandingHeard.{carried_out}
 use Rattle.osi_pair.proofs.StandingMoved.{move_of, HasMoved}
 use Rattle.osi_pair.proofs.StandingMoves.{heard_by, is_move}
 use Rattle.osi_pair.proofs.StandingPacket.{PacketLaws}
-use Rattle.osi_pair.proofs.StandingRows.{Row, quiet, still, begins, refuses, agrees, denies, tells, leaves, ignores, ends, before, is_row}
+use Rattle.osi_pair.proofs.StandingRows.{Row, agrees, denies, tells, before, is_row}
 use Rattle.osi_pair.proofs.StandingShown.{StandsShown}
 use Rattle.osi_pair.proofs.StandingReplies.{refused_open}
-use Rattle.osi_pair.proofs.StandingKnown.{linked_place}
 
 -- what is proved of one session
 pub record AnswerLaws : Type 0 where
@@ -26,15 +23,11 @@ pub record AnswerLaws : Type 0 where
 
 -- ---- the end behind the packet
 
-pub acts_of : (s : Side) (p : TwoEnds) (b : Between) (packet : List ℕ) (h : Held) → (pa : PacketActs (terms_at p) (is_caller s) (carriers_of p) b packet h.octets) →
-    carriers.after_packet (end_at s p).end.carrier packet ≡ carrier_react pa.unit (end_at s p).end.carrier
-acts_of s p b packet h pa = grind arith
-
 pub sound_behind : PacketLaws → (s : Side) (p : TwoEnds) (b : Between) (t : Tables) (packet : List ℕ) (h : Held) → Stands p b t → (end_at s p).end.carrier.ended ≡ None →
     PacketActs (terms_at p) (is_caller s) (carriers_of p) b packet h.octets → IsSound (after_packet (end_at s p).end packet)
 sound_behind laws s p b t packet h old alive pa =
     let was = order_of s p b t old alive in
-    subst IsSound (sym (carried_out (end_at s p).end packet pa.unit (acts_of s p b packet h pa))) (laws.sound (end_at s p).end pa.unit pa.sendable alive (λ x. was.heard) (λ x. was.sound))
+    subst IsSound (sym (carried_out (end_at s p).end packet pa.unit (grind arith))) (laws.sound (end_at s p).end pa.unit pa.sendable alive (λ x. was.heard) (λ x. was.sound))
 
 -- ---- a move that closes
 
@@ -74,9 +67,6 @@ closes_alone laws row m x is h = cc
 
 -- ---- the class is known
 
-learns_same : (class : worlds.Class) (tr : Transport) (m : Message) → learns (accepts class) tr m (Some class) ≡ Some class
-learns_same class tr m = grind arith
-
 -- where a unit comes to an open connection the caller has agreed the class
 pub class_known : (s : Side) (p : TwoEnds) (b : Between) (t : Tables) (packet : List ℕ) (h : Held) → Stands p b t → (pa : PacketActs (terms_at p) (is_caller s) (carriers_of p) b packet h.octets) →
     before pa.did.row ≡ in_use → t.known ≡ option_map class_in (class_of (terms_at p))
@@ -86,7 +76,7 @@ known_by_class : (s : Side) (p : TwoEnds) (b : Between) (t : Tables) (packet : L
     before pa.did.row ≡ in_use → terms_at p ≡ terms → terms_in terms ≡ accepts class → option_map class_in (class_of terms) ≡ Some class → (tr : Transport) (m : Message) → learns t.terms tr m t.known ≡ Some class
 known_by_class s p b t packet h terms class old pa used is accepted agreed tr m =
     let known : t.known ≡ Some class = class_known s p b t packet h old pa used ∙ ap (λ (x : Terms). option_map class_in (class_of x)) is ∙ agreed in
-    ap (λ (o : Option worlds.Class). learns t.terms tr m o) known ∙ ap (λ (x : worlds.Terms). learns x tr m (Some class)) (old.terms ∙ ap terms_in is ∙ accepted) ∙ learns_same class tr m
+    ap (λ (o : Option worlds.Class). learns t.terms tr m o) known ∙ ap (λ (x : worlds.Terms). learns x tr m (Some class)) (old.terms ∙ ap terms_in is ∙ accepted) ∙ grind arith
 
 pub known_two : (s : Side) (p : TwoEnds) (b : Between) (t : Tables) (packet : List ℕ) (h : Held) → Stands p b t → (pa : PacketActs (terms_at p) (is_caller s) (carriers_of p) b packet h.octets) →
     before pa.did.row ≡ in_use → terms_at p ≡ by_two → (tr : Transport) (m : Message) → learns t.terms tr m t.known ≡ Some worlds.class_2

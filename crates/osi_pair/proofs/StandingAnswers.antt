@@ -1,23 +1,23 @@
 -- A session moved, and sends a unit, or closes its connection of class 2: how two ends stand when that was done,
 -- and its user was shown what the move shows.
-use Rattle.std.proofs.Common.{◌≡◌, ℕ, ◌≤◌, zero, suc, Bool, true, false, if◌then◌else◌, List, [], ◌∷◌, ◌++◌, length, map, Option, Some, None, refl, sym, ap, subst, ◌∙◌, ◌⊎◌, inl, inr, arith}
+use Rattle.std.proofs.Common.{◌≡◌, ℕ, ◌≤◌, zero, suc, Bool, true, false, if◌then◌else◌, List, [], ◌∷◌, ◌++◌, map, Option, Some, None, refl, sym, ap, subst, ◌∙◌, ◌⊎◌, arith}
 use Rattle.osi_machine.specs.Core as machine
 use Rattle.osi_machine.specs.Machine as entries
 use Rattle.osi_machine.specs.Tables.{closed, noted as noted_in}
 use Rattle.osi_machine.specs.Worlds as worlds
-use Rattle.osi_pair.proofs.Vocabulary.{append-nil, Held, open_link, sent, sent_on, closes, closed_on, closed_with, AreUpTo, Rows, State as Carrier, EndReason, in_use, gone, by_two, Class, Zero, Two, connection_at, delivers, shown_at, replaced, with_connection, Line as TableLine, Turn, Tables, seen_from, stays, puts, closes_by, after_turn, step, Message, unit, put, replied, Meaning, tsdus_sent, written, is_ended, Shown, after_packet, concludes, with_carrier, IsSound, kept_at, answers, End, Holding, answers_by, hands_none, handed, sent_by_itself, TwoEnds, end_at, Entry, side_in, IsInOrder, Stands, waiting_in, quieted, shown_entries, end_entries, told_entries, Side, Left, Right, Link, EndLine as Line, quieted_at}
+use Rattle.osi_pair.proofs.Vocabulary.{append-nil, Held, open_link, sent, sent_on, closes, closed_with, Rows, State as Carrier, EndReason, in_use, gone, by_two, Class, delivers, shown_at, replaced, with_connection, Line as TableLine, Turn, Tables, seen_from, stays, puts, closes_by, after_turn, step, Message, unit, put, replied, Meaning, tsdus_sent, written, is_ended, Shown, after_packet, concludes, with_carrier, IsSound, answers, End, answers_by, hands_none, handed, sent_by_itself, TwoEnds, end_at, Entry, side_in, IsInOrder, Stands, waiting_in, quieted, shown_entries, end_entries, told_entries, Side, Left, Right, Link, EndLine as Line, quieted_at}
 use Rattle.osi_pair.proofs.StandingActs.{StandsOn}
 use Rattle.osi_pair.proofs.StandingArrived.{CarrierLaws}
 use Rattle.osi_pair.proofs.StandingCall.{put_nothing}
 use Rattle.osi_pair.proofs.StandingCloses.{closes_from, close_is}
-use Rattle.osi_pair.proofs.StandingFinish.{terms_at, order_of, line_then}
+use Rattle.osi_pair.proofs.StandingFinish.{terms_at, line_then}
 use Rattle.osi_pair.proofs.StandingHeard.{lasting}
 use Rattle.osi_pair.proofs.StandingListens.{as_made}
 use Rattle.osi_pair.proofs.StandingMoved.{Moving, move_of, loud_lines, moved_end, IsLinkedAt, known_by, moved_line, turn_of, moved_tables, HasMoved}
 use Rattle.osi_pair.proofs.StandingMoves.{is_move}
 use Rattle.osi_pair.proofs.StandingPacket.{terms_then}
 use Rattle.osi_pair.proofs.StandingRests.{open_by}
-use Rattle.osi_pair.proofs.StandingRows.{Row, quiet, still, begins, refuses, agrees, denies, tells, leaves, ignores, ends, after}
+use Rattle.osi_pair.proofs.StandingRows.{Row, after}
 use Rattle.osi_pair.proofs.StandingCall.{open_is}
 use Rattle.osi_pair.proofs.StandingSends.{sent_acts, sends_from}
 use Rattle.osi_pair.proofs.StandingShown.{StandsShown, shown_pair}
@@ -126,7 +126,6 @@ finish_shown : (s : Side) (p : TwoEnds) (t : Tables) (packet : List ℕ) (h : He
     StandsShown s p t (after_packet (end_at s p).end packet) h
 finish_shown s p t packet h v c keep u same lasts local is on =
     let n = v.m.n in
-    let e = moved_end s p v.unit v.m in
     let lines = loud_lines s p v.m in
     subst (λ (x : End). StandsShown s p t x h) (sym same)
     (record {
@@ -135,12 +134,8 @@ finish_shown s p t packet h v c keep u same lasts local is on =
       now = on.now;
       local = local ∙ v.local;
       stands = subst (λ (y : Tables). Stands (shown_pair s (answered_end c lines) h p) on.now y) (sym is)
-          (subst (λ (q : TwoEnds). Stands q on.now u) (shown_is s p e h n (move_of v.m).shown c lines lasts v.waits) on.stands);
+          (subst (λ (q : TwoEnds). Stands q on.now u) (shown_is s p (moved_end s p v.unit v.m) h n (move_of v.m).shown c lines lasts v.waits) on.stands);
     })
-
--- what a session sends by itself is one TSDU
-sent_alone : (n : ℕ) (x : Meaning) (c : Carrier) → length (written x) ≤ 1048576 → answers_by false n (tsdus_sent 0 (Some x)) c ≡ sent n (written x) c
-sent_alone n x c short = ap (λ (l : List (List ℕ)). answers_by false n l c) (sym (sent_by_itself (Some x))) ∙ handed n (written x ∷ []) c (short, tt)
 
 -- the session sends a unit, and closes nothing
 pub answered_shown : CarrierLaws → (s : Side) (p : TwoEnds) (t : Tables) (packet : List ℕ) (h : Held) (v : HasMoved s p t packet h) (x : Meaning) → IsSound (after_packet (end_at s p).end packet) →
@@ -157,7 +152,7 @@ answered_shown laws s p t packet h v x sound open_still reply =
     let a = sent_acts n (written x) e.carrier linked_now.peer linked_now.link v.lasts linked_now.at in
     let acts : answers n 0 (as_made (move_of v.m)) e.carrier ≡ c =
     ap (λ (b : Bool). answers_by b n (tsdus_sent 0 (move_of v.m).reply) e.carrier) open_still ∙ ap (λ (o : Option Meaning). answers_by false n (tsdus_sent 0 o) e.carrier) reply
-    ∙ sent_alone n x e.carrier go.short in
+    ∙ (ap (λ (l : List (List ℕ)). answers_by false n l e.carrier) (sym (sent_by_itself (Some x))) ∙ handed n (written x ∷ []) e.carrier (go.short, tt)) in
     let same : after_packet (end_at s p).end packet ≡ answered_end c lines =
     v.does ∙ ap (λ (k : Carrier). concludes (answered_end k lines)) acts ∙ lasting (answered_end c lines) a.lasts in
     let events = sent_events n (written x) e.carrier linked_now.peer linked_now.link (open_is n e.carrier linked_now.peer linked_now.link v.lasts linked_now.at) in
@@ -189,9 +184,6 @@ closed_shown laws s p t packet h v sound two known closing reply over =
 
 -- ---- a move that sends and closes nothing
 
-same_pair : (s : Side) (e : End) (h : Held) (n : ℕ) (shown : List Shown) (p : TwoEnds) → with_holding s (with_carrier e.carrier e) h (turned_pair s e h n shown p) ≡ turned_pair s e h n shown p
-same_pair s e h n shown p = grind arith
-
 silent_step : (s : Side) (p : TwoEnds) (t : Tables) (packet : List ℕ) (h : Held) (v : HasMoved s p t packet h) (keep : ℕ → ℕ) → (move_of v.m).closes ≡ false → (move_of v.m).reply ≡ None →
     step t (delivers (side_in s) v.m.n keep) ≡ moved_tables s t v.m
 silent_step s p t packet h v keep open_still reply =
@@ -216,4 +208,4 @@ silent_shown s p t packet h v open_still reply =
     let same : after_packet (end_at s p).end packet ≡ answered_end e.carrier lines =
     v.does ∙ ap (λ (k : Carrier). concludes (answered_end k lines)) acts ∙ lasting (answered_end e.carrier lines) v.lasts in
     finish_shown s p t packet h v e.carrier (λ r. 0) t1 same v.lasts refl (silent_step s p t packet h v (λ r. 0) open_still reply)
-    (record { now = v.now; stands = subst (λ (q : TwoEnds). Stands q v.now t1) (sym (same_pair s e h n (move_of v.m).shown p)) v.stands })
+    (record { now = v.now; stands = subst (λ (q : TwoEnds). Stands q v.now t1) (sym (grind arith)) v.stands })

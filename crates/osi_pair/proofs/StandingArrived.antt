@@ -1,6 +1,6 @@
 -- A packet is taken at one of two carriers, and what it told is heard: which row it is, and what is under way
 -- then.
-use Rattle.std.proofs.Common.{◌≡◌, ◌≢◌, ℕ, ◌+◌, ◌<◌, Bool, true, false, not, List, [], ◌∷◌, ◌++◌, Some, None, refl, sym, ap, subst, ◌∙◌, arith}
+use Rattle.std.proofs.Common.{◌≡◌, ◌≢◌, ℕ, ◌+◌, ◌<◌, Bool, true, false, not, List, [], ◌∷◌, ◌++◌, Some, None, sym, ap, subst, ◌∙◌, arith}
 use Rattle.osi_tpdu.specs.Writing.{written}
 use Rattle.osi_carrier.specs.Coming.{IsSendable}
 use Rattle.osi_carrier.specs.Packets.{after_packet}
@@ -88,7 +88,6 @@ packet_acts laws terms end both b packet octets behind a alive none is cut =
     let new = still_to_tell end [] mid in
     let was : last_of end b ≡ st = sym (a.lives end alive) in
     let reached : last_of end d.now ≡ react u st = sym (d.between.lives end d.lasts) ∙ side_same end (react u st) behind both in
-    let told : flat_map (told_of terms n old) y.arrived ≡ told_for n r.row = ap (flat_map (told_of terms n old)) y.brings.is ∙ r.told in
     record {
       unit = u;
       is = tk.is;
@@ -130,7 +129,7 @@ packet_acts laws terms end both b packet octets behind a alive none is cut =
         class_there = same.class (not end) ∙ ap (λ (s : State). s.class) y.there;
       };
       events = ap (λ (s : State). s.events) (sym reached) ∙ y.told ∙ ap (λ (s : State). s.events ++ flat_map (told_of terms n old) y.arrived) was
-          ∙ ap (λ (l : List Happening). l ++ flat_map (told_of terms n old) y.arrived) none ∙ told;
+          ∙ ap (λ (l : List Happening). l ++ flat_map (told_of terms n old) y.arrived) none ∙ ap (flat_map (told_of terms n old)) y.brings.is ∙ r.told;
       lasts = sym (ap (λ (s : State). s.ended) (side_same end (react u st) behind both)) ∙ d.lasts;
       local = ap (λ (s : State). s.local) (sym reached) ∙ y.local ∙ ap (λ (s : State). s.local) was;
     }

@@ -1,15 +1,14 @@
 -- Which unit can come first to an end, by where its connection stands there.
 use Rattle.std.proofs.Common.{◌≡◌, ℕ, zero, suc, ◌<◌, ◌≤◌, Bool, true, false, not, ◌&&◌, List, [], ◌∷◌, ◌++◌, nat_lt, Option, Some, None, refl, sym, ap, subst, ◌∙◌, arith, if◌then◌else◌}
 use Rattle.osi_tpdu.specs.Value.{Connect}
-use Rattle.osi_carrier.specs.Negotiation.{proposal_by, proposes_two}
 use Rattle.osi_between.specs.Joined.{AreJoined}
-use Rattle.osi_between.specs.Refusing.{AreRefusing, Refusal, rows_in}
+use Rattle.osi_between.specs.Refusing.{Refusal}
 use Rattle.osi_between.specs.Refusing as refusal
 use Rattle.osi_between.specs.Zero as zero_class
 use Rattle.osi_between.proofs.Addressing.{first_of_all}
 use Rattle.osi_between.proofs.Proposals.{source_is}
 use Rattle.osi_between.proofs.Zeros.{one_place}
-use Rattle.osi_pair.proofs.Vocabulary.{AllByRecursion, eq-eqb, nat_tests, Value, request, confirm, disconnect, data0, data2, acknowledge, Given, part0, part2, ack, unit_of, Zero, Two, Local, Place, never, was_given, place_at, Rows, value_at, Connection, asked, linked, closing, State, reference_of, units_of, Both, Between, last_of, units_from, AreJoinedBy, AreBetween, Course, unasked, asking, accepting, withdrawing, met, at_end, from_end, Holds, Meeting, talking, left_here, left_there, left_both, waiting_here, waiting_there, parted, mirror, here, addressed, leaving, out, Terms, by_two, by_zero, refusing, accepts_in, class_of, IsProposed, AreJoinedZero, ZeroCourse, HasOne, given_in}
+use Rattle.osi_pair.proofs.Vocabulary.{AllByRecursion, nat_tests, Value, request, confirm, disconnect, data0, data2, acknowledge, Given, unit_of, Zero, Two, Local, Place, never, was_given, place_at, Rows, value_at, Connection, asked, linked, closing, State, reference_of, units_of, Both, Between, last_of, units_from, AreJoinedBy, AreBetween, Course, asking, accepting, withdrawing, met, at_end, from_end, Holds, Meeting, talking, left_here, left_there, waiting_here, waiting_there, parted, mirror, here, addressed, leaving, out, Terms, by_two, by_zero, refusing, accepts_in, class_of, ZeroCourse, HasOne, given_in}
 
 -- ---- by place
 
@@ -64,9 +63,6 @@ given_open n g = grind arith
 same_open : (u v : Value) → v ≡ u → comes_open v ≡ true → comes_open u ≡ true
 same_open u v e h = subst (λ (x : Value). comes_open x ≡ true) e h
 
-leaving_open : (n reason : ℕ) → 0 < n → comes_open (leaving n reason) ≡ true
-leaving_open n reason h = grind arith
-
 first_is : {A : Type 0} (x y : A) (xs ys : List A) → x ∷ xs ≡ y ∷ ys → x ≡ y
 first_is x y xs ys e = cc
 
@@ -78,7 +74,7 @@ open_first n [] u vs e = none_first u vs e
 open_first n (g ∷ gs) u vs e = same_open u (unit_of n g) (first_is (unit_of n g) u (addressed n gs) vs e) (given_open n g)
 
 left_first : (n reason : ℕ) (gs : List Given) (u : Value) (vs : List Value) → 0 < n → addressed n gs ++ leaving n reason ∷ [] ≡ u ∷ vs → comes_open u ≡ true
-left_first n reason [] u vs some e = same_open u (leaving n reason) (first_is (leaving n reason) u [] vs e) (leaving_open n reason some)
+left_first n reason [] u vs some e = same_open u (leaving n reason) (first_is (leaving n reason) u [] vs e) (grind arith)
 left_first n reason (g ∷ gs) u vs some e = same_open u (unit_of n g) (first_is (unit_of n g) u (addressed n gs ++ leaving n reason ∷ []) vs e) (given_open n g)
 
 met_comes : (n : ℕ) (m : Meeting) (u : Value) (vs : List Value) → 0 < n → out n (mirror m) ≡ u ∷ vs → comes true (was_given (here n m)) u ≡ true
@@ -94,9 +90,6 @@ met_back n (left_here p units reason) u vs some e = left_first n reason p.rightw
 met_back n (waiting_here units last) u vs some e = none_first u vs e
 met_back n parted u vs some e = none_first u vs e
 met_back n m u vs some e = grind arith
-
-met_asked : (n : ℕ) (m : Meeting) → is_asked (was_given (here n m)) ≡ false
-met_asked n m = grind arith
 
 not_asked : {A : Type 0} (p : Place) → is_asked p ≡ false → is_asked p ≡ true → A
 not_asked p e h = absurd (cc)
@@ -121,7 +114,7 @@ request_comes c u e = subst (λ (x : Value). comes_new x ≡ true) e refl
 
 to_called : (n : ℕ) (caller called : State) (g : Course) (u : Value) (vs : List Value) → 0 < n → Holds n caller called g → from_end true n called.local g ≡ u ∷ vs → ComesBy false n caller g (at_end false n g) u
 to_called n caller called (asking c) u vs some h e = record { may = request_comes c u (first_is (request c) u [] vs e); class = λ x. cc; given = λ x. cc; waits = λ x. cc }
-to_called n caller called (met m) u vs some h e = record { may = met_back n m u vs some e; class = λ x. h.class; given = λ x. cc; waits = λ x. not_asked (was_given (here n (mirror m))) (met_asked n (mirror m)) x }
+to_called n caller called (met m) u vs some h e = record { may = met_back n m u vs some e; class = λ x. h.class; given = λ x. cc; waits = λ x. not_asked (was_given (here n (mirror m))) (grind arith) x }
 to_called n caller called g u vs some h e = none_first u vs e
 
 given_by : (n given : ℕ) (o : Option Connection) (b : Bool) → nat_lt given n ≡ b → ((if nat_lt given n then never else was_given o) ≡ never → ⊥) → n ≤ given
@@ -163,12 +156,9 @@ record ZeroBy (end : Bool) (caller : Place) (place : Place) (u : Value) : Type 0
 one_unit : (u v : Value) → v ≡ u → reference_of v ≡ 1 → reference_of u ≡ 1
 one_unit u v e h = subst (λ (x : Value). reference_of x ≡ 1) e h
 
-one_given : (g : Given) → reference_of (unit_of 1 g) ≡ 1
-one_given g = grind arith
-
 one_first : (gs : List Given) (u : Value) (vs : List Value) → addressed 1 gs ≡ u ∷ vs → reference_of u ≡ 1
 one_first [] u vs e = none_first u vs e
-one_first (g ∷ gs) u vs e = one_unit u (unit_of 1 g) (first_is (unit_of 1 g) u (addressed 1 gs) vs e) (one_given g)
+one_first (g ∷ gs) u vs e = one_unit u (unit_of 1 g) (first_is (unit_of 1 g) u (addressed 1 gs) vs e) (grind arith)
 
 zero_to_caller : (caller called : Local) (g : ZeroCourse) (u : Value) (vs : List Value) → zero_class.Holds caller called g → zero_class.from_end false called g ≡ u ∷ vs →
     ZeroBy true (zero_class.at_end true g) (zero_class.at_end true g) u
@@ -200,10 +190,6 @@ zero_first end caller taker there place u one other z =
 never_at : (n : ℕ) (s : State) → 0 < n → s.given ≡ 0 → place_at n s ≡ never
 never_at n s some e = place_by n s 0 s.live e refl ∙ ap (λ (b : Bool). if◌then◌else◌ {A = Place} b never (was_given (value_at n s.live))) (let less : nat_lt 0 n ≡ true = grind (arith, nat_tests) in less)
 
-refusing_to_caller : (reason : ℕ) (caller : State) (stage : Refusal) (u : Value) (vs : List Value) → refusal.Holds caller stage → caller.live ≡ rows_in caller.given stage →
-    refusal.from_end false reason caller.given stage ≡ u ∷ vs → IsFirstFor (refusing reason) true caller (place_at (reference_of u) caller) u
-refusing_to_caller reason caller stage u vs h l e = grind arith
-
 refusing_to_called : (reason : ℕ) (caller called : State) (stage : Refusal) (u : Value) (vs : List Value) → refusal.Holds caller stage → called.given ≡ 0 →
     refusal.from_end true reason caller.given stage ≡ u ∷ vs → IsFirstFor (refusing reason) false caller (place_at (reference_of u) called) u
 refusing_to_called reason caller called (refusal.asking c) u vs h zero_given e = grind (arith, first_is, source_is, never_at, request_comes, not_asked)
@@ -216,7 +202,7 @@ to_caller_by : (terms : Terms) (caller called : State) (going coming : List Valu
 to_caller_by by_two caller called going coming u rest j e = two_to_caller caller called going coming u rest j e
 to_caller_by by_zero caller called going coming u rest j e =
     zero_first true caller caller (zero_class.at_end true j.course) (zero_class.at_end true j.course) u j.one j.one (zero_to_caller caller.local called.local j.course u rest j.holds (sym j.coming ∙ e))
-to_caller_by (refusing reason) caller called going coming u rest j e = refusing_to_caller reason caller j.stage u rest j.holds j.live (sym j.coming ∙ e)
+to_caller_by (refusing reason) caller called going coming u rest j e = grind (arith, j.holds, j.live, sym j.coming ∙ e)
 
 to_called_by : (terms : Terms) (caller called : State) (going coming : List Value) (u : Value) (rest : List Value) → AreJoinedBy terms caller called going coming → going ≡ u ∷ rest →
     IsFirstFor terms false caller (place_at (reference_of u) called) u

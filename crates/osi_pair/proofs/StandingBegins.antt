@@ -1,8 +1,8 @@
 -- A CR arrives and is accepted: the connection has a new session, which awaits a CN.
-use Rattle.std.proofs.Common.{◌≡◌, ◌≢◌, ℕ, ◌<◌, ◌≤◌, Bool, true, false, if◌then◌else◌, List, [], ◌∷◌, ◌++◌, map, Option, Some, None, is_some, nat_lt, refl, sym, ap, subst, ◌∙◌, inl, inr, arith}
+use Rattle.std.proofs.Common.{◌≡◌, ◌≢◌, ℕ, ◌<◌, ◌≤◌, Bool, true, false, if◌then◌else◌, List, [], ◌∷◌, ◌++◌, map, Some, None, is_some, refl, sym, ap, subst, ◌∙◌, inl, inr, arith}
 use Rattle.osi_between.specs.Messages as carrier
 use Rattle.osi_machine.specs.Tables as tables
-use Rattle.osi_pair.proofs.Vocabulary.{nat_tests, Held, Value, Place, never, was_given, place_at, Rows, value_at, Connection, State, asked, linked, closing, push_here, beyond, push_other, reference_of, Between, progress_of, not_yet, in_use, leaves_use, delivers, learns, Tables, seen_from, end_of, step, unseen, Listener, Standing, AreApart, told_all, kept_at, session_in, is_used, used_lines, fresh_line, used_by, used_at, Stays, apart_push, used_live, TwoEnds, end_at, side_in, is_caller, carriers_of, message_in, Stands, waiting_in, Side, after_message, StaysCalm, kind_of, Message, unit, ask, agree, deny, bye, over, awaits_cn as awaits, EndLine as Line, SessionState}
+use Rattle.osi_pair.proofs.Vocabulary.{Held, Value, place_at, Rows, value_at, Connection, State, push_here, beyond, push_other, reference_of, Between, progress_of, not_yet, in_use, leaves_use, delivers, learns, Tables, seen_from, end_of, step, unseen, Listener, Standing, AreApart, told_all, kept_at, session_in, is_used, used_lines, fresh_line, used_by, used_at, Stays, apart_push, used_live, TwoEnds, end_at, side_in, is_caller, carriers_of, message_in, Stands, waiting_in, Side, after_message, StaysCalm, kind_of, Message, unit, ask, awaits_cn as awaits, EndLine as Line, SessionState}
 use Rattle.osi_pair.proofs.StandingArrived.{PacketActs}
 use Rattle.osi_pair.proofs.StandingFinish.{terms_at, DidAt, TablesAfter, line_then, is_agree, last_is, order_of, finish, known_then, was_at}
 use Rattle.osi_pair.proofs.StandingRests.{step_opens, tables_delivered, is_awaited, learns_row, rests, turn_rests, sends_then}
@@ -41,10 +41,6 @@ begun_waits n live lines e = used_waits live (joined n lines) (joined_waits n li
 -- the new one
 pub begun_here : (n : ℕ) (live : Rows Connection) (lines : Rows Line) → value_at n lines ≡ None → is_some (value_at n live) ≡ true → kept_at n (used_lines live (joined n lines)) ≡ Some awaits
 begun_here n live lines none lives = ap session_in (used_live n live (joined n lines) lives ∙ push_here n new_line lines none)
-
--- all others
-pub begun_live : (n q : ℕ) (live : Rows Connection) (lines : Rows Line) → q ≢ n → is_some (value_at q live) ≡ true → kept_at q (used_lines live (joined n lines)) ≡ kept_at q lines
-begun_live n q live lines apart lives = ap session_in (used_live q live (joined n lines) lives ∙ push_other q n new_line lines apart)
 
 kept_by : (n q : ℕ) (live : Rows Connection) (lines : Rows Line) (x : Listener) → q ≢ n → Stays q live (joined n lines) → kept_at q (used_lines live (joined n lines)) ≡ Some x → kept_at q lines ≡ Some x
 kept_by n q live lines x apart (inl same) h = ap session_in (sym (push_other q n new_line lines apart)) ∙ ap session_in (sym same) ∙ h
@@ -94,7 +90,7 @@ begins_unit s p b t packet h old alive lasting pa d row behind new =
     let session : l.own.session ≡ tables.awaits = at.is.here.awaiting (tr ∙ ap (λ (r : Row). transport_by (before r)) row) in
     finish s p b t (step t (delivers (side_in s) n (λ r. 0))) e h n [] l l.own.session (sends_then d.row t.broken l.own.channel) sp.others old alive d new.lasts new.local new.role pa.first.given behind new.order new.waits
     (record {
-      sessions = λ q apart lives. begun_live n q live was.lines apart lives;
+      sessions = λ q apart lives. (ap session_in (used_live q live (joined n was.lines) lives ∙ push_other q n new_line was.lines apart));
       kept = λ q apart x kept. begun_kept n q live was.lines x apart none order.sound.apart kept;
     })
     (subst (λ (x : Standing). HasSession n e.lines (after d.row) x) (sym session) (subst (λ (r : Row). HasSession n e.lines (after r) tables.awaits) (sym row)

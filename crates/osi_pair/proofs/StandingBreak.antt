@@ -1,8 +1,8 @@
 -- A break is a break of the machine.
-use Rattle.std.proofs.Common.{◌≡◌, refl, sym, ◌∙◌, ap, subst, ℕ, zero, suc, ◌+◌, ◌≤◌, Bool, true, false, if◌then◌else◌, List, [], ◌∷◌, ◌++◌, length, map, take, min, Option, Some, None, option_map, is_some, arith, ◌<◌, inl, inr}
+use Rattle.std.proofs.Common.{◌≡◌, refl, sym, ◌∙◌, ap, subst, ℕ, ◌+◌, ◌≤◌, Bool, true, false, if◌then◌else◌, List, [], ◌∷◌, ◌++◌, length, map, take, min, Option, Some, None, option_map, is_some, arith, ◌<◌, inl, inr}
 use Rattle.osi_between.specs.Between.{Lost}
 use Rattle.osi_between.specs.Messages as carrier
-use Rattle.osi_pair.proofs.Vocabulary.{AllByRecursion, slice_get, Local, place_at, Between, Both, AreBetween, under_way, broken_at, fresh_both, fresh_between, is_cut, progress_of, kind_of, Progress, Terms, terms_of, connection_at, Step, breaks, HasNumber, IsTableRun, Seat, Line, Tables, turned, cut_channels, step, run, start, Message, TwoEnds, sent_by, after_break, fresh_ends, terms_in, carriers_of, AreAlike, IsSeated, IsLine, IsInOrder, Stands, StandsAt, StandsAtBreak, AreUnderWay, word_in, HasLine, HasJoined, IsSound, Holding, fresh_end, Left, Right, EndReason, cut_there, cut_count, SessionState as State}
+use Rattle.osi_pair.proofs.Vocabulary.{AllByRecursion, Local, place_at, Between, Both, AreBetween, under_way, broken_at, fresh_both, fresh_between, is_cut, progress_of, Progress, Terms, terms_of, connection_at, Step, breaks, HasNumber, IsTableRun, Seat, Line, Tables, turned, cut_channels, step, run, start, Message, TwoEnds, sent_by, after_break, fresh_ends, terms_in, carriers_of, AreAlike, IsSeated, IsLine, Stands, StandsAt, StandsAtBreak, AreUnderWay, word_in, HasLine, HasJoined, IsSound, Holding, fresh_end, Left, Right, EndReason, cut_there, cut_count, SessionState as State}
 use Rattle.osi_pair.proofs.StandingAhead.{TakeLaws, TakesFrom, takes_from}
 use Rattle.osi_pair.proofs.StandingWays.{Takes, Front, front_at, map_take, alike_take}
 use Rattle.osi_pair.proofs.StandingCut.{IsWithin, outside_not, within_or}
@@ -78,9 +78,6 @@ breaks_at n k l p b lost t s rightward leftward (inr given) = break_line n k l p
 
 -- ---- a break
 
-least : (k n : ℕ) → min k n ≤ n
-least k n = omega arith
-
 one_step : (t : Tables) (left right : ℕ → ℕ) → t.broken ≡ false → run t (breaks left right ∷ []) ≡ record t { broken = true; lines = cut_channels left right 1 t.lines }
 one_step t left right e = ap (λ (b : Bool). if b then t else record t { broken = true; lines = cut_channels left right 1 t.lines }) e
 
@@ -94,7 +91,7 @@ record StandBroken (p : TwoEnds) (t : Tables) : Type 0 where
 break_stands : BreakLaws → (p : TwoEnds) (b : Between) (t : Tables) (k l : ℕ) → Stands p b t → IsTableRun t → p.reach ≡ None → StandBroken (after_break k l p) t
 break_stands laws p b t k l s run none =
     let lost = laws.broken (terms_of p.left.end.carrier.local p.right.end.carrier.local) (carriers_of p) b (min k (sent_by Left p)) (min l (sent_by Right p)) s.between
-    (ap (option_map (λ r. (r.left, r.right))) none) (least k (sent_by Left p)) (least l (sent_by Right p)) in
+    (ap (option_map (λ r. (r.left, r.right))) none) (omega arith) (omega arith) in
     let at : (n : ℕ) → Breaks n k l p b (length t.lines) lost.now t.lines = λ n. breaks_at n k l p b lost t s (takes_from laws.takes Left t run) (takes_from laws.takes Right t run) (within_or n (length t.lines)) in
     let left : ℕ → ℕ = λ n. (at n).left in
     let right : ℕ → ℕ = λ n. (at n).right in
@@ -138,10 +135,6 @@ break_at laws p steps k l s none =
 abbrev pub FreshSound : Type 0
 FreshSound = (is_caller : Bool) (local : Local) → IsSound (fresh_end is_caller local)
 
-fresh_stands : FreshSound → (caller called : Local) → AreBetween (terms_of caller called) (fresh_both caller called) (fresh_between caller called)
-    → Stands (fresh_ends caller called) (fresh_between caller called) (start (terms_in (terms_of caller called)))
-fresh_stands sound caller called h = grind arith
-
 pub fresh_at : FreshSound → (caller called : Local) → AreBetween (terms_of caller called) (fresh_both caller called) (fresh_between caller called)
     → StandsAt (fresh_ends caller called) []
-fresh_at sound caller called h = record { numbered = tt; now = fresh_between caller called; stands = fresh_stands sound caller called h }
+fresh_at sound caller called h = record { numbered = tt; now = fresh_between caller called; stands = (grind arith) }

@@ -10,7 +10,7 @@ use Rattle.osi_session.specs.Listening as words
 use Rattle.osi_stack.specs.Messages.{puts}
 use Rattle.osi_stack.specs.State as stack
 use Rattle.osi_pair.specs.Entries.{calls}
-use Rattle.osi_pair.proofs.Vocabulary.{eqb-true, eq-eqb, append-nil, AllByRecursion, slice_get, IsOctets, IsShortTsdu, open_link, link_of, sent, sent_on, sent_all, Place, never, was_given, place_at, RiseFrom, Rows, value_at, Connection, asked, linked, closing, State as Carrier, EndReason, put_here, put_other, Both, Between, AreBetween, Acted, Carries, becomes, last_of, progress_of, Progress, in_use, leaves_use, Terms, terms_of, IsTableRun, AreSoundLines, connection_at, with_connection, call_answered, is_given, replaced, Seat, Line, Tables, seen_from, side_of, stays, made, call_in, step, Message, unit, replied, IsInOctets, Meaning, IsSendable, words_sent, tsdus_of, Answer, allowed, octets_of, Passed, Call, HasSerial, Listener, called, answered, react, Shown, limit_of, CallError, call_error, AllCameAbout, IsSound, put_by, Says, kept_at, line_by as line_then, to_session, End, Holding, session_in, session_at, IsAttended, puts_words, TwoEnds, end_at, with_end, noted, called_by_error, other, side_in, is_caller, carriers_of, transport_in, is_parting, IsSeated, IsLine, HasLine, IsInOrder, Stands, HasJoined, joining, word_in, waiting_in, Word, Side, Left, Right, IsJoinedAs, called_calm, Link, put_row as put, SessionStep as Step, IsSoundState, SessionState as State}
+use Rattle.osi_pair.proofs.Vocabulary.{append-nil, AllByRecursion, slice_get, IsOctets, IsShortTsdu, open_link, sent, sent_all, was_given, place_at, RiseFrom, Rows, value_at, Connection, linked, State as Carrier, EndReason, put_here, put_other, Both, Between, AreBetween, Acted, Carries, becomes, last_of, progress_of, Progress, in_use, leaves_use, Terms, terms_of, IsTableRun, AreSoundLines, connection_at, with_connection, call_answered, is_given, replaced, Seat, Line, Tables, seen_from, side_of, stays, made, call_in, step, Message, unit, replied, IsInOctets, Meaning, IsSendable, words_sent, tsdus_of, Answer, allowed, octets_of, Passed, Call, HasSerial, Listener, called, answered, react, Shown, limit_of, CallError, call_error, AllCameAbout, IsSound, put_by, Says, kept_at, line_by as line_then, to_session, End, Holding, session_in, session_at, IsAttended, puts_words, TwoEnds, end_at, with_end, noted, called_by_error, side_in, is_caller, carriers_of, transport_in, is_parting, IsSeated, IsInOrder, Stands, HasJoined, joining, word_in, waiting_in, Word, Side, Left, Right, IsJoinedAs, called_calm, Link, put_row as put, SessionStep as Step, IsSoundState, SessionState as State}
 use Rattle.osi_pair.proofs.StandingActs.{out_way, back_way, place_given, OfEnd, of_end, NoneBeyond, more_said, StandsOn}
 use Rattle.osi_pair.proofs.StandingAnswer.{line_error, Answered}
 use Rattle.osi_pair.proofs.StandingListens.{calls_so, calls_keep}
@@ -219,7 +219,6 @@ reply_so r call h seat c s =
 
 seat_now : (r : ℕ) (call : Call) (h : Holding) (broken : Bool) (x : Line) (c : Called r call h) → r ≤ h.end.carrier.given → IsSeated r h x.own → IsSeated r (now_of r call h) (after_call broken call x).own
 seat_now r call h broken x c within s =
-    let same : joining s.joined x.own.session ≡ c.session = seat_session r call h x.own c s in
     let next = next_so r call h x.own c s in
     let transport : x.own.transport ≡ worlds.linked = s.transport ∙ ap transport_in (place_then r call h c within) in
     let joined = (words.react c.session (words.called call)).next.joined in
@@ -233,7 +232,7 @@ seat_now r call h broken x c within s =
       over_now = λ e. let no : false ≡ true = sym (ap is_parting transport) ∙ e in absurd cc;
       awaiting = λ e. let no : worlds.linked ≡ worlds.not_yet = sym transport ∙ e in absurd cc;
       octets = subst (λ (o : Option Meaning). IfSome o IsInOctets)
-          (sym (ap (λ (y : Listener). y.waiting) (sym next) ∙ c.waits ∙ ap (λ (y : Listener). y.waiting) (sym same))) s.octets;
+          (sym (ap (λ (y : Listener). y.waiting) (sym next) ∙ c.waits ∙ ap (λ (y : Listener). y.waiting) (sym (seat_session r call h x.own c s)))) s.octets;
     }
 
 -- ---- the two of an accepted call
@@ -243,9 +242,6 @@ new_of side r call p = with_end side (now_of r call (end_at side p)) p
 
 end_is : (side : Side) (r : ℕ) (call : Call) (p : TwoEnds) → end_at side (new_of side r call p) ≡ now_of r call (end_at side p)
 end_is side r call p = grind arith
-
-other_is : (side : Side) (r : ℕ) (call : Call) (p : TwoEnds) → end_at (other side) (new_of side r call p) ≡ end_at (other side) p
-other_is side r call p = grind arith
 
 abbrev pub terms_now : TwoEnds → Terms
 terms_now p = terms_of p.left.end.carrier.local p.right.end.carrier.local
@@ -319,11 +315,11 @@ line_acts side r call p b t x c a serial o broken within h =
     let after = progress_now side r call p b c a within in
     record {
       here = subst (λ (y : Holding). IsSeated r y (after_call t.broken call x).own) (sym (end_is side r call p)) (seat_now r call (end_at side p) t.broken x c within h.here);
-      there = subst (λ (y : Holding). IsSeated r y x.peer) (sym (other_is side r call p)) h.there;
+      there = subst (λ (y : Holding). IsSeated r y x.peer) (sym (grind arith)) h.there;
       out = out_way (terms_now p) side r p (new_of side r call p) b a.now (sent_words r call (end_at side p) c) (unit c.granted.sent ∷ []) x.own.channel t.broken (after_call t.broken call x).own x.peer a.are a.carries broken
-          (none_gone _ _ a.carries.gone before after a.carries.keeps) (other_is side r call p) c.opened.lasts (reach_same side (now_of r call (end_at side p)) p) h.out (ap (λ (y : Option Meaning). worlds.put t.broken (replied y) x.own.channel) sends);
+          (none_gone _ _ a.carries.gone before after a.carries.keeps) (grind arith) c.opened.lasts (reach_same side (now_of r call (end_at side p)) p) h.out (ap (λ (y : Option Meaning). worlds.put t.broken (replied y) x.own.channel) sends);
       back = back_way (terms_now p) side r p (new_of side r call p) b a.now (map word_in (sent_words r call (end_at side p) c)) x.peer x.own (after_call t.broken call x).own a.carries (before ∙ sym after)
-          (other_is side r call p) c.opened.lasts (reach_same side (now_of r call (end_at side p)) p)
+          (grind arith) c.opened.lasts (reach_same side (now_of r call (end_at side p)) p)
           (λ begun held. subst (λ (y : Holding). HasJoined r y begun) (sym (end_is side r call p)) (keeps_joined r call (end_at side p) c begun held))
           (λ calm. called_calm x.own.session call x.peer.channel serial calm) h.back;
     }
@@ -340,13 +336,9 @@ others_left side r call p b words m c a = grind (arith, put_other, if◌then◌e
 
 -- ---- what waits
 
-quiet_by : (r q : ℕ) (x y z : stack.Line) (lines : Rows stack.Line) (b : Bool) → (q == r) ≡ b → y.waiting ≡ x.waiting → value_at r ((q, z) ∷ lines) ≡ Some x →
-    (value_at r lines ≡ Some x → waiting_in (put r y lines) ≡ waiting_in lines) → waiting_in (put r y ((q, z) ∷ lines)) ≡ waiting_in ((q, z) ∷ lines)
-quiet_by r q x y z lines b e same at more = grind arith
-
 quiet_put : (r : ℕ) (x y : stack.Line) (lines : Rows stack.Line) → y.waiting ≡ x.waiting → value_at r lines ≡ Some x → waiting_in (put r y lines) ≡ waiting_in lines
 quiet_put r x y [] same at = refl
-quiet_put r x y ((q, z) ∷ lines) same at = quiet_by r q x y z lines (q == r) refl same at (quiet_put r x y lines same)
+quiet_put r x y ((q, z) ∷ lines) same at = grind (arith, quiet_put r x y lines same)
 
 pub quiet_now : (r : ℕ) (call : Call) (h : Holding) → Called r call h → waiting_in h.end.lines ≡ [] → waiting_in (now_of r call h).end.lines ≡ []
 quiet_now r call h c quiet = ap waiting_in c.lines ∙ quiet_put r c.line c.line_now h.end.lines c.waiting_now c.found ∙ quiet

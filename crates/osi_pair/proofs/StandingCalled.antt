@@ -1,5 +1,5 @@
 -- Two ends stand after a call as the tables do after theirs.
-use Rattle.std.proofs.Common.{◌≡◌, refl, sym, ◌∙◌, ap, subst, ℕ, ◌≤◌, ◌==◌, ◌&&◌, Bool, true, false, not, nat_le, nat_lt, if◌then◌else◌, List, [], ◌∷◌, ◌++◌, length, Option, Some, None, Ok, option_map, IsSome, arith}
+use Rattle.std.proofs.Common.{◌≡◌, refl, sym, ◌∙◌, ap, subst, ℕ, ◌≤◌, ◌==◌, ◌&&◌, if◌then◌else◌, List, [], ◌∷◌, ◌++◌, Option, Some, None, Ok, arith}
 use Rattle.osi_machine.specs.Machine as entries
 use Rattle.osi_machine.specs.Tables.{after_call}
 use Rattle.osi_machine.specs.Tables as tables
@@ -7,7 +7,7 @@ use Rattle.osi_session.proofs.SentLaws.{limit_sized}
 use Rattle.osi_session.specs.declared.faults.CallError.TheVariants as error
 use Rattle.osi_pair.specs.Ends as ends
 use Rattle.osi_pair.specs.Entries.{calls}
-use Rattle.osi_pair.proofs.Vocabulary.{leb-true, AllByRecursion, IsOctets, Local, State as Carrier, EndReason, Between, AreBetween, terms_of, IsTableRun, IsSoundSeat, IsSoundLine, connection_at, with_connection, call_answered, is_given, Step, Seat, Line, Tables, seen_from, side_of, call_in, step, run, unit, IsSendable, tsdus_of, allowed, octets_of, most_of, sends, Call, Data, HasSerial, Listener, called, react, limit_of, CallError, has_given, session_refusal, call_error, kept_at, Holding, session_at, End, TwoEnds, end_at, side_in, terms_in, class_in, ending_in, carriers_of, Stands, StandsAt, most_data, Side, Left, Right, SessionStep as Granted, IsSoundState, SessionState as State}
+use Rattle.osi_pair.proofs.Vocabulary.{AllByRecursion, IsOctets, Local, Between, terms_of, IsTableRun, IsSoundSeat, IsSoundLine, connection_at, call_answered, Step, Line, Tables, seen_from, side_of, call_in, step, run, unit, IsSendable, tsdus_of, allowed, octets_of, Call, HasSerial, Listener, limit_of, CallError, call_error, Holding, End, TwoEnds, end_at, side_in, Stands, StandsAt, Side, Left, Right, SessionStep as Granted, IsSoundState, SessionState as State}
 use Rattle.osi_pair.proofs.StandingActs.{There, there, more_said, StandsOn, begun_with, one_step, of_end}
 use Rattle.osi_pair.proofs.StandingAnswer.{line_error, answer_same}
 use Rattle.osi_pair.proofs.StandingCall.{CallLaws, refused_stands, after_by, now_of, new_of, tables_now, Called, called_is, seat_session, sent_words, MayAct, acted_at, lasts_now, quiet_now, order_now, line_acts, others_left}
@@ -39,9 +39,6 @@ record Accepted (t : Tables) (side : Side) (r : ℕ) (call : Call) (o : Option L
   found : o ≡ Some line
   is : call_in t (side_in side) r call (side_of (side_in side) o) ≡ tables.noted (call_answered (side_in side) r call None ∷ []) (tables_now t side r call line)
 
-given_by : (b : Bool) (first : Option CallError) (e : CallError) (f : Option CallError → Tables) (other : Tables) → (if b then first else Some e) ≡ None → (if b then f first else other) ≡ f None
-given_by b first e f other h = grind arith
-
 accepted_step : (t : Tables) (side : Side) (r : ℕ) (call : Call) (o : Option Line) → line_error (side_of (side_in side) o) call ≡ None → Accepted t side r call o
 accepted_step t side r call o h = grind arith
 
@@ -62,8 +59,7 @@ is_bounded laws s call x accepted = grind arith
 can_send : (laws : CallLaws) (side : Side) (r : ℕ) (call : Call) (p : TwoEnds) (b : Between) (t : Tables) (l : Line) (c : Called r call (end_at side p)) → IsTableRun t → HasSerial call →
     IsOctets (octets_of call) → connection_at r t.lines ≡ Some l → There r p b t l → CanSend r call (end_at side p) c
 can_send laws side r call p b t l c tabled serial octets at th =
-    let x : Line = seen_from (side_in side) l in
-    let same = seat_session r call (end_at side p) x.own c (seen side r p b l th.is).here in
+    let same = seat_session r call (end_at side p) (seen_from (side_in side) l).own c (seen side r p b l th.is).here in
     let sound : IsSoundState c.session.state = subst (λ (y : Listener). IsSoundState y.state) same (sound_seat side l (laws.sound_lines t tabled r l at)).sound in
     let sendable : IsSendable c.granted.sent = laws.sendable c.session.state call c.granted sound serial c.accepted in
     let limit = limit_of c.session.state in
@@ -73,9 +69,6 @@ can_send laws side r call p b t l c tabled serial octets at th =
     }
 
 -- ---- a reference that was given
-
-within_by : (a b : Bool) → (a && b) ≡ true → b ≡ true
-within_by a b h = grind arith
 
 within_given : (r : ℕ) (call : Call) (h : Holding) → call_error r call h.end ≡ None → r ≤ h.end.carrier.given
 within_given r call h none = grind arith

@@ -54,11 +54,10 @@ pieces_stand laws f p steps most (used ∷ before) new at le c =
     let all : sum (used ∷ before) ≡ used + sum before = sum_by-cons (λ n. n) used before in
     let reach : reach_after f used q.reach ≡ reach_after f (sum (used ∷ before)) p.reach =
     ap (reach_after f used) (crossed_reach f b o) ∙ reach_twice f (sum before) used (sum (used ∷ before)) p.reach (omega arith) in
-    let less : reachable f (crossed f new (reach_after f used q.reach)) ≡ reachable f q - used = left_over f new q.reach (end_at f q) used piece.taken in
     record {
       stands = subst (λ (r : Option Reach). StandsAtArrivals (other f) (crossed f new r) steps) reach y;
       left = let there : reachable f (crossed f new (reach_after f (sum (used ∷ before)) p.reach)) ≡ reachable f q - used =
-          ap (λ (r : Option Reach). reachable f (crossed f new r)) (sym reach) ∙ less in omega arith;
+          ap (λ (r : Option Reach). reachable f (crossed f new r)) (sym reach) ∙ (left_over f new q.reach (end_at f q) used piece.taken) in omega arith;
     }
 
 -- THE CARRY: two ends stand then at what arrives at the other side more.
@@ -80,9 +79,6 @@ pub record CarryLaws : Type 0 where
   pub sound : (terms : Terms) (end : Bool) (both : Both) (b : Between) (at : ℕ) (fault : TpktFault) → AreBetween terms both b →
       (side end both).state.ended ≡ None → IsFaultOf at (side end both).held fault → ⊥
 
-pub piece_laws : CarryLaws → PieceLaws
-piece_laws laws = grind (arith, taken_laws, few_wait)
-
 pub carries_stand : CarryLaws → (f : Side) (most : ℕ) (p : TwoEnds) (octets : ℕ) (new : TwoEnds) (steps : List Step) → StandsAt p steps → CarriesFrom f most p octets new →
     StandsAtArrivals (other f) new steps
-carries_stand laws = carry_at (piece_laws laws)
+carries_stand laws = carry_at (grind (arith, taken_laws, few_wait))

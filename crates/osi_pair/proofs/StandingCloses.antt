@@ -1,9 +1,9 @@
 -- An end closes an open connection of class 2: the tables put that, and of what was under way from it they keep
 -- what was written.
-use Rattle.std.proofs.Common.{◌≡◌, ℕ, Bool, true, false, List, [], ◌∷◌, take, Option, Some, None, is_some, refl, sym, subst, arith, ap, ◌∙◌}
+use Rattle.std.proofs.Common.{◌≡◌, ℕ, Bool, true, List, [], ◌∷◌, take, Some, None, is_some, refl, sym, subst, arith, ap, ◌∙◌}
 use Rattle.osi_between.specs.Messages as carrier
 use Rattle.osi_machine.specs.Tables.{closed}
-use Rattle.osi_pair.proofs.Vocabulary.{Class, Zero, Two, closes, closed_on, closed_with, place_at, value_at, State, linked, closing, Between, AreBetween, Acted, last_of, under_way, put_in, is_cut, progress_of, in_use, shutting, Terms, by_two, connection_at, Line, Tables, seen_from, stays, Message, bye, put, is_ended, Standing, with_carrier, Holding, Rows, TwoEnds, end_at, other, side_in, is_caller, carriers_of, IsInOrder, Stands, HasJoined, Side, Left, Right, Link, EndLine as StackLine}
+use Rattle.osi_pair.proofs.Vocabulary.{closed_with, place_at, value_at, State, linked, Between, AreBetween, Acted, last_of, under_way, put_in, is_cut, progress_of, in_use, shutting, Terms, by_two, connection_at, Line, Tables, seen_from, stays, Message, bye, put, is_ended, Standing, with_carrier, Holding, Rows, TwoEnds, end_at, other, side_in, is_caller, carriers_of, IsInOrder, Stands, HasJoined, Side, Link, EndLine as StackLine}
 use Rattle.osi_pair.proofs.StandingActed.{ActsOn, CarrierActs, end_with, pair_with, ways_at, acted_stands, seen_at, session_in_use, OutNow, acted_by}
 use Rattle.osi_pair.proofs.StandingActs.{StandsOn}
 use Rattle.osi_pair.proofs.StandingArrived.{CarrierLaws}
@@ -11,7 +11,6 @@ use Rattle.osi_pair.proofs.StandingFinish.{terms_at}
 use Rattle.osi_pair.proofs.StandingRests.{unless_broken, put_unless, unless_same, leave_by}
 use Rattle.osi_pair.proofs.StandingResting.{broken_is}
 use Rattle.osi_pair.proofs.StandingSeats.{HasSession}
-use Rattle.osi_pair.proofs.StandingCall.{open_is}
 use Rattle.osi_pair.proofs.StandingTurned.{IsSeen, with_holding, GoesTo, holding_here}
 use Rattle.osi_pair.proofs.StandingWays.{Takes, out_cuts}
 use Rattle.osi_pair.proofs.StandingCut.{cut_broken, reach_same}

@@ -5,7 +5,7 @@ use Rattle.osi_between.specs.Messages as carrier
 use Rattle.osi_machine.specs.Tables as tables
 use Rattle.osi_stack.specs.Calls.{connects}
 use Rattle.osi_stack.specs.State as stack
-use Rattle.osi_pair.proofs.Vocabulary.{eqb-true, eq-eqb, leb-true, leb-false, nat_tests, tsap_octets, may_connect, was_given, place_at, RiseFrom, Rows, value_at, Connection, asked, State as Carrier, EndReason, OpenError, push_here, absent, beyond, push_other, free_of, Both, Between, AreBetween, Acted, becomes, under_way, is_cut, progress_of, IsTsap, Progress, not_yet, awaiting, leaves_use, Terms, terms_of, Offer, Step, connects as connecting, connection_at, connect_answered, Refusal, Line, Tables, asked_with, refusal, asked_in, calling, step, run, ask, Listener, Shown, is_profile, unit_bits, named_by, is_long, terms_error, after_open, connect_error, calls_with, AllCameAbout, Soundness, IsSound, kept_at, End, Holding, session_in, is_used, used_lines, IsAttended, fresh_line, ConnectError, NotSelected, TooLong, used_by, used_live, rise_push, asked_of, CanBeAsked, TwoEnds, noted, connected_by, answer_with, after_connect, asks as asked_entry, carriers_of, transport_in, offer_in, answer_in, refusal_in, IsSeated, IsLine, HasLine, IsInOrder, Stands, StandsAt, HasJoined, whole, waiting_in, Left, none_of, ConnectCall as Connect}
+use Rattle.osi_pair.proofs.Vocabulary.{eqb-true, eq-eqb, leb-true, leb-false, nat_tests, tsap_octets, may_connect, was_given, place_at, RiseFrom, Rows, value_at, Connection, asked, State as Carrier, EndReason, OpenError, push_here, absent, beyond, push_other, free_of, Both, Between, AreBetween, Acted, becomes, under_way, is_cut, progress_of, IsTsap, Progress, not_yet, awaiting, leaves_use, Terms, terms_of, Offer, Step, connects as connecting, connection_at, connect_answered, Refusal, Line, Tables, asked_with, refusal, asked_in, calling, step, run, ask, Listener, Shown, is_profile, unit_bits, named_by, after_open, connect_error, calls_with, AllCameAbout, Soundness, IsSound, kept_at, End, Holding, session_in, is_used, used_lines, IsAttended, fresh_line, ConnectError, NotSelected, TooLong, used_by, used_live, rise_push, asked_of, CanBeAsked, TwoEnds, noted, connected_by, answer_with, after_connect, asks as asked_entry, carriers_of, transport_in, offer_in, answer_in, IsSeated, IsLine, HasLine, IsInOrder, Stands, StandsAt, HasJoined, whole, waiting_in, Left, none_of, ConnectCall as Connect}
 use Rattle.osi_pair.proofs.WordLaws.{wholes}
 use Rattle.osi_pair.proofs.StandingActs.{out_way, place_given, place_ahead, more_said, StandsOn, begun_with, one_step}
 use Rattle.osi_pair.proofs.StandingCall.{session_now_is}
@@ -78,8 +78,7 @@ quiet_used_by p y live lines true used [] is h more =
     let rest : waiting_in lines ≡ [] = sym (ap (λ (v : List Shown). map (λ shown. (p, shown)) v ++ waiting_in lines) is) ∙ h in
     ap waiting_in (used_by live (p, y) lines true used) ∙ ap (λ (v : List Shown). map (λ shown. (p, shown)) v ++ waiting_in (used_lines live lines)) is ∙ more rest
 quiet_used_by p y live lines false used [] is h more =
-    let rest : waiting_in lines ≡ [] = sym (ap (λ (v : List Shown). map (λ shown. (p, shown)) v ++ waiting_in lines) is) ∙ h in
-    ap waiting_in (used_by live (p, y) lines false used) ∙ more rest
+    ap waiting_in (used_by live (p, y) lines false used) ∙ more (sym (ap (λ (v : List Shown). map (λ shown. (p, shown)) v ++ waiting_in lines) is) ∙ h)
 quiet_used_by p y live lines u used (x ∷ w) is h more =
     let no = sym (ap (λ (v : List Shown). map (λ shown. (p, shown)) v ++ waiting_in lines) is) ∙ h in absurd cc
 
@@ -180,9 +179,7 @@ line_asks laws c p b t a s may can =
     let new : TwoEnds = new_two c p in
     let few : b.caller.given < n = (let e = s.given_then in omega arith) in
     let above : p.right.end.carrier.given < n = (let e = s.given in let f = s.given_back in omega arith) in
-    let none_out : under_way true n (carriers_of p) b ≡ [] = laws.ahead (terms_now p) (carriers_of p) b true n s.between few in
     let none_back : under_way false n (carriers_of p) b ≡ [] = laws.ahead (terms_now p) (carriers_of p) b false n s.between few in
-    let earlier : progress_of (place_at n b.caller) ≡ not_yet = ap progress_of (place_ahead n b.caller few) in
     let now : progress_of (place_at n a.now.caller) ≡ awaiting =
     ap (λ (x : Carrier). progress_of (place_at n x)) (sym (a.between.lives true a.lasts)) ∙ ap progress_of (place_new c p.left o.sound) in
     let g : Progress = progress_of (place_at n a.now.caller) in
@@ -190,10 +187,10 @@ line_asks laws c p b t a s may can =
       here = own_new t.broken c p.left o.sound may can;
       there = peer_new n t.broken c p above (unaware n p b t p.right.end.carrier.ended refl s above);
       out = out_way (terms_now p) Left n p new b a.now (whole ask ∷ []) (ask ∷ []) [] t.broken (asked_with t.broken (offer_in (asked_of c))).own (asked_with t.broken (offer_in (asked_of c))).peer (wholes (ask ∷ [])) a.carries s.broken
-          (none_gone _ _ a.carries.gone earlier now a.carries.keeps) refl may.lasts refl
+          (none_gone _ _ a.carries.gone (ap progress_of (place_ahead n b.caller few)) now a.carries.keeps) refl may.lasts refl
           (none_under_way p.right.end.carrier.ended (progress_of (place_at n b.called)) (is_cut true (carriers_of p)) (HasJoined n p.right) (asked_with t.broken (offer_in (asked_of c))).peer.session.state (under_way true n (carriers_of p) b)
           (λ y at. (let none = (unaware n p b t p.right.end.carrier.ended refl s above).kept in let no : None ≡ Some y = sym none ∙ at in absurd cc))
-          (λ e. same_alike (progress_of (place_at n b.called)) _ _ (sym none_out))) refl;
+          (λ e. same_alike (progress_of (place_at n b.called)) _ _ (sym (laws.ahead (terms_now p) (carriers_of p) b true n s.between few)))) refl;
       back = none_under_way new.left.end.carrier.ended g (is_cut false (carriers_of new)) (HasJoined n new.left) (asked_with t.broken (offer_in (asked_of c))).own.session.state (under_way false n (carriers_of new) a.now)
           (λ y at. (let is : Some y ≡ Some (calls_with c) = sym at ∙ ap session_in (line_new c p.left o.sound) in let same : y ≡ calls_with c = cc in inl (ap (λ (z : Listener). z.joined) same)))
           (λ e. alike_trans g [] (under_way false n (carriers_of p) b) (under_way false n (carriers_of new) a.now) (same_alike g _ _ (sym none_back))
@@ -243,9 +240,6 @@ asks_stand laws c p b t a none s may can =
 
 -- ---- the step
 
-refused_in : (t : Tables) (o : Offer) (e : ConnectError) (r : Option Refusal) → answer_in (Err e) ≡ Some r → asked_in t o r ≡ t
-refused_in t o e r h = grind arith
-
 none_refused : (r : Option Refusal) → Some None ≡ Some r → r ≡ None
 none_refused r h = let is : None ≡ r = cc in sym is
 
@@ -258,7 +252,7 @@ connect_by laws c p b t (Some e) is can s =
     let said = more_said p b t (asked_entry (asked_of c) (Err e)) (connect_answered o (refusal t o)) (ap (option_map (connect_answered o)) answer) s in
     record {
       now = b;
-      stands = subst (λ (u : Tables). Stands (noted (asked_entry (asked_of c) (Err e) ∷ []) p) b (tables.noted (connect_answered o (refusal t o) ∷ []) u)) (sym (refused_in t o e (refusal t o) answer)) said;
+      stands = subst (λ (u : Tables). Stands (noted (asked_entry (asked_of c) (Err e) ∷ []) p) b (tables.noted (connect_answered o (refusal t o) ∷ []) u)) (sym (grind arith)) said;
     }
 connect_by laws c p b t None is can s =
     let o : Offer = offer_in (asked_of c) in

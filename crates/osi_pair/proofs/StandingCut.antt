@@ -1,10 +1,6 @@
 -- Where something of what is under way was cut off.
-use Rattle.std.proofs.Common.{◌≡◌, refl, sym, ap, ◌∙◌, ℕ, zero, suc, ◌<◌, ◌≤◌, nat_le, ◌⊎◌, inl, inr, Bool, true, false, ◌||◌, Option, Some, None, option_map, is_some, arith}
-use Rattle.osi_pair.proofs.Vocabulary.{leb-true, leb-false, is_cut, Holding, TwoEnds, end_at, with_end, other, is_caller, carriers_of, Reach, Side, Left, Right, or_first}
-
--- by what reaches, and by the end that sends
-cut_by : (s : Side) (p : TwoEnds) → is_cut (is_caller s) (carriers_of p) ≡ (is_some p.reach || is_some (end_at s p).end.carrier.ended)
-cut_by s p = grind arith
+use Rattle.std.proofs.Common.{◌≡◌, sym, ap, ◌∙◌, ℕ, ◌<◌, ◌≤◌, ◌⊎◌, Bool, true, false, ◌||◌, None, is_some, arith}
+use Rattle.osi_pair.proofs.Vocabulary.{is_cut, Holding, TwoEnds, end_at, with_end, other, is_caller, carriers_of, Side}
 
 -- where an end acts that lasts, nothing new is cut of what is under way from it
 pub cut_out : (s : Side) (p new : TwoEnds) → new.reach ≡ p.reach → (end_at s p).end.carrier.ended ≡ None → is_cut (is_caller s) (carriers_of new) ≡ false → is_cut (is_caller s) (carriers_of p) ≡ false
@@ -19,7 +15,7 @@ pub cut_none : (s : Side) (p : TwoEnds) (broken : Bool) → broken ≡ is_some p
 cut_none s p broken is alive e = grind arith
 
 pub cut_broken : (s : Side) (p new : TwoEnds) (broken : Bool) → broken ≡ is_some p.reach → new.reach ≡ p.reach → broken ≡ true → is_cut (is_caller s) (carriers_of new) ≡ true
-cut_broken s p new broken is reach e = cut_by s new ∙ ap (λ (b : Bool). b || is_some (end_at s new).end.carrier.ended) (ap is_some reach ∙ sym is ∙ e)
+cut_broken s p new broken is reach e = grind arith ∙ ap (λ (b : Bool). b || is_some (end_at s new).end.carrier.ended) (ap is_some reach ∙ sym is ∙ e)
 
 -- ---- an end is another
 
@@ -37,11 +33,8 @@ end_back s h p = grind arith
 abbrev pub IsWithin : ℕ → ℕ → Type 0
 IsWithin n most = ((n ≡ 0) ⊎ (most < n)) ⊎ ((0 < n) × (n ≤ most))
 
-within_by : (n most : ℕ) (fits : Bool) → nat_le n most ≡ fits → IsWithin n most
-within_by n most fits e = grind arith
-
 pub within_or : (n most : ℕ) → IsWithin n most
-within_or n most = within_by n most (nat_le n most) refl
+within_or n most = grind arith
 
 pub outside_not : (n most : ℕ) → ((n ≡ 0) ⊎ (most < n)) → 0 < n → n ≤ most → ⊥
 outside_not n most h2 some few = grind arith

@@ -1,18 +1,18 @@
 -- An end that comes is an end of the machine, whatever its reason.
-use Rattle.std.proofs.Common.{◌≡◌, refl, sym, ◌∙◌, ap, subst, ℕ, ◌<◌, ◌≤◌, Bool, true, false, not, List, [], ◌∷◌, ◌++◌, length, map, nat_lt, Some, None, option_map, inl, arith, inr}
+use Rattle.std.proofs.Common.{◌≡◌, refl, sym, ◌∙◌, ap, subst, ℕ, ◌<◌, ◌≤◌, Bool, true, false, List, [], ◌∷◌, ◌++◌, length, map, Some, None, option_map, inl, arith, inr}
 use Rattle.osi_carrier.specs.State as carriers
 use Rattle.osi_machine.specs.Core as machine
 use Rattle.osi_machine.specs.Machine as entries
 use Rattle.osi_stack.specs.Hearing as hearing
 use Rattle.osi_stack.specs.State as stack
 use Rattle.osi_pair.specs.Entries.{ends}
-use Rattle.osi_pair.proofs.Vocabulary.{IfSome, append-nil, Held, place_at, connection_in, Rows, State, Between, Both, AreBetween, IsOnTheWay, under_way, side, last_of, units_from, lost_from, arriving, reach_of, is_cut, progress_of, Terms, terms_of, Local, EndReason, Ending, connection_at, is_given, Seat, Line, Tables, turned, seen_from, shown_in_order, after_end, Message, Shown, all_lost, kept_at, End, Holding, both, TwoEnds, end_at, Entry, other, side_in, ending_in, terms_in, class_in, entry_in, carriers_of, IsSeated, IsUnderWay, IsLine, Stands, AreUnderWay, HasJoined, HasLine, waiting_in, quieted, shown_entries, Side, Left, Right}
+use Rattle.osi_pair.proofs.Vocabulary.{append-nil, Held, place_at, connection_in, Rows, State, Between, AreBetween, under_way, last_of, is_cut, progress_of, terms_of, Local, EndReason, Ending, connection_at, is_given, Seat, Line, Tables, turned, seen_from, shown_in_order, after_end, Message, Shown, all_lost, kept_at, End, Holding, TwoEnds, end_at, Entry, other, side_in, ending_in, terms_in, class_in, entry_in, carriers_of, IsSeated, IsUnderWay, IsLine, Stands, AreUnderWay, HasJoined, HasLine, waiting_in, quieted, shown_entries, Side, Left, Right}
 use Rattle.osi_pair.proofs.StandingLost.{none_kept, IsTold, AllSeated, SaysAll, says_all, journal_on}
 use Rattle.osi_pair.proofs.StandingQuiet.{quiet_waits}
 use Rattle.osi_pair.proofs.StandingFinish.{terms_at}
 use Rattle.osi_pair.proofs.StandingShown.{shown_pair}
 use Rattle.osi_pair.proofs.StandingTurned.{IsSeen, seen, with_holding}
-use Rattle.osi_pair.proofs.StandingEnding.{ended_line, IsPlaced, placed_seat, seat_ends, ended_at_line, ended_count, way_cut, never_given, not_of, way_none, way_ended, cut_by_end}
+use Rattle.osi_pair.proofs.StandingEnding.{ended_line, IsPlaced, placed_seat, seat_ends, ended_at_line, ended_count, way_cut, way_none, way_ended, cut_by_end}
 use Rattle.osi_pair.proofs.StandingAhead.{TakesFrom}
 use Rattle.osi_pair.proofs.StandingWays.{over_way}
 use Rattle.osi_pair.proofs.StandingCut.{IsWithin, outside_not, within_or}
@@ -60,15 +60,6 @@ pub record MayEnd (s : Side) (p : TwoEnds) (t u : Tables) (e : End) (h : Held) (
   pub class_then : c.caller.class ≡ (with_holding s e h p).left.end.carrier.class
   pub takes : TakesFrom s u
   pub lines : (n : ℕ) → 0 < n → n ≤ length t.lines → EndingLine s p u e h c n
-
--- the two carriers are as they were but for the end
-left_between : (terms : Terms) (reason : EndReason) (held : List ℕ) (both : Both) (b : Between) → AreBetween terms both b →
-    AreBetween terms (record both { caller = record { state = carriers.ends reason both.caller.state; held = held } }) b
-left_between terms reason held both b h = grind arith
-
-right_between : (terms : Terms) (reason : EndReason) (held : List ℕ) (both : Both) (b : Between) → AreBetween terms both b →
-    AreBetween terms (record both { called = record { state = carriers.ends reason both.called.state; held = held } }) b
-right_between terms reason held both b h = grind arith
 
 none_there : (n : ℕ) (a last : State) (seat : Seat) → a ≡ last → IsPlaced n a seat → is_given seat.transport ≡ false → connection_in (place_at n last) ≡ None
 none_there n a last seat same i given = grind arith
@@ -160,7 +151,7 @@ ended_stands Left p b t u e h c reason ending lines held first journal s m is no
     let at : (n : ℕ) → Ends Left q u c (length t.lines) n = λ n. left_at p u e h c reason lines held journal (length t.lines) n (m.between.lives true m.lasts) none m.takes m.lines (within_or n (length t.lines)) in
     let keep : ℕ → ℕ = λ n. (at n).keep in
     let count = ended_count machine.Left keep 1 u.lines ∙ m.count in
-    let between = subst (λ (l : Local). AreBetween (terms_of l p.right.end.carrier.local) (carriers_of q) c) (sym m.local) (left_between (terms_at p) reason held.octets (carriers_of (with_holding Left e h p)) c m.between) in
+    let between = subst (λ (l : Local). AreBetween (terms_of l p.right.end.carrier.local) (carriers_of q) c) (sym m.local) (grind (arith, m.between)) in
     let terms = m.terms ∙ s.terms ∙ ap (λ (l : Local). terms_in (terms_of l p.right.end.carrier.local)) (sym m.local) in
     let journal_now = journal_on u.journal (shown_in_order machine.Left 1 u.lines) (entries.ended machine.Left ending) p.journal (shown_entries Left first) (ends Left reason)
     (ap (map Some) m.journal ∙ s.journal) says.says (sym (ap (option_map (entries.ended machine.Left)) is)) ∙ ap (map entry_in) (sym said) in
@@ -174,7 +165,7 @@ ended_stands Right p b t u e h c reason ending lines held first journal s m is n
     let at : (n : ℕ) → Ends Right q u c (length t.lines) n = λ n. right_at p u e h c reason lines held journal (length t.lines) n (m.between.lives false m.lasts) none m.takes m.lines (within_or n (length t.lines)) in
     let keep : ℕ → ℕ = λ n. (at n).keep in
     let count = ended_count machine.Right keep 1 u.lines ∙ m.count in
-    let between = subst (λ (l : Local). AreBetween (terms_of p.left.end.carrier.local l) (carriers_of q) c) (sym m.local) (right_between (terms_at p) reason held.octets (carriers_of (with_holding Right e h p)) c m.between) in
+    let between = subst (λ (l : Local). AreBetween (terms_of p.left.end.carrier.local l) (carriers_of q) c) (sym m.local) (grind (arith, m.between)) in
     let terms = m.terms ∙ s.terms ∙ ap (λ (l : Local). terms_in (terms_of p.left.end.carrier.local l)) (sym m.local) in
     let journal_now = journal_on u.journal (shown_in_order machine.Right 1 u.lines) (entries.ended machine.Right ending) p.journal (shown_entries Right first) (ends Right reason)
     (ap (map Some) m.journal ∙ s.journal) says.says (sym (ap (option_map (entries.ended machine.Right)) is)) ∙ ap (map entry_in) (sym said) in

@@ -5,7 +5,7 @@ use Rattle.osi_between.proofs.MessageLaws.{messages_front}
 use Rattle.osi_machine.specs.Core as machine
 use Rattle.osi_machine.specs.Worlds.{not_yet, gone}
 use Rattle.osi_machine.specs.Worlds as worlds
-use Rattle.osi_pair.proofs.Vocabulary.{slice_get, IfSome, append-nil, Value, Place, never, was_given, place_at, connection_in, Rows, value_at, Connection, asked, linked, closing, State, units_of, Between, Both, is_cut, to_come, under_way, side, last_of, units_from, kind_of, messages_after, begun_at, Progress, connection_at, is_given, Seat, Line, awaits, seen_from, ends_there, ended_lines, Message, Transport, waiting, IsInOctets, Meaning, Listener, Standing, broken as broken_off, react, kept_at, Holding, both, AreAlike, is_parting, transport_in, IsSeated, AreUnderWay, word_in, EndReason, SessionState as Session}
+use Rattle.osi_pair.proofs.Vocabulary.{slice_get, IfSome, append-nil, Value, Place, never, was_given, place_at, connection_in, Rows, value_at, Connection, State, units_of, Between, Both, is_cut, to_come, under_way, side, last_of, messages_after, begun_at, Progress, connection_at, is_given, Seat, Line, awaits, seen_from, ends_there, ended_lines, Message, waiting, IsInOctets, Listener, Standing, broken as broken_off, react, kept_at, Holding, both, AreAlike, transport_in, IsSeated, AreUnderWay, word_in, EndReason, SessionState as Session}
 use Rattle.osi_pair.proofs.StandingWays.{Takes, front_takes, as_now, map_take, alike_take}
 use Rattle.osi_pair.proofs.StandingWays as ways
 use Rattle.osi_pair.proofs.StandingLost.{is_over}
@@ -22,9 +22,6 @@ ended_line keep l = record l { own = ended_seat (is_given l.own.transport) keep 
 
 line_by : (b : Bool) (keep : ℕ) (l : Line) → is_given l.own.transport ≡ b → ends_there keep l ≡ record l { own = ended_seat b keep l.own }
 line_by b keep l e = grind arith
-
-line_ends : (keep : ℕ) (l : Line) → ends_there keep l ≡ ended_line keep l
-line_ends keep l = line_by (is_given l.own.transport) keep l refl
 
 -- what is asked of a seat that is going to end, by whether its carrier has given the reference
 pub record IsPlaced (n : ℕ) (c : State) (seat : Seat) : Type 0 where
@@ -90,7 +87,7 @@ ended_at_line side keep zero ls l e = absurd (cc)
 ended_at_line side keep (suc i) ls l e =
     ended_got side keep 1 i ls l e
     ∙ ap (λ (n : ℕ). Some (seen_from side (ends_there (keep n) (seen_from side l)))) (let same : 1 + i ≡ suc i = omega arith in same)
-    ∙ ap (λ (x : Line). Some (seen_from side x)) (line_ends (keep (suc i)) (seen_from side l))
+    ∙ ap (λ (x : Line). Some (seen_from side x)) (line_by (is_given (seen_from side l).own.transport) (keep (suc i)) (seen_from side l) refl)
 
 pub ended_count : (side : machine.Side) (keep : ℕ → ℕ) (k : ℕ) (ls : List Line) → length (ended_lines side keep k ls) ≡ length ls
 ended_count side keep k [] = refl

@@ -5,17 +5,15 @@ use Rattle.osi_carrier.specs.React.{react as carrier_react}
 use Rattle.osi_carrier.specs.State as states
 use Rattle.osi_session.specs.Listening.{Input, Move, begun, denied, rests, react}
 use Rattle.osi_session.specs.Listening as inputs
-use Rattle.osi_session.specs.declared.faults.UnitFault.{UnitFault}
-use Rattle.osi_session.specs.declared.faults.UnitFault.TheVariants.{Spelling}
 use Rattle.osi_session.proofs.ShownLaws.{words_show}
-use Rattle.osi_spdu.specs.Reading.{◌>>=◌, Next, Placed, next_at, unit_at, behind_at, ended, continued, contents_of, tsdu_at}
+use Rattle.osi_spdu.specs.Reading.{◌>>=◌, Next, Placed, next_at, unit_at, behind_at, ended, continued, tsdu_at}
 use Rattle.osi_spdu.specs.Kinds.{category_of}
 use Rattle.osi_spdu.specs.declared.kinds.Category.{Category}
-use Rattle.osi_spdu.specs.declared.kinds.Category.TheVariants.{Zero, One, Two}
+use Rattle.osi_spdu.specs.declared.kinds.Category.TheVariants.{Zero}
 use Rattle.osi_spdu.specs.declared.faults.SpduFault.{SpduFault}
 use Rattle.osi_stack.specs.Moving.{noted}
-use Rattle.osi_stack.specs.State.{Line, joins}
-use Rattle.osi_pair.proofs.Vocabulary.{eqb-true, eq-eqb, length-append, length-map, Held, IsPacket, Value, never, was_given, place_at, Happening, tsdu, closed, RiseFrom, Rows, value_at, Connection, asked, linked, closing, State as Carrier, NoMemory, put_other, put_rise, reference_of, Both, Between, AreBetween, side, progress_of, Progress, awaiting, in_use, shutting, Terms, Tables, word, said_at, said_if_read, Words, Listener, taker_of, came, came_as, shows_loss, is_wait_transport, is_wait_cn, is_over, nothing, bad, respond_fault, Shown, BadUnit, Contents, Units, after_packet, attends, concludes, hears, hears_all, hears_first, hears_next, hears_times, all_lost, opens, starves, with_carrier, with_events, shown_at_loss, RunsOut, Starves, kept_at, told_all, line_by, to_session, by_line, needs_memory, End, session_in, all_quiet, never_starved, hears_keep, TwoEnds, end_at, is_caller, carriers_of, Stands, waiting_in, Side, Left, Right, told_opened as opened, told_refused as refused, put_row as put, SessionState as State, awaits_cn as awaits}
+use Rattle.osi_stack.specs.State.{Line}
+use Rattle.osi_pair.proofs.Vocabulary.{eqb-true, eq-eqb, length-append, length-map, Held, IsPacket, Value, never, was_given, place_at, Happening, tsdu, closed, RiseFrom, Rows, value_at, Connection, State as Carrier, NoMemory, put_other, put_rise, reference_of, Both, Between, AreBetween, side, progress_of, Progress, awaiting, in_use, shutting, Terms, Tables, word, said_at, said_if_read, Words, Listener, taker_of, came, came_as, shows_loss, is_wait_transport, respond_fault, Shown, Units, after_packet, concludes, hears, hears_first, hears_next, hears_times, all_lost, opens, starves, with_carrier, with_events, RunsOut, Starves, kept_at, told_all, line_by, to_session, by_line, needs_memory, End, session_in, never_starved, hears_keep, TwoEnds, end_at, is_caller, carriers_of, Stands, waiting_in, Side, Left, Right, told_opened as opened, told_refused as refused, put_row as put, SessionState as State}
 use Rattle.osi_pair.proofs.StandingArrived.{PacketActs}
 use Rattle.osi_pair.proofs.StandingBegins.{begun_waits}
 use Rattle.osi_pair.proofs.StandingFinish.{terms_at, order_of, was_at}
@@ -24,7 +22,7 @@ use Rattle.osi_pair.proofs.StandingLost.{shows_one, lost_of, lost_in, AreLive, w
 use Rattle.osi_pair.proofs.StandingPacket.{PacketLaws, acts_at, is_heard, unheard_packet, quiet_of}
 use Rattle.osi_pair.proofs.StandingPackets.{FewWait}
 use Rattle.osi_pair.proofs.StandingQuiet.{put_waits}
-use Rattle.osi_pair.proofs.StandingRows.{Row, quiet, still, begins, refuses, agrees, denies, tells, leaves, ignores, told_for, before}
+use Rattle.osi_pair.proofs.StandingRows.{Row, quiet, agrees, denies, tells, leaves, told_for, before}
 use Rattle.osi_pair.proofs.StandingRows as rows
 use Rattle.osi_pair.proofs.StandingTaken.{packet_at, tables_at}
 
@@ -44,15 +42,9 @@ unfolding behind_at
 few_behind (suc room) at (si ∷ octets) = few_next room (next_at at (si ∷ octets)) (λ next. few_behind room next.end next.rest)
 few_behind room at octets = grind arith
 
-few_one : (at : ℕ) (octets : List ℕ) (unit : Contents) → FewIn 17 (ended at octets unit)
-few_one at octets unit = grind arith
-
-few_more : (unit : Contents) (r : Result Units SpduFault) → FewIn 16 r → FewIn 17 (r >>= λ behind. Ok (unit ∷ behind))
-few_more unit r few = grind arith
-
 few_continued : (c : Category) (unit : Placed) → FewIn 17 (continued c unit)
-few_continued Zero unit = few_more (contents_of unit []) (behind_at 16 unit.end unit.rest) (few_behind 16 unit.end unit.rest)
-few_continued c unit = few_one unit.end unit.rest (contents_of unit [])
+few_continued Zero unit = grind (arith, few_behind 16 unit.end unit.rest)
+few_continued c unit = grind arith
 
 few_by : (r : Result Placed SpduFault) → FewIn 17 (r >>= λ unit. continued (category_of unit.kind) unit)
 few_by (Ok unit) = few_continued (category_of unit.kind) unit
@@ -122,14 +114,9 @@ concluded_by : (e : End) (live : Rows Connection) (b : Bool) → RiseFrom 0 e.li
 concluded_by e live true rise all most few = let losses = few_lost 0 e.lines live rise all in let sum = lost_behind e.lines in omega arith
 concluded_by e live false rise all most few = omega arith
 
--- a session made its move, and then the carrier may have ended
-put_same_by : (n r : ℕ) (line x : Line) (lines : Rows Line) (b : Bool) → (r == n) ≡ b → value_at n ((r, x) ∷ lines) ≡ Some line → (value_at n lines ≡ Some line → put n line lines ≡ lines) →
-    put n line ((r, x) ∷ lines) ≡ (r, x) ∷ lines
-put_same_by n r line x lines b e is more = grind arith
-
 put_same : (n : ℕ) (line : Line) (lines : Rows Line) → value_at n lines ≡ Some line → put n line lines ≡ lines
 put_same n line [] is = cc
-put_same n line ((r, x) ∷ lines) is = put_same_by n r line x lines (r == n) refl is (put_same n line lines)
+put_same n line ((r, x) ∷ lines) is = grind (arith, put_same n line lines)
 
 live_then_by : (n q : ℕ) (line : Line) (lines : Rows Line) (live : Rows Connection) (y : Listener) (b : Bool) → (q == n) ≡ b → IsSome (value_at n live) → AreLive lines live →
     kept_at q (put n line lines) ≡ Some y → shows_loss y.state.phase ≡ true → IsSome (value_at q live)
@@ -194,8 +181,7 @@ live_lines Left p b t old alive =
     all_live Left p.left t o.rising o.sound.known (omega arith) (λ n a c. let l = old.lines n a c in (l.line, l.found, l.is.left))
 live_lines Right p b t old alive =
     let o = old.order_right alive in
-    let given = old.given_back in
-    all_live Right p.right t o.rising o.sound.known given (λ n a c. let l = old.lines n a c in (l.line, l.found, l.is.right))
+    all_live Right p.right t o.rising o.sound.known old.given_back (λ n a c. let l = old.lines n a c in (l.line, l.found, l.is.right))
 
 heard_of : (s : Side) (p : TwoEnds) (b : Between) (t : Tables) (u : Value) (n : ℕ) → Stands p b t → (end_at s p).end.carrier.ended ≡ None → IsSome (value_at n (end_at s p).end.carrier.live) →
     Hearing (told_all u (end_at s p).end) (end_at s p).end.carrier.live n
@@ -247,8 +233,7 @@ heard_few laws s p b t packet h old alive pa (inr row) =
     let f = acts_at s p b packet h pa in
     let stood : progress_of (place_at n e.carrier) ≡ awaiting = ap (λ (c : Carrier). progress_of (place_at n c)) (sym (was_at s p b t old alive)) ∙ pa.did.stood ∙ ap before row in
     let here = there_is n e.carrier (ap is_there stood) in
-    let is : after_packet e packet ≡ concludes (opens n (value_at n e.lines) (told_all pa.unit e)) = one_told e packet pa.unit (opened n) f.acts (f.events ∙ ap (told_for n) row) in
-    subst (λ (y : End). length (waiting_in y.lines) ≤ 81) (sym is)
+    subst (λ (y : End). length (waiting_in y.lines) ≤ 81) (sym (one_told e packet pa.unit (opened n) f.acts (f.events ∙ ap (told_for n) row)))
     (opens_few n (told_all pa.unit e) e.carrier.live (value_at n e.lines) refl f.lasts (heard_of s p b t pa.unit n old alive here))
 
 told_few : PacketLaws → (s : Side) (p : TwoEnds) (b : Between) (t : Tables) (packet : List ℕ) (h : Held) → Stands p b t → (end_at s p).end.carrier.ended ≡ None →
@@ -271,10 +256,6 @@ pub record FewLaws : Type 0 where
       AreBetween terms both b → (side end both).state.ended ≡ None → IsPacket packet octets → (side end both).held ≡ octets ++ behind →
       carriers.Acts (side end both).state packet new → (new ≡ carriers.after_packet (side end both).state packet) ⊎ (new ≡ states.ends NoMemory (side end both).state)
 
--- an end whose carrier found no memory and told nothing
-none_told : (e new : End) (c : Carrier) → e.carrier.events ≡ [] → c ≡ states.ends NoMemory e.carrier → new ≡ attends (with_carrier c e) → new.lines ≡ all_lost e.lines
-none_told e new c none is same = grind arith
-
 -- for what the one event does there was no memory
 one_told_by : (x new : End) (event : Happening) (heard : ℕ) → x.carrier.events ≡ event ∷ [] → (out : RunsOut x new) → out.heard ≡ heard → new.lines ≡ all_lost x.lines
 one_told_by x new event zero one out e =
@@ -295,9 +276,6 @@ one_told_by x new event (suc m) one out e =
 abbrev ToldAtMostOne : List Happening → Type 0
 ToldAtMostOne told = (told ≡ []) ⊎ ((event : Happening) × (told ≡ event ∷ []))
 
-told_one : (n : ℕ) (row : Row) → ToldAtMostOne (told_for n row)
-told_one n row = grind arith
-
 out_lost : (e new : End) (c : Carrier) → ToldAtMostOne c.events → RunsOut (with_carrier c e) new → new.lines ≡ all_lost e.lines
 out_lost e new c (inl none) out = never_starved (with_carrier c e) new none out
 out_lost e new c (inr one) out = one_told_by (with_carrier c e) new one.0 out.heard one.1 out refl
@@ -313,14 +291,14 @@ pub starved_lost : FewLaws → (s : Side) (p : TwoEnds) (b : Between) (t : Table
     IsPacket packet octets → (end_at s p).held.octets ≡ octets ++ h.octets → PacketActs (terms_at p) (is_caller s) (carriers_of p) b packet h.octets → Starves (end_at s p).end packet new →
     new.lines ≡ all_lost (end_at s p).end.lines
 starved_lost laws Left p b t packet octets new h old alive is cut pa (inl st) =
-    none_told p.left.end new st.0 (old.order_left alive).heard (laws.starved (terms_at p) true (carriers_of p) b packet octets h.octets st.0 old.between alive is cut st.1) st.2
+    grind (arith, (old.order_left alive).heard, laws.starved (terms_at p) true (carriers_of p) b packet octets h.octets st.0 old.between alive is cut st.1, st.2)
 starved_lost laws Right p b t packet octets new h old alive is cut pa (inl st) =
-    none_told p.right.end new st.0 (old.order_right alive).heard (laws.starved (terms_at p) false (carriers_of p) b packet octets h.octets st.0 old.between alive is cut st.1) st.2
+    grind (arith, (old.order_right alive).heard, laws.starved (terms_at p) false (carriers_of p) b packet octets h.octets st.0 old.between alive is cut st.1, st.2)
 starved_lost laws Left p b t packet octets new h old alive is cut pa (inr st) =
-    acted_lost p.left.end new packet pa.unit st.0 (old.order_left alive).heard pa.acts (subst ToldAtMostOne (sym pa.events) (told_one (reference_of pa.unit) pa.did.row))
+    acted_lost p.left.end new packet pa.unit st.0 (old.order_left alive).heard pa.acts (subst ToldAtMostOne (sym pa.events) (grind arith))
     (laws.acts (terms_at p) true (carriers_of p) b packet octets h.octets st.0 old.between alive is cut st.1) st.2
 starved_lost laws Right p b t packet octets new h old alive is cut pa (inr st) =
-    acted_lost p.right.end new packet pa.unit st.0 (old.order_right alive).heard pa.acts (subst ToldAtMostOne (sym pa.events) (told_one (reference_of pa.unit) pa.did.row))
+    acted_lost p.right.end new packet pa.unit st.0 (old.order_right alive).heard pa.acts (subst ToldAtMostOne (sym pa.events) (grind arith))
     (laws.acts (terms_at p) false (carriers_of p) b packet octets h.octets st.0 old.between alive is cut st.1) st.2
 
 losses_at : (s : Side) (p : TwoEnds) (b : Between) (t : Tables) → Stands p b t → (end_at s p).end.carrier.ended ≡ None → length (waiting_in (all_lost (end_at s p).end.lines)) ≤ 81

@@ -1,10 +1,9 @@
 -- An end took a unit of a connection: what is left to say of its carrier, where its session is known.
-use Rattle.std.proofs.Common.{◌≡◌, ◌≢◌, ℕ, ◌<◌, ◌≤◌, Bool, true, false, nat_lt, if◌then◌else◌, List, [], ◌++◌, map, Option, Some, None, is_some, option_map, refl, sym, ap, subst, ◌∙◌, arith, length}
-use Rattle.osi_between.specs.Messages.{bye, over}
+use Rattle.std.proofs.Common.{◌≡◌, ◌≢◌, ℕ, ◌<◌, ◌≤◌, Bool, true, false, nat_lt, if◌then◌else◌, List, [], ◌++◌, map, Some, None, is_some, option_map, refl, sym, ap, subst, ◌∙◌, arith, length}
 use Rattle.osi_between.specs.Messages as carrier
-use Rattle.osi_pair.proofs.Vocabulary.{nat_tests, Held, Class, Place, never, was_given, place_at, value_at, Connection, State, asked, linked, closing, Between, last_of, progress_of, Progress, not_yet, references_for, class_behind_all, Terms, by_two, by_zero, refusing, accepts_in, class_of, terms_of, shown_at, Line, Tables, Message, Listener, Standing, Shown, kept_at, End, Holding, TwoEnds, end_at, other, side_in, is_caller, class_in, carriers_of, Goes, IsSeated, IsInOrder, Stands, waiting_in, Side, Left, Right}
+use Rattle.osi_pair.proofs.Vocabulary.{Held, place_at, value_at, State, Between, last_of, progress_of, Progress, not_yet, references_for, Terms, accepts_in, terms_of, shown_at, Line, Tables, Message, Listener, Standing, Shown, kept_at, End, Holding, TwoEnds, end_at, other, side_in, is_caller, class_in, carriers_of, Goes, IsSeated, IsInOrder, Stands, waiting_in, Side, Left, Right}
 use Rattle.osi_pair.proofs.StandingArrived.{UnitActs}
-use Rattle.osi_pair.proofs.StandingRows.{Row, quiet, still, begins, refuses, agrees, denies, tells, leaves, ignores, ends, before, after, arrived_in, put_for, is_row}
+use Rattle.osi_pair.proofs.StandingRows.{Row, agrees, before, after, arrived_in, put_for, is_row}
 use Rattle.osi_pair.proofs.StandingSeats.{transport_by, value_same, HasSession, seat_of_session}
 use Rattle.osi_pair.proofs.StandingTurned.{IsSeen, with_holding, holding_here, holding_there, Others, LinesAfter, Turned}
 
@@ -17,9 +16,6 @@ refs_row terms row is f = grind arith
 abbrev pub is_agree : Row → Bool
 is_agree agrees = true
 is_agree row = false
-
-class_row : (terms : Terms) (row : Row) (held : Option Class) → is_row terms row → is_agree row ≡ false → (before row ≡ not_yet → ⊥) → class_behind_all (class_of terms) held (arrived_in row) ≡ held
-class_row terms row held is a f = grind arith
 
 pub given_not_new : (n : ℕ) (s : State) (b : Bool) → nat_lt s.given n ≡ b → n ≤ s.given → progress_of (place_at n s) ≡ not_yet → ⊥
 given_not_new n s b e le h = grind arith
@@ -67,9 +63,8 @@ others_then : (s : Side) (p : TwoEnds) (b : Between) (t : Tables) (e : End) (h :
     IsInOrder e → OtherSessions s p e n → Others s p b e h d.now n
 others_then s p b t e h n old alive d lasts order o =
     let last = last_is s p b e h n d lasts in
-    let was = was_at s p b t old alive in
     let places : (q : ℕ) → q ≢ n → place_at q e.carrier ≡ place_at q (end_at s p).end.carrier =
-    λ q apart. ap (place_at q) (sym last) ∙ d.other_places q apart ∙ ap (place_at q) was in
+    λ q apart. ap (place_at q) (sym last) ∙ d.other_places q apart ∙ ap (place_at q) (was_at s p b t old alive) in
     record {
       places = places;
       lives = λ q apart. value_same q e.carrier (end_at s p).end.carrier order.sound.orderly (order_of s p b t old alive).sound.orderly (places q apart);
@@ -112,9 +107,8 @@ given_after Left p b t e h n old alive d lasts named behind =
     let same : d.now.caller.given ≡ b.caller.given = let more = d.given in omega arith in
     grind arith
 given_after Right p b t e h n old alive d lasts named behind =
-    let last = last_is Right p b e h n d lasts in
     let there : d.now.caller.given ≡ p.left.end.carrier.given = d.given_there ∙ old.given_then in
-    let here : d.now.called.given ≡ e.carrier.given = ap (λ (c : State). c.given) last in
+    let here : d.now.called.given ≡ e.carrier.given = ap (λ (c : State). c.given) (last_is Right p b e h n d lasts) in
     let count = old.given in
     grind arith
 
@@ -137,6 +131,6 @@ pub known_then : (s : Side) (p : TwoEnds) (b : Between) (t : Tables) (e : End) (
     n ≤ b.caller.given → is_agree d.row ≡ false → t.known ≡ option_map class_in (with_holding s e h p).left.end.carrier.class
 known_then Left p b t e h n old alive d lasts named row =
     let new : before d.row ≡ not_yet → ⊥ = λ f. given_not_new n b.caller (nat_lt b.caller.given n) refl named (d.stood ∙ f) in
-    let same : e.carrier.class ≡ b.caller.class = ap (λ (c : State). c.class) (sym (last_is Left p b e h n d lasts)) ∙ d.class ∙ class_row (terms_at p) d.row b.caller.class d.is row new in
+    let same : e.carrier.class ≡ b.caller.class = ap (λ (c : State). c.class) (sym (last_is Left p b e h n d lasts)) ∙ d.class ∙ (grind (arith, d.is)) in
     old.known ∙ ap (option_map class_in) (sym old.class_then) ∙ ap (option_map class_in) (sym same)
 known_then Right p b t e h n old alive d lasts named row = old.known

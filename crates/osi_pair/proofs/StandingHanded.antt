@@ -1,6 +1,6 @@
 -- Octets of a side are handed over to the other: no step of the machine.
 use Rattle.std.proofs.Common.{◌≡◌, ℕ, ◌≤◌, Bool, true, false, not, List, ◌++◌, length, take, Option, Some, None, is_some, option_map, IfSome, refl, sym, ap, subst, ◌∙◌, arith, ◌||◌, ◌<◌}
-use Rattle.osi_pair.proofs.Vocabulary.{length-take, Held, Between, Both, AreBetween, IsOnTheWay, Same, side, with_side, last_of, units_from, lost_from, arriving, reach_of, within_reach, reach_less, under_way, handed_over, is_cut, progress_of, Terms, Step, Seat, Tables, run, start, carried, End, Holding, TwoEnds, end_at, with_end, reachable, within, reach_after, other, is_caller, carriers_of, IsSeated, IsInOrder, terms_in, Stands, StandsAt, HasJoined, HasLine, Reach, Side, Left, Right, EndReason}
+use Rattle.osi_pair.proofs.Vocabulary.{length-take, Held, Between, Both, AreBetween, IsOnTheWay, Same, side, with_side, last_of, units_from, lost_from, arriving, reach_of, within_reach, under_way, handed_over, is_cut, progress_of, Terms, Step, Seat, Tables, run, start, carried, End, Holding, TwoEnds, end_at, with_end, reachable, within, reach_after, other, is_caller, carriers_of, IsSeated, IsInOrder, terms_in, Stands, StandsAt, HasJoined, HasLine, Reach, Side, Left, Right}
 use Rattle.osi_pair.proofs.StandingFinish.{terms_at}
 use Rattle.osi_pair.proofs.StandingWays.{way_same}
 
@@ -97,12 +97,6 @@ pub arriving_count : (f : Side) (p : TwoEnds) → length (arriving (is_caller f)
 arriving_count Left p = count_left p.reach p.left.end.carrier.outgoing
 arriving_count Right p = count_right p.reach p.right.end.carrier.outgoing
 
-less_left : (k : ℕ) (o : Option Reach) → reach_less true k (reach_in o) ≡ reach_in (reach_after Left k o)
-less_left k o = grind arith
-
-less_right : (k : ℕ) (o : Option Reach) → reach_less false k (reach_in o) ≡ reach_in (reach_after Right k o)
-less_right k o = grind arith
-
 still_reach : (f : Side) (k : ℕ) (o : Option Reach) → is_some (reach_after f k o) ≡ is_some o
 still_reach f k o = grind arith
 
@@ -122,11 +116,11 @@ handed_left law p b t k h old le more =
     let new = handed Left k h p in
     let reached : Both = record (handed_over true k (carriers_of p)) { reach = reach_in (reach_after Left k p.reach) } in
     let there : AreBetween (terms_at p) reached same.now =
-    subst (λ (r : Option (ℕ × ℕ)). AreBetween (terms_at p) (record (handed_over true k (carriers_of p)) { reach = r }) same.now) (less_left k p.reach) same.between in
+    subst (λ (r : Option (ℕ × ℕ)). AreBetween (terms_at p) (record (handed_over true k (carriers_of p)) { reach = r }) same.now) (grind arith) same.between in
     let going : (n : ℕ) → under_way true n (carriers_of p) b ≡ under_way true n (carriers_of new) same.now =
-    λ n. same.under true n ∙ ap (λ (r : Option (ℕ × ℕ)). under_way true n (record (handed_over true k (carriers_of p)) { reach = r }) same.now) (less_left k p.reach) in
+    λ n. same.under true n ∙ ap (λ (r : Option (ℕ × ℕ)). under_way true n (record (handed_over true k (carriers_of p)) { reach = r }) same.now) (grind arith) in
     let coming : (n : ℕ) → under_way false n (carriers_of p) b ≡ under_way false n (carriers_of new) same.now =
-    λ n. same.under false n ∙ ap (λ (r : Option (ℕ × ℕ)). under_way false n (record (handed_over true k (carriers_of p)) { reach = r }) same.now) (less_left k p.reach) in
+    λ n. same.under false n ∙ ap (λ (r : Option (ℕ × ℕ)). under_way false n (record (handed_over true k (carriers_of p)) { reach = r }) same.now) (grind arith) in
     let between = held_between (terms_at p) false reached same.now h.octets there more in
     let broken = old.broken ∙ sym (still_reach Left k p.reach) in
     let given_then = same.given true ∙ old.given_then in
@@ -154,11 +148,11 @@ handed_right law p b t k h old le more =
     let new = handed Right k h p in
     let reached : Both = record (handed_over false k (carriers_of p)) { reach = reach_in (reach_after Right k p.reach) } in
     let there : AreBetween (terms_at p) reached same.now =
-    subst (λ (r : Option (ℕ × ℕ)). AreBetween (terms_at p) (record (handed_over false k (carriers_of p)) { reach = r }) same.now) (less_right k p.reach) same.between in
+    subst (λ (r : Option (ℕ × ℕ)). AreBetween (terms_at p) (record (handed_over false k (carriers_of p)) { reach = r }) same.now) (grind arith) same.between in
     let going : (n : ℕ) → under_way true n (carriers_of p) b ≡ under_way true n (carriers_of new) same.now =
-    λ n. same.under true n ∙ ap (λ (r : Option (ℕ × ℕ)). under_way true n (record (handed_over false k (carriers_of p)) { reach = r }) same.now) (less_right k p.reach) in
+    λ n. same.under true n ∙ ap (λ (r : Option (ℕ × ℕ)). under_way true n (record (handed_over false k (carriers_of p)) { reach = r }) same.now) (grind arith) in
     let coming : (n : ℕ) → under_way false n (carriers_of p) b ≡ under_way false n (carriers_of new) same.now =
-    λ n. same.under false n ∙ ap (λ (r : Option (ℕ × ℕ)). under_way false n (record (handed_over false k (carriers_of p)) { reach = r }) same.now) (less_right k p.reach) in
+    λ n. same.under false n ∙ ap (λ (r : Option (ℕ × ℕ)). under_way false n (record (handed_over false k (carriers_of p)) { reach = r }) same.now) (grind arith) in
     let between = held_between (terms_at p) true reached same.now h.octets there more in
     let broken = old.broken ∙ sym (still_reach Right k p.reach) in
     let given_then = same.given true ∙ old.given_then in

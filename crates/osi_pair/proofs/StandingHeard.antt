@@ -1,9 +1,9 @@
 -- A packet is taken at an end: what its carrier told is heard.
-use Rattle.std.proofs.Common.{◌≡◌, ◌≢◌, ℕ, Bool, true, false, if◌then◌else◌, List, [], ◌∷◌, length, Some, None, is_some, IfSome, refl, sym, ap, ◌∙◌, arith}
+use Rattle.std.proofs.Common.{◌≡◌, ◌≢◌, ℕ, true, if◌then◌else◌, List, [], ◌∷◌, Some, None, is_some, IfSome, ap, ◌∙◌, arith}
 use Rattle.osi_carrier.specs.Packets as carriers
 use Rattle.osi_carrier.specs.React.{react as carrier_react}
 use Rattle.osi_machine.specs.Worlds as worlds
-use Rattle.osi_pair.proofs.Vocabulary.{Value, Happening, Rows, value_at, State as Carrier, Progress, IsInOctets, Input, Standing, react, is_ended, listening, awaits, carries_out, after_packet, attends, concludes, hears, hears_all, hears_times, hears_first, with_carrier, with_events, all_lost, told_all, kept_at, line_after, End, session_in, put_here, put_other, quiet_attends, packet_is, is_parting, quieted, put_row as put, EndLine as Line, quieted_at, one_heard}
+use Rattle.osi_pair.proofs.Vocabulary.{Value, Happening, Rows, value_at, State as Carrier, Progress, IsInOctets, Input, Standing, react, is_ended, listening, awaits, carries_out, after_packet, attends, concludes, hears, with_carrier, with_events, told_all, kept_at, line_after, End, session_in, put_here, put_other, quiet_attends, packet_is, is_parting, quieted, put_row as put, EndLine as Line, quieted_at, one_heard}
 use Rattle.osi_pair.proofs.StandingListens.{as_made}
 use Rattle.osi_pair.proofs.StandingResting.{acted_end}
 use Rattle.osi_pair.proofs.StandingSeats.{transport_by, HasSession}

@@ -4,11 +4,11 @@ use Rattle.osi_between.specs.Messages as carrier
 use Rattle.osi_machine.specs.Worlds as worlds
 use Rattle.osi_session.specs.Listening as words
 use Rattle.osi_session.specs.Moves as session
-use Rattle.osi_pair.proofs.Vocabulary.{Units, Happening, tsdu, closed, value_at, in_use, gone, offer_sent, Seat, awaits, Message, unit, ask, agree, deny, bye, over, IsInOctets, Meaning, DT, said_by_units, words_of, IsSendable, said_of, written, came, Input, taken, Standing, react, is_ended, HasNumbersInWords, CanBeSent, excluded, hears, opens, needs_link, limit_for, to_session, End, came_numbers, Readings, came_is, message_in, is_parting, joining, IsKeptIn, Listener, kept_none, part_octets, Last, part_comes, told_opened as opened, told_refused as refused, EndLine as Line}
+use Rattle.osi_pair.proofs.Vocabulary.{Units, Happening, tsdu, closed, value_at, in_use, gone, Seat, awaits, Message, unit, ask, agree, deny, bye, over, IsInOctets, Meaning, DT, said_by_units, words_of, IsSendable, said_of, written, came, Input, taken, Standing, react, is_ended, HasNumbersInWords, CanBeSent, excluded, hears, opens, needs_link, limit_for, to_session, End, came_numbers, Readings, came_is, message_in, is_parting, joining, IsKeptIn, Listener, kept_none, part_octets, Last, part_comes, told_opened as opened, told_refused as refused, EndLine as Line}
 use Rattle.osi_pair.proofs.StandingMoves.{heard_by, is_move}
 use Rattle.osi_pair.proofs.StandingPacket.{is_heard}
 use Rattle.osi_pair.proofs.StandingReplies.{CanGo, ReplyLaws, GoesBy, goes_taken, goes_opened, goes_refused, silent_refused, ended_refused, goes_broken, silent_broken, ended_broken, offer_goes}
-use Rattle.osi_pair.proofs.StandingRows.{Row, quiet, still, begins, refuses, agrees, denies, tells, leaves, ignores, ends, before, after, arrived_in, told_for}
+use Rattle.osi_pair.proofs.StandingRows.{Row, agrees, denies, tells, leaves, before, after, arrived_in, told_for}
 use Rattle.osi_pair.proofs.StandingSeats.{transport_by, lives_in}
 use Rattle.osi_pair.proofs.StandingWaiting.{IsCalling}
 use Rattle.osi_pair.proofs.StandingListens.{as_made, moves_so, moves_apart}
@@ -134,13 +134,10 @@ hears_leaves n reason m joined x kept octets = record {
   needs = λ e. sym (needs_none (react x session.broken).next (ended_broken x) e);
 }
 
-came_said : Readings → (octets : List ℕ) (u : Meaning) → octets ≡ written u → IsSendable u → came octets ≡ words.taken (words_of u)
-came_said readings octets u e sendable = ap came e ∙ came_is readings u sendable
-
 hears_tells : ReplyLaws → Readings → ((units : Units) → HasNumbersInWords (words.taken (said_by_units units))) → (n : ℕ) (octets : List ℕ) (u : Meaning) (joined : Option (List ℕ)) (x : Standing) → octets ≡ written u → IsSendable u →
     joined ≡ None → IfSome x.waiting IsInOctets → HearsBy n (tells octets) (unit u) joined x
 hears_tells laws readings units n octets u joined x is sendable none waits =
-    let same : came octets ≡ words.taken (words_of u) = came_said readings octets u is sendable in
+    let same : came octets ≡ words.taken (words_of u) = (ap came is ∙ came_is readings u sendable) in
     record {
       event = tsdu n octets;
       told = refl;

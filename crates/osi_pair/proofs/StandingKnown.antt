@@ -1,10 +1,10 @@
 -- The class of a connection at a message of which a session hears.
-use Rattle.std.proofs.Common.{◌≡◌, ℕ, ◌≤◌, true, false, [], ◌∷◌, Option, Some, None, option_map, refl, sym, ap, subst, ◌∙◌, inl, inr, arith}
+use Rattle.std.proofs.Common.{◌≡◌, ℕ, ◌≤◌, true, false, [], ◌∷◌, None, option_map, sym, ap, subst, ◌∙◌, inl, inr, arith}
 use Rattle.osi_between.specs.Messages as carrier
 use Rattle.osi_between.specs.Progress as progress
 use Rattle.osi_machine.specs.Worlds as worlds
-use Rattle.osi_pair.proofs.Vocabulary.{Held, Value, Class, Place, never, was_given, place_at, State, asked, linked, closing, Between, last_of, progress_of, awaiting, in_use, class_behind_all, Terms, by_two, by_zero, refusing, class_of, learns, Line, Tables, Message, unit, ask, agree, deny, bye, over, Transport, End, TwoEnds, end_at, is_caller, class_in, terms_in, message_in, Stands, Side, Left, Right, kind_of}
-use Rattle.osi_pair.proofs.StandingArriving.{is_linked, is_asked, IsFirstFor}
+use Rattle.osi_pair.proofs.Vocabulary.{Held, Value, place_at, State, Between, last_of, in_use, class_behind_all, Terms, class_of, learns, Line, Tables, Message, agree, End, TwoEnds, end_at, is_caller, class_in, terms_in, message_in, Stands, Side, Left, Right, kind_of}
+use Rattle.osi_pair.proofs.StandingArriving.{IsFirstFor}
 use Rattle.osi_pair.proofs.StandingFinish.{terms_at, DidAt, is_agree, last_is, known_then}
 use Rattle.osi_pair.proofs.StandingHears.{AsMove, got_in}
 use Rattle.osi_pair.proofs.StandingRests.{is_awaited, learns_row}
@@ -14,23 +14,14 @@ use Rattle.osi_pair.proofs.StandingTurned.{with_holding}
 
 -- ---- places
 
-pub linked_place : (q : Place) → progress_of q ≡ in_use → is_linked q ≡ true
-linked_place q e = grind arith
-
-asked_place : (q : Place) → progress_of q ≡ awaiting → is_asked q ≡ true
-asked_place q e = grind arith
-
 -- ---- a CC
-
-agreed_class : (terms : Terms) (held : Option Class) → is_row terms agrees → class_behind_all (class_of terms) held (carrier.agree ∷ []) ≡ class_of terms
-agreed_class terms held is = grind arith
 
 -- the caller has the class then
 class_agreed : (s : Side) (p : TwoEnds) (b : Between) (e : End) (h : Held) (n : ℕ) → (d : DidAt s p b e h n) → e.carrier.ended ≡ None → d.row ≡ agrees → is_caller s ≡ true →
     (with_holding s e h p).left.end.carrier.class ≡ class_of (terms_at p)
 class_agreed Left p b e h n d lasts same caller =
     ap (λ (c : State). c.class) (sym (last_is Left p b e h n d lasts)) ∙ d.class ∙ ap (λ (r : Row). class_behind_all (class_of (terms_at p)) b.caller.class (arrived_in r)) same
-    ∙ agreed_class (terms_at p) b.caller.class (subst (λ (r : Row). is_row (terms_at p) r) same d.is)
+    ∙ grind (arith, subst (λ (r : Row). is_row (terms_at p) r) same d.is)
 class_agreed Right p b e h n d lasts same caller = absurd (let no : false ≡ true = caller in cc)
 
 -- and the tables learn it
@@ -39,9 +30,6 @@ learned : (t : Tables) (l : Line) (m : Message) (terms : Terms) → t.terms ≡ 
 learned t l m terms e tr is alike = grind arith
 
 -- ---- a DR that refuses
-
-denied_by : (terms : Terms) (reason : ℕ) (tr : Transport) (m : Message) (known : Option worlds.Class) → is_row terms (denies reason) → learns (terms_in terms) tr m known ≡ known
-denied_by terms reason tr m known is = grind arith
 
 -- ---- all three
 
@@ -54,13 +42,13 @@ moved_known s p b t e h n l m u row old alive d lasts first given same (inl is) 
     let one : d.row ≡ agrees = same ∙ is in
     let row_is : is_row (terms_at p) agrees = subst (λ (r : Row). is_row (terms_at p) r) one d.is in
     let alike_is : kind_of (message_in m) ≡ carrier.agree = subst (λ (r : Row). kind_of (message_in m) ≡ kind_of (got_in r)) is alike in
-    let caller : is_caller s ≡ true = first.waits (asked_place (place_at n (last_of (is_caller s) b)) (d.stood ∙ ap before one)) in
+    let caller : is_caller s ≡ true = first.waits (grind (arith, d.stood ∙ ap before one)) in
     learned t l m (terms_at p) old.terms (tr ∙ ap (λ (r : Row). transport_by (before r)) is) row_is alike_is
     ∙ ap (option_map class_in) (sym (class_agreed s p b e h n d lasts one caller))
 moved_known s p b t e h n l m u row old alive d lasts first given same (inr (inl is)) tr alike =
     let one : d.row ≡ denies is.0 = same ∙ is.1 in
     ap (λ (x : worlds.Terms). learns x l.own.transport m t.known) old.terms
-    ∙ denied_by (terms_at p) is.0 l.own.transport m t.known (subst (λ (r : Row). is_row (terms_at p) r) one d.is)
+    ∙ grind (arith, subst (λ (r : Row). is_row (terms_at p) r) one d.is)
     ∙ known_then s p b t e h n old alive d lasts given (ap is_agree one)
 moved_known s p b t e h n l m u row old alive d lasts first given same (inr (inr is)) tr alike =
     learns_row row l.own.transport t.terms m t.known tr (ap is_awaited is.1) ∙ known_then s p b t e h n old alive d lasts given (ap is_agree (same ∙ is.1))
@@ -77,4 +65,4 @@ moved_class s p b t e h n l m u row old d first same (inr (inl is)) tr alike ope
     let no : progress.gone ≡ in_use = sym (ap after is.1) ∙ open_now in absurd cc
 moved_class s p b t e h n l m u row old d first same (inr (inr is)) tr alike open_now =
     learns_row row l.own.transport t.terms m t.known tr (ap is_awaited is.1) ∙ old.known
-    ∙ ap (option_map class_in) (sym old.class_then ∙ first.class (linked_place (place_at n (last_of (is_caller s) b)) (d.stood ∙ ap before (same ∙ is.1))))
+    ∙ ap (option_map class_in) (sym old.class_then ∙ first.class (grind (arith, d.stood ∙ ap before (same ∙ is.1))))

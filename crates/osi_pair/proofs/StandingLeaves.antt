@@ -3,7 +3,7 @@
 use Rattle.std.proofs.Common.{◌≡◌, ℕ, Bool, true, false, List, [], ◌∷◌, map, take, Option, None, is_some, refl, sym, ap, subst, ◌∙◌, arith}
 use Rattle.osi_between.specs.Messages as carrier
 use Rattle.osi_machine.specs.Worlds as worlds
-use Rattle.osi_pair.proofs.Vocabulary.{Held, Place, place_at, State as Carrier, reference_of, Between, last_of, under_way, put_in, is_cut, progress_of, IsTableRun, delivers, learns, Seat, Line as TableLine, Turn, Tables, seen_from, step, without_first, message_taken, Message, unit, ask, agree, deny, bye, over, Transport, put, replied, Meaning, tsdus_sent, broken as broken_off, Standing, Move, react, Shown, after_packet, concludes, answers, End, answers_by, hands_none, TwoEnds, end_at, other, side_in, is_caller, carriers_of, message_in, Stands, Goes, HasJoined, quieted, Side, Left, Right, kind_of}
+use Rattle.osi_pair.proofs.Vocabulary.{Held, Place, place_at, State as Carrier, reference_of, Between, last_of, under_way, put_in, is_cut, progress_of, IsTableRun, delivers, learns, Seat, Line as TableLine, Turn, Tables, seen_from, step, without_first, message_taken, Message, unit, bye, over, Transport, put, replied, Meaning, tsdus_sent, broken as broken_off, Standing, Move, react, after_packet, concludes, answers, End, answers_by, hands_none, TwoEnds, end_at, other, side_in, is_caller, carriers_of, message_in, Stands, Goes, HasJoined, quieted, Side, kind_of}
 use Rattle.osi_pair.proofs.StandingAnswers.{answered_end, shown_is}
 use Rattle.osi_pair.proofs.StandingArrived.{PacketActs}
 use Rattle.osi_pair.proofs.StandingCall.{put_nothing}
@@ -47,10 +47,6 @@ lost_turn broken keep reply x channel peer = record {
   closes = false;
 }
 
-lost_silent : (broken : Bool) (keep reason : ℕ) (x : Standing) (channel : List Message) (peer : Seat) →
-    lost_turn broken keep (react x broken_off).reply x channel peer ≡ left_turn broken keep (leaves reason) (react x broken_off) peer.channel (record { own = seat_now worlds.linked x channel; peer = peer })
-lost_silent broken keep reason x channel peer = grind (arith, silent_broken, put_nothing, take)
-
 turn_leaves : (broken : Bool) (terms : worlds.Terms) (keep reason : ℕ) (x : Standing) (channel : List Message) (peer : Seat) (m : Message) → kind_of (message_in m) ≡ carrier.bye reason →
     message_taken broken terms keep worlds.linked (record { own = seat_now worlds.linked x channel; peer = peer }) m ≡ lost_turn broken keep (react x broken_off).reply x channel peer
 turn_leaves broken terms keep reason x channel peer m e = grind arith
@@ -60,7 +56,7 @@ taken_leaves : (broken : Bool) (terms : worlds.Terms) (keep reason : ℕ) (l : T
 taken_leaves broken terms keep reason l m xs tr e =
     ap (λ (t : Transport). message_taken broken terms keep t (record { own = seat_now t l.own.session l.own.channel; peer = record l.peer { channel = xs } }) m) tr
     ∙ turn_leaves broken terms keep reason l.own.session l.own.channel (record l.peer { channel = xs }) m e
-    ∙ lost_silent broken keep reason l.own.session l.own.channel (record l.peer { channel = xs })
+    ∙ grind (arith, silent_broken, put_nothing, take)
 
 -- ---- what is under way from it
 
@@ -109,7 +105,6 @@ left_unit laws s p b t packet h reason old alive pa heard is a d same f out back
     let keep = out.keep in
     let move = move_of m in
     let channel = left_channel t.broken keep a.seen.own.channel in
-    let turn = left_turn t.broken keep row move a.rest a.seen in
     let known = learns t.terms a.seen.own.transport a.first t.known in
     let u = LeftTables s p b t n keep row a in
     let new = moved_then laws s p b t packet h old alive pa a d same f in
@@ -122,7 +117,7 @@ left_unit laws s p b t packet h reason old alive pa heard is a d same f out back
       back = subst (λ (r : Row). Goes (other s) s n (with_holding s e h p) d.now (after r) move.next.state a.rest) (sym same) back;
     })
     (subst (λ (r : Row). TablesAfter s n t u move.shown (line_then r move.next channel a.rest a.seen)) (sym same)
-    (tables_delivered s n (seen_from (side_in s) a.seen) t known turn a.found))
+    (tables_delivered s n (seen_from (side_in s) a.seen) t known (left_turn t.broken keep row move a.rest a.seen) a.found))
     (learns_row row a.seen.own.transport t.terms a.first t.known a.transport (ap is_awaited is) ∙ known_then s p b t e h n old alive d new.lasts pa.first.given (ap is_agree (same ∙ is)))
 
 -- the delivery
@@ -135,9 +130,6 @@ left_step s p b t n keep reason row old alive is a =
     taken_leaves t.broken t.terms keep reason a.seen a.first a.rest tr same
     ∙ ap (λ (r : Row). left_turn t.broken keep r (react a.seen.own.session (heard_by r a.first)) a.rest a.seen) (sym is) in
     step_opens t (side_in s) n (λ r. keep) a.seen a.first a.rest (left_turn t.broken keep row (react a.seen.own.session (heard_by row a.first)) a.rest a.seen) (lasting_in s p b t old alive) a.found a.parts taken refl
-
-same_holding : (s : Side) (e : End) (h : Held) (n : ℕ) (p : TwoEnds) (shown : List Shown) → with_holding s e h (turned_pair s e h n shown p) ≡ turned_pair s e h n shown p
-same_holding s e h n p shown = grind arith
 
 -- a packet that closes an open connection
 pub leaving_packet : MovingLaws → (s : Side) (p : TwoEnds) (b : Between) (t : Tables) (packet : List ℕ) (h : Held) (reason : ℕ) → Stands p b t → IsTableRun t → (end_at s p).end.carrier.ended ≡ None →
@@ -171,5 +163,5 @@ leaving_packet laws s p b t packet h reason old run alive pa v is =
       now = d.now;
       local = f.local;
       stands = subst (λ (y : Tables). Stands (shown_pair s (answered_end e.carrier lines) h p) d.now y) (sym (left_step s p b t n keep reason row old alive is a))
-          (subst (λ (q : TwoEnds). Stands q d.now (LeftTables s p b t n keep row a)) (sym (same_holding s e h n p (move_of m).shown) ∙ shown_is s p e h n (move_of m).shown e.carrier lines f.lasts waits) stands);
+          (subst (λ (q : TwoEnds). Stands q d.now (LeftTables s p b t n keep row a)) (sym (grind arith) ∙ shown_is s p e h n (move_of m).shown e.carrier lines f.lasts waits) stands);
     })

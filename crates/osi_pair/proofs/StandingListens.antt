@@ -1,5 +1,5 @@
 -- A session of an end that has joined nothing makes the moves of the session of the tables.
-use Rattle.std.proofs.Common.{◌≡◌, Some, ap, ◌∙◌, ℕ, List, Option, None, Ok, Err, true, refl, inl, inr, false, sym, ◌++◌, ◌≤◌, length, [], ◌∷◌, Bool, ◌||◌, ◌⊎◌, IfSome, subst, arith}
+use Rattle.std.proofs.Common.{◌≡◌, Some, ◌∙◌, ℕ, List, Option, None, Ok, Err, true, refl, sym, ◌++◌, ◌≤◌, length, [], ◌∷◌, ◌||◌, ◌⊎◌, subst, arith}
 use Rattle.osi_session.specs.Listening as words
 use Rattle.osi_session.specs.Allowed.{most_data}
 use Rattle.osi_session.specs.Joining.{kept_in}
@@ -7,7 +7,7 @@ use Rattle.osi_session.proofs.MoveLaws.{taken_is}
 use Rattle.osi_message.specs.Tokens.{no_token}
 use Rattle.osi_message.specs.Words.{part}
 use Rattle.osi_stack.proofs.Joinings.{came_by}
-use Rattle.osi_pair.proofs.Vocabulary.{Input, Standing, Move, react, called, answered, taken, listening, standing_of, in_words, is_apart, kept_none, moves_as_whole, others, word_behind, words_of_message, Listener, Answer, allowed, Call, respond_word, IsKeptIn, IsJoinedAs, IsNoFault, IsJoined, IsKept, discards, call_keeps, first_arrives, middle_arrives, last_arrives, joining, IsInOrder, part_comes, is_over, is_restarting, DT, GT, said_of, words_of, says, First, Middle, Last, Phase, inputs_kept, CameAbout, AllCameAbout, calls_with, kept_at, End, session_in, at_line, Rows, value_at, SessionState as State, PartPlace as Place, EndLine as Line, ConnectCall as Connect, awaits_cn}
+use Rattle.osi_pair.proofs.Vocabulary.{Input, Standing, Move, react, called, answered, taken, listening, in_words, is_apart, kept_none, moves_as_whole, others, word_behind, words_of_message, Listener, Answer, allowed, Call, respond_word, IsKeptIn, IsJoinedAs, IsNoFault, IsJoined, IsKept, discards, call_keeps, first_arrives, middle_arrives, last_arrives, joining, IsInOrder, part_comes, is_over, DT, GT, said_of, words_of, says, First, Middle, Last, Phase, inputs_kept, kept_at, End, value_at, SessionState as State, PartPlace as Place}
 
 -- a move of the session of the tables, as that of the end makes it
 abbrev pub as_made : Move → words.Move
@@ -83,11 +83,8 @@ over_fine s octets over = rw over refl
 
 -- ---- what a session of an end has joined its phase keeps
 
-first_kept : (s : Listener) → (s ≡ awaits_cn) ⊎ ((c : Connect) × (s ≡ calls_with c)) → IsKept s
-first_kept s h1 = grind arith
-
 pub kept_of : (r : ℕ) (s : Listener) (e : End) → IsInOrder e → kept_at r e.lines ≡ Some s → IsKept s
-kept_of r s e order is = let h = came_by r s e.lines (value_at r e.lines) refl is order.came in subst IsKept h.is (inputs_kept h.first h.inputs (first_kept h.first h.fresh))
+kept_of r s e order is = let h = came_by r s e.lines (value_at r e.lines) refl is order.came in subst IsKept h.is (inputs_kept h.first h.inputs (grind (arith, h.fresh)))
 
 pub discards_over : (q : Phase) → is_over q ≡ true → discards q ≡ true
 discards_over q e = grind arith

@@ -4,7 +4,7 @@ use Rattle.std.proofs.Common.{◌≡◌, ◌≢◌, refl, sym, ◌∙◌, ap, su
 use Rattle.osi_machine.specs.Machine as entries
 use Rattle.osi_session.specs.Listening as words
 use Rattle.osi_stack.specs.State as stack
-use Rattle.osi_pair.proofs.Vocabulary.{slice_get, eqb-true, eq-eqb, nat_tests, append-nil, length-map, map-append, length-append, never, was_given, place_at, RiseFrom, AreUpTo, Rows, value_at, without, Connection, absent, beyond, without_other, side, connection_at, shown_at, Seat, Line, Tables, awaits, seen_from, shown_in_order, Listener, Standing, broken as broken_off, react, is_ended, shows_loss, Shown, Lost, Phase, excluded, shown_at_loss, all_lost, kept_at, Holding, session_in, session_at, both, are_lost, Entry, entry_in, side_in, is_parting, transport_in, IsSeated, IsInOrder, joining, waiting_in, quieted, shown_entries, Side}
+use Rattle.osi_pair.proofs.Vocabulary.{slice_get, eqb-true, eq-eqb, nat_tests, append-nil, length-map, map-append, length-append, never, was_given, place_at, RiseFrom, AreUpTo, Rows, value_at, without, Connection, absent, beyond, without_other, side, connection_at, shown_at, Seat, Line, Tables, awaits, seen_from, shown_in_order, Listener, Standing, broken as broken_off, react, is_ended, shows_loss, Shown, Lost, Phase, excluded, shown_at_loss, all_lost, kept_at, Holding, session_in, session_at, are_lost, Entry, entry_in, side_in, is_parting, transport_in, IsSeated, IsInOrder, joining, waiting_in, quieted, shown_entries, Side}
 
 -- ---- a session that is lost
 
@@ -70,13 +70,9 @@ waiting_lost ((r, line) ∷ lines) e = grind (arith, map_nil, front_nil, map, be
 
 -- ---- at most one for each live connection
 
-without_fewer_by : (r q : ℕ) (c : Connection) (rows : Rows Connection) (b : Bool) → (q == r) ≡ b → IsSome (value_at r ((q, c) ∷ rows)) →
-    (IsSome (value_at r rows) → length rows ≡ length (without r rows) + 1) → length ((q, c) ∷ rows) ≡ length (without r ((q, c) ∷ rows)) + 1
-without_fewer_by r q c rows b e some more = grind arith
-
 without_fewer : (r : ℕ) (rows : Rows Connection) → IsSome (value_at r rows) → length rows ≡ length (without r rows) + 1
 without_fewer r [] some = cc
-without_fewer r ((q, c) ∷ rows) some = without_fewer_by r q c rows (q == r) refl some (without_fewer r rows)
+without_fewer r ((q, c) ∷ rows) some = grind (arith, without_fewer r rows)
 
 abbrev pub AreLive : Rows stack.Line → Rows Connection → Type 0
 AreLive lines live = (q : ℕ) (s : Listener) → kept_at q lines ≡ Some s → shows_loss s.state.phase ≡ true → IsSome (value_at q live)
@@ -90,8 +86,7 @@ at_here r line lines = let e : (r == r) ≡ true = eq-eqb r r refl in rw e refl
 -- a reference behind is another
 behind_other : (q r : ℕ) (lines : Rows stack.Line) (s : Listener) → RiseFrom r lines → kept_at q lines ≡ Some s → q ≢ r
 behind_other q r lines s rise kept same =
-    let none : value_at q lines ≡ None = absent q r lines (omega arith) rise in
-    let no : None ≡ Some s = sym (ap session_in none) ∙ kept in
+    let no : None ≡ Some s = sym (ap session_in (absent q r lines (omega arith) rise)) ∙ kept in
     cc
 
 still_live : (r : ℕ) (line : stack.Line) (lines : Rows stack.Line) (live : Rows Connection) → RiseFrom r lines → AreLive ((r, line) ∷ lines) live → AreLive lines live
@@ -116,8 +111,7 @@ few_lost_by r line lines live (Some s) false e is rise all more =
     let same : length (lost_of r line ++ lost_in lines) ≡ length (lost_in lines) = ap (λ (l : List (ℕ × Shown)). length (l ++ lost_in lines)) none in
     omega arith
 few_lost_by r line lines live (Some s) true e is rise all more =
-    let lives = all r s (at_here r line lines ∙ e) (is s refl) in
-    let fewer = without_fewer r live lives in
+    let fewer = without_fewer r live (all r s (at_here r line lines ∙ e) (is s refl)) in
     let rest = more (without r live) (live_without r lines live rise (still_live r line lines live rise all)) in
     let long = length-append (lost_of r line) (lost_in lines) in
     let one : length (lost_of r line) ≡ length (words.react s words.broken).shown =
@@ -162,13 +156,12 @@ order_here : (side : Side) (m r : ℕ) (l : Line) (ls : List Line) (line : stack
     (AreKept side (m + 1) ls lines → Ordered side (m + 1) ls lines) → Ordered side m (l ∷ ls) ((r, line) ∷ lines)
 order_here side m r l ls line lines same rise all more =
     let at : kept_at (m + 1 + 0) ((r, line) ∷ lines) ≡ line.session = ap (λ n. kept_at n ((r, line) ∷ lines)) (let e : m + 1 + 0 ≡ r = omega arith in e) ∙ at_here r line lines in
-    let shown : (react (seen_from (side_in side) l).own.session broken_off).shown ≡ shown_at_loss line.session = all 0 l refl ∙ ap shown_at_loss at in
     let rest = more (λ i x e. (
     let other : m + 1 + suc i ≢ r = (λ no. omega arith) in
     all (suc i) x e ∙ ap shown_at_loss (at_other (m + 1 + suc i) r line lines other)
     ∙ ap (λ n. shown_at_loss (kept_at n lines)) (let e : m + 1 + suc i ≡ m + 1 + 1 + i = omega arith in e)
     )) in
-    ap (λ (w : List Shown). map Some (map (shown_at (side_in side) (m + 1)) w ++ shown_in_order (side_in side) (m + 1 + 1) ls)) shown
+    ap (λ (w : List Shown). map Some (map (shown_at (side_in side) (m + 1)) w ++ shown_in_order (side_in side) (m + 1 + 1) ls)) (all 0 l refl ∙ ap shown_at_loss at)
     ∙ ap (λ (n : ℕ). map Some (map (shown_at (side_in side) n) (shown_at_loss line.session) ++ shown_in_order (side_in side) (m + 1 + 1) ls)) (sym same)
     ∙ joined_entries side r (shown_at_loss line.session) (shown_in_order (side_in side) (m + 1 + 1) ls) (lost_in lines) rest
 
@@ -218,23 +211,11 @@ seat_shows_by n h seat false (Some c) e at up s =
     ap (λ (x : Option Connection). if is_some x then session_in (value_at n h.end.lines) else None) at in
     lost_so s.joined seat.session ∙ ap shown_at_loss (sym (s.live (ap is_some at)) ∙ here)
 
-seat_shows : (n : ℕ) (h : Holding) (seat : Seat) → AreUpTo h.end.carrier.given h.end.lines → IsSeated n h seat →
-    (react seat.session broken_off).shown ≡ shown_at_loss (kept_at n h.end.lines)
-seat_shows n h seat up s = seat_shows_by n h seat (nat_lt h.end.carrier.given n) (value_at n h.end.carrier.live) refl refl up s
-
-seat_live : (n : ℕ) (h : Holding) (seat : Seat) (s : Listener) → AreUpTo h.end.carrier.given h.end.lines → IsSeated n h seat → kept_at n h.end.lines ≡ Some s →
-    shows_loss s.state.phase ≡ true → IsSome (value_at n h.end.carrier.live)
-seat_live n h seat s up is kept shown = grind arith
-
 -- ---- what is shown
-
-kept_quiet_by : (n r : ℕ) (line : stack.Line) (lines : Rows stack.Line) (b : Bool) → (r == n) ≡ b → kept_at n (quieted lines) ≡ kept_at n lines →
-    kept_at n (quieted ((r, line) ∷ lines)) ≡ kept_at n ((r, line) ∷ lines)
-kept_quiet_by n r line lines b e more = grind arith
 
 kept_quiet : (n : ℕ) (lines : Rows stack.Line) → kept_at n (quieted lines) ≡ kept_at n lines
 kept_quiet n [] = refl
-kept_quiet n ((r, line) ∷ lines) = kept_quiet_by n r line lines (r == n) refl (kept_quiet n lines)
+kept_quiet n ((r, line) ∷ lines) = grind (arith, kept_quiet n lines)
 
 pub none_kept : (n : ℕ) (old new : Rows stack.Line) → quieted new ≡ quieted (all_lost old) → kept_at n new ≡ None
 none_kept n old new e =
@@ -272,7 +253,7 @@ all_live who h t rise up few all q s kept shown =
     let low : 0 < q = positive q kept in
     let high : q ≤ h.end.carrier.given = within (nat_le q h.end.carrier.given) refl in
     let seat = all q low (omega arith) in
-    seat_live q h (seen_from (side_in who) seat.0).own s up seat.2 kept shown
+    grind (arith, seat.2)
   where
     positive : (q : ℕ) → kept_at q h.end.lines ≡ Some s → 0 < q
     positive zero kept = let no : None ≡ Some s = sym (absent_kept 0 0 h.end.lines (omega arith) rise) ∙ kept in cc
@@ -296,7 +277,7 @@ all_kept who h t up all i l e =
     let found : Some seat.0 ≡ Some l = sym seat.1 ∙ e in
     let same : seat.0 ≡ l = cc in
     ap (λ (x : Line). (react (seen_from (side_in who) x).own.session broken_off).shown) (sym same)
-    ∙ seat_shows (suc i) h (seen_from (side_in who) seat.0).own up seat.2
+    ∙ seat_shows_by (suc i) h (seen_from (side_in who) seat.0).own (nat_lt h.end.carrier.given (suc i)) (value_at (suc i) h.end.carrier.live) refl refl up seat.2
     ∙ ap (λ n. shown_at_loss (kept_at n h.end.lines)) (let at : suc i ≡ 0 + 1 + i = omega arith in at)
 
 up_in_all : (m n : ℕ) (lines : Rows stack.Line) → m ≤ n → AreUpTo m lines → AreUpTo n lines
@@ -313,13 +294,12 @@ pub says_all : (who : Side) (h : Holding) (lines : Rows stack.Line) (first : Lis
 says_all who h lines first t told quiet order few all =
     let live = all_live who h t order.rising order.sound.known few all in
     let none = all_shown h.end.lines lines h.end.carrier.live first quiet order.rising live order.sound.orderly.live told.shown told.most in
-    let firsts = first_all h.end.lines first (waiting_in lines) quiet told.shown none in
     let entries_are = ordered who 0 t.lines h.end.lines order.rising (up_in_all h.end.carrier.given (0 + length t.lines) h.end.lines (omega arith) order.sound.known)
     (all_kept who h t order.sound.known all) in
     record {
       quiet = none;
       says = ap (λ n. map Some (shown_in_order (side_in who) n t.lines)) (let at : 1 ≡ 0 + 1 = omega arith in at)
-          ∙ entries_are ∙ ap (λ l. map entry_in (shown_entries who l)) (sym firsts);
+          ∙ entries_are ∙ ap (λ l. map entry_in (shown_entries who l)) (sym (first_all h.end.lines first (waiting_in lines) quiet told.shown none));
     }
 
 -- the journals go on alike

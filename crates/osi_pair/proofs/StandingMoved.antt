@@ -1,11 +1,11 @@
 -- A message arrived of which a session heard: how two ends stand when the session has made its move, and nothing
 -- of what it sends was handed to the carrier, and nothing was closed.
-use Rattle.std.proofs.Common.{◌≡◌, ◌≢◌, ℕ, ◌<◌, ◌≤◌, Bool, true, false, nat_lt, if◌then◌else◌, List, [], ◌∷◌, length, map, Option, Some, None, is_some, option_map, refl, sym, ap, subst, ◌∙◌, arith, ◌⊎◌, inl, inr, IfSome, ◌++◌}
+use Rattle.std.proofs.Common.{◌≡◌, ◌≢◌, ℕ, ◌<◌, ◌≤◌, Bool, true, false, nat_lt, if◌then◌else◌, List, [], ◌∷◌, length, map, Option, Some, None, option_map, refl, sym, ap, subst, ◌∙◌, arith, ◌⊎◌, inl, inr, IfSome, ◌++◌}
 use Rattle.osi_carrier.specs.React.{react as carrier_react}
 use Rattle.osi_machine.specs.Core as machine
 use Rattle.osi_machine.specs.Worlds as worlds
 use Rattle.osi_stack.specs.Moving.{noted}
-use Rattle.osi_pair.proofs.Vocabulary.{Held, Value, link_of, Place, never, was_given, place_at, IsOrderly, Rows, value_at, Connection, State as Carrier, asked, linked, closing, is_open, EndReason, orderly_unit, orderly_same, reference_of, Between, under_way, is_cut, last_of, progress_of, not_yet, in_use, gone, Progress, awaiting, class_of, IsTableRun, AreSoundLines, IsSoundLine, AreSendable, is_leaving, connection_at, delivers, learns, Line as TableLine, Turn, Tables, seen_from, after_turn, step, Message, unit, ask, agree, deny, bye, over, put, replied, SessionLaws, Meaning, DT, Input, Standing, Move, taken, opened, refused, broken as broken_off, react, listening, after_packet, concludes, told_all, kept_at, answers, End, session_in, packet_rises, TwoEnds, end_at, other, side_in, is_caller, class_in, carriers_of, message_in, AreAlike, IsInOrder, Stands, Goes, joining, HasJoined, waiting_in, quieted, Side, IsNoFault, IsJoinedAs, Listener, kind_of, IsInOctets, part_octets, First, Middle, Last, Left, Right, after_message, StaysCalm, left_is, said_of, Link, EndLine as Line, PartPlace, SessionState}
+use Rattle.osi_pair.proofs.Vocabulary.{Held, Value, place_at, IsOrderly, Rows, value_at, State as Carrier, linked, is_open, orderly_unit, orderly_same, reference_of, Between, under_way, is_cut, last_of, progress_of, in_use, gone, class_of, IsTableRun, AreSoundLines, IsSoundLine, AreSendable, is_leaving, connection_at, delivers, learns, Line as TableLine, Turn, Tables, seen_from, after_turn, step, Message, unit, agree, deny, bye, over, put, replied, SessionLaws, Meaning, DT, Input, Standing, Move, taken, opened, refused, broken as broken_off, react, listening, after_packet, concludes, told_all, kept_at, answers, End, session_in, packet_rises, TwoEnds, end_at, other, side_in, is_caller, class_in, carriers_of, message_in, AreAlike, IsInOrder, Stands, Goes, joining, HasJoined, waiting_in, quieted, Side, IsNoFault, IsJoinedAs, Listener, kind_of, IsInOctets, part_octets, First, Middle, Last, after_message, StaysCalm, left_is, said_of, Link, EndLine as Line, PartPlace, SessionState}
 use Rattle.osi_pair.proofs.StandingArrived.{PacketActs}
 use Rattle.osi_pair.proofs.StandingFinish.{terms_at, DidAt, line_then, last_is, order_of, was_at}
 use Rattle.osi_pair.proofs.StandingHeard.{lines_then, kept_then, one_told}
@@ -19,12 +19,12 @@ use Rattle.osi_pair.proofs.StandingQuiet.{quiet_order, quiet_waits, put_waits}
 use Rattle.osi_pair.proofs.StandingReplies.{CanGo}
 use Rattle.osi_pair.proofs.StandingRests.{delivered, tables_delivered}
 use Rattle.osi_pair.proofs.StandingResting.{acted_end, did_at, same_row, line_at, EndThen, back_one, FoundLine, back_then, other_lines, over_stays}
-use Rattle.osi_pair.proofs.StandingRows.{Row, before, after, arrived_in, quiet, still, begins, refuses, agrees, denies, tells, leaves, ignores, ends}
+use Rattle.osi_pair.proofs.StandingRows.{Row, before, after, arrived_in, agrees, denies, tells, leaves}
 use Rattle.osi_pair.proofs.StandingSeats.{transport_by, value_same, HasSession, lives_in, session_of_seat, transport_at}
 use Rattle.osi_pair.proofs.StandingTurned.{IsSeen, with_holding, turned_pair, turned_stands}
 use Rattle.osi_pair.proofs.StandingWaiting.{is_calling}
 use Rattle.osi_between.specs.Messages as carrier
-use Rattle.osi_pair.proofs.StandingWays.{NextOf, Comes, BehindFirst, IsAlone, IsLast, Begins, GoesOn, is_tsdu, no_part}
+use Rattle.osi_pair.proofs.StandingWays.{NextOf, Comes, BehindFirst, IsAlone, IsLast, Begins, GoesOn, no_part}
 use Rattle.osi_session.specs.Allowed.{most_data}
 use Rattle.osi_pair.proofs.StandingAhead.{TakeLaws, TakesFrom, takes_from, takes_here, takes_then}
 use Rattle.osi_pair.proofs.StandingLost.{is_over as is_lost}
@@ -139,9 +139,6 @@ pub record KeptLine (n : ℕ) (lines : Rows Line) (joined : Option (List ℕ)) (
 
 line_by : (n : ℕ) (lines : Rows Line) (joined : Option (List ℕ)) (x : Standing) (o : Option Line) → value_at n lines ≡ o → session_in o ≡ Some (joining joined x) → KeptLine n lines joined x
 line_by n lines joined x o e h = grind arith
-
-no_way : false ≡ true → ⊥
-no_way e = cc
 
 -- a message of which a session hears comes to one that lives
 heard_lives : (row : Row) → is_heard row ≡ true → lives_in (before row) ≡ true
@@ -326,7 +323,6 @@ arriving_as laws s p b t packet h old run alive pa heard at was (inr sp) =
     let joined = was.joined in
     let live : kept_at n lines ≡ Some (joining joined x) = was.live (heard_lives row heard) in
     let keeps = kept_of n (joining joined x) (end_at s p).end (order_of s p b t old alive) live in
-    let tells_it = part_tells row sp.place sp.octets heard sp.is in
     let fine = part_fine laws s t n l run at.found sp.now sp.next in
     inr (record {
       seen = l;
@@ -337,7 +333,7 @@ arriving_as laws s p b t packet h old run alive pa heard at was (inr sp) =
       had = was;
       place = sp.place;
       octets = sp.octets;
-      is = tells_it;
+      is = part_tells row sp.place sp.octets heard sp.is;
       now = sp.now;
       joins = part_joins joined x sp.place sp.octets sp.now (HasJoined n (end_at s p)) (λ begun held. held (joining joined x) live) sp.short keeps.phase fine sp.how;
       stays = sp.stays;

@@ -1,15 +1,14 @@
 -- A message arrives, and a session makes its move: what it sends is not handed over yet, and nothing is closed yet.
 use Rattle.std.proofs.Common.{◌≡◌, ◌≢◌, ℕ, ◌≤◌, Bool, true, false, List, [], ◌∷◌, Option, Some, None, IfSome, option_map, refl, sym, ap, subst, ◌∙◌, arith}
 use Rattle.osi_between.specs.Messages as carrier
-use Rattle.osi_machine.specs.Tables.{hears}
 use Rattle.osi_machine.specs.Worlds as worlds
-use Rattle.osi_pair.proofs.Vocabulary.{Held, place_at, Rows, value_at, reference_of, Between, last_of, progress_of, leaves_use, connection_at, delivers, learns, Seat, Line as TableLine, Turn, Tables, awaits, seen_from, end_of, after_turn, step, without_first, message_taken, Message, unit, ask, agree, deny, bye, over, put, replied, IsInOctets, said_of, Meaning, Input, taken, opened, refused, broken as broken_off, Standing, Move, react, is_ended, kept_at, End, TwoEnds, end_at, other, side_in, is_caller, class_in, carriers_of, message_in, is_parting, Stands, Goes, quieted, Side, kind_of, EndLine as Line}
+use Rattle.osi_pair.proofs.Vocabulary.{Held, place_at, Rows, value_at, reference_of, Between, last_of, progress_of, leaves_use, connection_at, delivers, learns, Line as TableLine, Turn, Tables, awaits, seen_from, end_of, after_turn, step, without_first, message_taken, Message, unit, put, replied, IsInOctets, said_of, Meaning, Input, taken, opened, refused, broken as broken_off, Standing, Move, react, is_ended, kept_at, End, TwoEnds, end_at, other, side_in, is_caller, class_in, carriers_of, message_in, is_parting, Stands, Goes, quieted, Side, kind_of, EndLine as Line}
 use Rattle.osi_pair.proofs.StandingArrived.{PacketActs}
 use Rattle.osi_pair.proofs.StandingFinish.{terms_at, DidAt, TablesAfter, OtherSessions, line_then, finish}
 use Rattle.osi_pair.proofs.StandingHeard.{lines_then, kept_other, session_then}
-use Rattle.osi_pair.proofs.StandingRests.{delivered, tables_delivered, sends_then, seat_now}
+use Rattle.osi_pair.proofs.StandingRests.{delivered, tables_delivered, sends_then}
 use Rattle.osi_pair.proofs.StandingResting.{acted_end, EndThen, NextFor, out_row}
-use Rattle.osi_pair.proofs.StandingRows.{Row, quiet, still, begins, refuses, agrees, denies, tells, leaves, ignores, ends, before, after, arrived_in}
+use Rattle.osi_pair.proofs.StandingRows.{Row, agrees, denies, tells, before, after, arrived_in}
 use Rattle.osi_pair.proofs.StandingSeats.{transport_by, HasSession}
 use Rattle.osi_pair.proofs.StandingTurned.{IsSeen, with_holding}
 
@@ -29,15 +28,6 @@ is_move (denies reason) = true
 is_move (tells octets) = true
 is_move row = false
 
-alone_is : (x y : carrier.Message) → x ∷ [] ≡ y ∷ [] → x ≡ y
-alone_is x y e = cc
-
-turn_by : (broken : Bool) (terms : worlds.Terms) (keep : ℕ) (row : Row) (x : Standing) (channel : List Message) (peer : Seat) (m : Message) (got : carrier.Message) → is_move row ≡ true →
-    arrived_in row ≡ got ∷ [] → kind_of (message_in m) ≡ kind_of got →
-    message_taken broken terms keep (transport_by (before row)) (record { own = seat_now (transport_by (before row)) x channel; peer = peer }) m ≡
-    hears broken (transport_by (after row)) (heard_by row m) (record { own = seat_now (transport_by (before row)) x channel; peer = peer })
-turn_by broken terms keep row x channel peer m got is e a = grind arith
-
 -- the turn, where the move sends this
 abbrev pub turn_then : Row → Input → Bool → Option Meaning → Standing → List Message → List Message → TableLine → Turn
 turn_then row input broken reply x channel back l = record {
@@ -50,12 +40,6 @@ pub turn_moves : (broken : Bool) (terms : worlds.Terms) (keep : ℕ) (row : Row)
     arrived_in row ≡ got ∷ [] → kind_of (message_in m) ≡ kind_of got →
     message_taken broken terms keep l.own.transport (without_first l xs) m ≡ turn_then row (heard_by row m) broken (react l.own.session (heard_by row m)).reply l.own.session l.own.channel xs l
 turn_moves broken terms keep row l m xs got f is e a = grind arith
-
-stays_in_use : (row : Row) → is_move row ≡ true → leaves_use (before row) (after row) ≡ false
-stays_in_use row e = grind arith
-
-sends_none : (row : Row) (broken : Bool) (channel : List Message) → is_move row ≡ true → sends_then row broken channel ≡ channel
-sends_none row broken channel e = grind arith
 
 -- the step of the tables
 pub step_moves : (t : Tables) (s : Side) (n : ℕ) (keep : ℕ → ℕ) (row : Row) (l : TableLine) (m : Message) (xs : List Message) (got : carrier.Message) → end_of (side_in s) t ≡ None →
@@ -110,13 +94,13 @@ move_unit s p b t packet h l m xs row input old alive pa found seen k d same mov
     let e = acted_end pa.unit (moved_lines s p n x row input k) (end_at s p).end in
     let turn = quiet_turn row (react x input) xs l in
     let u = delivered t (side_in s) n (learns t.terms l.own.transport m t.known) turn in
-    let steady : leaves_use (before d.row) (after d.row) ≡ false = ap (λ (r : Row). leaves_use (before r) (after r)) same ∙ stays_in_use row move in
+    let steady : leaves_use (before d.row) (after d.row) ≡ false = ap (λ (r : Row). leaves_use (before r) (after r)) same ∙ (grind arith) in
     finish s p b t u e h n (react x input).shown l (react x input).next l.own.channel xs old alive d new.lasts new.local new.role pa.first.given behind new.order new.waits
     (moved_others s p e n k.line x input refl)
     (subst (λ (r : Row). HasSession n e.lines (after r) (react x input).next) (sym same) (session_then n k.line k.was x input (end_at s p).end.lines (after row) k.here k.ended k.waits k.octets)) seen
     (record {
       out = subst (λ (ms : List Message). Goes s (other s) n (with_holding s e h p) d.now (progress_of (place_at n (last_of (is_caller (other s)) d.now))) l.peer.session.state ms)
-          (ap (λ (r : Row). sends_then r t.broken l.own.channel) same ∙ sends_none row t.broken l.own.channel move) (out_row s p b t e h n l old d seen steady alive);
+          (ap (λ (r : Row). sends_then r t.broken l.own.channel) same ∙ grind arith) (out_row s p b t e h n l old d seen steady alive);
       back = subst (λ (r : Row). Goes (other s) s n (with_holding s e h p) d.now (after r) (react x input).next.state xs) (sym same) back;
     })
     (subst (λ (r : Row). TablesAfter s n t u (react x input).shown (line_then r (react x input).next l.own.channel xs l)) (sym same)

@@ -1,9 +1,9 @@
 -- What a call and an offer send goes into octets.
-use Rattle.std.proofs.Common.{◌≡◌, refl, sym, ◌∙◌, subst, ℕ, ◌<◌, ◌==◌, ◌&&◌, ◌||◌, Bool, true, false, List, [], ◌∷◌, arith}
+use Rattle.std.proofs.Common.{◌≡◌, refl, sym, ◌∙◌, subst, ℕ, ◌<◌, ◌==◌, ◌&&◌, ◌||◌, Bool, true, false, [], ◌∷◌, arith}
 use Rattle.std.proofs.lemmas.Nat.{and_le_r}
 use Rattle.std.specs.Int.RustNames.{bit_and}
 use Rattle.osi_spdu.specs.declared.fields.TsduMaximumSize.{TsduMaximumSize}
-use Rattle.osi_pair.proofs.Vocabulary.{eqb-true, leb-true, nat_le, are_sizes, is_size, IsOctets, IsInOctets, IsSendable, names, AllHold, needs, sends, refusal_reason, octets_of, Passed, Call, Accept, Refuse, Data, Give, Please, Minor, MinorConfirm, Major, MajorConfirm, Restart, RestartConfirm, Release, ReleaseAccept, ReleaseRefuse, Abort, answered_sizes, is_profile, SessionStep as Step, SessionState as State}
+use Rattle.osi_pair.proofs.Vocabulary.{eqb-true, are_sizes, is_size, IsOctets, IsInOctets, IsSendable, names, AllHold, needs, sends, octets_of, Passed, Call, Accept, Refuse, Abort, answered_sizes, is_profile, SessionStep as Step, SessionState as State}
 
 both_right : (a b : Bool) → (a && b) ≡ true → b ≡ true
 both_right a b h = grind arith
@@ -32,13 +32,10 @@ asker_small s h = size_small s.from_asker (both_left (is_size s.from_asker) (is_
 pub answerer_small : (s : TsduMaximumSize) → are_sizes s ≡ true → s.from_answerer < 65536
 answerer_small s h = size_small s.from_answerer (both_right (is_size s.from_asker) (is_size s.from_answerer) h)
 
-reason_small : (octets : List ℕ) → refusal_reason octets < 256
-reason_small octets = grind arith
-
 says_in : (s : State) (c : Call) → AllHold (needs s c) → IsSendable (sends s c) → IsOctets (octets_of c) → IsInOctets (sends s c)
 says_in s (Accept requirements serial sides sizes octets) needed sendable h =
     (profile_small requirements (both_right _ (is_profile requirements) needed.0), asker_small (answered_sizes s.sizes sizes) sendable.sized, answerer_small (answered_sizes s.sizes sizes) sendable.sized, h)
-says_in s (Refuse octets) needed sendable h = (reason_small octets, h)
+says_in s (Refuse octets) needed sendable h = ((grind arith), h)
 says_in s (Abort octets) needed sendable h = (omega arith, h)
 says_in s c needed sendable h = search
 

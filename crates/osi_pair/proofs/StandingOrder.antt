@@ -1,8 +1,8 @@
 -- An end whose session has moved is in order before what it sends is handed over.
-use Rattle.std.proofs.Common.{◌≡◌, ◌≢◌, ℕ, ◌≤◌, ◌==◌, Bool, true, false, if◌then◌else◌, [], Option, Some, None, is_some, refl, sym, ap, subst, ◌∙◌, arith}
+use Rattle.std.proofs.Common.{◌≡◌, ◌≢◌, ℕ, ◌≤◌, ◌==◌, Bool, true, false, if◌then◌else◌, [], Some, None, refl, sym, ap, subst, ◌∙◌, arith}
 use Rattle.osi_session.specs.Listening as words
 use Rattle.osi_stack.specs.Moving.{noted}
-use Rattle.osi_pair.proofs.Vocabulary.{eqb-true, eq-eqb, link_of, IsOrderly, value_at, Connection, State as Carrier, is_open, EndReason, put_here, put_other, put_rise, put_up, Listener, Input, Standing, react, HasNumbersInWords, CameAbout, AllCameAbout, needs_link, kept_at, limit_for, answers, line_by, line_after, carrier_by, by_line, to_session, End, session_in, session_all, came_moves, apart_put, up_more, IsInOrder, Link, put_row as put, EndLine as Line}
+use Rattle.osi_pair.proofs.Vocabulary.{eqb-true, eq-eqb, IsOrderly, value_at, State as Carrier, is_open, put_here, put_other, put_rise, put_up, Listener, Input, Standing, react, HasNumbersInWords, CameAbout, AllCameAbout, needs_link, kept_at, limit_for, answers, line_after, to_session, End, session_in, session_all, came_moves, apart_put, up_more, IsInOrder, put_row as put, EndLine as Line}
 use Rattle.osi_pair.proofs.StandingHeard.{lines_then}
 use Rattle.osi_pair.proofs.StandingListens.{as_made}
 
@@ -20,9 +20,6 @@ session_acts n heard input e line l x here is so alone = grind arith
 
 -- ---- open connections
 
-open_same : (q : ℕ) (c d : Carrier) → c.ended ≡ None → d.ended ≡ None → value_at q c.live ≡ value_at q d.live → is_open q c ≡ is_open q d
-open_same q c d e f h = cc
-
 links_by : (b : Bool) (n q : ℕ) (e : End) (c : Carrier) (line was : Line) (m : words.Move) (y : Listener) → (q == n) ≡ b → IsInOrder e → e.carrier.ended ≡ None → c.ended ≡ None →
     ((r : ℕ) → r ≢ n → value_at r c.live ≡ value_at r e.carrier.live) → value_at n e.lines ≡ Some was → (needs_link m.next.state.phase ≡ true → is_open n c ≡ true) →
     kept_at q (put n (line_after line m) e.lines) ≡ Some y → needs_link y.state.phase ≡ true → is_open q c ≡ true
@@ -35,7 +32,7 @@ links_by true n q e c line was m y f o alive lasts apart here opens kept needs =
     ap (λ (r : ℕ). is_open r c) at ∙ opens (ap (λ (s : Listener). needs_link s.state.phase) (sym same) ∙ needs)
 links_by false n q e c line was m y f o alive lasts apart here opens kept needs =
     let other : q ≢ n = λ same. (let no_way : true ≡ false = sym (eq-eqb q n same) ∙ f in cc) in
-    open_same q c e.carrier lasts alive (apart q other)
+    cc (apart q other)
     ∙ o.sound.links alive q y (sym (ap session_in (put_other q n (line_after line m) e.lines other)) ∙ kept) needs
 
 pub moves_order : (e : End) (c : Carrier) (n : ℕ) (line : Line) (l : Listener) (heard : words.Input) (m : words.Move) → IsInOrder e → e.carrier.ended ≡ None → IsOrderly c → c.events ≡ [] → c.ended ≡ None → e.carrier.given ≤ c.given →

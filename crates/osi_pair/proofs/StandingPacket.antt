@@ -1,20 +1,20 @@
 -- A packet is taken at an end with which no session acts, or one begins: it is no step of the tables, or one
 -- delivery.
-use Rattle.std.proofs.Common.{◌≡◌, ℕ, ◌≤◌, Bool, true, false, List, [], ◌∷◌, ◌++◌, Option, Some, None, option_map, refl, sym, ap, subst, ◌∙◌, ◌⊎◌, inl, inr, arith}
+use Rattle.std.proofs.Common.{◌≡◌, ℕ, ◌≤◌, Bool, true, false, List, [], ◌∷◌, ◌++◌, Option, Some, None, refl, sym, ap, subst, ◌∙◌, ◌⊎◌, inl, inr, arith}
 use Rattle.osi_carrier.specs.Coming.{IsSendable}
 use Rattle.osi_carrier.specs.Packets as carriers
 use Rattle.osi_carrier.specs.React.{react as carrier_react}
 use Rattle.osi_between.specs.Messages as carrier
 use Rattle.osi_machine.specs.Core as machine
 use Rattle.osi_stack.specs.State.{Line, joins}
-use Rattle.osi_pair.proofs.Vocabulary.{AllByRecursion, append-nil, Held, IsPacket, Value, place_at, RiseFrom, Rows, value_at, State, reference_of, Both, side, Between, last_of, AreBetween, is_cut, under_way, progress_of, leaves_use, not_yet, shutting, Terms, terms_of, by_two, by_zero, refusing, Local, beyond, Ending, Step, connects, calls, delivers, breaks, HasNumber, ends as ends_side, Line as TableLine, Tables, end_of, step, run, start, Message, unit, ask, agree, deny, bye, over, after_unit, carries_out, AllCameAbout, after_packet, attends, concludes, opens, IsSound, told_all, End, IsAttended, rise_joins, TwoEnds, end_at, Entry, side_in, is_caller, terms_in, ending_in, carriers_of, packet_taken, AreDeliveries, StandsAtDeliveries, IsInOrder, Stands, StandsAt, Goes, HasJoined, message_in, waiting_in, Side, Left, Right, is_leaving, other, kind_of as message_kind, after_message, StaysCalm, told_opened as opened, awaits_cn as awaits, SessionState}
+use Rattle.osi_pair.proofs.Vocabulary.{AllByRecursion, append-nil, Held, IsPacket, Value, place_at, RiseFrom, Rows, value_at, State, reference_of, Both, side, Between, last_of, AreBetween, is_cut, under_way, progress_of, leaves_use, shutting, Terms, beyond, Step, delivers, HasNumber, Line as TableLine, Tables, end_of, step, run, start, Message, unit, ask, agree, after_unit, carries_out, AllCameAbout, after_packet, attends, concludes, opens, IsSound, told_all, End, IsAttended, rise_joins, TwoEnds, end_at, Entry, side_in, is_caller, terms_in, carriers_of, packet_taken, AreDeliveries, StandsAtDeliveries, IsInOrder, Stands, StandsAt, Goes, HasJoined, message_in, waiting_in, Side, Left, Right, is_leaving, other, kind_of as message_kind, after_message, StaysCalm, told_opened as opened, awaits_cn as awaits, SessionState}
 use Rattle.osi_pair.proofs.StandingArrived.{CarrierLaws, PacketActs, packet_acts}
 use Rattle.osi_pair.proofs.StandingBegins.{asks_same, begun_lines, begun_waits, begins_unit, new_at}
 use Rattle.osi_pair.proofs.StandingFinish.{terms_at, DidAt, is_agree, last_is, order_of, was_at}
 use Rattle.osi_pair.proofs.StandingHeard.{carried_out, nothing_heard, one_told, lasting}
 use Rattle.osi_pair.proofs.StandingRests.{is_awaited, rests, sends_then}
 use Rattle.osi_pair.proofs.StandingResting.{acted_end, did_at, same_row, is_rest, EndThen, quiet_unit, rest_unit, FoundLine, line_at, back_none, back_one, back_alone, back_then, over_holds, over_stays}
-use Rattle.osi_pair.proofs.StandingRows.{Row, quiet, still, begins, refuses, agrees, denies, tells, leaves, ignores, ends, before, after, arrived_in, told_for, is_row}
+use Rattle.osi_pair.proofs.StandingRows.{Row, begins, refuses, agrees, denies, tells, leaves, ignores, ends, before, after, arrived_in, told_for, is_row}
 use Rattle.osi_pair.proofs.StandingTurned.{with_holding, turned_pair, turned_stands, IsSeen}
 use Rattle.osi_pair.proofs.StandingWays.{Alone, is_tsdu}
 use Rattle.osi_pair.proofs.StandingSeats.{session_of_seat}
@@ -42,9 +42,6 @@ pub record StandsBehind (s : Side) (p : TwoEnds) (t : Tables) (packet : List ℕ
   pub stands : Stands (turned_pair s end h n [] p) now (run t more)
 
 -- ---- the end
-
-none_of : (o : Option Ending) → option_map Some o ≡ None → o ≡ None
-none_of o e = grind arith
 
 pub lasting_in : (s : Side) (p : TwoEnds) (b : Between) (t : Tables) → Stands p b t → (end_at s p).end.carrier.ended ≡ None → end_of (side_in s) t ≡ None
 lasting_in s p b t old alive = grind arith
@@ -130,8 +127,7 @@ quiet_packet laws s p b t packet h old alive pa q =
     let e = acted_end pa.unit was.lines was in
     let f = acts_at s p b packet h pa in
     let same = nothing_heard was packet pa.unit f.acts (f.events ∙ q.told) f.lasts in
-    let heard = sym (carried_out was packet pa.unit f.acts) ∙ same in
-    let new = rest_end laws s p b t packet h old alive pa same heard f.lasts f.local in
+    let new = rest_end laws s p b t packet h old alive pa same (sym (carried_out was packet pa.unit f.acts) ∙ same) f.lasts f.local in
     let d = did_at s p b packet h was.lines pa in
     let row = same_row s p b packet h was.lines pa in
     let at = line_at s n p b t old pa.first.named pa.first.given in
@@ -166,8 +162,7 @@ rest_packet laws s p b t packet h old alive pa q at first others parts kind back
     let e = acted_end pa.unit was.lines was in
     let f = acts_at s p b packet h pa in
     let same = nothing_heard was packet pa.unit f.acts (f.events ∙ q.told) f.lasts in
-    let heard = sym (carried_out was packet pa.unit f.acts) ∙ same in
-    let new = rest_end laws s p b t packet h old alive pa same heard f.lasts f.local in
+    let new = rest_end laws s p b t packet h old alive pa same (sym (carried_out was packet pa.unit f.acts) ∙ same) f.lasts f.local in
     let d = did_at s p b packet h was.lines pa in
     let row = same_row s p b packet h was.lines pa in
     let x = rest_unit s p b t packet h q.got old alive (lasting_in s p b t old alive) pa d at first others parts kind back (ap arrived_in row ∙ q.one) (ap is_rest row ∙ q.rest) (ap rests row ∙ q.resting)
@@ -195,8 +190,7 @@ ignored_packet laws s p b t packet h old alive pa octets is at back =
     let e = acted_end pa.unit was.lines was in
     let f = acts_at s p b packet h pa in
     let same = nothing_heard was packet pa.unit f.acts (f.events ∙ ap (told_for n) is) f.lasts in
-    let heard = sym (carried_out was packet pa.unit f.acts) ∙ same in
-    let new = rest_end laws s p b t packet h old alive pa same heard f.lasts f.local in
+    let new = rest_end laws s p b t packet h old alive pa same (sym (carried_out was packet pa.unit f.acts) ∙ same) f.lasts f.local in
     let d = did_at s p b packet h was.lines pa in
     let row : d.row ≡ ignores octets = same_row s p b packet h was.lines pa ∙ is in
     let x = quiet_unit s p b t packet h old alive pa d at back (ap before row ∙ sym (ap after row)) (ap is_rest row) (ap is_agree row) (ap (λ (r : Row). leaves_use (before r) (after r)) row)
@@ -263,8 +257,7 @@ begins_packet laws s p b t packet h old alive pa begun =
     let d = did_at s p b packet h lines pa in
     let row : d.row ≡ begins = same_row s p b packet h lines pa ∙ begun in
     let order = order_of s p b t old alive in
-    let stood : progress_of (place_at n was.carrier) ≡ not_yet = ap (λ (c : State). progress_of (place_at n c)) (sym (was_at s p b t old alive)) ∙ d.stood ∙ ap before row in
-    let above = new_at n was.carrier stood in
+    let above = new_at n was.carrier (ap (λ (c : State). progress_of (place_at n c)) (sym (was_at s p b t old alive)) ∙ d.stood ∙ ap before row) in
     let none : value_at n was.lines ≡ None = beyond n was.carrier.given was.lines order.sound.known above in
     let told : (carrier_react pa.unit was.carrier).events ≡ opened n ∷ [] = f.events ∙ ap (told_for n) begun in
     let same : after_packet was packet ≡ e =
@@ -352,9 +345,8 @@ resting_packet laws s p b t packet h old alive pa (inr (inr is)) =
     let e = acted_end pa.unit lines (end_at s p).end in
     let d = did_at s p b packet h lines pa in
     let at = line_at s n p b t old pa.first.named pa.first.given in
-    let one : arrived_in d.row ≡ carrier.message is.0 ∷ [] = ap arrived_in (same_row s p b packet h lines pa ∙ is.1) in
     let held : (begun : Option (List ℕ)) → HasJoined n (end_at s p) begun = λ begun. held_then s p b t n pa.did.row at.line begun old alive (stood_at s p b packet h pa) at.is (ap before is.1) in
-    elim (back_one s p b e h n at.line (carrier.message is.0) d at.is alive one) [
+    elim (back_one s p b e h n at.line (carrier.message is.0) d at.is alive (ap arrived_in (same_row s p b packet h lines pa ∙ is.1))) [
       | inl sp ↦
           let q : IsRestRow pa.did.row n = subst (λ (r : Row). IsRestRow r n) (sym is.1) (ignores_row n is.0) in
           rest_packet laws s p b t packet h old alive pa q at sp.first sp.others sp.parts (sp.kind ∙ ap message_kind (sym (got_is pa.did.row n q (carrier.message is.0) (ap arrived_in is.1))))

@@ -1,9 +1,9 @@
 -- Packets that an end takes one after the other, of which none stops but perhaps the last.
-use Rattle.std.proofs.Common.{◌≡◌, ℕ, ◌≤◌, ◌==◌, ◌||◌, false, not, List, [], ◌∷◌, ◌++◌, length, Option, Some, None, is_some, refl, sym, ap, subst, ◌∙◌, if◌then◌else◌, arith}
+use Rattle.std.proofs.Common.{◌≡◌, ℕ, ◌≤◌, ◌==◌, ◌||◌, false, not, List, [], ◌∷◌, ◌++◌, length, Option, None, is_some, refl, sym, ap, subst, ◌∙◌, if◌then◌else◌, arith}
 use Rattle.osi_machine.specs.Core as machine
 use Rattle.osi_stack.proofs.FirstShown.{quiet_none}
 use Rattle.osi_stack.proofs.Endings.{stops_not}
-use Rattle.osi_pair.proofs.Vocabulary.{append-nil, append_assoc, Held, IsPacket, ArePackets, Rows, EndReason, NoMemory, Ending, no_memory, Step, connects, calls, delivers, breaks, ends as ends_side, Tables, end_of, after_end, step, run, start, Shown, TakesPackets, stops, after_packet, Starves, End, Holding, waits, or_first, or_second, TwoEnds, end_at, noted, Entry, side_in, terms_in, AreDeliveries, AreArrivals, StandsAt, StandsAtArrivals, waiting_in, quieted, told_entries, Reach, Side, Left, Right, reach_after, none_of, ends_end as ends, EndLine as Line}
+use Rattle.osi_pair.proofs.Vocabulary.{append-nil, append_assoc, Held, IsPacket, ArePackets, Rows, EndReason, NoMemory, Step, delivers, Tables, end_of, step, run, start, Shown, TakesPackets, stops, after_packet, Starves, End, Holding, waits, or_second, TwoEnds, end_at, noted, Entry, side_in, terms_in, AreDeliveries, AreArrivals, StandsAt, StandsAtArrivals, waiting_in, Reach, Side, Left, Right, reach_after, ends_end as ends, EndLine as Line}
 use Rattle.osi_pair.proofs.StandingBreak.{run_behind}
 use Rattle.osi_pair.proofs.StandingFinish.{terms_at}
 use Rattle.osi_pair.proofs.StandingHanded.{CarriedLaw, with_held, handed_at}
@@ -56,9 +56,6 @@ taken_laws laws few = record {
 
 -- ---- what waits
 
-pub none_waiting : (lines : Rows Line) → waits lines ≡ false → waiting_in lines ≡ []
-none_waiting lines e = none_waits lines (quiet_none lines e).shown
-
 pub still_waits : (lines : Rows Line) → waiting_in lines ≡ [] → waits lines ≡ false
 still_waits [] e = refl
 still_waits ((r, line) ∷ lines) e =
@@ -67,7 +64,7 @@ still_waits ((r, line) ∷ lines) e =
 
 -- an end that does not stop lasts, and nothing waits
 pub stops_quiet : (e : End) → stops e ≡ false → waiting_in e.lines ≡ []
-stops_quiet e h = none_waiting e.lines (or_second (is_some e.carrier.ended) (waits e.lines) h)
+stops_quiet e h = none_waits e.lines (quiet_none e.lines (or_second (is_some e.carrier.ended) (waits e.lines) h)).shown
 
 pub goes_on : (e : End) → e.carrier.ended ≡ None → waiting_in e.lines ≡ [] → stops e ≡ false
 goes_on e lasts quiet = ap (λ (o : Option EndReason). is_some o || waits e.lines) lasts ∙ still_waits e.lines quiet
@@ -137,8 +134,7 @@ still_goes s p steps e h quiet x =
     let at : StandsAt (with_holding s e h p) (steps ++ x.more) =
     subst (λ (q : TwoEnds). StandsAt q (steps ++ x.more)) (shown_plain s e h p (stops_not e quiet) (stops_quiet e quiet)) x.stands in
     let here : end_at s (with_holding s e h p) ≡ record { end = e; held = h } = holding_here s e h p in
-    let lasts : (end_at s (with_holding s e h p)).end.carrier.ended ≡ None = ap (λ (y : Holding). y.end.carrier.ended) here ∙ stops_not e quiet in
-    let are = alive_deliveries s (with_holding s e h p) steps x.more at lasts x.are in
+    let are = alive_deliveries s (with_holding s e h p) steps x.more at (ap (λ (y : Holding). y.end.carrier.ended) here ∙ stops_not e quiet) x.are in
     grind arith
 
 -- what comes behind it
@@ -162,9 +158,8 @@ packets_stand laws law (u ∷ []) s p steps new h at alive taken packets =
 packets_stand laws law (u ∷ v ∷ units) s p steps new h at alive taken packets =
     let e = after_packet (end_at s p).end u in
     let g : Held = record (end_at s p).held { octets = packets.1 } in
-    let q = with_holding s e g p in
     let x = still_goes s p steps e g taken.1.0 (laws.told p steps s u packets.0 g at alive packets.2 packets.3).stands in
     behind s p steps e g new h x
-    (packets_stand laws law (v ∷ units) s q (steps ++ x.more) new h x.stands x.lasts
+    (packets_stand laws law (v ∷ units) s (with_holding s e g p) (steps ++ x.more) new h x.stands x.lasts
     (subst (λ (b : Holding). TakesPackets b.end (v ∷ units) new) (sym x.here) taken.1)
     (subst (λ (b : Holding). ArePackets (v ∷ units) b.held.octets h.octets) (sym x.here) packets.4))

@@ -7,7 +7,7 @@ use Rattle.osi_session.specs.Listening.{rests}
 use Rattle.osi_session.specs.Listening as words
 use Rattle.osi_stack.specs.Moving.{noted}
 use Rattle.osi_pair.proofs.Vocabulary.{Held, place_at, tsdu, IsOrderly, Rows, State as Carrier, put_here, put_other, orderly_unit, orderly_same, reference_of, Between, last_of, progress_of, leaves_use, Line as TableLine, Tables, Message, part_octets, IsJoinedAs, Listener, came, came_as, part_comes, HasNumbersInWords, after_packet, concludes, told_all, kept_at, line_after, to_session, End, session_in, came_numbers, hands_none, packet_rises, TwoEnds, end_at, other, is_caller, joining, HasJoined, Goes, IsInOrder, Stands, waiting_in, Side, put_row as put, EndLine as Line}
-use Rattle.osi_pair.proofs.StandingFinish.{TablesAfter, OtherSessions, is_agree, order_of, finish, known_then}
+use Rattle.osi_pair.proofs.StandingFinish.{TablesAfter, is_agree, order_of, finish, known_then}
 use Rattle.osi_pair.proofs.StandingHeard.{one_told, lasting}
 use Rattle.osi_pair.proofs.StandingMoved.{MovingLaws, PacketAt, PartArrives, opened_then, lives_then, open_at, seat_transport}
 use Rattle.osi_pair.proofs.StandingOrder.{session_moves, moves_order}
@@ -58,14 +58,13 @@ part_order laws s p b t packet h old alive pa v f =
     let e = part_end s p b t packet h pa v in
     let lines = part_lines s p b t packet h pa v in
     let d = did_at s p b packet h lines pa in
-    let same = same_row s p b packet h lines pa in
     let order = order_of s p b t old alive in
     let orderly : IsOrderly e.carrier = orderly_same (carrier_react pa.unit was.carrier) _ [] (orderly_unit pa.unit was.carrier order.sound.orderly) in
     let more : was.carrier.given ≤ e.carrier.given = subst (λ (c : Carrier). was.carrier.given ≤ c.given) f.acts (packet_rises packet was.carrier) in
     moves_order was e.carrier n v.kept.line (joining v.joined x) (part_comes v.place v.octets) (rests (joining v.joins.now x)) order alive orderly refl f.lasts more
     (lives_then s p b t e h n old alive d f.lasts orderly) v.kept.here v.kept.is v.joins.is
     (subst HasNumbersInWords (came_part laws s p b t packet h pa v) (came_numbers laws.hear.units (part_octets v.place v.octets)))
-    (λ needs. open_at n e.carrier f.lasts (opened_then s p b e h n pa.did.row d f.lasts same (ap after v.is)))
+    (λ needs. open_at n e.carrier f.lasts (opened_then s p b e h n pa.did.row d f.lasts (same_row s p b packet h lines pa) (ap after v.is)))
 
 -- the session then
 part_session : (s : Side) (p : TwoEnds) (b : Between) (t : Tables) (packet : List ℕ) (h : Held) (pa : PacketAt s p b packet h) → (v : PartArrives s p b t packet h pa) →
@@ -94,10 +93,6 @@ part_holds : (s : Side) (p : TwoEnds) (b : Between) (t : Tables) (packet : List 
 part_holds s p b t packet h pa v y at =
     subst (λ (z : Listener). IsJoinedAs z.state z.joined (Some v.now)) (sym (same_listener (joining v.joins.now v.seen.own.session) y (sym (part_session s p b t packet h pa v) ∙ at))) v.joins.stands
 
-part_others : (s : Side) (p : TwoEnds) (b : Between) (t : Tables) (packet : List ℕ) (h : Held) (pa : PacketAt s p b packet h) → (v : PartArrives s p b t packet h pa) →
-    OtherSessions s p (part_end s p b t packet h pa v) (reference_of pa.unit)
-part_others s p b t packet h pa v = grind (arith, put_other)
-
 part_unit : MovingLaws → (s : Side) (p : TwoEnds) (b : Between) (t : Tables) (packet : List ℕ) (h : Held) → Stands p b t → (end_at s p).end.carrier.ended ≡ None → (pa : PacketAt s p b packet h) →
     (v : PartArrives s p b t packet h pa) → (f : ActsAt s p packet pa.unit (reference_of pa.unit) pa.did.row) →
     Turned s p b t (part_end s p b t packet h pa v) h (did_at s p b packet h (part_lines s p b t packet h pa v) pa).now t (reference_of pa.unit) []
@@ -116,7 +111,7 @@ part_unit laws s p b t packet h old alive pa v f =
     let tr : l.own.transport ≡ transport_by (after d.row) =
     seat_transport s p b t n pa.did.row l old alive (stood_at s p b packet h pa) v.stands ∙ ap (λ (r : Row). transport_by (before r)) v.is ∙ ap (λ (r : Row). transport_by (after r)) (sym row) in
     finish s p b t t e h n [] l x l.own.channel l.peer.channel old alive d f.lasts f.local (same_role laws.packet s p b t e h n old alive d f.lasts) pa.first.given (laws.packet.behind _ _ d.now d.between)
-    (part_order laws s p b t packet h old alive pa v f) waits (part_others s p b t packet h pa v) (subst (λ (r : Row). HasSession n lines (after r) x) (sym row) (part_has s p b t packet h pa v octets)) v.stands
+    (part_order laws s p b t packet h old alive pa v f) waits (grind (arith, put_other)) (subst (λ (r : Row). HasSession n lines (after r) x) (sym row) (part_has s p b t packet h pa v octets)) v.stands
     (record {
       out = subst (λ (ms : List Message). Goes s (other s) n (with_holding s e h p) d.now (progress_of (place_at n (last_of (is_caller (other s)) d.now))) l.peer.session.state ms) (ap (λ (r : Row). sends_then r t.broken l.own.channel) row)
           (out_row s p b t e h n l old d v.stands steady alive);

@@ -1,10 +1,10 @@
 -- Pieces of the stream that are fed to an end one after the other, and what comes of them is shown.
-use Rattle.std.proofs.Common.{◌≡◌, ℕ, zero, suc, ◌+◌, ◌-◌, ◌≤◌, ◌⊎◌, inl, inr, Bool, true, false, not, ◌||◌, List, [], ◌∷◌, ◌++◌, length, take, drop, Option, Some, None, is_some, refl, sym, ap, subst, ◌∙◌, if◌then◌else◌, arith}
+use Rattle.std.proofs.Common.{◌≡◌, ℕ, zero, suc, ◌+◌, ◌-◌, ◌≤◌, ◌⊎◌, inl, inr, Bool, true, false, ◌||◌, List, [], ◌∷◌, ◌++◌, length, take, drop, Option, Some, None, is_some, refl, sym, ap, subst, ◌∙◌, if◌then◌else◌, arith}
 use Rattle.osi_carrier.specs.Packets as carriers
 use Rattle.osi_carrier.specs.State as states
 use Rattle.osi_stack.specs.Feeding.{Goes}
 use Rattle.osi_stack.proofs.Rooms.{found_how}
-use Rattle.osi_pair.proofs.Vocabulary.{drop-nil, append-nil, length-append, length-take, length-drop, Held, IsPacket, IsFaultOf, ArePackets, offset_of, TpktFault, is_spoilt, State, Rows, EndReason, NoMemory, Both, Between, AreBetween, side, Terms, Step, run, start, Shown, carried, TakesPackets, stops, uses_all, RunsDry, StopsBehind, Refuses, FindsNoMemory, attends, hears_all, hears_times, with_events, with_carrier, Starves, End, Holding, waits, all_quiet, concluded_carrier, starved_over, Crossing, CarriesPiece, crossing, TwoEnds, end_at, reachable, Entry, within, reach_after, other, terms_in, carriers_of, StandsAt, StandsAtArrivals, waiting_in, quieted, told_entries, ShowsFirst, Reach, Side, Left, Right, ends_end as ends, EndLine as Line}
+use Rattle.osi_pair.proofs.Vocabulary.{drop-nil, append-nil, length-append, length-take, length-drop, Held, IsPacket, IsFaultOf, ArePackets, offset_of, TpktFault, State, Rows, EndReason, NoMemory, Both, Between, AreBetween, side, Terms, Step, run, start, Shown, carried, TakesPackets, stops, uses_all, RunsDry, StopsBehind, Refuses, FindsNoMemory, attends, hears_times, with_events, with_carrier, Starves, End, Holding, waits, starved_over, Crossing, CarriesPiece, crossing, TwoEnds, end_at, reachable, Entry, within, reach_after, other, terms_in, carriers_of, StandsAt, StandsAtArrivals, waiting_in, quieted, told_entries, ShowsFirst, Reach, Side, Left, Right, ends_end as ends, EndLine as Line}
 use Rattle.osi_pair.proofs.StandingFinish.{terms_at, order_of}
 use Rattle.osi_pair.proofs.StandingHanded.{CarriedLaw, handed, HoldsMore, handed_at}
 use Rattle.osi_pair.proofs.StandingPacket.{quiet_of}
@@ -71,9 +71,8 @@ packed : PieceLaws → (f : Side) (p : TwoEnds) (steps : List Step) (k : ℕ) (o
     ArePackets units ((end_at (other f) p).held.octets ++ octets) rest.octets → StandsFew (other f) (handed f k (more_held f k p) p) steps mid rest
 packed laws f p steps k octets units mid rest at alive le is taken packets =
     let g = more_held f k p in
-    let q = handed f k g p in
     let there = handed_there f k g p in
-    packets_stand laws.packets laws.carried units (other f) q steps mid rest (handed_at laws.carried f p steps k g at le (λ lasts. refl))
+    packets_stand laws.packets laws.carried units (other f) (handed f k g p) steps mid rest (handed_at laws.carried f p steps k g at le (λ lasts. refl))
     (ap (λ (b : Holding). b.end.carrier.ended) there ∙ alive)
     (subst (λ (b : Holding). TakesPackets b.end units mid) (sym there) taken)
     (subst (λ (b : Holding). ArePackets units b.held.octets rest.octets) (sym there)
@@ -152,9 +151,6 @@ dry_stands laws f p steps most used new at alive le d =
 used_by : (e : End) (k n used : ℕ) (b : Bool) → uses_all e ≡ b → k ≤ n → used ≡ (if b then n else k) → k ≤ used
 used_by e k n used b f le is = grind arith
 
-used_most : (k n used : ℕ) (b : Bool) → k ≤ n → used ≡ (if b then n else k) → used ≤ n
-used_most k n used b le is = grind arith
-
 stopped_uses : (e : End) → stops e ≡ true → e.carrier.ended ≡ None → uses_all e ≡ false
 stopped_uses e stopped lasts = grind arith
 
@@ -165,7 +161,7 @@ behind_stands laws f p steps most used new at alive le d =
     let bound = d.bound in
     let k = d.within in
     let at_least : k ≤ used = used_by new.end k (length (piece_of f most p)) used (uses_all new.end) refl bound d.uses in
-    let at_most : used ≤ length (piece_of f most p) = used_most k (length (piece_of f most p)) used (uses_all new.end) bound d.uses in
+    let at_most : used ≤ length (piece_of f most p) = (grind (arith, d.uses)) in
     finished laws f p steps k (used - k) used new.end new.held new.held (more_held f k p) (omega arith) (omega arith)
     (λ lasts. (
       (let same : used ≡ k = d.uses ∙ ap (λ (b : Bool). if b then length (piece_of f most p) else k) (stopped_uses new.end d.stopped lasts) in omega arith),
@@ -318,8 +314,7 @@ piece_over laws f p steps most used new why at over le c =
     let quiet = quiet_of s p at.now (run (start (terms_in (terms_at p))) steps) at.stands in
     let fed = c.feeds in
     let none = fed.feeds.over (ap is_some over) in
-    let long = piece_long f most p le in
-    let all_used : used ≡ most = sym fed.uses ∙ none.0 ∙ long in
+    let all_used : used ≡ most = sym fed.uses ∙ none.0 ∙ (piece_long f most p le) in
     let still : waiting_in c.between.end.lines ≡ [] = ap (λ (b : Holding). waiting_in b.end.lines) none.1 ∙ quiet in
     let all = all_shown c.between c.first new.to c.shows (let zero_waits : length (waiting_in c.between.end.lines) ≡ 0 = ap length still in omega arith) in
     let to : new.to ≡ end_at s p =
@@ -327,7 +322,6 @@ piece_over laws f p steps most used new why at over le c =
     let says : new.journal ≡ p.journal =
     c.says ∙ ap (λ (o : Option EndReason). p.journal ++ told_entries s o new.to.end.carrier.ended c.first) over
     ∙ ap (λ (l : List (ℕ × Shown)). p.journal ++ told_entries s (Some why) new.to.end.carrier.ended l) (all.all ∙ still) ∙ append-nil p.journal in
-    let same = same_crossing new _ _ _ c.taken to says in
     subst (λ (q : TwoEnds). StandsAt q steps)
-    (sym (ap (λ (d : Crossing). crossed f d (reach_after f used p.reach)) same ∙ over_crossing f p used))
+    (sym (ap (λ (d : Crossing). crossed f d (reach_after f used p.reach)) (same_crossing new _ _ _ c.taken to says) ∙ over_crossing f p used))
     (handed_at laws.carried f p steps used (end_at s p).held at (omega arith) (λ lasts. over_not (end_at s p).end.carrier.ended (ap is_some over) lasts))

@@ -1,14 +1,13 @@
 -- Two ends that stand at a list of steps promise what the machine promises.
-use Rattle.std.proofs.Common.{◌≡◌, refl, sym, ◌∙◌, ap, subst, ℕ, zero, suc, ◌<◌, ◌≤◌, Bool, true, false, ◌&&◌, List, [], ◌∷◌, map, Option, Some, None, option_map, is_some, IsSome, inl, inr, ◌⊎◌, if◌then◌else◌, arith}
+use Rattle.std.proofs.Common.{◌≡◌, refl, sym, ◌∙◌, ap, subst, ℕ, ◌<◌, ◌≤◌, Bool, true, false, ◌&&◌, List, [], ◌∷◌, map, Option, Some, None, option_map, is_some, IsSome, inl, inr, ◌⊎◌, if◌then◌else◌, arith}
 use Rattle.osi_carrier.specs.declared.ends.EndReason.TheVariants as why
 use Rattle.osi_machine.specs.AsTables as tables
 use Rattle.osi_machine.specs.Floor.{State}
 use Rattle.osi_machine.specs.Machine as entries
 use Rattle.osi_machine.specs.Runs as runs
 use Rattle.osi_machine.specs.Views.{Told, told_of}
-use Rattle.osi_pair.specs.Entries.{calls, ends}
 use Rattle.osi_machine.proofs.Tokens.{none_held}
-use Rattle.osi_pair.proofs.Vocabulary.{cases_lt, or_parts, list_any, absent, beyond, Rows, value_at, Connection, EndReason, terms_of, IsTableRun, OfEachLine, HoldNoneTwice, AreAgreed, IsSeenInBoth, TellsNoFault, LosesAsItEnds, AreOffered, offers_in, Token, data_token, minor, major, release, has, no_token, Ending, IsLegal, Step, connection_at, is_loss, loses, Tables, run, start, Listener, Standing, Shown, PeerAbort, BadUnit, held_by, numbers_of, Holding, session_at, session_in, TwoEnds, end_at, Entry, asks, shows, with_word, journal_in, IsLegalJournal, AllWereAskedFor, OfEachConnection, HaveOneHolder, AgreeUnlessDuplex, IsShownAsAsked, IsSeenThere, confirmed_at, ConfirmedIsSeen, is_fault, HasNoFault, EndsForFewReasons, ending_of, LoseAsTheyEnd, side_in, entry_in, ending_in, terms_in, HasLine, IsInOrder, StandsAt, joining, Side, Left, Right}
+use Rattle.osi_pair.proofs.Vocabulary.{or_parts, list_any, absent, beyond, Rows, value_at, Connection, EndReason, terms_of, IsTableRun, OfEachLine, HoldNoneTwice, AreAgreed, IsSeenInBoth, TellsNoFault, LosesAsItEnds, AreOffered, offers_in, Token, has, Ending, IsLegal, Step, connection_at, is_loss, loses, Tables, run, start, Listener, Standing, held_by, numbers_of, Holding, session_at, session_in, TwoEnds, end_at, Entry, with_word, journal_in, IsLegalJournal, AllWereAskedFor, OfEachConnection, HaveOneHolder, AgreeUnlessDuplex, IsShownAsAsked, IsSeenThere, confirmed_at, ConfirmedIsSeen, is_fault, HasNoFault, EndsForFewReasons, ending_of, LoseAsTheyEnd, side_in, entry_in, ending_in, terms_in, HasLine, IsInOrder, StandsAt, joining, Side, Left, Right}
 
 -- ---- plain facts
 
@@ -17,9 +16,6 @@ first_same x y xs ys e = cc
 
 rest_same : {A : Type 0} (x y : A) (xs ys : List A) → x ∷ xs ≡ y ∷ ys → xs ≡ ys
 rest_same x y xs ys e = cc
-
-some_same : {A : Type 0} (x y : A) → Some x ≡ Some y → x ≡ y
-some_same x y e = cc
 
 -- ---- the journal
 
@@ -92,9 +88,8 @@ journal_fine words [] e h = refl
 journal_fine [] (x ∷ journal) e h = absurd (cc)
 journal_fine (word ∷ words) (x ∷ journal) e h =
     let parts = or_parts (runs.is_fault word) (list_any runs.is_fault words) h in
-    let first = entry_fine word x (first_same (Some word) (entry_in x) (map Some words) (map entry_in journal) e) parts.0 in
     let rest = journal_fine words journal (rest_same (Some word) (entry_in x) (map Some words) (map entry_in journal) e) parts.1 in
-    rw (first, rest) refl
+    rw ((entry_fine word x (first_same (Some word) (entry_in x) (map Some words) (map entry_in journal) e) parts.0), rest) refl
 
 pub no_fault : ((t : Tables) → IsTableRun t → TellsNoFault t) → (p : TwoEnds) (steps : List Step) → StandsAt p steps → HasNoFault p
 no_fault all p steps h = journal_fine (tables_at p steps).journal p.journal h.stands.journal (all (tables_at p steps) (is_run p steps h))
@@ -183,12 +178,9 @@ confirmed_is_seen all p steps h = of_each IsSeenInBoth (ConfirmedIsSeen p) p ste
 
 -- ---- the end of an end
 
-has_word : (t : Option Ending) (o : Option EndReason) (why : EndReason) → option_map Some t ≡ option_map ending_in o → o ≡ Some why → is_some (ending_in why) ≡ true
-has_word t o why h is = grind arith
-
 pub few_reasons : (p : TwoEnds) (steps : List Step) → StandsAt p steps → EndsForFewReasons p
-few_reasons p steps h Left why is = has_word (tables_at p steps).left_end p.left.end.carrier.ended why h.stands.left_end is
-few_reasons p steps h Right why is = has_word (tables_at p steps).right_end p.right.end.carrier.ended why h.stands.right_end is
+few_reasons p steps h Left why is = grind (arith, h.stands.left_end)
+few_reasons p steps h Right why is = grind (arith, h.stands.right_end)
 
 same_end : (t : Option Ending) (o : Option EndReason) → option_map Some t ≡ option_map ending_in o → t ≡ ending_of o
 same_end t o h = grind arith

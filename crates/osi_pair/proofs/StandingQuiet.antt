@@ -1,7 +1,7 @@
 -- The lines of an end, when all that waited was shown.
-use Rattle.std.proofs.Common.{◌≡◌, ℕ, ◌==◌, Bool, true, false, if◌then◌else◌, List, [], ◌∷◌, ◌++◌, map, Option, Some, None, option_map, refl, sym, ap, ◌∙◌, arith}
+use Rattle.std.proofs.Common.{◌≡◌, ℕ, ◌==◌, Bool, true, false, if◌then◌else◌, List, [], ◌∷◌, ◌++◌, map, Some, refl, sym, ap, ◌∙◌, arith}
 use Rattle.osi_session.specs.Listening.{Move}
-use Rattle.osi_pair.proofs.Vocabulary.{eqb-true, append-nil, RiseFrom, AreUpTo, Rows, value_at, Shown, AllCameAbout, AreApart, kept_at, line_after, End, session_in, IsInOrder, waiting_in, quieted, put_row as put, EndLine as Line, quieted_at, quieted_apart, quieted_up}
+use Rattle.osi_pair.proofs.Vocabulary.{eqb-true, append-nil, RiseFrom, Rows, value_at, Shown, AllCameAbout, line_after, End, IsInOrder, waiting_in, quieted, put_row as put, EndLine as Line, quieted_at, quieted_apart, quieted_up}
 
 pub quiet_waits : (lines : Rows Line) → waiting_in (quieted lines) ≡ []
 quiet_waits [] = refl

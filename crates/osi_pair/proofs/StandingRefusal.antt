@@ -3,7 +3,7 @@ use Rattle.std.proofs.Common.{◌≡◌, refl, sym, ◌∙◌, ap, subst, ℕ, z
 use Rattle.osi_carrier.specs.declared.faults.OpenError.TheVariants as opening
 use Rattle.osi_machine.specs.Machine as machine
 use Rattle.osi_machine.specs.Worlds as worlds
-use Rattle.osi_pair.proofs.Vocabulary.{eqb-true, nat_tests, length-map, list_any, slice_get, Class, Zero, Two, may_connect, class_error, room_error, or_else, was_given, RiseFrom, AreUpTo, Rows, value_at, Connection, asked, linked, closing, State as Carrier, EndReason, OpenError, absent, Both, Between, AreBetween, Terms, terms_of, Ending, Refusal, has_ended, negotiating, one_connection, too_many, references_used_up, not_selected, too_long, connection_at, is_waiting, is_live, is_known, is_class_0, live_count, is_long_selector, refusal_by, Line, Tables, refusal, transport_of, Transport, unit_bits, is_profile, calling_octets, called_octets, is_long_address, is_long, terms_error, after_open, connect_error, ConnectError, NotSelected, TooLong, asked_of, TwoEnds, answer_with, transport_in, class_in, ending_in, offer_in, answer_in, carriers_of, Stands, ConnectCall as Connect}
+use Rattle.osi_pair.proofs.Vocabulary.{eqb-true, nat_tests, length-map, list_any, slice_get, Class, Zero, Two, or_else, was_given, RiseFrom, AreUpTo, Rows, value_at, Connection, asked, State as Carrier, EndReason, OpenError, absent, Both, Between, AreBetween, Terms, terms_of, Ending, Refusal, has_ended, negotiating, one_connection, too_many, references_used_up, not_selected, too_long, is_waiting, is_live, is_known, is_class_0, live_count, Line, Tables, refusal, transport_of, Transport, unit_bits, is_profile, is_long, after_open, connect_error, ConnectError, NotSelected, TooLong, asked_of, TwoEnds, answer_with, transport_in, class_in, ending_in, offer_in, answer_in, carriers_of, Stands, ConnectCall as Connect}
 use Rattle.osi_pair.proofs.StandingActs.{place_given}
 
 -- ---- the live connections are those of the lines
@@ -23,8 +23,7 @@ transports_are : (k : ℕ) (lines : List Line) (live : Rows Connection) → AreT
 unfolding transports AreTransports
 transports_are k [] live h = refl
 transports_are k (l ∷ lines) live h =
-    let first : l.own.transport ≡ transport_in (was_given (value_at (k + 1) live)) = h 0 l refl in
-    ap (λ (t : Transport). t ∷ map transport_of lines) first
+    ap (λ (t : Transport). t ∷ map transport_of lines) (h 0 l refl)
     ∙ ap (λ (ts : List Transport). transport_in (was_given (value_at (k + 1) live)) ∷ ts)
     (transports_are (k + 1) lines live (λ i m at. h (suc i) m at ∙ ap (λ (n : ℕ). transport_in (was_given (value_at n live))) (omega arith)))
 
@@ -110,18 +109,7 @@ error_by_tests class over waits many up profile long =
     after_open (if over then Some opening.Ended else or_else (by_class class waits) (if many then Some opening.TooMany else (if up then Some opening.ReferencesUsedUp else None)))
     (if not profile then Some NotSelected else (if long then Some TooLong else None))
 
-by_zero : (g : ℕ) (over waits other many up profile long : Bool) → answer_in (answer_with g (error_by_tests (Some Zero) over waits many up profile long)) ≡ Some (by_tests over true other true many up profile long)
-by_zero g over waits other many up profile long = grind arith
-
-by_two : (g : ℕ) (over waits other many up profile long : Bool) → answer_in (answer_with g (error_by_tests (Some Two) over waits many up profile long)) ≡ Some (by_tests over true other false many up profile long)
-by_two g over waits other many up profile long = grind arith
-
 -- ---- what each makes of them
-
-error_is : (c : Connect) (s : Carrier) (class : Option Class) → s.is_caller ≡ true → s.class ≡ class →
-    after_open (may_connect s) (terms_error c)
-    ≡ error_by_tests class (is_some s.ended) (nat_lt 0 (length s.live)) (nat_le 64 (length s.live)) (nat_le 65535 s.given) (is_profile (unit_bits c.requirements)) (is_long c)
-error_is c s class caller is = grind arith
 
 refusal_is : (t : Tables) (c : Connect) (known : Option worlds.Class) (over waits many up : Bool) → t.known ≡ known → is_some t.left_end ≡ over →
     list_any is_waiting (map transport_of t.lines) ≡ waits → nat_le 64 (live_count (map transport_of t.lines)) ≡ many → nat_le 65535 (length (map transport_of t.lines)) ≡ up →
@@ -171,7 +159,7 @@ alive_by g c p b t class waits s is lasts any same count =
     let many : nat_le 64 (live_count (map transport_of t.lines)) ≡ nat_le 64 (length e.live) = ap (nat_le 64) count in
     let up : nat_le 65535 (length (map transport_of t.lines)) ≡ nat_le 65535 e.given = ap (nat_le 65535) (length-map t.lines transport_of ∙ s.given) in
     let known : t.known ≡ option_map class_in class = s.known ∙ ap (option_map class_in) is in
-    ap (λ (o : Option ConnectError). answer_in (answer_with g o)) (error_is c e class s.caller is)
+    ap (λ (o : Option ConnectError). answer_in (answer_with g o)) (grind (arith, s.caller))
     ∙ tests g class (is_some e.ended) (nat_lt 0 (length e.live)) waits (nat_le 64 (length e.live)) (nat_le 65535 e.given) (is_profile (unit_bits c.requirements)) (is_long c) same
     ∙ sym (ap Some (refusal_is t c (option_map class_in class) (is_some e.ended) waits (nat_le 64 (length e.live)) (nat_le 65535 e.given) known over any many up))
 
@@ -190,8 +178,7 @@ refusal_same awaits g c p b t None s is =
     let lives : e ≡ b.caller = s.between.lives true is in
     let all : map transport_of t.lines ≡ transports 0 (length t.lines) e.live = transports_are 0 t.lines e.live (lines_are p b t s) in
     let up : AreUpTo (0 + length t.lines) e.live = subst (λ (n : ℕ). AreUpTo n e.live) (let x = s.given in omega arith) o.up_to in
-    let count : live_count (map transport_of t.lines) ≡ length e.live = ap live_count all ∙ count_live 0 (length t.lines) e.live o.rise up in
     alive_by g c p b t e.class (list_any is_waiting (map transport_of t.lines)) s refl is refl
     (λ none. ap (list_any is_waiting) all ∙ any_waits 0 (length t.lines) e.live o.rise up
     (λ n x at. awaits (terms_of p.left.end.carrier.local p.right.end.carrier.local) (carriers_of p) b n x s.between (ap (λ (y : Carrier). y.class) (sym lives) ∙ none) (ap (λ (y : Carrier). value_at n y.live) (sym lives) ∙ at)))
-    count
+    (ap live_count all ∙ count_live 0 (length t.lines) e.live o.rise up)

@@ -3,7 +3,7 @@ use Rattle.std.proofs.Common.{◌≡◌, ◌<◌, ◌≤◌, ℕ, ◌&&◌, Bool
 use Rattle.osi_message.specs.Written.{unit_of}
 use Rattle.osi_session.specs.Respond.{over}
 use Rattle.osi_stack.proofs.Shortness.{SpduLaws, sent_short}
-use Rattle.osi_pair.proofs.Vocabulary.{IsOctets, Offer, offer_sent, IsInOctets, Meaning, CN, RF, AB, AA, Said, said_of, IsSendable, written, Input, opened, refused, broken, taken, Standing, begun, denied, rests, react, is_wait_transport, is_aborting, is_ended, Outcome, in_aborting, in_ended, reply_for, respond, respond_unit, Verdict, dropped, faulty, fine, verdict, enacted, functional_units, has_data, are_sizes, SessionState as State}
+use Rattle.osi_pair.proofs.Vocabulary.{IsOctets, Offer, offer_sent, IsInOctets, Meaning, CN, RF, AB, AA, Said, said_of, IsSendable, written, Input, opened, refused, broken, taken, Standing, denied, rests, react, is_wait_transport, is_aborting, is_ended, Outcome, in_aborting, in_ended, reply_for, respond, respond_unit, Verdict, dropped, faulty, fine, verdict, enacted, functional_units, has_data, are_sizes, SessionState as State}
 
 -- what is sent can be handed to the carrier
 pub record CanGo (x : Meaning) : Type 0 where
@@ -44,15 +44,12 @@ accept_answer = record { none = refl; octets = tt }
 
 -- ---- a unit
 
-aborting_none : (s : State) (u : Meaning) → (in_aborting s u).reply ≡ None
-aborting_none s u = grind arith
-
 ended_answer : (s : State) (u m : Meaning) → (in_ended s u).reply ≡ Some m → IsAnswer m
 ended_answer s (AB bits octets) m e = same_answer AA m accept_answer e
 ended_answer s u m e = absurd cc
 
 over_answer : (b : Bool) (s : State) (u m : Meaning) → (if b then in_aborting s u else in_ended s u).reply ≡ Some m → IsAnswer m
-over_answer true s u m e = let no : None ≡ Some m = sym (aborting_none s u) ∙ e in absurd cc
+over_answer true s u m e = let no : None ≡ Some m = sym (grind arith) ∙ e in absurd cc
 over_answer false s u m e = ended_answer s u m e
 
 connect_answer : (version some : Bool) (m : Meaning) → (if not version then Some (RF 132 []) else (if not some then Some (RF 134 []) else None)) ≡ Some m → IsAnswer m
@@ -86,12 +83,6 @@ pub record GoesBy (x : Standing) (input : Input) : Type 0 where
 pub goes_taken : ReplyLaws → (x : Standing) (u : Meaning) → IfSome x.waiting IsInOctets → GoesBy x (taken (said_of u))
 unfolding react
 goes_taken laws x u waits = record { sends = λ m e. taken_goes laws x.state u m e; octets = waits }
-
-opened_by : (b : Bool) (x : Standing) → ((m : Meaning) → x.waiting ≡ Some m → CanGo m) → (m : Meaning) → (if b then begun x else rests x).reply ≡ Some m → CanGo m
-opened_by b x goes m e = grind arith
-
-opened_octets : (b : Bool) (x : Standing) → IfSome x.waiting IsInOctets → IfSome (if b then begun x else rests x).next.waiting IsInOctets
-opened_octets b x h = grind arith
 
 pub goes_opened : (x : Standing) → ((m : Meaning) → x.waiting ≡ Some m → CanGo m) → IfSome x.waiting IsInOctets → GoesBy x opened
 unfolding react

@@ -1,11 +1,11 @@
 -- Two ends stand as they should behind a unit with which no session acts.
-use Rattle.std.proofs.Common.{◌≡◌, ℕ, ◌<◌, ◌≤◌, Bool, true, false, List, [], ◌∷◌, ◌++◌, Option, Some, None, is_some, option_map, refl, sym, ap, subst, ◌∙◌, arith, inr}
+use Rattle.std.proofs.Common.{◌≡◌, ℕ, ◌<◌, ◌≤◌, Bool, true, false, List, [], ◌∷◌, ◌++◌, Option, Some, None, is_some, refl, sym, ap, subst, ◌∙◌, arith, inr}
 use Rattle.osi_between.specs.Messages as carrier
-use Rattle.osi_pair.proofs.Vocabulary.{append-nil, Held, Value, Place, place_at, connection_in, Rows, State, reference_of, Between, last_of, under_way, put_in, is_cut, progress_of, AreLike, kind_of, Progress, leaves_use, connection_at, delivers, learns, Line as TableLine, Tables, seen_from, end_of, step, unseen, Message, Standing, Shown, told_all, kept_at, End, TwoEnds, end_at, other, side_in, is_caller, carriers_of, IsInOrder, Stands, Goes, HasJoined, joining, is_parting, message_in, waiting_in, Reach, Side, Left, Right, Listener, discards, is_ended, is_over, implied, gone_is, StaysCalm, over_calm, EndLine as Line, SessionState}
+use Rattle.osi_pair.proofs.Vocabulary.{append-nil, Held, Value, Place, place_at, connection_in, Rows, State, reference_of, Between, last_of, under_way, put_in, is_cut, progress_of, AreLike, kind_of, Progress, leaves_use, connection_at, delivers, learns, Line as TableLine, Tables, seen_from, end_of, step, unseen, Message, Standing, Shown, told_all, kept_at, End, TwoEnds, end_at, other, side_in, is_caller, carriers_of, IsInOrder, Stands, Goes, HasJoined, is_parting, message_in, waiting_in, Side, Left, Right, Listener, discards, is_ended, is_over, implied, gone_is, StaysCalm, over_calm, EndLine as Line, SessionState}
 use Rattle.osi_pair.proofs.StandingArrived.{PacketActs}
 use Rattle.osi_pair.proofs.StandingFinish.{terms_at, DidAt, TablesAfter, OtherSessions, is_agree, line_then, finish, known_then, was_at}
 use Rattle.osi_pair.proofs.StandingRests.{step_opens, tables_delivered, tables_rest, is_awaited, learns_row, turn_rests, answer_for, unless_broken, put_unless, answers_same, rests, sends_then, spare_by}
-use Rattle.osi_pair.proofs.StandingRows.{Row, quiet, still, begins, refuses, agrees, denies, tells, leaves, ignores, ends, before, after, arrived_in, put_for}
+use Rattle.osi_pair.proofs.StandingRows.{Row, quiet, still, begins, refuses, leaves, ignores, ends, before, after, arrived_in, put_for}
 use Rattle.osi_pair.proofs.StandingSeats.{transport_by, transport_at, HasSession, session_of_seat}
 use Rattle.osi_pair.proofs.StandingTurned.{IsSeen, seen, seen_twice, with_holding, Turned, GoesTo, out_there, back_here}
 use Rattle.osi_pair.proofs.StandingWays.{shuts, out_keeps, back_comes, back_waits, Comes, Alone, alone_of, is_tsdu, BehindFirst, behind_first}
@@ -160,8 +160,7 @@ other_lines Right p b packet h n lines more pa g begun x ms way = way
 pub over_holds : (s : Side) (p : TwoEnds) (n : ℕ) (g : Progress) (x : Standing) (begun : Option (List ℕ)) → IsInOrder (end_at s p).end → HasSession n (end_at s p).end.lines g x → is_parting (transport_by g) ≡ true →
     HasJoined n (end_at s p) begun
 over_holds s p n g x begun order h parts y at =
-    let same : y ≡ joining h.joined x = h.kept y at in
-    let over : is_ended y.state.phase ≡ true = ap (λ (z : Listener). is_ended z.state.phase) same ∙ h.over_now parts in
+    let over : is_ended y.state.phase ≡ true = ap (λ (z : Listener). is_ended z.state.phase) (h.kept y at) ∙ h.over_now parts in
     let off : discards y.state.phase ≡ true = discards_over y.state.phase (implied is_ended is_over refl y.state.phase over) in
     inr (gone_is y.state.phase y.joined off (kept_of n y (end_at s p).end order at).phase, off)
 

@@ -1,16 +1,16 @@
 -- A unit with which no session acts: one that brings no message, one that an end which is closing drops, and
 -- a CR that is refused.
-use Rattle.std.proofs.Common.{◌≡◌, ℕ, Bool, true, false, if◌then◌else◌, List, [], ◌∷◌, ◌++◌, length, map, Option, Some, None, is_some, refl, sym, ap, subst, ◌∙◌, ◌⊎◌, inl, inr, arith}
+use Rattle.std.proofs.Common.{◌≡◌, ℕ, Bool, true, false, if◌then◌else◌, List, [], ◌∷◌, ◌++◌, length, map, Option, Some, None, refl, sym, ◌∙◌, ◌⊎◌, arith}
 use Rattle.osi_between.specs.Messages as carrier
 use Rattle.osi_machine.specs.Core as machine
 use Rattle.osi_machine.specs.Worlds as worlds
-use Rattle.osi_pair.proofs.Vocabulary.{append-nil, kind_of, AreLike, Terms, by_two, by_zero, refusing, Ending, delivers, shown_at, connection_at, with_connection, learns, Seat, Line, Turn, Tables, seen_from, side_of, unseen, without_first, message_taken, taken_in, delivered_to, after_turn, closes_by, stays, end_of, step, Message, Transport, unit, ask, agree, deny, bye, over, put, with_same, with_other, with_count, Standing, side_in, message_in, word_in, terms_in, Word, Side, noted_in as noted}
+use Rattle.osi_pair.proofs.Vocabulary.{append-nil, kind_of, Terms, delivers, shown_at, connection_at, with_connection, learns, Seat, Line, Turn, Tables, seen_from, unseen, without_first, message_taken, after_turn, stays, end_of, step, Message, Transport, agree, deny, over, put, with_same, with_other, with_count, Standing, side_in, message_in, word_in, terms_in, Word, Side, noted_in as noted}
 use Rattle.osi_pair.proofs.StandingFinish.{TablesAfter, line_then}
-use Rattle.osi_pair.proofs.StandingRows.{Row, quiet, still, begins, refuses, agrees, denies, tells, leaves, ignores, ends, before, after, arrived_in, put_for, is_row}
+use Rattle.osi_pair.proofs.StandingRows.{Row, begins, refuses, agrees, denies, leaves, ignores, ends, before, arrived_in, put_for, is_row}
 use Rattle.osi_pair.proofs.StandingSeats.{transport_by}
-use Rattle.osi_pair.proofs.StandingTurned.{seen_twice, LinesAfter}
+use Rattle.osi_pair.proofs.StandingTurned.{LinesAfter}
 use Rattle.osi_pair.proofs.StandingWays.{Sent, IsLeave}
-use Rattle.osi_pair.proofs.WordLaws.{MayLeave, AreWords, no_words}
+use Rattle.osi_pair.proofs.WordLaws.{MayLeave, AreWords}
 
 -- ---- a delivery of the tables
 
@@ -107,17 +107,8 @@ sends_then begins broken channel = put broken (agree ∷ []) channel
 sends_then (refuses reason) broken channel = put broken (deny reason ∷ []) channel
 sends_then row broken channel = channel
 
-abbrev pub seat_then : Row → Bool → Standing → List Message → Seat
-seat_then row broken x channel = record { transport = transport_by (after row); session = x; channel = sends_then row broken channel }
-
 abbrev pub seat_now : Transport → Standing → List Message → Seat
 seat_now tr x channel = record { transport = tr; session = x; channel = channel }
-
-turn_by : (agreed : Terms) (broken : Bool) (keep : ℕ) (row : Row) (x : Standing) (channel : List Message) (peer : Seat) (m : Message) (got : carrier.Message) → is_row agreed row → rests row ≡ true →
-    arrived_in row ≡ got ∷ [] → kind_of (message_in m) ≡ kind_of got →
-    message_taken broken (terms_in agreed) keep (transport_by (before row)) (record { own = seat_now (transport_by (before row)) x channel; peer = peer }) m ≡
-    unseen (record { own = seat_then row broken x channel; peer = peer })
-turn_by agreed broken keep row x channel peer m got is r e a = grind arith
 
 pub turn_rests : (agreed : Terms) (terms : worlds.Terms) (broken : Bool) (keep : ℕ) (row : Row) (l : Line) (m : Message) (xs : List Message) (got : carrier.Message) → terms ≡ terms_in agreed →
     l.own.transport ≡ transport_by (before row) → is_row agreed row → rests row ≡ true → arrived_in row ≡ got ∷ [] → kind_of (message_in m) ≡ kind_of got →

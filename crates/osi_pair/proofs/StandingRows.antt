@@ -1,9 +1,9 @@
 -- What may come to an end, row by row: where the connection stands there, the message with which the unit
 -- arrives, if any, and what is put in answer.
-use Rattle.std.proofs.Common.{◌≡◌, ℕ, zero, suc, true, false, List, [], ◌∷◌, Some, None, refl, arith}
+use Rattle.std.proofs.Common.{◌≡◌, ℕ, zero, suc, true, false, List, [], ◌∷◌, Some, refl, arith}
 use Rattle.osi_between.specs.Messages.{Message, ask, agree, deny, bye, over}
 use Rattle.osi_between.specs.Progress as progress
-use Rattle.osi_pair.proofs.Vocabulary.{flat_map, AllByRecursion, Value, request, confirm, disconnect, disconnected, data0, data2, acknowledge, error, Place, never, was_given, connection_in, Happening, tsdu, closed, asked, linked, closing, told_of, answers_in, progress_of, message, messages_after, begun_at, Progress, not_yet, awaiting, in_use, shutting, behind_arrivals, behind_puts, may_arrive, Terms, by_two, by_zero, refusing, accepts_in, Link as Standing, told_opened as opened, told_refused as refused}
+use Rattle.osi_pair.proofs.Vocabulary.{flat_map, AllByRecursion, Value, request, confirm, disconnect, disconnected, data0, data2, acknowledge, Place, never, was_given, connection_in, Happening, tsdu, closed, asked, linked, closing, told_of, answers_in, progress_of, message, messages_after, begun_at, Progress, not_yet, awaiting, in_use, shutting, behind_arrivals, behind_puts, may_arrive, Terms, by_two, by_zero, refusing, accepts_in, Link as Standing, told_opened as opened, told_refused as refused}
 use Rattle.osi_pair.proofs.StandingArriving.{comes}
 
 pub data Row : Type 0 where

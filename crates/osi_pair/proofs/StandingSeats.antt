@@ -2,7 +2,7 @@
 use Rattle.std.proofs.Common.{◌≡◌, ℕ, ◌<◌, Bool, true, false, nat_lt, if◌then◌else◌, List, Option, Some, None, is_some, IfSome, refl, sym, ap, ◌∙◌, arith}
 use Rattle.osi_between.specs.Progress as progress
 use Rattle.osi_machine.specs.Worlds as worlds
-use Rattle.osi_pair.proofs.Vocabulary.{nat_tests, Held, Place, never, was_given, place_at, IsOrderly, Rows, value_at, Connection, asked, linked, closing, State, beyond, progress_of, Progress, not_yet, awaiting, in_use, shutting, Seat, awaits, Message, Transport, IsInOctets, Listener, Standing, is_ended, kept_at, End, Holding, session_in, session_at, transport_in, is_parting, IsSeated, joining, EndLine as Line}
+use Rattle.osi_pair.proofs.Vocabulary.{nat_tests, Held, Place, never, was_given, place_at, IsOrderly, Rows, value_at, linked, closing, State, beyond, progress_of, Progress, not_yet, awaiting, in_use, shutting, Seat, awaits, Message, Transport, IsInOctets, Listener, Standing, is_ended, kept_at, End, Holding, session_in, session_at, transport_in, is_parting, IsSeated, joining, EndLine as Line}
 
 -- ---- by how far the connection is
 
@@ -23,9 +23,6 @@ lives_in progress.gone = false
 pub transport_at : (p : Place) (g : Progress) → progress_of p ≡ g → transport_in p ≡ transport_by g
 transport_at p g e = grind arith
 
-lives_value : (o : Option Connection) → lives_in (progress_of (was_given o)) ≡ is_some o
-lives_value o = grind arith
-
 pub place_by : (n : ℕ) (s : State) (b : Bool) → nat_lt s.given n ≡ b → place_at n s ≡ (if b then never else was_given (value_at n s.live))
 place_by n s b e = ap (λ (c : Bool). if◌then◌else◌ {A = Place} c never (was_given (value_at n s.live))) e
 
@@ -35,7 +32,7 @@ live_there n s h = grind arith
 
 lives_by : (n : ℕ) (s : State) (b : Bool) → nat_lt s.given n ≡ b → IsOrderly s → is_some (value_at n s.live) ≡ true → lives_in (progress_of (place_at n s)) ≡ true
 lives_by n s true e o h = grind (arith, nat_tests, beyond, is_some)
-lives_by n s false e o h = ap (λ p. lives_in (progress_of p)) (place_by n s false e) ∙ lives_value (value_at n s.live) ∙ h
+lives_by n s false e o h = ap (λ p. lives_in (progress_of p)) (place_by n s false e) ∙ grind arith ∙ h
 
 pub lives_there : (n : ℕ) (s : State) → IsOrderly s → is_some (value_at n s.live) ≡ true → lives_in (progress_of (place_at n s)) ≡ true
 lives_there n s o h = lives_by n s (nat_lt s.given n) refl o h

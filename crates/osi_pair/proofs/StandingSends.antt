@@ -1,12 +1,11 @@
 -- An end sends a unit on an open connection: the tables put it.
-use Rattle.std.proofs.Common.{◌≡◌, ℕ, Bool, true, false, List, [], ◌∷◌, Some, None, is_some, refl, sym, ap, subst, ◌∙◌, arith}
+use Rattle.std.proofs.Common.{◌≡◌, ℕ, false, List, [], ◌∷◌, Some, None, is_some, refl, sym, ap, subst, ◌∙◌, arith}
 use Rattle.osi_between.specs.Messages as carrier
 use Rattle.osi_machine.specs.Worlds as worlds
-use Rattle.osi_pair.proofs.Vocabulary.{IsOctets, IsShortTsdu, sent, place_at, value_at, State, linked, Between, last_of, under_way, put_in, is_cut, progress_of, Progress, in_use, leaves_use, connection_at, Line, Tables, seen_from, stays, puts, Message, Transport, unit, put, Meaning, written, with_carrier, Holding, TwoEnds, end_at, other, side_in, is_caller, carriers_of, IsInOrder, Stands, HasJoined, Side, Left, Right, given_live, Link}
-use Rattle.osi_pair.proofs.StandingActed.{ActsOn, CarrierActs, end_with, pair_with, ways_at, acted_line, acted_stands, seen_at, session_in_use, stood_in_use, stands_now, OutNow, acted_by}
+use Rattle.osi_pair.proofs.Vocabulary.{IsOctets, IsShortTsdu, sent, place_at, value_at, State, linked, Between, last_of, under_way, put_in, is_cut, progress_of, Progress, in_use, leaves_use, connection_at, Line, Tables, seen_from, stays, puts, Message, unit, put, Meaning, written, with_carrier, Holding, TwoEnds, end_at, other, side_in, is_caller, carriers_of, IsInOrder, Stands, HasJoined, Side, given_live, Link}
+use Rattle.osi_pair.proofs.StandingActed.{ActsOn, CarrierActs, end_with, pair_with, ways_at, acted_stands, seen_at, session_in_use, stood_in_use, stands_now, OutNow, acted_by}
 use Rattle.osi_pair.proofs.StandingActs.{StandsOn}
 use Rattle.osi_pair.proofs.StandingArrived.{CarrierLaws}
-use Rattle.osi_pair.proofs.StandingCall.{open_is, sent_is}
 use Rattle.osi_pair.proofs.StandingFinish.{terms_at, order_of}
 use Rattle.osi_pair.proofs.StandingRests.{unless_broken, put_unless, unless_same, spare_by}
 use Rattle.osi_pair.proofs.StandingResting.{broken_is}
@@ -59,9 +58,6 @@ out_sends s p b t n m l old alive a order i =
 
 -- ---- two ends
 
-line_sends : (broken : Bool) (m : Meaning) (l : Line) → l.own.transport ≡ worlds.linked → acted_line in_use (put broken (unit m ∷ []) l.own.channel) l ≡ puts broken (unit m ∷ []) l
-line_sends broken m l e = grind arith
-
 -- an end sends a unit, and is in order then
 pub sends_stand : CarrierLaws → (s : Side) (p : TwoEnds) (b : Between) (t : Tables) (n peer : ℕ) (link : Link) (m : Meaning) (l : Line) → Stands p b t → (end_at s p).end.carrier.ended ≡ None →
     value_at n (end_at s p).end.carrier.live ≡ Some (linked peer link) → IsShortTsdu (written m) → IsOctets (written m) → connection_at n t.lines ≡ Some (seen_from (side_in s) l) →
@@ -74,7 +70,7 @@ sends_stand laws s p b t n peer link m l old alive at short octets found order =
     let x = session_in_use s p b t n (linked peer link) l old alive at refl i in
     let open_now : l.own.transport ≡ worlds.linked =
     i.here.transport ∙ transport_at (place_at n (end_at s p).end.carrier) in_use (ap progress_of (given_live n (end_at s p).end.carrier (linked peer link) (order_of s p b t old alive).sound.orderly at)) in
-    subst (λ (y : Line). StandsOn (pair_with s c p) (stays t (side_in s) n y)) (line_sends t.broken m l open_now)
+    subst (λ (y : Line). StandsOn (pair_with s c p) (stays t (side_in s) n y)) (grind arith)
     (acted_stands s p b t n in_use c (carrier.message (written m) ∷ []) (put t.broken (unit m ∷ []) l.own.channel) l old alive a order found x (out_sends s p b t n m l old alive a order i))
 
 -- the end of the side is this

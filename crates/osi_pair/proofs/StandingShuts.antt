@@ -4,7 +4,7 @@ use Rattle.std.proofs.Common.{◌≡◌, ℕ, ◌≤◌, Bool, true, false, List
 use Rattle.osi_carrier.specs.State as carriers
 use Rattle.osi_machine.specs.Worlds as worlds
 use Rattle.osi_pair.specs.Entries.{ends}
-use Rattle.osi_pair.proofs.Vocabulary.{append-nil, append_assoc, map-append, Held, closed_with, Place, never, was_given, RiseFrom, AreUpTo, Rows, value_at, State, linked, Closed, Both, Between, AreBetween, last_of, Terms, by_zero, given_in, closed_here, delivers, shown_at, Tables, closes_by, stays, after_end, step, Message, Meaning, tsdus_sent, Input, react, Shown, after_packet, concludes, all_lost, shown_at_loss, answers, End, answers_by, TwoEnds, end_at, Entry, side_in, is_caller, carriers_of, Stands, waiting_in, quieted, shown_entries, Side, Left, Right, Link, noted_in, EndLine as Line}
+use Rattle.osi_pair.proofs.Vocabulary.{append-nil, append_assoc, map-append, Held, closed_with, RiseFrom, AreUpTo, Rows, value_at, State, linked, Closed, Between, AreBetween, Terms, by_zero, closed_here, delivers, shown_at, Tables, closes_by, stays, after_end, step, Message, Meaning, tsdus_sent, Input, react, Shown, after_packet, concludes, all_lost, answers, End, answers_by, TwoEnds, end_at, Entry, side_in, is_caller, carriers_of, Stands, waiting_in, quieted, shown_entries, Side, Left, Right, Link, noted_in, EndLine as Line}
 use Rattle.osi_pair.proofs.StandingAnswering.{AnswerLaws, closes_alone, known_zero}
 use Rattle.osi_pair.proofs.StandingAnswers.{answered_end, line_with, closing_by, move_ends, linked_closes, moved_order}
 use Rattle.osi_pair.proofs.StandingArrived.{CarrierLaws, PacketActs}
@@ -22,9 +22,6 @@ use Rattle.osi_pair.proofs.StandingShown.{StandsShown, shown_pair}
 use Rattle.osi_pair.proofs.StandingTurned.{turned_pair}
 
 -- ---- one connection
-
-one_given : (end : Bool) (both : Both) (b : Between) → AreBetween by_zero both b → (last_of end b).given ≤ 1
-one_given end both b a = grind arith
 
 -- no second line
 abbrev IsAlone : Rows Line → Type 0
@@ -76,9 +73,6 @@ zero_stands Right p a lines h n shown now t old takes lasts waits alone =
 
 -- ---- the carrier
 
-given_of : (s : Side) (p : TwoEnds) (e : End) (h : Held) (n : ℕ) (shown : List Shown) (now : Between) → AreBetween by_zero (carriers_of (turned_pair s e h n shown p)) now → e.carrier.ended ≡ None → e.carrier.given ≤ 1
-given_of s p e h n shown now a lasts = grind arith
-
 closes_carrier : CarrierLaws → (s : Side) (p : TwoEnds) (e : End) (h : Held) (n : ℕ) (shown : List Shown) (now : Between) (peer : ℕ) (link : Link) → AreBetween by_zero (carriers_of (turned_pair s e h n shown p)) now →
     e.carrier.ended ≡ None → value_at n e.carrier.live ≡ Some (linked peer link) → closed_with n 128 e.carrier ≡ carriers.ends Closed e.carrier
 closes_carrier laws Left p e h n shown now peer link a lasts at = laws.closed_in_0 true (carriers_of (turned_pair Left e h n shown p)) now n peer link 128 a lasts at
@@ -110,7 +104,7 @@ shut_shown laws s p t packet h v zero known closing reply =
     let p1 = turned_pair s e h n shown p in
     let between : AreBetween by_zero (carriers_of p1) v.now = subst (λ (k : Terms). AreBetween k (carriers_of p1) v.now) (terms_then s p e h v.local ∙ zero) v.stands.between in
     let order = moved_order s p t packet h v in
-    let alone = alone_by e.carrier.given lines (given_of s p e h n shown v.now between v.lasts) order.rising order.sound.known in
+    let alone = alone_by e.carrier.given lines (grind (arith, v.lasts)) order.rising order.sound.known in
     let open_now = linked_closes s p t packet h v closing (move_ends v.m.row v.row) in
     let acts : answers n 0 (as_made (move_of v.m)) e.carrier ≡ carriers.ends Closed e.carrier =
     ap (λ (b : Bool). answers_by b n (tsdus_sent 0 (move_of v.m).reply) e.carrier) closing ∙ closes_carrier laws s p e h n shown v.now open_now.peer open_now.link between v.lasts open_now.at in

@@ -1,11 +1,11 @@
 -- Memory is wanted for what the carrier of an end told: how two ends stand then, by what arrived.
-use Rattle.std.proofs.Common.{◌≡◌, ℕ, Bool, true, false, not, ◌||◌, if◌then◌else◌, List, [], ◌∷◌, ◌++◌, map, take, Option, None, IfSome, refl, sym, ap, subst, ◌∙◌, ◌⊎◌, inl, inr, arith}
+use Rattle.std.proofs.Common.{◌≡◌, ℕ, Bool, true, false, ◌||◌, if◌then◌else◌, List, [], ◌∷◌, ◌++◌, map, take, Option, None, IfSome, refl, sym, ap, subst, ◌∙◌, ◌⊎◌, inl, inr, arith}
 use Rattle.osi_between.specs.Messages as carrier
 use Rattle.osi_machine.specs.Core as machine
 use Rattle.osi_machine.specs.Machine.{Entry}
 use Rattle.osi_machine.specs.Tables.{hears}
 use Rattle.osi_machine.specs.Worlds as worlds
-use Rattle.osi_pair.proofs.Vocabulary.{list_any, append-nil, Held, IsPacket, place_at, Happening, NoMemory, State, reference_of, Between, last_of, progress_of, leaves_use, IsTableRun, LosesAsItEnds, delivers, learns, shown_at, is_given, is_loss, loses, Line, Turn, Tables, awaits, seen_from, end_of, step, unseen, puts, shortened, without_first, message_taken, is_side, Message, unit, ask, agree, deny, bye, over, put, replied, IsInOctets, Meaning, Standing, opened, broken as broken_off, begun, rests as stays_so, react, is_wait_transport, shows_loss, Shown, Lost, Phase, excluded, Starves, told_all, End, TwoEnds, end_at, other, side_in, is_caller, carriers_of, message_in, Stands, Goes, Side, Left, Right, kind_of}
+use Rattle.osi_pair.proofs.Vocabulary.{list_any, append-nil, Held, IsPacket, place_at, Happening, NoMemory, State, reference_of, Between, last_of, progress_of, leaves_use, IsTableRun, LosesAsItEnds, delivers, learns, shown_at, is_given, Line, Turn, Tables, awaits, seen_from, end_of, step, unseen, puts, shortened, without_first, message_taken, is_side, Message, unit, ask, agree, bye, over, put, replied, IsInOctets, Meaning, Standing, opened, broken as broken_off, begun, react, shows_loss, Shown, Lost, Starves, told_all, End, TwoEnds, end_at, other, side_in, is_caller, carriers_of, message_in, Stands, Goes, Side, kind_of}
 use Rattle.osi_pair.proofs.StandingActs.{run_one, number_one}
 use Rattle.osi_pair.proofs.StandingAnswering.{opened_stays}
 use Rattle.osi_pair.proofs.StandingArrived.{PacketActs, packet_acts}
@@ -21,7 +21,7 @@ use Rattle.osi_pair.proofs.StandingMoves.{turn_then, turn_moves}
 use Rattle.osi_pair.proofs.StandingPacket.{PacketLaws, acts_at, both_carrier, both_held, lasting_in}
 use Rattle.osi_pair.proofs.StandingResting.{acted_end, did_at, same_row, line_at, transport_before, out_row, back_alone}
 use Rattle.osi_pair.proofs.StandingRests.{step_opens, delivered, tables_delivered, tables_rest, is_awaited, learns_row, turn_rests, rests, sends_then, unless_broken, put_unless}
-use Rattle.osi_pair.proofs.StandingRows.{Row, quiet, still, begins, refuses, agrees, denies, tells, leaves, ignores, ends, before, after, arrived_in, told_for}
+use Rattle.osi_pair.proofs.StandingRows.{Row, begins, agrees, leaves, before, after, arrived_in, told_for}
 use Rattle.osi_pair.proofs.StandingSeats.{transport_by}
 use Rattle.osi_pair.proofs.StandingShown.{StandsShown}
 use Rattle.osi_pair.proofs.StandingTurned.{with_holding}
@@ -125,8 +125,7 @@ agrees_shown laws takes s p b t packet h held old run alive pa agreed =
     let at = line_at s n p b t old pa.first.named pa.first.given in
     let l = at.line in
     let x = l.own.session in
-    let one : arrived_in d.row ≡ carrier.agree ∷ [] = ap arrived_in row in
-    let sp = back_alone s p b e h n l carrier.agree d at.is alive one refl in
+    let sp = back_alone s p b e h n l carrier.agree d at.is alive (ap arrived_in row) refl in
     let tr : l.own.transport ≡ transport_by (before agrees) = transport_before s p b t e h n l old alive d at.is ∙ ap (λ (r : Row). transport_by (before r)) row in
     let alike : kind_of (message_in sp.first) ≡ carrier.agree = sp.kind in
     let turn = turn_then agrees opened t.broken (react x opened).reply x l.own.channel sp.others l in
@@ -219,18 +218,16 @@ leaves_shown laws takes late s p b t packet h held old run alive pa reason left 
     let at = line_at s n p b t old pa.first.named pa.first.given in
     let l = at.line in
     let x = l.own.session in
-    let one : arrived_in d.row ≡ carrier.bye reason ∷ [] = ap arrived_in row in
-    let sp = back_alone s p b e h n l (carrier.bye reason) d at.is alive one refl in
+    let sp = back_alone s p b e h n l (carrier.bye reason) d at.is alive (ap arrived_in row) refl in
     let first = transport_before s p b t e h n l old alive d at.is in
     let tr : l.own.transport ≡ worlds.linked = first ∙ ap (λ (r : Row). transport_by (before r)) row in
-    let alike : kind_of (message_in sp.first) ≡ carrier.bye reason = sp.kind in
     let out = out_leaves s p b t e h n reason l old d row at.is (takes_from takes s t run n l at.found) in
     let k = out.keep in
     let turn = left_turn t.broken k (without_first l sp.others) in
     let known = learns t.terms l.own.transport sp.first t.known in
     let u = delivered t (side_in s) n known turn in
     let is : step t (delivers (side_in s) n (λ r. k)) ≡ u = step_opens t (side_in s) n (λ r. k) l sp.first sp.others turn lasting at.found sp.parts
-    (turn_leaves t.broken t.terms k reason l.own.transport (without_first l sp.others) sp.first tr alike) refl in
+    (turn_leaves t.broken t.terms k reason l.own.transport (without_first l sp.others) sp.first tr sp.kind) refl in
     let all : TablesAfter s n t u turn.shown turn.line = tables_delivered s n (seen_from (side_in s) l) t known turn at.found in
     let none : (react x broken_off).shown ≡ [] =
     none_lost (side_in s) n x u t.journal (late u (run_more t u (side_in s) n (λ r. k) is run)) (end_after s t n known turn ∙ lasting) all.journal in

@@ -1,10 +1,10 @@
 -- A packet is taken: how two ends stand at a list of steps, when its users were shown what came of it.
-use Rattle.std.proofs.Common.{◌≡◌, ℕ, false, List, [], ◌∷◌, ◌++◌, Option, None, refl, sym, ap, subst, ◌∙◌, arith}
+use Rattle.std.proofs.Common.{◌≡◌, ℕ, false, List, [], ◌∷◌, ◌++◌, Option, None, sym, ap, subst, ◌∙◌, arith}
 use Rattle.osi_machine.specs.Core as machine
-use Rattle.osi_pair.proofs.Vocabulary.{AllByRecursion, Held, IsPacket, Rows, State, EndReason, Between, Terms, IsTableRun, Step, connects, calls, delivers, breaks, HasNumber, ends as ends_side, Tables, run, start, Shown, after_packet, End, TwoEnds, end_at, noted, side_in, is_caller, terms_in, carriers_of, AreDeliveries, AreArrivals, StandsAtArrivals, Stands, StandsAt, waiting_in, quieted, told_entries, Side, EndLine as Line}
+use Rattle.osi_pair.proofs.Vocabulary.{AllByRecursion, Held, IsPacket, Rows, State, EndReason, Between, Terms, Step, delivers, HasNumber, ends as ends_side, Tables, run, start, Shown, after_packet, End, TwoEnds, end_at, noted, side_in, is_caller, terms_in, carriers_of, AreDeliveries, AreArrivals, StandsAtArrivals, Stands, StandsAt, waiting_in, quieted, told_entries, Side, EndLine as Line}
 use Rattle.osi_pair.proofs.StandingArrived.{PacketActs, packet_acts}
 use Rattle.osi_pair.proofs.StandingFinish.{terms_at, order_of}
-use Rattle.osi_pair.proofs.StandingPacket.{PacketLaws, StandsBehind, is_heard, unheard_packet, terms_then, both_carrier, both_held}
+use Rattle.osi_pair.proofs.StandingPacket.{PacketLaws, StandsBehind, is_heard, unheard_packet, both_carrier, both_held}
 pub use Rattle.osi_pair.proofs.StandingPromises.{tables_at, is_run}
 use Rattle.osi_pair.proofs.StandingQuiet.{quiet_same}
 use Rattle.osi_pair.proofs.StandingShown.{shown_pair, StandsShown}

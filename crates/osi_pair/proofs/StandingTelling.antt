@@ -9,7 +9,7 @@ use Rattle.osi_pair.proofs.StandingMoved.{MovingLaws, has_moved, ArrivesAt, arri
 use Rattle.osi_pair.proofs.StandingMoves.{is_move}
 use Rattle.osi_pair.proofs.StandingPacket.{is_heard}
 use Rattle.osi_pair.proofs.StandingPackets.{PacketStands}
-use Rattle.osi_pair.proofs.StandingRows.{Row, quiet, still, begins, refuses, agrees, denies, tells, leaves, ignores, ends}
+use Rattle.osi_pair.proofs.StandingRows.{leaves}
 use Rattle.osi_pair.proofs.StandingShown.{shown_pair, StandsShown}
 use Rattle.osi_pair.proofs.StandingShuts.{closes_zero}
 use Rattle.osi_pair.proofs.StandingStarved.{StarveLaws, starved_shown}
@@ -17,10 +17,6 @@ use Rattle.osi_pair.proofs.StandingTaken.{unheard_shown, tables_at, is_run, arri
 use Rattle.osi_pair.proofs.StandingAhead.{takes_from}
 use Rattle.osi_pair.proofs.StandingWant.{ended_shown}
 use Rattle.osi_pair.proofs.StandingParts.{part_shown}
-
--- a session hears of it: it makes its move, or its connection is lost
-heard_kind : (row : Row) → is_heard row ≡ true → (is_move row ≡ true) ⊎ ((reason : ℕ) × (row ≡ leaves reason))
-heard_kind row e = grind arith
 
 heard_shown : MovingLaws → AnswerLaws → (s : Side) (p : TwoEnds) (b : Between) (t : Tables) (packet : List ℕ) (h : Held) → Stands p b t → IsTableRun t → (end_at s p).end.carrier.ended ≡ None →
     (pa : PacketActs (terms_at p) (is_caller s) (carriers_of p) b packet h.octets) → ArrivesAt s p b t packet h pa → ((is_move pa.did.row ≡ true) ⊎ ((reason : ℕ) × (pa.did.row ≡ leaves reason))) →
@@ -34,13 +30,9 @@ shown_by : MovingLaws → AnswerLaws → (s : Side) (p : TwoEnds) (b : Between) 
     (pa : PacketActs (terms_at p) (is_caller s) (carriers_of p) b packet h.octets) → (heard : Bool) → is_heard pa.did.row ≡ heard → StandsShown s p t (after_packet (end_at s p).end packet) h
 shown_by laws answers s p b t packet h old run alive pa false e = unheard_shown laws.packet s p b t packet h old alive pa e
 shown_by laws answers s p b t packet h old run alive pa true e = elim (arriving laws s p b t packet h old run alive pa e) [
-  | inl a ↦ heard_shown laws answers s p b t packet h old run alive pa a (heard_kind pa.did.row e)
+  | inl a ↦ heard_shown laws answers s p b t packet h old run alive pa a (grind arith)
   | inr v ↦ part_shown laws s p b t packet h old alive pa v
 ]
-
-pub packet_shown : MovingLaws → AnswerLaws → (s : Side) (p : TwoEnds) (b : Between) (t : Tables) (packet : List ℕ) (h : Held) → Stands p b t → IsTableRun t → (end_at s p).end.carrier.ended ≡ None →
-    PacketActs (terms_at p) (is_caller s) (carriers_of p) b packet h.octets → StandsShown s p t (after_packet (end_at s p).end packet) h
-packet_shown laws answers s p b t packet h old run alive pa = shown_by laws answers s p b t packet h old run alive pa (is_heard pa.did.row) refl
 
 -- at a list of steps
 pub told_at : MovingLaws → AnswerLaws → (p : TwoEnds) (steps : List Step) (s : Side) (packet octets : List ℕ) (h : Held) → StandsAt p steps → (end_at s p).end.carrier.ended ≡ None → IsPacket packet octets →
@@ -48,7 +40,7 @@ pub told_at : MovingLaws → AnswerLaws → (p : TwoEnds) (steps : List Step) (s
 told_at laws answers p steps s packet octets h at alive is cut =
     let pa = packet_at laws.packet s p steps packet octets h at alive is cut in
     arrivals_at s p steps (after_packet (end_at s p).end packet) h at
-    (packet_shown laws answers s p at.now (tables_at p steps) packet h at.stands (is_run p steps at) alive pa)
+    (shown_by laws answers s p at.now (tables_at p steps) packet h at.stands (is_run p steps at) alive pa (is_heard pa.did.row) refl)
 
 -- ---- the laws of one packet
 

@@ -1,12 +1,11 @@
 -- A side that is told of the break ends as the machine says.
-use Rattle.std.proofs.Common.{◌≡◌, refl, sym, ◌∙◌, ap, subst, ℕ, Bool, true, if◌then◌else◌, not, ◌||◌, List, [], ◌∷◌, ◌++◌, Option, Some, None, option_map, is_some, arith}
+use Rattle.std.proofs.Common.{◌≡◌, refl, sym, ◌∙◌, ap, subst, ℕ, true, if◌then◌else◌, ◌||◌, List, [], ◌∷◌, ◌++◌, Option, Some, None, is_some, arith}
 use Rattle.osi_machine.specs.Core as machine
 use Rattle.osi_machine.specs.Machine as entries
-use Rattle.osi_stack.specs.Calls.{breaks}
 use Rattle.osi_stack.specs.Hearing as hearing
 use Rattle.osi_stack.specs.State as stack
 use Rattle.osi_pair.specs.Entries.{ends}
-use Rattle.osi_pair.proofs.Vocabulary.{AllByRecursion, Rows, EndReason, Broken, IsTableRun, Ending, told_of_break, Step, HasNumber, Tables, end_of, after_end, run, start, Shown, End, Holding, terms_of, Terms, TwoEnds, end_at, Entry, HearsOfBreak, TellsBreak, terms_in, ending_in, Stands, StandsAt, StandsAtEnd, StandsAtTold, side_in, shown_entries, told_entries, ShowsFirst, Reach, Side, Left, Right, other}
+use Rattle.osi_pair.proofs.Vocabulary.{AllByRecursion, Rows, EndReason, Broken, IsTableRun, told_of_break, Step, HasNumber, Tables, end_of, after_end, run, start, Shown, Holding, terms_of, Terms, TwoEnds, end_at, Entry, HearsOfBreak, TellsBreak, terms_in, Stands, StandsAt, StandsAtEnd, StandsAtTold, side_in, shown_entries, Side, other}
 use Rattle.osi_pair.proofs.StandingBreak.{run_behind}
 use Rattle.osi_pair.proofs.StandingAhead.{TakeLaws, takes_from}
 use Rattle.osi_pair.proofs.StandingEnded.{ended_holding, ended_pair, may_end, shown_then, ended_stands}
@@ -23,14 +22,6 @@ told_end h lines = ended_holding Broken h.end.carrier lines h.held
 
 abbrev told_pair : Side → TwoEnds → Rows stack.Line → List Entry → TwoEnds
 told_pair s p lines journal = ended_pair s Broken (end_at s p).end.carrier lines (end_at s p).held journal p
-
-terms_told : (s : Side) (p : TwoEnds) (lines : Rows stack.Line) (journal : List Entry) →
-    terms_of (told_pair s p lines journal).left.end.carrier.local (told_pair s p lines journal).right.end.carrier.local ≡ terms_of p.left.end.carrier.local p.right.end.carrier.local
-terms_told s p lines journal = grind arith
-
--- two ends are what their sides are
-pair_is : (s : Side) (p q : TwoEnds) → end_at s p ≡ end_at s q → end_at (other s) p ≡ end_at (other s) q → p.reach ≡ q.reach → p.journal ≡ q.journal → p ≡ q
-pair_is s p q own there reach journal = grind arith
 
 told_here : (s : Side) (p : TwoEnds) (lines : Rows stack.Line) (journal : List Entry) → told_end (end_at s p) lines ≡ end_at s (told_pair s p lines journal)
 told_here s p lines journal = grind arith
@@ -62,7 +53,7 @@ ended_at laws s p steps lines first journal at broken none told said =
       stands = record {
         numbered = numbered_told (side_in s) done.keep steps at.numbered;
         now = at.now;
-        stands = subst (λ (k : Terms). Stands (told_pair s p lines journal) at.now (run (start (terms_in k)) (steps ++ entries.ends (side_in s) told_of_break done.keep ∷ []))) (sym (terms_told s p lines journal))
+        stands = subst (λ (k : Terms). Stands (told_pair s p lines journal) at.now (run (start (terms_in k)) (steps ++ entries.ends (side_in s) told_of_break done.keep ∷ []))) (sym (grind arith))
             (subst (Stands (told_pair s p lines journal) at.now) (sym (run_behind begin steps (entries.ends (side_in s) told_of_break done.keep ∷ []) ∙ is)) done.stands);
       };
     }
@@ -83,13 +74,13 @@ told_by : TakeLaws → (who : Side) (old new : TwoEnds) (steps : List Step) (o :
     TellsBreak who old new → StandsAtTold o who new steps
 told_by laws who old new steps (Some reason) e s broken h =
     let same = h.told.over (ap is_some e) in
-    subst (λ (x : TwoEnds). StandsAt x steps) (sym (pair_is who new old same.0 h.other h.reach same.1)) s
+    subst (λ (x : TwoEnds). StandsAt x steps) (sym (grind (arith, same.0, h.other, h.reach, same.1))) s
 told_by laws who old new steps None e s broken h =
     let now = heard who (end_at who old) (end_at who new) old.journal new.journal e (h.told.hears e) in
     let lines = (end_at who new).end.lines in
     let rest = told_rest who old lines new.journal in
     subst (λ (x : TwoEnds). StandsAtEnd who x steps)
-    (sym (pair_is who new (told_pair who old lines new.journal) (now.is ∙ told_here who old lines new.journal) (h.other ∙ told_there who old lines new.journal) (h.reach ∙ rest.0) rest.1))
+    (sym (grind (arith, now.is ∙ told_here who old lines new.journal, h.other ∙ told_there who old lines new.journal, h.reach ∙ rest.0, rest.1)))
     (ended_at laws who old steps lines now.first new.journal s broken e now.told now.says)
 
 pub told_at : TakeLaws → (who : Side) (old new : TwoEnds) (steps : List Step) → StandsAt old steps → is_some old.reach ≡ true → TellsBreak who old new →

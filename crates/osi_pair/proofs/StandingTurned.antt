@@ -1,11 +1,10 @@
 -- Where one end acts for one connection, two ends stand as they should.
-use Rattle.std.proofs.Common.{◌≡◌, ◌≢◌, ℕ, ◌≤◌, ◌==◌, Bool, true, false, if◌then◌else◌, List, [], ◌∷◌, ◌++◌, length, map, Option, Some, None, is_some, option_map, refl, sym, ap, subst, ◌∙◌, not, ◌<◌, arith}
+use Rattle.std.proofs.Common.{◌≡◌, ◌≢◌, ℕ, ◌≤◌, ◌==◌, Bool, true, false, if◌then◌else◌, List, [], ◌∷◌, ◌++◌, length, map, Some, None, is_some, option_map, refl, sym, ap, subst, ◌∙◌, not, ◌<◌, arith}
 use Rattle.osi_machine.specs.Core as machine
 use Rattle.osi_machine.specs.Machine as entries
-use Rattle.osi_pair.proofs.Vocabulary.{eqb-true, eq-eqb, map-append, Held, place_at, value_at, Between, AreBetween, last_of, under_way, is_cut, progress_of, terms_of, Local, shown_at, connection_at, Seat, Line, Tables, seen_from, Listener, Shown, kept_at, End, Holding, session_at, TwoEnds, end_at, with_end, noted, Entry, other, side_in, is_caller, ending_in, terms_in, transport_in, class_in, entry_in, carriers_of, IsSeated, IsUnderWay, IsLine, HasLine, IsInOrder, Stands, HasJoined, AreUnderWay, Goes, waiting_in, shown_entries, Side, Left, Right, Progress, Message, SessionState}
+use Rattle.osi_pair.proofs.Vocabulary.{eqb-true, eq-eqb, map-append, Held, place_at, value_at, Between, AreBetween, last_of, under_way, is_cut, progress_of, terms_of, Local, shown_at, connection_at, Seat, Line, Tables, seen_from, Listener, Shown, kept_at, End, Holding, TwoEnds, end_at, with_end, noted, Entry, other, side_in, is_caller, ending_in, terms_in, transport_in, class_in, entry_in, carriers_of, IsSeated, IsUnderWay, IsLine, HasLine, IsInOrder, Stands, HasJoined, AreUnderWay, Goes, waiting_in, shown_entries, Side, Left, Right, Progress, Message, SessionState}
 use Rattle.osi_pair.proofs.StandingCut.{end_out, end_back}
 use Rattle.osi_pair.proofs.StandingWays.{way_same}
-use Rattle.osi_pair.proofs.StandingSeats.{live_session}
 
 -- ---- a connection, seen from one of its sides
 

@@ -1,15 +1,15 @@
 -- An end whose carrier acted for a unit of which no session heard may end.
-use Rattle.std.proofs.Common.{◌≡◌, ◌≢◌, ℕ, ◌≤◌, ◌==◌, Bool, true, false, nat_lt, List, [], length, Some, None, IfSome, option_map, refl, sym, ap, subst, ◌∙◌, arith, ◌<◌}
+use Rattle.std.proofs.Common.{◌≡◌, ◌≢◌, ℕ, ◌≤◌, ◌==◌, Bool, true, false, List, [], length, Some, None, IfSome, option_map, refl, sym, ap, subst, ◌∙◌, ◌<◌}
 use Rattle.osi_machine.specs.Worlds as worlds
-use Rattle.osi_pair.proofs.Vocabulary.{eqb-true, eq-eqb, append-nil, Held, place_at, State, reference_of, Between, is_cut, under_way, last_of, progress_of, not_yet, is_given, Seat, Line, Tables, awaits, seen_from, IsInOctets, End, TwoEnds, end_at, side_in, is_caller, transport_in, class_in, carriers_of, HasLine, Stands, HasJoined, Side, Left, Right, other}
+use Rattle.osi_pair.proofs.Vocabulary.{eqb-true, eq-eqb, append-nil, Held, place_at, State, reference_of, Between, is_cut, under_way, last_of, progress_of, not_yet, is_given, Seat, Line, Tables, awaits, seen_from, IsInOctets, End, TwoEnds, end_at, side_in, is_caller, transport_in, class_in, carriers_of, HasLine, Stands, HasJoined, Side, other}
 use Rattle.osi_pair.proofs.StandingArrived.{PacketActs}
 use Rattle.osi_pair.proofs.StandingAhead.{TakesFrom}
 use Rattle.osi_pair.proofs.StandingEnded.{EndingLine, MayEnd, whole_line}
 use Rattle.osi_pair.proofs.StandingEnding.{IsPlaced, given_place}
-use Rattle.osi_pair.proofs.StandingFinish.{terms_at, DidAt, TablesAfter, refs_row, given_not_new, last_is, was_at, given_after}
+use Rattle.osi_pair.proofs.StandingFinish.{terms_at, DidAt, TablesAfter, last_is, was_at, given_after}
 use Rattle.osi_pair.proofs.StandingPacket.{PacketLaws, same_role, acts_at}
 use Rattle.osi_pair.proofs.StandingResting.{acted_end}
-use Rattle.osi_pair.proofs.StandingRows.{before, after}
+use Rattle.osi_pair.proofs.StandingRows.{after}
 use Rattle.osi_pair.proofs.StandingSeats.{transport_by, transport_at}
 use Rattle.osi_pair.proofs.StandingCut.{end_out}
 use Rattle.osi_pair.proofs.StandingTurned.{seen, seen_twice, with_holding, LinesAfter, out_there}

@@ -2,9 +2,9 @@
 use Rattle.std.proofs.Common.{◌≡◌, ℕ, true, Option, Some, None, sym, ap, subst, ◌∙◌, arith}
 use Rattle.osi_machine.specs.Core as machine
 use Rattle.osi_machine.specs.Machine.{start, run}
-use Rattle.osi_machine.proofs.TableLines.{IsSeated, seat_of, Tabled, turned_tabled, SaysItsUnit}
+use Rattle.osi_machine.proofs.TableLines.{SaysItsUnit}
 use Rattle.osi_machine.proofs.TableRuns.{At, line_there, all_follow}
-use Rattle.osi_pair.proofs.Vocabulary.{IsTableRun, Offer, offer_sent, Machine, connection_at, Seat, Line, Tables, seen_from, World, waiting, Kept, SessionLaws, Meaning, is_wait_transport}
+use Rattle.osi_pair.proofs.Vocabulary.{IsTableRun, Offer, offer_sent, Machine, connection_at, Seat, Line, Tables, seen_from, World, waiting, SessionLaws, is_wait_transport}
 use Rattle.osi_pair.proofs.StandingTurned.{seen_twice}
 
 pub record IsCalling (x : Seat) : Type 0 where
@@ -12,11 +12,8 @@ pub record IsCalling (x : Seat) : Type 0 where
   pub offer : Offer
   pub calls : x.session.waiting ≡ Some (offer_sent offer)
 
-calls_seen : (s : machine.Side) (l : Line) (w : World) → Tabled l w → (seen_from s l).own.transport ≡ waiting → IsCalling (seen_from s l).own
-calls_seen s l w h e = grind arith
-
 calls_at : (s : machine.Side) (l : Line) (o : Option World) → At (Some l) o → (seen_from s l).own.transport ≡ waiting → IsCalling (seen_from s l).own
-calls_at s l (Some w) h e = calls_seen s l w h e
+calls_at s l (Some w) h e = grind arith
 calls_at s l None h e = absurd h
 
 -- in tables that came about, seen from either side

@@ -7,16 +7,16 @@ use Rattle.osi_machine.specs.Core as machine
 use Rattle.osi_machine.specs.Machine as entries
 use Rattle.osi_stack.specs.Hearing as hearing
 use Rattle.osi_stack.specs.State as stack
-use Rattle.osi_pair.proofs.Vocabulary.{slice_get, eqb-true, eq-eqb, Held, IsPacket, Value, ended_by, Happening, Rows, State, EndReason, NoMemory, reference_of, Both, side, Between, AreBetween, Terms, Ending, no_memory, connection_at, delivers, shown_at, Line, Tables, seen_from, end_of, shown_in_order, after_end, step, broken as broken_off, react, Shown, with_carrier, with_events, hears, hears_first, hears_next, hears_times, attends, concludes, starves, all_lost, RunsOut, Starves, told_all, needs_memory, End, all_quiet, never_starved, hears_keep, TwoEnds, end_at, side_in, is_caller, carriers_of, Stands, waiting_in, quieted, Side, Left, Right}
+use Rattle.osi_pair.proofs.Vocabulary.{slice_get, eq-eqb, Held, IsPacket, Value, ended_by, Happening, Rows, State, EndReason, NoMemory, reference_of, Both, side, Between, AreBetween, Terms, no_memory, connection_at, delivers, shown_at, Line, Tables, seen_from, end_of, shown_in_order, after_end, step, broken as broken_off, react, Shown, with_carrier, with_events, hears_first, hears_next, hears_times, starves, all_lost, RunsOut, Starves, told_all, needs_memory, End, never_starved, hears_keep, TwoEnds, end_at, side_in, is_caller, carriers_of, Stands, waiting_in, quieted, Side, Left, Right}
 use Rattle.osi_pair.proofs.StandingArrived.{PacketActs}
 use Rattle.osi_pair.proofs.StandingAhead.{TakesFrom}
 use Rattle.osi_pair.proofs.StandingEnded.{MayEnd, lost_end, lost_stands, may_end, all_shown_then}
 use Rattle.osi_pair.proofs.StandingFinish.{terms_at, order_of}
 use Rattle.osi_pair.proofs.StandingLost.{SaysAll}
 use Rattle.osi_pair.proofs.StandingPacket.{acts_at, lasting_in}
-use Rattle.osi_pair.proofs.StandingRows.{Row, quiet, still, begins, refuses, agrees, denies, tells, leaves, ignores, ends, told_for}
+use Rattle.osi_pair.proofs.StandingRows.{quiet, ends, told_for}
 use Rattle.osi_pair.proofs.StandingShown.{StandsShown, shown_pair}
-use Rattle.osi_pair.proofs.StandingTurned.{seen_twice, LinesAfter}
+use Rattle.osi_pair.proofs.StandingTurned.{LinesAfter}
 
 -- ---- the step
 
@@ -123,10 +123,6 @@ pub record IsUnheard (e : End) (u : Value) (told : List Happening) (new : End) :
 abbrev pub HasStarved : End → Value → List Happening → End → Type 0
 HasStarved e u told new = (new ≡ hearing.ends NoMemory e) ⊎ IsUnheard e u told new
 
--- at most one thing is told
-few_told : (n : ℕ) (row : Row) → (told_for n row ≡ []) ⊎ ((x : Happening) × (told_for n row ≡ x ∷ []))
-few_told n row = grind arith
-
 -- for what the one event does there was no memory
 one_by : (k : ℕ) (e new : End) (event first : Happening) (more : List Happening) → e.carrier.events ≡ event ∷ [] → (hears_times k e).carrier.events ≡ first ∷ more →
     needs_memory first (with_events more (hears_times k e)) ≡ true → new ≡ starves (with_events more (hears_times k e)) → new ≡ starves (with_events [] e)
@@ -145,25 +141,20 @@ told_starved : (e new : End) (u : Value) (told : List Happening) → (carrier_re
     (told ≡ []) ⊎ ((x : Happening) × (told ≡ x ∷ [])) → IsUnheard e u told new
 told_starved e new u told events lasts out (inl none) = never_starved (with_carrier (carrier_react u e.carrier) e) new (events ∙ none) out
 told_starved e new u told events lasts out (inr one) =
-    let at = with_carrier (carrier_react u e.carrier) e in
-    let is = one_by out.heard at new one.0 out.event out.more (events ∙ one.1) out.waits out.needed out.starved
+    let is = one_by out.heard (with_carrier (carrier_react u e.carrier) e) new one.0 out.event out.more (events ∙ one.1) out.waits out.needed out.starved
     ∙ ap (λ (c : State). record { carrier = c; lines = all_lost e.lines }) (lasting_ends (told_all u e).carrier lasts) in
     grind arith
-
--- the carrier did nothing
-none_done : (e : End) (c : State) → e.carrier.events ≡ [] → c ≡ carriers.ends NoMemory e.carrier → attends (with_carrier c e) ≡ hearing.ends NoMemory e
-none_done e c none is = grind arith
 
 pub has_starved : WantLaws → (s : Side) (p : TwoEnds) (b : Between) (t : Tables) (packet octets : List ℕ) (h : Held) (new : End) → Stands p b t → (end_at s p).end.carrier.ended ≡ None →
     IsPacket packet octets → (end_at s p).held.octets ≡ octets ++ h.octets → (pa : PacketActs (terms_at p) (is_caller s) (carriers_of p) b packet h.octets) → Starves (end_at s p).end packet new →
     HasStarved (end_at s p).end pa.unit (told_for (reference_of pa.unit) pa.did.row) new
 has_starved laws s p b t packet octets h new old alive is cut pa (inl x) =
-    inl (x.2 ∙ none_done (end_at s p).end x.0 (order_of s p b t old alive).heard (carrier_starved laws s p b packet octets h.octets x.0 old.between alive is cut x.1))
+    inl (x.2 ∙ grind (arith, (order_of s p b t old alive).heard, carrier_starved laws s p b packet octets h.octets x.0 old.between alive is cut x.1))
 has_starved laws s p b t packet octets h new old alive is cut pa (inr x) =
     let f = acts_at s p b packet h pa in
     let e = (end_at s p).end in
     let n = reference_of pa.unit in
     elim (carrier_acts laws s p b packet octets h.octets x.0 old.between alive is cut x.1) [
-      | inl done ↦ inr (told_starved e new pa.unit (told_for n pa.did.row) f.events f.lasts (subst (λ (c : State). RunsOut (with_carrier c e) new) (done ∙ f.acts) x.2) (few_told n pa.did.row))
+      | inl done ↦ inr (told_starved e new pa.unit (told_for n pa.did.row) f.events f.lasts (subst (λ (c : State). RunsOut (with_carrier c e) new) (done ∙ f.acts) x.2) (grind arith))
       | inr none ↦ never_starved (with_carrier x.0 e) new (ap (λ (c : State). c.events) none ∙ (order_of s p b t old alive).heard) x.2
     ]

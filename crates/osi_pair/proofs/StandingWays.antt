@@ -1,10 +1,10 @@
 -- What is under way, as the messages of the tables and as those between two carriers, where one end acts.
-use Rattle.std.proofs.Common.{◌≡◌, ℕ, zero, suc, Bool, true, false, ◌||◌, ◌≤◌, ◌⊎◌, inl, inr, List, [], ◌∷◌, ◌++◌, length, map, take, drop, Option, Some, None, refl, sym, ap, subst, ◌∙◌, append_assoc, arith}
+use Rattle.std.proofs.Common.{◌≡◌, ℕ, suc, Bool, true, false, ◌||◌, ◌≤◌, ◌⊎◌, inl, inr, List, [], ◌∷◌, ◌++◌, length, map, take, drop, Option, Some, None, refl, sym, ap, subst, ◌∙◌, append_assoc, arith}
 use Rattle.osi_between.specs.Messages as carrier
 use Rattle.osi_between.specs.Progress as progress
-use Rattle.osi_pair.proofs.Vocabulary.{take-append_seam, length-map, map-append, append-nil, take-append-drop, Place, never, was_given, connection_in, asked, linked, closing, progress_of, kind_of, AreLike, Progress, not_yet, awaiting, in_use, shutting, Message, unit, ask, agree, deny, bye, over, EndReason, AreAlike, message_in, word_in, AreUnderWay, IsOverWhenLeft, after_message, IsCalm, StaysCalm, IsNoFaultBehind, over_calm, Word, whole, part, joins, left_of, IsBegun, AreInOrder, MayFollow, most_data, is_leaving, DT, part_octets, First, Middle, Last, list_any, SessionState as State, PartPlace}
+use Rattle.osi_pair.proofs.Vocabulary.{take-append_seam, length-map, map-append, append-nil, take-append-drop, Place, connection_in, progress_of, kind_of, AreLike, Progress, shutting, Message, unit, EndReason, AreAlike, message_in, word_in, AreUnderWay, IsOverWhenLeft, after_message, IsCalm, StaysCalm, IsNoFaultBehind, over_calm, Word, whole, part, joins, left_of, IsBegun, AreInOrder, MayFollow, most_data, is_leaving, DT, part_octets, First, Middle, Last, list_any, SessionState as State, PartPlace}
 use Rattle.osi_pair.proofs.WordLaws.{IsRest, Next, FrontOf, next_is, front_of, cut_behind, cut_fits, AreWords, wholes, put_words, MayLeave, leave_behind, joins_whole, whole_order, whole_left}
-use Rattle.osi_pair.proofs.StandingRows.{Row, quiet, still, begins, refuses, agrees, denies, tells, leaves, ignores, ends, before, after}
+use Rattle.osi_pair.proofs.StandingRows.{Row, begins, leaves, before, after}
 use Rattle.std.proofs.lemmas.List.Folds.{list_any-append}
 
 abbrev pub Sent : Type 0
@@ -106,10 +106,6 @@ keeps_whole o p c d H x ms puts more old new stays put w uncut are first after s
     let y = put_words w.begun w.words more puts w.order (w.finished uncut) are in
     grind (arith, put_alike, after, no_begun)
 
-keeps_same : (o : Option EndReason) (p : Place) (c d : Bool) (H : About) (x : State) (ms puts : List Message) (more : List Word) (old new stays put : Sent) → (w : AreUnderWay o (progress_of p) c H x ms old) → more ≡ [] → (d ≡ false → c ≡ false) → AreWords more puts →
-    (o ≡ None → AreAlike (progress_of p) (map word_in w.words) stays) → AreLike (connection_in p) new (stays ++ put) → map word_in more ≡ put → AreUnderWay o (progress_of p) d H x (ms ++ puts) new
-keeps_same o p c d H x ms puts more old new stays put w none cut are first after same = grind (arith, after, map, append-nil, as_now, alike_back)
-
 -- nothing of it is lost, and something is put behind it, but nothing where what is under way was cut
 pub out_puts : (o : Option EndReason) (p : Place) (c d : Bool) (H : About) (x : State) (ms puts : List Message) (more : List Word) (old new stays gone put : Sent) → AreUnderWay o (progress_of p) c H x ms old → AreWords more puts → (c ≡ false) ⊎ (more ≡ []) →
     (d ≡ false → c ≡ false) → AreLike (connection_in p) old (stays ++ gone) → AreLike (connection_in p) new (stays ++ put) → gone ≡ [] → map word_in more ≡ put → AreUnderWay o (progress_of p) d H x (ms ++ puts) new
@@ -118,17 +114,14 @@ out_puts o p c d H x ms puts more old new stays gone put w are spare cut before 
     λ e. subst (λ (l : Sent). AreAlike (progress_of p) (map word_in w.words) l) (ap (λ (l : Sent). stays ++ l) none ∙ append-nil stays) (alike_like p (map word_in w.words) old (stays ++ gone) (w.alike e) before) in
     elim spare [
       | inl uncut ↦ keeps_whole o p c d H x ms puts more old new stays put w uncut are first after same
-      | inr nothing ↦ keeps_same o p c d H x ms puts more old new stays put w nothing cut are first after same
+      | inr nothing ↦ (grind (arith, after, map, append-nil, as_now, alike_back))
     ]
-
-spare_wholes : (c : Bool) (puts : List Message) → (c ≡ false) ⊎ (puts ≡ []) → (c ≡ false) ⊎ (map whole puts ≡ [])
-spare_wholes c puts h2 = grind arith
 
 -- messages that go by themselves
 pub out_keeps : (o : Option EndReason) (p : Place) (c d : Bool) (H : About) (x : State) (ms puts : List Message) (old new stays gone put : Sent) → AreUnderWay o (progress_of p) c H x ms old → (c ≡ false) ⊎ (puts ≡ []) → (d ≡ false → c ≡ false) →
     AreLike (connection_in p) old (stays ++ gone) → AreLike (connection_in p) new (stays ++ put) → gone ≡ [] → map message_in puts ≡ put → AreUnderWay o (progress_of p) d H x (ms ++ puts) new
 out_keeps o p c d H x ms puts old new stays gone put w spare cut before after none same =
-    out_puts o p c d H x ms puts (map whole puts) old new stays gone put w (wholes puts) (spare_wholes c puts spare) cut before after none (words_of_puts puts ∙ same)
+    out_puts o p c d H x ms puts (map whole puts) old new stays gone put w (wholes puts) (grind arith) cut before after none (words_of_puts puts ∙ same)
 
 -- ---- the last of it is lost
 
@@ -216,8 +209,7 @@ out_cuts o p c d H x ms puts old new stays gone put w takes which before after s
       | inl leave ↦ subst (λ (l : List Message). Left o (progress_of p) d H x ms l new) (sym leave.is)
           (leave_at o p c d H x ms leave.m k old new stays put w leave.leaves first after (sym (ap (map message_in) leave.is) ∙ same))
       | inr nothing ↦
-          let none : [] ≡ put = sym (ap (map message_in) nothing.1) ∙ same in
-          let left : stays ++ put ≡ stays = ap (λ (l : Sent). stays ++ l) (sym none) ∙ append-nil stays in
+          let left : stays ++ put ≡ stays = ap (λ (l : Sent). stays ++ l) (sym (sym (ap (map message_in) nothing.1) ∙ same)) ∙ append-nil stays in
           let y = front_at o o (progress_of p) (progress_of p) c d H x ms k old new w takes nothing.0
           (λ e. alike_back p (map word_in (take k w.words)) new stays (first e) (subst (λ (l : Sent). AreLike (connection_in p) new l) left after)) in
           record {
@@ -260,9 +252,6 @@ split : (g : Progress) (ms : List Word) (m : carrier.Message) (rest : Sent) → 
 split shutting ms m rest h = split_kinds shutting ms m rest (λ xs ys e. e) h
 split progress.gone ms m rest h = split_kinds progress.gone ms m rest (λ xs ys e. e) h
 split g ms m rest h = split_same g ms m rest (λ xs ys e. e) h
-
-alike_kind : (g : Progress) (x y : carrier.Message) → AreAlike g (x ∷ []) (y ∷ []) → kind_of x ≡ kind_of y
-alike_kind g x y h = grind arith
 
 -- what becomes of the way where this has begun then, to a session that is this then
 abbrev pub BehindFirst : Progress → Bool → Option (List ℕ) → State → List Message → Sent → Type 0
@@ -328,21 +317,13 @@ Comes g h d H x ms m rest = Split g h d H x ms m rest ⊎ PartFirst g h d H x ms
 follows : (b : Option (List ℕ)) (m : Message) → MayFollow b m → is_leaving m ≡ false → b ≡ None
 follows b m h e = grind arith
 
--- where nothing is ahead of it
-calm_now : (x : State) (ms : List Message) → ms ≡ [] → StaysCalm x ms → IsCalm x
-calm_now x ms none calm = subst (StaysCalm x) none calm [] tt
-
 next_of : (x : State) (now : List ℕ) (left : Option (List ℕ)) (ms : List Message) → (IsBegun left → StaysCalm x ms) → Next now left ms → NextOf x now ms
 next_of x now left ms calm (inl r) = inl r
 next_of x now left ms calm (inr (inl away)) = inr (inl away)
-next_of x now left ms calm (inr (inr c)) = inr (inr (calm_now x ms c.none (calm c.begins)))
+next_of x now left ms calm (inr (inr c)) = inr (inr (subst (StaysCalm x) c.none (calm c.begins) [] tt))
 
 part_next : (x : State) (now : List ℕ) (words : List Word) (ms : List Message) → joins (Some now) words ≡ ms → AreInOrder (Some now) words → (IsBegun (left_of (Some now) words) → StaysCalm x ms) → NextOf x now ms
 part_next x now words ms joined order calm = next_of x now (left_of (Some now) words) ms calm (subst (Next now (left_of (Some now) words)) joined (next_is now words order))
-
--- behind a message that was taken
-taken_calm : (x : State) (ms others : List Message) (m : Message) → m ∷ others ≡ ms → StaysCalm x ms → StaysCalm (after_message x m) others
-taken_calm x ms others m joined calm = subst (StaysCalm x) (sym joined) calm [] tt
 
 split_way : (g h : Progress) (d : Bool) (H : About) (x : State) (ms : List Message) (m : carrier.Message) (rest : Sent) (begun : Option (List ℕ)) (first : Word) (others : List Word) →
     AreAlike g (word_in first ∷ []) (m ∷ []) → AreAlike h (map word_in others) rest → joins begun (first ∷ others) ≡ ms → AreInOrder begun (first ∷ others) →
@@ -351,7 +332,7 @@ split_way g h d H x ms m rest begun (whole first) others is stays joined order f
   first = first;
   others = joins None others;
   parts = sym joined;
-  kind = alike_kind g (message_in first) m is;
+  kind = grind arith;
   how = inl (record { is = is; held = λ e. subst H (follows begun first order.0 e) held });
   stays = record {
     words = others;
@@ -360,7 +341,7 @@ split_way g h d H x ms m rest begun (whole first) others is stays joined order f
     joined = refl;
     order = order.1;
     finished = finished;
-    calm = λ some. taken_calm x ms (joins None others) first joined (calm some);
+    calm = λ some. (subst (StaysCalm x) (sym joined) (calm some) [] tt);
     held = refl;
   };
 })
@@ -388,7 +369,7 @@ split_way g h d H x ms m rest (Some b) (part Last o) others is stays joined orde
   first = unit (DT (b ++ o));
   others = joins None others;
   parts = sym joined;
-  kind = alike_kind g (carrier.message (part_octets Last o)) m is;
+  kind = grind arith;
   how = inr (record { front = b; last = o; first_is = refl; is = is; short = order.1; held = held });
   stays = record {
     words = others;
@@ -397,7 +378,7 @@ split_way g h d H x ms m rest (Some b) (part Last o) others is stays joined orde
     joined = refl;
     order = order.2;
     finished = finished;
-    calm = λ some. taken_calm x ms (joins None others) (unit (DT (b ++ o))) joined (calm some);
+    calm = λ some. (subst (StaysCalm x) (sym joined) (calm some) [] tt);
     held = refl;
   };
 })
@@ -426,18 +407,12 @@ alone_of g h d H x ms m rest e (inl s) = elim s.how [
 ]
 alone_of g h d H x ms m rest e (inr q) = absurd (no_part g (part_octets q.place q.octets) m e q.is)
 
-row_over : (row : Row) (new : Place) (xs ys zs : Sent) → progress_of new ≡ after row → AreAlike (before row) xs ys → AreLike (connection_in new) ys zs → AreAlike (before row) xs zs
-row_over row new xs ys zs e h k = grind arith
-
-row_up : (row : Row) (xs ys : Sent) → AreAlike (before row) xs ys → AreAlike (after row) xs ys
-row_up row xs ys h = grind arith
-
 -- a message arrived
 comes_first : (row : Row) (old new : Place) (words : List Word) (m : carrier.Message) (ys rest : Sent) → progress_of old ≡ before row → progress_of new ≡ after row →
     AreAlike (progress_of old) (map word_in words) ys → AreLike (connection_in new) ys (m ∷ rest) → SplitWords (before row) (after row) words m rest
 comes_first row old new ms m ys rest e f h k =
-    let s = split (before row) ms m rest (row_over row new (map word_in ms) ys (m ∷ rest) f (subst (λ (g : Progress). AreAlike g (map word_in ms) ys) e h) k) in
-    record { first = s.first; others = s.others; parts = s.parts; is = s.is; stays = row_up row (map word_in s.others) rest s.stays }
+    let s = split (before row) ms m rest (grind (arith, subst (λ (g : Progress). AreAlike g (map word_in ms) ys) e h)) in
+    record { first = s.first; others = s.others; parts = s.parts; is = s.is; stays = (grind (arith, s.stays)) }
 
 pub back_comes : (row : Row) (o : Option EndReason) (old new : Place) (c d : Bool) (H : About) (x : State) (ms : List Message) (m : carrier.Message) (ys rest : Sent) → progress_of old ≡ before row → progress_of new ≡ after row →
     AreUnderWay o (progress_of old) c H x ms ys → o ≡ None → (d ≡ false → c ≡ false) → AreLike (connection_in new) ys (m ∷ rest) → Comes (before row) (after row) d H x ms m rest

@@ -43,13 +43,9 @@ order_back b (part First o ∷ xs) ys h = order_back (Some o) xs ys h.2
 order_back b (part Middle o ∷ xs) ys h = order_back (Some (begun_octets b ++ o)) xs ys h.2
 order_back b (part Last o ∷ xs) ys h = order_back None xs ys h.2
 
--- what stands by itself
-pub may_follow : (m : Message) → MayFollow None m
-may_follow m = grind arith
-
 pub whole_order : (ms : List Message) → AreInOrder None (map whole ms)
 whole_order [] = tt
-whole_order (m ∷ ms) = (may_follow m, whole_order ms)
+whole_order (m ∷ ms) = ((grind arith), whole_order ms)
 
 pub whole_left : (ms : List Message) → left_of None (map whole ms) ≡ None
 whole_left [] = refl

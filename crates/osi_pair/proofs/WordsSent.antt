@@ -1,8 +1,8 @@
 -- The words in which a message leaves are that message.
-use Rattle.std.proofs.Common.{◌≡◌, refl, sym, ap, subst, ◌∙◌, ℕ, ◌-◌, ◌≤◌, Bool, true, false, not, if◌then◌else◌, List, [], ◌∷◌, ◌++◌, length, map, Some, None, append_assoc, arith}
+use Rattle.std.proofs.Common.{◌≡◌, refl, sym, ap, subst, ◌∙◌, ℕ, ◌-◌, ◌≤◌, Bool, true, false, if◌then◌else◌, List, [], ◌∷◌, ◌++◌, length, map, Some, None, append_assoc, arith}
 use Rattle.osi_between.specs.Messages as carrier
 use Rattle.osi_message.specs.Words as sent
-use Rattle.osi_pair.proofs.Vocabulary.{append-nil, length-append, unit, Meaning, DT, pieces, parts_of, is_whole, is_parted, words_sent, AreLater, AreParts, joined, Words, word_octets, First, Middle, Last, is_size, word_in, Word, whole, part, joins, left_of, AreInOrder, most_data}
+use Rattle.osi_pair.proofs.Vocabulary.{append-nil, length-append, unit, Meaning, DT, is_parted, words_sent, AreLater, AreParts, joined, Words, word_octets, First, Middle, Last, is_size, word_in, Word, whole, part, joins, left_of, AreInOrder, most_data}
 use Rattle.osi_pair.proofs.WordLaws.{AreWords, wholes}
 
 -- a word of the sender, among those under way

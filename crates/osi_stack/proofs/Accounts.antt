@@ -19,9 +19,6 @@ after_more told carried a = record { end = put_back carried a.end; told = told +
 abbrev row_with : ℕ → Line → List Shown → ℕ × Line
 row_with r line waiting = (r, record line { waiting = waiting })
 
-same_line : (r : ℕ) (line : Line) → line.waiting ≡ [] → row_with r line [] ≡ row_with r line line.waiting
-same_line r line none = ap (row_with r line) (sym none)
-
 quieted_same : (lines : Rows Line) → waits lines ≡ false → quieted lines ≡ lines
 quieted_same [] h = refl
 quieted_same ((r, line) ∷ lines) h =

@@ -26,11 +26,7 @@ asked_known c e s named =
 
 moved_by : (r : ℕ) (input : Input) (e : End) (o : Option Line) (s : Listener) → value_at r e.lines ≡ o → session_in o ≡ Some s →
     selectors_in (value_at r (to_session r input e).lines) ≡ (if shows_connect (react s input).shown then selectors_told input else selectors_in o)
-moved_by r input e None s here is = cc
-moved_by r input e (Some line) s here is =
-    ap (λ (o : Option Line). selectors_in (value_at r (by_line r o input e).lines)) here
-    ∙ ap selectors_in (put_here r (line_by line line.session input) line e.lines here)
-    ∙ ap (λ (x : Option Listener). (line_by line x input).selectors) is
+moved_by r input e o s here is = grind (arith, selectors_in, value_at, by_line, put_here, line_by)
 
 pub came_known : (r : ℕ) (input : Input) (s : Listener) (e : End) → kept_at r e.lines ≡ Some s → shows_connect (react s input).shown ≡ true →
     selectors_in (value_at r (to_session r input e).lines) ≡ selectors_told input

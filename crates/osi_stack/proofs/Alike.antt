@@ -1,8 +1,8 @@
 -- What is seen of two ends that came to the same.
-use Rattle.std.proofs.Common.{option_map, ◌≡◌, ℕ, ◌==◌, Bool, true, false, not, List, [], ◌∷◌, length, Option, Some, None, is_some, refl, sym, ap, ◌∙◌, if◌then◌else◌}
+use Rattle.std.proofs.Common.{option_map, ◌≡◌, ℕ, ◌==◌, Bool, true, false, not, List, [], ◌∷◌, length, Option, Some, None, is_some, refl, sym, ap, ◌∙◌, if◌then◌else◌, arith}
 use Rattle.osi_carrier.specs.Runs as runs
 use Rattle.osi_stack.specs.Runs.{Call, told_of}
-use Rattle.osi_stack.proofs.Vocabulary.{limit_of, flat_map, kept_in, Rows, value_at, State as Carrier, Meaning, Call as SessionCall, Listener, called, react, CallError, NoSuchConnection, has_given, connect_error, call_error, or_else, reply_refusal, session_refusal, phase_of, phase_at, quieted, hushed, put_back, carried_in, AreAlike, AreAlikeByReference, LookAlike, Line, End, Holding, session_in, session_at, joined_in}
+use Rattle.osi_stack.proofs.Vocabulary.{flat_map, kept_in, Rows, value_at, Call as SessionCall, Listener, NoSuchConnection, has_given, connect_error, call_error, session_refusal, phase_of, phase_at, quieted, hushed, put_back, carried_in, AreAlike, AreAlikeByReference, LookAlike, Line, End, Holding, session_in, session_at, joined_in}
 use Rattle.osi_stack.proofs.Keeps.{joined_quiet, kept_same}
 
 -- a line for which nothing waits
@@ -34,16 +34,8 @@ phase_hushed r e = ap (λ (o : Option Listener). if has_given r e.carrier then S
 
 -- ---- the answer to a call
 
-reply_apart : (o : List ℕ) (r limit : ℕ) (reply : Option Meaning) (c : Carrier) → reply_refusal r limit reply (runs.put_back [] o c) ≡ reply_refusal r limit reply c
-reply_apart o r limit None c = refl
-reply_apart o r limit (Some unit) c = refl
-
-refusal_apart : (o : List ℕ) (r : ℕ) (session : Option Listener) (call : SessionCall) (c : Carrier) → session_refusal r session call (runs.put_back [] o c) ≡ session_refusal r session call c
-refusal_apart o r None call c = refl
-refusal_apart o r (Some session) call c = ap (or_else (react session (called call)).error) (reply_apart o r (limit_of session.state) (react session (called call)).reply c)
-
 pub call_apart : (o : List ℕ) (r : ℕ) (call : SessionCall) (e : End) → call_error r call (put_back o e) ≡ call_error r call e
-call_apart o r call e = ap (λ (x : Option CallError). if not (has_given r e.carrier) then Some NoSuchConnection else x) (refusal_apart o r (session_at r e) call e.carrier)
+call_apart o r call e = grind arith
 
 pub call_hushed : (r : ℕ) (call : SessionCall) (e : End) → call_error r call (hushed e) ≡ call_error r call e
 call_hushed r call e = ap (λ (s : Option Listener). if not (has_given r e.carrier) then Some NoSuchConnection else session_refusal r s call e.carrier) (session_hushed r e)

@@ -1,6 +1,6 @@
 -- Which connections that were asked for are told to be agreed to, or denied.
-use Rattle.std.proofs.Common.{◌≡◌, ◌≢◌, ℕ, ◌+◌, ◌==◌, Bool, true, false, ◌||◌, List, [], ◌∷◌, ◌++◌, refl, sym, ap, ◌∙◌, ◌⊎◌, arith}
-use Rattle.osi_stack.proofs.Vocabulary.{ne_eqb, or_right, Happening, tsdu, closed, faulted, told_of, told_opened as opened, told_refused as refused}
+use Rattle.std.proofs.Common.{◌≡◌, ◌≢◌, ℕ, ◌+◌, ◌==◌, Bool, true, false, ◌||◌, List, [], ◌∷◌, ◌++◌, refl, ◌∙◌, ◌⊎◌, arith}
+use Rattle.osi_stack.proofs.Vocabulary.{or_right, Happening, told_of, told_opened as opened, told_refused as refused}
 
 -- that a connection is agreed to, or denied, is among these
 abbrev pub answered : ℕ → List Happening → Bool
@@ -24,9 +24,6 @@ answered_behind r [] later h = h
 answered_behind r (opened q ∷ first) later h = or_right (q == r) (answered r (first ++ later)) (answered_behind r first later h)
 answered_behind r (refused q reason ∷ first) later h = or_right (q == r) (answered r (first ++ later)) (answered_behind r first later h)
 answered_behind r (event ∷ first) later h = answered_behind r first later h
-
-other_first : (q r : ℕ) (b : Bool) → r ≢ q → ((q == r) || b) ≡ b
-other_first q r b ne = ap (λ (x : Bool). x || b) (ne_eqb q r (λ same. ne (sym same)))
 
 -- an event of another connection
 pub answered_other : (r : ℕ) (event : Happening) (events : List Happening) → r ≢ told_of event → answered r (event ∷ events) ≡ answered r events

@@ -1,5 +1,5 @@
 -- What a call is answered is what the table of its session says.
-use Rattle.std.proofs.Common.{◌≡◌, ℕ, Bool, true, false, not, ◌||◌, List, Option, Some, None, is_some, Ok, Err, refl, sym, ap, subst, ◌∙◌, inl, inr, if◌then◌else◌}
+use Rattle.std.proofs.Common.{◌≡◌, ℕ, true, not, ◌||◌, List, Option, Some, None, is_some, Ok, Err, refl, sym, ap, subst, ◌∙◌, if◌then◌else◌, arith}
 use Rattle.osi_session.specs.declared.faults.CallError.TheVariants as error
 use Rattle.osi_stack.proofs.Vocabulary.{AllByRecursion, IfSome, or_right, open_link, send_all_error, value_at, Standing as Link, IsSendable, tsdus_of, Step, Answer, allowed, Passed, Call, HasSerial, Input, Listener, Move, called, answered, react, after_inputs, is_wait_cn, may_abort, HasNumbersInWords, IsFresh, awaiting, asking, limit_of, CallError, Opening, opening_of, has_given, send_refusal, move_refusal, session_refusal, session_error, call_error, table_error, CameAbout, AllCameAbout, needs_link, Soundness, AreShort, kept_at, End, session_in, session_at, IsSoundState, SessionState as State}
 use Rattle.osi_stack.proofs.Folds.{at_line}
@@ -19,14 +19,7 @@ pub record Below : Type 0 where
   pub phase : (s : State) (c : Call) (x : Step) → allowed s c ≡ Ok x → may_abort s.phase ≡ true
 
 sound_first : Below → (s : Listener) → (h : CameAbout s) → IsSoundState h.first.state
-sound_first law s h = elim h.fresh [
-  | inl is ↦ subst (λ (x : Listener). IsSoundState x.state) (sym is) (law.begins awaiting law.fresh_called)
-  | inr asked ↦ subst (λ (x : Listener). IsSoundState x.state) (sym asked.1) (law.begins (asking (opening_of asked.0)) (law.fresh_asking (opening_of asked.0)))
-]
-
--- the numbers of a session are in order
-sound_session : Below → (s : Listener) → CameAbout s → IsSoundState s.state
-sound_session law s h = subst (λ (x : Listener). IsSoundState x.state) h.is (law.kept h.first h.inputs h.numbered (sound_first law s h))
+sound_first law s h = search (arith, awaiting, asking, opening_of)
 
 -- ---- the carrier takes what a call sends
 

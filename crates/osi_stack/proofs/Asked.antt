@@ -3,9 +3,9 @@ use Rattle.std.proofs.Common.{◌≡◌, ◌≢◌, ℕ, ◌+◌, ◌==◌, Bool
 use Rattle.osi_stack.proofs.Vocabulary.{eqb-true, eq-eqb, flat_map, beyond, push_here, push_other, asks, AreUpTo, Rows, value_at, Connection, asked, State as Carrier, Listener, Shown, calls_with, connects, shown_of, all_waiting, quieted, hushed, put_back, live_lines, pruned, told_in, carried_in, AreAlike, AreAlikeInLive, Line, End, Holding, line_waits, is_used, used_lines, fresh_line, Connect, tsap_octets, EndCall as Call}
 use Rattle.osi_stack.proofs.FirstShown.{quiet_line}
 use Rattle.osi_stack.proofs.InLive.{quieted_live}
-use Rattle.osi_stack.proofs.Lifting.{both, or_first, or_second}
+use Rattle.osi_stack.proofs.Lifting.{both, or_second}
 use Rattle.osi_stack.proofs.Linking.{used_by, joined_lines}
-use Rattle.osi_stack.proofs.Pruning.{only, only_row, only_push}
+use Rattle.osi_stack.proofs.Pruning.{only, only_push}
 use Rattle.osi_stack.proofs.Reached.{reached, reached_live, reached_new, Within, only_less, known_live}
 use Rattle.osi_stack.proofs.Rounds.{connects_apart}
 

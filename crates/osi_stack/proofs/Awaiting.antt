@@ -2,8 +2,7 @@
 use Rattle.std.proofs.Common.{◌≡◌, ◌≢◌, ℕ, ◌+◌, ◌==◌, Bool, true, false, ◌||◌, List, ◌∷◌, ◌++◌, length, Option, Some, None, is_some, refl, sym, ap, subst, ◌∙◌, inl, inr, ◌⊎◌, arith, if◌then◌else◌, []}
 use Rattle.osi_carrier.specs.Happenings as told
 use Rattle.osi_carrier.specs.Packets as carriers
-use Rattle.osi_session.specs.Listening.{rests}
-use Rattle.osi_stack.proofs.Vocabulary.{eqb-true, eq-eqb, Fed, Standing as Link, Class, Zero, Local, beyond, push_here, put_other, push_other, open_link, link_of, sent_on, closes, closed_on, Happening, IsOrderly, told_of, value_at, Connection, asked, closing, State as Carrier, Broken, Call, Input, Listener, called, opened, refused, broken, came, begun, denied, react, is_wait_transport, awaits, connects, calls_with, breaks, carried, without_first, Feeds, opens, hears, hears_next, hears_times, hears_all, with_events, with_carrier, after_packet, ends, AreApart, HasAsked, Soundness, IsSound, kept_at, to_session, Line, End, Holding, IsAttended, fresh_end, waits, Connect, input_of}
+use Rattle.osi_stack.proofs.Vocabulary.{eqb-true, eq-eqb, Fed, Standing as Link, Class, Zero, Local, beyond, push_here, put_other, push_other, open_link, link_of, sent_on, closes, closed_on, Happening, IsOrderly, told_of, value_at, Connection, asked, closing, State as Carrier, Broken, Call, Input, Listener, called, opened, refused, react, is_wait_transport, awaits, connects, calls_with, breaks, carried, without_first, Feeds, opens, hears, hears_next, hears_times, hears_all, with_events, with_carrier, after_packet, ends, AreApart, HasAsked, Soundness, IsSound, kept_at, to_session, Line, End, Holding, IsAttended, fresh_end, waits, Connect, input_of}
 use Rattle.osi_stack.proofs.Answered.{answered, answered_other, answered_behind}
 use Rattle.osi_stack.proofs.Events.{concluded_carrier}
 use Rattle.osi_stack.proofs.Keeping.{session_keeps}
@@ -91,24 +90,13 @@ session_asked law q input event rest e of over quiet all =
 
 -- ---- one event
 
-unwaiting : (s : Listener) (b : Bool) → is_wait_transport s.state.phase ≡ b → is_wait_transport (if b then begun s else rests s).next.state.phase ≡ false
-unwaiting s true e = refl
-unwaiting s false e = e
-
-unwaiting_denied : (s : Listener) (reason : ℕ) (b : Bool) → is_wait_transport s.state.phase ≡ b → is_wait_transport (if b then denied reason s else rests s).next.state.phase ≡ false
-unwaiting_denied s reason true e = refl
-unwaiting_denied s reason false e = e
-
 opened_waits : (s : Listener) → is_wait_transport (react s opened).next.state.phase ≡ false
 unfolding react
-opened_waits s = unwaiting s (is_wait_transport s.state.phase) refl
+opened_waits s = grind arith
 
 refused_waits : (s : Listener) (reason : ℕ) → is_wait_transport (react s (refused reason)).next.state.phase ≡ false
 unfolding react
-refused_waits s reason = unwaiting_denied s reason (is_wait_transport s.state.phase) refl
-
-awaits_none : {A : Type 0} (s : Listener) → s ≡ awaits → is_wait_transport s.state.phase ≡ true → A
-awaits_none s is n = let no : false ≡ true = ap (λ (x : Listener). is_wait_transport x.state.phase) (sym is) ∙ n in cc
+refused_waits s reason = grind arith
 
 joined_asked : (q : ℕ) (rest : List Happening) (e : End) → AreApart e.lines → value_at q e.lines ≡ None → AllAsked (told.opened q ∷ rest) e → AllAsked rest (opens q None e)
 joined_asked q rest e apart none all =

@@ -19,12 +19,6 @@ told_other : (r q : ℕ) (w : List Shown) → (q == r) ≡ false → told_of r (
 told_other r q [] e = refl
 told_other r q (shown ∷ w) e = rw e (told_other r q w e)
 
-waiting_here : (r q : ℕ) (line : Line) (lines : Rows Line) → (q == r) ≡ true → waiting_at r ((q, line) ∷ lines) ≡ line.waiting
-waiting_here r q line lines e = rw e refl
-
-waiting_behind : (r q : ℕ) (line : Line) (lines : Rows Line) → (q == r) ≡ false → waiting_at r ((q, line) ∷ lines) ≡ waiting_at r lines
-waiting_behind r q line lines e = rw e refl
-
 told_row : (r q : ℕ) (line : Line) (lines : Rows Line) (b : Bool) → (q == r) ≡ b → value_at q lines ≡ None → told_of r (all_waiting lines) ≡ shown_of r (waiting_at r lines) →
     told_of r (shown_of q line.waiting) ++ told_of r (all_waiting lines) ≡ shown_of r (waiting_at r ((q, line) ∷ lines))
 told_row r q line lines true e alone more =
@@ -68,9 +62,6 @@ lost_quieted ((q, line) ∷ lines) = ap (λ (l : Rows Line). (q, record line { s
 
 ends_hushed : (o : List ℕ) (e : End) → put_back o (hushed (ends Broken e)) ≡ put_back o (hushed (ends Broken (hushed e)))
 ends_hushed o e = ap (λ (l : Rows Line). put_back o (record (ends Broken e) { lines = l })) (lost_quieted e.lines)
-
-kept_hushed : (r : ℕ) (o : List ℕ) (e : End) → kept_at r (put_back o (hushed e)).lines ≡ kept_at r e.lines
-kept_hushed r o e = quieted_at r e.lines
 
 kept_alike : (a b : Holding) (xs ys : List Call) → AreAlike a xs b ys → (r : ℕ) → kept_at r a.end.lines ≡ kept_at r b.end.lines
 kept_alike a b xs ys h r =

@@ -1,6 +1,6 @@
 -- What a call sends, and what it does not do.
 use Rattle.std.proofs.Common.{◌≡◌, ℕ, Bool, false, List, [], ◌++◌, Option, Some, None, is_none, Result, Ok, Err, OnOk, IfErr, refl, sym, ap, subst, ◌∙◌, if◌then◌else◌, arith}
-use Rattle.osi_stack.proofs.Vocabulary.{append-nil, Carrying, send_all_error, open_link, State as Carrier, Meaning, tsdus_sent, Answer, allowed, Call, CallError, Listener, Move, called, answered, react, Shown, limit_of, send_refusal, reply_refusal, move_refusal, or_else, Refuses, answers, line_by, carrier_by, shows_connect, Line, hands, answers_by}
+use Rattle.osi_stack.proofs.Vocabulary.{append-nil, Carrying, send_all_error, open_link, State as Carrier, Meaning, tsdus_sent, Answer, allowed, Call, CallError, Listener, Move, called, answered, react, limit_of, send_refusal, reply_refusal, move_refusal, or_else, Refuses, answers, line_by, carrier_by, Line, hands, answers_by}
 
 -- a call shows nothing and closes nothing, and one that is accepted sends something
 pub record IsCall (move : Move) : Type 0 where
@@ -70,22 +70,9 @@ call_refused (Err f) s call sent tsdus r limit c none e same h =
 
 -- ---- the line and the carrier after a call
 
--- the line of a session that shows this behind a call
-abbrev line_showing : Listener → List Shown → Line → Line
-line_showing next shown l = record { session = Some next; waiting = l.waiting ++ shown; selectors = if shows_connect shown then None else l.selectors }
-
 pub called_line : {A E : Type 0} (result : Result A E) (r : ℕ) (l : Line) (v : ℕ × Line) (s t : Listener) (call : Call) → (r, l) ≡ v → l.session ≡ Some s →
     OnOk result (t ≡ (react s (called call)).next) → OnOk result (◌≡◌ {A = ℕ × Line} (r, record l { session = Some t }) (v.0, line_by v.1 v.1.session (called call)))
-called_line (Err f) r l v s t call is here h = tt
-called_line (Ok a) r l v s t call is here h =
-    let next = (react s (called call)).next in
-    let showing = λ (w : List Shown). line_showing next w l in
-    let done : ◌≡◌ {A = Line} (record l { session = Some t }) (line_by l (Some s) (called call)) =
-    ap (λ (x : Listener). record l { session = Some x }) h
-    ∙ ap (λ (w : List Shown). record l { session = Some next; waiting = w }) (sym (append-nil l.waiting))
-    ∙ ap showing (sym (call_is s call).shown) in
-    subst (λ (x : ℕ × Line). ◌≡◌ {A = ℕ × Line} (r, record l { session = Some t }) (x.0, line_by x.1 x.1.session (called call))) is
-    (ap (λ (x : Line). (r, x)) (done ∙ ap (λ o. line_by l o (called call)) (sym here)))
+called_line result r l v s t call is here h = grind (arith, react, called, line_by, append-nil, call_is)
 
 pub called_carrier : {A E : Type 0} (result : Result A E) (r : ℕ) (l : Line) (v : ℕ × Line) (s : Listener) (c d : Carrying) (call : Call) → (r, l) ≡ v → l.session ≡ Some s →
     OnOk result (d ≡ record c { state = answers r (limit_of s.state) (react s (called call)) c.state }) → OnOk result (d ≡ record c { state = carrier_by v.0 v.1.session (called call) c.state })

@@ -1,5 +1,5 @@
 -- Octets that the other end wrote are read as the units that it wrote.
-use Rattle.std.proofs.Common.{◌≡◌, ℕ, ◌+◌, ◌-◌, ◌≤◌, Bool, true, false, ◌||◌, not, is_some, List, ◌∷◌, ◌++◌, length, map, take, drop, Option, None, Result, Ok, refl, sym, ap, subst, ◌∙◌, inl, inr, ◌⊎◌, arith, if◌then◌else◌, []}
+use Rattle.std.proofs.Common.{◌≡◌, ℕ, ◌+◌, ◌-◌, ◌≤◌, Bool, true, false, ◌||◌, is_some, List, ◌∷◌, ◌++◌, length, map, take, drop, Option, None, Result, Ok, refl, sym, ap, subst, ◌∙◌, inl, inr, ◌⊎◌, arith, if◌then◌else◌, []}
 use Rattle.osi_tpdu.specs.Writing.{written}
 use Rattle.osi_carrier.specs.Coming.{IsSendable, AreComing}
 use Rattle.osi_carrier.specs.Packets as carriers
@@ -7,8 +7,8 @@ use Rattle.osi_carrier.specs.React.{react}
 use Rattle.osi_carrier.specs.State as states
 use Rattle.osi_carrier.proofs.Coming.{unit_read, packet_reacts, Fronts, units_front, fault_free, alone_starved, starved_unit, reads_part}
 use Rattle.osi_stack.specs.Feeding.{Refuses}
-use Rattle.osi_stack.proofs.Vocabulary.{AllByRecursion, length-take-le, take-take, ArePackets, offset_of, Fed, Value, TpduFault, Happening, State as Carrier, EndReason, NoMemory, after_unit, carries_out, TakesUnits, IsUnheard, TakesSome, stops, uses_all, TakesPackets, RunsDry, StopsBehind, FindsNoMemory, Goes, Feeds, attends, after_packet, with_carrier, with_events, hears_all, hears_times, hears_first, hears_next, ends, concludes, RunsOut, Starves, End, Holding, IsAttended, waits}
-use Rattle.osi_stack.proofs.Events.{all_quiet, never_starved, concluded_attended, starved_over as ended_then}
+use Rattle.osi_stack.proofs.Vocabulary.{AllByRecursion, length-take-le, take-take, ArePackets, offset_of, Fed, Value, TpduFault, Happening, State as Carrier, EndReason, NoMemory, after_unit, carries_out, TakesUnits, IsUnheard, TakesSome, stops, uses_all, TakesPackets, RunsDry, StopsBehind, FindsNoMemory, Goes, Feeds, attends, after_packet, with_carrier, with_events, hears_all, hears_times, hears_first, hears_next, ends, RunsOut, Starves, End, Holding, IsAttended, waits}
+use Rattle.osi_stack.proofs.Events.{never_starved, concluded_attended}
 use Rattle.osi_stack.proofs.Keeping.{hears_keep}
 use Rattle.osi_stack.proofs.Lifting.{packet_is, lasting_of, never}
 use Rattle.osi_stack.proofs.Throughout.{IsKept, packets_kept, over_kept}

@@ -11,16 +11,7 @@ ended_not : {A : Type 0} (old told before : Carrier) → is_some old.ended ≡ f
 ended_not old told before lasts same over = both (is_some old.ended) (ap (λ (c : Carrier). is_some c.ended) (sym same) ∙ over) lasts
 
 dry_is : (old : Holding) (used : ℕ) (told : Carrying) → stops old.end ≡ false → carriers.RunsDry (carrying_of old) [] used told → told ≡ carrying_of old → RunsDry old [] 0 old
-dry_is old used told quiet g same = record {
-  units = [];
-  all = refl;
-  packets = append-nil old.held.octets;
-  partial = (subst (λ (x : Carrying). carriers.RunsDry (carrying_of old) [] used x) same g).partial;
-  taken = refl;
-  quiet = quiet;
-  offset = (subst (λ (x : Carrying). carriers.RunsDry (carrying_of old) [] used x) same g).offset;
-  room = (subst (λ (x : Carrying). carriers.RunsDry (carrying_of old) [] used x) same g).room;
-}
+dry_is old used told quiet g same = grind (arith, append-nil, carrying_of)
 
 nothing_by : (old : Holding) (used : ℕ) (told : Carrying) → stops old.end ≡ false → carriers.Goes (carrying_of old) [] used told → told ≡ carrying_of old → RunsDry old [] 0 old
 nothing_by old used told quiet (inl (inl g)) same = dry_is old used told quiet g same
@@ -55,7 +46,4 @@ nothing_of (x ∷ l) e = let none = eqb-true (length (x ∷ l)) 0 e in absurd (o
 -- an end whose carrier is fed nothing
 pub idle_goes : (old : Holding) (piece : List ℕ) (fed : Fed) (told : Carrying) → (length piece == 0) ≡ true → stops old.end ≡ false → IsAttended old.end →
     carriers.Feeds (carrying_of old) piece fed told → (piece ≡ [] → (fed.used ≡ 0) × (told ≡ carrying_of old)) → IsIdle old piece fed.used (holding told old.end.lines)
-idle_goes old piece fed told e quiet attended feeds empty =
-    let none = nothing_of piece e in
-    let is = empty none in
-    idle_is old (holding told old.end.lines) piece fed told none quiet attended feeds is.0 is.1 (ap (λ (x : Carrying). holding x old.end.lines) is.1)
+idle_goes old piece fed told e quiet attended feeds empty = grind (arith, nothing_of, idle_is, holding)

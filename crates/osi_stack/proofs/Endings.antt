@@ -4,7 +4,7 @@ use Rattle.std.proofs.Common.{◌≡◌, ℕ, ◌+◌, ◌-◌, ◌<◌, ◌^◌
 use Rattle.osi_tpkt.proofs.Fronts.{one_fault}
 use Rattle.osi_carrier.proofs.Outcomes.{Compared, compare, init_front, no_further, at_same, offsets_join}
 use Rattle.osi_stack.specs.Feeding.{Refuses}
-use Rattle.osi_stack.proofs.Vocabulary.{append-nil, take_all, flat_map, Held, IsPartial, IsFaultOf, ArePackets, offset_of, Fed, TpktFault, PacketLaws, fault_behind, front_used, packets_joined, packets_leave, Tpkt, EndReason, Fault, Shown, stops, uses_all, TakesPackets, RunsDry, StopsBehind, Feeds, after_packet, ends, all_lost, all_waiting, hushed, put_back, Account, account_of, with_packets, Calls, HasRoom, CallsAlong, CallsInRoom, used_in, told_in, carried_in, account_along, AreAlike, feeding, telling, carrying, End, Holding, waits, none_of, EndCall as Call}
+use Rattle.osi_stack.proofs.Vocabulary.{append-nil, take_all, flat_map, Held, IsPartial, IsFaultOf, ArePackets, offset_of, Fed, TpktFault, PacketLaws, fault_behind, front_used, packets_joined, packets_leave, Tpkt, Fault, Shown, stops, uses_all, TakesPackets, RunsDry, StopsBehind, Feeds, after_packet, ends, all_lost, all_waiting, hushed, put_back, Account, account_of, with_packets, Calls, HasRoom, CallsAlong, CallsInRoom, used_in, told_in, carried_in, account_along, AreAlike, feeding, telling, carrying, End, Holding, waits, none_of, EndCall as Call}
 use Rattle.osi_stack.proofs.Accounts.{made, after_more, account_quiet, account_told, account_joined, account_packet, packets_apart, packets_done, with_joined}
 use Rattle.osi_stack.proofs.Lasting.{Lasts, account_over, in_front, packets_within, no_packets_end, no_fault_ends, reads_lasts}
 use Rattle.osi_stack.proofs.Lifting.{both, or_first, or_second, never}
@@ -175,10 +175,7 @@ ends_goes old piece fed new later quiet (inr refused) over = ends_refuses old pi
 ends_feed : (old : Holding) (piece : List ℕ) (fed : Fed) (new : Holding) (later : List ℕ) (waiting : Bool) → waits old.end.lines ≡ waiting → old.end.carrier.ended ≡ None →
     Feeds old piece fed new → HasRoom old (feeding piece fed) new → is_some new.end.carrier.ended ≡ true →
     Outcome old (old.held.octets ++ (take fed.used piece ++ later)) (account_of [] [] new.end) new.held.octets
-ends_feed old piece fed new later true e quiet h room over = never new.end over (ap (λ (x : Holding). x.end.carrier.ended) (h.waiting quiet e).1 ∙ quiet)
-ends_feed old piece fed new later false e quiet h room over =
-    let still : stops old.end ≡ false = ap (λ (o : Option EndReason). is_some o || waits old.end.lines) quiet ∙ e in
-    ends_goes old piece fed new later still (room still) over
+ends_feed old piece fed new later waiting e quiet h room over = search (arith, never, stops, is_some, waits, ends_goes)
 
 ends_one : (old : Holding) (call : Call) (new : Holding) (later : List ℕ) → old.end.carrier.ended ≡ None → Calls old call new → HasRoom old call new → is_some new.end.carrier.ended ≡ true →
     Outcome old (old.held.octets ++ (used_in call ++ later)) (account_of (told_in call) (carried_in call) new.end) new.held.octets
@@ -193,12 +190,7 @@ pub record Stays (old : Holding) (told : List (ℕ × Shown)) (carried : List �
   pub held : new.held ≡ old.held
 
 stays_one : (old : Holding) (call : Call) (new : Holding) → is_some old.end.carrier.ended ≡ true → Calls old call new → Stays old (told_in call) (carried_in call) new
-stays_one old (feeding piece fed) new over h = record { account = ap (λ (x : Holding). account_of [] [] x.end) (h.over over).1; held = ap (λ (x : Holding). x.held) (h.over over).1 }
-stays_one old (telling shown) new over h = record {
-  account = ap (λ (x : Holding). account_of (told_in (telling shown)) [] x.end) h.1 ∙ account_told shown old.end h.0;
-  held = ap (λ (x : Holding). x.held) h.1;
-}
-stays_one old (carrying octets) new over h = record { account = ap (λ (x : Holding). account_of [] [] x.end) (sym h); held = ap (λ (x : Holding). x.held) (sym h) }
+stays_one old call new over h = grind (arith, feeding, account_of, telling, told_in, account_told, carrying)
 
 pub stays_along : (old : Holding) (calls : List Call) (new : Holding) → is_some old.end.carrier.ended ≡ true → CallsAlong old calls new → Stays old (flat_map told_in calls) (flat_map carried_in calls) new
 stays_along old [] new over h = record { account = ap (λ (x : Holding). account_of [] [] x.end) h; held = ap (λ (x : Holding). x.held) h }

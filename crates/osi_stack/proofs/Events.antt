@@ -1,8 +1,7 @@
 -- The events that wait, heard one after the other.
-use Rattle.std.proofs.Common.{◌≡◌, ℕ, ◌+◌, ◌<◌, ◌==◌, zero, suc, Bool, true, false, not, List, ◌∷◌, length, Option, Some, None, is_some, refl, sym, ap, subst, ◌∙◌, inl, inr, arith, if◌then◌else◌, []}
+use Rattle.std.proofs.Common.{◌≡◌, ℕ, ◌+◌, ◌<◌, ◌==◌, zero, suc, Bool, true, false, not, List, ◌∷◌, length, None, is_some, refl, sym, ap, subst, ◌∙◌, inl, inr, arith, if◌then◌else◌, []}
 use Rattle.osi_carrier.specs.Packets as carriers
-use Rattle.osi_stack.proofs.Vocabulary.{eqb-true, not-false, Fed, ended_by, Tells, Happening, Carrying, is_spoilt, Rows, State as Carrier, EndReason, NoMemory, Interrupted, LeftOff, Fetches, hears, hears_first, hears_next, hears_times, hears_all, with_events, with_carrier, all_lost, concludes, starves, RunsOut, needs_memory, Line, End, Holding, IsAttended, holding}
-use Rattle.osi_stack.proofs.Found.{same_end}
+use Rattle.osi_stack.proofs.Vocabulary.{eqb-true, not-false, Fed, Tells, Happening, Carrying, is_spoilt, Rows, State as Carrier, Interrupted, LeftOff, Fetches, hears, hears_first, hears_next, hears_times, hears_all, with_events, with_carrier, all_lost, concludes, starves, RunsOut, needs_memory, Line, End, Holding, IsAttended, holding}
 use Rattle.osi_stack.proofs.Keeping.{hears_keep}
 
 -- ---- one more
@@ -32,11 +31,7 @@ pub record HasHeard (old now : Holding) : Type 0 where
 
 pub heard_fewer : (now : End) (event : Happening) (mid : Carrier) → now.carrier ≡ record mid { events = event ∷ mid.events } →
     length now.carrier.events ≡ suc (length (hears event (with_carrier mid now)).carrier.events)
-heard_fewer now event mid h =
-    let t = taken_is now event mid h in
-    let kept = ap length (hears_keep event (with_carrier mid now)).events in
-    let first = ap length t.first in
-    omega arith
+heard_fewer now event mid h = grind (arith, taken_is, length, hears_keep, with_carrier)
 
 pub heard_next : (old now : Holding) (event : Happening) (mid : Carrier) (new : Holding) → HasHeard old now → now.end.carrier ≡ record mid { events = event ∷ mid.events } →
     new.end ≡ hears event (with_carrier mid now.end) → new.held ≡ now.held → HasHeard old new
@@ -55,10 +50,7 @@ heard_next old now event mid new so_far h is held =
 -- fewer events are left
 pub heard_left_over : (now new : Holding) (event : Happening) (mid : Carrier) → now.end.carrier ≡ record mid { events = event ∷ mid.events } →
     new.end ≡ hears event (with_carrier mid now.end) → length new.end.carrier.events < length now.end.carrier.events
-heard_left_over now new event mid h is =
-    let fewer = heard_fewer now.end event mid h in
-    let same = ap (λ (e : End). length e.carrier.events) is in
-    omega arith
+heard_left_over now new event mid h is = grind (arith, heard_fewer, length)
 
 pub heard_all : (old now : Holding) → HasHeard old now → now.end.carrier.events ≡ [] → now.end ≡ hears_all old.end
 heard_all old now so_far none = grind arith
@@ -89,10 +81,7 @@ all_quiet e none = times_quiet (length e.carrier.events) e none
 
 -- where none waits there is memory
 pub never_starved : {A : Type 0} (old new : End) → old.carrier.events ≡ [] → RunsOut old new → A
-never_starved old new none out =
-    let none_left : (hears_times out.heard old).carrier.events ≡ [] = ap (λ (e : End). e.carrier.events) (times_quiet out.heard old none) ∙ none in
-    let some = out.waits in
-    cc
+never_starved old new none out = grind (arith, hears_times, times_quiet)
 
 -- ---- what stays
 
@@ -106,12 +95,8 @@ all_keep_by (suc n) e = all_keep_by n (hears_next e) ∙ first_keeps e.carrier.e
 
 -- ---- attended
 
-over_by : (o : Option EndReason) (x y : Carrier) → is_some x.ended ≡ is_some o → is_some y.ended ≡ true → is_some (if is_some o then x else y).ended ≡ true
-over_by None x y h k = k
-over_by (Some reason) x y h k = h
-
 pub starved_over : (e : End) → is_some (starves e).carrier.ended ≡ true
-starved_over e = over_by e.carrier.ended e.carrier (record e.carrier { live = []; tsaps = []; ended = Some NoMemory }) refl refl
+starved_over e = grind arith
 
 pub starved_attended : (e new : End) → new ≡ starves e → IsAttended new
 starved_attended e new h none = grind arith

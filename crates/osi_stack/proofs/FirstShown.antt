@@ -1,7 +1,7 @@
 -- The first connection for which an indication waits.
 use Rattle.std.proofs.Common.{◌≡◌, ℕ, ◌+◌, ◌<◌, ◌≤◌, ◌==◌, Bool, zero, suc, true, false, not, List, [], ◌∷◌, length, map, get_or, set, Option, Some, None, refl, sym, ap, ◌∙◌, arith}
 use Rattle.std.proofs.lemmas.List.Quantifiers.{position-Some}
-use Rattle.osi_stack.proofs.Vocabulary.{position, position_or_len, eqb-true, not-false, common_steps, Rows, Shown, shown_by, Indication, first_by, first_shown, rest_by, without_first, TellsOf, Line, line_waits, waits}
+use Rattle.osi_stack.proofs.Vocabulary.{position, position_or_len, common_steps, Rows, Shown, shown_by, Indication, first_by, first_shown, rest_by, without_first, TellsOf, Line, line_waits, waits}
 use Rattle.osi_stack.proofs.Events.{no_events}
 use Rattle.osi_stack.proofs.Lifting.{or_first, or_second}
 

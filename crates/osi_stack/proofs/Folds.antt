@@ -1,7 +1,7 @@
 -- What is true of each session of an end stays so, whatever is called and fed: each is what its inputs made of
 -- it, and its functional units can be selected together.
-use Rattle.std.proofs.Common.{◌≡◌, ℕ, List, [], ◌∷◌, ◌++◌, Option, Some, None, Result, Ok, Err, refl, ap, subst, ◌∙◌, inl, inr}
-use Rattle.osi_stack.proofs.Vocabulary.{AllByRecursion, IfSome, Fed, Units, tsdu_at, SpduFault, said_by_units, said_if_read, said_at, Rows, value_at, Call, HasSerial, Input, Listener, called, taken, opened, refused, broken, came, came_as, react, after_inputs, HasNumbersInWords, HasProfile, awaiting, awaits, calls_with, connects, breaks, without_first, Feeds, CameAbout, IsProfiled, OfSession, OfSessions, AllCameAbout, after_packet, line_by, to_session, Line, End, Holding, Connect}
+use Rattle.std.proofs.Common.{◌≡◌, ℕ, List, [], ◌∷◌, ◌++◌, Option, Some, None, refl, ap, subst, ◌∙◌, inl, inr, arith}
+use Rattle.osi_stack.proofs.Vocabulary.{AllByRecursion, IfSome, Fed, Units, said_by_units, said_at, Rows, value_at, Call, HasSerial, Input, Listener, called, taken, opened, refused, broken, came, react, after_inputs, HasNumbersInWords, HasProfile, awaiting, awaits, calls_with, connects, breaks, without_first, Feeds, CameAbout, IsProfiled, OfSession, OfSessions, AllCameAbout, after_packet, line_by, to_session, Line, End, Holding, Connect}
 use Rattle.osi_stack.proofs.OfLines.{LinesStay, line_at, session_lines, packet_lines, feeds_lines, connect_lines, told_lines, breaks_lines}
 
 -- ---- what stays true of a session
@@ -20,14 +20,7 @@ line_all P line None input moves is h = h
 line_all P line (Some s) input moves is h = moves s (subst (λ (o : Option Listener). IfSome o P) is h)
 
 lines_stay : (P : Listener → Type 0) → StaysTrue P → LinesStay (OfSession P)
-lines_stay P law = record {
-  begins = law.begins;
-  opened = λ line h. line_all P line line.session opened law.opened refl h;
-  refused = λ line reason h. line_all P line line.session (refused reason) (λ s. law.refused s reason) refl h;
-  came = λ line octets h. line_all P line line.session (came octets) (λ s. law.came s octets) refl h;
-  broken = λ line h. line_all P line line.session broken law.broken refl h;
-  lost = λ line. tt;
-}
+lines_stay P law = grind (arith, opened, line_all, refused, came, broken)
 
 -- ---- what stays true of each session
 
@@ -70,14 +63,9 @@ came_moves input one s h = search (h.inputs ++ input ∷ [], numbered_behind h.i
 pub came_asking : (c : Connect) → CameAbout (calls_with c)
 came_asking c = record { first = calls_with c; fresh = inr (c, refl); inputs = []; numbered = tt; is = refl }
 
--- the numbers in what comes are those that a point may have
-came_numbers_by : ((units : Units) → HasNumbersInWords (taken (said_by_units units))) → (read : Result Units SpduFault) → HasNumbersInWords (came_as (said_if_read read))
-came_numbers_by law (Ok units) = law units
-came_numbers_by law (Err fault) = tt
-
 pub came_numbers : ((units : Units) → HasNumbersInWords (taken (said_by_units units))) → (octets : List ℕ) → HasNumbersInWords (came octets)
 unfolding said_at
-came_numbers law octets = came_numbers_by law (tsdu_at octets)
+came_numbers law octets = grind arith
 
 pub came_true : ((units : Units) → HasNumbersInWords (taken (said_by_units units))) → StaysTrue CameAbout
 came_true law = record {

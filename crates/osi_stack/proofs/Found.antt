@@ -1,7 +1,7 @@
 -- The line of a reference, at its place among the lines.
-use Rattle.std.proofs.Common.{◌≡◌, ℕ, ◌+◌, ◌≤◌, ◌==◌, Bool, suc, true, false, [], ◌∷◌, length, get_or, set, is_some, Option, Some, None, Result, Ok, Err, OnOk, IfErr, refl, sym, ap, subst, ◌∙◌, arith}
+use Rattle.std.proofs.Common.{◌≡◌, ℕ, [], get_or, set, is_some, Option, Some, None, Result, Ok, Err, OnOk, IfErr, refl, sym, ap, subst, ◌∙◌}
 pub use Rattle.osi_carrier.proofs.Places.{nowhere}
-use Rattle.osi_stack.proofs.Vocabulary.{position_or_len, common_steps, placed, here_is, Carrying, Rows, value_at, place_of, put, State as Carrier, Call, Input, Listener, CallError, session_refusal, session_error, Refuses, line_by, carrier_by, by_line, to_session, Line, End, session_in}
+use Rattle.osi_stack.proofs.Vocabulary.{placed, here_is, Carrying, Rows, value_at, place_of, put, State as Carrier, Call, Input, Listener, CallError, session_refusal, session_error, Refuses, line_by, carrier_by, by_line, to_session, Line, End, session_in}
 
 found_by : (r : ℕ) (rows : Rows Line) (o : Option ℕ) → place_of r rows ≡ o → is_some o ≡ is_some (value_at r rows)
 found_by r rows None e = sym (ap is_some (nowhere r rows e))

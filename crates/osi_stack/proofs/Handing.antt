@@ -1,8 +1,8 @@
 -- TSDUs that are handed over together.
-use Rattle.std.proofs.Common.{◌≡◌, ◌∙◌, refl, sym, ap, ℕ, ◌≤◌, Bool, true, false, ◌||◌, List, [], ◌∷◌, length, map, nat_lt, Option, Some, None, option_map, unwrap_or, Ok, Err, Result, arith, if◌then◌else◌}
+use Rattle.std.proofs.Common.{◌≡◌, ◌∙◌, refl, sym, ap, ℕ, ◌≤◌, Bool, true, false, ◌||◌, List, [], ◌∷◌, length, map, nat_lt, Option, Some, None, option_map, unwrap_or, arith, if◌then◌else◌}
 use Rattle.osi_carrier.specs.declared.faults.SendError.TheVariants.{TooLong}
-use Rattle.osi_stack.specs.declared.told.Told.TheVariants.{Opened, Refused, Tsdu, Lost}
-use Rattle.osi_stack.proofs.Vocabulary.{list_any, nat_tests, or-false, send_error, send_all_error, lengths_error, open_link, sent, sent_on, sent_all, State as Carrier, SendError, Standing as Link, Meaning, DT, is_parted, tsdus_sent, in_one, said_at, Words, Word, says, part, word_octets, sent_alone, Listener, Move, came, came_as, SpduFault, AreShort, message_of, does, puts, limit_for, answers, told_input, sent_unless, hands, answers_by, Told}
+use Rattle.osi_stack.specs.declared.told.Told.TheVariants.{Tsdu}
+use Rattle.osi_stack.proofs.Vocabulary.{list_any, nat_tests, or-false, send_error, send_all_error, lengths_error, open_link, sent, sent_on, sent_all, State as Carrier, SendError, Standing as Link, Meaning, DT, is_parted, tsdus_sent, in_one, Words, Word, says, part, word_octets, sent_alone, Listener, Move, came, AreShort, message_of, does, puts, limit_for, answers, told_input, sent_unless, hands, answers_by, Told}
 
 -- ---- one, and none
 
@@ -64,12 +64,8 @@ pub sent_by_itself : (reply : Option Meaning) → unwrap_or (option_map in_one r
 sent_by_itself None = refl
 sent_by_itself (Some m) = sym (sent_alone 0 m (not_parted m))
 
-unbounded : (s : Listener) (read : Result Words SpduFault) → limit_for s (came_as read) ≡ 0
-unbounded s (Ok words) = refl
-unbounded s (Err fault) = refl
-
 pub came_unbounded : (s : Listener) (octets : List ℕ) → limit_for s (came octets) ≡ 0
-came_unbounded s octets = unbounded s (said_at octets)
+came_unbounded s octets = grind arith
 
 pub told_unbounded : (s : Listener) (told : Told) → limit_for s (told_input told) ≡ 0
 told_unbounded s (Tsdu octets) = came_unbounded s octets.now
@@ -78,7 +74,4 @@ told_unbounded s _ = refl
 -- what is handed over of a session that hears something
 pub answer_heard : (s : Listener) (told : Told) (r : ℕ) (reply : Option (List (List ℕ))) (closes : Bool) (move : Move) (c : Carrier) → reply ≡ option_map in_one move.reply → closes ≡ move.closes →
     answers_by closes r (unwrap_or reply []) c ≡ answers r (limit_for s (told_input told)) move c
-answer_heard s told r reply closes move c e f =
-    ap (λ (b : Bool). answers_by b r (unwrap_or reply []) c) f
-    ∙ ap (λ (l : List (List ℕ)). answers_by move.closes r l c) (ap (λ (o : Option (List (List ℕ))). unwrap_or o []) e ∙ sent_by_itself move.reply)
-    ∙ ap (λ (n : ℕ). answers r n move c) (sym (told_unbounded s told))
+answer_heard s told r reply closes move c e f = grind (arith, answers_by, unwrap_or, sent_by_itself, answers, told_unbounded)

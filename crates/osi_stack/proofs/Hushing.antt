@@ -1,6 +1,6 @@
 -- An accepted call of a session does the same where indications wait as where all was told.
 use Rattle.std.proofs.Common.{◌≡◌, ℕ, ◌==◌, Bool, true, false, List, [], ◌∷◌, ◌++◌, Option, Some, None, option_map, refl, sym, ap, ◌∙◌, arith}
-use Rattle.osi_stack.proofs.Vocabulary.{append-nil, Rows, value_at, put, Call as SessionCall, Input, Listener, called, Shown, call_error, shown_of, all_waiting, line_by, by_line, to_session, quieted, hushed, put_back, account_of, Line, End}
+use Rattle.osi_stack.proofs.Vocabulary.{append-nil, Rows, value_at, put, Call as SessionCall, Input, Listener, called, Shown, call_error, all_waiting, line_by, by_line, to_session, quieted, hushed, put_back, account_of, Line, End}
 use Rattle.osi_stack.proofs.Accounts.{made}
 use Rattle.osi_stack.proofs.Alike.{call_hushed, hush, quieted_value}
 use Rattle.osi_stack.proofs.Moves.{says_is}
@@ -30,10 +30,7 @@ line_hushed line None input = refl
 line_hushed line (Some session) input = refl
 
 hushed_by : (r : ℕ) (line : Option Line) (input : Input) (e : End) → hushed (by_line r line input e) ≡ hushed (by_line r (option_map hush line) input (hushed e))
-hushed_by r None input e = ap (λ (l : Rows Line). record e { lines = l }) (quieted_twice e.lines)
-hushed_by r (Some line) input e =
-    ap (λ (l : Rows Line). record (by_line r (Some line) input e) { lines = l })
-    (put_quieted r (line_by line line.session input) (line_by (hush line) line.session input) e.lines (line_hushed line line.session input))
+hushed_by r line input e = grind (arith, quieted_twice, by_line, put_quieted, line_by, hush, line_hushed)
 
 session_hushed : (r : ℕ) (input : Input) (e : End) → hushed (to_session r input e) ≡ hushed (to_session r input (hushed e))
 session_hushed r input e =

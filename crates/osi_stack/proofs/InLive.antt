@@ -1,7 +1,7 @@
 -- Two accounts that are the same but for lines of connections that are gone stay so, whatever comes.
 use Rattle.std.proofs.Common.{◌≡◌, ℕ, ◌==◌, Bool, true, false, ◌||◌, List, [], ◌∷◌, ◌++◌, Option, Some, None, is_some, refl, sym, ap, ◌∙◌, if◌then◌else◌, arith}
 use Rattle.osi_carrier.specs.Packets as carriers
-use Rattle.osi_stack.proofs.Vocabulary.{eqb-true, eq-eqb, or_right, orderly_same, link_of, AreUpTo, Rows, value_at, Connection, asked, State as Carrier, is_open, none_of, implied, Listener, broken, react, is_wait_transport, may_abort, shows_loss, Shown, Lost, shown_at_loss, after_packet, with_carrier, AreApart, HasAsked, IsSound, kept_at, all_waiting, quieted, hushed, put_back, live_lines, pruned, Account, account_of, Line, End, IsAttended, line_waits, session_in, waits}
+use Rattle.osi_stack.proofs.Vocabulary.{eq-eqb, or_right, orderly_same, link_of, AreUpTo, Rows, value_at, Connection, asked, is_open, none_of, implied, Listener, broken, react, is_wait_transport, may_abort, shows_loss, Shown, shown_at_loss, after_packet, with_carrier, AreApart, HasAsked, IsSound, kept_at, all_waiting, quieted, hushed, put_back, live_lines, pruned, Account, account_of, Line, End, IsAttended, line_waits, waits}
 use Rattle.osi_stack.proofs.Accounts.{made}
 use Rattle.osi_stack.proofs.Alike.{quieted_at}
 use Rattle.osi_stack.proofs.Awaiting.{StillWaits, packet_asked}
@@ -9,7 +9,7 @@ use Rattle.osi_stack.proofs.Comings.{attended_then}
 use Rattle.osi_stack.proofs.FirstShown.{quiet_line}
 use Rattle.osi_stack.proofs.Lifting.{both, or_first, or_second, packet_is}
 use Rattle.osi_stack.proofs.Linking.{SessionLaws}
-use Rattle.osi_stack.proofs.Pruning.{only_row, AreStill}
+use Rattle.osi_stack.proofs.Pruning.{AreStill}
 use Rattle.osi_stack.proofs.Reached.{reached, unreached, SameInLive}
 use Rattle.osi_stack.proofs.Soundness.{packet_sound}
 
@@ -50,41 +50,19 @@ apart_quieted [] apart = tt
 apart_quieted ((q, y) ∷ lines) apart = (none_of (value_at q lines) (sym (some_quieted q lines) ∙ ap is_some apart.0), apart_quieted lines apart.1)
 
 pub fit_hushed : (o : List ℕ) (e : End) → IsFit e → IsFit (put_back o (hushed e))
-fit_hushed o e f = record {
-  attended = f.attended;
-  sound = λ over. (let s = f.sound over in record {
-    orderly = orderly_same e.carrier (o ++ e.carrier.outgoing) e.carrier.events s.orderly;
-    apart = quieted_apart e.lines s.apart;
-    known = quieted_up e.carrier.given e.lines s.known;
-    links = λ lasts r t is n. s.links lasts r t (sym (quieted_at r e.lines) ∙ is) n;
-  });
-  asks = λ over r t is n. f.asks over r t (sym (quieted_at r e.lines) ∙ is) n;
-}
+fit_hushed o e f = grind (arith, orderly_same, quieted_apart, quieted_up, quieted_at)
 
 pub fit_back : (o : List ℕ) (e : End) → IsFit (put_back o (hushed e)) → IsFit e
-fit_back o e f = record {
-  attended = f.attended;
-  sound = λ over. (let s = f.sound over in record {
-    orderly = orderly_same (put_back o e).carrier e.carrier.outgoing e.carrier.events s.orderly;
-    apart = apart_quieted e.lines s.apart;
-    known = up_quieted e.carrier.given e.lines s.known;
-    links = λ lasts r t is n. s.links lasts r t (quieted_at r e.lines ∙ is) n;
-  });
-  asks = λ over r t is n. f.asks over r t (quieted_at r e.lines ∙ is) n;
-}
+fit_back o e f = grind (arith, orderly_same, put_back, apart_quieted, up_quieted, quieted_at)
 
 pub fit_packet : SessionLaws → StillWaits → (unit : List ℕ) (e : End) → e.carrier.ended ≡ None → IsFit e → IsFit (after_packet e unit)
 fit_packet laws law unit e lasts f = search (attended_then (with_carrier (carriers.after_packet e.carrier unit) e) (after_packet e unit) (packet_is e unit), packet_sound laws unit e lasts (f.attended lasts) f.sound, packet_asked law unit e lasts (f.sound lasts) f.asks)
 
 -- ---- the session of a connection that is gone shows nothing when it is lost
 
-unshown : (b : Bool) → b ≡ false → (if◌then◌else◌ {A = List Shown} b (Lost ∷ []) []) ≡ []
-unshown true h = cc
-unshown false h = refl
-
 quiet_loss : (s : Listener) → shows_loss s.state.phase ≡ false → (react s broken).shown ≡ []
 unfolding react
-quiet_loss s h = unshown (shows_loss s.state.phase) h
+quiet_loss s h = grind arith
 
 pub or_either : (a b : Bool) → (a || b) ≡ true → a ≡ false → b ≡ true
 or_either false b h e = h
@@ -93,9 +71,6 @@ or_either true b h e = cc
 link_live : (over : Bool) (o : Option Connection) → o ≡ None → is_some (if over then None else link_of o) ≡ false
 link_live true o none = refl
 link_live false o none = ap (λ (x : Option Connection). is_some (link_of x)) none
-
-gone_closed : (r : ℕ) (c : Carrier) → value_at r c.live ≡ None → is_open r c ≡ false
-gone_closed r c none = link_live (is_some c.ended) (value_at r c.live) none
 
 gone_quiet : (e : End) (r : ℕ) (s : Listener) → e.carrier.ended ≡ None → IsFit e → kept_at r e.lines ≡ Some s → value_at r e.carrier.live ≡ None → (b c : Bool) → may_abort s.state.phase ≡ b →
     shows_loss s.state.phase ≡ c → c ≡ false

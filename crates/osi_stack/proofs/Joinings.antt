@@ -1,19 +1,15 @@
 -- A session that has joined something has an open connection.
-use Rattle.std.proofs.Common.{◌≡◌, ℕ, ◌≤◌, true, List, length, Option, Some, None, is_some, refl, sym, subst, inl, inr, ◌⊎◌, arith}
+use Rattle.std.proofs.Common.{◌≡◌, ℕ, ◌≤◌, true, List, length, Option, Some, None, is_some, refl, subst, ◌⊎◌, arith}
 use Rattle.osi_session.specs.Kept.{IsKept}
-use Rattle.osi_stack.proofs.Vocabulary.{IfSome, Rows, value_at, is_open, most_data, joined_octets, Input, Listener, after_inputs, may_hold, awaits, Phase, implied, calls_with, CameAbout, AllCameAbout, needs_link, kept_at, IsSettled, Line, End, session_in, Connect}
+use Rattle.osi_stack.proofs.Vocabulary.{IfSome, Rows, value_at, is_open, most_data, joined_octets, Input, Listener, after_inputs, may_hold, implied, CameAbout, AllCameAbout, needs_link, kept_at, IsSettled, Line, End, session_in}
 use Rattle.osi_stack.proofs.Folds.{at_line}
 
 pub record JoinedLaws : Type 0 where
   pub kept : (l : Listener) (inputs : List Input) → IsKept l → IsKept (after_inputs l inputs)
   pub held : (l : Listener) → IsKept l → is_some l.joined ≡ true → may_hold l.state.phase ≡ true
 
-first_kept : (s : Listener) → (s ≡ awaits) ⊎ ((c : Connect) × (s ≡ calls_with c)) → IsKept s
-first_kept s (inl is) = subst IsKept (sym is) (record { phase = refl; few = omega arith })
-first_kept s (inr asked) = subst IsKept (sym asked.1) (record { phase = refl; few = omega arith })
-
 came_kept : JoinedLaws → (s : Listener) → CameAbout s → IsKept s
-came_kept law s h = subst IsKept h.is (law.kept h.first h.inputs (first_kept h.first h.fresh))
+came_kept law s h = grind arith
 
 pub came_by : (r : ℕ) (s : Listener) (lines : Rows Line) (o : Option Line) → value_at r lines ≡ o → session_in o ≡ Some s → AllCameAbout lines → CameAbout s
 came_by r s lines None at is all = cc
@@ -21,10 +17,6 @@ came_by r s lines (Some line) at is all = subst (λ (o : Option Listener). IfSom
 
 kept_of : JoinedLaws → (r : ℕ) (s : Listener) (e : End) → IsSettled e → kept_at r e.lines ≡ Some s → IsKept s
 kept_of law r s e settled is = came_kept law s (came_by r s e.lines (value_at r e.lines) refl is settled.came)
-
--- where tokens may be held the user may abort
-holds_link : (p : Phase) → may_hold p ≡ true → needs_link p ≡ true
-holds_link p h = implied may_hold needs_link refl p h
 
 pub joined_open : JoinedLaws → (r : ℕ) (s : Listener) (e : End) → IsSettled e → e.carrier.ended ≡ None → kept_at r e.lines ≡ Some s → is_some s.joined ≡ true → is_open r e.carrier ≡ true
 joined_open law r s e settled lasts is some =

@@ -1,7 +1,6 @@
 -- What sessions have joined of unfinished SSDUs: as much for each live connection, whatever waits.
 use Rattle.std.proofs.Common.{◌≡◌, ◌≢◌, ℕ, ◌+◌, ◌≤◌, ◌<◌, ◌==◌, Bool, true, false, cond, [], ◌∷◌, length, Option, Some, None, is_some, IsSome, refl, ap, subst, arith, if◌then◌else◌}
-use Rattle.osi_stack.proofs.Vocabulary.{sum_by-cons, sum_by_push, sum_by, kept_in, RiseFrom, Rows, value_at, without, Connection, without_other, Listener, quieted, Line, End, Holding, joined_of, joined_live, joined_in, kept_octets, is_used, used_lines, fresh_line}
-use Rattle.osi_stack.proofs.Linking.{used_by, joined_lines}
+use Rattle.osi_stack.proofs.Vocabulary.{sum_by-cons, sum_by, kept_in, RiseFrom, Rows, value_at, without, Connection, without_other, quieted, Line, End, Holding, joined_live, joined_in, kept_octets}
 
 -- ---- how many lines are of live connections
 

@@ -1,9 +1,9 @@
 -- A session whose connection is not live answers a call as if it were not there.
-use Rattle.std.proofs.Common.{◌≡◌, ℕ, Bool, true, false, not, Option, Some, None, Result, Ok, Err, is_some, IsSome, refl, sym, ap, subst, ◌∙◌, if◌then◌else◌}
+use Rattle.std.proofs.Common.{◌≡◌, ℕ, Bool, true, false, not, Option, Some, None, Result, Ok, Err, is_some, IsSome, refl, sym, ap, subst, ◌∙◌, if◌then◌else◌, arith}
 use Rattle.osi_carrier.proofs.Opened.{no_link}
 use Rattle.osi_session.specs.declared.faults.CallError.TheVariants as error
-use Rattle.osi_session.specs.declared.phases.Phase.TheVariants.{WaitTransport, WaitCn, Connecting, Answering, Ready, MajorAsked, MajorDue, Releasing, ReleaseDue, Restarting, RestartDue, Aborting, Ended}
-use Rattle.osi_stack.proofs.Vocabulary.{OnOk, OnErr, IfErr, Held, Carrying, Rows, value_at, Connection, State as Carrier, is_open, EndReason, allowed, Call, Listener, Move, called, answered, react, is_wait_transport, is_over, limit_of, CallError, Phase, has_given, move_refusal, session_refusal, session_error, call_error, table_error, Refuses, by_rule, needs_link, kept_at, IsSettled, Line, End, Holding, holding, session_in, session_at, SessionState as State}
+use Rattle.osi_session.specs.declared.phases.Phase.TheVariants.{Aborting, Ended}
+use Rattle.osi_stack.proofs.Vocabulary.{OnOk, OnErr, IfErr, Held, Carrying, Rows, value_at, Connection, State as Carrier, is_open, EndReason, allowed, Call, Listener, called, answered, react, is_wait_transport, is_over, limit_of, CallError, Phase, has_given, move_refusal, session_refusal, session_error, call_error, table_error, Refuses, by_rule, needs_link, kept_at, IsSettled, Line, End, Holding, holding, session_in, session_at, SessionState as State}
 use Rattle.osi_stack.proofs.Settling.{answered_by_table}
 
 -- ---- a session that is over
@@ -24,12 +24,7 @@ record IsEnded (r : ℕ) (o : Option Listener) (call : Call) (c : Carrier) : Typ
 
 ended_over : (r : ℕ) (s : Listener) (call : Call) (c : Carrier) → is_over s.state.phase ≡ true → IsEnded r (Some s) call c
 unfolding react
-ended_over r s call c h =
-    let is : react s (called call) ≡ answered s (Err error.Ended) = ap (answered s) (refused_over s.state call h) in
-    record {
-      refusal = ap (λ (m : Move). move_refusal r (limit_of s.state) m c) is;
-      error = ap (λ (m : Move). m.error) is;
-    }
+ended_over r s call c h = grind (arith, react, called, answered, refused_over, move_refusal, limit_of)
 
 -- ---- one whose connection is not live
 
@@ -98,13 +93,10 @@ answered_there result r call e given settled law over ok err =
     let allowed = subst (λ (o : Option CallError). OnOk result (o ≡ None)) all ok in
     let refused = subst (λ (o : Option CallError). IfErr result (λ f. Refuses f o (call_error r call e))) first
     (subst (λ (o : Option CallError). IfErr result (λ f. Refuses f (session_error (kept_at r e.lines) call) o)) all err) in
-    record {
-      allowed = allowed;
-      refused = refused;
-      table = subst (λ (o : Option CallError). OnOk result (o ≡ None)) law allowed;
-      answered = answered_by_table result (table_error r call e) (call_error r call e) law refused;
-      over = lasts_by result e.carrier.ended (call_error r call e) over allowed;
-    }
+    let table = subst (λ (o : Option CallError). OnOk result (o ≡ None)) law allowed in
+    let answered = answered_by_table result (table_error r call e) (call_error r call e) law refused in
+    let over = lasts_by result e.carrier.ended (call_error r call e) over allowed in
+    grind arith
 
 -- ---- what became of the end
 

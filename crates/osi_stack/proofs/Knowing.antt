@@ -1,8 +1,8 @@
 -- A live connection of which something may be shown has addresses.
-use Rattle.std.proofs.Common.{◌≡◌, ℕ, Bool, true, false, List, [], ◌∷◌, Option, Some, None, IsSome, is_some, option_map, refl, sym, ap, subst, ◌∙◌, if◌then◌else◌, arith}
-use Rattle.osi_session.specs.Causes.{unit_asks, asks_first, asks_for_connection, is_taken}
+use Rattle.std.proofs.Common.{◌≡◌, ℕ, Bool, true, false, List, [], ◌∷◌, Option, Some, None, IsSome, is_some, refl, sym, ◌∙◌, if◌then◌else◌, arith}
+use Rattle.osi_session.specs.Causes.{asks_for_connection, is_taken}
 use Rattle.osi_session.specs.Shown.{shows_connect}
-use Rattle.osi_stack.proofs.Vocabulary.{IfSome, tsaps_at, Rows, value_at, TsapIds, known_is, Meaning, CN, Words, as_message, Call, Input, Listener, called, taken, opened, refused, broken, came, react, after_input, shows_loss, Phase, addressed, selectors_in, addresses_at, has_given, phase_of, phase_at, IsNamed, AllNamed, line_by, Selectors, selectors_of, selectors_said, selectors_told, IsSettled, Line, End, session_in, session_at}
+use Rattle.osi_stack.proofs.Vocabulary.{IfSome, tsaps_at, Rows, value_at, TsapIds, known_is, Call, Input, Listener, called, taken, opened, refused, broken, came, react, after_input, shows_loss, addressed, selectors_in, addresses_at, has_given, phase_of, phase_at, IsNamed, AllNamed, line_by, selectors_told, IsSettled, Line, End, session_in, session_at}
 use Rattle.osi_stack.proofs.OfLines.{LinesStay, line_at}
 
 -- what a user is shown first
@@ -13,17 +13,8 @@ pub record ShownFirst : Type 0 where
 
 -- ---- a CN has selectors
 
-unit_selectors : (unit : Meaning) → unit_asks unit ≡ true → IsSome (selectors_of unit)
-unit_selectors (CN version requirements serial wishes from to sizes octets) h = refl
-unit_selectors _ h = absurd (cc)
-
-said_selectors : (words : Words) → asks_first words ≡ true → IsSome (selectors_said words)
-said_selectors [] h = absurd (cc)
-said_selectors (word ∷ words) h = unit_selectors (as_message word) h
-
 input_selectors : (input : Input) → asks_for_connection input ≡ true → IsSome (selectors_told input)
-input_selectors (taken words) h = said_selectors words h
-input_selectors _ h = absurd (cc)
+input_selectors input h = grind arith
 
 -- where this shows that a connection is asked for, it tells selectors
 abbrev TellsThem : Input → Type 0
@@ -39,25 +30,14 @@ moved_by : {X : Type 0} (law : ShownFirst) (s : Listener) (input : Input) (old t
 moved_by law s input old told b c shows was tells named k = grind arith
 
 line_named : ShownFirst → (input : Input) → TellsThem input → (line : Line) (o : Option Listener) → line.session ≡ o → IsNamed line → IsNamed (line_by line o input)
-line_named law input tells line None is h = h
-line_named law input tells line (Some s) is h =
-    let old : shows_loss s.state.phase ≡ true → IsSome line.selectors =
-    subst (λ (o : Option Listener). IfSome o (λ x. shows_loss x.state.phase ≡ true → IsSome line.selectors)) is h in
-    moved_by law s input line.selectors (selectors_told input) (shows_connect (react s input).shown) (shows_loss s.state.phase) refl refl (tells s) old
+line_named law input tells line o is h = search (arith, shows_loss, moved_by, selectors_told, react)
 
 -- a call, and what the carrier tells
 pub call_named : ShownFirst → (call : Call) (line : Line) → IsNamed line → IsNamed (line_by line line.session (called call))
 call_named law call line h = line_named law (called call) (untaken law (called call) refl) line line.session refl h
 
 pub named_stays : ShownFirst → LinesStay IsNamed
-named_stays law = record {
-  begins = λ k. absurd (cc);
-  opened = λ line h. line_named law opened (untaken law opened refl) line line.session refl h;
-  refused = λ line reason h. line_named law (refused reason) (untaken law (refused reason) refl) line line.session refl h;
-  came = λ line octets h. line_named law (came octets) (λ s shows. input_selectors (came octets) (law.asked s octets shows)) line line.session refl h;
-  broken = λ line h. line_named law broken (untaken law broken refl) line line.session refl h;
-  lost = λ line. tt;
-}
+named_stays law = grind (arith, opened, line_named, untaken, refused, came, input_selectors, broken)
 
 -- ---- of a connection that is live
 
@@ -65,17 +45,9 @@ named_by : (r : ℕ) (lines : Rows Line) (o : Option Line) → value_at r lines 
 named_by r lines None at all = tt
 named_by r lines (Some line) at all = line_at IsNamed r line lines all at
 
-both_there : (ids : TsapIds) (o : Option Selectors) → IsSome o → IsSome (addressed (Some ids) o)
-both_there ids None h = absurd (cc)
-both_there ids (Some selectors) h = refl
-
 -- said of the phase of a session, which is over where there is none
 abbrev Known : {X : Type 0} → Option Listener → Option X → Type 0
 Known session x = shows_loss (phase_of session) ≡ true → IsSome x
-
-line_known : (ids : TsapIds) (session : Option Listener) (o : Option Selectors) → IfSome session (λ s. shows_loss s.state.phase ≡ true → IsSome o) → Known session (addressed (Some ids) o)
-line_known ids None o h k = absurd (cc)
-line_known ids (Some s) o h k = both_there ids o (h k)
 
 live_known : (live : Bool) (ids : Option TsapIds) (o : Option Line) → is_some ids ≡ live → IfSome o IsNamed →
     Known (if live then session_in o else None) (if live then addressed ids (selectors_in o) else None)
@@ -91,7 +63,3 @@ known_at r e s =
     (live_known (is_some (value_at r e.carrier.live)) (tsaps_at r e.carrier) (value_at r e.lines) (known_is r e.carrier s.orderly.named) (named_by r e.lines (value_at r e.lines) refl s.named))
 
 -- ---- in memory
-
-some_of : {X Y : Type 0} (f : X → Y) (o : Option X) (q : Option Y) → option_map f o ≡ q → IsSome q → IsSome o
-some_of f None q same h = absurd (let none : false ≡ true = ap is_some same ∙ h in cc)
-some_of f (Some x) q same h = refl

@@ -9,9 +9,6 @@ use Rattle.osi_stack.proofs.Runs.{calls_read, reads_one, ReadsOne}
 
 -- ---- an end stays
 
-with_over : (a : Account) (unit : List ℕ) → is_some a.end.carrier.ended ≡ true → is_some (with_packet a unit).end.carrier.ended ≡ true
-with_over a unit over = packet_over a.end unit (packets_over (unit ∷ []) a.end.carrier over)
-
 pub account_over : (units : List (List ℕ)) (a : Account) → is_some a.end.carrier.ended ≡ true → is_some (with_packets units a).end.carrier.ended ≡ true
 account_over [] a over = over
 account_over (unit ∷ units) a over = account_over units (with_packet a unit) (packet_over a.end unit (packets_over (unit ∷ []) a.end.carrier over))

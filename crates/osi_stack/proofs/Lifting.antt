@@ -1,8 +1,8 @@
 -- What packets that tell nothing do to an end, and what the last of them does.
-use Rattle.std.proofs.Common.{◌≡◌, ℕ, ◌||◌, Bool, true, false, List, ◌∷◌, ◌++◌, Option, Some, None, is_some, refl, sym, ap, subst, ◌∙◌, if◌then◌else◌, []}
+use Rattle.std.proofs.Common.{◌≡◌, ℕ, ◌||◌, Bool, true, false, List, ◌∷◌, ◌++◌, Option, Some, None, is_some, refl, sym, ap, subst, ◌∙◌, if◌then◌else◌, [], arith}
 use Rattle.osi_carrier.specs.Packets as carriers
-use Rattle.osi_stack.proofs.Vocabulary.{ArePackets, Rows, State as Carrier, EndReason, stops, TakesPackets, attends, after_packet, with_carrier, all_lost, concludes, Line, End, waits}
-use Rattle.osi_stack.proofs.Events.{no_events, all_quiet}
+use Rattle.osi_stack.proofs.Vocabulary.{ArePackets, Rows, State as Carrier, EndReason, stops, TakesPackets, attends, after_packet, with_carrier, Line, End, waits}
+use Rattle.osi_stack.proofs.Events.{no_events}
 
 pub both : {A : Type 0} (b : Bool) → b ≡ true → b ≡ false → A
 both true h k = cc
@@ -31,17 +31,10 @@ pub record IsQuiet (c : Carrier) : Type 0 where
   pub events : c.events ≡ []
 
 pub quiet_is : (c : Carrier) → carriers.stops c ≡ false → IsQuiet c
-quiet_is c e = record {
-  lasts = or_first (is_some c.ended) (carriers.waits c) e;
-  events = no_events c.events (or_second (is_some c.ended) (carriers.waits c) e);
-}
-
-concludes_not : (b : Bool) (e : End) → b ≡ false → (if b then record e { lines = all_lost e.lines } else e) ≡ e
-concludes_not false e h = refl
-concludes_not true e h = cc
+quiet_is c e = grind (arith, or_first, is_some, waits, no_events, or_second)
 
 pub quiet_attends : (e : End) → IsQuiet e.carrier → attends e ≡ e
-quiet_attends e q = ap concludes (all_quiet e q.events) ∙ concludes_not (is_some e.carrier.ended) e q.lasts
+quiet_attends e q = grind arith
 
 pub quiet_stops : (e : End) → is_some e.carrier.ended ≡ false → waits e.lines ≡ false → stops e ≡ false
 quiet_stops e over waiting = ap (λ b. b || waits e.lines) over ∙ waiting

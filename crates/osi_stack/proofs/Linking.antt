@@ -1,10 +1,10 @@
 -- Sessions keep transport connections that are open, whatever is heard.
 use Rattle.std.proofs.Common.{◌≡◌, ◌≢◌, ℕ, zero, suc, ◌==◌, Bool, true, false, not, ◌&&◌, ◌||◌, List, ◌∷◌, ◌++◌, length, Option, Some, None, is_some, IsSome, option_map, Result, Ok, Err, refl, sym, ap, subst, ◌∙◌, inl, inr, ◌⊎◌, if◌then◌else◌, [], arith}
 use Rattle.osi_carrier.specs.Happenings as told
-use Rattle.osi_stack.proofs.Vocabulary.{ne_eqb, eqb-true, eq-eqb, or_right, or-false, and-true, open_link, link_of, sent, sent_on, closes, closed_on, closed_with, sent_all, send_all_error, Happening, Rows, value_at, put, Connection, closing, State as Carrier, is_open, open_after, SendError, put_here, push_here, put_other, push_other, put_none, put_same, told_of, sent_opens, closed_opens, Standing as Link, Class, Zero, Input, Listener, opened, refused, broken, came, came_as, react, said_at, Words, SpduFault, is_ended, awaits, Phase, opens, hears, hears_first, hears_next, hears_times, with_events, loses, all_lost, needs_link, AreApart, kept_at, tsdus_sent, limit_for, line_by, carrier_by, by_line, to_session, Line, End, session_in, line_waits, is_used, used_lines, joins, fresh_line, sent_unless, answers_by, input_of}
+use Rattle.osi_stack.proofs.Vocabulary.{ne_eqb, eqb-true, eq-eqb, or_right, and-true, open_link, link_of, sent, sent_on, closes, closed_on, closed_with, sent_all, send_all_error, Happening, Rows, value_at, put, Connection, closing, State as Carrier, is_open, open_after, SendError, put_here, push_here, put_other, push_other, put_none, put_same, told_of, sent_opens, closed_opens, Standing as Link, Class, Zero, Input, Listener, opened, refused, broken, came, came_as, react, said_at, Words, SpduFault, is_ended, awaits, Phase, opens, hears, hears_first, hears_next, hears_times, with_events, loses, all_lost, needs_link, AreApart, kept_at, tsdus_sent, limit_for, line_by, carrier_by, by_line, to_session, Line, End, session_in, is_used, used_lines, joins, fresh_line, sent_unless, answers_by, input_of}
 use Rattle.osi_stack.proofs.Keeping.{hears_keep}
 use Rattle.osi_stack.proofs.Lifting.{both}
-use Rattle.osi_stack.proofs.Moves.{lost_at, at_row, used_keep}
+use Rattle.osi_stack.proofs.Moves.{lost_at, used_keep}
 pub use Rattle.osi_stack.proofs.Moves.{used_by}
 use Rattle.osi_stack.proofs.Stepwise.{event_heard, events_heard, Hears}
 
@@ -39,9 +39,6 @@ pub record Answered (q : ℕ) (closes : Bool) (c d : Carrier) : Type 0 where
   pub here : closes ≡ false → is_open q d ≡ is_open q c
   pub closing_here : closes ≡ true → d.ended ≡ None → (is_open q d ≡ is_open q c) ⊎ IsSome (value_at q d.live)
 
-unanswered : (q : ℕ) (closes : Bool) (c : Carrier) → Answered q closes c c
-unanswered q closes c = record { others = λ over r ne. refl; stays = λ over r some. some; here = λ e. refl; closing_here = λ e over. inl refl }
-
 sent_stays_by : (q : ℕ) (tsdu : List ℕ) (o : Option (ℕ × Link)) (c : Carrier) (r : ℕ) → IsSome (value_at r c.live) → IsSome (value_at r (sent_on q tsdu o c).live)
 sent_stays_by q tsdu None c r some = some
 sent_stays_by q tsdu (Some (peer, link)) c r some = put_some r q _ c.live some
@@ -55,12 +52,7 @@ all_stay q r [] c some = some
 all_stay q r (tsdu ∷ tsdus) c some = all_stay q r tsdus (sent q tsdu c) (sent_stays_by q tsdu (open_link q c) c r some)
 
 all_answered : (q : ℕ) (tsdus : List (List ℕ)) (c : Carrier) → Answered q false c (sent_all q tsdus c)
-all_answered q tsdus c = record {
-  others = λ over r ne. all_open q r tsdus c;
-  stays = λ over r some. all_stay q r tsdus c some;
-  here = λ e. all_open q q tsdus c;
-  closing_here = λ e over. cc;
-}
+all_answered q tsdus c = grind (arith, all_open, all_stay)
 
 hands_by : (q : ℕ) (tsdus : List (List ℕ)) (c : Carrier) (o : Option SendError) → Answered q false c (sent_unless o q tsdus c)
 hands_by q tsdus c None = all_answered q tsdus c
@@ -139,23 +131,11 @@ event_other event r b rest ne = grind arith
 
 other_linked : (event : Happening) (rest : List Happening) (r : ℕ) (o : Option Listener) (c d : Carrier) → r ≢ told_of event → is_open r d ≡ is_open r c →
     (IsSome (value_at r c.live) → IsSome (value_at r d.live)) → IsLinked r o (event ∷ rest) c → IsLinked r o rest d
-other_linked event rest r o c d ne same stays l = record {
-  needed = λ s is n h. same ∙ l.needed s is n (event_other event r true rest ne ∙ h);
-  fresh = elim l.fresh [
-    | inl f ↦ inl (λ h. same ∙ f (event_other event r false rest ne ∙ h))
-    | inr k ↦ inr (record { live = stays k.live; session = k.session; is = k.is; ended = k.ended })
-  ];
-}
+other_linked event rest r o c d ne same stays l = search (arith, event_other)
 
 -- no session is there
 none_linked : (event : Happening) (rest : List Happening) (r : ℕ) (o : Option Listener) (c : Carrier) → o ≡ None → IsLinked r o (event ∷ rest) c → IsLinked r o rest c
-none_linked event rest r o c none l = record {
-  needed = λ s is n h. let no : None ≡ Some s = sym none ∙ is in cc;
-  fresh = elim l.fresh [
-    | inl f ↦ inl (λ h. f (later_false r event rest h))
-    | inr k ↦ inr k
-  ];
-}
+none_linked event rest r o c none l = grind (arith, later_false)
 
 -- the session there made its move
 here_linked : SessionLaws → (q : ℕ) (s : Listener) (input : Input) (event : Happening) (rest : List Happening) (c d : Carrier) (b : Bool) → (react s input).closes ≡ b →
@@ -250,12 +230,7 @@ moved_linked laws q input event rest e d of m over needs l r false at =
 
 rested_linked : (q : ℕ) (event : Happening) (rest : List Happening) (e : End) → told_of event ≡ q → kept_at q e.lines ≡ None → AllLinked (event ∷ rest) e →
     (r : ℕ) (b : Bool) → (r == q) ≡ b → IsLinked r (kept_at r e.lines) rest e.carrier
-rested_linked q event rest e of none l r true at =
-    let same = eqb-true r q at in
-    none_linked event rest r (kept_at r e.lines) e.carrier (ap (λ n. kept_at n e.lines) same ∙ none) (l r)
-rested_linked q event rest e of none l r false at =
-    let other : r ≢ told_of event = (λ same. both (r == q) (eq-eqb r q (same ∙ of)) at) in
-    other_linked event rest r (kept_at r e.lines) e.carrier e.carrier other refl (λ x. x) (l r)
+rested_linked q event rest e of none l r b at = search (arith, eqb-true, none_linked, kept_at, told_of, both, eq-eqb, other_linked)
 
 pub session_linked : SessionLaws → (q : ℕ) (input : Input) (event : Happening) (rest : List Happening) (e d : End) → told_of event ≡ q → Hearing q input e d → d.carrier.ended ≡ None →
     ((s : Listener) → kept_at q e.lines ≡ Some s → needs_link (react s input).next.state.phase ≡ true → open_after q true rest ≡ true → is_open q e.carrier ≡ true) →
@@ -277,21 +252,13 @@ apart_put r x ((q, y) ∷ rows) apart = apart_put_by r q x y rows (q == r) refl 
 
 apart_push_by : (r q : ℕ) (x y : Line) (rows : Rows Line) (b : Bool) → (q == r) ≡ b → value_at r ((q, y) ∷ rows) ≡ None → value_at q rows ≡ None →
     (value_at r rows ≡ None → AreApart (rows ++ (r, x) ∷ [])) → AreApart ((q, y) ∷ (rows ++ (r, x) ∷ []))
-apart_push_by r q x y rows true e none alone more = let there : Some y ≡ None = rw e at none in cc
-apart_push_by r q x y rows false e none alone more =
-    let behind : value_at r rows ≡ None = rw e at none in
-    let ne : q ≢ r = (λ same. both (q == r) (eq-eqb q r same) e) in
-    (push_other q r x rows ne ∙ alone, more behind)
+apart_push_by r q x y rows b e none alone more = grind (arith, value_at, both, eq-eqb, push_other)
 
 pub apart_push : (r : ℕ) (x : Line) (rows : Rows Line) → value_at r rows ≡ None → AreApart rows → AreApart (rows ++ (r, x) ∷ [])
 apart_push r x [] none apart = (refl, tt)
 apart_push r x ((q, y) ∷ rows) none apart = apart_push_by r q x y rows (q == r) refl none apart.0 (λ behind. apart_push r x rows behind apart.1)
 
 -- ---- lines that are of use
-
-gone_by : (o : Option Connection) (b : Bool) → (is_some o || b) ≡ false → o ≡ None
-gone_by None b h = refl
-gone_by (Some c) b h = cc
 
 -- a line stays, or its connection is gone
 abbrev pub Stays : ℕ → Rows Connection → Rows Line → Type 0
@@ -307,10 +274,7 @@ used_at r live ((p, y) ∷ lines) apart = used_at_by r p y live lines (p == r) (
 
 -- no line comes about
 used_none : (r : ℕ) (live : Rows Connection) (lines : Rows Line) → AreApart lines → value_at r lines ≡ None → value_at r (used_lines live lines) ≡ None
-used_none r live lines apart none = elim (used_at r live lines apart) [
-  | inl same ↦ same ∙ none
-  | inr gone ↦ gone.0
-]
+used_none r live lines apart none = grind (arith, used_at)
 
 pub apart_used : (live : Rows Connection) (lines : Rows Line) → AreApart lines → AreApart (used_lines live lines)
 apart_used live [] apart = tt
@@ -379,14 +343,7 @@ broken_needs_none s = refl
 -- a session that needs its connection once it is there
 opened_needs : SessionLaws → (q : ℕ) (rest : List Happening) (e : End) (s : Listener) (b : Bool) → needs_link s.state.phase ≡ b → kept_at q e.lines ≡ Some s →
     IsLinked q (kept_at q e.lines) (told.opened q ∷ rest) e.carrier → needs_link (react s opened).next.state.phase ≡ true → open_after q true rest ≡ true → is_open q e.carrier ≡ true
-opened_needs laws q rest e s true needs is l n h = l.needed s is needs h
-opened_needs laws q rest e s false needs is l n h = elim l.fresh [
-  | inl f ↦ f (mono q rest true (false || (q == q)) (λ x. eq-eqb q q refl) h)
-  | inr k ↦ (
-      let same : k.session ≡ s = (let both_are : Some k.session ≡ Some s = sym k.is ∙ is in cc) in
-      both (is_ended s.state.phase) (ap (λ (x : Listener). is_ended x.state.phase) (sym same) ∙ k.ended) (laws.begun s n needs)
-      )
-]
+opened_needs laws q rest e s b needs is l n h = search (arith, mono, eq-eqb, both, is_ended)
 
 opened_linked : SessionLaws → (q : ℕ) (rest : List Happening) (e : End) (o : Option Line) → value_at q e.lines ≡ o → AreApart e.lines → (opens q o e).carrier.ended ≡ None →
     AllLinked (told.opened q ∷ rest) e → AllLinked rest (opens q o e)
@@ -416,10 +373,7 @@ pub session_apart : (q : ℕ) (input : Input) (e : End) → AreApart e.lines →
 session_apart q input e apart = line_apart q input e (value_at q e.lines) apart
 
 heard_apart : Hears (λ x. AreApart x.lines)
-heard_apart = record {
-  begins = λ r e none apart. apart_joins r awaits e none apart;
-  moves = λ event e apart. session_apart (told_of event) (input_of event) e apart;
-}
+heard_apart = grind (arith, apart_joins, awaits, session_apart, told_of, input_of)
 
 pub hears_apart : (event : Happening) (e : End) → AreApart e.lines → AreApart (hears event e).lines
 hears_apart event e apart = event_heard (λ x. AreApart x.lines) heard_apart event e apart

@@ -1,5 +1,5 @@
 -- Sessions that are lost.
-use Rattle.std.proofs.Common.{◌≡◌, ℕ, ◌+◌, ◌<◌, ◌==◌, zero, suc, Bool, true, false, List, [], ◌∷◌, ◌++◌, length, take, drop, map, get_or, set, arith, Some, None, Result, Ok, Err, OnErr, refl, sym, ap, ◌∙◌, if◌then◌else◌}
+use Rattle.std.proofs.Common.{◌≡◌, ℕ, ◌+◌, ◌<◌, ◌==◌, zero, suc, Bool, List, [], ◌∷◌, ◌++◌, length, take, drop, map, get_or, set, arith, Some, None, Result, Ok, Err, OnErr, refl, sym, ap, ◌∙◌, if◌then◌else◌}
 use Rattle.osi_stack.proofs.Vocabulary.{append-nil, map-append, placed, here_is, Rows, value_at, place_of, put, Listener, broken, react, shows_loss, Shown, Lost, shown_by, Indication, shown_at_loss, loses, all_lost, Line}
 
 -- what a session shows when it is lost
@@ -25,13 +25,7 @@ lost_twice l = ap (λ (w : List Shown). record l { session = None; waiting = w }
 
 lost_put_by : (r q : ℕ) (y l : Line) (rows : Rows Line) (b : Bool) → (q == r) ≡ b → (value_at r rows ≡ Some l → all_lost (put r (loses l) rows) ≡ all_lost rows) →
     value_at r ((q, y) ∷ rows) ≡ Some l → all_lost (put r (loses l) ((q, y) ∷ rows)) ≡ all_lost ((q, y) ∷ rows)
-lost_put_by r q y l rows true t more h =
-    let same : Some y ≡ Some l = rw t at h in
-    let is : y ≡ l = cc in
-    rw t (ap (λ (x : Line). (q, x) ∷ all_lost rows) (lost_twice l ∙ ap loses (sym is)))
-lost_put_by r q y l rows false t more h =
-    let behind : value_at r rows ≡ Some l = rw t at h in
-    rw t (ap (λ k. (q, loses y) ∷ k) (more behind))
+lost_put_by r q y l rows b t more h = grind (arith, all_lost, lost_twice, loses, value_at)
 
 -- a session that is lost already
 pub lost_put : (r : ℕ) (l : Line) (rows : Rows Line) → value_at r rows ≡ Some l → all_lost (put r (loses l) rows) ≡ all_lost rows
@@ -63,10 +57,4 @@ step_at (x ∷ xs) (suc i) d h =
 -- those in front are lost, the next is lost
 pub lost_step : (xs items : Rows Line) (i : ℕ) (row new : ℕ × Line) → i < length xs → items ≡ all_lost (take i xs) ++ drop i xs →
     row ≡ get_or items i row → new ≡ (row.0, loses row.1) → set items i new ≡ all_lost (take (i + 1) xs) ++ drop (i + 1) xs
-lost_step xs items i row new within before here h =
-    let step = step_at xs i row within in
-    let is : row ≡ get_or xs i row = here ∙ ap (λ l. get_or l i row) before ∙ step.here in
-    let next : suc i ≡ i + 1 = omega arith in
-    ap (λ l. set l i new) before
-    ∙ ap (λ x. set (all_lost (take i xs) ++ drop i xs) i x) (h ∙ ap (λ (x : ℕ × Line). (x.0, loses x.1)) is)
-    ∙ step.next ∙ ap (λ n. all_lost (take n xs) ++ drop n xs) next
+lost_step xs items i row new within before here h = grind (arith, step_at, get_or, set, all_lost, take, drop, loses)

@@ -1,6 +1,6 @@
 -- What is told first, where the lines stand in the order of their references.
-use Rattle.std.proofs.Common.{◌≡◌, ℕ, ◌≤◌, ◌==◌, Bool, true, false, List, [], ◌∷◌, Option, Some, None, refl, sym, ap, ◌∙◌, arith}
-use Rattle.osi_stack.proofs.Vocabulary.{eqb-true, eq-eqb, absent, RiseFrom, Rows, value_at, Shown, first_by, first_shown, rest_by, without_first, kept_at, waiting_of, waiting_at, IsLowest, TellsLowest, Line}
+use Rattle.std.proofs.Common.{◌≡◌, ℕ, ◌≤◌, ◌==◌, Bool, true, false, List, [], ◌∷◌, Option, Some, refl, ap, ◌∙◌, arith}
+use Rattle.osi_stack.proofs.Vocabulary.{eqb-true, eq-eqb, absent, RiseFrom, Rows, value_at, Shown, first_by, first_shown, rest_by, without_first, waiting_of, waiting_at, IsLowest, TellsLowest, Line}
 use Rattle.osi_stack.proofs.Linking.{unlike}
 
 -- ---- one line in front
@@ -23,17 +23,7 @@ nothing_by q r line lines false e none more = rw e more
 
 -- what is told is of a line behind it
 differ_by : (q r : ℕ) (shown : Shown) (rest : List Shown) (lines : Rows Line) (b : Bool) → (q == r) ≡ b → RiseFrom q lines → waiting_at r lines ≡ shown ∷ rest → (q == r) ≡ false
-differ_by q r shown rest lines false e rise oldest = e
-differ_by q r shown rest lines true e rise oldest =
-    let no : [] ≡ shown ∷ rest = sym (none_at q q lines (omega arith) rise) ∙ (ap (λ n. waiting_at n lines) (eqb-true q r e) ∙ oldest) in
-    cc
-
-others_by : (q r p : ℕ) (line : Line) (old new : Rows Line) (b : Bool) → (q == p) ≡ b → value_at p new ≡ value_at p old → value_at p ((q, line) ∷ new) ≡ value_at p ((q, line) ∷ old)
-others_by q r p line old new true e same = rw e refl
-others_by q r p line old new false e same = rw e same
-
-kept_behind : (q r : ℕ) (line : Line) (old new : Rows Line) → (q == r) ≡ false → kept_at r new ≡ kept_at r old → kept_at r ((q, line) ∷ new) ≡ kept_at r ((q, line) ∷ old)
-kept_behind q r line old new e same = rw e same
+differ_by q r shown rest lines b e rise oldest = grind (arith, none_at, waiting_at, eqb-true)
 
 behind_lowest : (q r : ℕ) (shown : Shown) (line : Line) (old new : Rows Line) → (q == r) ≡ false → line.waiting ≡ [] → IsLowest r shown old new →
     IsLowest r shown ((q, line) ∷ old) ((q, line) ∷ new)
@@ -41,26 +31,13 @@ behind_lowest q r shown line old new e none l = grind arith
 
 behind_by : (q : ℕ) (line : Line) (first : Option (ℕ × Shown)) (old new : Rows Line) → line.waiting ≡ [] → RiseFrom q old → TellsLowest first old new →
     TellsLowest first ((q, line) ∷ old) ((q, line) ∷ new)
-behind_by q line None old new none rise h = (
-  λ r. nothing_by q r line old (q == r) refl none (h.0 r),
-  ap (λ (lines : Rows Line). (q, line) ∷ lines) h.1,
-)
-behind_by q line (Some first) old new none rise h =
-    behind_lowest q first.0 first.1 line old new (differ_by q first.0 first.1 (waiting_at first.0 new) old (q == first.0) refl rise h.oldest) none h
+behind_by q line first old new none rise h = grind (arith, nothing_by, behind_lowest, differ_by, waiting_at)
 
 -- ---- the first line has one
 
-kept_here : (q : ℕ) (waiting : List Shown) (line : Line) (lines : Rows Line) → kept_at q ((q, record line { waiting = waiting }) ∷ lines) ≡ kept_at q ((q, line) ∷ lines)
-kept_here q waiting line lines = let e = eq-eqb q q refl in rw e refl
-
 here_lowest : (q : ℕ) (shown : Shown) (waiting : List Shown) (line : Line) (lines : Rows Line) → line.waiting ≡ shown ∷ waiting → RiseFrom q lines →
     IsLowest q shown ((q, line) ∷ lines) ((q, record line { waiting = waiting }) ∷ lines)
-here_lowest q shown waiting line lines is rise = record {
-  oldest = ap waiting_of (here_at q line lines) ∙ is ∙ ap (λ w. shown ∷ waiting_of w) (sym (here_at q (record line { waiting = waiting }) lines));
-  lowest = λ p below. ap waiting_of (behind_at q p line lines (unlike q p (λ same. absurd (omega arith)))) ∙ none_at p q lines (omega arith) rise;
-  session = let e = eq-eqb q q refl in rw e refl;
-  others = λ p ne. behind_at q p (record line { waiting = waiting }) lines (unlike q p ne) ∙ sym (behind_at q p line lines (unlike q p ne));
-}
+here_lowest q shown waiting line lines is rise = grind (arith, waiting_of, here_at, behind_at, unlike, none_at, eq-eqb)
 
 lowest_by : (q : ℕ) (line : Line) (waiting : List Shown) (lines : Rows Line) → line.waiting ≡ waiting → RiseFrom q lines → TellsLowest (first_shown lines) lines (without_first lines) →
     TellsLowest (first_by q waiting (first_shown lines)) ((q, line) ∷ lines) (rest_by q line waiting lines (without_first lines))

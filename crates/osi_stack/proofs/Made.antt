@@ -2,7 +2,7 @@
 use Rattle.std.proofs.Common.{◌≡◌, ◌≢◌, ℕ, ◌+◌, ◌<◌, ◌≤◌, ◌==◌, Bool, true, false, ◌||◌, List, ◌∷◌, ◌++◌, length, take, Option, Some, None, is_some, IsSome, refl, sym, ap, subst, ◌∙◌, inl, inr, ◌⊎◌, arith, append_assoc, option_map, if◌then◌else◌, []}
 use Rattle.osi_carrier.specs.Packets as carriers
 use Rattle.osi_stack.specs.Inputs.{Step}
-use Rattle.osi_stack.proofs.Vocabulary.{eqb-true, eq-eqb, append-nil, AllByRecursion, fresh, IsPartial, ArePackets, Fed, tsap_octets, Local, beyond, push_here, push_other, orderly_same, OneCut, asks, open_link, Happening, tsdu, closed, faulted, told_of, RiseFrom, Rows, value_at, Connection, State as Carrier, EndReason, Broken, Call as SessionCall, Input, Listener, called, opened as linked_up, react, after_inputs, awaits, calls_with, connects, breaks, call_error, connect_error, without_first, TakesPackets, Goes, Feeds, opens, hears, hears_next, hears_times, hears_all, with_events, with_carrier, after_packet, ends, input_of, inputs_told, Past, no_past, then_came, inputs_of, begun_as, made_at, AreMadeBy, told_along, past_called, IsAccepted, serving, using, Steps, StepsAlong, AreApart, Soundness, IsSound, kept_at, to_session, IsOrdered, UserCall, user_does, connecting, calling, breaking, put_back, Calls, used_in, feeding, telling, carrying, Line, End, Holding, IsAttended, fresh_end, session_in, used_lines, joins, waits, fresh_line, Connect, told_opened as opened, told_refused as refused, EndCall as Call}
+use Rattle.osi_stack.proofs.Vocabulary.{eqb-true, eq-eqb, append-nil, AllByRecursion, fresh, IsPartial, ArePackets, Fed, tsap_octets, Local, beyond, push_here, push_other, OneCut, asks, Happening, told_of, RiseFrom, Rows, value_at, Connection, State as Carrier, Broken, Call as SessionCall, Input, Listener, called, opened as linked_up, react, after_inputs, awaits, calls_with, connects, breaks, call_error, connect_error, without_first, TakesPackets, Goes, Feeds, opens, hears, hears_next, hears_times, hears_all, with_events, with_carrier, after_packet, ends, input_of, inputs_told, Past, no_past, then_came, inputs_of, begun_as, made_at, AreMadeBy, told_along, past_called, IsAccepted, serving, using, Steps, StepsAlong, AreApart, Soundness, IsSound, kept_at, to_session, IsOrdered, UserCall, user_does, connecting, calling, breaking, put_back, Calls, used_in, feeding, telling, carrying, Line, End, Holding, IsAttended, fresh_end, session_in, used_lines, joins, waits, fresh_line, Connect, told_opened as opened, EndCall as Call}
 use Rattle.osi_stack.proofs.Attending.{session_attended, connect_attended, feeds_attended}
 use Rattle.osi_stack.proofs.Comings.{attended_then}
 use Rattle.osi_stack.proofs.Events.{concluded_carrier}
@@ -12,7 +12,7 @@ use Rattle.osi_stack.proofs.Moves.{kept_first, says_is}
 use Rattle.osi_stack.proofs.Opened.{opened_in, NoneAwaited, IsGiven, Comes, OpensAlong}
 use Rattle.osi_stack.proofs.Ordering.{HaveLines, have_still, have_rest, one_heard, awaited_lines, packet_along, packet_ordered, connect_ordered, call_ordered, feeds_ordered, first_ordered, fresh_ordered}
 use Rattle.osi_stack.proofs.Runs.{call_lasts, reads_dry, reads_stopped, ReadsOne, none_ended}
-use Rattle.osi_stack.proofs.Soundness.{concludes_lasting, packet_sound, connect_sound, call_sound, feeds_sound, first_sound, fresh_sound, up_at, sent_given, closed_given}
+use Rattle.osi_stack.proofs.Soundness.{concludes_lasting, packet_sound, connect_sound, call_sound, feeds_sound, first_sound, fresh_sound, up_at}
 use Rattle.osi_stack.proofs.Stepwise.{Carries, session_carried, events_heard}
 
 -- ---- inputs
@@ -48,9 +48,6 @@ made_other r q input past e = made_more r ((q, input) ∷ []) past ∙ ap (after
 
 then_joined : (l m : List (ℕ × Input)) (past : Past) → then_came m (then_came l past) ≡ then_came (l ++ m) past
 then_joined l m past = ap (λ (x : List (ℕ × Input)). record past { inputs = x }) (append_assoc past.inputs l m)
-
-then_none : (past : Past) → then_came [] past ≡ past
-then_none past = ap (λ (x : List (ℕ × Input)). record past { inputs = x }) (append-nil past.inputs)
 
 -- ---- what is known of the sessions
 
@@ -271,12 +268,7 @@ record Served (old : Holding) (call : Call) (new : Holding) : Type 0 where
 
 served_by : SessionLaws → (old : Holding) (call : Call) (new : Holding) (one : ReadsOne old call new) → TakesPackets old.end one.packets new.end → IsSane old.end → new.end.carrier.ended ≡ None →
     Served old call new
-served_by laws old call new one taken s over = record {
-  packets = one.packets;
-  cut = one.cut;
-  partial = one.partial;
-  known = λ past k. packets_made laws one.packets old.end new.end past taken s.attended s.sound s.ordered over k;
-}
+served_by laws old call new one taken s over = search (arith, packets_made)
 
 served_goes : SessionLaws → IsPartial [] → (old : Holding) (piece : List ℕ) (fed : Fed) (new : Holding) → Goes old piece fed.used new → IsSane old.end → new.end.carrier.ended ≡ None →
     Served old (feeding piece fed) new
@@ -302,12 +294,7 @@ served_still old call new none held given same = record {
 
 served_feed : SessionLaws → IsPartial [] → (old : Holding) (piece : List ℕ) (fed : Fed) (new : Holding) (waiting : Bool) → waits old.end.lines ≡ waiting → old.end.carrier.ended ≡ None →
     Feeds old piece fed new → IsSane old.end → new.end.carrier.ended ≡ None → Served old (feeding piece fed) new
-served_feed laws nothing old piece fed new true e quiet h s lasts =
-    let still = h.waiting quiet e in
-    served_still old (feeding piece fed) new (ap (λ n. take n piece) still.0) (ap (λ (x : Holding). x.held.octets) still.1) (ap (λ (x : Holding). x.end.carrier.given) still.1)
-    (λ r. ap (λ (x : Holding). kept_at r x.end.lines) still.1)
-served_feed laws nothing old piece fed new false e quiet h s lasts =
-    served_goes laws nothing old piece fed new (h.goes (ap (λ (o : Option EndReason). is_some o || waits old.end.lines) quiet ∙ e)) s lasts
+served_feed laws nothing old piece fed new waiting e quiet h s lasts = search (arith, served_still, feeding, take, kept_at, served_goes, is_some, waits)
 
 served : SessionLaws → IsPartial [] → (old : Holding) (call : Call) (new : Holding) → Calls old call new → IsSane old.end → new.end.carrier.ended ≡ None → Served old call new
 served laws nothing old (feeding piece fed) new h s lasts =
@@ -337,9 +324,6 @@ sane_connect c e allowed s = search (connect_attended c e s.attended, connect_so
 
 pub sane_call : SessionLaws → (r : ℕ) (call : SessionCall) (e : End) → IsSane e → IsSane (to_session r (called call) e)
 sane_call laws r call e s = search (session_attended r (called call) e s.attended, call_sound laws r call e s.sound, call_ordered r (called call) e s.ordered)
-
-pub sane_fresh : (is_caller : Bool) (local : Local) → IsSane (fresh_end is_caller local)
-sane_fresh is_caller local = record { attended = λ over. refl; sound = fresh_sound is_caller local; ordered = fresh_ordered is_caller local }
 
 -- ---- a call of the user
 
@@ -430,9 +414,4 @@ steps_run laws nothing one_cut (step ∷ steps) old new before behind h lasts ru
 
 pub made_along : SessionLaws → IsPartial [] → OneCut → (is_caller : Bool) (local : Local) (steps : List Step) (new : Holding) (past : Past) →
     StepsAlong (record { end = fresh_end is_caller local; held = fresh }) no_past steps new past → new.end.carrier.ended ≡ None → AreMadeBy past new.end
-made_along laws nothing one_cut is_caller local steps new past h lasts =
-    (steps_run laws nothing one_cut steps (record { end = fresh_end is_caller local; held = fresh }) new no_past past h lasts (record {
-      sane = record { attended = λ over. refl; sound = fresh_sound is_caller local; ordered = fresh_ordered is_caller local };
-      partial = nothing;
-      known = record { made = λ r s is. cc; unasked = λ r up. refl; unheard = λ r up. refl };
-    })).known.made
+made_along laws nothing one_cut is_caller local steps new past h lasts = grind (arith, steps_run, fresh_end, fresh, no_past, fresh_sound, fresh_ordered)

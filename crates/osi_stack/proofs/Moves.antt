@@ -1,11 +1,11 @@
 -- What a session that makes a move leaves, and a message that arrives.
-use Rattle.std.proofs.Common.{◌≡◌, ℕ, suc, ◌≤◌, ◌==◌, Bool, true, false, not, ◌||◌, List, [], ◌∷◌, ◌++◌, length, nat_lt, Option, Some, None, is_some, IsSome, option_map, Result, Ok, Err, refl, sym, ap, subst, ◌∙◌, arith, if◌then◌else◌}
+use Rattle.std.proofs.Common.{◌≡◌, ℕ, ◌≤◌, ◌==◌, Bool, true, false, not, ◌||◌, List, [], ◌∷◌, ◌++◌, length, nat_lt, Option, Some, None, is_some, IsSome, option_map, Result, Ok, Err, refl, sym, ap, subst, ◌∙◌, arith, if◌then◌else◌}
 use Rattle.osi_carrier.specs.Place.{Place, never, was_given}
 use Rattle.osi_carrier.specs.Happenings as told
 use Rattle.osi_carrier.specs.React as carriers
 use Rattle.osi_message.specs.Words as words
 use Rattle.osi_stack.specs.Messages.{part}
-use Rattle.osi_stack.proofs.Vocabulary.{eqb-true, nat_tests, list_any, Value, send_all_error, open_link, Happening, Rows, value_at, put, Connection, asked, linked, closing, State as Carrier, put_here, put_other, Standing as Link, Meaning, said_by_units, said_at, said_if_read, Units, SpduFault, words_of, IsSendable, words_sent, tsdus_of, tsdus_sent, behind_no_token, part_octets, written, spelled, Place as PartPlace, tsdu_at, Input, Listener, Move, called, opened, refused, broken, taken, came, came_as, answered, react, awaits, limit_of, Shown, first_shown, first_by, without_first, rest_by, has_given, send_refusal, move_refusal, session_refusal, call_error, carries_out, after_unit, opens, hears, hears_times, hears_first, hears_all, with_events, concludes, attends, shown_at_loss, loses, all_lost, Message, unit, ask, agree, deny, bye, over, IsWhole, put_by, puts, Acts, Effect, begins, happens, rests, effect_at, told_at, HasSession, AreShort, IsShort, CanHear, Hears, told_all, Arrives, kept_at, waiting_of, Becomes, IsGranted, Says, AreLost, shown_of, all_waiting, IsFirstOf, limit_for, line_by, carrier_by, by_line, to_session, Line, End, session_in, session_at, line_waits, waits, is_used, used_lines, joins, answers_by, Answer, allowed, Call, CallError}
+use Rattle.osi_stack.proofs.Vocabulary.{nat_tests, list_any, Value, send_all_error, open_link, Happening, Rows, value_at, put, Connection, asked, linked, State as Carrier, put_here, put_other, Standing as Link, Meaning, said_by_units, said_at, said_if_read, Units, SpduFault, words_of, IsSendable, words_sent, tsdus_of, tsdus_sent, behind_no_token, part_octets, written, spelled, Place as PartPlace, tsdu_at, Input, Listener, Move, called, opened, refused, broken, taken, came, came_as, answered, react, awaits, limit_of, Shown, first_shown, first_by, without_first, rest_by, has_given, send_refusal, move_refusal, session_refusal, call_error, carries_out, after_unit, opens, hears, hears_times, hears_first, hears_all, with_events, concludes, attends, shown_at_loss, loses, all_lost, Message, unit, ask, agree, deny, bye, IsWhole, put_by, puts, Acts, Effect, begins, happens, rests, effect_at, told_at, HasSession, AreShort, IsShort, CanHear, Hears, told_all, Arrives, kept_at, waiting_of, Becomes, IsGranted, Says, AreLost, shown_of, all_waiting, IsFirstOf, limit_for, line_by, carrier_by, by_line, to_session, Line, End, session_in, session_at, line_waits, waits, is_used, used_lines, joins, answers_by, Answer, allowed, Call, CallError}
 use Rattle.osi_stack.proofs.Handing.{hands_none, handed, puts_words}
 use Rattle.osi_stack.proofs.Events.{all_quiet}
 use Rattle.osi_stack.proofs.FirstShown.{quiet_line}
@@ -33,14 +33,7 @@ acts_is r input e s short = by_acts r input e s.line s.session s.here s.is short
 
 pub acts_becomes : (r : ℕ) (input : Input) (old new : End) (a : Acts r input old new) →
     Becomes r (react a.session input).next (react a.session input).shown old.lines new.lines
-acts_becomes r input old new a =
-    let after = line_by a.line (Some a.session) input in
-    let at : value_at r new.lines ≡ Some after = ap (λ (l : Rows Line). value_at r l) a.lines ∙ put_here r after a.line old.lines a.here in
-    record {
-      session_is = ap session_in at;
-      waiting = ap waiting_of at ∙ sym (ap (λ o. waiting_of o ++ (react a.session input).shown) a.here);
-      others = λ q ne. ap (λ (l : Rows Line). value_at q l) a.lines ∙ put_other q r after old.lines ne;
-    }
+acts_becomes r input old new a = grind (arith, line_by, value_at, put_here, session_in, waiting_of, react, put_other)
 
 -- ---- one event
 
@@ -50,9 +43,6 @@ one_heard e event h =
 
 attends_one : (e : End) (event : Happening) → e.carrier.events ≡ event ∷ [] → attends e ≡ concludes (hears event (with_events [] e))
 attends_one e event h = ap concludes (one_heard e event h)
-
-none_told : (e : End) → e.carrier.events ≡ [] → with_events [] e ≡ e
-none_told e h = ap (λ (l : List Happening). with_events l e) (sym h)
 
 attends_none : (e : End) → e.carrier.events ≡ [] → attends e ≡ concludes (with_events [] e)
 attends_none e h = ap concludes (all_quiet e h ∙ sym (ap (λ (l : List Happening). with_events l e) (sym h)))
@@ -66,13 +56,6 @@ happens_by r input event v e h same can =
     arrives_by r (happens input) v e (to_session r input (told_all v e)) (acts_is r input (told_all v e) can.0 can.1)
     (attends_one (carries_out v e) event h ∙ ap concludes same)
 
-rests_by : (r : ℕ) (v : Value) (e : End) → (carries_out v e).carrier.events ≡ [] → Arrives r rests v e (after_unit e v)
-rests_by r v e h = arrives_by r rests v e (told_all v e) refl (ap concludes (all_quiet (carries_out v e) h ∙ sym (none_told (carries_out v e) h)))
-
--- a session of a reference hears that its transport connection is there
-opens_to : (r : ℕ) (e : End) (line : Line) → value_at r e.lines ≡ Some line → hears (told.opened r) e ≡ to_session r opened e
-opens_to r e line here = ap (λ o. opens r o e) here
-
 pub record Readings : Type 0 where
   pub parts : (place : PartPlace) (octets : List ℕ) → said_at (part_octets place octets) ≡ Ok (behind_no_token (words.part place octets))
   pub read : (m : Meaning) → IsSendable m → tsdu_at (written m) ≡ Ok (spelled m)
@@ -82,10 +65,6 @@ pub record Readings : Type 0 where
 pub came_is : Readings → (m : Meaning) → IsSendable m → came (written m) ≡ taken (words_of m)
 unfolding said_at
 came_is law m sendable = ap (λ (r : Result Units SpduFault). came_as (said_if_read r)) (law.read m sendable) ∙ ap taken (law.said m sendable)
-
--- and so does a part
-part_is : Readings → (place : PartPlace) (octets : List ℕ) → came (part_octets place octets) ≡ taken (behind_no_token (words.part place octets))
-part_is law place octets = ap came_as (law.parts place octets)
 
 pub arrives : Readings → (r : ℕ) (place : Place) (m : Message) (v : Value) (e : End) → IsWhole m → (carriers.react v e.carrier).events ≡ told_at r place m →
     CanHear r (effect_at place m) e.lines → Arrives r (effect_at place m) v e (after_unit e v)
@@ -121,10 +100,7 @@ lost_waiting None = refl
 lost_waiting (Some line) = refl
 
 pub are_lost : (lines : Rows Line) → AreLost lines (all_lost lines)
-are_lost lines = record {
-  none = λ r. ap session_in (lost_at r lines) ∙ lost_none (value_at r lines);
-  waiting = λ r. ap waiting_of (lost_at r lines) ∙ lost_waiting (value_at r lines);
-}
+are_lost lines = grind (arith, session_in, lost_at, lost_none, value_at, waiting_of, lost_waiting)
 
 -- ---- all that waits
 
@@ -137,15 +113,10 @@ pub first_of_all : (lines : Rows Line) → IsFirstOf (first_shown lines) (all_wa
 first_of_all [] = (refl, refl)
 first_of_all ((r, line) ∷ lines) = shown_first r line line.waiting lines refl (first_of_all lines)
 
-first_keep_by : (Q : Rows Line → Type 0) (r : ℕ) (line : Line) (waiting : List Shown) (lines : Rows Line) → Q ((r, line) ∷ without_first lines) →
-    ((left : List Shown) → Q ((r, record line { waiting = left }) ∷ lines)) → Q (rest_by r line waiting lines (without_first lines))
-first_keep_by Q r line [] lines behind here = behind
-first_keep_by Q r line (shown ∷ waiting) lines behind here = here waiting
-
 -- what is true where the first that waits is told behind a line, and where it is told there
 pub first_keep : (Q : Rows Line → Type 0) (r : ℕ) (line : Line) (lines : Rows Line) → Q ((r, line) ∷ without_first lines) →
     ((left : List Shown) → Q ((r, record line { waiting = left }) ∷ lines)) → Q (without_first ((r, line) ∷ lines))
-first_keep Q r line lines behind here = first_keep_by Q r line line.waiting lines behind here
+first_keep Q r line lines behind here = grind arith
 
 kept_first_by : (q r : ℕ) (line : Line) (waiting : List Shown) (lines : Rows Line) (b : Bool) → (r == q) ≡ b → kept_at q (without_first lines) ≡ kept_at q lines →
     kept_at q (rest_by r line waiting lines (without_first lines)) ≡ kept_at q ((r, line) ∷ lines)
@@ -230,18 +201,10 @@ pub used_by : (live : Rows Connection) (row : ℕ × Line) (lines : Rows Line) (
     used_lines live (row ∷ lines) ≡ (if b then row ∷ used_lines live lines else used_lines live lines)
 used_by live row lines b e = ap (λ (c : Bool). if◌then◌else◌ {A = Rows Line} c (row ∷ used_lines live lines) (used_lines live lines)) e
 
-pub at_row : (q p : ℕ) (y : Line) (rows : Rows Line) (b : Bool) → (p == q) ≡ b → value_at q ((p, y) ∷ rows) ≡ (if b then Some y else value_at q rows)
-at_row q p y rows b e = ap (λ (c : Bool). if◌then◌else◌ {A = Option Line} c (Some y) (value_at q rows)) e
-
-used_keep_by : (Q : Rows Line → Type 0) (live : Rows Connection) (row : ℕ × Line) (lines : Rows Line) (b : Bool) → is_used live row ≡ b → Q (used_lines live lines) →
-    (b ≡ true → Q (row ∷ used_lines live lines)) → Q (used_lines live (row ∷ lines))
-used_keep_by Q live row lines true e gone stays = subst Q (sym (used_by live row lines true e)) (stays refl)
-used_keep_by Q live row lines false e gone stays = subst Q (sym (used_by live row lines false e)) gone
-
 -- what is true where a line is dropped, and where it stays
 pub used_keep : (Q : Rows Line → Type 0) (live : Rows Connection) (row : ℕ × Line) (lines : Rows Line) → Q (used_lines live lines) →
     (is_used live row ≡ true → Q (row ∷ used_lines live lines)) → Q (used_lines live (row ∷ lines))
-used_keep Q live row lines gone stays = used_keep_by Q live row lines (is_used live row) refl gone stays
+used_keep Q live row lines gone stays = grind arith
 
 -- lines of live connections stay
 used_live_by : (q p : ℕ) (y : Line) (live : Rows Connection) (lines : Rows Line) (b u : Bool) → (p == q) ≡ b → is_used live (p, y) ≡ u → is_some (value_at q live) ≡ true →

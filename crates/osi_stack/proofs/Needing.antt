@@ -1,11 +1,9 @@
 -- What needs memory shows, sends or keeps something.
-use Rattle.std.proofs.Common.{◌≡◌, ℕ, ◌||◌, ◌&&◌, not, Bool, true, false, List, [], ◌∷◌, length, map, get_or, nat_lt, Option, Some, None, is_some, is_none, option_map, unwrap_or, Result, OnErr, refl, sym, ap, subst, ◌∙◌, inl, inr, arith}
-use Rattle.osi_carrier.proofs.Growing.{written_grows, or_cases}
+use Rattle.std.proofs.Common.{◌≡◌, ℕ, ◌||◌, ◌&&◌, true, [], ◌∷◌, get_or, Option, Some, None, Result, OnErr, refl, ◌∙◌, arith}
+use Rattle.osi_carrier.proofs.Growing.{written_grows}
 use Rattle.osi_carrier.specs.Growth.{grows}
-use Rattle.osi_session.specs.Respond.{is_nil}
-use Rattle.osi_stack.proofs.Vocabulary.{or_right, or_left, disconnect, Standing, Class, Zero, Two, placed, closes, closed_on, closed_with, close_error, open_link, Rows, value_at, place_of, State as Carrier, Meaning, in_one, joined_octets, Input, Listener, Move, react, is_quiet, takes_memory, Shown, shown_by, Indication, session_needs, Line, session_in, told_input, answers_by, Told}
+use Rattle.osi_stack.proofs.Vocabulary.{disconnect, Standing, Class, Zero, placed, closes, closed_on, closed_with, close_error, open_link, Rows, value_at, place_of, State as Carrier, Input, session_needs, Line, session_in}
 use Rattle.osi_stack.proofs.Found.{session_here}
-use Rattle.osi_stack.proofs.Handing.{answer_heard}
 
 -- ---- a DR
 
@@ -27,7 +25,4 @@ closing_needs r c e other = closing_on r c (open_link r c) e other
 
 pub needs_at : {A E : Type 0} (result : Result A E) (r : ℕ) (rows : Rows Line) (i : ℕ) (row : ℕ × Line) (input : Input) (c : Carrier) → place_of r rows ≡ Some i → row ≡ get_or rows i row →
     OnErr result (session_needs row.0 row.1.session input c ≡ true) → OnErr result (session_needs r (session_in (value_at r rows)) input c ≡ true)
-needs_at result r rows i row input c e here h =
-    let named = ap (λ (x : ℕ × Line). x.0) here ∙ (placed r rows i row e).named in
-    subst (λ (n : ℕ). OnErr result (session_needs n (session_in (value_at r rows)) input c ≡ true)) named
-    (subst (λ (o : Option Listener). OnErr result (session_needs row.0 o input c ≡ true)) (session_here r rows i row e here) h)
+needs_at result r rows i row input c e here h = grind (arith, placed, session_needs, session_in, value_at, session_here)

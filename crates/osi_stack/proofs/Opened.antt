@@ -1,13 +1,13 @@
 -- Which connections units open: those that were asked for, and at a called end new ones. One that was asked for is
 -- so until its user is told that it is agreed to, or denied.
-use Rattle.std.proofs.Common.{◌≡◌, ◌≢◌, ℕ, ◌+◌, ◌<◌, ◌≤◌, ◌==◌, Bool, true, false, List, [], ◌∷◌, ◌++◌, take, nat_le, Option, Some, None, Result, Ok, Err, is_some, IsSome, refl, sym, ap, subst, ◌∙◌, inl, inr, ◌⊎◌, arith, append_assoc, if◌then◌else◌}
+use Rattle.std.proofs.Common.{◌≡◌, ◌≢◌, ℕ, ◌+◌, ◌<◌, ◌≤◌, ◌==◌, Bool, true, false, List, [], ◌∷◌, ◌++◌, take, Option, Some, None, Result, Ok, Err, is_some, IsSome, refl, sym, ap, subst, ◌∙◌, inl, inr, ◌⊎◌, arith, append_assoc, if◌then◌else◌}
 use Rattle.osi_tpdu.specs.Value.{Connect}
 use Rattle.osi_class.specs.Link.{taken}
 use Rattle.osi_class.specs.Negotiation.{Selection, accept, refuse, selected_by}
 use Rattle.osi_class.specs.declared.faults.LinkFault.{LinkFault}
 use Rattle.osi_carrier.specs.Negotiation.{confirmed}
 use Rattle.osi_carrier.specs.React.{answers, opens, breaks, react}
-use Rattle.osi_stack.proofs.Vocabulary.{eqb-true, eq-eqb, or_left, nat_tests, append-nil, AllByRecursion, Value, request, confirm, disconnect, disconnected, data0, data2, acknowledge, error, Standing, Class, Zero, Two, Happening, tsdu, closed, faulted, RiseFrom, told_of, IsOrderly, denies, is_full, has_peer, answers_request, to_unknown, to_asked, tells_of, taking, leaves, to_linked, to_closing, to_connection, to_reference, before_class, to_only, in_zero, in_two, in_class, react_by, reacts, Rows, value_at, put, without, Connection, asked, linked, closing, State, drops, EndReason, put_here, without_here, beyond, put_other, without_other, put_none, push_other, stays_gone, orderly_unit, react_over, told_opened as opened, told_refused as refused, carrier_ends as ends}
+use Rattle.osi_stack.proofs.Vocabulary.{eqb-true, eq-eqb, or_left, append-nil, AllByRecursion, Value, request, confirm, disconnect, disconnected, data0, data2, acknowledge, error, Standing, Class, Zero, Two, Happening, tsdu, closed, faulted, RiseFrom, told_of, IsOrderly, denies, is_full, has_peer, answers_request, to_unknown, to_asked, tells_of, taking, leaves, to_linked, to_closing, to_connection, to_reference, before_class, to_only, in_zero, in_two, in_class, react_by, reacts, Rows, value_at, put, without, Connection, asked, linked, closing, State, drops, EndReason, put_here, without_here, beyond, put_other, without_other, put_none, push_other, stays_gone, orderly_unit, react_over, told_opened as opened, told_refused as refused, carrier_ends as ends}
 use Rattle.osi_stack.proofs.Answered.{answered, answered_front, answered_behind}
 use Rattle.osi_stack.proofs.Soundness.{units_rise, up_at}
 use Rattle.osi_stack.proofs.Lifting.{both}
@@ -33,11 +33,7 @@ pub awaited_put : (r : ℕ) (c : Connection) (rows : Rows Connection) → (c ≡
 awaited_put r c rows other = λ q h. put_at q r c rows (q == r) (value_at q rows) refl refl other h
 
 without_at : (q r : ℕ) (rows : Rows Connection) (b : Bool) → (q == r) ≡ b → RiseFrom 0 rows → value_at q (without r rows) ≡ Some asked → value_at q rows ≡ Some asked
-without_at q r rows false e rise h =
-    let ne : q ≢ r = (λ same. let yes : (q == r) ≡ true = eq-eqb q r same in let no : true ≡ false = sym yes ∙ e in cc) in
-    sym (without_other q r rows ne) ∙ h
-without_at q r rows true e rise h =
-    let no : None ≡ Some asked = sym (without_here q rows rise) ∙ (ap (λ n. value_at q (without n rows)) (eqb-true q r e) ∙ h) in cc
+without_at q r rows b e rise h = grind (arith, eq-eqb, without_other, asked, without_here, value_at, without, eqb-true)
 
 awaited_without : (r : ℕ) (rows : Rows Connection) → RiseFrom 0 rows → AwaitedBefore rows (without r rows)
 awaited_without r rows rise = λ q h. without_at q r rows (q == r) refl rise h
@@ -107,14 +103,7 @@ record Opens (old new : State) : Type 0 where
   stays : StaysAsked old new told
 
 silent : (old new : State) → new.events ≡ old.events → new.given ≡ old.given → new.is_caller ≡ old.is_caller → AwaitedBefore old.live new.live → StaysAsked old new [] → Opens old new
-silent old new same given side awaited stays = record {
-  told = [];
-  events = same ∙ sym (append-nil old.events);
-  how = inl (record { is = refl; about = tt; given = given });
-  side = side;
-  awaited = awaited;
-  stays = stays;
-}
+silent old new same given side awaited stays = grind (arith, append-nil)
 
 telling : (old new : State) (event : Happening) → opened_in (event ∷ []) ≡ [] → IsSome (value_at (told_of event) old.live) → new.events ≡ old.events ++ event ∷ [] → new.given ≡ old.given → new.is_caller ≡ old.is_caller →
     AwaitedBefore old.live new.live → StaysAsked old new (event ∷ []) → Opens old new
@@ -133,28 +122,10 @@ opens_denies reason peer s = silent s (denies reason peer s) refl refl refl (λ 
 
 -- a CR is for no connection that is there
 stays_pushed : (c : Connection) (s : State) → IsOrderly s → (q : ℕ) → value_at q s.live ≡ Some asked → value_at q (s.live ++ (s.given + 1, c) ∷ []) ≡ Some asked
-stays_pushed c s o q h =
-    let ne : q ≢ s.given + 1 = (λ same.
-    let no : None ≡ Some asked = sym (beyond (s.given + 1) s.given s.live o.up_to (omega arith)) ∙ ap (λ n. value_at n s.live) (sym same) ∙ h in cc) in
-    push_other q (s.given + 1) c s.live ne ∙ h
+stays_pushed c s o q h = grind (arith, asked, beyond, value_at, push_other)
 
 opens_accepts : (class : Class) (size : Option ℕ) (c : Connect) (s : State) → IsOrderly s → s.is_caller ≡ false → Opens s (answers c (accept class size) None s)
-opens_accepts Zero size c s o called = record {
-  told = opened (s.given + 1) ∷ [];
-  events = refl;
-  how = inr (inr (record { event = refl; is = refl; given = refl; called = called }));
-  side = refl;
-  awaited = awaited_push (s.given + 1) _ s.live (linked_not_asked _ _);
-  stays = λ q h over. inl (stays_pushed _ s o q h);
-}
-opens_accepts Two size c s o called = record {
-  told = opened (s.given + 1) ∷ [];
-  events = refl;
-  how = inr (inr (record { event = refl; is = refl; given = refl; called = called }));
-  side = refl;
-  awaited = awaited_push (s.given + 1) _ s.live (linked_not_asked _ _);
-  stays = λ q h over. inl (stays_pushed _ s o q h);
-}
+opens_accepts class size c s o called = grind (arith, opened, awaited_push, linked_not_asked, stays_pushed)
 
 opens_answers : (c : Connect) (selection : Selection) (held : Option Class) (s : State) → IsOrderly s → s.is_caller ≡ false → Opens s (answers c selection held s)
 opens_answers c (refuse reason) held s o called = opens_denies reason c.source s
@@ -185,15 +156,7 @@ stays_by q r event new true e here other = inr (here e)
 stays_by q r event new false e here other = inl (other (λ same. both (r == q) (eq-eqb r q (sym same)) e))
 
 opens_confirm : (r : ℕ) (c : Connect) (class : Option Class) (s : State) → value_at r s.live ≡ Some asked → Opens s (opens r c class s)
-opens_confirm r c None s here = opens_end _ s
-opens_confirm r c (Some class) s here = record {
-  told = opened r ∷ [];
-  events = refl;
-  how = inr (inl (record { reference = r; event = refl; is = refl; here = here; given = refl }));
-  side = refl;
-  awaited = awaited_put r _ s.live (linked_not_asked _ _);
-  stays = λ q h over. stays_by q r (opened r) _ (r == q) refl (or_left (r == q) false) (λ ne. put_other q r _ s.live ne ∙ h);
-}
+opens_confirm r c class s here = grind (arith, opens_end, opened, awaited_put, linked_not_asked, stays_by, or_left, put_other)
 
 opens_asked : (r : ℕ) (unit : Value) (s : State) → IsOrderly s → value_at r s.live ≡ Some asked → Opens s (to_asked r unit s)
 opens_asked r (confirm destination c) s o here = opens_confirm r c (confirmed c s.local s.class) s here
@@ -223,20 +186,14 @@ opens_settles r (first ∷ more) c s t here other given side live events =
     (λ q h over. inl (ap (value_at q) live ∙ put_other q r c s.live (here.apart q h) ∙ h))
 
 opens_breaks : (r peer : ℕ) (fault : LinkFault) (held : Option Class) (s : State) → IsThere r s → Opens s (breaks r peer fault held s)
-opens_breaks r peer fault (Some Two) s here =
-    telling s (breaks r peer fault (Some Two) s) (faulted r fault) refl here.here refl refl refl (awaited_put r (closing peer) s.live (closing_not_asked peer))
-    (λ q h over. inl (put_other q r (closing peer) s.live (here.apart q h) ∙ h))
-opens_breaks r peer fault _ s here = opens_end _ s
+opens_breaks r peer fault held s here = search (arith, telling, faulted, awaited_put, closing, closing_not_asked, put_other, opens_end)
 
 opens_taking : (r peer : ℕ) (result : Result Standing LinkFault) (s : State) → IsThere r s → Opens s (taking r peer result s)
 opens_taking r peer (Ok link) s here = opens_settles r link.ends.joining.whole _ s _ here (linked_not_asked _ _) refl refl refl refl
 opens_taking r peer (Err fault) s here = opens_breaks r peer fault s.class s here
 
 opens_leaves : (r peer reason : ℕ) (held : Option Class) (s : State) → IsOrderly s → IsThere r s → Opens s (leaves r peer reason held s)
-opens_leaves r peer reason (Some Two) s o here =
-    telling s (leaves r peer reason (Some Two) s) (closed r reason) refl here.here refl refl refl (awaited_without r s.live o.rise)
-    (λ q h over. inl (without_other q r s.live (here.apart q h) ∙ h))
-opens_leaves r peer reason held s o here = telling s (leaves r peer reason held s) (closed r reason) refl here.here refl refl refl (λ q h. cc) (λ q h over. cc)
+opens_leaves r peer reason held s o here = grind (arith, telling, leaves, closed, awaited_without, without_other)
 
 opens_linked : (r peer : ℕ) (link : Standing) (unit : Value) (s : State) → IsOrderly s → IsThere r s → Opens s (to_linked r peer link unit s)
 opens_linked r peer link (disconnect destination source reason user) s o here = opens_leaves r peer reason s.class s o here
@@ -262,11 +219,7 @@ opens_reference r unit s o = opens_connection r (value_at r s.live) unit s o ref
 -- ---- by class
 
 opens_before : (b : Bool) (unit : Value) (s : State) → IsOrderly s → s.is_caller ≡ b → Opens s (before_class b unit s)
-opens_before true (confirm destination c) s o e = opens_reference destination (confirm destination c) s o
-opens_before true (disconnect destination source reason user) s o e = opens_reference destination (disconnect destination source reason user) s o
-opens_before true (error destination cause) s o e = opens_reference destination (error destination cause) s o
-opens_before false (request c) s o e = opens_request c s o e
-opens_before b unit s o e = opens_end _ s
+opens_before b unit s o e = search (arith, confirm, opens_reference, disconnect, error, request, opens_request, opens_end)
 
 pub first_here : (r : ℕ) (x : Connection) (rows : Rows Connection) → value_at r ((r, x) ∷ rows) ≡ Some x
 first_here r x rows = let e = eq-eqb r r refl in rw e refl
@@ -401,17 +354,11 @@ given_here s o l all = all_still (λ event. IsSome (value_at (told_of event) s.l
 
 known_by : (old new : State) (told : List Happening) → IsOrderly old → Unopened old new told ⊎ (Agreed old new told ⊎ Accepted old new told) → old.is_caller ≡ true →
     (new.given ≡ old.given) × AllByRecursion (IsGiven old.given) told
-known_by old new told o (inl h) caller = (h.given, given_here old o told h.about)
-known_by old new told o (inr (inl h)) caller =
-    (h.given, subst (AllByRecursion (IsGiven old.given)) (sym h.event) (up_at h.reference old.given old.live o.up_to (ap is_some h.here), tt))
-known_by old new told o (inr (inr h)) caller = both old.is_caller caller h.called
+known_by old new told o h4 caller = grind (arith, given_here, up_at, is_some, both)
 
 comes_by : (old new : State) (told : List Happening) → IsOrderly old → Unopened old new told ⊎ (Agreed old new told ⊎ Accepted old new told) → NoneAwaited old.live →
     Comes old.given told new.given
-comes_by old new told o (inl h) none = comes_quiet old.given told new.given h.given h.is (given_here old o told h.about)
-comes_by old new told o (inr (inl h)) none = absurd (none h.reference h.here)
-comes_by old new told o (inr (inr h)) none =
-    subst (λ (l : List Happening). Comes old.given l new.given) (sym h.event) ((omega arith), h.given)
+comes_by old new told o h4 none = grind (arith, comes_quiet, given_here)
 
 unit_lasts : (unit : Value) (s : State) (over : Option EndReason) → s.ended ≡ over → (react unit s).ended ≡ None → s.ended ≡ None
 unit_lasts unit s None is lasts = is
@@ -436,32 +383,17 @@ along_unit unit s orderly =
       lasts = unit_lasts unit s s.ended refl;
     }
 
--- one that is there later was there, or is new
-of_before : (old mid : State) (r : ℕ) (o : Option Connection) (b : Bool) → value_at r old.live ≡ o → nat_le r old.given ≡ b → (r ≤ old.given → value_at r old.live ≡ None → value_at r mid.live ≡ None) →
-    IsSome (value_at r mid.live) → IsSome (value_at r old.live) ⊎ (old.given < r)
-of_before old mid r o b is e gone here = grind arith
-
 about_join : (old mid : State) (event : Happening) → old.given ≤ mid.given → ((q : ℕ) → q ≤ old.given → value_at q old.live ≡ None → value_at q mid.live ≡ None) → IsOf mid event → IsOf old event
-about_join old mid event rises gone (inl here) = of_before old mid (told_of event) (value_at (told_of event) old.live) (nat_le (told_of event) old.given) refl refl (gone (told_of event)) here
-about_join old mid event rises gone (inr above) = inr (omega arith)
+about_join old mid event rises gone h5 = grind arith
 
 gone_join : (old mid new : State) → OpensAlong old mid → OpensAlong mid new → (q : ℕ) → q ≤ old.given → value_at q old.live ≡ None → value_at q new.live ≡ None
 gone_join old mid new a b q up none = let more = a.rises in b.gone q (omega arith) (a.gone q up none)
 
 known_join : (old mid new : State) (a : OpensAlong old mid) (b : OpensAlong mid new) → old.is_caller ≡ true → (new.given ≡ old.given) × AllByRecursion (IsGiven old.given) (a.told ++ b.told)
-known_join old mid new a b caller =
-    let first = a.known caller in
-    let second = b.known (a.side ∙ caller) in
-    (second.0 ∙ first.0, all_join (IsGiven old.given) a.told b.told first.1 (subst (λ n. AllByRecursion (IsGiven n) b.told) first.0 second.1))
+known_join old mid new a b caller = grind (arith, all_join)
 
 stays_join : (old mid new : State) (a : OpensAlong old mid) (b : OpensAlong mid new) → StaysAsked old new (a.told ++ b.told)
-stays_join old mid new a b q h over = elim (a.stays q h (b.lasts over)) [
-  | inr told ↦ inr (answered_front q a.told b.told told)
-  | inl here ↦ elim (b.stays q here over) [
-    | inl still ↦ inl still
-    | inr told ↦ inr (answered_behind q a.told b.told told)
-  ]
-]
+stays_join old mid new a b q h over = grind (arith, answered_front, answered_behind)
 
 along_join : (old mid new : State) → OpensAlong old mid → OpensAlong mid new → OpensAlong old new
 along_join old mid new a b = record {

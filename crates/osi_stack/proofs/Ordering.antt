@@ -2,7 +2,7 @@
 use Rattle.std.proofs.Common.{◌≡◌, ◌≢◌, ℕ, zero, suc, ◌+◌, ◌<◌, ◌≤◌, ◌==◌, Bool, true, false, ◌||◌, not, List, ◌∷◌, ◌++◌, length, Option, Some, None, Result, Ok, Err, is_some, IsSome, refl, sym, ap, subst, ◌∙◌, inl, inr, ◌⊎◌, arith, if◌then◌else◌, []}
 use Rattle.osi_carrier.specs.Packets as carriers
 use Rattle.osi_carrier.specs.declared.faults.OpenError.TheVariants.{NotCaller}
-use Rattle.osi_stack.proofs.Vocabulary.{eqb-true, eq-eqb, Fed, units_of, Value, TpduFault, Standing as Link, Class, Zero, Local, open_link, may_connect, sent_on, closes, closed_on, sent, closed_with, Happening, tsdu, closed, faulted, RiseFrom, AreUpTo, IsOrderly, told_of, reacts, Rows, value_at, Connection, asked, closing, State as Carrier, EndReason, Broken, NoMemory, OpenError, beyond, push_here, push_other, free_of, none_of, Input, opened as linked_up, awaits, calls_with, connects, connect_error, terms_error, breaks, carried, without_first, Feeds, opens, hears, hears_next, hears_times, hears_all, with_events, with_carrier, attends, after_packet, ends, starves, loses, all_lost, Starves, AreApart, Soundness, IsSound, line_by, by_line, to_session, IsOrdered, Line, End, Holding, IsAttended, fresh_end, used_lines, fresh_line, Connect, input_of, told_opened as opened, told_refused as refused, carrier_ends}
+use Rattle.osi_stack.proofs.Vocabulary.{eqb-true, eq-eqb, Fed, units_of, Value, TpduFault, Standing as Link, Class, Zero, Local, open_link, may_connect, sent_on, closes, closed_on, sent, closed_with, Happening, tsdu, RiseFrom, AreUpTo, IsOrderly, told_of, reacts, Rows, value_at, Connection, asked, closing, State as Carrier, EndReason, Broken, NoMemory, OpenError, beyond, push_here, push_other, free_of, none_of, Input, opened as linked_up, awaits, calls_with, connects, connect_error, terms_error, breaks, carried, without_first, Feeds, opens, hears, hears_next, hears_times, hears_all, with_events, with_carrier, attends, after_packet, ends, starves, loses, all_lost, Starves, AreApart, Soundness, IsSound, line_by, by_line, to_session, IsOrdered, Line, End, Holding, IsAttended, fresh_end, used_lines, fresh_line, Connect, input_of, told_opened as opened, carrier_ends}
 use Rattle.osi_stack.proofs.Events.{times_quiet}
 use Rattle.osi_stack.proofs.Lifting.{both, packet_is}
 use Rattle.osi_stack.proofs.Linking.{SessionLaws, first_is, rest_is, used_at, apart_push, joined_lines, put_some}
@@ -72,10 +72,7 @@ has_first r ((p, y) ∷ lines) h =
 
 -- that of a live connection is of use
 has_used : (r : ℕ) (live : Rows Connection) (lines : Rows Line) → AreApart lines → value_at r live ≡ Some asked → IsSome (value_at r lines) → IsSome (value_at r (used_lines live lines))
-has_used r live lines apart here h = elim (used_at r live lines apart) [
-  | inl same ↦ subst IsSome (sym same) h
-  | inr gone ↦ (let no : None ≡ Some asked = sym gone.1 ∙ here in cc)
-]
+has_used r live lines apart here h = grind (arith, used_at, asked)
 
 -- ---- what a caller hears
 
@@ -266,9 +263,6 @@ fresh_ordered is_caller local = record { rise = tt; awaiting = λ r h. cc }
 caller_by : (b : Bool) (o : Option OpenError) → (if not b then Some NotCaller else o) ≡ None → b ≡ true
 caller_by true o h = refl
 caller_by false o h = cc
-
-caller_of : (c : Carrier) → may_connect c ≡ None → c.is_caller ≡ true
-caller_of c h = caller_by c.is_caller _ h
 
 -- the new connection, and those before it
 joined_has : (r q : ℕ) (x : Line) (e : End) (b : Bool) → (r == q) ≡ b → value_at q e.lines ≡ None → IsOrdered e → value_at r (e.carrier.live ++ (q, asked) ∷ []) ≡ Some asked →

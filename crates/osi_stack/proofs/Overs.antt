@@ -1,23 +1,15 @@
 -- Once the carrier has ended no session changes it, and it stays ended for the same reason.
-use Rattle.std.proofs.Common.{◌≡◌, ℕ, zero, suc, Bool, true, List, ◌∷◌, length, Option, Some, None, is_some, refl, sym, ap, ◌∙◌, ◌⊎◌, inl, inr, if◌then◌else◌, [], arith}
+use Rattle.std.proofs.Common.{◌≡◌, ℕ, zero, suc, true, List, ◌∷◌, length, Option, Some, None, is_some, refl, sym, ap, ◌∙◌, ◌⊎◌, inl, inr, if◌then◌else◌, [], arith}
 use Rattle.osi_carrier.specs.Happenings as told
 use Rattle.osi_carrier.specs.Packets as carriers
 use Rattle.osi_carrier.specs.State as states
-use Rattle.osi_stack.proofs.Vocabulary.{open_link, link_of, closed_on, closed_with, sent, sent_on, Happening, value_at, State as Carrier, EndReason, NoMemory, acts_cases, Standing as Link, hears_first, hears_next, hears_times, hears_all, with_events, with_carrier, attends, after_packet, starves, RunsOut, Starves, End, told_of, input_of}
+use Rattle.osi_stack.proofs.Vocabulary.{Happening, State as Carrier, EndReason, NoMemory, acts_cases, hears_first, hears_next, hears_times, hears_all, with_events, with_carrier, attends, after_packet, starves, RunsOut, Starves, End}
 use Rattle.osi_stack.proofs.Events.{times_quiet, concluded_carrier}
 use Rattle.osi_stack.proofs.Lifting.{packet_is}
 use Rattle.osi_stack.proofs.Linking.{rest_is, times_last}
-use Rattle.osi_stack.proofs.Stepwise.{Carries, session_carried, event_heard, Hears}
+use Rattle.osi_stack.proofs.Stepwise.{event_heard, Hears}
 
 -- ---- what sessions do
-
--- no connection of it is open
-none_open : (r : ℕ) (c : Carrier) → is_some c.ended ≡ true → open_link r c ≡ None
-none_open r c over = ap (λ (b : Bool). if b then None else link_of (value_at r c.live)) over
-
--- what it sends and closes is nothing
-nothing_over : (c : Carrier) → is_some c.ended ≡ true → Carries (λ x. x ≡ c)
-nothing_over c over = grind arith
 
 -- no event changes the carrier
 hears_over : (c : Carrier) → is_some c.ended ≡ true → Hears (λ x. x.carrier ≡ c)
@@ -26,10 +18,7 @@ hears_over c over = grind arith
 -- ---- all events
 
 first_over : (events : List Happening) (e : End) → is_some e.carrier.ended ≡ true → (hears_first events e).carrier.ended ≡ e.carrier.ended
-first_over [] e over = refl
-first_over (event ∷ events) e over =
-    let mid = with_events events e in
-    ap (λ (c : Carrier). c.ended) (event_heard (λ x. x.carrier ≡ mid.carrier) (hears_over mid.carrier over) event mid refl)
+first_over events e over = search (arith, with_events, event_heard, hears_over)
 
 pub times_over : (n : ℕ) (e : End) → is_some e.carrier.ended ≡ true → (hears_times n e).carrier.ended ≡ e.carrier.ended
 times_over zero e over = refl

@@ -1,5 +1,5 @@
 -- The parts of one Data do to an end what the whole does, whatever calls come between.
-use Rattle.std.proofs.Common.{◌≡◌, ℕ, ◌==◌, Bool, true, false, List, [], ◌∷◌, ◌++◌, map, Option, Some, None, refl, sym, ap, ◌∙◌, if◌then◌else◌}
+use Rattle.std.proofs.Common.{◌≡◌, ℕ, ◌==◌, Bool, true, false, List, [], ◌∷◌, ◌++◌, map, Option, Some, None, refl, sym, ap, ◌∙◌, if◌then◌else◌, arith}
 use Rattle.osi_session.specs.Parts.{AreAlike}
 use Rattle.osi_stack.specs.Parted.{to_session_along}
 use Rattle.osi_stack.proofs.Vocabulary.{append-nil, Rows, value_at, put, State as Carrier, put_here, put_same, Meaning, part_octets, tsdus_sent, Input, Listener, Move, called, came, react, after_inputs, Act, comes, calls, act_in_octets, calls_in, IsSilent, AreSilent, Shown, limit_of, kept_at, limit_for, answers, line_by, by_line, to_session, Selectors, selectors_told, shows_connect, Line, End, session_in, answers_by}
@@ -46,12 +46,7 @@ quiet_answers r limit move c s =
 
 silent_at : (r : ℕ) (input : Input) (c : Carrier) (l : Listener) (waiting : List Shown) (selectors : Option Selectors) (rows : Rows Line) → HasLine r rows → IsSilent (react l input) →
     to_session r input (at r c l waiting selectors rows) ≡ at r c (react l input).next waiting selectors rows
-silent_at r input c l waiting selectors rows h s =
-    moves_at r input c l waiting selectors rows h
-    ∙ ap (λ (d : Carrier). at r d (react l input).next (waiting ++ (react l input).shown) (names (react l input).shown (selectors_told input) selectors) rows)
-    (quiet_answers r (limit_for l input) (react l input) c s)
-    ∙ ap (λ (w : List Shown). at r c (react l input).next (waiting ++ w) (names w (selectors_told input) selectors) rows) s.shown
-    ∙ ap (λ (w : List Shown). at r c (react l input).next w selectors rows) (append-nil waiting)
+silent_at r input c l waiting selectors rows h s = grind (arith, moves_at, react, selectors_told, quiet_answers, limit_for, append-nil)
 
 alike_answers : (r m n : ℕ) (a b : Move) (c : Carrier) → m ≡ n → AreAlike a b → answers r m a c ≡ answers r n b c
 alike_answers r m n a b c sizes same = cc

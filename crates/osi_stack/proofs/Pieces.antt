@@ -1,13 +1,13 @@
 -- A piece of the stream, read by looks that each take packets up to one that tells something.
-use Rattle.std.proofs.Common.{◌≡◌, ℕ, zero, suc, ◌+◌, ◌-◌, ◌<◌, ◌≤◌, ◌||◌, ◌==◌, not, true, false, Bool, List, [], ◌∷◌, ◌++◌, length, take, drop, Option, Some, None, Result, Ok, Err, is_some, refl, sym, ap, subst, ◌∙◌, inl, inr, ◌⊎◌, arith, length-append, length-drop, append_assoc, if◌then◌else◌}
+use Rattle.std.proofs.Common.{◌≡◌, ℕ, zero, suc, ◌+◌, ◌-◌, ◌<◌, ◌≤◌, ◌||◌, ◌==◌, not, true, false, Bool, List, [], ◌∷◌, ◌++◌, length, take, drop, Option, Some, None, Result, is_some, refl, sym, ap, subst, ◌∙◌, inl, inr, ◌⊎◌, arith, length-append, length-drop, append_assoc, if◌then◌else◌}
 use Rattle.std.proofs.Math.Seq.{drop-append_seam}
 use Rattle.osi_carrier.specs.Packets as carriers
 use Rattle.osi_carrier.specs.State as states
 use Rattle.osi_stack.specs.Feeding.{Refuses}
-use Rattle.osi_stack.proofs.Vocabulary.{append-nil, take-append-drop, take_at, or_right, or_left, IsPartial, IsFaultOf, ArePackets, offset_of, TpktFault, units_of, Value, TpduFault, none_of, packets_more, packets_leave, Carrying, HasToHold, is_spoilt, ActsBy, acts_by, Rows, State as Carrier, Tpkt, EndReason, Fault, NoMemory, stops, uses_all, TakesPackets, RunsDry, StopsBehind, FindsNoRoom, FindsNoMemory, Goes, Fetches, attends, with_carrier, ends, hears_all, concludes, RunsOut, Starves, Line, End, Holding, IsAttended, waits}
-use Rattle.osi_stack.proofs.Events.{all_quiet, never_starved, concluded_carrier, all_keep_by}
+use Rattle.osi_stack.proofs.Vocabulary.{append-nil, take-append-drop, take_at, or_right, or_left, IsPartial, IsFaultOf, ArePackets, offset_of, TpktFault, Value, TpduFault, packets_more, packets_leave, Carrying, HasToHold, is_spoilt, ActsBy, Rows, State as Carrier, Tpkt, EndReason, Fault, NoMemory, stops, uses_all, TakesPackets, RunsDry, StopsBehind, FindsNoRoom, FindsNoMemory, Goes, Fetches, attends, with_carrier, ends, hears_all, RunsOut, Starves, Line, End, Holding, IsAttended, waits}
+use Rattle.osi_stack.proofs.Events.{never_starved, concluded_carrier, all_keep_by}
 use Rattle.osi_stack.proofs.Rooms.{room_stays, less_room, packet_faultless, first_part}
-use Rattle.osi_stack.proofs.Lifting.{both, or_first, or_second, IsQuiet, quiet_is, quiet_attends, quiet_stops, lift_dry, last_is, takes_append, packets_append, packets_part, lift_last}
+use Rattle.osi_stack.proofs.Lifting.{both, or_second, IsQuiet, quiet_is, quiet_attends, quiet_stops, lift_dry, last_is, takes_append, packets_append, packets_part, lift_last}
 
 -- ---- where reading a piece is
 
@@ -56,14 +56,9 @@ attends_spoilt : (e new : End) → new ≡ attends e → is_spoilt new.carrier.e
 attends_spoilt e new h =
     ap (λ (x : End). is_spoilt x.carrier.ended) h ∙ ap (λ (c : Carrier). is_spoilt c.ended) (concluded_carrier (hears_all e)) ∙ all_keep_by (length e.carrier.events) e
 
--- what a packet did is one way for it to act
-acts_of : (units : Result (List Value) TpduFault) (old new : Carrier) → new ≡ acts_by units old → ActsBy units old new
-acts_of (Ok us) old new h = inl h
-acts_of (Err f) old new h = h
-
 acts_is : (old new : Carrier) (packet : List ℕ) → new ≡ carriers.after_packet old packet → carriers.Acts old packet new
 unfolding carriers.after_packet
-acts_is old new packet h = acts_of (units_of packet) old new h
+acts_is old new packet h = grind arith
 
 acts_starved : (old new : Carrier) (packet : List ℕ) → carriers.Starves old packet new → carriers.Acts old packet new
 acts_starved old new packet h = subst (λ (u : Result (List Value) TpduFault). ActsBy u old new) (sym h.1) (inr h.2)
@@ -81,12 +76,9 @@ looked piece front rest within cut =
     let parts : piece ≡ (front ++ take within rest) ++ drop within rest =
     cut ∙ ap (λ l. front ++ l) (sym (take-append-drop within rest)) ∙ sym (append_assoc front (take within rest) (drop within rest)) in
     let sizes = ap length parts ∙ length-append (front ++ take within rest) (drop within rest) in
-    record {
-      cut = parts;
-      seen = ap (take (length (front ++ take within rest))) parts ∙ take_at (front ++ take within rest) (drop within rest) (length (front ++ take within rest)) refl;
-      bound = omega arith;
-      behind = ap (drop (length (front ++ take within rest))) parts ∙ drop-append_seam (front ++ take within rest) (drop within rest);
-    }
+    let seen = ap (take (length (front ++ take within rest))) parts ∙ take_at (front ++ take within rest) (drop within rest) (length (front ++ take within rest)) refl in
+    let behind = ap (drop (length (front ++ take within rest))) parts ∙ drop-append_seam (front ++ take within rest) (drop within rest) in
+    grind arith
 
 -- the packets so far, with more octets behind them
 more_packets : (old : Holding) (piece : List ℕ) (now : Holding) (rest more : List ℕ) (read : IsRead old piece now rest) →
@@ -98,14 +90,7 @@ more_packets old piece now rest more read =
 -- the place of octets of which so many are left
 place_of_rest : (old : Holding) (piece : List ℕ) (now : Holding) (rest more : List ℕ) (left : ℕ) (read : IsRead old piece now rest) → left ≤ length (now.held.octets ++ more) →
     offset_of (now.held.offset + (length (now.held.octets ++ more) - left)) ≡ offset_of (old.held.offset + (length (old.held.octets ++ (read.front ++ more)) - left))
-place_of_rest old piece now rest more left read within =
-    let before = packets_leave read.units (old.held.octets ++ read.front) now.held.octets read.packets in
-    let a = length-append now.held.octets more in
-    let b = length-append old.held.octets read.front in
-    let c = length-append old.held.octets (read.front ++ more) in
-    let d = length-append read.front more in
-    let same : (length (old.held.octets ++ read.front) - length now.held.octets) + (length (now.held.octets ++ more) - left) ≡ length (old.held.octets ++ (read.front ++ more)) - left = omega arith in
-    read.offset (length (now.held.octets ++ more) - left) ∙ ap (λ n. offset_of (old.held.offset + n)) same
+place_of_rest old piece now rest more left read within = grind (arith, packets_leave, length-append, length, offset_of)
 
 -- ---- one look
 
@@ -343,10 +328,6 @@ looks old piece now rest used new read fetch =
 all_used : (rest : List ℕ) (used : ℕ) → used ≡ length rest → length (drop used rest) ≡ 0
 all_used rest used e = let dropped = length-drop used rest in omega arith
 
--- of a quiet end nothing waits, and it lasts
-quiet_waits : (e : End) → stops e ≡ false → waits e.lines ≡ false
-quiet_waits e quiet = or_second (is_some e.carrier.ended) (waits e.lines) quiet
-
 spoilt_ended : (o : Option EndReason) → is_some o ≡ false → is_spoilt o ≡ false
 spoilt_ended None e = refl
 spoilt_ended (Some reason) e = cc
@@ -354,14 +335,7 @@ spoilt_ended (Some reason) e = cc
 -- how much is used where an indication waits
 uses_waiting : (b w : Bool) (piece front rest : List ℕ) (used within : ℕ) → w ≡ true → piece ≡ front ++ drop within rest → within ≤ length rest →
     used ≡ (if b then length rest else within) → length piece - length (drop used rest) ≡ (if b || not w then length piece else length front)
-uses_waiting b false piece front rest used within w cut bound uses = cc
-uses_waiting true true piece front rest used within w cut bound uses =
-    let none = all_used rest used uses in
-    omega arith
-uses_waiting false true piece front rest used within w cut bound uses =
-    let sizes = ap length cut ∙ length-append front (drop within rest) in
-    let same = ap (λ n. length (drop n rest)) uses in
-    omega arith
+uses_waiting b w piece front rest used within w2 cut bound uses = grind (arith, all_used, length, length-append, drop)
 
 uses_ended : (b w : Bool) (all within : ℕ) → w ≡ false → all ≡ (if b || not w then all else within)
 uses_ended b w all within e = grind arith
@@ -434,16 +408,10 @@ end_of_read old piece new [] nothing held e read place =
     let sizes = ap (λ l. length (old.held.octets ++ l)) all in
     let left = ap length held in
     let same : length (old.held.octets ++ read.front) ≡ length (old.held.octets ++ piece) - length new.held.octets = omega arith in
-    record {
-      units = read.units;
-      all = refl;
-      packets = subst (λ l. ArePackets read.units (old.held.octets ++ l) new.held.octets) (sym all) read.packets;
-      partial = subst IsPartial (sym held) nothing;
-      taken = read.taken;
-      quiet = read.quiet;
-      offset = place ∙ ap (λ n. offset_of (old.held.offset + n)) same;
-      room = read.room;
-    }
+    let packets = subst (λ l. ArePackets read.units (old.held.octets ++ l) new.held.octets) (sym all) read.packets in
+    let partial = subst IsPartial (sym held) nothing in
+    let offset = place ∙ ap (λ n. offset_of (old.held.offset + n)) same in
+    grind arith
 end_of_read old piece new (x ∷ rest) nothing held e read place = absurd (omega arith)
 
 pub read_dry : (old : Holding) (piece : List ℕ) (now : Holding) (rest : List ℕ) (used : ℕ) (new : Holding) → IsPartial [] → IsRead old piece now rest → Fetches now rest used new →

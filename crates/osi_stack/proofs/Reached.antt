@@ -3,9 +3,9 @@
 use Rattle.std.proofs.Common.{◌≡◌, ℕ, ◌<◌, ◌≤◌, Bool, true, false, ◌||◌, nat_lt, List, [], ◌∷◌, ◌++◌, length, Option, None, is_some, refl, sym, ap, subst, ◌∙◌, inl, inr, arith}
 use Rattle.osi_carrier.specs.Happenings as told
 use Rattle.osi_carrier.specs.Packets as carriers
-use Rattle.osi_stack.proofs.Vocabulary.{nat_tests, AllByRecursion, or_right, or-false, sent_gone, closed_gone, Happening, AreUpTo, IsOrderly, told_of, Rows, value_at, Connection, State as Carrier, EndReason, none_of, Input, hears_times, hears_all, with_carrier, after_packet, ends, all_waiting, to_session, live_lines, pruned, Line, End, input_of}
+use Rattle.osi_stack.proofs.Vocabulary.{nat_tests, AllByRecursion, or_right, sent_gone, closed_gone, Happening, AreUpTo, IsOrderly, told_of, Rows, value_at, Connection, State as Carrier, EndReason, Input, hears_times, hears_all, with_carrier, after_packet, ends, all_waiting, to_session, live_lines, pruned, Line, End, input_of}
 use Rattle.osi_stack.proofs.Events.{concluded_carrier}
-use Rattle.osi_stack.proofs.Lifting.{both, or_first, or_second, packet_is}
+use Rattle.osi_stack.proofs.Lifting.{both, packet_is}
 use Rattle.osi_stack.proofs.Opened.{IsOf}
 use Rattle.osi_stack.proofs.Ordering.{packet_along}
 use Rattle.osi_stack.proofs.Stepwise.{Carries, session_carried, events_heard}
@@ -125,11 +125,7 @@ acts_alike e new within still = record {
 
 pub packet_alike : (e : End) (unit : List ℕ) → IsOrderly e.carrier → e.carrier.events ≡ [] → AreUpTo e.carrier.given e.lines → AreStill (reached e.carrier) e.lines →
     SameInLive (after_packet (pruned e) unit) (after_packet e unit)
-packet_alike e unit orderly none known still =
-    let all = packet_reaches e.carrier unit orderly none in
-    subst (λ (x : End). SameInLive x (after_packet e unit))
-    (sym (only_packet (reached e.carrier) e unit all) ∙ ap (λ (x : End). after_packet x unit) (pruned_is e known))
-    (acts_alike e (after_packet e unit) (packet_within e unit orderly) (still_packet (reached e.carrier) e unit all still))
+packet_alike e unit orderly none known still = grind (arith, packet_reaches, after_packet, only_packet, pruned_is, acts_alike, packet_within, still_packet)
 
 pub session_alike : (r : ℕ) (input : Input) (e : End) → is_live e.carrier r ≡ true → AreUpTo e.carrier.given e.lines → AreStill (reached e.carrier) e.lines →
     SameInLive (to_session r input (pruned e)) (to_session r input e)

@@ -1,5 +1,5 @@
 -- The room for the octets of a packet, and where it does not suffice.
-use Rattle.std.proofs.Common.{◌≡◌, ℕ, ◌≤◌, List, [], ◌∷◌, ◌++◌, length, take, refl, sym, ap, subst, ◌∙◌, inl, inr, ◌⊎◌, arith, length-append, append_assoc}
+use Rattle.std.proofs.Common.{◌≡◌, ℕ, ◌≤◌, List, [], ◌∷◌, ◌++◌, length, take, sym, ap, subst, ◌∙◌, inl, inr, ◌⊎◌, arith, length-append, append_assoc}
 use Rattle.osi_tpkt.proofs.Streams.{fault_no_packet}
 use Rattle.osi_carrier.proofs.Parts.{empty_list}
 use Rattle.osi_stack.proofs.Vocabulary.{Held, IsFaultOf, ArePackets, TpktFault, packets_leave, HasToHold, NoMemory, FindsNoMemory, ends, Starves, Holding}
@@ -18,20 +18,12 @@ packet_faultless u s more p at fault bad =
     fault_no_packet at (s ++ more) fault bad u p.0 (p.1 ++ more) p.2 (ap (λ l. l ++ more) p.3 ∙ append_assoc p.0 p.1 more)
 
 none_left : (units : List (List ℕ)) (held : List ℕ) (within : ℕ) (rest left : List ℕ) → held ≡ [] → within ≡ 0 → ArePackets units (held ++ take within rest) left → left ≡ []
-none_left units held within rest left nothing none packets =
-    let leaves = packets_leave units (held ++ take within rest) left packets in
-    let sizes = length-append held (take within rest) in
-    let first = ap length nothing in
-    let seen : length (take within rest) ≡ 0 = ap (λ n. length (take n rest)) none in
-    empty_list left (omega arith)
+none_left units held within rest left nothing none packets = grind (arith, packets_leave, take, length-append, length, empty_list)
 
 -- nothing was looked at so far, or nothing of a packet is held
 pub first_part : (units : List (List ℕ)) (front held : List ℕ) (within : ℕ) (rest left : List ℕ) → (front ≡ []) ⊎ (held ≡ []) → (within ≡ 0) ⊎ (left ≡ []) →
     ArePackets units (held ++ take within rest) left → (length (front ++ take within rest) ≡ 0) ⊎ (left ≡ [])
-first_part units front held within rest left at_first (inr none) packets = inr none
-first_part units front held within rest left (inl nothing) (inl none) packets =
-    inl (ap (λ l. length (l ++ take within rest)) nothing ∙ ap (λ n. length (take n rest)) none)
-first_part units front held within rest left (inr nothing) (inl none) packets = inr (none_left units held within rest left nothing none packets)
+first_part units front held within rest left at_first h7 packets = grind (arith, length, take, none_left)
 
 -- an end for want of memory: behind the packets that acted, or of what the next one does
 pub found_how : (old : Holding) (piece : List ℕ) (used : ℕ) (new : Holding) (h : FindsNoMemory old piece used new) →

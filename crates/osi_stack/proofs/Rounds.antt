@@ -1,6 +1,6 @@
 -- Two runs in step come to the same, whatever the pieces.
 use Rattle.std.proofs.Common.{◌≡◌, ℕ, ◌+◌, ◌-◌, ◌<◌, ◌^◌, Bool, true, false, List, ◌∷◌, ◌++◌, Option, Some, None, is_some, length, option_map, arith, refl, sym, ap, subst, ◌∙◌, append_assoc, if◌then◌else◌, []}
-use Rattle.osi_stack.proofs.Vocabulary.{append-nil, flat_map-append, flat_map, Held, IsPartial, ArePackets, offset_of, TpktFault, tsap_octets, apart_all, OneCut, user, Rows, asked, State as Carrier, Broken, called, Shown, connects, calls_with, ends, all_waiting, UserCall, user_does, Round, WaitForLive, MayCall, IsCalled, RoundsBy, RoundsAlong, calls_of, AreInStep, connecting, calling, breaking, hushed, put_back, Account, account_of, with_packet, with_packets, CallsAlong, used_in, told_in, carried_in, account_along, AreAlike, Line, End, Holding, joins, waits, Connect, none_of, connects_call, EndCall as Call}
+use Rattle.osi_stack.proofs.Vocabulary.{append-nil, flat_map-append, flat_map, IsPartial, ArePackets, offset_of, TpktFault, tsap_octets, apart_all, OneCut, user, Rows, asked, State as Carrier, Broken, called, Shown, connects, calls_with, ends, all_waiting, UserCall, user_does, Round, WaitForLive, MayCall, IsCalled, RoundsBy, RoundsAlong, calls_of, AreInStep, connecting, calling, breaking, hushed, put_back, Account, account_of, with_packet, with_packets, CallsAlong, used_in, told_in, carried_in, account_along, AreAlike, Line, End, Holding, joins, waits, Connect, none_of, connects_call, EndCall as Call}
 use Rattle.osi_stack.proofs.Accounts.{made, after_more, account_quiet, account_joined, packets_apart}
 use Rattle.osi_stack.proofs.Asking.{wait_push, joins_alike}
 use Rattle.osi_stack.proofs.Endings.{faulted}
@@ -66,9 +66,6 @@ pub used_alike : (a b : Holding) (xs ys : List Call) → a.held.octets ≡ b.hel
     a.held.octets ++ flat_map used_in xs ≡ b.held.octets ++ flat_map used_in ys
 used_alike a b xs ys same used = ap (λ l. l ++ flat_map used_in xs) same ∙ ap (λ l. b.held.octets ++ l) used
 
-small_offset : (n at : ℕ) → n ≡ offset_of at → n < 2 ^ 64
-small_offset n at e = omega arith
-
 pub calls_alike : (May : UserCall → End → Type 0) (Like : Account → Account → Type 0) → Likeness May Like → IsPartial [] → OneCut →
     (t : List (ℕ × Shown)) (o : List ℕ) (a : Holding) (u : List (ℕ × Shown)) (p : List ℕ) (b : Holding) (xs ys : List Call) (c d : Holding) → Are Like t o a u p b →
     CallsAlong a xs c → CallsAlong b ys d → flat_map used_in xs ≡ flat_map used_in ys → c.end.carrier.ended ≡ None → d.end.carrier.ended ≡ None →
@@ -123,9 +120,6 @@ account_still t o e quiet = ap (after_more t o) (account_quiet e quiet) ∙ ap (
 abbrev pub called_by : UserCall → Account → Account
 called_by call a = account_of a.told [] (user_does call a.end)
 
-called_still : (t : List (ℕ × Shown)) (o : List ℕ) (call : UserCall) (e : End) → waits e.lines ≡ false → account_of t o (user_does call e) ≡ called_by call (account_of t o e)
-called_still t o call e quiet = ap (account_of t []) (sym (user_apart o call e)) ∙ ap (called_by call) (sym (account_still t o e quiet))
-
 -- a connection is asked for while indications wait, of live connections alone
 account_connecting : (t : List (ℕ × Shown)) (o : List ℕ) (c : Connect) (e : End) → WaitForLive e.carrier.live e.lines →
     account_of t o (connects c e) ≡ called_by (connecting c) (account_of t o e)
@@ -163,15 +157,7 @@ held_alike Like t o a u p b c d are h k account = grind arith
 
 user_alike : (May : UserCall → End → Type 0) (Like : Account → Account → Type 0) → Likeness May Like → (t : List (ℕ × Shown)) (o : List ℕ) (a : Holding) (u : List (ℕ × Shown)) (p : List ℕ) (b : Holding) (call : Option UserCall) (c d : Holding) →
     Are Like t o a u p b → IsCalled May a call c → IsCalled May b call d → Are Like t o c u p d
-user_alike May Like l t o a u p b None c d are h k =
-    held_alike Like t o a u p b c d are (ap (λ (x : Holding). x.held) h.1) (ap (λ (x : Holding). x.held) k.1)
-    (alike_at Like (account_of t o c.end) (account_of u p d.end) (account_of t o a.end) (account_of u p b.end)
-    (ap (λ (x : Holding). account_of t o x.end) h.1) (ap (λ (x : Holding). account_of u p x.end) k.1) are.same.account)
-user_alike May Like l t o a u p b (Some call) c d are h k =
-    held_alike Like t o a u p b c d are (ap (λ (x : Holding). x.held) h.2) (ap (λ (x : Holding). x.held) k.2)
-    (alike_at Like (account_of t o c.end) (account_of u p d.end) (account_of t o (user_does call a.end)) (account_of u p (user_does call b.end))
-    (ap (λ (x : Holding). account_of t o x.end) h.2) (ap (λ (x : Holding). account_of u p x.end) k.2)
-    (l.call t o a.end u p b.end call h.0 h.1 k.1 are.same.account))
+user_alike May Like l t o a u p b call c d are h k = search (arith, held_alike, alike_at, account_of, user_does)
 
 called_lasts : (May : UserCall → End → Type 0) (old : Holding) (call : Option UserCall) (new : Holding) → IsCalled May old call new → old.end.carrier.ended ≡ None
 called_lasts May old None new h = h.0
@@ -198,14 +184,7 @@ AreAfter Like t o xs a u p ys b = Are Like (t ++ flat_map told_in xs) (o ++ flat
 pub same_joined : (Like : Account → Account → Type 0) (t : List (ℕ × Shown)) (o : List ℕ) (u : List (ℕ × Shown)) (p : List ℕ) (xs ys more rest : List Call) (a b : Holding) →
     SameAfter Like (t ++ flat_map told_in xs) (o ++ flat_map carried_in xs) more a (u ++ flat_map told_in ys) (p ++ flat_map carried_in ys) rest b →
     SameAfter Like t o (xs ++ more) a u p (ys ++ rest) b
-same_joined Like t o u p xs ys more rest a b h = record {
-  octets = h.octets;
-  account = alike_at Like (account_of (t ++ flat_map told_in (xs ++ more)) (o ++ flat_map carried_in (xs ++ more)) a.end)
-      (account_of (u ++ flat_map told_in (ys ++ rest)) (p ++ flat_map carried_in (ys ++ rest)) b.end)
-      (account_of ((t ++ flat_map told_in xs) ++ flat_map told_in more) ((o ++ flat_map carried_in xs) ++ flat_map carried_in more) a.end)
-      (account_of ((u ++ flat_map told_in ys) ++ flat_map told_in rest) ((p ++ flat_map carried_in ys) ++ flat_map carried_in rest) b.end)
-      (account_behind t o xs more a.end) (account_behind u p ys rest b.end) h.account;
-}
+same_joined Like t o u p xs ys more rest a b h = grind (arith, alike_at, account_of, flat_map, told_in, carried_in, account_behind)
 
 are_joined : (Like : Account → Account → Type 0) (t : List (ℕ × Shown)) (o : List ℕ) (u : List (ℕ × Shown)) (p : List ℕ) (xs ys more rest : List Call) (a b : Holding) →
     AreAfter Like (t ++ flat_map told_in xs) (o ++ flat_map carried_in xs) more a (u ++ flat_map told_in ys) (p ++ flat_map carried_in ys) rest b →
@@ -220,16 +199,7 @@ account_none t o a c h =
 
 are_behind : (Like : Account → Account → Type 0) (t : List (ℕ × Shown)) (o : List ℕ) (a : Holding) (u : List (ℕ × Shown)) (p : List ℕ) (b c d : Holding) → Are Like t o a u p b → c ≡ a → d ≡ b →
     Are Like (t ++ []) (o ++ []) c (u ++ []) (p ++ []) d
-are_behind Like t o a u p b c d are h k = record {
-  same = record {
-    octets = ap (λ (x : Holding). x.held.octets) h ∙ are.same.octets ∙ ap (λ (x : Holding). x.held.octets) (sym k);
-    account = alike_at Like (account_of (t ++ []) (o ++ []) c.end) (account_of (u ++ []) (p ++ []) d.end) (account_of t o a.end) (account_of u p b.end)
-        (account_none t o a c h) (account_none u p b d k) are.same.account;
-  };
-  partial = subst (λ (x : Holding). IsPartial x.held.octets) (sym h) are.partial;
-  offset = ap (λ (x : Holding). x.held.offset) h ∙ are.offset ∙ ap (λ (x : Holding). x.held.offset) (sym k);
-  bound = subst (λ (x : Holding). x.held.offset < 2 ^ 64) (sym h) are.bound;
-}
+are_behind Like t o a u p b c d are h k = grind (arith, alike_at, account_of, account_none)
 
 pub rounds_alike : (May : UserCall → End → Type 0) (Like : Account → Account → Type 0) → Likeness May Like → IsPartial [] → OneCut →
     (t : List (ℕ × Shown)) (o : List ℕ) (a : Holding) (u : List (ℕ × Shown)) (p : List ℕ) (b : Holding) (xs ys : List Round) (c d : Holding) →

@@ -1,17 +1,12 @@
 -- Over every run of calls an end comes to what the packets of the octets used make of it.
-use Rattle.std.proofs.Common.{◌≡◌, ℕ, ◌+◌, ◌-◌, ◌<◌, ◌^◌, ◌||◌, Bool, true, false, List, ◌∷◌, ◌++◌, length, take, Option, None, is_some, refl, sym, ap, subst, ◌∙◌, inl, inr, arith, append_assoc, length-append, []}
-use Rattle.osi_stack.proofs.Vocabulary.{append-nil, take_all, flat_map, Held, IsPartial, ArePackets, offset_of, Fed, EndReason, OneCut, packets_joined, packets_leave, Shown, RunsDry, StopsBehind, FindsNoMemory, Goes, Feeds, Account, account_of, with_packets, Calls, CallsAlong, used_in, told_in, carried_in, account_along, Reads, AreAlike, feeding, telling, carrying, End, Holding, waits, none_of, EndCall as Call}
+use Rattle.std.proofs.Common.{◌≡◌, ℕ, ◌+◌, ◌-◌, ◌<◌, ◌^◌, ◌||◌, Bool, true, List, ◌∷◌, ◌++◌, length, take, Option, None, is_some, refl, sym, ap, subst, ◌∙◌, inl, inr, arith, append_assoc, length-append, []}
+use Rattle.osi_stack.proofs.Vocabulary.{append-nil, take_all, flat_map, IsPartial, ArePackets, offset_of, Fed, OneCut, packets_joined, packets_leave, Shown, RunsDry, StopsBehind, FindsNoMemory, Goes, Feeds, Account, account_of, with_packets, Calls, CallsAlong, used_in, told_in, carried_in, account_along, Reads, AreAlike, feeding, telling, carrying, End, Holding, waits, EndCall as Call}
 use Rattle.osi_stack.proofs.Accounts.{after_more, account_told, account_joined, packets_apart, with_joined, packets_done}
 use Rattle.osi_stack.proofs.Comings.{uses_within}
 use Rattle.osi_stack.proofs.Throughout.{starved_ended}
 use Rattle.osi_stack.proofs.Lifting.{never}
 
 -- ---- an end stays
-
-feeds_lasts : (old : Holding) (piece : List ℕ) (fed : Fed) (new : Holding) (over : Bool) → is_some old.end.carrier.ended ≡ over → Feeds old piece fed new → new.end.carrier.ended ≡ None →
-    old.end.carrier.ended ≡ None
-feeds_lasts old piece fed new false e h lasts = none_of old.end.carrier.ended e
-feeds_lasts old piece fed new true e h lasts = ap (λ (x : Holding). x.end.carrier.ended) (sym (h.over e).1) ∙ lasts
 
 pub call_lasts : (old : Holding) (call : Call) (new : Holding) → Calls old call new → new.end.carrier.ended ≡ None → old.end.carrier.ended ≡ None
 call_lasts old call new h lasts = grind arith
@@ -33,19 +28,7 @@ pub record ReadsOne (old : Holding) (call : Call) (new : Holding) : Type 0 where
 -- nothing was used, and the octets held are the same
 pub reads_still : (old : Holding) (call : Call) (new : Holding) → used_in call ≡ [] → new.held ≡ old.held → account_of (told_in call) (carried_in call) new.end ≡ account_of [] [] old.end →
     ReadsOne old call new
-reads_still old call new nothing held account =
-    let same : new.held.octets ≡ old.held.octets = ap (λ (h : Held). h.octets) held in
-    let sizes = ap length same in
-    let used = ap length nothing in
-    let counted = length-append old.held.octets (used_in call) in
-    let at = ap (λ (h : Held). h.offset) held in
-    record {
-      packets = [];
-      cut = ap (λ l. old.held.octets ++ l) nothing ∙ append-nil old.held.octets ∙ sym same;
-      account = account;
-      partial = subst IsPartial (sym same);
-      offset = λ bound. omega arith;
-    }
+reads_still old call new nothing held account = grind (arith, length, length-append, used_in, append-nil)
 
 unfoldable pub reads_dry : (old : Holding) (piece : List ℕ) (fed : Fed) (new : Holding) → RunsDry old piece fed.used new → ReadsOne old (feeding piece fed) new
 reads_dry old piece fed new dry =
@@ -89,11 +72,7 @@ reads_goes nothing old piece fed new (inr (inr starved)) lasts = never new.end (
 
 reads_feed : IsPartial [] → (old : Holding) (piece : List ℕ) (fed : Fed) (new : Holding) (waiting : Bool) → waits old.end.lines ≡ waiting → old.end.carrier.ended ≡ None →
     Feeds old piece fed new → new.end.carrier.ended ≡ None → ReadsOne old (feeding piece fed) new
-reads_feed nothing old piece fed new true e quiet h lasts =
-    let still = h.waiting quiet e in
-    reads_still old (feeding piece fed) new (ap (λ n. take n piece) still.0) (ap (λ (x : Holding). x.held) still.1) (ap (λ (x : Holding). account_of [] [] x.end) still.1)
-reads_feed nothing old piece fed new false e quiet h lasts =
-    reads_goes nothing old piece fed new (h.goes (ap (λ (o : Option EndReason). is_some o || waits old.end.lines) quiet ∙ e)) lasts
+reads_feed nothing old piece fed new waiting e quiet h lasts = search (arith, reads_still, feeding, take, account_of, reads_goes, is_some, waits)
 
 reads_told : (old : Holding) (shown : Option (ℕ × Shown)) (new : Holding) → Calls old (telling shown) new → ReadsOne old (telling shown) new
 reads_told old shown new h =
@@ -138,18 +117,7 @@ reads_more old call mid calls new one more =
     }
 
 reads_none : (old new : Holding) → new ≡ old → Reads old [] new
-reads_none old new same =
-    let octets : new.held.octets ≡ old.held.octets = ap (λ (x : Holding). x.held.octets) same in
-    let sizes = ap length octets in
-    let at = ap (λ (x : Holding). x.held.offset) same in
-    let none = length-append old.held.octets [] in
-    record {
-      packets = [];
-      cut = append-nil old.held.octets ∙ sym octets;
-      account = ap (λ (x : Holding). account_of [] [] x.end) same;
-      partial = subst IsPartial (sym octets);
-      offset = λ bound. omega arith;
-    }
+reads_none old new same = grind (arith, length, length-append, append-nil, account_of)
 
 pub calls_read : IsPartial [] → (old : Holding) (calls : List Call) (new : Holding) → CallsAlong old calls new → new.end.carrier.ended ≡ None → Reads old calls new
 calls_read nothing old [] new h lasts = reads_none old new h

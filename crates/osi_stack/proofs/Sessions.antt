@@ -1,8 +1,8 @@
 -- What happens to a session beside calls and TSDUs.
-use Rattle.std.proofs.Common.{◌≡◌, ℕ, Bool, true, false, [], ◌++◌, map, Option, None, option_map, Result, Ok, refl, sym, ap, subst, ◌∙◌, if◌then◌else◌, arith}
+use Rattle.std.proofs.Common.{◌≡◌, ℕ, false, [], ◌++◌, Option, None, option_map, Result, Ok, refl, sym, subst, ◌∙◌, if◌then◌else◌, arith}
 use Rattle.osi_session.specs.Steps.{shown_list}
 use Rattle.osi_session.specs.declared.taken.Taken.{Taken}
-use Rattle.osi_stack.proofs.Vocabulary.{append-nil, in_one, Input, Listener, Move, opened, refused, broken, react, is_wait_transport, Takes, shown_by, Indication}
+use Rattle.osi_stack.proofs.Vocabulary.{in_one, Input, Listener, Move, opened, refused, broken, react, Takes, Indication}
 
 -- nothing is sent, and nothing closed
 pub record IsQuiet (move : Move) : Type 0 where
@@ -14,21 +14,13 @@ pub record IsUnseen (move : Move) : Type 0 where
   pub shown : move.shown ≡ []
   pub closes : move.closes ≡ false
 
-quiet_if : (b : Bool) (x y : Move) → IsQuiet x → IsQuiet y → IsQuiet (if b then x else y)
-quiet_if true x y h k = h
-quiet_if false x y h k = k
-
-unseen_if : (b : Bool) (x y : Move) → IsUnseen x → IsUnseen y → IsUnseen (if b then x else y)
-unseen_if true x y h k = h
-unseen_if false x y h k = k
-
 pub opened_is_unseen : (s : Listener) → IsUnseen (react s opened)
 unfolding react
-opened_is_unseen s = unseen_if (is_wait_transport s.state.phase) _ _ (record { shown = refl; closes = refl }) (record { shown = refl; closes = refl })
+opened_is_unseen s = grind arith
 
 pub refused_is_quiet : (s : Listener) (reason : ℕ) → IsQuiet (react s (refused reason))
 unfolding react
-refused_is_quiet s reason = quiet_if (is_wait_transport s.state.phase) _ _ (record { reply = refl; closes = refl }) (record { reply = refl; closes = refl })
+refused_is_quiet s reason = grind arith
 
 pub broken_is_quiet : (s : Listener) → IsQuiet (react s broken)
 unfolding react

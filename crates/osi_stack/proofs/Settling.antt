@@ -4,7 +4,7 @@ use Rattle.osi_carrier.specs.Packets as carriers
 use Rattle.osi_session.specs.Units.{is_profile}
 use Rattle.osi_stack.specs.declared.connecting.ConnectError.TheVariants.{NotSelected}
 use Rattle.osi_session.specs.declared.faults.CallError.TheVariants as error
-use Rattle.osi_stack.proofs.Vocabulary.{OnOk, OnErr, IfErr, IfSome, tsap_octets, units_of, Value, TpduFault, Local, Units, said_by_units, Fed, may_connect, IsOrderly, reacts, Rows, value_at, Connection, State as Carrier, EndReason, Broken, NoMemory, free_of, orderly_fresh, orderly_units, orderly_packet, orderly_asks, orderly_end, orderly_ended, orderly_same, Call, HasSerial, Input, Listener, called, taken, react, after_inputs, HasProfile, Opening, unit_bits, OpenError, ConnectError, awaiting, asking, is_memory, HasNumbersInWords, CallError, connects, connect_error, terms_error, after_open, opening_of, calls_with, breaks, carried, without_first, has_given, call_error, table_error, session_refusal, session_error, RefusesBy, Refuses, by_rule, stops, Goes, Feeds, hears_all, hears_times, with_events, with_carrier, attends, after_packet, starves, Starves, to_session, Line, End, Holding, IsAttended, fresh_end, session_in, session_at, waits, CameAbout, IsProfiled, IsNamed, OfSessions, IsSettled, Connect, IsSound, none_of}
+use Rattle.osi_stack.proofs.Vocabulary.{OnOk, OnErr, IfErr, IfSome, tsap_octets, units_of, Value, TpduFault, Local, Units, said_by_units, Fed, may_connect, IsOrderly, reacts, Rows, value_at, Connection, State as Carrier, EndReason, Broken, NoMemory, orderly_fresh, orderly_units, orderly_packet, orderly_asks, orderly_end, orderly_ended, orderly_same, Call, HasSerial, Input, Listener, called, taken, react, after_inputs, HasProfile, Opening, unit_bits, OpenError, ConnectError, awaiting, asking, HasNumbersInWords, CallError, connects, connect_error, terms_error, after_open, opening_of, calls_with, breaks, carried, without_first, has_given, call_error, table_error, session_refusal, session_error, Refuses, by_rule, stops, Goes, Feeds, hears_all, hears_times, with_events, with_carrier, attends, after_packet, starves, Starves, to_session, Line, End, Holding, IsAttended, fresh_end, session_in, session_at, waits, CameAbout, IsProfiled, IsNamed, OfSessions, IsSettled, Connect, IsSound}
 use Rattle.osi_stack.proofs.Answering.{Below, answered_is}
 use Rattle.osi_stack.proofs.Awaiting.{StillWaits, fresh_asked, connect_asked, call_asked, feeds_asked, first_asked, carried_asked, breaks_asked}
 use Rattle.osi_stack.proofs.Attending.{session_attended, connect_attended, breaks_attended, feeds_attended}
@@ -38,13 +38,7 @@ attends_orderly : (e : End) → Fits e → IsOrderly (attends e).carrier
 attends_orderly e f = subst IsOrderly (sym (concluded_carrier (hears_all e))) (times_fits (length e.carrier.events) e f).orderly
 
 packet_orderly : (packet : List ℕ) (e : End) → Fits e → IsOrderly (after_packet e packet).carrier
-packet_orderly packet e f =
-    let c = carriers.after_packet e.carrier packet in
-    subst (λ (x : End). IsOrderly x.carrier) (sym (packet_is e packet))
-    (attends_orderly (with_carrier c e) (record {
-      orderly = orderly_packet packet e.carrier f.orderly;
-      known = up_more e.carrier.given c.given e.lines (packet_rises packet e.carrier) f.known;
-    }))
+packet_orderly packet e f = search (arith, after_packet, packet_is, attends_orderly, with_carrier, orderly_packet, up_more, packet_rises)
 
 fits_of : (e : End) → e.carrier.ended ≡ None → IsSound e → Fits e
 fits_of e lasts sound = let s = sound lasts in record { orderly = s.orderly; known = s.known }
@@ -117,17 +111,7 @@ pub record Steps : Type 0 where
   pub shown : ShownFirst
 
 pub fresh_settled : (is_caller : Bool) (local : Local) → IsSettled (fresh_end is_caller local)
-fresh_settled is_caller local = record {
-  attended = λ over. refl;
-  orderly = orderly_fresh is_caller local;
-  sound = fresh_sound is_caller local;
-  asks = fresh_asked is_caller local;
-  ordered = fresh_ordered is_caller local;
-  came = tt;
-  profiled = tt;
-  named = tt;
-  gone = lasting_gone (fresh_end is_caller local) refl;
-}
+fresh_settled is_caller local = grind (arith, orderly_fresh, fresh_sound, fresh_asked, fresh_ordered, lasting_gone, fresh_end)
 
 -- a connection is asked for with units that can be selected together
 units_of_terms : (b : Bool) (error : Option ConnectError) → (if not b then Some NotSelected else error) ≡ None → b ≡ true
@@ -182,30 +166,10 @@ feeds_settled steps old new piece fed h s = record {
 }
 
 pub first_settled : (e : End) → IsSettled e → IsSettled (record e { lines = without_first e.lines })
-first_settled e s = record {
-  attended = s.attended;
-  orderly = s.orderly;
-  sound = first_sound e s.sound;
-  asks = first_asked e s.asks;
-  ordered = first_ordered e s.ordered;
-  came = told_all CameAbout e.lines s.came;
-  profiled = told_all IsProfiled e.lines s.profiled;
-  named = told_lines IsNamed (λ line waiting h. h) e.lines s.named;
-  gone = first_gone e s.gone;
-}
+first_settled e s = search (arith, first_sound, first_asked, first_ordered, told_all, told_lines, first_gone)
 
 pub carried_settled : (octets : ℕ) (e : End) → IsSettled e → IsSettled (carried octets e)
-carried_settled octets e s = record {
-  attended = s.attended;
-  orderly = orderly_same e.carrier (drop octets e.carrier.outgoing) e.carrier.events s.orderly;
-  sound = carried_sound octets e s.sound;
-  asks = carried_asked octets e s.asks;
-  ordered = carried_ordered octets e s.ordered;
-  came = s.came;
-  profiled = s.profiled;
-  named = s.named;
-  gone = s.gone;
-}
+carried_settled octets e s = grind (arith, orderly_same, drop, carried_sound, carried_asked, carried_ordered)
 
 pub breaks_settled : (e : End) → IsSettled e → IsSettled (breaks e)
 breaks_settled e s = record {
@@ -233,24 +197,14 @@ pub none_at : (r : ℕ) (e : End) → IsOrderly e.carrier → IsSome e.carrier.e
 none_at r e o over = ap (λ (live : Rows Connection). if is_some (value_at r live) then session_in (value_at r e.lines) else None) (o.over over)
 
 table_by : Below → (r : ℕ) (call : Call) (e : End) (o : Option EndReason) → e.carrier.ended ≡ o → HasSerial call → IsSettled e → call_error r call e ≡ table_error r call e
-table_by law r call e None is serial s = answered_is law r call e serial is (s.sound is) s.came
-table_by law r call e (Some reason) is serial s =
-    let none = none_at r e s.orderly (ap is_some is) in
-    ap (λ (o : Option Listener). if not (has_given r e.carrier) then Some error.NoSuchConnection else session_refusal r o call e.carrier) none
-    ∙ sym (ap (λ (o : Option Listener). if not (has_given r e.carrier) then Some error.NoSuchConnection else session_error o call) none)
+table_by law r call e o is serial s = grind (arith, answered_is, none_at, is_some, not, has_given, session_refusal, session_error)
 
 pub table_is : Below → (r : ℕ) (call : Call) (e : End) → HasSerial call → IsSettled e → call_error r call e ≡ table_error r call e
 table_is law r call e serial s = table_by law r call e e.carrier.ended refl serial s
 
-given_or : (b : Bool) → IsSome (if not b then Some error.NoSuchConnection else Some error.Ended)
-given_or true = refl
-given_or false = refl
-
 -- no call is accepted
 pub over_is : (r : ℕ) (call : Call) (e : End) → IsSettled e → IsSome e.carrier.ended → IsSome (call_error r call e)
-over_is r call e s over =
-    subst (λ (o : Option Listener). IsSome (if not (has_given r e.carrier) then Some error.NoSuchConnection else session_refusal r o call e.carrier))
-    (sym (none_at r e s.orderly over)) (given_or (has_given r e.carrier))
+over_is r call e s over = grind arith
 
 -- ---- for the calls of a stack
 
@@ -264,23 +218,11 @@ pub settled_connect : {A F : Type 0} (result : Result A F) (c : Connect) (old ne
 settled_connect (Ok x) c old new settles ok allowed err was = subst (λ (h : Holding). IsSettled h.end) (sym ok) (settles allowed was)
 settled_connect (Err e) c old new settles ok allowed err was = subst (λ (h : Holding). IsSettled h.end) (sym err) was
 
-refused_by : (b : Bool) (e : CallError) (first all : Option CallError) → all ≡ first → RefusesBy b e first all → (if b then None else Some e) ≡ first
-refused_by true e first all same h = sym h
-refused_by false e first all same h = sym h ∙ same
-
 pub answered_by_table : {A : Type 0} (result : Result A CallError) (first all : Option CallError) → all ≡ first → IfErr result (λ e. Refuses e first all) →
     IfErr result (λ e. by_rule e ≡ first)
-answered_by_table (Ok x) first all same h = tt
-answered_by_table (Err e) first all same h = refused_by (is_memory e) e first all same h
+answered_by_table result first all same h = grind arith
 
 -- what is read is fed
 pub feeds_of : (old new : Holding) (piece : List ℕ) (used : ℕ) → stops old.end ≡ false → Goes old piece used new → used ≤ length piece → (0 < length piece → 0 < used) →
     Feeds old piece (record { used = used; whole = waits new.end.lines }) new
-feeds_of old new piece used quiet goes bound progress = record {
-  over = λ some. absurd (both (is_some old.end.carrier.ended) some (or_first (is_some old.end.carrier.ended) (waits old.end.lines) quiet));
-  waiting = λ lasts waiting. absurd (both (waits old.end.lines) waiting (or_second (is_some old.end.carrier.ended) (waits old.end.lines) quiet));
-  goes = λ still. goes;
-  whole = refl;
-  bound = bound;
-  progress = λ none. progress;
-}
+feeds_of old new piece used quiet goes bound progress = grind (arith, both, is_some, or_first, waits, or_second)

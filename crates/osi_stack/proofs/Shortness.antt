@@ -1,22 +1,13 @@
 -- What a session sends is no longer than a TSDU may be.
-use Rattle.std.proofs.Common.{◌≡◌, ℕ, ◌+◌, ◌<◌, ◌≤◌, Bool, true, false, List, [], ◌∷◌, ◌++◌, length, nat_le, nat_lt, Ok, refl, sym, ap, subst, arith, length-append, if◌then◌else◌}
-use Rattle.osi_spdu.specs.Kinds.{si_of}
-use Rattle.osi_spdu.specs.Spelling.{length_octets}
-use Rattle.osi_spdu.specs.Writing.{written_item, unit_octets, body_octets, tsdu_octets, UnitFits, TsduFits}
+use Rattle.std.proofs.Common.{◌≡◌, ℕ, ◌+◌, ◌<◌, ◌≤◌, Bool, true, false, List, [], ◌∷◌, ◌++◌, length, nat_le, Ok, refl, sym, ap, subst, arith, length-append, if◌then◌else◌}
+use Rattle.osi_spdu.specs.Writing.{unit_octets, tsdu_octets, UnitFits, TsduFits}
 use Rattle.osi_spdu.specs.declared.kinds.Kind.TheVariants.{GiveTokens}
 use Rattle.osi_message.proofs.FittingLaws.{HaveRoom, spelled_fits}
 use Rattle.osi_message.proofs.PlainLaws.{data_written}
 use Rattle.osi_message.proofs.SendingLaws.{HaveDigits}
 use Rattle.osi_session.proofs.SentLaws.{sent_alone as call_alone, data_short as data_all_short}
 use Rattle.osi_session.specs.Allowed.{sends}
-use Rattle.osi_stack.proofs.Vocabulary.{nat_tests, Contents, Units, nothing, Meaning, DT, IsSendable, unit_with, unit_of, is_second, alone_units, behind_tokens, spelled, written, tsdus_of, sent_alone, sent_short as parts_short, limit_of, is_data, AreShort, allowed, Step, octets_of, most_of, Passed, Call, Accept, Refuse, Data, Give, Please, Minor, MinorConfirm, Major, MajorConfirm, Restart, RestartConfirm, Release, ReleaseAccept, ReleaseRefuse, Abort, IsSoundState as IsSound, SessionState as State}
-
-indicator_short : (b : Bool) (n : ℕ) → length (length_octets b n) ≤ 3
-indicator_short true n = omega arith
-indicator_short false n = omega arith
-
-item_short : (code : ℕ) (value : List ℕ) → length (written_item code value) ≤ 4 + length value
-item_short code value = grind arith
+use Rattle.osi_stack.proofs.Vocabulary.{nat_tests, Contents, Units, nothing, Meaning, DT, IsSendable, unit_with, unit_of, is_second, alone_units, behind_tokens, spelled, written, tsdus_of, sent_alone, sent_short as parts_short, limit_of, AreShort, allowed, Step, octets_of, most_of, Passed, Call, Data, IsSoundState as IsSound, SessionState as State}
 
 unit_short : (unit : Contents) → UnitFits unit → length (unit_octets unit) < 65540
 unfolding unit_octets
@@ -24,23 +15,11 @@ unit_short unit fits = grind arith
 
 one_short : (unit : Contents) → UnitFits unit → length (tsdu_octets (unit ∷ [])) < 65540 + length unit.information
 unfolding tsdu_octets
-one_short unit fits =
-    let few = unit_short unit fits in
-    let a = length-append (unit_octets unit) (unit.information ++ []) in
-    let b = length-append unit.information [] in
-    omega arith
+one_short unit fits = grind (arith, unit_short, length-append)
 
 two_short : (first second : Contents) → UnitFits first → UnitFits second → first.information ≡ [] → length (tsdu_octets (first ∷ second ∷ [])) < 131080 + length second.information
 unfolding tsdu_octets
-two_short first second fits more none =
-    let few = unit_short first fits in
-    let many = unit_short second more in
-    let a = length-append (unit_octets first) (first.information ++ (unit_octets second ++ (second.information ++ []))) in
-    let b = length-append first.information (unit_octets second ++ (second.information ++ [])) in
-    let c = length-append (unit_octets second) (second.information ++ []) in
-    let d = length-append second.information [] in
-    let e = ap length none in
-    omega arith
+two_short first second fits more none = grind (arith, unit_short, length-append, length)
 
 spelled_short : (m : Meaning) (b : Bool) → is_second m ≡ b → TsduFits (spelled m) → (unit_of m).information ≡ [] → length (written m) ≤ 1048576
 unfolding spelled
@@ -68,10 +47,7 @@ pub sent_short : SpduLaws → (m : Meaning) → IsSendable m → (unit_of m).inf
 sent_short law m h none = spelled_short m (is_second m) refl (spelled_fits law.room law.digits m h.numbered h.addressed h.short) none
 
 data_short : (octets : List ℕ) → nat_le (length octets) 1048572 ≡ true → length (written (DT octets)) ≤ 1048576
-data_short octets h =
-    let same = ap length (data_written octets) in
-    let few : length octets ≤ 1048572 = grind (arith, nat_tests) in
-    omega arith
+data_short octets h = grind (arith, length, data_written, nat_tests)
 
 call_by : SpduLaws → (s : State) (c : Call) → nat_le (length (octets_of c)) (most_of c) ≡ true → IsSendable (sends s c) → length (written (sends s c)) ≤ 1048576
 unfolding unit_of
@@ -83,9 +59,6 @@ pub call_short : SpduLaws → (s : State) (c : Call) (x : Step) → Passed s c x
 call_short law s c x passed sendable =
     let is : x.sent ≡ sends s c = ap (λ (y : Step). y.sent) passed.gives in
     subst (λ (m : Meaning). length (written m) ≤ 1048576) (sym is) (call_by law s c passed.size (subst IsSendable is sendable))
-
-whole_short : SpduLaws → (s : State) (c : Call) (x : Step) → is_data c ≡ false → allowed s c ≡ Ok x → Passed s c x → IsSendable x.sent → AreShort (tsdus_of (limit_of s) x.sent)
-whole_short law s c x other h passed sendable = subst AreShort (sym (call_alone sent_alone s c x h other)) (call_short law s c x passed sendable, tt)
 
 -- each TSDU that it sends
 pub tsdus_short : SpduLaws → (s : State) (c : Call) (x : Step) → IsSound s → allowed s c ≡ Ok x → Passed s c x → IsSendable x.sent → AreShort (tsdus_of (limit_of s) x.sent)

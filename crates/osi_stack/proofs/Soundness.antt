@@ -1,9 +1,9 @@
 -- What is true of every end, whatever is called and fed.
-use Rattle.std.proofs.Common.{◌≡◌, ◌≢◌, ℕ, ◌+◌, ◌==◌, ◌<◌, ◌≤◌, Bool, true, false, ◌||◌, List, ◌∷◌, ◌++◌, length, drop, nat_le, Option, Some, None, is_some, IsSome, option_map, Result, Ok, Err, refl, sym, ap, subst, ◌∙◌, inl, inr, ◌⊎◌, arith, if◌then◌else◌, []}
+use Rattle.std.proofs.Common.{◌≡◌, ◌≢◌, ℕ, ◌+◌, ◌==◌, ◌<◌, ◌≤◌, Bool, true, false, ◌||◌, List, ◌∷◌, ◌++◌, length, nat_le, Option, Some, None, is_some, IsSome, option_map, Result, Ok, Err, refl, sym, ap, subst, ◌∙◌, inl, inr, ◌⊎◌, arith, if◌then◌else◌, []}
 use Rattle.osi_carrier.specs.Happenings as told
 use Rattle.osi_carrier.specs.Packets as carriers
 use Rattle.osi_carrier.specs.React.{react as carrier_react}
-use Rattle.osi_stack.proofs.Vocabulary.{eqb-true, eq-eqb, nat_tests, units_of, Value, TpduFault, Standing as Link, Class, Zero, Two, open_link, may_connect, asks, sent_on, closes, closed_on, Happening, AreUpTo, IsOrderly, connection_of, told_of, reacts, Rows, value_at, Connection, State as Carrier, is_open, open_after, EndReason, OpenError, beyond, push_here, put_up, push_other, How, effect, orderly_packet, orderly_asks, orderly_sent, orderly_closed, orderly_same, orderly_fresh, packet_opens, asks_opens, Call, Input, Listener, called, opened, awaits, connects, connect_error, after_open, terms_error, calls_with, breaks, carried, without_first, Feeds, Connect, ConnectError, tsap_octets, Fed, Local, Broken, hears_times, hears_all, with_carrier, after_packet, ends, all_lost, needs_link, AreApart, HasLinks, Soundness, IsSound, kept_at, line_by, by_line, to_session, Line, End, Holding, IsAttended, fresh_end, session_in, used_lines, joins, fresh_line, input_of}
+use Rattle.osi_stack.proofs.Vocabulary.{eqb-true, eq-eqb, nat_tests, units_of, Value, TpduFault, Standing as Link, open_link, may_connect, asks, sent_on, closes, closed_on, Happening, AreUpTo, IsOrderly, connection_of, told_of, reacts, Rows, value_at, Connection, State as Carrier, is_open, open_after, EndReason, OpenError, beyond, push_here, put_up, push_other, How, effect, orderly_packet, orderly_asks, orderly_sent, orderly_closed, orderly_same, packet_opens, asks_opens, Call, Input, Listener, called, opened, awaits, connects, connect_error, after_open, terms_error, calls_with, breaks, carried, without_first, Feeds, Connect, ConnectError, tsap_octets, Fed, Local, Broken, hears_times, hears_all, with_carrier, after_packet, ends, all_lost, needs_link, AreApart, HasLinks, Soundness, IsSound, kept_at, line_by, by_line, to_session, Line, End, Holding, IsAttended, fresh_end, session_in, used_lines, joins, fresh_line, input_of}
 use Rattle.osi_stack.proofs.Events.{concluded_carrier}
 use Rattle.osi_stack.proofs.Moves.{kept_first, used_keep, first_keep}
 use Rattle.osi_stack.proofs.Keeping.{session_keeps}
@@ -40,12 +40,7 @@ up_more m n [] less up = tt
 up_more m n ((r, line) ∷ lines) less up = ((let here = up.0 in omega arith), up_more m n lines less up.1)
 
 up_at_by : (r n : ℕ) (rows : Rows Connection) (b : Bool) → nat_le r n ≡ b → AreUpTo n rows → IsSome (value_at r rows) → r ≤ n
-up_at_by r n rows true e up some = grind (arith, nat_tests)
-up_at_by r n rows false e up some =
-    let above : n < r = grind (arith, nat_tests) in
-    let none = beyond r n rows up above in
-    let no : false ≡ true = sym (ap is_some none) ∙ some in
-    cc
+up_at_by r n rows b e up some = grind (arith, nat_tests, beyond, is_some)
 
 -- a live connection has a reference that was given
 pub up_at : (r n : ℕ) (rows : Rows Connection) → AreUpTo n rows → IsSome (value_at r rows) → r ≤ n
@@ -69,12 +64,8 @@ pub sent_given : (r : ℕ) (tsdu : List ℕ) (o : Option (ℕ × Link)) (c : Car
 sent_given r tsdu None c = refl
 sent_given r tsdu (Some link) c = refl
 
-closes_given : (r peer reason : ℕ) (class : Option Class) (c : Carrier) → (closes r peer reason class c).given ≡ c.given
-closes_given r peer reason class c = grind arith
-
 pub closed_given : (r reason : ℕ) (o : Option (ℕ × Link)) (c : Carrier) → (closed_on r reason o c).given ≡ c.given
-closed_given r reason None c = refl
-closed_given r reason (Some (peer, link)) c = closes_given r peer reason c.class c
+closed_given r reason o c = grind arith
 
 -- the carrier is orderly, and lines have references that were given
 pub record Fits (e : End) : Type 0 where
@@ -243,14 +234,7 @@ first_apart [] apart = tt
 first_apart ((r, line) ∷ lines) apart = first_keep AreApart r line lines (first_gone r lines apart.0, first_apart lines apart.1) (λ left. apart)
 
 pub first_sound : (e : End) → IsSound e → IsSound (record e { lines = without_first e.lines })
-first_sound e sound over =
-    let s = sound over in
-    record {
-      orderly = s.orderly;
-      apart = first_apart e.lines s.apart;
-      known = first_up e.carrier.given e.lines s.known;
-      links = λ lasts r t is n. s.links lasts r t (sym (kept_first r e.lines) ∙ is) n;
-    }
+first_sound e sound over = grind (arith, first_apart, first_up, kept_first)
 
 pub carried_sound : (octets : ℕ) (e : End) → IsSound e → IsSound (carried octets e)
 carried_sound octets e sound over = grind arith

@@ -1,6 +1,6 @@
 -- What the tables of sessions say, in the form in which it is used here.
 use Rattle.std.proofs.Common.{◌≡◌, Bool, true, false, not, ◌||◌, List, [], ◌∷◌, refl, ap}
-use Rattle.osi_stack.proofs.Vocabulary.{Input, Listener, called, taken, unread, opened, refused, broken, is_opened, react, after_inputs, is_wait_transport, is_over, is_ended, Phase, implied, excluded, needs_link}
+use Rattle.osi_stack.proofs.Vocabulary.{Input, Listener, opened, is_opened, react, after_inputs, is_wait_transport, is_over, is_ended, Phase, implied, excluded, needs_link}
 use Rattle.osi_stack.proofs.Lifting.{both}
 use Rattle.osi_stack.proofs.Linking.{SessionLaws}
 use Rattle.osi_stack.proofs.InLive.{or_either}

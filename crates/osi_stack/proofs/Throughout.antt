@@ -1,6 +1,6 @@
 -- What each packet keeps, and the end, feeding keeps.
-use Rattle.std.proofs.Common.{◌≡◌, ℕ, ◌||◌, Bool, true, false, List, ◌∷◌, Option, Some, None, is_some, refl, sym, ap, subst, ◌∙◌, inl, inr, ◌⊎◌, if◌then◌else◌, []}
-use Rattle.osi_stack.proofs.Vocabulary.{ArePackets, Fed, State as Carrier, EndReason, Broken, NoMemory, breaks, TakesPackets, Goes, Feeds, after_packet, ends, hears_times, with_carrier, with_events, Starves, End, Holding, waits}
+use Rattle.std.proofs.Common.{◌≡◌, ℕ, ◌||◌, Bool, true, List, ◌∷◌, Option, None, is_some, refl, sym, subst, ◌∙◌, inl, inr, ◌⊎◌, if◌then◌else◌, [], arith}
+use Rattle.osi_stack.proofs.Vocabulary.{ArePackets, Fed, EndReason, Broken, NoMemory, breaks, TakesPackets, Goes, Feeds, after_packet, ends, hears_times, with_carrier, with_events, Starves, End, Holding, waits}
 use Rattle.osi_stack.proofs.Rooms.{found_how}
 use Rattle.osi_stack.proofs.Events.{starved_over}
 use Rattle.osi_stack.proofs.Lifting.{lasting_of}
@@ -9,11 +9,7 @@ use Rattle.osi_stack.proofs.Stepwise.{broken_end}
 
 -- where memory was wanted the end has ended
 pub starved_ended : (e new : End) (packet : List ℕ) → Starves e packet new → is_some new.carrier.ended ≡ true
-starved_ended e new packet (inl h) =
-    let over = ap (λ (c : Carrier). is_some c.ended) h.1.2.ended in
-    ap (λ (x : End). is_some x.carrier.ended) h.2 ∙ ap is_some (attends_over (with_carrier h.0 e) over) ∙ over
-starved_ended e new packet (inr h) =
-    ap (λ (x : End). is_some x.carrier.ended) h.2.starved ∙ starved_over (with_events h.2.more (hears_times h.2.heard (with_carrier h.0 e)))
+starved_ended e new packet h3 = grind (arith, is_some, attends_over, with_carrier, starved_over, with_events, hears_times)
 
 -- a packet, the end of the carrier, and want of memory
 pub record IsKept (P : End → Type 0) : Type 0 where
@@ -41,10 +37,7 @@ goes_kept P law old new piece used (inr (inr h)) p =
 
 feeds_by : (P : End → Type 0) → IsKept P → (old new : Holding) (piece : List ℕ) (fed : Fed) (o : Option EndReason) (b : Bool) → old.end.carrier.ended ≡ o →
     waits old.end.lines ≡ b → Feeds old piece fed new → P old.end → P new.end
-feeds_by P law old new piece fed (Some reason) b is waiting h p = subst (λ (x : Holding). P x.end) (sym (h.over (ap is_some is)).1) p
-feeds_by P law old new piece fed None true is waiting h p = subst (λ (x : Holding). P x.end) (sym (h.waiting is waiting).1) p
-feeds_by P law old new piece fed None false is waiting h p =
-    goes_kept P law old new piece fed.used (h.goes (ap (λ (o : Option EndReason). is_some o || waits old.end.lines) is ∙ waiting)) p
+feeds_by P law old new piece fed o b is waiting h p = search (arith, is_some, goes_kept, waits)
 
 pub feeds_kept : (P : End → Type 0) → IsKept P → (old new : Holding) (piece : List ℕ) (fed : Fed) → Feeds old piece fed new → P old.end → P new.end
 feeds_kept P law old new piece fed h p = feeds_by P law old new piece fed old.end.carrier.ended (waits old.end.lines) refl refl h p
@@ -56,11 +49,7 @@ breaks_kept P law e p = broken_end P (law.over Broken) e p
 
 pub over_kept : (P : End → Type 0) → ((packet : List ℕ) (e : End) → e.carrier.ended ≡ None → P e → P (after_packet e packet)) →
     ((e : End) → is_some e.carrier.ended ≡ true → P e) → IsKept P
-over_kept P each over = record {
-  each = each;
-  over = λ reason e p. over (ends reason e) refl;
-  starved = λ packet e new lasts h p. over new (starved_ended e new packet h);
-}
+over_kept P each over = search (arith, ends, starved_ended)
 
 -- ---- beside what is kept already
 
@@ -72,11 +61,7 @@ pub record IsKeptBeside (P Q : End → Type 0) : Type 0 where
 -- where it is true of each end that has ended
 pub over_beside : (P Q : End → Type 0) → ((packet : List ℕ) (e : End) → e.carrier.ended ≡ None → P e → Q e → Q (after_packet e packet)) →
     ((e : End) → is_some e.carrier.ended ≡ true → Q e) → IsKeptBeside P Q
-over_beside P Q each over = record {
-  each = each;
-  over = λ reason e p q. over (ends reason e) refl;
-  starved = λ packet e new lasts h p q. over new (starved_ended e new packet h);
-}
+over_beside P Q each over = search (arith, ends, starved_ended)
 
 pub both_kept : (P Q : End → Type 0) → IsKept P → IsKeptBeside P Q → IsKept (λ e. P e × Q e)
 both_kept P Q law beside = record {

@@ -84,11 +84,7 @@ room_at rows i row within here h =
 -- where nothing waits for the line of a reference, it is not counted
 pub room_of : (r : ℕ) (rows items : Rows Line) (i : ℕ) (row : ℕ × Line) (waiting lines : ℕ) → place_of r rows ≡ Some i → row ≡ get_or rows i row → items ≡ rows →
     waiting ≡ how_many_wait items → lines ≡ length items → line_waits row.1 ≡ false → waiting < lines
-room_of r rows items i row waiting lines e here same counts len h =
-    let less : how_many_wait rows < length rows = room_at rows i row (placed r rows i row e).within here h in
-    let one : waiting ≡ how_many_wait rows = counts ∙ ap how_many_wait same in
-    let two : lines ≡ length rows = len ∙ ap length same in
-    omega arith
+room_of r rows items i row waiting lines e here same counts len h = grind (arith, how_many_wait, length, room_at, placed)
 
 -- ---- another value of one line
 
@@ -98,13 +94,7 @@ AreKept waiting rises rows = (waiting ≡ how_many_wait rows) × (rises ≡ true
 
 pub set_kept : (waiting counted : ℕ) (rises before after : Bool) (rows : Rows Line) (i : ℕ) (row new : ℕ × Line) → AreKept waiting rises rows → row ≡ get_or rows i row → i < length rows →
     new.0 ≡ row.0 → before ≡ line_waits row.1 → after ≡ line_waits new.1 → counted + cond before 1 0 ≡ waiting + cond after 1 0 → AreKept counted rises (set rows i new)
-set_kept waiting counted rises before after rows i row new kept here within named was is sum =
-    let old : cond {A = ℕ} (line_waits (get_or rows i row).1) 1 0 ≡ cond before 1 0 = ap (λ (x : ℕ × Line). cond {A = ℕ} (line_waits x.1) 1 0) (sym here) ∙ ap (λ (b : Bool). cond {A = ℕ} b 1 0) (sym was) in
-    let one : cond {A = ℕ} (line_waits new.1) 1 0 ≡ cond after 1 0 = ap (λ (b : Bool). cond {A = ℕ} b 1 0) (sym is) in
-    let more : how_many_wait (set rows i new) + cond {A = ℕ} (line_waits (get_or rows i row).1) 1 0 ≡ how_many_wait rows + cond {A = ℕ} (line_waits new.1) 1 0 =
-    sum_by-set (λ x. cond (line_waits x.1) 1 0) rows i new row within in
-    let counts = kept.0 in
-    (omega arith, λ e. set_rise 0 rows i row new here named (kept.1 e))
+set_kept waiting counted rises before after rows i row new kept here within named was is sum = grind (arith, cond, line_waits, get_or, how_many_wait, set, sum_by-set, set_rise)
 
 -- ---- a line that hears something
 

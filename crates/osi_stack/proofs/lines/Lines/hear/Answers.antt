@@ -1,4 +1,4 @@
-use Rattle.std.proofs.Common.{rules, length, ◌≡◌, ◌+◌, true, false, Some, None, get_or, set, refl, sym, ap, subst, arith, ◌∙◌}
+use Rattle.std.proofs.Common.{length, ◌≡◌, ◌+◌, true, false, Some, None, get_or, set, refl, sym, ap, subst, arith, ◌∙◌}
 use Rattle.osi_stack.specs.declared.lines.Lines.TheInside.{Inside}
 use Rattle.osi_stack.proofs.Vocabulary.{OnOk, OnErr, placed, Rows, place_of, all_lost, to_session, Line, told_input}
 use Rattle.osi_stack.proofs.Found.{unheard, heard_rows}

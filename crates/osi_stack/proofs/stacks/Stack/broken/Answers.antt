@@ -1,5 +1,5 @@
 use Rattle.std.proofs.Common.{◌≡◌, sym, subst, rules}
-use Rattle.osi_stack.proofs.Vocabulary.{breaks, IsSettled, Holding, holding}
+use Rattle.osi_stack.proofs.Vocabulary.{breaks, IsSettled, holding}
 use Rattle.osi_stack.proofs.stacks.Stack.broken.Goals as goal
 
 pub invariant_of-self : goal.invariant_of-self
