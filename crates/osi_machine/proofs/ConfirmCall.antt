@@ -1,7 +1,7 @@
 -- The calls of MinorConfirm and of MajorConfirm keep what is true of both sides.
 use Rattle.std.proofs.Common.{◌≡◌, refl, sym, ◌∙◌, ap, subst, ℕ, ◌+◌, ◌-◌, ◌==◌, ◌≤◌, ◌<◌, Bool, true, false, not, ◌&&◌, ◌||◌, nat_le, nat_lt, if◌then◌else◌, List, [], ◌⊎◌, inl, inr, Ok, arith}
 use Rattle.osi_machine.proofs.Vocabulary.{append-nil, and_parts, ltb-true, leb-true, lt-ltb, le-leb, eq-eqb, cases_lt, and_from, list_any, State, Phase, Numbers, FunctionalUnits, Ready, MajorDue, Meaning, MIA, MAA, data_token, is_ready, is_major_asked, is_major_due, is_releasing, is_release_due, is_restarting, may_hold, may_confirm_minor, takes_minor_ack, lower, point_taken, minor_confirmed, major_confirmed, becomes, drops, next, Good, MinorConfirm, MajorConfirm, Item, points, AreNumberedFrom, seen, is_plain, AllFit, heard_view, stops, needs_token, Core, answered, is_opening}
-use Rattle.osi_machine.proofs.PhaseLaws.{implied_both, implied, excluded, implied_two, by_either, by_test}
+use Rattle.osi_machine.proofs.PhaseLaws.{implied_both, implied, excluded, implied_two, by_test}
 use Rattle.osi_machine.proofs.Units.{next_cases, next_hears}
 use Rattle.osi_machine.proofs.ChannelLaws.{kept_heard, heard_flush}
 use Rattle.osi_machine.proofs.Begun.{flush_open, heard_open}
@@ -135,14 +135,7 @@ own_answers w n k = record { phase = implied may_confirm_minor is_confirming ref
 confirmed_below : (w : Core) (n : ℕ) → Confirms w n → Stands w → (flushed w.peer w.own).numbers.confirmed ≤ n
 confirmed_below w n k h =
     let reach : lower w.own.session.numbers.next (flushed w.peer w.own).numbers.confirmed ≤ w.own.session.numbers.confirmed = was_reach w (own_answers w n k) h in
-    by_either (cases_lt n (flushed w.peer w.own).numbers.confirmed)
-    (λ l. absurd (
-    let a = k.from in
-    let b = k.to in
-    let c = lower_from w.own.session.numbers.next (flushed w.peer w.own).numbers.confirmed (n + 1) (omega arith) (omega arith) in
-    let d = reach in
-    omega arith))
-    (λ l. l)
+    search (arith, cases_lt, lower_from)
 
 -- a major point that is still under way is no minor one
 confirm_above : (w : Core) (n : ℕ) → Confirms w n → Stands w → is_restarting (flushed w.peer w.own).phase ≡ false
@@ -255,10 +248,7 @@ due_sending w octets k h = record {
   none = none_never w.peer.sent;
   unit = assumption;
   shows = λ s v. sym (append-nil v);
-  good = λ l i. record {
-    expected = implied_both matched (λ p q. is_major_due p) (λ p q. is_major_asked q) refl (flushed w.own w.peer).phase (flushed w.peer w.own).phase h.own.meeting.meets (ap is_major_due i.phase);
-    met = (due_number w k h l, tt);
-  };
+  good = λ l i. search (arith, implied_both, due_number);
   meets = λ l i. refl;
   release = λ s i r. absurd (cc);
   releasing = λ s i r. absurd (cc);

@@ -1,10 +1,10 @@
 -- The call of Data keeps what is true of both sides.
-use Rattle.std.proofs.Common.{◌≡◌, refl, sym, ◌∙◌, ap, subst, ℕ, ◌+◌, Bool, true, false, not, if◌then◌else◌, List, [], ◌∷◌, ◌++◌, inl, inr, Ok, append_assoc, arith}
+use Rattle.std.proofs.Common.{◌≡◌, refl, sym, ◌∙◌, ap, subst, ℕ, ◌+◌, Bool, true, false, if◌then◌else◌, List, [], ◌∷◌, ◌++◌, Ok, append_assoc, arith}
 use Rattle.osi_machine.proofs.Vocabulary.{append-nil, State, FunctionalUnits, DT, data_token, has, available, is_ready, may_hold, is_restarting, is_restart_due, has_right, Data, drops, Item, Octets, Point, cutat, AreNumberedFrom, Owners, turned_owners, seen, AllFit, flush, heard, hears, view_next, heard_view, data_of, Party, Core, answered, is_opening, IsConsistent, AreConsistent, and_from, not-true, and_right}
 use Rattle.osi_machine.proofs.PhaseLaws.{implied, excluded, implied_two, by_either}
 use Rattle.osi_machine.proofs.ChannelLaws.{fit_append, hears_kept, due_end, heard_flush, view_append, data_append}
 use Rattle.osi_machine.proofs.HistoryLaws.{cut_append}
-use Rattle.osi_machine.proofs.Tokens.{Holds, nothing_to_see}
+use Rattle.osi_machine.proofs.Tokens.{nothing_to_see}
 use Rattle.osi_machine.proofs.Begun.{none_needs}
 use Rattle.osi_machine.proofs.Records.{flushed, hearing, Half, Views, IsOfProfile, Pair, Stands}
 use Rattle.osi_machine.proofs.Idle.{IsIdle, flush_idle, heard_idle, sending, own_half, peer_half, own_counts, peer_counts, own_views, HasRight, right_of, end_units, data_fits}
@@ -44,23 +44,10 @@ some_spoken b said octets e = rw e refl
 listens_of : (x : Party) → is_ready x.session.phase ≡ true → is_restarting x.session.phase ≡ false
 listens_of x ready = excluded is_ready is_restarting refl x.session.phase ready
 
-is_duplex : (s : State) → IsOfProfile s.units → has (available s.units) data_token ≡ false → s.units.duplex ≡ true
-unfolding available
-is_duplex s p e = p.duplex ∙ ap not e
-
 own_sees : (h : List Item) (x y : Party) (octets : List ℕ) → AllFit x.session y.sent → IsOfProfile x.session.units → is_ready x.session.phase ≡ true → HasRight x.session data_token
     → Views h x y → hears (hearing x y).phase ≡ true → heard_view x.session y.sent (x.view ++ added x.session octets) ≡ h ++ added x.session octets
-own_sees h x y octets f p ready (inl held) k listens =
-    let holds : Holds data_token x.session = record { held = held; phase = implied is_ready may_hold refl x.session.phase ready } in
-    let all : heard_view x.session y.sent (x.view ++ added x.session octets) ≡ x.view ++ added x.session octets =
-    nothing_to_see x.session y.sent (x.view ++ added x.session octets) holds f in
-    let was : heard_view x.session y.sent x.view ≡ x.view = nothing_to_see x.session y.sent x.view holds f in
-    all ∙ ap (λ (v : List Item). v ++ added x.session octets) (sym was ∙ k.ends listens)
-own_sees h x y octets f p ready (inr none) k listens =
-    let d = is_duplex x.session p none in
-    let nil : added x.session octets ≡ [] = ap (λ (b : Bool). if b then [] else Octets octets ∷ []) d in
-    ap (heard_view x.session y.sent) (ap (λ (r : List Item). x.view ++ r) nil ∙ append-nil x.view) ∙ k.ends listens
-    ∙ sym (ap (λ (r : List Item). h ++ r) nil ∙ append-nil h)
+unfolding available
+own_sees h x y octets f p ready h7 k listens = search (arith, implied, nothing_to_see, append-nil)
 
 -- ---- what the other sees
 
@@ -89,9 +76,7 @@ peer_views : (o : Owners) (h : List Item) (x y : Party) (octets : List ℕ) → 
 peer_views o h x y octets a b ready c more k = record {
   ends = peer_sees o h x y octets a b ready more k;
   cut = λ r. was (subst (λ (q : State). is_restarting q.phase ≡ true) same r);
-  due = λ d. absurd (let e = due_end y.session x.sent d b.fits in
-      let f = subst (λ (q : State). is_restart_due q.phase ≡ true) (sym e) d in
-      let g = none_owed o x y a (listens_of x ready) in cc);
+  due = λ d. search (arith, due_end, none_owed, listens_of);
   stream = λ d. streams (sym (ap (λ (u : FunctionalUnits). u.duplex) units) ∙ ap (λ (q : State). q.units.duplex) (sym end) ∙ d);
 }
   where

@@ -1,11 +1,10 @@
 -- A connection that its caller has left before it was agreed to: nothing comes of it any more.
-use Rattle.std.proofs.Common.{◌≡◌, refl, sym, ap, subst, ℕ, zero, suc, Bool, true, false, not, ◌||◌, List, [], ◌∷◌, take, ◌⊎◌, arith}
-use Rattle.osi_session.specs.declared.faults.CallError.TheVariants as error
-use Rattle.osi_machine.proofs.Vocabulary.{list_any, Lost, State, Phase, Call, Answer, allowed, is_over, shows_loss, Message, Transport, waiting, gone, World, turned, session_of, put, after_answer, Terms, message_taken, ended_at, shown_at_end, is_waiting, without_first, Told, or_parts, not-true}
+use Rattle.std.proofs.Common.{◌≡◌, refl, sym, subst, ℕ, zero, suc, Bool, true, false, not, ◌||◌, List, [], ◌∷◌, take, ◌⊎◌, arith}
+use Rattle.osi_machine.proofs.Vocabulary.{list_any, Lost, Phase, Call, Answer, allowed, is_over, shows_loss, Message, Transport, waiting, gone, World, turned, session_of, put, after_answer, Terms, message_taken, ended_at, shown_at_end, is_waiting, without_first, Told, or_parts, not-true}
 use Rattle.osi_machine.proofs.PhaseLaws.{implied, if_no}
 use Rattle.osi_machine.proofs.ProjectEnd.{is_unit}
 use Rattle.osi_machine.proofs.ProjectWorld.{refused}
-use Rattle.osi_machine.proofs.ProjectStart.{Way, asks, Opens, Refuses, is_early, refused_early}
+use Rattle.osi_machine.proofs.ProjectStart.{Way, asks, Opens, is_early, refused_early}
 use Rattle.osi_machine.proofs.Lines.{cut_to}
 
 pub record IsDead (w : World) : Type 0 where
@@ -19,14 +18,6 @@ pub record IsDead (w : World) : Type 0 where
 
 quiet_phase : (p : Phase) → not (shows_loss p) ≡ true → (is_early p || is_over p) ≡ true
 quiet_phase p h = implied (λ q. not (shows_loss q)) (λ q. is_early q || is_over q) refl p h
-
-pub quiet_refuses : (s : State) (x : Call) → shows_loss s.phase ≡ false → Refuses s x
-quiet_refuses s x q = by (is_over s.phase) refl (is_early s.phase) refl
-  where
-    by : (b : Bool) → is_over s.phase ≡ b → (c : Bool) → is_early s.phase ≡ c → Refuses s x
-    by true e c f = record { fault = error.Ended; refused = refused s x e }
-    by false e true f = record { fault = error.BadState; refused = refused_early s x f }
-    by false e false f = absurd (let k = quiet_phase s.phase (ap not q) in cc)
 
 pub put_none : (p : Message → Bool) (broken : Bool) (ms : List Message) (m : Message) → p m ≡ false → list_any p ms ≡ false → list_any p (put broken (m ∷ []) ms) ≡ false
 put_none p true ms m e h = h
@@ -45,8 +36,7 @@ pub dead_call : (broken : Bool) (w : World) (x : Call) → IsDead w → IsDead (
 dead_call broken w x h = subst (λ (a : Answer). IsDead (after_answer broken x w a)) (sym (refused (session_of w) x h.over_now)) h
 
 pub dead_called : (broken : Bool) (w : World) (x : Call) → IsDead (turned w) → IsDead (turned (after_answer broken x w (allowed (session_of w) x)))
-dead_called broken w x h =
-    subst (λ (a : Answer). IsDead (turned (after_answer broken x w a))) (sym (quiet_refuses (session_of w) x h.quiet).refused) h
+dead_called broken w x h = search (arith, refused, refused_early, quiet_phase)
 
 -- the caller takes a message
 pub dead_takes : (broken : Bool) (terms : Terms) (keep : ℕ) (w : World) (m : Message) (ms : List Message) → IsDead w

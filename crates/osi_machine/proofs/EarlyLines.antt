@@ -1,7 +1,7 @@
 -- While no class is known each connection waits for its caller's first message, or is dead; and where a called
 -- end denies, no agreement is under way.
-use Rattle.std.proofs.Common.{◌≡◌, refl, sym, ◌∙◌, ap, subst, ℕ, Bool, true, false, List, ◌∷◌, take, Option, Some, None, Ok, Err, inl, inr, arith}
-use Rattle.osi_machine.proofs.Vocabulary.{append-nil, list_any, Meaning, Call, Answer, allowed, respond_unit, Message, unit, ask, agree, deny, bye, over, Transport, not_yet, waiting, linked, closing, gone, World, turned, session_of, put, replied, after_answer, Terms, denies, message_taken, closed, ended_at, without_first, Told, or_parts}
+use Rattle.std.proofs.Common.{◌≡◌, refl, sym, subst, ℕ, Bool, true, false, List, ◌∷◌, take, Ok, Err, inl, inr, arith}
+use Rattle.osi_machine.proofs.Vocabulary.{append-nil, list_any, Call, Answer, allowed, Message, unit, agree, bye, waiting, World, turned, session_of, after_answer, Terms, denies, message_taken, closed, ended_at, without_first, Told, or_parts}
 use Rattle.osi_machine.proofs.Lines.{cut_to}
 use Rattle.osi_machine.proofs.Projects.{not_both}
 use Rattle.osi_machine.proofs.ProjectStart.{Opens, caller_refuses, called_refuses, caller_ends, called_ends}
@@ -53,35 +53,13 @@ pub record NoAgree (w : World) : Type 0 where
 pub none_back : (w : World) → NoAgree w → NoAgree (turned w)
 none_back w h = record { own = h.peer; peer = h.own }
 
-put_some : (b : Bool) (ms : List Message) (r : Option Meaning) → list_any is_agree ms ≡ false → list_any is_agree (put b (replied r) ms) ≡ false
-put_some b ms (Some m) h = put_none is_agree b ms (unit m) refl h
-put_some true ms None h = h
-put_some false ms None h = ap (list_any is_agree) (append-nil ms) ∙ h
-
 pub none_call : (b : Bool) (w : World) (x : Call) (a : Answer) → NoAgree w → NoAgree (after_answer b x w a)
 none_call b w x (Ok g) h = record { own = put_none is_agree b w.own.channel (unit g.sent) refl h.own; peer = h.peer }
 none_call b w x (Err e) h = h
 
 pub none_takes : (b : Bool) (r keep : ℕ) (w : World) (m : Message) (ms : List Message) → w.peer.channel ≡ m ∷ ms → NoAgree w
     → (is_agree m ≡ false) × NoAgree (message_taken b (denies r) keep w.own.transport (without_first w ms) m).world
-none_takes b r keep w m ms e h = (parts.0, by w.own.transport m parts.0)
-  where
-    parts : (is_agree m ≡ false) × (list_any is_agree ms ≡ false)
-    parts = or_parts (is_agree m) (list_any is_agree ms) (sym (ap (list_any is_agree) e) ∙ h.peer)
-
-    still : NoAgree (without_first w ms)
-    still = record { own = h.own; peer = parts.1 }
-
-    by : (tr : Transport) (m : Message) → is_agree m ≡ false → NoAgree (message_taken b (denies r) keep tr (without_first w ms) m).world
-    by tr agree n = absurd (cc)
-    by not_yet ask n = record { own = put_none is_agree b w.own.channel (deny r) refl h.own; peer = parts.1 }
-    by waiting (deny q) n = record { own = put_some b w.own.channel None h.own; peer = parts.1 }
-    by linked (unit u) n = record { own = put_some b w.own.channel (respond_unit (session_of (without_first w ms)) u).reply h.own; peer = parts.1 }
-    by linked (bye q) n = record { own = put_none is_agree b (take keep w.own.channel) over refl (take_none is_agree keep w.own.channel h.own); peer = parts.1 }
-    by closing (bye q) n = record { own = h.own; peer = parts.1 }
-    by closing over n = record { own = h.own; peer = parts.1 }
-    by gone (bye q) n = record { own = put_none is_agree b w.own.channel over refl h.own; peer = parts.1 }
-    by _ _ n = still
+none_takes b r keep w m ms e h = search (arith, or_parts, put_none, take_none, append-nil)
 
 pub none_closed : (b : Bool) (keep : ℕ) (w : World) → NoAgree w → NoAgree (closed b keep w)
 none_closed b keep w h = record { own = put_none is_agree b (take keep w.own.channel) (bye 128) refl (take_none is_agree keep w.own.channel h.own); peer = h.peer }

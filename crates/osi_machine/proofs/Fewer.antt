@@ -55,10 +55,7 @@ fewer_good k s (DT o) g = record { expected = g.expected; met = (still_lacks k s
 fewer_good k s (GT j) g =
     let a = and_parts (is_within j (available s.units)) (is_disjoint j s.held) g.met.0 in
     record { expected = g.expected; met = (and_from (is_within j (available s.units)) (is_disjoint j (without s.held k)) a.0 (still_disjoint k j s a.1), tt) }
-fewer_good k s (MIP c n o) g = record {
-  expected = g.expected;
-  met = (g.met.0, (two_lack (lacks s data_token) (lacks s minor) _ _ (still_lacks k s data_token) (still_lacks k s minor) g.met.1.0, g.met.1.1));
-}
+fewer_good k s (MIP c n o) g = search (arith, two_lack, still_lacks)
 fewer_good k s (MAP n o) g = search (two_lack, still_lacks)
 fewer_good k s (FN o) g = record { expected = g.expected; met = (still_empty k s g.met.0, tt) }
 fewer_good k s _ g = record { expected = g.expected; met = g.met }

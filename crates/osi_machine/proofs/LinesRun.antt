@@ -77,10 +77,7 @@ move_good terms P k m side (suc r) w v es f e by tells none moves g = record {
       (λ d n q. by d n (and_right (is_side d side) (suc r == n) (other_number (suc r) n (λ y. q (omega arith))))) e
       (λ o h. subst (λ (n : ℕ). P m.broken (seen_from side v) o (told_of Left n o (m.journal ++ es)) (told_of Right n o (m.journal ++ es))) (omega arith)
       (line o (subst (λ (n : ℕ). P m.broken w o (told_of Left n o m.journal) (told_of Right n o m.journal)) (omega arith) h))) g.lines;
-  fresh = λ d n o l.
-      let q = replaced_length r (seen_from side v) m.worlds in
-      let z = get_below m.worlds r w e in
-      told_same d n o m.journal es (by d n (and_right (is_side d side) (suc r == n) (other_number (suc r) n (λ y. omega arith)))) ∙ g.fresh d n o (omega arith);
+  fresh = search (arith, replaced_length, get_below, told_same, and_right, other_number);
   none = λ d o. told_same d 0 o m.journal es (by d 0 (and_right (is_side d side) (suc r == 0) (other_number (suc r) 0 (λ y. omega arith)))) ∙ g.none d o;
   agreed = g.agreed;
   asked = none_asked m.journal es none ∙ g.asked;

@@ -50,10 +50,7 @@ point_good p k s (PT j o) d pl e g = record { expected = k.please; met = g.met }
 point_good p k s (MIP c n o) d pl e g = absurd (not_both (has s.held data_token) (and_parts (not (has s.held data_token)) (not (has s.held minor)) g.met.1.0).0 d)
 point_good p k s (MIA n o) d pl e g = record { expected = k.acks; met = (g.met.0, (still_acks p s.numbers n g.met.1.0, tt)) }
 point_good p k s (MAP n o) d pl e g = absurd (not_both (has s.held data_token) (and_parts (not (has s.held data_token)) (not (has s.held minor) && not (has s.held major)) g.met.1.0).0 d)
-point_good p k s (RS j n w o) d pl e g = record {
-  expected = k.restart;
-  met = (g.met.0, (ap (λ (r : Bool). nat_le s.base n && (r || nat_le n (s.numbers.next + 1))) (excluded may_hold is_restarting refl p k.holds) ∙ still_below s.base n s.numbers.next g.met.1.0, tt));
-}
+point_good p k s (RS j n w o) d pl e g = search (arith, excluded, still_below)
 point_good p k s (FN o) d pl e g = absurd (let a = empty_has s.held data_token g.met.0 in cc)
 point_good p k s _ d pl e g = absurd (let a = g.expected in cc)
 
@@ -204,10 +201,7 @@ point_other_below w m n a h waits taken from to = by_test (drops (flushed w.peer
 
     acted : is_restarting (flushed w.peer w.own).phase ≡ false → (b : Bool) → n < (if b then (flushed w.peer w.own).numbers.confirmed else (flushed w.peer w.own).numbers.next) → n < w.own.session.numbers.next + 1
     acted l true k = was k
-    acted l false k =
-        let x = own_number w a h in
-        let y = other_number w h (there_base w a h) (ends_same w a h) l in
-        omega arith
+    acted l false k = search (arith, own_number, other_number, there_base, ends_same)
 
 pub point_sees : (w : Core) (more : List Item) → Points w → Stands w → heard_view w.own.session w.peer.sent (w.own.view ++ more) ≡ w.history ++ more
 point_sees w more a h =

@@ -49,14 +49,9 @@ restart_fits s r k n w o a f = search (arith, restart_kept, and_parts)
 after_due : (s : State) (us : List Meaning) → is_restart_due s.phase ≡ true → AllFit s us → AllEmpty us
 after_due s us d f = all_empty s us (λ u p. none_due s.phase u d p) (excluded is_restart_due is_restarting refl s.phase d) f
 
-flow_restart : (s r : State) (k : ResyncType) (n : ℕ) (w : TokenSetting) (o : List ℕ) (us : List Meaning) → Asks s r → Fits s (RS k n w o) → stands s n ≡ true
-    → AllFit (next s (RS k n w o)) us → Flow s r (RS k n w o ∷ us)
-unfolding restarted_at
-flow_restart s r k n w o us a f st more = search (arith, after_due, restart_due, empty_end, restart_next, stood, restart_fits, empty_fits, empty_heard, empty_view, yielded, restart_kept)
-
 flow_stop : (s r : State) (u : Meaning) (us : List Meaning) → Asks s r → Fits s u → stops s u ≡ true → AllFit (next s u) us → Flow s r (u ∷ us)
-flow_stop s r (RS k n w o) us a f st more = flow_restart s r k n w o us a f st more
-flow_stop s r _ us a f st more = absurd (cc)
+unfolding restarted_at
+flow_stop s r u us a f st more = search (arith, after_due, restart_due, empty_end, restart_next, stood, restart_fits, empty_fits, empty_heard, empty_view, yielded, restart_kept)
 
 pub restart_flow : (s r : State) (us : List Meaning) → Asks s r → AllFit s us → Flow s r us
 restart_flow s r [] a f = record { fits = tt; heard = refl; view = λ v. refl; end = inl (a.lives, refl) }

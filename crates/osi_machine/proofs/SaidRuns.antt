@@ -2,7 +2,7 @@
 use Rattle.std.proofs.Common.{◌≡◌, refl, sym, ◌∙◌, ap, subst, ℕ, zero, suc, ◌+◌, Bool, true, false, not, ◌&&◌, ◌||◌, ◌==◌, if◌then◌else◌, List, [], ◌∷◌, ◌++◌, append_assoc, map, Option, Some, None, is_some, inl, inr, ◌⊎◌, arith}
 use Rattle.osi_session.specs.Phases.{is_ended}
 use Rattle.osi_machine.specs.Tables.{after_call, message_taken, closed, start, seen_from, side_of, end_of, stays, noted, refusal, asked_in, call_in, marked_ended, after_end, closes_by, without_first, taken_in, delivered_to, cut_channels, step, run}
-use Rattle.osi_machine.proofs.Vocabulary.{eqb-true, eq-eqb, append-nil, slice_get, called, react, Meaning, Call, Begins, Offer, Side, Left, Right, Class, class_2, Message, Transport, Terms, Ending, closed_here, Refusal, Step, connects, calls, delivers, breaks, ends, shown_at, connection_at, with_connection, is_given, learns, Line, Turn, Tables, ends_there, ended_lines, after_turn, cut_line, one_or_none, said_to, heard_of, said_to_first, heard_of_first, said_at_delivery, heard_at_delivery, said_at_call, said_at, heard_at, said_in, heard_in, other_side, units_in, IsHeardAsSaid}
+use Rattle.osi_machine.proofs.Vocabulary.{eqb-true, eq-eqb, append-nil, slice_get, called, react, Meaning, Call, Begins, Offer, Side, Left, Right, Class, class_2, Message, Transport, Terms, Ending, closed_here, Refusal, Step, connects, calls, delivers, breaks, ends, shown_at, connection_at, with_connection, is_given, learns, Line, Turn, Tables, ends_there, ended_lines, after_turn, cut_line, one_or_none, said_to_first, heard_of_first, said_at_delivery, heard_at_delivery, said_at_call, said_at, heard_at, said_in, heard_in, other_side, units_in, IsHeardAsSaid}
 use Rattle.osi_machine.proofs.Places.{with_other, with_same, ended_there, cut_there, some_same}
 use Rattle.osi_machine.proofs.SaidLines.{SayLaws, Words, silent, and_more, Carried}
 use Rattle.osi_machine.proofs.SaidMoves.{Told, turned_told, call_told, close_told, ends_told, cut_told, asked_told, message_told}
@@ -149,10 +149,7 @@ taken_same : SayLaws → (t : Tables) (side : Side) (r : ℕ) (keep : ℕ → �
 taken_same laws t side r keep l x y e h [] f = same_holds side t.broken (and_more x [] []) y (Some l) _ e (quiet_holds side t.broken x y (Some l) h)
 taken_same laws t side r keep l x y e h (m ∷ xs) f =
     let v = seen_from side l in
-    turn_same laws (record t { known = learns t.terms v.own.transport m t.known }) side r keep (message_taken t.broken t.terms (keep r) v.own.transport (without_first v xs) m) l
-    (and_more x (said_to v.own.transport v.own.session m) (heard_of v.own.transport m)) y e
-    (message_closes laws t.broken t.terms (keep r) v.own.transport (without_first v xs) m)
-    (message_told laws t.broken t.terms (keep r) v.own.transport v m xs x y refl f (told_from side t.broken l x y h))
+    search (arith, turn_same, message_closes, message_told, told_from)
 
 delivery_same : SayLaws → (t : Tables) (side : Side) (r : ℕ) (keep : ℕ → ℕ) (x y : Words) (o : Option Line) → connection_at r t.lines ≡ o → HoldsAt side t.broken x y o
     → HoldsAt side (delivered_to t side r keep (side_of side o)).broken (and_more x (said_at_delivery (side_of side o)) (heard_at_delivery (side_of side o))) y
@@ -198,10 +195,7 @@ delivery_knows laws t side q r keep x y h = by (q == r) (is_some (end_of side t)
         (connection_at r (if past then t else delivered_to t side q keep (side_of side (connection_at q t.lines))).lines)
     by true true e = quiet_holds side t.broken x y (connection_at r t.lines) h
     by false true e = quiet_holds side t.broken x y (connection_at r t.lines) h
-    by true false e = subst (λ (n : ℕ). HoldsAt side (delivered_to t side n keep (side_of side (connection_at n t.lines))).broken
-        (and_more x (said_at_delivery (side_of side (connection_at r t.lines))) (heard_at_delivery (side_of side (connection_at r t.lines)))) y
-        (connection_at r (delivered_to t side n keep (side_of side (connection_at n t.lines))).lines)) (sym (eqb-true q r e))
-        (delivery_same laws t side r keep x y (connection_at r t.lines) refl h)
+    by true false e = search (arith, eqb-true, delivery_same)
     by false false e = quiet_holds side _ x y _ (delivery_other laws t side q r keep x y (side_of side (connection_at q t.lines)) (not_equal q r e) h)
 
 -- ---- a break

@@ -1,13 +1,13 @@
 -- Every message but a session unit does the same in tables; so do a close, an end, a break and a new connection.
 use Rattle.std.proofs.Common.{◌≡◌, refl, sym, ◌∙◌, ap, ℕ, ◌+◌, Bool, true, false, if◌then◌else◌, List, [], ◌∷◌, take, Option, Some, None, arith}
 use Rattle.osi_machine.specs.Tables as tables
-use Rattle.osi_machine.proofs.Vocabulary.{opened, refused, broken as broken_off, Move, react, denied, rests, RefusedByTransport, WaitTransport, Ended, Meaning, is_wait_transport, without_tokens, awaiting, lost, points, owned, left_by, Offer, offering, offer_sent, Message, unit, ask, agree, deny, bye, over, Transport, not_yet, waiting, linked, closing, gone, Kept, kept_of, World, turned, session_of, asked_with, put, unchanged, moves, moved, Terms, accepts, denies, asked_at, message_taken, shortened, closed, ended_at, shown_at_end}
+use Rattle.osi_machine.proofs.Vocabulary.{opened, refused, broken as broken_off, react, denied, rests, RefusedByTransport, WaitTransport, Ended, Meaning, is_wait_transport, without_tokens, lost, points, owned, left_by, Offer, offering, offer_sent, Message, unit, ask, agree, deny, bye, over, Transport, not_yet, waiting, linked, closing, gone, Kept, kept_of, World, session_of, asked_with, put, unchanged, moves, moved, Terms, accepts, denies, asked_at, message_taken, shortened, closed, ended_at, shown_at_end}
 use Rattle.osi_machine.proofs.Projects.{stopped, is_begun}
 use Rattle.osi_machine.proofs.ProjectCall.{own_gone, left_theirs}
 use Rattle.osi_machine.proofs.ProjectTake.{put_nothing}
 use Rattle.osi_machine.proofs.Lines.{cut_to}
 use Rattle.osi_machine.proofs.TableSeats.{state_from, owned_as}
-use Rattle.osi_machine.proofs.TableLines.{seat_of, line_of, AreSeated, Tabled, TurnTabled, begun_seated, gone_seated, gone_state, theirs_stay}
+use Rattle.osi_machine.proofs.TableLines.{line_of, AreSeated, Tabled, TurnTabled, begun_seated, gone_seated, gone_state, theirs_stay}
 use Rattle.osi_machine.proofs.PhaseLaws.{if_yes, by_test}
 
 -- ---- what changes nothing but the transport and what is under way
@@ -25,18 +25,7 @@ asked_tabled : (broken : Bool) (terms : Terms) (w : World) (a b : Option Meaning
     → TurnTabled (tables.unseen (tables.asked_at broken terms (line_of w a b))) (unchanged (asked_at broken terms w))
 asked_tabled broken (accepts class) w a b e h =
     let own = ap (λ (k : Kept). state_from k (owned w.owner) (k.base + points (take w.own.mark w.history))) (h.own.idle e) in
-    record {
-      first = a;
-      second = b;
-      same = λ i. tables.unseen (record {
-        own = record { transport = linked; session = record { state = own i; waiting = a }; channel = put broken (agree ∷ []) w.own.channel };
-        peer = seat_of (turned w) b;
-      });
-      seated = record {
-        own = begun_seated (moved broken linked awaiting (agree ∷ []) w) a refl (λ o t. absurd (cc));
-        peer = record { calls = h.peer.calls; called = h.peer.called; idle = h.peer.idle; bare = h.peer.bare; disowned = h.peer.disowned };
-      };
-    }
+    search (arith, begun_seated)
 asked_tabled broken (denies reason) w a b e h = record { first = a; second = b; same = refl; seated = still_seated w (put broken (deny reason ∷ []) w.own.channel) a b h }
 
 waits_now : (w : World) → w.own.kept ≡ kept_of (without_tokens WaitTransport (offering w.offer)) → is_wait_transport w.own.kept.phase ≡ true
@@ -57,20 +46,7 @@ denied_tabled broken reason w a b e h =
     record {
       first = a;
       second = b;
-      same =
-          ap (λ (x : Move). record {
-            line = tables.in_transport gone (tables.made broken x (line_of w a b));
-            shown = x.shown;
-            closes = x.closes;
-          }) opens
-          ∙ (λ i. record {
-            line = record {
-              own = record { transport = gone; session = record { state = own i; waiting = a }; channel = put broken [] w.own.channel };
-              peer = record { transport = w.peer.transport; session = record { state = peer i; waiting = b }; channel = w.peer.channel };
-            };
-            shown = RefusedByTransport reason ∷ [];
-            closes = false;
-          });
+      same = search arith;
       seated = gone_seated w gone (put broken [] w.own.channel) a b refl h;
     }
 

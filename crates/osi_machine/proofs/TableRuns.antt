@@ -2,7 +2,7 @@
 use Rattle.std.proofs.Common.{◌≡◌, refl, sym, ◌∙◌, ap, subst, ℕ, zero, suc, ◌+◌, Bool, not, ◌||◌, if◌then◌else◌, List, [], ◌∷◌, ◌++◌, map, Option, Some, None, is_some, inl, inr, arith}
 use Rattle.osi_machine.specs.Machine.{ends_there}
 use Rattle.osi_machine.specs.Tables as tables
-use Rattle.osi_machine.proofs.Vocabulary.{AllByRecursion, slice_get, taken, broken as broken_off, react, Shown, said_of, CallError, Call, HasSerial, Meaning, allowed, Offer, Side, Left, Right, Class, class_2, Message, unit, Transport, linked, World, turned, session_of, after_answer, Taking, unit_taken, Terms, message_taken, shown_at_end, Ending, closed_here, Refusal, Step, connects, calls, delivers, breaks, ends, Entry, connect_answered, call_answered, shown_at, Machine, start, connection_at, replaced, with_connection, seen_from, end_of, stays, noted, is_given, refusal_by, transport_of, refusal, asked_in, error_of, call_in, side_of, ended_worlds, shown_in_order, marked_ended, after_end, closes_by, after_taking, without_first, learns, taken_in, delivered_to, cut_channels, is_told, step, run, HasNumber, Line, Turn, Tables, cut_line, Told, told_of}
+use Rattle.osi_machine.proofs.Vocabulary.{AllByRecursion, slice_get, taken, said_of, CallError, Call, HasSerial, Meaning, allowed, Offer, Side, Left, Right, Class, class_2, Message, unit, Transport, linked, World, turned, session_of, after_answer, Taking, unit_taken, Terms, message_taken, Ending, closed_here, Refusal, Step, connects, calls, delivers, breaks, ends, Entry, connect_answered, call_answered, shown_at, Machine, start, connection_at, replaced, with_connection, seen_from, end_of, stays, noted, is_given, refusal_by, transport_of, refusal, asked_in, error_of, call_in, side_of, ended_worlds, shown_in_order, marked_ended, after_end, closes_by, after_taking, without_first, learns, taken_in, delivered_to, cut_channels, is_told, step, run, HasNumber, Line, Turn, Tables, Told, told_of}
 use Rattle.osi_machine.proofs.CoreLaws.{SessionLaws}
 use Rattle.osi_machine.proofs.ProjectStart.{Way, asks, replies, caller_refuses, called_refuses, Refuses}
 use Rattle.osi_machine.proofs.LinesRun.{IsGood, step_good}
@@ -157,9 +157,7 @@ shown_tabled : (side : Side) (r : ℕ) (ls : List Line) (ws : List World) → Al
 shown_tabled side r [] [] h = refl
 shown_tabled side r (l ∷ ls) (w ∷ ws) h =
     let k = side_tabled side l w h.0 in
-    ap (λ (x : Line). map (shown_at side r) (react x.own.session broken_off).shown ++ tables.shown_in_order side (r + 1) ls) k.same
-    ∙ ap (λ (x : List Shown). map (shown_at side r) x ++ tables.shown_in_order side (r + 1) ls) (shown_as (seen_from side w) k.first)
-    ∙ ap (λ (es : List Entry). map (shown_at side r) (shown_at_end (seen_from side w)) ++ es) (shown_tabled side (r + 1) ls ws h.1)
+    search (arith, shown_as, shown_tabled side (r + 1) ls ws h.1)
 shown_tabled side r [] (w ∷ ws) h = absurd h
 shown_tabled side r (l ∷ ls) [] h = absurd h
 
@@ -243,12 +241,7 @@ delivery_follows laws says terms m ls side r keep k g (Some l) None e h = absurd
 cut_tabled : (left right : ℕ → ℕ) (r : ℕ) (ls : List Line) (ws : List World) → AllTabled ls ws → AllTabled (tables.cut_channels left right r ls) (cut_channels left right r ws)
 cut_tabled left right r [] [] h = tt
 cut_tabled left right r (l ∷ ls) (w ∷ ws) h = (
-  record {
-    first = h.0.first;
-    second = h.0.second;
-    same = ap (λ (x : Line). cut_line (left r) (right r) x) h.0.same;
-    seated = break_tabled (left r) (right r) w h.0.first h.0.second h.0.seated;
-  },
+  search (arith, break_tabled),
   cut_tabled left right (r + 1) ls ws h.1,
 )
 cut_tabled left right r [] (w ∷ ws) h = absurd h
