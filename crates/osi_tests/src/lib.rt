@@ -3,24 +3,21 @@
 //!
 //! Each function here is proved, which takes seconds whatever it does; a file of `osi_runs` is proved
 //! by nobody. So what two ends do with each other is a script there, what an end answers to octets
-//! or how a session unit is written again is a file of octets, and what is listed is a capture. Here
-//! stand
+//! or how a session unit is written again is a file of octets, and what is listed is a capture. Links and
+//! carriers have steps, what is asked and what is to come of it: a test is a list of them. Here stand
 //!
 //! - `packets`: a packet that comes octet by octet, the generic reader and writer, the bounds of a packet;
 //! - `transport_units`, `session_units`: how units are written, sets, bounds, units that are made;
-//! - `links`, `whole_links`: credit, numbers that go round, the longest TSDU;
+//! - `links`: credit, numbers that go round, the longest TSDU;
 //! - `carriers`: an end of neither class, all references, what is sent where nothing is open;
-//! - `sessions`: plans, the greatest length of data, sizes, how data leaves in parts;
-//! - `stacks`: a selector that is too long, a called end that asks for a connection, the longest data in
-//!   parts, and that for want of memory no part of it is sent;
-//! - `addresses`: two connections that are told apart by whom they ask for;
-//! - `listings`: TSDUs of 1,048,576 octets and more;
+//! - `sessions`: plans, the greatest lengths of what is sent, a first part that is too long;
+//! - `stacks`: a selector that is too long, a called end that asks for a connection, two connections that
+//!   are told apart by whom they ask for;
+//! - `listings`: TSDUs of 1,048,576 octets and more.
 //!
-//! and in each of them one call at least of each public function that takes memory.
+//! A public function that takes memory is called here, or in a file of `osi_runs`.
 #![tactic(auto)]
 
-#[cfg(test)]
-mod addresses;
 #[cfg(test)]
 mod carriers;
 #[cfg(test)]
@@ -37,5 +34,3 @@ mod sessions;
 mod stacks;
 #[cfg(test)]
 mod transport_units;
-#[cfg(test)]
-mod whole_links;

@@ -1,105 +1,108 @@
-//! Links of both classes, call by call.
+//! Links of both classes, call by call, and the longest TSDUs between two of them.
 
 ghost use Rattle.std.specs.Prelude.{◌<◌};
 
+use crate::transport_units::only_unit;
 use osi_class::*;
-use osi_tpdu::{DataAcknowledgement, DataClass0, DataClass2, SizeCode, Tpdu, Window};
+use osi_tpdu::{DataClass0, SizeCode, Tpdu, Window};
 use std::alloc::Global;
 use std::test::Fail;
 
-pub fn sends(link: &mut impl Link, tsdu: &[u8]) -> Result<(), Fail> {
+/// What a link gives next: nothing; a DT of class 0, or one of class 2, with so many octets; an AK.
+#[derive(Clone, Copy)]
+enum Given {
+    Nothing,
+    Part { end: bool, count: usize },
+    Data { number: u8, end: bool, count: usize },
+    Ack { number: u8, credit: u8 },
+}
+
+/// What a link is asked for, and what it answers.
+#[derive(Clone, Copy)]
+enum Step {
+    /// A TSDU is handed in.
+    Send(&'static [u8]),
+    /// The transport unit of these octets is taken, or refused for this fault.
+    Take(&'static [u8], Option<LinkFault>),
+    /// The next unit.
+    Give(Given),
+    /// The next TSDU, if there is one.
+    HandOut(Option<&'static [u8]>),
+}
+
+fn sends(link: &mut impl Link, tsdu: &[u8]) -> Result<(), Fail> {
     link.send_tsdu(tsdu)?;
     Ok(())
 }
 
-/// The next unit is a DT of class 0 with this EOT and so many octets.
-fn gives_part(link: &mut impl Link, end: bool, count: usize) -> Result<(), Fail> {
-    match link.next_out() {
-        Some(Out::Data0 { end: e, octets }) if e == end && octets.len() == count => Ok(()),
-        _ => Err(Fail::from("no such DT")),
-    }
-}
-
-/// The next unit is a DT of class 2 with this EOT and number, and so many octets.
-fn gives_data(link: &mut impl Link, end: bool, number: u8, count: usize) -> Result<(), Fail> {
-    match link.next_out() {
-        Some(
-            Out::Data2 {
-                number: n,
-                end: e,
-                octets,
-            },
-        ) if e == end && n == number && octets.len() == count => Ok(()),
-        _ => Err(Fail::from("no such DT")),
-    }
-}
-
-/// The next unit is an AK with this number and credit.
-pub fn gives_ack(link: &mut impl Link, number: u8, credit: u8) -> Result<(), Fail> {
-    match link.next_out() {
-        Some(
-            Out::Ack {
-                number: n,
-                credit: c,
-            },
-        ) if n == number && c == credit => Ok(()),
-        _ => Err(Fail::from("no such AK")),
-    }
-}
-
-fn gives_nothing(link: &mut impl Link) -> Result<(), Fail> {
-    match link.next_out() {
-        None => Ok(()),
-        Some(_) => Err(Fail::from("a unit is given")),
-    }
-}
-
-fn hands_out(link: &mut impl Link, octets: &[u8]) -> Result<(), Fail> {
-    match link.next_tsdu() {
-        Some(tsdu) if tsdu.as_slice() == octets => Ok(()),
-        _ => Err(Fail::from("another TSDU")),
-    }
-}
-
-pub fn is_taken(link: &mut impl Link, unit: &Tpdu<'_>) -> Result<(), Fail> {
-    link.take(unit)?;
-    Ok(())
-}
-
-fn is_refused(link: &mut impl Link, unit: &Tpdu<'_>, fault: LinkFault) -> Result<(), Fail> {
-    match link.take(unit) {
-        Err(found) if found == fault => Ok(()),
+fn takes(link: &mut impl Link, unit: &Tpdu<'_>, fault: Option<LinkFault>) -> Result<(), Fail> {
+    match (link.take(unit), fault) {
+        (Ok(()), None) => Ok(()),
+        (Err(found), Some(wanted)) if found == wanted => Ok(()),
+        (Err(found), None) => Err(Fail::from(found)),
         _ => Err(Fail::from("another answer")),
     }
 }
 
-/// An AK to reference 1.
-fn acknowledgement(number: u8, credit: u8) -> Tpdu<'static>
-    requires number { number < 128 }
-    requires credit { credit < 16 }
-{
-    Tpdu::Ak(DataAcknowledgement {
-        credit,
-        destination: 1,
-        number,
-    })
+fn gives(link: &mut impl Link, wanted: Given) -> Result<(), Fail> {
+    let is_given = match (link.next_out(), wanted) {
+        (None, Given::Nothing) => true,
+        (Some(Out::Data0 { end: e, octets }), Given::Part { end, count }) => {
+            e == end && octets.len() == count
+        }
+        (
+            Some(
+                Out::Data2 {
+                    number: n,
+                    end: e,
+                    octets,
+                },
+            ),
+            Given::Data { number, end, count },
+        ) => n == number && e == end && octets.len() == count,
+        (
+            Some(
+                Out::Ack {
+                    number: n,
+                    credit: c,
+                },
+            ),
+            Given::Ack { number, credit },
+        ) => n == number && c == credit,
+        _ => false,
+    };
+    if !is_given {
+        return Err(Fail::from("another unit"));
+    }
+    Ok(())
 }
 
-/// A DT of class 2 to reference 1.
-pub fn data_unit(number: u8, end: bool, user: &[u8]) -> Tpdu<'_>
-    requires { number < 128 }
-{
-    Tpdu::Dt2(DataClass2 {
-        destination: 1,
-        number,
-        end,
-        user,
-    })
+fn hands_out(link: &mut impl Link, wanted: Option<&[u8]>) -> Result<(), Fail> {
+    let handed = link.next_tsdu();
+    let is_wanted = match &handed {
+        None => wanted.is_none(),
+        Some(tsdu) => wanted == Some(tsdu.as_slice()),
+    };
+    if !is_wanted {
+        return Err(Fail::from("another TSDU"));
+    }
+    Ok(())
 }
 
-/// A DT of class 0.
-fn data(end: bool, user: &[u8]) -> Tpdu<'_> {
-    Tpdu::Dt0(DataClass0 { end, user })
+fn does(link: &mut impl Link, step: Step) -> Result<(), Fail> {
+    match step {
+        Step::Send(tsdu) => sends(link, tsdu),
+        Step::Take(octets, fault) => takes(link, &only_unit(octets)?, fault),
+        Step::Give(wanted) => gives(link, wanted),
+        Step::HandOut(wanted) => hands_out(link, wanted),
+    }
+}
+
+fn goes(link: &mut impl Link, steps: &[Step]) -> Result<(), Fail> {
+    for step in steps {
+        does(link, *step)?;
+    }
+    Ok(())
 }
 
 /// A link of class 2 with this window, whose peer gave this credit.
@@ -114,39 +117,41 @@ fn class_2(
     Ok(Class2::new(rt.alloc(), size, window, credit))
 }
 
-fn acks_go_on(link: &mut impl Link) -> Result<(), Fail> {
-    is_taken(link, &data(false, b"A"))?;
-    is_refused(link, &acknowledgement(0, 3), LinkFault::WrongForm)?;
-    is_taken(link, &data(true, b"B"))?;
-    hands_out(link, b"AB")?;
-    hands_nothing_out(link)?;
-    gives_nothing(link)
-}
+const NO_ACK: [Step; 6] = [
+    Step::Take(&[2, 0xF0, 0, 0x41], None),
+    Step::Take(&[4, 0x63, 0, 1, 0], Some(LinkFault::WrongForm)),
+    Step::Take(&[2, 0xF0, 0x80, 0x42], None),
+    Step::HandOut(Some(b"AB")),
+    Step::HandOut(None),
+    Step::Give(Given::Nothing),
+];
 
 #[test]
 fn class_0_takes_no_ack(rt: HostRuntime) -> Result<(), Fail> {
-    acks_go_on(&mut Class0::new(rt.alloc(), None))
+    goes(&mut Class0::new(rt.alloc(), None), &NO_ACK)
 }
 
-fn hands_nothing_out(link: &mut impl Link) -> Result<(), Fail> {
-    match link.next_tsdu() {
-        None => Ok(()),
-        Some(_) => Err(Fail::from("a TSDU is handed out")),
-    }
-}
-
-fn parts_go_on(link: &mut impl Link, tsdu: &[u8]) -> Result<(), Fail> {
-    sends(link, tsdu)?;
-    sends(link, &[])?;
-    gives_part(link, false, 125)?;
-    gives_part(link, true, 1)?;
-    gives_part(link, true, 0)?;
-    gives_nothing(link)
-}
+const PARTS: [Step; 6] = [
+    Step::Send(&[0x5a; 126]),
+    Step::Send(&[]),
+    Step::Give(Given::Part {
+        end: false,
+        count: 125,
+    }),
+    Step::Give(Given::Part {
+        end: true,
+        count: 1,
+    }),
+    Step::Give(Given::Part {
+        end: true,
+        count: 0,
+    }),
+    Step::Give(Given::Nothing),
+];
 
 #[test]
 fn a_tsdu_is_cut_at_the_size(rt: HostRuntime) -> Result<(), Fail> {
-    parts_go_on(&mut Class0::new(rt.alloc(), SizeCode::new(7)), &[0x5a; 126])
+    goes(&mut Class0::new(rt.alloc(), SizeCode::new(7)), &PARTS)
 }
 
 /// A TSDU of 126 octets and an empty one.
@@ -158,19 +163,30 @@ fn two(alloc: Global) -> Result<Vec<Vec<u8>>, Fail> {
     Ok(tsdus)
 }
 
-fn sends_together(link: &mut impl Link, tsdus: &[Vec<u8>]) -> Result<(), Fail> {
-    link.send_tsdus(tsdus)?;
-    Ok(())
-}
+const LIST: [Step; 5] = [
+    Step::Give(Given::Part {
+        end: true,
+        count: 1,
+    }),
+    Step::Give(Given::Part {
+        end: false,
+        count: 125,
+    }),
+    Step::Give(Given::Part {
+        end: true,
+        count: 1,
+    }),
+    Step::Give(Given::Part {
+        end: true,
+        count: 0,
+    }),
+    Step::Give(Given::Nothing),
+];
 
 fn a_list_goes_on(link: &mut impl Link, tsdus: &[Vec<u8>]) -> Result<(), Fail> {
     sends(link, b"A")?;
-    sends_together(link, tsdus)?;
-    gives_part(link, true, 1)?;
-    gives_part(link, false, 125)?;
-    gives_part(link, true, 1)?;
-    gives_part(link, true, 0)?;
-    gives_nothing(link)
+    link.send_tsdus(tsdus)?;
+    goes(link, &LIST)
 }
 
 #[test]
@@ -182,42 +198,57 @@ fn tsdus_are_handed_in_together(rt: HostRuntime) -> Result<(), Fail> {
     )
 }
 
-/// Fifteen TSDUs of an octet each go out at once.
+const EDGE: [Step; 3] = [
+    Step::Take(&[4, 0x62, 0, 1, 0], Some(LinkFault::CreditReduced)),
+    Step::Take(&[4, 0x63, 0, 1, 1], Some(LinkFault::OutOfSequence)),
+    Step::Take(&[4, 0x6F, 0, 1, 0], None),
+];
+
+/// Fifteen TSDUs of an octet each go out at once, and no other.
 fn fifteen_go_out(link: &mut impl Link) -> Result<(), Fail> {
     for number in 0..15u8 {
-        sends(link, b"A")?;
-        gives_data(link, true, number, 1)?;
+        let data = Given::Data {
+            number,
+            end: true,
+            count: 1,
+        };
+        goes(link, &[Step::Send(b"A"), Step::Give(data)])?;
     }
-    Ok(())
+    goes(link, &[Step::Send(b"A"), Step::Give(Given::Nothing)])
 }
 
 fn credit_goes_on(link: &mut impl Link) -> Result<(), Fail> {
-    is_refused(link, &acknowledgement(0, 2), LinkFault::CreditReduced)?;
-    is_refused(link, &acknowledgement(1, 3), LinkFault::OutOfSequence)?;
-    is_taken(link, &acknowledgement(0, 15))?;
-    fifteen_go_out(link)?;
-    sends(link, b"A")?;
-    gives_nothing(link)
+    goes(link, &EDGE)?;
+    fifteen_go_out(link)
 }
 
 #[test]
 fn an_ack_sets_the_upper_edge(rt: HostRuntime) -> Result<(), Fail> {
+    assert!(rt; Credit::new(16).is_none());
     credit_goes_on(&mut class_2(&rt, SizeCode::new(7), 4, 3)?)
 }
 
-#[test]
-fn a_first_credit_is_at_most_15(rt: HostRuntime) {
-    assert!(rt; Credit::new(16).is_none());
+/// A unit goes out, no other does, and it is acknowledged.
+fn a_unit_passes(link: &mut impl Link, number: u8) -> Result<(), Fail> {
+    let data = Given::Data {
+        number,
+        end: false,
+        count: 123,
+    };
+    goes(link, &[Step::Give(data), Step::Give(Given::Nothing)])?;
+    let ack = [4, 0x61, 0, 1, number.wrapping_add(1) % 128];
+    takes(link, &only_unit(&ack)?, None)
 }
 
-/// A unit goes out, no other does, and it is acknowledged.
-fn a_unit_passes(link: &mut impl Link, number: u8) -> Result<(), Fail>
-    requires { number < 128 }
-{
-    gives_data(link, false, number, 123)?;
-    gives_nothing(link)?;
-    is_taken(link, &acknowledgement((number + 1) % 128, 1))
-}
+const LAST: [Step; 3] = [
+    Step::Give(Given::Data {
+        number: 1,
+        end: true,
+        count: 1,
+    }),
+    Step::Take(&[4, 0x61, 0, 1, 2], None),
+    Step::Give(Given::Nothing),
+];
 
 /// 129 units pass, whose numbers go round, and then the last one.
 fn numbers_go_on(link: &mut impl Link, tsdu: &[u8]) -> Result<(), Fail> {
@@ -225,59 +256,183 @@ fn numbers_go_on(link: &mut impl Link, tsdu: &[u8]) -> Result<(), Fail> {
     for unit in 0..129u8 {
         a_unit_passes(link, unit % 128)?;
     }
-    gives_data(link, true, 1, 1)?;
-    is_taken(link, &acknowledgement(2, 1))?;
-    gives_nothing(link)
+    goes(link, &LAST)
 }
 
 #[test]
 fn numbers_go_round(rt: HostRuntime) -> Result<(), Fail> {
-    let tsdu = vec![in rt.alloc(); 0x5a; 15_868]?;
-    numbers_go_on(&mut class_2(&rt, SizeCode::new(7), 1, 1)?, tsdu.as_slice())
+    numbers_go_on(&mut class_2(&rt, SizeCode::new(7), 1, 1)?, &[0x5a; 15_868])
 }
 
-fn window_goes_on(link: &mut impl Link) -> Result<(), Fail> {
-    is_refused(link, &data_unit(1, true, b"A"), LinkFault::OutOfSequence)?;
-    is_taken(link, &data_unit(0, false, b"A"))?;
-    is_taken(link, &data_unit(1, true, b"B"))?;
-    is_refused(link, &data_unit(2, true, b"C"), LinkFault::OutOfSequence)?;
-    gives_ack(link, 1, 2)?;
-    gives_ack(link, 2, 2)?;
-    gives_nothing(link)?;
-    is_taken(link, &data_unit(2, true, b"C"))?;
-    hands_out(link, b"AB")
-}
+const WINDOW: [Step; 9] = [
+    Step::Take(&[4, 0xF0, 0, 1, 0x81, 0x41], Some(LinkFault::OutOfSequence)),
+    Step::Take(&[4, 0xF0, 0, 1, 0, 0x41], None),
+    Step::Take(&[4, 0xF0, 0, 1, 0x81, 0x42], None),
+    Step::Take(&[4, 0xF0, 0, 1, 0x82, 0x43], Some(LinkFault::OutOfSequence)),
+    Step::Give(Given::Ack {
+        number: 1,
+        credit: 2,
+    }),
+    Step::Give(Given::Ack {
+        number: 2,
+        credit: 2,
+    }),
+    Step::Give(Given::Nothing),
+    Step::Take(&[4, 0xF0, 0, 1, 0x82, 0x43], None),
+    Step::HandOut(Some(b"AB")),
+];
 
 #[test]
 fn each_unit_taken_gives_one_ack(rt: HostRuntime) -> Result<(), Fail> {
-    window_goes_on(&mut AnyLink::Two(class_2(&rt, None, 2, 0)?))
+    goes(&mut AnyLink::Two(class_2(&rt, None, 2, 0)?), &WINDOW)
 }
 
-/// The next TSDU has the greatest length.
-pub fn hands_the_longest_out(link: &mut impl Link) -> Result<(), Fail> {
-    match link.next_tsdu() {
-        Some(tsdu) if tsdu.len() == LONGEST_TSDU => Ok(()),
-        _ => Err(Fail::from("another TSDU")),
+/// Each unit is answered by the number behind its own, and credit for one.
+fn five_are_answered(link: &mut impl Link) -> Result<(), Fail> {
+    for number in 0..5u8 {
+        takes(
+            link,
+            &only_unit(&[4, 0xF0, 0, 1, 0x80 | number, 0x41])?,
+            None,
+        )?;
+        gives(
+            link,
+            Given::Ack {
+                number: number + 1,
+                credit: 1,
+            },
+        )?;
     }
+    Ok(())
 }
 
-/// A link takes 16 units of 65,528 octets and one of 128, and no more than the end of that TSDU.
-fn longest_goes_on(link: &mut impl Link, part: &[u8]) -> Result<(), Fail> {
+#[test]
+fn the_fifth_unit_of_a_window_of_1_is_answered_by_number_5(rt: HostRuntime) -> Result<(), Fail> {
+    five_are_answered(&mut class_2(&rt, None, 1, 0)?)
+}
+
+/// A DT of class 0 with which no TSDU ends.
+fn data(user: &[u8]) -> Tpdu<'_> {
+    Tpdu::Dt0(DataClass0 { end: false, user })
+}
+
+/// The longest TSDU.
+fn longest(alloc: Global) -> Result<Vec<u8>, Fail> {
+    let tsdu = vec![in alloc; 0x5a; LONGEST_TSDU]?;
+    Ok(tsdu)
+}
+
+/// A link takes 16 units of 65,528 octets and one of 128.
+fn takes_longest(link: &mut impl Link, longest: &[u8]) -> Result<(), Fail> {
+    let (part, _) = longest.split_at_checked(65_528).ok_or("octets")?;
     for _ in 0..16u8 {
-        is_taken(link, &data(false, part))?;
+        takes(link, &data(part), None)?;
     }
-    let (last, _) = part.split_at_checked(128).ok_or("128 octets")?;
-    is_taken(link, &data(false, last))?;
-    is_refused(link, &data(true, b"A"), LinkFault::TsduTooLong)?;
-    is_taken(link, &data(true, &[]))?;
-    hands_the_longest_out(link)
+    takes(link, &data(&[0x5a; 128]), None)
+}
+
+const TOO_LONG: [Step; 2] = [
+    Step::Take(&[2, 0xF0, 0x80, 0x41], Some(LinkFault::TsduTooLong)),
+    Step::Take(&[2, 0xF0, 0x80], None),
+];
+
+/// A link takes no more than the end of the longest TSDU.
+fn longest_goes_on(link: &mut impl Link, longest: &[u8]) -> Result<(), Fail> {
+    takes_longest(link, longest)?;
+    goes(link, &TOO_LONG)?;
+    hands_out(link, Some(longest))
 }
 
 #[test]
 fn a_tsdu_has_at_most_1048576_octets(rt: HostRuntime) -> Result<(), Fail> {
-    let part = vec![in rt.alloc(); 0x5a; 65_528]?;
+    let longest = longest(rt.alloc())?;
     longest_goes_on(
         &mut AnyLink::Zero(Class0::new(rt.alloc(), None)),
-        part.as_slice(),
+        longest.as_slice(),
     )
+}
+
+/// Two links.
+#[derive(Drop)]
+struct Ends {
+    from: AnyLink,
+    to: AnyLink,
+}
+
+/// Hands the next unit of one link to the other, for reference 1; false where there is none.
+fn passes(from: &mut AnyLink, to: &mut AnyLink) -> Result<bool, LinkFault> {
+    match from.next_out() {
+        None => Ok(false),
+        Some(out) => {
+            to.take(&out.unit(1))?;
+            Ok(true)
+        }
+    }
+}
+
+/// Hands each unit that one link gives to the other, until it gives none.
+fn pass_all(from: &mut AnyLink, to: &mut AnyLink) -> Result<(), Fail> {
+    for _ in 0..300u16 {
+        if !passes(from, to)? {
+            return Ok(());
+        }
+    }
+    Ok(())
+}
+
+/// Two TSDUs of the greatest length go over.
+fn two_go_over(ends: &mut Ends, longest: &[u8]) -> Result<(), Fail> {
+    for _ in 0..18u8 {
+        pass_all(&mut ends.from, &mut ends.to)?;
+        pass_all(&mut ends.to, &mut ends.from)?;
+    }
+    hands_out(&mut ends.to, Some(longest))?;
+    hands_out(&mut ends.to, Some(longest))
+}
+
+/// A copy of a TSDU is given away.
+fn gives_away(link: &mut AnyLink, alloc: Global, tsdu: &[u8]) -> Result<(), Fail> {
+    link.send_owned(Vec::from_slice(alloc, tsdu)?)?;
+    Ok(())
+}
+
+/// The longest TSDU is lent, and given away; and then the other way round.
+fn all_go_over(ends: &mut Ends, alloc: Global, longest: &[u8]) -> Result<(), Fail> {
+    sends(&mut ends.from, longest)?;
+    gives_away(&mut ends.from, alloc, longest)?;
+    two_go_over(ends, longest)?;
+    gives_away(&mut ends.from, alloc, longest)?;
+    sends(&mut ends.from, longest)?;
+    two_go_over(ends, longest)
+}
+
+fn class_0_ends(alloc: Global) -> Ends {
+    Ends {
+        from: AnyLink::Zero(Class0::new(alloc, SizeCode::new(13))),
+        to: AnyLink::Zero(Class0::new(alloc, SizeCode::new(13))),
+    }
+}
+
+#[test]
+fn the_longest_tsdu_goes_over_class_0(rt: HostRuntime) -> Result<(), Fail> {
+    let longest = longest(rt.alloc())?;
+    all_go_over(
+        &mut class_0_ends(rt.alloc()),
+        rt.alloc(),
+        longest.as_slice(),
+    )
+}
+
+fn class_2_ends(rt: &HostRuntime) -> Result<Ends, Fail> {
+    let size = SizeCode::new(13);
+    Ok(Ends {
+        from: AnyLink::Two(class_2(rt, size, 15, 15)?),
+        to: AnyLink::Two(class_2(rt, size, 15, 15)?),
+    })
+}
+
+#[test]
+fn the_longest_tsdu_goes_over_class_2(rt: HostRuntime) -> Result<(), Fail> {
+    let longest = longest(rt.alloc())?;
+    all_go_over(&mut class_2_ends(&rt)?, rt.alloc(), longest.as_slice())
 }

@@ -1,70 +1,41 @@
 //! Listings of TSDUs that are too long for a capture of `osi_runs`.
 
 use osi_listing::list;
-use std::alloc::Global;
+use std::alloc::{AllocError, Global};
 use std::test::Fail;
 
-/// Adds 16 data units of 65,528 octets, and then these octets.
-fn push_units(octets: &mut Vec<u8>, part: &[u8], last: &[u8]) -> Result<(), Fail> {
-    for _ in 0..16 {
-        octets.extend_from_slice(&[3, 0, 255, 255, 2, 0xF0, 0])?;
-        octets.extend_from_slice(part)?;
-    }
-    octets.extend_from_slice(last)?;
-    Ok(())
+/// Packets that stand behind 16 data units of 65,528 octets, and the last lines of the listing of all.
+#[derive(Clone, Copy)]
+struct Last {
+    /// A header, and so many octets behind it.
+    header: &'static [u8],
+    octets: &'static [u8],
+    /// Packets with no octets.
+    behind: &'static [u8],
+    lines: &'static [u8],
 }
 
-/// 16 data units of 65,528 octets, and then these octets.
-fn behind_1_048_448(alloc: Global, last: &[u8]) -> Result<Vec<u8>, Fail> {
-    let part = vec![in alloc; 0; 65_528]?;
-    let mut octets = Vec::new(alloc);
-    push_units(&mut octets, part.as_slice(), last)?;
-    Ok(octets)
-}
+/// A TSDU has at most 1,048,576 octets.
+const LONGEST: Last = Last {
+    header: &[3, 0, 0, 135, 2, 0xF0, 0x80],
+    octets: &[0; 128],
+    behind: &[],
+    lines: b"octets 128\n    tsdu 1048576\n    fault 0 UnknownSi\nrest 0\n",
+};
 
-/// The listing of octets ends so.
-fn is_listed(alloc: Global, text: &mut Vec<u8>, octets: &[u8], lines: &[u8]) -> Result<(), Fail> {
-    list(alloc, text, octets)?;
-    if !text.as_slice().ends_with(lines) {
-        return Err(Fail::from("another listing"));
-    }
-    Ok(())
-}
+const TOO_LONG: Last = Last {
+    header: &[3, 0, 0, 136, 2, 0xF0, 0x80],
+    octets: &[0; 129],
+    behind: &[],
+    lines: b"octets 129\n  fault 0 TsduTooLong\nrest 0\n",
+};
 
-/// The listing of 16 data units of 65,528 octets, and then these octets, ends so.
-fn ends_so(rt: &HostRuntime, last: &[u8], lines: &[u8]) -> Result<(), Fail> {
-    let octets = behind_1_048_448(rt.alloc(), last)?;
-    is_listed(
-        rt.alloc(),
-        &mut Vec::new(rt.alloc()),
-        octets.as_slice(),
-        lines,
-    )
-}
-
-#[test]
-fn a_tsdu_has_at_most_1_048_576_octets(rt: HostRuntime) -> Result<(), Fail> {
-    let mut packet = [0; 136];
-    packet[..7].copy_from_slice(&[3, 0, 0, 135, 2, 0xF0, 0x80]);
-    ends_so(
-        &rt,
-        &packet[..135],
-        b"octets 128\n    tsdu 1048576\n    fault 0 UnknownSi\nrest 0\n",
-    )?;
-    packet[3] = 136;
-    ends_so(&rt, &packet, b"octets 129\n  fault 0 TsduTooLong\nrest 0\n")
-}
-
-#[test]
-fn what_is_too_long_is_dropped_up_to_its_end(rt: HostRuntime) -> Result<(), Fail> {
-    let mut octets = [0; 136 + 7 + 7];
-    octets[..7].copy_from_slice(&[3, 0, 0, 136, 2, 0xF0, 0]);
-    octets[136..143].copy_from_slice(&[3, 0, 0, 7, 2, 0xF0, 0x80]);
-    octets[143..].copy_from_slice(&[3, 0, 0, 7, 2, 0xF0, 0x80]);
-    ends_so(
-        &rt,
-        &octets,
-        b"octets 129
+/// What is too long is dropped up to its end.
+const DROPPED: Last = Last {
+    header: &[3, 0, 0, 136, 2, 0xF0, 0],
+    octets: &[0; 129],
+    behind: &[3, 0, 0, 7, 2, 0xF0, 0x80, 3, 0, 0, 7, 2, 0xF0, 0x80],
+    lines: b"octets 129
   fault 0 TsduTooLong
 packet 1048696 length 7 code f0
   DT number 0 eot 1 octets 0
@@ -74,5 +45,51 @@ packet 1048703 length 7 code f0
     fault 0 LengthPastEnd
 rest 0
 ",
-    )
+};
+
+/// Adds 16 data units of 65,528 octets, and then the last packets.
+fn push_packets(out: &mut Vec<u8>, last: &Last) -> Result<(), AllocError> {
+    for _ in 0..16u8 {
+        out.extend_from_slice(&[3, 0, 255, 255, 2, 0xF0, 0])?;
+        out.extend_from_slice(&[0; 65_528])?;
+    }
+    out.extend_from_slice(last.header)?;
+    out.extend_from_slice(last.octets)?;
+    out.extend_from_slice(last.behind)
+}
+
+/// The answer of `list`.
+fn listed(alloc: Global, text: &mut Vec<u8>, octets: &[u8]) -> Result<u8, AllocError> {
+    list(alloc, text, octets)
+}
+
+/// The listing ends so.
+fn is_listed(
+    alloc: Global,
+    octets: &mut Vec<u8>,
+    text: &mut Vec<u8>,
+    last: &Last,
+) -> Result<(), Fail> {
+    push_packets(octets, last)?;
+    listed(alloc, text, octets.as_slice())?;
+    if !text.as_slice().ends_with(last.lines) {
+        return Err(Fail::from("another listing"));
+    }
+    Ok(())
+}
+
+/// The listing ends so, of octets and of a text that are new.
+fn ends_so(alloc: Global, last: &Last) -> Result<(), Fail> {
+    is_listed(alloc, &mut Vec::new(alloc), &mut Vec::new(alloc), last)
+}
+
+#[test]
+fn a_tsdu_has_at_most_1_048_576_octets(rt: HostRuntime) -> Result<(), Fail> {
+    ends_so(rt.alloc(), &LONGEST)?;
+    ends_so(rt.alloc(), &TOO_LONG)
+}
+
+#[test]
+fn what_is_too_long_is_dropped_up_to_its_end(rt: HostRuntime) -> Result<(), Fail> {
+    ends_so(rt.alloc(), &DROPPED)
 }

@@ -13,25 +13,33 @@ const CONNECT: [u8; 20] = [
     0x14, 0x02, 0x00, 0xB9,
 ];
 
-#[test]
-fn a_connect_is_written_as_it_is_read(rt: HostRuntime) -> Result<(), Fail> {
-    let group = read_tsdu(&CONNECT)?;
-    let mut out = BytesMut::new(rt.alloc());
-    group.write(&mut out)?;
-    if out.as_slice() != CONNECT.as_slice() || group.written_len() != 20 {
+/// The units of a TSDU are written so again.
+fn is_written_again(out: &mut BytesMut, tsdu: &[u8]) -> Result<(), Fail> {
+    let group = read_tsdu(tsdu)?;
+    group.write(out)?;
+    if out.as_slice() != tsdu || group.written_len() != tsdu.len() {
         return Err(Fail::from("another written form"));
     }
     Ok(())
+}
+
+#[test]
+fn a_connect_is_written_as_it_is_read(rt: HostRuntime) -> Result<(), Fail> {
+    is_written_again(&mut BytesMut::new(rt.alloc()), &CONNECT)
+}
+
+/// The kind of the second unit of a minor point behind a token unit.
+fn kind_behind_a_token_unit(number: Serial) -> Option<Kind> {
+    let group = Group::behind_give_tokens(Spdu::minor_point(None, number, &[0x5A]));
+    Some(group.behind().next()?.kind())
 }
 
 /// A minor point behind a token unit is the second unit, and has room for four parameters.
 #[test]
 fn a_minor_point_stands_behind_a_token_unit(rt: HostRuntime) -> Result<(), Fail> {
     let number = Serial::new(1).ok_or("1 is a serial number")?;
-    let group = Group::behind_give_tokens(Spdu::minor_point(None, number, &[0x5A]));
-    let second = group.behind().next().ok_or("there is a second unit")?;
-    assert!(rt; matches!(second.kind(), Kind::MinorSyncPoint));
-    assert_eq!(rt; second.kind().codes().len(), 4);
+    let kind = kind_behind_a_token_unit(number).ok_or("there is a second unit")?;
+    assert!(rt; matches!(kind, Kind::MinorSyncPoint) && kind.codes().len() == 4);
     Ok(())
 }
 

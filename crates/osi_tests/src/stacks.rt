@@ -1,190 +1,107 @@
-//! Whole ends: what no script of `osi_runs` can ask for, and that calls succeed where memory is ample.
+//! Whole ends: what no script of `osi_runs` can ask for, and the addresses by which two connections of
+//! one port are told apart.
 
-use crate::sessions::{ALL_UNITS, ASKER_SIDES, ASKER_WISHES, DATA, sizes};
+use crate::sessions::{ALL_UNITS, ASKER_WISHES};
 use bitflags::Flags;
 use osi_carrier::{EndReason, OpenError, Ref};
 use osi_class::Local;
-use osi_session::{CallError, Indication, Request};
+use osi_session::Request;
 use osi_spdu::{Requirements, Serial, TsduSizes};
-use osi_stack::{Connect, ConnectError, Stack};
+use osi_stack::{Addresses, Connect, ConnectError, SessionSelector, Stack};
 use osi_tpdu::{SizeCode, Tsap, Window};
 use std::test::Fail;
 
-/// Class 0, size 0A and window 4.
-fn class_0() -> Result<Local, Fail> {
-    Ok(Local {
-        class0: true,
-        class2: false,
+const HERE: [u8; 4] = [0x48, 0x45, 0x52, 0x45];
+
+const ONE: [u8; 3] = [0x4F, 0x4E, 0x45];
+
+const TWO: [u8; 16] = [0x32; 16];
+
+/// A session address of 17 octets.
+const TOO_LONG: [u8; 17] = [0x41; 17];
+
+/// Two ends.
+#[derive(Drop)]
+struct Ends {
+    left: Stack,
+    right: Stack,
+}
+
+/// Two ends of class 2, with size 0A and window 4.
+fn two_ends(rt: &HostRuntime) -> Result<Ends, Fail> {
+    let local = Local {
+        class0: false,
+        class2: true,
         size: SizeCode::new(10).ok_or("size")?,
         window: Window::new(4).ok_or("window")?,
+    };
+    Ok(Ends {
+        left: Stack::caller(rt.alloc(), local),
+        right: Stack::called(rt.alloc(), local),
     })
 }
 
-pub fn asking<'a>() -> Result<Connect<'a>, Fail> {
+/// The answer where a connection is asked for.
+fn connect(stack: &mut Stack, connect: &Connect) -> Result<Ref, ConnectError> {
+    stack.connect(connect)
+}
+
+/// The connection is asked for, or refused.
+fn asks(stack: &mut Stack, asked: &Connect, refused: Option<ConnectError>) -> Result<(), Fail> {
+    match (connect(stack, asked), refused) {
+        (Ok(_), None) => Ok(()),
+        (Err(found), Some(wanted)) if found == wanted => Ok(()),
+        (Err(found), None) => Err(Fail::from(found)),
+        _ => Err(Fail::from("another answer")),
+    }
+}
+
+/// A connection for the user with this address, asked for by one that has none.
+fn asking(user: &[u8]) -> Result<Connect<'_>, Fail> {
     Ok(Connect {
         requirements: Requirements::from_bits_retain(ALL_UNITS),
         serial: Serial::new(1).ok_or("a serial number")?,
         wishes: ASKER_WISHES,
-        calling_tsap: None,
+        calling_tsap: Tsap::new(&HERE),
         called_tsap: None,
         calling_selector: None,
-        called_selector: None,
+        called_selector: Some(user),
         sizes: TsduSizes::NONE,
         user_data: &[],
     })
 }
 
-/// An end that asks for connections, in class 0.
-fn caller(rt: &HostRuntime) -> Result<Stack, Fail> {
-    Ok(Stack::caller(rt.alloc(), class_0()?))
-}
-
-/// An end that is asked for connections, in class 0.
-fn called(rt: &HostRuntime) -> Result<Stack, Fail> {
-    Ok(Stack::called(rt.alloc(), class_0()?))
-}
-
-/// The answer where a connection is asked for.
-fn connects(stack: &mut Stack, connect: &Connect) -> Result<Ref, ConnectError> {
-    stack.connect(connect)
-}
-
-/// The answer where a user asks for this on a connection.
-fn call(stack: &mut Stack, connection: u16, request: Request) -> Result<(), CallError> {
-    stack.call(Ref(connection), request)
-}
-
-/// How many of these octets an end uses.
-fn uses(stack: &mut Stack, octets: &[u8]) -> usize {
-    stack.feed(octets).used
-}
-
-/// The next indication, and whose it is.
-fn next(stack: &mut Stack) -> Option<(Ref, Indication)> {
-    stack.next_indication()
-}
-
-/// Why an end is over, if it is.
-fn ended(stack: &Stack) -> Option<EndReason> {
-    stack.ended()
-}
-
-/// A connection is asked for.
-pub fn asks(stack: &mut Stack, connect: &Connect) -> Result<(), Fail> {
-    connects(stack, connect)?;
-    Ok(())
-}
-
-/// A user asks for this on a connection.
-pub fn calls(stack: &mut Stack, connection: u16, request: Request) -> Result<(), Fail> {
-    call(stack, connection, request)?;
-    Ok(())
-}
-
-/// How many octets of data the next indication has.
-fn shown(stack: &mut Stack) -> Option<usize> {
-    match next(stack) {
-        Some((_, Indication::Data { user_data })) => Some(user_data.as_slice().len()),
-        Some(_) => Some(0),
-        None => None,
-    }
-}
-
-fn has_memory(stack: &Stack) -> Result<(), Fail> {
-    match ended(stack) {
-        Some(EndReason::NoMemory) => Err(Fail::from("out of memory")),
-        _ => Ok(()),
-    }
-}
-
-fn is_refused(stack: &mut Stack, connect: &Connect, want: ConnectError) -> Result<(), Fail> {
-    match connects(stack, connect) {
-        Err(error) if error == want => Ok(()),
-        _ => Err(Fail::from("another answer")),
-    }
-}
-
-/// A session address of 17 octets.
-const TOO_LONG: [u8; 17] = [0x41; 17];
-
-fn refuses_a_selector(stack: &mut Stack) -> Result<(), Fail> {
-    let connect = Connect {
-        called_selector: Some(&TOO_LONG),
-        ..asking()?
-    };
-    is_refused(stack, &connect, ConnectError::TooLong)
+/// A selector of 17 octets is refused, and so is what a called end asks for.
+fn refuse(ends: &mut Ends) -> Result<(), Fail> {
+    let not_caller = ConnectError::Open(OpenError::NotCaller);
+    asks(
+        &mut ends.left,
+        &asking(&TOO_LONG)?,
+        Some(ConnectError::TooLong),
+    )?;
+    asks(&mut ends.right, &asking(&ONE)?, Some(not_caller))
 }
 
 #[test]
-fn a_selector_has_at_most_16_octets(rt: HostRuntime) -> Result<(), Fail> {
-    refuses_a_selector(&mut caller(&rt)?)
+fn a_long_selector_and_a_called_end_are_refused(rt: HostRuntime) -> Result<(), Fail> {
+    refuse(&mut two_ends(&rt)?)
 }
 
-/// A connection is asked for with addresses and user data of these octets.
-fn asks_with<'a>(
-    stack: &mut Stack,
-    tsap: &[u8],
-    address: &'a [u8],
-    user_data: &'a [u8],
-) -> Result<(), Fail> {
-    let connect = Connect {
-        calling_tsap: Tsap::new(tsap),
-        called_tsap: Tsap::new(tsap),
-        calling_selector: Some(address),
-        called_selector: Some(address),
+/// A connection is asked for with addresses and user data of the greatest lengths.
+fn asks_at_length(left: &mut Stack, user_data: &[u8]) -> Result<(), Fail> {
+    let asked = Connect {
+        calling_tsap: Tsap::new(&[0x42; 32]),
+        called_tsap: Tsap::new(&[0x42; 32]),
+        calling_selector: Some(&TWO),
         user_data,
-        ..asking()?
+        ..asking(&TWO)?
     };
-    asks(stack, &connect)
+    asks(left, &asked, None)
 }
 
 #[test]
 fn a_connection_is_asked_for_at_the_greatest_lengths(rt: HostRuntime) -> Result<(), Fail> {
-    let octets = vec![in rt.alloc(); 0x41; 10_240]?;
-    asks_with(
-        &mut caller(&rt)?,
-        &[0x42; 32],
-        &[0x43; 16],
-        octets.as_slice(),
-    )
-}
-
-fn asks_for_nothing(right: &mut Stack) -> Result<(), Fail> {
-    let want = ConnectError::Open(OpenError::NotCaller);
-    is_refused(right, &asking()?, want)
-}
-
-#[test]
-fn a_called_end_asks_for_nothing(rt: HostRuntime) -> Result<(), Fail> {
-    asks_for_nothing(&mut called(&rt)?)
-}
-
-/// The CC of class 0 for connection 1, and a packet with an AC that accepts all units from number 1.
-const ANSWERS: [u8; 41] = [
-    0x03, 0x00, 0x00, 0x0E, 0x09, 0xD0, 0x00, 0x01, 0x00, 0x01, 0x00, 0xC0, 0x01, 0x0A, 0x03, 0x00,
-    0x00, 0x1B, 0x02, 0xF0, 0x80, 0x0E, 0x12, 0x05, 0x0C, 0x13, 0x01, 0x01, 0x16, 0x01, 0x02, 0x17,
-    0x01, 0x31, 0x1A, 0x01, 0x00, 0x14, 0x02, 0x00, 0xB9,
-];
-
-/// The octets of `ANSWERS` are used, and an indication is shown.
-fn is_answered(left: &mut Stack) -> Result<(), Fail> {
-    let used = uses(left, &ANSWERS);
-    has_memory(left)?;
-    match shown(left) {
-        Some(_) if used == ANSWERS.len() => Ok(()),
-        _ => Err(Fail::from("no connection")),
-    }
-}
-
-fn connects_and_sends(left: &mut Stack) -> Result<(), Fail> {
-    asks(left, &asking()?)?;
-    is_answered(left)?;
-    calls(left, 1, DATA)
-}
-
-#[test]
-fn an_end_connects_and_sends_data(rt: HostRuntime) -> Result<(), Fail> {
-    connects_and_sends(&mut caller(&rt)?)
+    asks_at_length(&mut two_ends(&rt)?.left, &[0x41; 10_240])
 }
 
 /// The other end is fed what one has to send.
@@ -193,131 +110,117 @@ fn feeds(from: &mut Stack, to: &mut Stack) {
     from.taken(fed.used);
 }
 
-/// Carries what one end has to send, up to an indication, which is answered with its octets of data.
-pub fn carry(from: &mut Stack, to: &mut Stack) -> Result<Option<usize>, Fail> {
+/// Why an end is over, if it is.
+fn ended(stack: &Stack) -> Option<EndReason> {
+    stack.ended()
+}
+
+/// Whether an indication is shown.
+fn shows(stack: &mut Stack) -> bool {
+    stack.next_indication().is_some()
+}
+
+/// Carries what one end has to send, up to an indication.
+fn carry(from: &mut Stack, to: &mut Stack) -> Result<bool, Fail> {
     feeds(from, to);
-    has_memory(to)?;
-    Ok(shown(to))
+    if ended(to) == Some(EndReason::NoMemory) {
+        return Err(Fail::from("out of memory"));
+    }
+    Ok(shows(to))
 }
 
-/// Two ends.
-#[derive(Drop)]
-pub struct Ends {
-    pub left: Stack,
-    pub right: Stack,
+fn is_user(address: &Option<SessionSelector>, user: &[u8]) -> bool {
+    match address {
+        None => false,
+        Some(address) => address.octets() == user,
+    }
 }
 
-/// Two ends of class 0.
-fn two_ends(rt: &HostRuntime) -> Result<Ends, Fail> {
-    let local = class_0()?;
-    Ok(Ends {
-        left: Stack::caller(rt.alloc(), local),
-        right: Stack::called(rt.alloc(), local),
-    })
+fn is_tsap(address: &Option<Tsap>, octets: &[u8]) -> bool {
+    match address {
+        None => false,
+        Some(address) => address.octets() == octets,
+    }
 }
 
-/// A connection is asked for whose TSDUs have at most 64 octets in both directions.
-fn asks_at_64(left: &mut Stack) -> Result<(), Fail> {
-    let connect = Connect {
-        sizes: sizes(64, 64)?,
-        ..asking()?
-    };
-    asks(left, &connect)
+/// The connection was asked for of this user, by one that has no address.
+fn name(addresses: &Addresses, user: &[u8]) -> bool {
+    is_tsap(&addresses.calling_tsap, &HERE)
+        && is_user(&addresses.called_selector, user)
+        && addresses.called_tsap.is_none()
+        && addresses.calling_selector.is_none()
 }
 
-fn accepts(right: &mut Stack) -> Result<(), Fail> {
-    let accept = Request::Accept {
-        requirements: Requirements::from_bits_retain(ALL_UNITS),
-        serial: Serial::new(1).ok_or("a serial number")?,
-        sides: ASKER_SIDES,
-        sizes: TsduSizes::NONE,
-        user_data: &[],
-    };
-    calls(right, 1, accept)
+fn addresses_at(end: &Stack, connection: u16) -> Option<Addresses> {
+    end.addresses(Ref(connection))
 }
 
-/// A connection of class 0 is opened whose TSDUs have at most 64 octets in both directions.
-fn open_at_64(left: &mut Stack, right: &mut Stack) -> Result<(), Fail> {
-    asks_at_64(left)?;
-    carry(left, right)?;
-    carry(right, left)?;
-    carry(left, right)?;
-    accepts(right)?;
-    carry(right, left)?;
+/// The connection was asked for of this user, or has no addresses.
+fn is_for(end: &Stack, connection: u16, user: Option<&[u8]>) -> Result<(), Fail> {
+    let addresses = addresses_at(end, connection);
+    match (&addresses, user) {
+        (None, None) => Ok(()),
+        (Some(addresses), Some(user)) if name(addresses, user) => Ok(()),
+        _ => Err(Fail::from("other addresses")),
+    }
+}
+
+/// At both ends the connection was asked for of this user, or has no addresses.
+fn are_for(ends: &Ends, connection: u16, user: Option<&[u8]>) -> Result<(), Fail> {
+    is_for(&ends.left, connection, user)?;
+    is_for(&ends.right, connection, user)
+}
+
+/// The CC comes, and then the CN.
+fn comes(ends: &mut Ends) -> Result<(), Fail> {
+    carry(&mut ends.right, &mut ends.left)?;
+    if !carry(&mut ends.left, &mut ends.right)? {
+        return Err(Fail::from("no indication"));
+    }
     Ok(())
 }
 
-/// How many octets an end has to send.
-fn to_send(stack: &Stack) -> usize {
-    stack.outgoing().len()
+/// A connection is asked for; its called end has no addresses before the CN comes.
+fn one_comes(ends: &mut Ends, connection: u16, user: &[u8]) -> Result<(), Fail> {
+    asks(&mut ends.left, &asking(user)?, None)?;
+    carry(&mut ends.left, &mut ends.right)?;
+    is_for(&ends.left, connection, Some(user))?;
+    is_for(&ends.right, connection, None)?;
+    comes(ends)
 }
 
-/// Data is sent in so many octets; or for want of memory no part of it.
-fn sends(left: &mut Stack, user_data: &[u8], octets: usize) -> Result<(), Fail> {
-    let called = call(left, 1, Request::Data { user_data });
-    let sent = to_send(left);
-    match called {
-        Ok(()) if sent == octets => Ok(()),
-        Err(CallError::OutOfMemory) if sent == 0 => Err(Fail::from("out of memory")),
-        _ => Err(Fail::from("others are sent")),
-    }
+/// Two connections are told apart.
+fn two_come(ends: &mut Ends) -> Result<(), Fail> {
+    one_comes(ends, 1, &ONE)?;
+    one_comes(ends, 2, &TWO)?;
+    are_for(ends, 1, Some(&ONE))?;
+    are_for(ends, 2, Some(&TWO))?;
+    are_for(ends, 3, None)
 }
 
-/// Data goes over in so many octets, and is shown.
-fn goes(left: &mut Stack, right: &mut Stack, user_data: &[u8], octets: usize) -> Result<(), Fail> {
-    sends(left, user_data, octets)?;
-    match carry(left, right)? {
-        Some(shown) if shown == user_data.len() => Ok(()),
-        _ => Err(Fail::from("another indication")),
-    }
-}
-
-fn all_goes(left: &mut Stack, right: &mut Stack, longest: &[u8]) -> Result<(), Fail> {
-    open_at_64(left, right)?;
-    goes(left, right, &[0x41; 60], 71)?;
-    goes(left, right, &[0x41; 61], 89)?;
-    goes(left, right, longest, 1_306_116)
-}
-
-#[test]
-fn data_goes_whole_or_in_parts(rt: HostRuntime) -> Result<(), Fail> {
-    let octets = vec![in rt.alloc(); 0x41; 1_048_572]?;
-    let mut ends = two_ends(&rt)?;
-    all_goes(&mut ends.left, &mut ends.right, octets.as_slice())
-}
-
-/// A piece within the parts of one Data is fed, and nothing is shown; for want of memory the end is over.
-fn joins(right: &mut Stack, piece: &[u8]) -> Result<(), Fail> {
-    let used = uses(right, piece);
-    match (ended(right), shown(right)) {
-        (None, None) if used == piece.len() => Ok(()),
-        (Some(EndReason::NoMemory), Some(_)) => Err(Fail::from("out of memory")),
-        _ => Err(Fail::from("another end")),
-    }
-}
-
-/// The first 142 octets of three parts are joined.
-fn joins_two(left: &mut Stack, right: &mut Stack) -> Result<(), Fail> {
-    let Some((earlier, _)) = left.outgoing().split_at_checked(142) else {
-        return Err(Fail::from("too few octets"));
-    };
-    joins(right, earlier)?;
-    left.taken(142);
+/// A user refuses a connection.
+fn refuses(right: &mut Stack) -> Result<(), Fail> {
+    right.call(Ref(1), Request::Refuse { user_data: &[] })?;
     Ok(())
 }
 
-fn parts_go_on(left: &mut Stack, right: &mut Stack) -> Result<(), Fail> {
-    open_at_64(left, right)?;
-    sends(left, &[0x41; 150], 192)?;
-    joins_two(left, right)?;
-    match carry(left, right)? {
-        Some(150) => Ok(()),
-        _ => Err(Fail::from("another indication")),
-    }
+/// The first connection is refused: an RF goes to the caller, whose DR is answered by a DC.
+fn one_goes(ends: &mut Ends) -> Result<(), Fail> {
+    refuses(&mut ends.right)?;
+    carry(&mut ends.right, &mut ends.left)?;
+    carry(&mut ends.left, &mut ends.right)?;
+    carry(&mut ends.right, &mut ends.left)?;
+    are_for(ends, 1, None)
+}
+
+fn are_told_apart(ends: &mut Ends) -> Result<(), Fail> {
+    two_come(ends)?;
+    one_goes(ends)?;
+    are_for(ends, 0, None)?;
+    are_for(ends, 2, Some(&TWO))
 }
 
 #[test]
-fn parts_come_one_by_one(rt: HostRuntime) -> Result<(), Fail> {
-    let mut ends = two_ends(&rt)?;
-    parts_go_on(&mut ends.left, &mut ends.right)
+fn connections_are_told_apart_by_whom_they_ask_for(rt: HostRuntime) -> Result<(), Fail> {
+    are_told_apart(&mut two_ends(&rt)?)
 }

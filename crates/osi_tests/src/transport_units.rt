@@ -38,7 +38,7 @@ const WRITTEN: [&[u8]; 16] = [
 ];
 
 /// The unit of a packet that has no other.
-fn only_unit(packet: &[u8]) -> Result<Tpdu<'_>, Fail>
+pub(crate) fn only_unit(packet: &[u8]) -> Result<Tpdu<'_>, Fail>
     ensures fits { IfOk result (λ unit. Fits (value unit)) }
     ensures room { IfOk result (λ unit. HasRoom (value unit)) }
 {
