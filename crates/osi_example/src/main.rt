@@ -22,8 +22,8 @@ struct Ends {
     called: Stack,
 }
 
-/// What went wrong, where something did: the program ends with it.
-fn failed<E: Drop>(_error: E) -> io::Error {
+/// The program ends with this where something went wrong.
+fn failed() -> io::Error {
     io::Error::from(io::ErrorKind::Other)
 }
 
@@ -94,16 +94,31 @@ fn show<R: Print>(rt: &R, name: &str, of: Ref, indication: &Indication) -> io::R
     println!(rt; "{name}, connection {reference}, {what}: {text}")
 }
 
+/// The next indication of an end, and whose it is.
+fn next(end: &mut Stack) -> Option<(Ref, Indication)> {
+    end.next_indication()
+}
+
+/// Prints what the user of an end is shown next; false where that is nothing.
+fn show_next<R: Print>(rt: &R, end: &mut Stack, name: &str) -> io::Result<bool> {
+    match next(end) {
+        Some((reference, indication)) => {
+            show(rt, name, reference, &indication)?;
+            Ok(true)
+        }
+        None => Ok(false),
+    }
+}
+
 /// Feeds what comes to an end, and prints what its user is shown.
 fn feed<R: Print>(rt: &R, to: &mut Stack, octets: &[u8], name: &str) -> io::Result<()> {
     let mut rest = octets;
     for _ in 0..=octets.len() {
         let fed = to.feed(rest);
         rest = &rest[fed.used..];
-        let Some((reference, indication)) = to.next_indication() else {
+        if !show_next(rt, to, name)? {
             return Ok(());
-        };
-        show(rt, name, reference, &indication)?;
+        }
     }
     Ok(())
 }
@@ -131,22 +146,27 @@ fn exchange<R: Print + AllocGlobal>(rt: &R, ends: &mut Ends) -> io::Result<()> {
 }
 
 /// Two ends between which nothing has happened.
-fn two_ends(alloc: Global) -> Option<Ends> {
-    let local = local()?;
-    Some(Ends {
+fn two_ends(alloc: Global, local: Local) -> Ends {
+    Ends {
         caller: Stack::caller(alloc, local),
         called: Stack::called(alloc, local),
-    })
+    }
 }
 
 /// Asks for a connection.
 fn ask(caller: &mut Stack, serial: Serial) -> io::Result<Ref> {
-    caller.connect(&asked(serial)).map_err(failed)
+    match caller.connect(&asked(serial)) {
+        Ok(reference) => Ok(reference),
+        Err(_) => Err(failed()),
+    }
 }
 
 /// Calls for the user of an end.
 fn call(end: &mut Stack, reference: Ref, request: Request) -> io::Result<()> {
-    end.call(reference, request).map_err(failed)
+    match end.call(reference, request) {
+        Ok(()) => Ok(()),
+        Err(_) => Err(failed()),
+    }
 }
 
 /// A connection is asked for and accepted, and data is sent.
@@ -163,8 +183,8 @@ fn talk<R: Print + AllocGlobal>(rt: &R, ends: &mut Ends, serial: Serial) -> io::
 }
 
 fn main(rt: HostRuntime) -> io::Result<()> {
-    let (Some(mut ends), Some(serial)) = (two_ends(rt.alloc()), Serial::new(0)) else {
-        return Err(failed(()));
+    let (Some(local), Some(serial)) = (local(), Serial::new(0)) else {
+        return Err(failed());
     };
-    talk(&rt, &mut ends, serial)
+    talk(&rt, &mut two_ends(rt.alloc(), local), serial)
 }
