@@ -11,11 +11,11 @@ use Rattle.osi_script.specs.declared.sides.Side.TheVariants.{Left, Right}
 use Rattle.osi_script.specs.declared.verbs.Verb.{Verb}
 use Rattle.osi_script.specs.declared.verbs.Verb.TheVariants.{Accept, Refuse, Data, Give, Please, Minor, MinorConfirm, Major, MajorConfirm, Restart, RestartConfirm, Release, ReleaseAccept, ReleaseRefuse, Abort}
 use Rattle.osi_script.specs.Names.{side_name, verb_name, all_verbs}
-use Rattle.osi_script.specs.Words.{◌>>=◌, is, is_digit, number_behind, number_to, words_of, side_of, verb_of, first_named}
+use Rattle.osi_script.specs.Words.{◌>>=◌, only_word, first_of_two, is, is_digit, number_behind, number_to, words_of, side_of, verb_of, first_named}
 use Rattle.osi_session.specs.Calls.{Call}
 use Rattle.osi_script.proofs.VerbNames.{verb_read}
-use Rattle.osi_script.specs.Calls.{call_of, accept_of, plain_data, give_of, please_of, minor_of, minor_confirm_of, restart_of, restart_confirm_of}
-use Rattle.osi_script.specs.Commands.{Command, OfUser, Carry, command_in, command_of, carry_of, user_call, data_word, user_data_of, last_of, fourth_or, behind_accept}
+use Rattle.osi_script.specs.Calls.{call_of, accept_of, plain_of, plain_data, give_of, please_of, minor_of, minor_confirm_of, restart_of, restart_confirm_of}
+use Rattle.osi_script.specs.Commands.{Command, OfUser, Carry, command_in, command_of, carry_of, named_call, user_call, data_word, user_data_of, last_of, fourth_or, behind_accept}
 use Rattle.osi_script.specs.Fronts.{data_behind, spelled}
 
 no_blank_at : (octet : ℕ) (behind : List ℕ) → is_byte 32 octet ≡ false → words_of (octet ∷ behind) ≡ onto_first octet (words_of behind)
@@ -188,7 +188,7 @@ number_alone most n word h = digits_alone word (all_digits most n word (other_gi
 
 carried_so : (side : Side) (digits : List ℕ) (n : ℕ) (user : Option (List ℕ)) → Some n ≡ number_to 4294967295 digits →
     Some (Carry side n) ≡ command_in (codes "carry" ∷ side_name side ∷ digits ∷ []) user
-unfolding command_in carry_of side_of
+unfolding command_in carry_of side_of only_word
 carried_so Left digits n user h = ap (λ (k : Option ℕ). k >>= (λ (m : ℕ). Some (Carry Left m))) h
 carried_so Right digits n user h = ap (λ (k : Option ℕ). k >>= (λ (m : ℕ). Some (Carry Right m))) h
 
@@ -229,7 +229,7 @@ last_of_call a b c next words =
 
 -- no call has no word behind its verb
 no_words : (v : Verb) (a b : Option (List ℕ)) → call_of v [] a ≡ call_of v [] b
-unfolding call_of accept_of plain_data give_of please_of minor_of minor_confirm_of restart_of restart_confirm_of
+unfolding call_of accept_of plain_of plain_data give_of please_of minor_of minor_confirm_of restart_of restart_confirm_of only_word first_of_two
 no_words Accept a b = refl
 no_words Refuse a b = refl
 no_words Data a b = refl
@@ -286,7 +286,7 @@ calling side n call = call >>= (λ (c : Call). Some (OfUser side n c))
 called_so : (side : Side) (connection : List ℕ) (v : Verb) (words : List (List ℕ)) (n : ℕ) (user : Option (List ℕ)) →
     Some n ≡ number_to 65535 connection →
     calling side n (call_of v words user) ≡ command_in (side_name side ∷ connection ∷ verb_name v ∷ words) user
-unfolding command_in user_call side_of
+unfolding command_in user_call named_call side_of
 called_so Left connection v words n user h =
     ap (λ (o : Option Verb). o >>= (λ (w : Verb). calling Left n (call_of w words user))) (sym (verb_read v))
     ∙ ap (λ (k : Option ℕ). k >>= (λ (m : ℕ). verb_of (verb_name v) >>= (λ (w : Verb). calling Left m (call_of w words user)))) h

@@ -20,8 +20,8 @@ use Rattle.osi_script.specs.declared.fronts.Frequent.{Frequent}
 use Rattle.osi_script.specs.Names.{side_name, verb_name}
 use Rattle.osi_script.proofs.Beginnings.{call_read}
 use Rattle.osi_script.specs.declared.fronts.Frequent.TheVariants as frequent
-use Rattle.osi_script.specs.Words.{◌>>=◌, is, words_of, data_of, answer_of, number_to}
-use Rattle.osi_script.specs.Calls.{call_of, plain_data, minor_of, minor_confirm_of}
+use Rattle.osi_script.specs.Words.{◌>>=◌, only_word, first_of_two, is, words_of, data_of, answer_of, number_to}
+use Rattle.osi_script.specs.Calls.{call_of, plain_of, plain_call, plain_data, minor_of, minor_confirm_of}
 use Rattle.osi_script.specs.Commands.{Command, OfUser, command_of, last_of}
 use Rattle.osi_script.specs.Fronts.{data_behind, spelled, made}
 
@@ -67,14 +67,14 @@ mapped None call = refl
 mapped (Some octets) call = refl
 
 pub data_read : (text : List ℕ) → call_of verb.Data (words_of text) (spelled (data_behind verb.Data (words_of text))) ≡ option_map (made frequent.Data) (data_of text)
-unfolding call_of plain_data
+unfolding call_of plain_of plain_call plain_data only_word
 data_read text =
-    one_word text (words_of text) (data_of text) (λ (words : List (List ℕ)). option_map call.Data (plain_data words (spelled (last_of words))))
-    (made frequent.Data) refl refl refl (λ w. refl) (λ w x more. refl)
+    one_word text (words_of text) (data_of text) (λ (words : List (List ℕ)). plain_of verb.Data words (spelled (last_of words)))
+    (made frequent.Data) refl refl refl (λ w. mapped (data_of w) (made frequent.Data)) (λ w x more. refl)
 
 pub minor_read : (text answer rest : List ℕ) (confirm : Bool) → words_of text ≡ answer ∷ words_of rest → Some confirm ≡ answer_of answer →
     call_of verb.Minor (words_of text) (spelled (data_behind verb.Minor (words_of text))) ≡ option_map (made (frequent.Minor confirm)) (data_of rest)
-unfolding call_of minor_of
+unfolding call_of minor_of first_of_two
 minor_read text answer rest confirm first said =
     ap (λ (words : List (List ℕ)). minor_of words (spelled (last_of words))) first
     ∙ one_word rest (words_of rest) (data_of rest) (λ (words : List (List ℕ)). minor_of (answer ∷ words) (spelled (last_of (answer ∷ words))))
@@ -86,7 +86,7 @@ minor_read text answer rest confirm first said =
 pub minor_confirm_read : (text number rest : List ℕ) (n : ℕ) → words_of text ≡ number ∷ words_of rest → Some n ≡ number_to 4294967295 number →
     call_of verb.MinorConfirm (words_of text) (spelled (data_behind verb.MinorConfirm (words_of text)))
     ≡ option_map (made (frequent.MinorConfirm n)) (data_of rest)
-unfolding call_of minor_confirm_of
+unfolding call_of minor_confirm_of first_of_two
 minor_confirm_read text number rest n first said =
     ap (λ (words : List (List ℕ)). minor_confirm_of words (spelled (last_of words))) first
     ∙ one_word rest (words_of rest) (data_of rest) (λ (words : List (List ℕ)). minor_confirm_of (number ∷ words) (spelled (last_of (number ∷ words))))

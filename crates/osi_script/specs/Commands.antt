@@ -12,7 +12,7 @@ use Rattle.osi_script.specs.declared.commands.Classes.TheVariants.{Zero, Two, Bo
 use Rattle.osi_script.specs.declared.commands.Command.{Command as InMemory}
 use Rattle.osi_script.specs.declared.commands.Command.TheVariants as memory
 use Rattle.osi_script.specs.declared.sides.Side.{Side}
-use Rattle.osi_script.specs.Words.{◌>>=◌, words_of, is, number_to, units_of, serial_of, size_of, window_of, classes_of, side_of, verb_of, wishes_of, sizes_of, data_of}
+use Rattle.osi_script.specs.Words.{◌>>=◌, words_of, only_word, is, number_to, units_of, serial_of, size_of, window_of, classes_of, side_of, verb_of, wishes_of, sizes_of, data_of}
 use Rattle.osi_script.specs.Calls.{call_of}
 
 abbrev pub has_class_0 : Classes → Bool
@@ -45,53 +45,66 @@ command_by (memory.Told side) = Told side
 
 -- ---- the words behind the first; user is what the word in the place of user data spells
 
-unfoldable pub ends_of : List (List ℕ) → Option Command
-ends_of (caller ∷ called ∷ size ∷ window ∷ []) = do
+unfoldable pub two_ends : (caller called size window : List ℕ) → Option Command
+two_ends caller called size window = do
   a ← classes_of caller
   b ← classes_of called
   s ← size_of size
   w ← window_of window
   Some (Ends a b s w)
+
+unfoldable pub ends_of : List (List ℕ) → Option Command
+ends_of (caller ∷ called ∷ size ∷ words) = do
+  window ← only_word words
+  two_ends caller called size window
 ends_of other = None
 
-unfoldable pub connect_of : List (List ℕ) → Option (List ℕ) → Option Command
-connect_of (units ∷ serial ∷ wishes ∷ word ∷ sizes) user = do
+unfoldable pub connecting : (units serial wishes : List ℕ) → List (List ℕ) → Option (List ℕ) → Option Command
+connecting units serial wishes sizes user = do
   u ← units_of units
   s ← serial_of serial
   w ← wishes_of wishes
   z ← sizes_of sizes
   octets ← user
   Some (Connect u s w z octets)
+
+unfoldable pub connect_of : List (List ℕ) → Option (List ℕ) → Option Command
+connect_of (units ∷ serial ∷ wishes ∷ word ∷ sizes) user = connecting units serial wishes sizes user
 connect_of other user = None
 
 unfoldable pub carry_of : List (List ℕ) → Option Command
-carry_of (side ∷ octets ∷ []) = do
+carry_of (side ∷ words) = do
+  octets ← only_word words
   s ← side_of side
   k ← number_to 4294967295 octets
   Some (Carry s k)
 carry_of other = None
 
 unfoldable pub break_of : List (List ℕ) → Option Command
-break_of (left ∷ right ∷ []) = do
+break_of (left ∷ words) = do
+  right ← only_word words
   l ← number_to 4294967295 left
   r ← number_to 4294967295 right
   Some (Break l r)
 break_of other = None
 
 unfoldable pub told_of : List (List ℕ) → Option Command
-told_of (side ∷ []) = do
+told_of words = do
+  side ← only_word words
   s ← side_of side
   Some (Told s)
-told_of other = None
 
 -- a call: its side, the connection, the verb, and the words behind it
-unfoldable pub user_call : List ℕ → List (List ℕ) → Option (List ℕ) → Option Command
-user_call side (reference ∷ verb ∷ words) user = do
+unfoldable pub named_call : (side reference verb : List ℕ) → List (List ℕ) → Option (List ℕ) → Option Command
+named_call side reference verb words user = do
   s ← side_of side
   r ← number_to 65535 reference
   v ← verb_of verb
   c ← call_of v words user
   Some (OfUser s r c)
+
+unfoldable pub user_call : List ℕ → List (List ℕ) → Option (List ℕ) → Option Command
+user_call side (reference ∷ verb ∷ words) user = named_call side reference verb words user
 user_call side other user = None
 
 -- the line with these words, of which the one in the place of user data spells this

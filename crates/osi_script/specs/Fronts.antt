@@ -2,6 +2,7 @@
 use Rattle.std.specs.Prelude.{ℕ, List, Option, Some, None}
 use Rattle.osi_session.specs.Calls.{Call}
 use Rattle.osi_session.specs.Calls as call
+use Rattle.osi_script.specs.declared.sides.Side.{Side}
 use Rattle.osi_script.specs.declared.fronts.Frequent.{Frequent}
 use Rattle.osi_script.specs.declared.fronts.Frequent.TheVariants as frequent
 use Rattle.osi_script.specs.declared.fronts.Front.{Front}
@@ -35,13 +36,21 @@ made frequent.Data octets = call.Data octets
 made (frequent.Minor confirm) octets = call.Minor confirm octets
 made (frequent.MinorConfirm number) octets = call.MinorConfirm number octets
 
+-- a frequent call, of which that word spells this
+abbrev pub frequent_command : Side → ℕ → Frequent → Option (List ℕ) → Option Command
+frequent_command side reference call user = do
+  octets ← user
+  Some (OfUser side reference (made call octets))
+
+-- a call by its verb and the words behind it
+abbrev pub call_command : Side → ℕ → Verb → List (List ℕ) → Option (List ℕ) → Option Command
+call_command side reference verb words user = do
+  call ← call_of verb words user
+  Some (OfUser side reference call)
+
 -- what a line asks for, of which that word spells this
 abbrev pub front_command : Front → Option (List ℕ) → Option Command
 front_command (front.Carry side octets) user = Some (Carry side octets)
-front_command (front.Frequent side reference call text) user = do
-  octets ← user
-  Some (OfUser side reference (made call octets))
-front_command (front.Call side reference verb words) user = do
-  call ← call_of verb (words_in words) user
-  Some (OfUser side reference call)
+front_command (front.Frequent side reference call text) user = frequent_command side reference call user
+front_command (front.Call side reference verb words) user = call_command side reference verb (words_in words) user
 front_command (front.Unread line) user = command_in (words_of line.now) user

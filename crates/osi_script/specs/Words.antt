@@ -31,6 +31,16 @@ Some x >>= f = f x
 abbrev pub words_of : List ℕ → List (List ℕ)
 words_of line = slice_split (λ octet. octet == 32) line
 
+-- the one word of some, where there is just one
+unfoldable pub only_word : List (List ℕ) → Option (List ℕ)
+only_word (word ∷ []) = Some word
+only_word other = None
+
+-- the first of some words, where there are just two
+unfoldable pub first_of_two : List (List ℕ) → Option (List ℕ)
+first_of_two (word ∷ last ∷ []) = Some word
+first_of_two other = None
+
 -- the same octets
 abbrev pub is : List ℕ → List ℕ → Bool
 is word name = pointwise nat_eq word name
@@ -75,11 +85,11 @@ tsdu_size_of word = do
 -- the sizes of what the asker and of what the answerer sends, where words for them are there
 unfoldable pub sizes_of : List (List ℕ) → Option TsduMaximumSize
 sizes_of [] = Some no_sizes
-sizes_of (asker ∷ answerer ∷ []) = do
+sizes_of (asker ∷ words) = do
+  answerer ← only_word words
   a ← tsdu_size_of asker
   b ← tsdu_size_of answerer
   Some (record { from_asker = a; from_answerer = b })
-sizes_of other = None
 
 abbrev pub short_of : List ℕ → ℕ
 short_of octets = slice_index octets 0 * 256 + slice_index octets 1

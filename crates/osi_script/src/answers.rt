@@ -15,7 +15,7 @@ use std::alloc::{AllocError, Global};
 use std::mem;
 
 /// Why no connection was asked for.
-#[derive(Clone, Copy, PartialEq, Eq, Debug)]
+#[derive(Clone, Copy)]
 pub enum ConnectRefusal {
     /// The transport refuses it.
     Open(OpenError),
@@ -26,7 +26,7 @@ pub enum ConnectRefusal {
 }
 
 /// Why an event that can be read does not fit behind the earlier ones.
-#[derive(Clone, Copy, PartialEq, Eq, Debug)]
+#[derive(Clone, Copy)]
 pub enum LineFault {
     /// A side is told of a break that was not there.
     NotBroken,
@@ -35,7 +35,7 @@ pub enum LineFault {
 }
 
 /// What is answered to the event of a line.
-#[derive(Clone, Copy, PartialEq, Eq, Debug)]
+#[derive(Clone, Copy)]
 pub enum Answer {
     /// The connection is asked for, and has this reference.
     Connecting(u16),

@@ -3,7 +3,7 @@
 ghost use Rattle.std.specs.Prelude.{◌≡◌, option_map, option_copied};
 ghost use Rattle.osi_spdu.specs.Fields.{bits_of};
 ghost use Rattle.osi_session.specs.Calls.{called_by};
-ghost use Rattle.osi_script.specs.Calls.{accept_of, plain_data, give_of, asking, please_of, minor_of, minor_confirm_of, restart_of, restart_confirm_of, call_of};
+ghost use Rattle.osi_script.specs.Calls.{accepted, accept_of, plain_data, plain_call, plain_of, give_of, asking, please_of, minor_of, minor_confirm_of, restarting, restart_of, restart_confirm_of, call_of};
 ghost use Rattle.osi_script.specs.Splitting.{words_in};
 
 use crate::splitting::Words;
@@ -15,19 +15,22 @@ use osi_spdu::TokenSet;
 /// The greatest number that a call can name.
 pub(crate) const MOST: u32 = 4_294_967_295;
 
-#[tactic(auto, unfolding(crate::specs::Calls::accept_of))]
-fn accept<'a>(mut words: Words, octets: Option<&'a [u8]>) -> Option<Request<'a>>
+/// An accept of these functional units, first number, sides and sizes.
+#[tactic(auto, unfolding(crate::specs::Calls::accepted))]
+fn accepted<'a>(
+    selected: &[u8],
+    first: &[u8],
+    stated: &[u8],
+    limits: Words,
+    octets: Option<&'a [u8]>,
+) -> Option<Request<'a>>
     ensures { option_map called_by result
-        ≡ accept_of (words_in words.entry) (option_copied octets.entry) }
+        ≡ accepted selected.now first.now stated.now (words_in limits.entry) (option_copied octets.entry) }
 {
-    let selected = words.next_word()?;
-    let first = words.next_word()?;
-    let stated = words.next_word()?;
-    words.next_word()?;
     let requirements = units(selected)?;
     let serial = serial(first)?;
     let sides = sides(stated)?;
-    let sizes = sizes(words)?;
+    let sizes = sizes(limits)?;
     let user_data = octets?;
     Some(Request::Accept {
         requirements,
@@ -38,27 +41,61 @@ fn accept<'a>(mut words: Words, octets: Option<&'a [u8]>) -> Option<Request<'a>>
     })
 }
 
+#[tactic(auto, unfolding(crate::specs::Calls::accept_of))]
+fn accept<'a>(mut words: Words, octets: Option<&'a [u8]>) -> Option<Request<'a>>
+    ensures { option_map called_by result
+        ≡ accept_of (words_in words.entry) (option_copied octets.entry) }
+{
+    let selected = words.next_word()?;
+    let first = words.next_word()?;
+    let stated = words.next_word()?;
+    words.next_word()?;
+    accepted(selected, first, stated, words, octets)
+}
+
 /// The user data of a call that has no other word.
 #[tactic(auto, unfolding(crate::specs::Calls::plain_data))]
-fn plain<'a>(mut words: Words, octets: Option<&'a [u8]>) -> Option<&'a [u8]>
+fn plain<'a>(words: Words, octets: Option<&'a [u8]>) -> Option<&'a [u8]>
     ensures { option_copied result
         ≡ plain_data (words_in words.entry) (option_copied octets.entry) }
 {
-    words.next_word()?;
-    let None = words.next_word() else {
-        return None;
-    };
+    words.only()?;
     octets
 }
 
+/// A call that has no other word than this user data.
+#[tactic(auto, unfolding(crate::specs::Calls::plain_call))]
+fn plain_call<'a>(verb: Verb, user_data: &'a [u8]) -> Option<Request<'a>>
+    ensures { option_map called_by result ≡ plain_call verb user_data.entry.now }
+{
+    match verb {
+        Verb::Refuse => Some(Request::Refuse { user_data }),
+        Verb::Data => Some(Request::Data { user_data }),
+        Verb::Major => Some(Request::Major { user_data }),
+        Verb::MajorConfirm => Some(Request::MajorConfirm { user_data }),
+        Verb::Release => Some(Request::Release { user_data }),
+        Verb::ReleaseAccept => Some(Request::ReleaseAccept { user_data }),
+        Verb::ReleaseRefuse => Some(Request::ReleaseRefuse { user_data }),
+        Verb::Abort => Some(Request::Abort { user_data }),
+        _ => None,
+    }
+}
+
+/// What a call asks for that has no other word than user data.
+#[tactic(auto, unfolding(crate::specs::Calls::plain_of))]
+fn plain_request<'a>(verb: Verb, words: Words, octets: Option<&'a [u8]>) -> Option<Request<'a>>
+    ensures { option_map called_by result
+        ≡ plain_of verb (words_in words.entry) (option_copied octets.entry) }
+{
+    let user_data = plain(words, octets)?;
+    plain_call(verb, user_data)
+}
+
 #[tactic(auto, unfolding(crate::specs::Calls::give_of))]
-fn give<'a>(mut words: Words) -> Option<Request<'a>>
+fn give<'a>(words: Words) -> Option<Request<'a>>
     ensures { option_map called_by result ≡ give_of (words_in words.entry) }
 {
-    let named = words.next_word()?;
-    let None = words.next_word() else {
-        return None;
-    };
+    let named = words.only()?;
     let tokens = tokens(named)?;
     Some(Request::Give { tokens })
 }
@@ -71,61 +108,44 @@ fn asking<'a>(tokens: TokenSet, user_data: &'a [u8]) -> Request<'a>
 }
 
 #[tactic(auto, unfolding(crate::specs::Calls::please_of))]
-fn please<'a>(mut words: Words, octets: Option<&'a [u8]>) -> Option<Request<'a>>
+fn please<'a>(words: Words, octets: Option<&'a [u8]>) -> Option<Request<'a>>
     ensures { option_map called_by result
         ≡ please_of (words_in words.entry) (option_copied octets.entry) }
 {
-    let named = words.next_word()?;
-    words.next_word()?;
-    let None = words.next_word() else {
-        return None;
-    };
+    let named = words.first_of_two()?;
     let tokens = tokens(named)?;
     let user_data = octets?;
     Some(asking(tokens, user_data))
 }
 
 #[tactic(auto, unfolding(crate::specs::Calls::minor_of))]
-fn minor<'a>(mut words: Words, octets: Option<&'a [u8]>) -> Option<Request<'a>>
+fn minor<'a>(words: Words, octets: Option<&'a [u8]>) -> Option<Request<'a>>
     ensures { option_map called_by result
         ≡ minor_of (words_in words.entry) (option_copied octets.entry) }
 {
-    let word = words.next_word()?;
-    words.next_word()?;
-    let None = words.next_word() else {
-        return None;
-    };
+    let word = words.first_of_two()?;
     let confirm = answer(word)?;
     let user_data = octets?;
     Some(Request::Minor { confirm, user_data })
 }
 
 #[tactic(auto, unfolding(crate::specs::Calls::minor_confirm_of))]
-fn minor_confirm<'a>(mut words: Words, octets: Option<&'a [u8]>) -> Option<Request<'a>>
+fn minor_confirm<'a>(words: Words, octets: Option<&'a [u8]>) -> Option<Request<'a>>
     ensures { option_map called_by result
         ≡ minor_confirm_of (words_in words.entry) (option_copied octets.entry) }
 {
-    let point = words.next_word()?;
-    words.next_word()?;
-    let None = words.next_word() else {
-        return None;
-    };
+    let point = words.first_of_two()?;
     let number = number(point, MOST)?;
     let user_data = octets?;
     Some(Request::MinorConfirm { number, user_data })
 }
 
-#[tactic(auto, unfolding(crate::specs::Calls::restart_of))]
-fn restart<'a>(mut words: Words, octets: Option<&'a [u8]>) -> Option<Request<'a>>
+/// A restart at this point, with these wishes.
+#[tactic(auto, unfolding(crate::specs::Calls::restarting))]
+fn restarting<'a>(point: &[u8], wished: &[u8], octets: Option<&'a [u8]>) -> Option<Request<'a>>
     ensures { option_map called_by result
-        ≡ restart_of (words_in words.entry) (option_copied octets.entry) }
+        ≡ restarting point.now wished.now (option_copied octets.entry) }
 {
-    let point = words.next_word()?;
-    let wished = words.next_word()?;
-    words.next_word()?;
-    let None = words.next_word() else {
-        return None;
-    };
     let number = number(point, MOST)?;
     let wishes = wishes(wished)?;
     let user_data = octets?;
@@ -137,18 +157,24 @@ fn restart<'a>(mut words: Words, octets: Option<&'a [u8]>) -> Option<Request<'a>
 }
 
 #[tactic(auto, unfolding(crate::specs::Calls::restart_confirm_of))]
-fn restart_confirm<'a>(mut words: Words, octets: Option<&'a [u8]>) -> Option<Request<'a>>
+fn restart_confirm<'a>(words: Words, octets: Option<&'a [u8]>) -> Option<Request<'a>>
     ensures { option_map called_by result
         ≡ restart_confirm_of (words_in words.entry) (option_copied octets.entry) }
 {
-    let stated = words.next_word()?;
-    words.next_word()?;
-    let None = words.next_word() else {
-        return None;
-    };
+    let stated = words.first_of_two()?;
     let sides = sides(stated)?;
     let user_data = octets?;
     Some(Request::RestartConfirm { sides, user_data })
+}
+
+#[tactic(auto, unfolding(crate::specs::Calls::restart_of))]
+fn restart<'a>(mut words: Words, octets: Option<&'a [u8]>) -> Option<Request<'a>>
+    ensures { option_map called_by result
+        ≡ restart_of (words_in words.entry) (option_copied octets.entry) }
+{
+    let point = words.next_word()?;
+    let wished = words.first_of_two()?;
+    restarting(point, wished, octets)
 }
 
 /// What a call asks for, by its verb and the words behind it, of which the one in the place of user data spells this.
@@ -159,35 +185,12 @@ pub(crate) fn request<'a>(verb: Verb, words: Words, octets: Option<&'a [u8]>) ->
 {
     match verb {
         Verb::Accept => accept(words, octets),
-        Verb::Refuse => Some(Request::Refuse {
-            user_data: plain(words, octets)?,
-        }),
-        Verb::Data => Some(Request::Data {
-            user_data: plain(words, octets)?,
-        }),
         Verb::Give => give(words),
         Verb::Please => please(words, octets),
         Verb::Minor => minor(words, octets),
         Verb::MinorConfirm => minor_confirm(words, octets),
-        Verb::Major => Some(Request::Major {
-            user_data: plain(words, octets)?,
-        }),
-        Verb::MajorConfirm => Some(Request::MajorConfirm {
-            user_data: plain(words, octets)?,
-        }),
         Verb::Restart => restart(words, octets),
         Verb::RestartConfirm => restart_confirm(words, octets),
-        Verb::Release => Some(Request::Release {
-            user_data: plain(words, octets)?,
-        }),
-        Verb::ReleaseAccept => Some(Request::ReleaseAccept {
-            user_data: plain(words, octets)?,
-        }),
-        Verb::ReleaseRefuse => Some(Request::ReleaseRefuse {
-            user_data: plain(words, octets)?,
-        }),
-        Verb::Abort => Some(Request::Abort {
-            user_data: plain(words, octets)?,
-        }),
+        _ => plain_request(verb, words, octets),
     }
 }

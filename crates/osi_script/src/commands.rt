@@ -10,7 +10,7 @@ use osi_spdu::{Requirements, Serial, TokenSetting, TsduSizes};
 use osi_tpdu::{SizeCode, Window};
 
 /// The classes of the transport protocol that an end supports (X.224 section 5.4).
-#[derive(Clone, Copy, PartialEq, Eq, Debug)]
+#[derive(Clone, Copy)]
 pub enum Classes {
     /// Class 0 alone.
     Zero,

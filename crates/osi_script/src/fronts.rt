@@ -7,7 +7,7 @@ ghost use Rattle.osi_script.specs.Calls.{call_of};
 ghost use Rattle.osi_session.specs.Calls.{called_by};
 ghost use Rattle.osi_script.specs.Commands.{Carry, command_by, command_of, data_word, fourth, behind_accept};
 ghost use Rattle.osi_script.specs.Splitting.{words_in};
-ghost use Rattle.osi_script.specs.Fronts.{front_command, front_data, data_behind, spelled, made};
+ghost use Rattle.osi_script.specs.Fronts.{frequent_command, call_command, front_command, front_data, data_behind, spelled, made};
 
 use crate::calls::{MOST, request};
 use crate::commands::Command;
@@ -171,13 +171,22 @@ fn asked<'a>(call: Frequent, user_data: &'a [u8]) -> Request<'a>
     }
 }
 
+/// The side and the connection that a line begins with, and what stands behind them.
+#[inline(always)]
+fn behind_connection(line: &[u8]) -> Option<(Side, &[u8], &[u8])>
+    ensures { IfSome result (λ first. words_of line.now ≡ side_name first.0 ∷ first.1.now ∷ words_of first.2.now) }
+{
+    let (side, behind) = behind_side(line)?;
+    let (connection, rest) = parted(behind)?;
+    Some((side, connection, rest))
+}
+
 /// A line that calls by a verb that scripts have often.
 #[inline(always)]
 fn frequent_call(line: &[u8]) -> Option<Front<'_>>
     ensures { IfSome result (λ front. front_command front (spelled (front_data front)) ≡ command_of line.now) }
 {
-    let (side, behind) = behind_side(line)?;
-    let (connection, rest) = parted(behind)?;
+    let (side, connection, rest) = behind_connection(line)?;
     let (verb, words) = behind_frequent_verb(rest)?;
     let (call, text) = read_frequent(verb, words)?;
     let reference = number(connection, 65_535)?;
@@ -225,8 +234,7 @@ fn carry(line: &[u8]) -> Option<Front<'_>>
 fn call(line: &[u8]) -> Option<Front<'_>>
     ensures { IfSome result (λ front. front_command front (spelled (front_data front)) ≡ command_of line.now) }
 {
-    let (side, text) = behind_side(line)?;
-    let (connection, rest) = parted(text)?;
+    let (side, connection, rest) = behind_connection(line)?;
     let (verb, words) = behind_verb(rest)?;
     let reference = number(connection, 65_535)?;
     Some(Front::Call {
@@ -298,6 +306,45 @@ fn data_behind<'l>(verb: Verb, words: Words<'l>) -> Option<&'l [u8]>
     }
 }
 
+/// What a frequent call asks for, of which the word in the place of user data spells this.
+#[inline(always)]
+fn frequent_call_of<'a>(
+    side: Side,
+    reference: u16,
+    call: Frequent,
+    octets: Option<&'a [u8]>,
+) -> Option<Command<'a>>
+    ensures { option_map command_by result
+        ≡ frequent_command side reference call (option_copied octets.entry) }
+{
+    let user_data = octets?;
+    Some(Command::Call {
+        side,
+        reference,
+        request: asked(call, user_data),
+    })
+}
+
+/// What a call by any verb asks for, of which the word in the place of user data spells this.
+#[inline(never)]
+fn any_call_of<'a>(
+    side: Side,
+    reference: u16,
+    verb: Verb,
+    words: Words,
+    octets: Option<&'a [u8]>,
+) -> Option<Command<'a>>
+    ensures { option_map command_by result
+        ≡ call_command side reference verb (words_in words.entry) (option_copied octets.entry) }
+{
+    let request = request(verb, words, octets)?;
+    Some(Command::Call {
+        side,
+        reference,
+        request,
+    })
+}
+
 impl<'l> Front<'l> {
     /// Reads a line up to its user data.
     #[inline(always)]
@@ -339,45 +386,13 @@ impl<'l> Front<'l> {
                 reference,
                 call,
                 ..
-            } => Some(Command::Call {
-                side,
-                reference,
-                request: asked(call, octets?),
-            }),
-            _ => self.any_command(octets),
-        }
-    }
-
-    /// What any line asks for, of which the word in the place of user data spells this.
-    #[inline(never)]
-    fn any_command<'a>(&self, octets: Option<&'a [u8]>) -> Option<Command<'a>>
-        ensures { option_map command_by result ≡ front_command self.now (option_copied octets.entry) }
-    {
-        match *self {
-            Front::Carry { side, octets } => Some(Command::Carry { side, octets }),
-            Front::Frequent {
-                side,
-                reference,
-                call,
-                ..
-            } => Some(Command::Call {
-                side,
-                reference,
-                request: asked(call, octets?),
-            }),
+            } => frequent_call_of(side, reference, call, octets),
             Front::Call {
                 side,
                 reference,
                 verb,
                 words,
-            } => {
-                let request = request(verb, words, octets)?;
-                Some(Command::Call {
-                    side,
-                    reference,
-                    request,
-                })
-            }
+            } => any_call_of(side, reference, verb, words, octets),
             Front::Unread(line) => command(Words::of(line), octets),
         }
     }

@@ -1,7 +1,7 @@
 //! The lines of a script that are no calls, read.
 
 ghost use Rattle.std.specs.Prelude.{◌≡◌, option_map, option_copied};
-ghost use Rattle.osi_script.specs.Commands.{command_by, ends_of, connect_of, carry_of, break_of, told_of, user_call, command_in};
+ghost use Rattle.osi_script.specs.Commands.{command_by, two_ends, ends_of, connecting, connect_of, carry_of, break_of, told_of, named_call, user_call, command_in};
 ghost use Rattle.osi_script.specs.Splitting.{words_in};
 
 use crate::calls::request;
@@ -12,17 +12,11 @@ use crate::words::{classes, is, number, serial, side, size, sizes, units, verb, 
 /// The greatest count of octets.
 pub(crate) const MOST_OCTETS: u32 = 4_294_967_295;
 
-#[tactic(auto, unfolding(crate::specs::Commands::ends_of))]
-fn ends<'a>(mut words: Words) -> Option<Command<'a>>
-    ensures { option_map command_by result ≡ ends_of (words_in words.entry) }
+/// Two ends of these classes, size and window.
+#[tactic(auto, unfolding(crate::specs::Commands::two_ends))]
+fn two_ends<'a>(caller: &[u8], called: &[u8], code: &[u8], credit: &[u8]) -> Option<Command<'a>>
+    ensures { option_map command_by result ≡ two_ends caller.now called.now code.now credit.now }
 {
-    let caller = words.next_word()?;
-    let called = words.next_word()?;
-    let code = words.next_word()?;
-    let credit = words.next_word()?;
-    let None = words.next_word() else {
-        return None;
-    };
     let caller = classes(caller)?;
     let called = classes(called)?;
     let size = size(code)?;
@@ -35,19 +29,33 @@ fn ends<'a>(mut words: Words) -> Option<Command<'a>>
     })
 }
 
-#[tactic(auto, unfolding(crate::specs::Commands::connect_of))]
-fn connect<'a>(mut words: Words, octets: Option<&'a [u8]>) -> Option<Command<'a>>
-    ensures { option_map command_by result
-        ≡ connect_of (words_in words.entry) (option_copied octets.entry) }
+#[tactic(auto, unfolding(crate::specs::Commands::ends_of))]
+fn ends<'a>(mut words: Words) -> Option<Command<'a>>
+    ensures { option_map command_by result ≡ ends_of (words_in words.entry) }
 {
-    let offered = words.next_word()?;
-    let first = words.next_word()?;
-    let sides = words.next_word()?;
-    words.next_word()?;
+    let caller = words.next_word()?;
+    let called = words.next_word()?;
+    let code = words.next_word()?;
+    let credit = words.only()?;
+    two_ends(caller, called, code, credit)
+}
+
+/// A connect of these functional units, first number, wishes and sizes.
+#[tactic(auto, unfolding(crate::specs::Commands::connecting))]
+fn connecting<'a>(
+    offered: &[u8],
+    first: &[u8],
+    sides: &[u8],
+    limits: Words,
+    octets: Option<&'a [u8]>,
+) -> Option<Command<'a>>
+    ensures { option_map command_by result
+        ≡ connecting offered.now first.now sides.now (words_in limits.entry) (option_copied octets.entry) }
+{
     let requirements = units(offered)?;
     let serial = serial(first)?;
     let wishes = wishes(sides)?;
-    let sizes = sizes(words)?;
+    let sizes = sizes(limits)?;
     let user_data = octets?;
     Some(Command::Connect {
         requirements,
@@ -58,15 +66,24 @@ fn connect<'a>(mut words: Words, octets: Option<&'a [u8]>) -> Option<Command<'a>
     })
 }
 
+#[tactic(auto, unfolding(crate::specs::Commands::connect_of))]
+fn connect<'a>(mut words: Words, octets: Option<&'a [u8]>) -> Option<Command<'a>>
+    ensures { option_map command_by result
+        ≡ connect_of (words_in words.entry) (option_copied octets.entry) }
+{
+    let offered = words.next_word()?;
+    let first = words.next_word()?;
+    let sides = words.next_word()?;
+    words.next_word()?;
+    connecting(offered, first, sides, words, octets)
+}
+
 #[tactic(auto, unfolding(crate::specs::Commands::carry_of))]
 fn carry<'a>(mut words: Words) -> Option<Command<'a>>
     ensures { option_map command_by result ≡ carry_of (words_in words.entry) }
 {
     let name = words.next_word()?;
-    let octets = words.next_word()?;
-    let None = words.next_word() else {
-        return None;
-    };
+    let octets = words.only()?;
     let side = side(name)?;
     let octets = number(octets, MOST_OCTETS)?;
     Some(Command::Carry { side, octets })
@@ -77,34 +94,33 @@ fn breaks<'a>(mut words: Words) -> Option<Command<'a>>
     ensures { option_map command_by result ≡ break_of (words_in words.entry) }
 {
     let left = words.next_word()?;
-    let right = words.next_word()?;
-    let None = words.next_word() else {
-        return None;
-    };
+    let right = words.only()?;
     let left = number(left, MOST_OCTETS)?;
     let right = number(right, MOST_OCTETS)?;
     Some(Command::Break { left, right })
 }
 
 #[tactic(auto, unfolding(crate::specs::Commands::told_of))]
-fn told<'a>(mut words: Words) -> Option<Command<'a>>
+fn told<'a>(words: Words) -> Option<Command<'a>>
     ensures { option_map command_by result ≡ told_of (words_in words.entry) }
 {
-    let name = words.next_word()?;
-    let None = words.next_word() else {
-        return None;
-    };
+    let name = words.only()?;
     let side = side(name)?;
     Some(Command::Told { side })
 }
 
-#[tactic(auto, unfolding(crate::specs::Commands::user_call))]
-fn call<'a>(first: &[u8], mut words: Words, octets: Option<&'a [u8]>) -> Option<Command<'a>>
+/// A call of this side on this connection, by the name of its verb and the words behind it.
+#[tactic(auto, unfolding(crate::specs::Commands::named_call))]
+fn named_call<'a>(
+    first: &[u8],
+    connection: &[u8],
+    name: &[u8],
+    words: Words,
+    octets: Option<&'a [u8]>,
+) -> Option<Command<'a>>
     ensures { option_map command_by result
-        ≡ user_call first.now (words_in words.entry) (option_copied octets.entry) }
+        ≡ named_call first.now connection.now name.now (words_in words.entry) (option_copied octets.entry) }
 {
-    let connection = words.next_word()?;
-    let name = words.next_word()?;
     let side = side(first)?;
     let reference = number(connection, 65_535)?;
     let verb = verb(name)?;
@@ -116,7 +132,18 @@ fn call<'a>(first: &[u8], mut words: Words, octets: Option<&'a [u8]>) -> Option<
     })
 }
 
+#[tactic(auto, unfolding(crate::specs::Commands::user_call))]
+fn call<'a>(first: &[u8], mut words: Words, octets: Option<&'a [u8]>) -> Option<Command<'a>>
+    ensures { option_map command_by result
+        ≡ user_call first.now (words_in words.entry) (option_copied octets.entry) }
+{
+    let connection = words.next_word()?;
+    let name = words.next_word()?;
+    named_call(first, connection, name, words, octets)
+}
+
 /// What a line with these words asks for, of which the one in the place of user data spells this.
+#[inline(never)]
 #[tactic(auto, unfolding(crate::specs::Commands::command_in))]
 pub(crate) fn command<'a>(mut words: Words, octets: Option<&'a [u8]>) -> Option<Command<'a>>
     ensures { option_map command_by result

@@ -4,7 +4,7 @@ ghost use Rattle.std.specs.Prelude.{◌≡◌, ◌-◌, ◌∷◌, [], length, o
 ghost use Rattle.std.specs.List.{slice_get};
 ghost use Rattle.std.specs.Option.{option_map_or};
 ghost use Rattle.memchr.specs.Find.{IsFirstByte, is_byte};
-ghost use Rattle.osi_script.specs.Words.{words_of};
+ghost use Rattle.osi_script.specs.Words.{words_of, only_word, first_of_two};
 ghost use Rattle.osi_script.specs.Commands.{last_of};
 ghost use Rattle.osi_script.specs.Splitting.{words_in};
 
@@ -90,6 +90,30 @@ impl<'l> Words<'l> {
         let (word, rest) = first_word(line);
         self.rest = rest;
         Some(word)
+    }
+
+    /// The one word that is left, where just one is.
+    #[tactic(auto, unfolding(crate::specs::Words::only_word))]
+    pub(crate) fn only(mut self) -> Option<&'l [u8]>
+        ensures { option_copied result ≡ only_word (words_in self.entry) }
+    {
+        let word = self.next_word()?;
+        match self.next_word() {
+            None => Some(word),
+            Some(_) => None,
+        }
+    }
+
+    /// The first of the words that are left, where just two are.
+    #[tactic(auto, unfolding(crate::specs::Words::only_word, crate::specs::Words::first_of_two))]
+    pub(crate) fn first_of_two(mut self) -> Option<&'l [u8]>
+        ensures { option_copied result ≡ first_of_two (words_in self.entry) }
+    {
+        let word = self.next_word()?;
+        match self.only() {
+            Some(_) => Some(word),
+            None => None,
+        }
     }
 
     /// The last word, where there is one.

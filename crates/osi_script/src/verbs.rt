@@ -4,7 +4,7 @@ ghost use Rattle.std.specs.Prelude.{◌≡◌, ◌≤◌, length};
 ghost use Rattle.osi_script.specs.Names.{verb_name, all_verbs};
 
 /// What a call of the user of a session asks for (X.215 section 10), as a script names it.
-#[derive(Clone, Copy, PartialEq, Eq, Debug)]
+#[derive(Clone, Copy)]
 pub enum Verb {
     /// Accepts the connection.
     Accept,

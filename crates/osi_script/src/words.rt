@@ -1,6 +1,6 @@
 //! Words of a line: numbers, sets and sides.
 
-ghost use Rattle.std.specs.Prelude.{◌≡◌, ◌≤◌, ◌+◌, ◌*◌, ◌∷◌, ℕ, List, None, option_map, IfSome, IfNone};
+ghost use Rattle.std.specs.Prelude.{◌≡◌, ◌≤◌, ◌+◌, ◌*◌, ◌∷◌, [], ℕ, List, None, option_map, IfSome, IfNone};
 ghost use Rattle.osi_spdu.specs.Fields.{bits_of, unit_bits};
 ghost use Rattle.osi_spdu.specs.Sizes.{named_by, size_of as octets_of_size};
 ghost use Rattle.osi_tpdu.specs.Limits.{size_code, window_units};
@@ -132,10 +132,7 @@ pub(crate) fn sizes(mut words: Words) -> Option<TsduSizes>
     let Some(asker) = words.next_word() else {
         return Some(TsduSizes::NONE);
     };
-    let answerer = words.next_word()?;
-    let None = words.next_word() else {
-        return None;
-    };
+    let answerer = words.only()?;
     Some(TsduSizes {
         from_asker: tsdu_size(asker)?,
         from_answerer: tsdu_size(answerer)?,
@@ -240,20 +237,41 @@ fn settled_side(letter: u8) -> Option<osi_spdu::Side>
     }
 }
 
+/// The side that is wished for each token, by their letters.
+#[tactic(auto, unfolding(crate::specs::Words::wishes_of))]
+fn wished(data_token: u8, minor: u8, major: u8, release: u8) -> Option<TokenSetting>
+    ensures { result ≡ wishes_of (data_token ∷ minor ∷ major ∷ release ∷ []) }
+{
+    Some(TokenSetting {
+        data_token: wish(data_token)?,
+        minor: wish(minor)?,
+        major: wish(major)?,
+        release: wish(release)?,
+    })
+}
+
 /// The side that is wished for each token, a letter for each.
 #[tactic(auto, unfolding(crate::specs::Words::wishes_of))]
 pub(crate) fn wishes(word: &[u8]) -> Option<TokenSetting>
     ensures { result ≡ wishes_of word.now }
 {
-    match word {
-        [data_token, minor, major, release] => Some(TokenSetting {
-            data_token: wish(*data_token)?,
-            minor: wish(*minor)?,
-            major: wish(*major)?,
-            release: wish(*release)?,
-        }),
+    match *word {
+        [data_token, minor, major, release] => wished(data_token, minor, major, release),
         _ => None,
     }
+}
+
+/// The side that holds each token, by their letters.
+#[tactic(auto, unfolding(crate::specs::Words::sides_of))]
+fn settled(data_token: u8, minor: u8, major: u8, release: u8) -> Option<Sides>
+    ensures { result ≡ sides_of (data_token ∷ minor ∷ major ∷ release ∷ []) }
+{
+    Some(Sides {
+        data_token: settled_side(data_token)?,
+        minor: settled_side(minor)?,
+        major: settled_side(major)?,
+        release: settled_side(release)?,
+    })
 }
 
 /// The side that holds each token, a letter for each.
@@ -261,13 +279,8 @@ pub(crate) fn wishes(word: &[u8]) -> Option<TokenSetting>
 pub(crate) fn sides(word: &[u8]) -> Option<Sides>
     ensures { result ≡ sides_of word.now }
 {
-    match word {
-        [data_token, minor, major, release] => Some(Sides {
-            data_token: settled_side(*data_token)?,
-            minor: settled_side(*minor)?,
-            major: settled_side(*major)?,
-            release: settled_side(*release)?,
-        }),
+    match *word {
+        [data_token, minor, major, release] => settled(data_token, minor, major, release),
         _ => None,
     }
 }

@@ -1,7 +1,8 @@
+use Rattle.std.proofs.Common.{refl}
 use Rattle.osi_script.proofs.Frequents.{frequent_read}
 use Rattle.osi_script.proofs.fronts.frequent_call.Goals as goal
 
 pub returns : goal.returns
 returns c =
-    frequent_read _ _ _ _ c.in_ok-verb.words.now c.in_ok-call.text.now _ _ _ _ c.in_ok-side.ensures c.in_ok-connection.ensures
+    frequent_read _ _ _ _ c.in_ok-verb.words.now c.in_ok-call.text.now _ _ _ _ c.in_ok-side.ensures refl
     c.in_ok-verb.ensures c.in_ok-reference.ensures.value c.in_ok-call.ensures
