@@ -38,35 +38,45 @@ fn move_class2(from: &mut Class2, to: &mut Class2, tsdu: &[u8]) -> Option<Vec<u8
     to.next_tsdu()
 }
 
-/// Moves a TSDU so many times over a pair of links of class 0.
-pub(crate) fn over_class0(alloc: Global, tsdu: &[u8], rounds: usize) -> Moved {
-    let mut from = Class0::new(alloc, SizeCode::new(13));
-    let mut to = Class0::new(alloc, SizeCode::new(13));
+/// Moves a TSDU so many times over two ends of class 0.
+fn repeat_class0(from: &mut Class0, to: &mut Class0, tsdu: &[u8], rounds: usize) -> Moved {
     let mut moved = Moved::nothing();
     for _ in 0..rounds {
-        if let Some(whole) = move_class0(&mut from, &mut to, tsdu) {
+        if let Some(whole) = move_class0(from, to, tsdu) {
             moved = moved.with(whole.as_slice());
         }
     }
     moved
 }
 
-/// A link of class 2 with the largest size, window and first credit.
-fn open_class2(alloc: Global) -> Option<Class2> {
-    let window = Window::new(15)?;
-    let credit = Credit::new(15)?;
-    Some(Class2::new(alloc, SizeCode::new(13), window, credit))
+/// Moves a TSDU so many times over a pair of links of class 0.
+pub(crate) fn over_class0(alloc: Global, tsdu: &[u8], rounds: usize) -> Moved {
+    let mut from = Class0::new(alloc, SizeCode::new(13));
+    let mut to = Class0::new(alloc, SizeCode::new(13));
+    repeat_class0(&mut from, &mut to, tsdu, rounds)
 }
 
-/// Moves a TSDU so many times over a pair of links of class 2.
-pub(crate) fn over_class2(alloc: Global, tsdu: &[u8], rounds: usize) -> Option<Moved> {
-    let mut from = open_class2(alloc)?;
-    let mut to = open_class2(alloc)?;
+/// Moves a TSDU so many times over two ends of class 2.
+fn repeat_class2(from: &mut Class2, to: &mut Class2, tsdu: &[u8], rounds: usize) -> Moved {
     let mut moved = Moved::nothing();
     for _ in 0..rounds {
-        if let Some(whole) = move_class2(&mut from, &mut to, tsdu) {
+        if let Some(whole) = move_class2(from, to, tsdu) {
             moved = moved.with(whole.as_slice());
         }
     }
-    Some(moved)
+    moved
+}
+
+/// A link of class 2 with the largest size.
+fn class2(alloc: Global, window: Window, credit: Credit) -> Class2 {
+    Class2::new(alloc, SizeCode::new(13), window, credit)
+}
+
+/// Moves a TSDU so many times over a pair of links of class 2 with the largest window and first credit.
+pub(crate) fn over_class2(alloc: Global, tsdu: &[u8], rounds: usize) -> Option<Moved> {
+    let window = Window::new(15)?;
+    let credit = Credit::new(15)?;
+    let mut from = class2(alloc, window, credit);
+    let mut to = class2(alloc, window, credit);
+    Some(repeat_class2(&mut from, &mut to, tsdu, rounds))
 }

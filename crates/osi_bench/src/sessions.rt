@@ -1,6 +1,7 @@
 //! Data, a minor synchronization point and its confirmation, over a pair of sessions.
 
 use bitflags::Flags;
+use osi_message::Sent;
 use osi_session::{Opening, Request, Session, Sides};
 use osi_spdu::{Requirements, Serial, Side, TokenSetting, TsduSizes, Wish};
 use std::alloc::Global;
@@ -39,16 +40,18 @@ fn pass(tsdu: &[u8], to: &mut Session) -> bool {
     }
 }
 
+/// Hands what is sent to the other side: the octets of the TSDU.
+fn hand(sent: &Sent, to: &mut Session) -> Option<usize> {
+    match sent.tsdus() {
+        [tsdu] if pass(tsdu.as_slice(), to) => Some(tsdu.len()),
+        _ => None,
+    }
+}
+
 /// Makes a call at one side, and hands what it sends to the other: the octets of the TSDU.
 fn tell(from: &mut Session, request: Request, to: &mut Session) -> Option<usize> {
     let sent = from.call(request).ok()?;
-    let [tsdu] = sent.tsdus() else {
-        return None;
-    };
-    if !pass(tsdu.as_slice(), to) {
-        return None;
-    }
-    Some(tsdu.len())
+    hand(&sent, to)
 }
 
 /// Makes a call, and hands what it sends to nobody: the octets of the TSDU.
@@ -60,15 +63,15 @@ fn send(from: &mut Session, request: Request) -> Option<usize> {
     }
 }
 
+/// Sends the CN.
+fn ask(caller: &mut Session, called: &mut Session) -> Option<usize> {
+    let connect = caller.opened()?;
+    hand(&connect, called)
+}
+
 /// Sends the CN, and accepts it.
 fn open(caller: &mut Session, called: &mut Session, serial: Serial) -> Option<usize> {
-    let connect = caller.opened()?;
-    let [tsdu] = connect.tsdus() else {
-        return None;
-    };
-    if !pass(tsdu.as_slice(), called) {
-        return None;
-    }
+    ask(caller, called)?;
     let accept = Request::Accept {
         requirements: Requirements::from_bits_retain(UNITS),
         serial,
@@ -147,12 +150,16 @@ fn part(ends: &mut Ends, user_data: &[u8], number: usize) -> Option<usize> {
 /// So many rounds of this part over a new connection: the octets of their TSDUs modulo 2^64, up to
 /// the first round that fails.
 pub(crate) fn over_a_connection(alloc: Global, data: &[u8], rounds: usize, number: usize) -> u64 {
-    let Some(mut ends) = connected(alloc) else {
-        return 0;
-    };
+    match connected(alloc) {
+        Some(mut ends) => repeated(&mut ends, data, rounds, number),
+        None => 0,
+    }
+}
+
+fn repeated(ends: &mut Ends, data: &[u8], rounds: usize, number: usize) -> u64 {
     let mut octets: u64 = 0;
     for _ in 0..rounds {
-        let Some(more) = part(&mut ends, data, number) else {
+        let Some(more) = part(ends, data, number) else {
             break;
         };
         octets = octets.wrapping_add(more as u64);

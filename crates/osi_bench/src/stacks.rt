@@ -65,18 +65,31 @@ fn with(shown: Shown, indication: &Indication) -> Shown {
     }
 }
 
-/// Carries what is to be carried, up to what shows an indication; false where nothing was.
-fn carry_some(from: &mut Stack, to: &mut Stack, shown: &mut Shown) -> bool {
+/// Hands over what is to be carried, up to what shows an indication: whether it shows one; `None` where nothing was.
+fn hand_over(from: &mut Stack, to: &mut Stack) -> Option<bool> {
     let octets = from.outgoing();
     if octets.is_empty() {
-        return false;
+        return None;
     }
     let fed = to.feed(octets);
     from.taken(fed.used);
-    if fed.whole
-        && let Some((_, indication)) = to.next_indication()
-    {
+    Some(fed.whole)
+}
+
+/// Takes the next indication, where there is one.
+fn show(end: &mut Stack, shown: &mut Shown) {
+    if let Some((_, indication)) = end.next_indication() {
         *shown = with(*shown, &indication);
+    }
+}
+
+/// Carries what is to be carried, up to what shows an indication; false where nothing was.
+fn carry_some(from: &mut Stack, to: &mut Stack, shown: &mut Shown) -> bool {
+    let Some(whole) = hand_over(from, to) else {
+        return false;
+    };
+    if whole {
+        show(to, shown);
     }
     true
 }
@@ -137,13 +150,25 @@ fn accepted<'a>(serial: Serial) -> Request<'a> {
     }
 }
 
-/// Opens one more connection.
-fn open_one(ends: &mut Ends, serial: Serial, sizes: TsduSizes) -> Option<()> {
+/// Asks for one more connection.
+fn ask(ends: &mut Ends, serial: Serial, sizes: TsduSizes) -> Option<Ref> {
     let reference = ends.caller.connect(&asked(serial, sizes)).ok()?;
     exchange(ends, 3);
-    ends.called.call(reference, accepted(serial)).ok()?;
+    Some(reference)
+}
+
+/// Makes a call of the called end.
+#[inline(always)]
+fn answer(ends: &mut Ends, reference: Ref, request: Request) -> Option<()> {
+    ends.called.call(reference, request).ok()?;
     exchange(ends, 3);
     Some(())
+}
+
+/// Opens one more connection.
+fn open_one(ends: &mut Ends, serial: Serial, sizes: TsduSizes) -> Option<()> {
+    let reference = ask(ends, serial, sizes)?;
+    answer(ends, reference, accepted(serial))
 }
 
 /// Sends data on a connection.
@@ -155,18 +180,22 @@ fn data(ends: &mut Ends, reference: Ref, user_data: &[u8]) -> Option<()> {
     Some(())
 }
 
-/// A point on a connection, and its confirmation.
-fn confirmed(ends: &mut Ends, reference: Ref) -> Option<()> {
+/// A point on a connection: its number.
+fn point(ends: &mut Ends, reference: Ref) -> Option<u32> {
     let number = ends.caller.next_serial(reference);
     ends.caller.call(reference, MINOR).ok()?;
     exchange(ends, 3);
+    Some(number)
+}
+
+/// A point on a connection, and its confirmation.
+fn confirmed(ends: &mut Ends, reference: Ref) -> Option<()> {
+    let number = point(ends, reference)?;
     let confirm = Request::MinorConfirm {
         number,
         user_data: &[],
     };
-    ends.called.call(reference, confirm).ok()?;
-    exchange(ends, 3);
-    Some(())
+    answer(ends, reference, confirm)
 }
 
 /// Data, and where points are made a point and its confirmation.
@@ -178,26 +207,65 @@ fn round(ends: &mut Ends, reference: Ref, user_data: &[u8], points: bool) -> Opt
     Some(())
 }
 
-/// Two ends with so many connections, of which a TSDU has at most so many octets, 0 for no limit.
-fn connected(alloc: Global, connections: u16, class_two: bool, size: u16) -> Option<Ends> {
+/// Two ends with no connection.
+fn fresh(alloc: Global, local: Local) -> Ends {
+    Ends {
+        caller: Stack::caller(alloc, local),
+        called: Stack::called(alloc, local),
+        shown: Shown {
+            messages: 0,
+            octets: 0,
+        },
+    }
+}
+
+/// Opens so many connections, of which a TSDU has at most so many octets, 0 for no limit.
+fn open_all(ends: &mut Ends, connections: u16, size: u16) -> Option<()> {
     let size = TsduSize::new(size)?;
     let sizes = TsduSizes {
         from_asker: size,
         from_answerer: size,
     };
-    let mut ends = Ends {
-        caller: Stack::caller(alloc, local(class_two)?),
-        called: Stack::called(alloc, local(class_two)?),
-        shown: Shown {
-            messages: 0,
-            octets: 0,
-        },
-    };
     let serial = Serial::new(0)?;
     for _ in 0..connections {
-        open_one(&mut ends, serial, sizes)?;
+        open_one(ends, serial, sizes)?;
     }
-    Some(ends)
+    Some(())
+}
+
+/// So many rounds over so many connections, which take turns.
+fn take_turns(
+    ends: &mut Ends,
+    user_data: &[u8],
+    rounds: usize,
+    connections: u16,
+    points: bool,
+) -> Option<()> {
+    let mut reference = 0u16;
+    for _ in 0..rounds {
+        reference = if reference < connections {
+            reference + 1
+        } else {
+            1
+        };
+        round(ends, Ref(reference), user_data, points)?;
+    }
+    Some(())
+}
+
+/// So many rounds over two ends with no connection: a number of what their users were shown.
+fn over_ends(
+    ends: &mut Ends,
+    user_data: &[u8],
+    rounds: usize,
+    connections: u16,
+    points: bool,
+    size: u16,
+) -> Option<u64> {
+    open_all(ends, connections, size)?;
+    take_turns(ends, user_data, rounds, connections, points)?;
+    let Shown { messages, octets } = ends.shown;
+    Some(messages.wrapping_mul(1_000_003).wrapping_add(octets))
 }
 
 /// So many rounds over a pair of stacks with so many connections, at most 64, which take turns, and of
@@ -211,16 +279,7 @@ pub(crate) fn over_stacks(
     points: bool,
     size: u16,
 ) -> Option<u64> {
-    let mut ends = connected(alloc, connections, class_two, size)?;
-    let mut reference = 0u16;
-    for _ in 0..rounds {
-        reference = if reference < connections {
-            reference + 1
-        } else {
-            1
-        };
-        round(&mut ends, Ref(reference), user_data, points)?;
-    }
-    let Shown { messages, octets } = ends.shown;
-    Some(messages.wrapping_mul(1_000_003).wrapping_add(octets))
+    let local = local(class_two)?;
+    let mut ends = fresh(alloc, local);
+    over_ends(&mut ends, user_data, rounds, connections, points, size)
 }
