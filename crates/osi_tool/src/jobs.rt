@@ -1,7 +1,7 @@
 //! What the program can do.
 
 /// What the program is to do.
-#[derive(Clone, Copy, PartialEq, Eq, Debug)]
+#[derive(Clone, Copy)]
 pub enum Job {
     /// Lists the capture on standard input.
     Show,

@@ -21,6 +21,8 @@ use clap::Error;
 use clap::error::ErrorKind;
 use faults::{ProgramFault, ToolFault};
 use jobs::Job;
+use pairing::pair;
+use showing::show;
 use std::process::ExitCode;
 use std::rt::Env;
 use std::{env, io};
@@ -29,7 +31,8 @@ fn main(rt: HostRuntime) -> ExitCode {
     let status = match run(&rt) {
         Ok(status) => status,
         Err(fault) => {
-            let _ = eprintln!(&rt; "osi: {fault}");
+            let name = fault.name();
+            let _ = eprintln!(&rt; "osi: {name}");
             2
         }
     };
@@ -38,29 +41,38 @@ fn main(rt: HostRuntime) -> ExitCode {
 
 /// Does what the program's words ask for, and answers the status.
 fn run<R: Env + Input + Print + AllocGlobal>(rt: &R) -> Result<u8, ProgramFault> {
-    let words = words_of(rt)?;
-    match words::job(rt.alloc(), words.as_slice()) {
-        Ok(Job::Show) => {
-            let shown = showing::show(rt.alloc(), &mut rt.reader(), &mut io::writer(rt));
-            shown.map_err(ProgramFault::Tool)
-        }
-        Ok(Job::Pair) => {
-            let told = pairing::pair(rt.alloc(), &mut rt.reader(), &mut io::writer(rt));
-            told.map_err(ProgramFault::Tool)
-        }
+    answer(rt, words_of(rt)?.as_slice())
+}
+
+/// Does what words ask for, and answers the status.
+fn answer<R: Input + Print + AllocGlobal>(rt: &R, words: &[String]) -> Result<u8, ProgramFault> {
+    match words::job(rt.alloc(), words) {
+        Ok(job) => done(rt, job),
         Err(error) => explain(rt, &error),
+    }
+}
+
+/// Does a job, and answers the status.
+fn done<R: Input + Print + AllocGlobal>(rt: &R, job: Job) -> Result<u8, ProgramFault> {
+    let answer = match job {
+        Job::Show => show(rt.alloc(), &mut rt.reader(), &mut io::writer(rt)),
+        Job::Pair => pair(rt.alloc(), &mut rt.reader(), &mut io::writer(rt)),
+    };
+    match answer {
+        Ok(status) => Ok(status),
+        Err(fault) => Err(ProgramFault::Tool(fault)),
     }
 }
 
 /// The words that the program was called with.
 fn words_of<R: Env + AllocGlobal>(rt: &R) -> Result<Vec<String>, ProgramFault> {
+    let no_memory = Err(ProgramFault::Tool(ToolFault::OutOfMemory));
     match env::args(rt) {
-        Ok(words) => words
-            .collect(rt.alloc())
-            .map_err(|_| ProgramFault::Tool(ToolFault::OutOfMemory)),
-        Err(error) if error.kind() == io::ErrorKind::OutOfMemory => Err(ProgramFault::Tool(
-            ToolFault::OutOfMemory,
-        )),
+        Ok(words) => match words.collect(rt.alloc()) {
+            Ok(words) => Ok(words),
+            Err(_) => no_memory,
+        },
+        Err(error) if error.kind() == io::ErrorKind::OutOfMemory => no_memory,
         Err(_) => Err(ProgramFault::Words),
     }
 }

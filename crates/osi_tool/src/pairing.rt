@@ -5,7 +5,7 @@ ghost use Rattle.osi_tool.specs.Pairing.{Tells, Pairs};
 ghost use Rattle.osi_tool.specs.Show.{TakesAtMost};
 
 use crate::faults::ToolFault;
-use crate::showing::read_input;
+use crate::showing::{read_input, write_text};
 use crate::texts::LONGEST_INPUT;
 use osi_transcript::{Transcript, transcribe};
 use std::alloc::Global;
@@ -49,11 +49,6 @@ pub fn pair<R: Read, W: Write>(
 {
     let input = read_input(alloc, reader)?;
     let transcript = transcript_of(alloc, input.as_slice())?;
-    if writer.write_all(transcript.lines.as_slice()).is_err() {
-        return Err(ToolFault::Write);
-    }
-    if writer.flush().is_err() {
-        return Err(ToolFault::Write);
-    }
+    write_text(writer, transcript.lines.as_slice())?;
     Ok(transcript.status)
 }

@@ -55,6 +55,17 @@ fn keep(input: &mut Vec<u8>, piece: &[u8]) -> Result<bool, ToolFault>
     Ok(input.len() > LONGEST_INPUT)
 }
 
+/// Writes a text, and nothing else.
+pub(crate) fn write_text<W: Write>(writer: &mut W, text: &[u8]) -> Result<(), ToolFault>
+    ensures written { OnOk result (Appends (W.contents writer.old) (W.contents writer.new) text.now) }
+    ensures write { IfErr result (λ fault. fault ≡ ToolFault.Write) }
+{
+    if writer.write_all(text).is_err() || writer.flush().is_err() {
+        return Err(ToolFault::Write);
+    }
+    Ok(())
+}
+
 /// Lists the capture that a reader gives. The whole text is made before the first write.
 pub fn show<R: Read, W: Write>(
     alloc: Global,
@@ -76,11 +87,6 @@ pub fn show<R: Read, W: Write>(
 {
     let input = read_input(alloc, reader)?;
     let listed = list_text(alloc, input.as_slice())?;
-    if writer.write_all(listed.lines.as_slice()).is_err() {
-        return Err(ToolFault::Write);
-    }
-    if writer.flush().is_err() {
-        return Err(ToolFault::Write);
-    }
+    write_text(writer, listed.lines.as_slice())?;
     Ok(listed.status)
 }

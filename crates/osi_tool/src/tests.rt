@@ -7,16 +7,123 @@ use crate::showing::show;
 use crate::texts::LONGEST_INPUT;
 use crate::words::job;
 use clap::error::ErrorKind;
+use std::alloc::Global;
 use std::io;
 use std::io::{Read, Write};
 use std::test::Fail;
 
-/// What `show` answers to a text, and what it writes.
-fn shown(rt: &HostRuntime, text: &str) -> (Result<u8, ToolFault>, Vec<u8>) {
-    let mut out = Vec::new(rt.alloc());
-    let mut reader = text.as_bytes();
-    let answer = show(rt.alloc(), &mut reader, &mut out);
-    (answer, out)
+/// A reader that gives at most so many octets at a time, may fail behind them, and then has no more.
+#[derive(Drop)]
+struct Source<'a> {
+    octets: &'a [u8],
+    most: usize,
+    fails: bool,
+}
+
+impl Read for Source<'_> {
+    fn read(&mut self, buf: &mut [u8]) -> io::Result<usize> {
+        if self.octets.is_empty() && self.fails {
+            self.fails = false;
+            return Err(io::Error::from(io::ErrorKind::Other));
+        }
+        let room = buf.len().min(self.most);
+        self.octets.read(&mut buf[..room])
+    }
+}
+
+/// A writer that takes everything and fails to flush, or takes nothing.
+#[derive(Drop)]
+struct Broken {
+    takes: bool,
+}
+
+impl Write for Broken {
+    fn write(&mut self, buf: &[u8]) -> io::Result<usize> {
+        if self.takes {
+            return Ok(buf.len());
+        }
+        Err(io::Error::from(io::ErrorKind::Other))
+    }
+
+    fn flush(&mut self) -> io::Result<()> {
+        if self.takes {
+            return Err(io::Error::from(io::ErrorKind::Other));
+        }
+        Ok(())
+    }
+}
+
+/// Octets that come as many at a time as are asked for.
+fn at_once(octets: &[u8]) -> Source<'_> {
+    Source {
+        octets,
+        most: usize::MAX,
+        fails: false,
+    }
+}
+
+/// Octets that come one at a time, before a read fails.
+fn broken_off(octets: &[u8]) -> Source<'_> {
+    Source {
+        octets,
+        most: 1,
+        fails: true,
+    }
+}
+
+fn has_status(answer: Result<u8, ToolFault>, status: u8) -> Result<(), Fail> {
+    match answer {
+        Ok(answered) if answered == status => Ok(()),
+        _ => Err(Fail::from("another answer")),
+    }
+}
+
+fn has_fault(answer: Result<u8, ToolFault>, name: &str) -> Result<(), Fail> {
+    match answer {
+        Err(fault) if ProgramFault::Tool(fault).name() == name => Ok(()),
+        _ => Err(Fail::from("another answer")),
+    }
+}
+
+fn is_text(written: &[u8], lines: &str) -> Result<(), Fail> {
+    if written != lines.as_bytes() {
+        return Err(Fail::from("another text"));
+    }
+    Ok(())
+}
+
+fn ends_with(written: &[u8], lines: &str) -> Result<(), Fail> {
+    if !written.ends_with(lines.as_bytes()) {
+        return Err(Fail::from("another end of the text"));
+    }
+    Ok(())
+}
+
+/// What `show` answers.
+fn shown(alloc: Global, source: &mut Source<'_>, out: &mut Vec<u8>) -> Result<u8, ToolFault> {
+    show(alloc, source, out)
+}
+
+/// `show` writes these lines.
+fn lists(
+    alloc: Global,
+    source: &mut Source<'_>,
+    out: &mut Vec<u8>,
+    lines: &str,
+) -> Result<(), Fail> {
+    has_status(shown(alloc, source, out), 0)?;
+    is_text(out.as_slice(), lines)
+}
+
+/// `show` writes nothing, and answers a fault of this name.
+fn refuses(
+    alloc: Global,
+    source: &mut Source<'_>,
+    out: &mut Vec<u8>,
+    name: &str,
+) -> Result<(), Fail> {
+    has_fault(shown(alloc, source, out), name)?;
+    is_text(out.as_slice(), "")
 }
 
 const DATA: &str = "03 00 00 0D 02 F0 80 01 00 01 00 41 42";
@@ -29,243 +136,216 @@ const LISTED: &str = "packet 0 length 13 code f0
 rest 0
 ";
 
-#[test]
-fn captures_of_one_packet(rt: HostRuntime) {
-    let same = [
-        DATA,
-        "0300000d02f080010001004142",
-        "03\t00 0\r\n0 0d 02 f0 80 01 00 01 00 41 42\n",
-        "# data\n03 00 00 0D 02 F0 80 01 00 01 00 4# one\n1 42",
-        "03 00 00 0D 02 F0 80 01 00 01 00 41 42 # no line end \u{e9} 7",
-    ];
-    for text in same {
-        let (answer, out) = shown(&rt, text);
-        assert_eq!(rt; answer, Ok(0), "{text}");
-        assert!(rt; out.as_slice() == LISTED.as_bytes(), "{text}");
-    }
+/// Texts that capture the one packet of `DATA`.
+const SAME: [&str; 5] = [
+    DATA,
+    "0300000d02f080010001004142",
+    "03\t00 0\r\n0 0d 02 f0 80 01 00 01 00 41 42\n",
+    "# data\n03 00 00 0D 02 F0 80 01 00 01 00 4# one\n1 42",
+    "03 00 00 0D 02 F0 80 01 00 01 00 41 42 # no line end \u{e9} 7",
+];
+
+fn lists_the_packet(alloc: Global, text: &str) -> Result<(), Fail> {
+    let mut source = at_once(text.as_bytes());
+    lists(alloc, &mut source, &mut Vec::new(alloc), LISTED)
 }
 
 #[test]
-fn texts_that_are_no_captures(rt: HostRuntime) {
-    for text in ["0", "03 0", "03 0g", "03, 00", "0x03", "03 # 0\n0"] {
-        let (answer, out) = shown(&rt, text);
-        assert_eq!(rt; answer, Err(ToolFault::BadHex), "{text}");
-        assert!(rt; out.is_empty(), "{text}");
+fn captures_of_one_packet(rt: HostRuntime) -> Result<(), Fail> {
+    for text in SAME {
+        lists_the_packet(rt.alloc(), text)?;
     }
+    Ok(())
 }
 
-/// A reader that gives one octet at a time, fails after so many, and then has no more.
-#[derive(Drop)]
-struct Slow<'a> {
-    octets: &'a [u8],
-    fails: bool,
-}
+const NO_CAPTURES: [&str; 6] = ["0", "03 0", "03 0g", "03, 00", "0x03", "03 # 0\n0"];
 
-impl Read for Slow<'_> {
-    fn read(&mut self, buf: &mut [u8]) -> io::Result<usize> {
-        if buf.is_empty() {
-            return Ok(0);
-        }
-        let Some((first, rest)) = self.octets.split_first() else {
-            if self.fails {
-                self.fails = false;
-                return Err(io::Error::from(io::ErrorKind::Other));
-            }
-            return Ok(0);
-        };
-        buf[0] = *first;
-        self.octets = rest;
-        Ok(1)
-    }
+fn is_no_capture(alloc: Global, text: &str) -> Result<(), Fail> {
+    let mut source = at_once(text.as_bytes());
+    refuses(alloc, &mut source, &mut Vec::new(alloc), "BadHex")
 }
 
 #[test]
-fn a_reader_gives_octet_by_octet_or_fails(rt: HostRuntime) {
-    for (fails, wanted) in [(false, Ok(0)), (true, Err(ToolFault::Input))] {
-        let mut reader = Slow {
-            octets: DATA.as_bytes(),
-            fails,
-        };
-        let mut out = Vec::new(rt.alloc());
-        assert_eq!(rt; show(rt.alloc(), &mut reader, &mut out), wanted);
-        assert_eq!(rt; out.is_empty(), fails);
+fn texts_that_are_no_captures(rt: HostRuntime) -> Result<(), Fail> {
+    for text in NO_CAPTURES {
+        is_no_capture(rt.alloc(), text)?;
     }
+    Ok(())
 }
 
-/// A writer that takes nothing.
-#[derive(Drop)]
-struct Broken;
+fn is_listed_octet_by_octet(alloc: Global) -> Result<(), Fail> {
+    let mut source = Source {
+        octets: DATA.as_bytes(),
+        most: 1,
+        fails: false,
+    };
+    lists(alloc, &mut source, &mut Vec::new(alloc), LISTED)
+}
 
-impl Write for Broken {
-    fn write(&mut self, _buf: &[u8]) -> io::Result<usize> {
-        Err(io::Error::from(io::ErrorKind::Other))
-    }
-
-    fn flush(&mut self) -> io::Result<()> {
-        Ok(())
-    }
+fn is_not_read(alloc: Global) -> Result<(), Fail> {
+    let mut source = broken_off(DATA.as_bytes());
+    refuses(alloc, &mut source, &mut Vec::new(alloc), "Input")
 }
 
 #[test]
-fn a_write_fails(rt: HostRuntime) {
-    let mut reader = DATA.as_bytes();
-    assert_eq!(rt;
-        show(rt.alloc(), &mut reader, &mut Broken),
-        Err(ToolFault::Write)
-    );
+fn a_reader_gives_octet_by_octet_or_fails(rt: HostRuntime) -> Result<(), Fail> {
+    is_listed_octet_by_octet(rt.alloc())?;
+    is_not_read(rt.alloc())
 }
 
-/// A writer that takes everything, and fails to flush.
-#[derive(Drop)]
-struct Unflushed;
-
-impl Write for Unflushed {
-    fn write(&mut self, buf: &[u8]) -> io::Result<usize> {
-        Ok(buf.len())
-    }
-
-    fn flush(&mut self) -> io::Result<()> {
-        Err(io::Error::from(io::ErrorKind::Other))
-    }
+fn shown_to(alloc: Global, writer: &mut Broken) -> Result<u8, ToolFault> {
+    show(alloc, &mut at_once(DATA.as_bytes()), writer)
 }
 
 #[test]
-fn a_flush_fails(rt: HostRuntime) {
-    let mut reader = DATA.as_bytes();
-    assert_eq!(rt;
-        show(rt.alloc(), &mut reader, &mut Unflushed),
-        Err(ToolFault::Write)
-    );
+fn a_write_or_a_flush_fails(rt: HostRuntime) -> Result<(), Fail> {
+    for takes in [false, true] {
+        has_fault(shown_to(rt.alloc(), &mut Broken { takes }), "Write")?;
+    }
+    Ok(())
+}
+
+/// Blanks, one more than the longest input has octets.
+fn blanks(alloc: Global) -> Result<Vec<u8>, Fail> {
+    let blanks = vec![in alloc; b' '; LONGEST_INPUT + 1]?;
+    Ok(blanks)
+}
+
+fn are_too_many(alloc: Global, octets: &[u8], most: usize) -> Result<(), Fail> {
+    let mut source = Source {
+        octets,
+        most,
+        fails: false,
+    };
+    refuses(alloc, &mut source, &mut Vec::new(alloc), "Input")
+}
+
+fn are_no_packets(alloc: Global, octets: &[u8], most: usize) -> Result<(), Fail> {
+    let mut source = Source {
+        octets,
+        most,
+        fails: false,
+    };
+    lists(alloc, &mut source, &mut Vec::new(alloc), "rest 0\n")
+}
+
+/// All blanks but one are read.
+fn all_but_one_are_read(alloc: Global, blanks: &[u8], most: usize) -> Result<(), Fail> {
+    match blanks.split_first() {
+        Some((_, blanks)) => are_no_packets(alloc, blanks, most),
+        None => Err(Fail::from("no blanks")),
+    }
 }
 
 #[test]
 fn the_longest_input(rt: HostRuntime) -> Result<(), Fail> {
-    let blanks = vec![in rt.alloc(); b' '; LONGEST_INPUT + 1]?;
-    let mut out = Vec::new(rt.alloc());
-    let mut reader = blanks.as_slice();
-    assert_eq!(rt;
-        show(rt.alloc(), &mut reader, &mut out),
-        Err(ToolFault::Input)
-    );
-    assert!(rt; out.is_empty());
-    let mut reader = &blanks.as_slice()[1..];
-    assert_eq!(rt; show(rt.alloc(), &mut reader, &mut out), Ok(0));
-    assert!(rt; out.as_slice() == b"rest 0\n".as_slice());
-    Ok(())
+    all_but_one_are_read(rt.alloc(), blanks(rt.alloc())?.as_slice(), usize::MAX)
 }
 
-/// What `show` answers to so many blanks that come one at a time, and what it writes.
-fn shown_blank_by_blank(
-    rt: &HostRuntime,
-    count: usize,
-) -> Result<(Result<u8, ToolFault>, Vec<u8>), Fail> {
-    let blanks = vec![in rt.alloc(); b' '; count]?;
-    let mut reader = Slow {
-        octets: blanks.as_slice(),
-        fails: false,
-    };
-    let mut out = Vec::new(rt.alloc());
-    let answer = show(rt.alloc(), &mut reader, &mut out);
-    Ok((answer, out))
+#[test]
+fn an_octet_too_many(rt: HostRuntime) -> Result<(), Fail> {
+    are_too_many(rt.alloc(), blanks(rt.alloc())?.as_slice(), usize::MAX)
 }
 
 #[test]
 fn the_longest_input_octet_by_octet(rt: HostRuntime) -> Result<(), Fail> {
-    let (answer, out) = shown_blank_by_blank(&rt, LONGEST_INPUT)?;
-    assert_eq!(rt; answer, Ok(0));
-    assert!(rt; out.as_slice() == b"rest 0\n".as_slice());
-    Ok(())
+    all_but_one_are_read(rt.alloc(), blanks(rt.alloc())?.as_slice(), 1)
 }
 
 #[test]
 fn an_octet_too_many_octet_by_octet(rt: HostRuntime) -> Result<(), Fail> {
-    let (answer, out) = shown_blank_by_blank(&rt, LONGEST_INPUT + 1)?;
-    assert_eq!(rt; answer, Err(ToolFault::Input));
-    assert!(rt; out.is_empty());
-    Ok(())
+    are_too_many(rt.alloc(), blanks(rt.alloc())?.as_slice(), 1)
 }
 
-/// What the program prints of a fault.
-fn is_named(rt: &HostRuntime, fault: ProgramFault, name: &str) -> Result<(), Fail> {
-    if format!(in rt.alloc(); "{fault}")?.as_str() != name {
-        return Err(Fail::from("another name"));
-    }
-    Ok(())
-}
+/// What the program prints of each fault.
+const NAMES: [(ProgramFault, &str); 5] = [
+    (ProgramFault::Words, "Words"),
+    (ProgramFault::Tool(ToolFault::Input), "Input"),
+    (ProgramFault::Tool(ToolFault::BadHex), "BadHex"),
+    (ProgramFault::Tool(ToolFault::Write), "Write"),
+    (ProgramFault::Tool(ToolFault::OutOfMemory), "OutOfMemory"),
+];
 
 #[test]
-fn faults_are_named(rt: HostRuntime) -> Result<(), Fail> {
-    is_named(&rt, ProgramFault::Words, "Words")?;
-    is_named(&rt, ProgramFault::Tool(ToolFault::Input), "Input")?;
-    is_named(&rt, ProgramFault::Tool(ToolFault::BadHex), "BadHex")?;
-    is_named(&rt, ProgramFault::Tool(ToolFault::Write), "Write")?;
-    is_named(
-        &rt,
-        ProgramFault::Tool(ToolFault::OutOfMemory),
-        "OutOfMemory",
-    )
+fn faults_are_named(rt: HostRuntime) {
+    for (fault, name) in NAMES {
+        assert!(rt; fault.name() == name, "{name}");
+    }
+}
+
+/// Adds 128 packets of 65,535 octets, each with this data behind its units, and then blanks.
+fn push_packets(text: &mut Vec<u8>, data: &[u8]) -> Result<(), Fail> {
+    for _ in 0..128 {
+        text.extend_from_slice(b"0300ffff02f08001000100")?;
+        text.extend_from_slice(data)?;
+    }
+    text.extend_from_slice(&[b' '; 256])?;
+    Ok(())
 }
 
 /// A capture of 16,777,216 octets: 128 packets of 65,535, each with data of 65,524 octets, and blanks.
-fn the_longest_capture(rt: &HostRuntime) -> Result<Vec<u8>, Fail> {
-    let data = vec![in rt.alloc(); b'5'; 131_048]?;
-    let blanks = vec![in rt.alloc(); b' '; 256]?;
-    let mut text = Vec::new(rt.alloc());
-    for _ in 0..128 {
-        text.extend_from_slice(b"0300ffff02f08001000100")?;
-        text.extend_from_slice(data.as_slice())?;
+fn push_the_longest_capture(alloc: Global, text: &mut Vec<u8>) -> Result<(), Fail> {
+    let data = vec![in alloc; b'5'; 131_048]?;
+    push_packets(text, data.as_slice())
+}
+
+const LAST_LISTED: &str = "    tsdu 65528
+    GT
+    DT octets 65524
+rest 0
+";
+
+fn is_listed_to_its_end(alloc: Global, text: &[u8], out: &mut Vec<u8>) -> Result<(), Fail> {
+    if text.len() != LONGEST_INPUT {
+        return Err(Fail::from("another length"));
     }
-    text.extend_from_slice(blanks.as_slice())?;
-    Ok(text)
+    has_status(shown(alloc, &mut at_once(text), out), 0)?;
+    ends_with(out.as_slice(), LAST_LISTED)
+}
+
+fn the_longest_is_listed(alloc: Global, text: &mut Vec<u8>) -> Result<(), Fail> {
+    push_the_longest_capture(alloc, text)?;
+    is_listed_to_its_end(alloc, text.as_slice(), &mut Vec::new(alloc))
 }
 
 #[test]
 fn the_longest_capture_is_listed(rt: HostRuntime) -> Result<(), Fail> {
-    let text = the_longest_capture(&rt)?;
-    assert_eq!(rt; text.len(), LONGEST_INPUT);
-    let mut out = Vec::new(rt.alloc());
-    let mut reader = text.as_slice();
-    assert_eq!(rt; show(rt.alloc(), &mut reader, &mut out), Ok(0));
-    assert!(rt;
-        out.as_slice()
-            .ends_with(b"    tsdu 65528\n    GT\n    DT octets 65524\nrest 0\n")
-    );
-    Ok(())
+    the_longest_is_listed(rt.alloc(), &mut Vec::new(rt.alloc()))
 }
 
-/// The kind of error that the words give.
-fn refused(rt: &HostRuntime, words: &[&str]) -> Option<ErrorKind> {
-    match job(rt.alloc(), words) {
-        Ok(_) => None,
-        Err(error) => Some(error.kind()),
+/// The job that the words name.
+fn named(alloc: Global, words: &[&str]) -> Option<Job> {
+    match job(alloc, words) {
+        Ok(job) => Some(job),
+        Err(_) => None,
     }
 }
 
+/// The words give an error of this kind.
+fn is_refused(alloc: Global, words: &[&str], kind: ErrorKind) -> bool {
+    match job(alloc, words) {
+        Ok(_) => false,
+        Err(error) => error.kind() == kind,
+    }
+}
+
+/// Words that name no job, and the kind of error that they give.
+const NO_JOBS: [(&[&str], ErrorKind); 6] = [
+    (&["osi", "--help"], ErrorKind::DisplayHelp),
+    (&["osi", "help"], ErrorKind::DisplayHelp),
+    (&["osi", "--version"], ErrorKind::DisplayVersion),
+    (&["osi"], ErrorKind::MissingSubcommand),
+    (&["osi", "list"], ErrorKind::InvalidSubcommand),
+    (&["osi", "show", "x"], ErrorKind::UnknownArgument),
+];
+
 #[test]
 fn words_name_a_job(rt: HostRuntime) {
-    assert!(rt; matches!(job(rt.alloc(), &["osi", "show"]), Ok(Job::Show)));
-    assert!(rt; matches!(job(rt.alloc(), &["osi", "pair"]), Ok(Job::Pair)));
-    assert_eq!(rt;
-        refused(&rt, &["osi", "--help"]),
-        Some(ErrorKind::DisplayHelp)
-    );
-    assert_eq!(rt;
-        refused(&rt, &["osi", "help"]),
-        Some(ErrorKind::DisplayHelp)
-    );
-    assert_eq!(rt;
-        refused(&rt, &["osi", "--version"]),
-        Some(ErrorKind::DisplayVersion)
-    );
-    assert_eq!(rt; refused(&rt, &["osi"]), Some(ErrorKind::MissingSubcommand));
-    assert_eq!(rt;
-        refused(&rt, &["osi", "list"]),
-        Some(ErrorKind::InvalidSubcommand)
-    );
-    assert_eq!(rt;
-        refused(&rt, &["osi", "show", "x"]),
-        Some(ErrorKind::UnknownArgument)
-    );
+    assert!(rt; matches!(named(rt.alloc(), &["osi", "show"]), Some(Job::Show)));
+    assert!(rt; matches!(named(rt.alloc(), &["osi", "pair"]), Some(Job::Pair)));
+    for (words, kind) in NO_JOBS {
+        assert!(rt; is_refused(rt.alloc(), words, kind));
+    }
 }
 
 const SCRIPT: &str = "ends 0 0 10 4
@@ -279,36 +359,39 @@ left carried 14
 line 4 NotBroken
 ";
 
-#[test]
-fn a_script_is_run(rt: HostRuntime) {
-    let mut out = Vec::new(rt.alloc());
-    let mut reader = SCRIPT.as_bytes();
-    assert_eq!(rt; pair(rt.alloc(), &mut reader, &mut out), Ok(1));
-    assert!(rt; out.as_slice() == TOLD.as_bytes());
+/// What `pair` answers.
+fn told(alloc: Global, source: &mut Source<'_>, out: &mut Vec<u8>) -> Result<u8, ToolFault> {
+    pair(alloc, source, out)
+}
+
+fn is_told(alloc: Global, out: &mut Vec<u8>) -> Result<(), Fail> {
+    has_status(told(alloc, &mut at_once(SCRIPT.as_bytes()), out), 1)?;
+    is_text(out.as_slice(), TOLD)
 }
 
 #[test]
-fn a_script_is_not_read_or_its_transcript_not_written(rt: HostRuntime) {
-    let mut out = Vec::new(rt.alloc());
-    let mut reader = Slow {
-        octets: SCRIPT.as_bytes(),
-        fails: true,
-    };
-    assert_eq!(rt;
-        pair(rt.alloc(), &mut reader, &mut out),
-        Err(ToolFault::Input)
-    );
-    assert!(rt; out.is_empty());
-    let mut reader = SCRIPT.as_bytes();
-    assert_eq!(rt;
-        pair(rt.alloc(), &mut reader, &mut Broken),
-        Err(ToolFault::Write)
-    );
-    let mut reader = SCRIPT.as_bytes();
-    assert_eq!(rt;
-        pair(rt.alloc(), &mut reader, &mut Unflushed),
-        Err(ToolFault::Write)
-    );
+fn a_script_is_run(rt: HostRuntime) -> Result<(), Fail> {
+    is_told(rt.alloc(), &mut Vec::new(rt.alloc()))
+}
+
+fn told_to(alloc: Global, writer: &mut Broken) -> Result<u8, ToolFault> {
+    pair(alloc, &mut at_once(SCRIPT.as_bytes()), writer)
+}
+
+fn is_not_told(alloc: Global, out: &mut Vec<u8>) -> Result<(), Fail> {
+    has_fault(
+        told(alloc, &mut broken_off(SCRIPT.as_bytes()), out),
+        "Input",
+    )?;
+    is_text(out.as_slice(), "")
+}
+
+#[test]
+fn a_script_is_not_read_or_its_transcript_not_written(rt: HostRuntime) -> Result<(), Fail> {
+    for takes in [false, true] {
+        has_fault(told_to(rt.alloc(), &mut Broken { takes }), "Write")?;
+    }
+    is_not_told(rt.alloc(), &mut Vec::new(rt.alloc()))
 }
 
 /// The first lines of a long script: a connection is opened.
@@ -328,21 +411,26 @@ left 1 phase Ready held 01 next 0 below 0 lowest 0
 right 1 phase Ready held 00 next 0 below 0 lowest 0
 ";
 
-/// A script of 100,007 lines: data that is shown, an octet at a time.
-fn a_long_script(rt: &HostRuntime) -> Result<Vec<u8>, Fail> {
-    let mut script = Vec::from_slice(rt.alloc(), OPENED.as_bytes())?;
+/// Adds a script of 100,007 lines: data that is shown, an octet at a time.
+fn push_long_script(script: &mut Vec<u8>) -> Result<(), Fail> {
+    script.extend_from_slice(OPENED.as_bytes())?;
     for _ in 0..50_000 {
         script.extend_from_slice(b"left 1 data 41\ncarry left 999\n")?;
     }
-    Ok(script)
+    Ok(())
+}
+
+fn is_told_to_its_end(alloc: Global, script: &[u8], out: &mut Vec<u8>) -> Result<(), Fail> {
+    has_status(told(alloc, &mut at_once(script), out), 0)?;
+    ends_with(out.as_slice(), LAST_DATA)
+}
+
+fn all_lines_are_run(alloc: Global, script: &mut Vec<u8>) -> Result<(), Fail> {
+    push_long_script(script)?;
+    is_told_to_its_end(alloc, script.as_slice(), &mut Vec::new(alloc))
 }
 
 #[test]
 fn a_script_of_100_007_lines_is_run(rt: HostRuntime) -> Result<(), Fail> {
-    let script = a_long_script(&rt)?;
-    let mut out = Vec::new(rt.alloc());
-    let mut reader = script.as_slice();
-    assert_eq!(rt; pair(rt.alloc(), &mut reader, &mut out), Ok(0));
-    assert!(rt; out.as_slice().ends_with(LAST_DATA.as_bytes()));
-    Ok(())
+    all_lines_are_run(rt.alloc(), &mut Vec::new(rt.alloc()))
 }

@@ -1,8 +1,9 @@
 //! The words of the command line, and help.
 
-ghost use Rattle.std.specs.Prelude.{◌≡◌, ◌≢◌, true, Some, map, codes, option_map, IfOk, IfErr, IfSome, IfNone};
-ghost use Rattle.clap.specs.Words.{app_of, kind_of, takes};
-ghost use Rattle.osi_tool.specs.Words.{osi, name_of, named_by, IsJob};
+ghost use Rattle.std.specs.Prelude.{◌≡◌, ◌≢◌, true, false, Some, map, codes, option_map, IfOk, IfErr, IfSome, IfNone};
+ghost use Rattle.clap.specs.Words.{app_of, kind_of, new_app, shape_of, takes};
+ghost use Rattle.clap.specs.declared.builder.command.Command.TheViews.{out-Command as fields_of};
+ghost use Rattle.osi_tool.specs.Words.{osi, top, name_of, named_by, IsJob};
 
 use crate::jobs::Job;
 use clap::error::ErrorKind;
@@ -53,32 +54,69 @@ pub fn job<'a, S: AsStr>(alloc: Global, words: &'a [S]) -> Result<Job, Error>
         IsJob (named_by (map S.text words.entry.now)) →
         kind_of e ≡ ErrorKind.OutOfMemory) }
 {
-    let mut command = command(alloc)?;
-    let matches = match command.try_get_matches_from_mut(words) {
-        Ok(matches) => matches,
+    let name = match subcommand(alloc, words) {
+        Ok(name) => name,
         Err(error) => return Err(error),
     };
-    match job_named(matches.subcommand_name()) {
+    match job_named(name) {
         Some(job) => Ok(job),
-        None => Err(command.error(ErrorKind::MissingSubcommand, "no subcommand")?),
+        None => Err(no_subcommand(alloc)?),
     }
+}
+
+/// The name of the subcommand that the words ask for.
+fn subcommand<'a, S: AsStr>(alloc: Global, words: &'a [S]) -> Result<Option<&'a str>, Error>
+    ensures named { IfOk result (λ name. option_map (λ s. s.now) name ≡ named_by (map S.text words.entry.now)) }
+    ensures taken { IfErr result (λ e. takes osi (map S.text words.entry.now) ≡ true →
+        kind_of e ≡ ErrorKind.OutOfMemory) }
+{
+    match command(alloc)?.try_get_matches_from(words) {
+        Ok(matches) => Ok(matches.subcommand_name()),
+        Err(error) => Err(error),
+    }
+}
+
+/// The error of words that ask for no subcommand.
+fn no_subcommand(alloc: Global) -> Result<Error, AllocError> {
+    command(alloc)?.error(ErrorKind::MissingSubcommand, "no subcommand")
 }
 
 /// The command `osi` with its subcommands.
 fn command<'a>(alloc: Global) -> Result<Command<'a>, AllocError>
     ensures { IfOk result (λ command. app_of command ≡ osi) }
 {
-    let show = Command::new(alloc, "show").about("List the capture on standard input");
-    let pair = Command::new(alloc, "pair")
-        .about("Run the script on standard input on two ends, and print what they do")
-        .after_help(SCRIPTS);
-    Command::new(alloc, "osi")
+    bare_command(alloc)?
+        .subcommand(show(alloc))?
+        .subcommand(pair(alloc))
+}
+
+/// The command `osi` without its subcommands.
+fn bare_command<'a>(alloc: Global) -> Result<Command<'a>, AllocError>
+    ensures { IfOk result (λ command. app_of command ≡ top) }
+{
+    let command = Command::new(alloc, "osi")
         .about("Read captures of the OSI session protocol over TPKT, and run scripts on two ends")
         .version(VERSION)
-        .bin_name("osi")?
-        .subcommand_required(true)
-        .subcommand(show)?
-        .subcommand(pair)
+        .bin_name("osi")?;
+    Ok(command.subcommand_required(true))
+}
+
+/// The subcommand that lists a capture.
+fn show<'a>(alloc: Global) -> Command<'a>
+    ensures shape { shape_of result ≡ (new_app (codes "show")).top }
+    ensures local { (fields_of result).has_globals ≡ false }
+{
+    Command::new(alloc, "show").about("List the capture on standard input")
+}
+
+/// The subcommand that runs a script.
+fn pair<'a>(alloc: Global) -> Command<'a>
+    ensures shape { shape_of result ≡ (new_app (codes "pair")).top }
+    ensures local { (fields_of result).has_globals ≡ false }
+{
+    Command::new(alloc, "pair")
+        .about("Run the script on standard input on two ends, and print what they do")
+        .after_help(SCRIPTS)
 }
 
 /// The job of a subcommand.
