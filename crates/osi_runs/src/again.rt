@@ -4,14 +4,15 @@
 //! the rest is carried. So the transcript is the same whichever growth is refused, unless an end that is
 //! fed finds no memory: it is over then, and so is the script.
 
+use crate::asked::{asks, ends_in, event_in};
+use crate::calls;
 use crate::octets::{push, push_made, push_phase, push_where};
-use bitflags::Flags;
 use osi_carrier::{EndReason, Ref};
 use osi_pair::{Entry, Event, Pair, PairError};
-use osi_script::{Command, Line, Side, push_indication};
+use osi_script::{Line, Side, push_indication};
 use osi_session::{CallError, Phase};
 use osi_stack::{ConnectError, Stack};
-use osi_transcript::asking::{event_of, named, side_of};
+use osi_transcript::asking::named;
 use std::alloc::{AllocError, Global};
 use std::io;
 
@@ -63,54 +64,47 @@ pub(crate) fn pair_in(alloc: Global, script: &str) -> io::Result<Pair> {
 
 fn pair_of(alloc: Global, asked: &str) -> io::Result<Pair> {
     let line = Line::read(alloc, asked.as_bytes())?;
-    pair_asked(alloc, line.command()).ok_or(unreadable())
+    pair_asked(alloc, &line)
 }
 
-fn pair_asked(alloc: Global, command: Option<Command>) -> Option<Pair> {
-    match command {
-        Some(
-            Command::Ends {
-                caller,
-                called,
-                size,
-                window,
-            },
-        ) => Some(Pair::new(
-            alloc,
-            caller.local(size, window),
-            called.local(size, window),
-        )),
-        _ => None,
+fn pair_asked(alloc: Global, line: &Line) -> io::Result<Pair> {
+    match ends_in(line) {
+        Some((left, right)) => Ok(Pair::new(alloc, left, right)),
+        None => Err(unreadable()),
     }
 }
 
 fn play_all(alloc: Global, replay: &mut Replay, pair: &mut Pair, script: &str) -> io::Result<()> {
+    play_each(alloc, replay, pair, script)?;
+    push_all_standings(alloc, &mut replay.lines, pair)?;
+    Ok(())
+}
+
+fn play_each(alloc: Global, replay: &mut Replay, pair: &mut Pair, script: &str) -> io::Result<()> {
     for line in script.lines() {
         if asks(line) && !replay.is_over {
             play(alloc, replay, pair, line)?;
         }
     }
-    push_standings(alloc, &mut replay.lines, Side::Left, pair)?;
-    push_standings(alloc, &mut replay.lines, Side::Right, pair)?;
     Ok(())
-}
-
-/// Whether a line asks for an event.
-pub(crate) fn asks(line: &str) -> bool {
-    !line.is_empty() && !line.starts_with('#') && !line.starts_with("ends ")
 }
 
 fn play(alloc: Global, replay: &mut Replay, pair: &mut Pair, asked: &str) -> io::Result<()> {
     let line = Line::read(alloc, asked.as_bytes())?;
-    match event_in(&line) {
+    play_line(alloc, replay, pair, asked, &line)
+}
+
+fn play_line<'a>(
+    alloc: Global,
+    replay: &mut Replay,
+    pair: &mut Pair,
+    asked: &str,
+    line: &'a Line<'a>,
+) -> io::Result<()> {
+    match event_in(line) {
         Some(event) => play_event(alloc, replay, pair, asked, &event),
         None => Err(unreadable()),
     }
-}
-
-/// What a line asks for; none for the line of the two ends, and for one that can't be read.
-pub(crate) fn event_in<'a>(line: &'a Line<'a>) -> Option<Event<'a>> {
-    event_of(line.command()?)
 }
 
 pub(crate) fn unreadable() -> io::Error {
@@ -124,18 +118,26 @@ fn play_event(
     asked: &str,
     event: &Event,
 ) -> io::Result<()> {
-    let before = pair.journal().len();
+    let before = calls::journal(pair).len();
     let carried = apply_whole(alloc, replay, pair, event)?;
     push_said(alloc, &mut replay.lines, event, carried)?;
-    push_entries(
-        alloc,
-        &mut replay.lines,
-        asked,
-        pair.journal().get(before..).unwrap_or_default(),
-    )?;
-    note_end(replay, pair.stack(osi_pair::Side::Left));
-    note_end(replay, pair.stack(osi_pair::Side::Right));
+    push_since(alloc, &mut replay.lines, asked, pair, before)?;
+    note_end(replay, calls::stack_of(pair, osi_pair::Side::Left));
+    note_end(replay, calls::stack_of(pair, osi_pair::Side::Right));
     Ok(())
+}
+
+/// Adds the lines of the entries behind the first of a journal, with the verb of the line that asked
+/// for them.
+fn push_since(
+    alloc: Global,
+    out: &mut Vec<u8>,
+    asked: &str,
+    pair: &Pair,
+    first: usize,
+) -> Result<(), AllocError> {
+    let added = calls::journal(pair).get(first..).unwrap_or_default();
+    push_entries(alloc, out, asked, added)
 }
 
 /// Adds the lines of entries, with the verb of the line that asked for them.
@@ -173,9 +175,20 @@ fn apply_whole(
 /// Applies an event, and once more where it finds no memory.
 fn apply(alloc: Global, replay: &mut Replay, pair: &mut Pair, event: &Event) -> io::Result<usize> {
     let before = state_of(alloc, pair)?;
-    match applied(pair, event) {
+    apply_from(alloc, replay, pair, event, before.as_slice())
+}
+
+/// Applies an event to two ends in this state.
+fn apply_from(
+    alloc: Global,
+    replay: &mut Replay,
+    pair: &mut Pair,
+    event: &Event,
+    before: &[u8],
+) -> io::Result<usize> {
+    match calls::apply(pair, event) {
         Ok(carried) => Ok(carried),
-        Err(PairError::OutOfMemory) => apply_again(alloc, replay, pair, event, before.as_slice()),
+        Err(PairError::OutOfMemory) => apply_again(alloc, replay, pair, event, before),
         Err(_) => Err(unreadable()),
     }
 }
@@ -192,17 +205,9 @@ fn apply_again(
     if !is_in(alloc, pair, before)? {
         replay.is_good = false;
     }
-    match applied(pair, event) {
+    match calls::apply(pair, event) {
         Ok(carried) => Ok(carried),
         Err(_) => Err(unreadable()),
-    }
-}
-
-/// How many octets an event has carried.
-fn applied(pair: &mut Pair, event: &Event) -> Result<usize, PairError> {
-    match pair.apply(event) {
-        Ok(applied) => Ok(applied.carried),
-        Err(error) => Err(error),
     }
 }
 
@@ -220,9 +225,11 @@ pub(crate) fn state_of(alloc: Global, pair: &Pair) -> Result<Vec<u8>, AllocError
 }
 
 fn push_state(alloc: Global, out: &mut Vec<u8>, pair: &Pair) -> Result<(), AllocError> {
-    push_side(alloc, out, Side::Left, pair.stack(osi_pair::Side::Left))?;
-    push_side(alloc, out, Side::Right, pair.stack(osi_pair::Side::Right))?;
-    push_journal(alloc, out, pair.journal())
+    let left = calls::stack_of(pair, osi_pair::Side::Left);
+    let right = calls::stack_of(pair, osi_pair::Side::Right);
+    push_side(alloc, out, Side::Left, left)?;
+    push_side(alloc, out, Side::Right, right)?;
+    push_journal(alloc, out, calls::journal(pair))
 }
 
 fn push_side(
@@ -239,6 +246,10 @@ fn push_side(
 fn push_journal(alloc: Global, out: &mut Vec<u8>, journal: &[Entry]) -> Result<(), AllocError> {
     let count = journal.len();
     push_made(out, format!(in alloc; "{count} entries")?)?;
+    push_last(alloc, out, journal)
+}
+
+fn push_last(alloc: Global, out: &mut Vec<u8>, journal: &[Entry]) -> Result<(), AllocError> {
     match journal.last() {
         Some(entry) => push_entry(alloc, out, "", entry),
         None => Ok(()),
@@ -265,7 +276,7 @@ fn push_said(
 }
 
 /// Adds the line of an entry, with the verb of the line that asked for it.
-pub(crate) fn push_entry(
+fn push_entry(
     alloc: Global,
     out: &mut Vec<u8>,
     asked: &str,
@@ -279,8 +290,14 @@ pub(crate) fn push_entry(
             answer,
             ..
         } => {
-            let verb = asked.split(' ').nth(2).unwrap_or("");
-            push_call(alloc, out, named(*side), *reference, verb, *answer)
+            push_call(
+                alloc,
+                out,
+                named(*side),
+                *reference,
+                verb_of(asked),
+                *answer,
+            )
         }
         Entry::Indication {
             side,
@@ -289,6 +306,11 @@ pub(crate) fn push_entry(
         } => push_indication(alloc, out, named(*side), reference.0, indication),
         Entry::End { .. } => Ok(()),
     }
+}
+
+/// What a line asks a connection for.
+fn verb_of(asked: &str) -> &str {
+    asked.split(' ').nth(2).unwrap_or("")
 }
 
 fn push_call(
@@ -320,16 +342,22 @@ fn push_connect(
     push_made(out, line)
 }
 
-/// Adds where the connections of a side stand that have not ended.
+/// Adds where the connections of both sides stand that have not ended.
+fn push_all_standings(alloc: Global, out: &mut Vec<u8>, pair: &Pair) -> Result<(), AllocError> {
+    let left = calls::stack_of(pair, osi_pair::Side::Left);
+    let right = calls::stack_of(pair, osi_pair::Side::Right);
+    push_standings(alloc, out, Side::Left, left)?;
+    push_standings(alloc, out, Side::Right, right)
+}
+
 fn push_standings(
     alloc: Global,
     out: &mut Vec<u8>,
     side: Side,
-    pair: &Pair,
+    stack: &Stack,
 ) -> Result<(), AllocError> {
-    let stack = pair.stack(side_of(side));
     for reference in 1..ALL {
-        if stack.phase(Ref(reference)) != Some(Phase::Ended) {
+        if !matches!(stack.phase(Ref(reference)), Some(Phase::Ended)) {
             push_phase(alloc, out, side, stack, Ref(reference))?;
         }
     }
@@ -338,13 +366,18 @@ fn push_standings(
 
 /// Notes whether an end is over for want of memory; then it holds no token.
 fn note_end(replay: &mut Replay, stack: &Stack) {
-    if stack.ended() != Some(EndReason::NoMemory) {
-        return;
+    if matches!(stack.ended(), Some(EndReason::NoMemory)) {
+        replay.is_over = true;
+        replay.is_good &= holds_nothing(stack);
     }
-    replay.is_over = true;
+}
+
+/// An end holds no token of any connection.
+fn holds_nothing(stack: &Stack) -> bool {
     for reference in 1..ALL {
-        if !stack.held(Ref(reference)).is_empty() {
-            replay.is_good = false;
+        if calls::holds_a_token(stack, Ref(reference)) {
+            return false;
         }
     }
+    true
 }

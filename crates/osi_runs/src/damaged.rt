@@ -5,6 +5,7 @@
 //! and with both, a caller and a called end on which nothing has happened, and a caller that has asked
 //! for a connection and a called end which have been fed the packets before it.
 
+use crate::calls;
 use bitflags::Flags;
 use osi_carrier::{EndReason, Ref};
 use osi_class::Local;
@@ -13,7 +14,6 @@ use osi_session::Phase;
 use osi_spdu::{Requirements, Serial, TokenSetting, TsduSizes, Wish};
 use osi_stack::{Connect, Stack};
 use osi_tpdu::{SizeCode, Window};
-use osi_tpkt::Fed;
 use std::alloc::{AllocError, Global};
 use std::io;
 
@@ -86,19 +86,29 @@ pub(crate) fn runs_of(alloc: Global, capture: &[u8]) -> io::Result<String> {
     if at != capture.len() {
         return Err(io::Error::from(io::ErrorKind::InvalidData));
     }
+    said_of(alloc, tally)
+}
+
+fn said_of(alloc: Global, tally: Tally) -> io::Result<String> {
     let Tally { runs, good } = tally;
     Ok(format!(in alloc; "{runs} runs, {good} as they should be")?)
 }
 
 /// The packet that begins at this octet, if one does.
 fn packet_at(capture: &[u8], at: usize) -> Option<&[u8]> {
-    let high = *capture.get(at.checked_add(2)?)?;
-    let low = *capture.get(at.checked_add(3)?)?;
-    let length = usize::from(u16::from_be_bytes([high, low]));
-    if length == 0 {
-        return None;
+    let rest = capture.get(at..)?;
+    match length_of(rest)? {
+        0 => None,
+        length => rest.get(..length),
     }
-    capture.get(at..at.checked_add(length)?)
+}
+
+/// The length that the header of a packet says.
+fn length_of(packet: &[u8]) -> Option<usize> {
+    match packet {
+        [_, _, high, low, ..] => Some(usize::from(u16::from_be_bytes([*high, *low]))),
+        _ => None,
+    }
 }
 
 /// Cuts a packet to each length; the last is the whole of it.
@@ -151,23 +161,25 @@ fn run(alloc: Global, tally: &mut Tally, before: &[u8], octets: &[u8]) -> Result
     let status = list(alloc, &mut lines, octets)?;
     let has_fault = has(lines.as_slice(), "fault ");
     tally.add((status == 1) == has_fault);
-    let packet = Case {
+    let case = Case {
         before,
         octets,
         is_no_packet: !has(lines.as_slice(), "rest "),
     };
-    for past in PASTS {
-        run_with(alloc, tally, packet, past);
-    }
+    run_case(alloc, tally, case);
     Ok(())
 }
 
+fn run_case(alloc: Global, tally: &mut Tally, case: Case) {
+    for past in PASTS {
+        run_with(alloc, tally, case, past);
+    }
+}
+
 /// Feeds it to ends with each class.
-fn run_with(alloc: Global, tally: &mut Tally, packet: Case, past: Past) {
+fn run_with(alloc: Global, tally: &mut Tally, case: Case, past: Past) {
     for classes in CLASSES {
-        let whole = fed(alloc, packet, past, classes, usize::MAX);
-        let single = fed(alloc, packet, past, classes, 1);
-        tally.add(is_same(&whole, &single));
+        tally.add(goes_well(alloc, case, past, classes));
     }
 }
 
@@ -179,12 +191,24 @@ fn has(lines: &[u8], word: &str) -> bool {
     }
 }
 
-/// Both ends did what they should, and have come to the same.
-fn is_same(one: &Option<Stack>, other: &Option<Stack>) -> bool {
-    match (one, other) {
-        (Some(one), Some(other)) => is_as_far(one, other),
-        _ => false,
+/// Two ends with these classes do what they should, one fed whole and the other octet by octet, and come
+/// to the same.
+fn goes_well(alloc: Global, case: Case, past: Past, classes: (bool, bool)) -> bool {
+    match local(classes) {
+        Some(local) => go_well(
+            &mut fresh(alloc, past, local),
+            &mut fresh(alloc, past, local),
+            case,
+            past,
+        ),
+        None => false,
     }
+}
+
+fn go_well(whole: &mut Stack, single: &mut Stack, case: Case, past: Past) -> bool {
+    does_well(whole, case, past, usize::MAX)
+        && does_well(single, case, past, 1)
+        && is_as_far(whole, single)
 }
 
 /// Two ends have come to the same.
@@ -195,74 +219,66 @@ fn is_as_far(one: &Stack, other: &Stack) -> bool {
     one.ended().is_some() || one.kept() == other.kept()
 }
 
-/// Feeds an end, in pieces of at most so many octets; none where it does not what it should.
-fn fed(
-    alloc: Global,
-    packet: Case,
-    past: Past,
-    classes: (bool, bool),
-    piece: usize,
-) -> Option<Stack> {
-    let mut stack = fresh(alloc, past, classes)?;
-    let before = match past {
-        Past::OfCaller | Past::OfCalled => &[],
-        Past::OfAsking | Past::OfAnswering => packet.before,
-    };
-    if does_well(&mut stack, before, packet, piece) {
-        Some(stack)
-    } else {
-        None
-    }
-}
-
-fn does_well(stack: &mut Stack, before: &[u8], packet: Case, piece: usize) -> bool {
-    if feed(stack, before, usize::MAX).is_none() || feed(stack, packet.octets, piece).is_none() {
+/// Feeds an end with this past, in pieces of at most so many octets; false where it does not what it
+/// should.
+fn does_well(stack: &mut Stack, case: Case, past: Past, piece: usize) -> bool {
+    if !begins(stack, case, past) || feed(stack, case.octets, piece).is_none() {
         return false;
     }
     match stack.ended() {
-        Some(_) => is_still(stack, packet.octets),
-        None => !packet.is_no_packet,
+        Some(_) => is_still(stack, case.octets),
+        None => !case.is_no_packet,
+    }
+}
+
+/// What happened to an end before.
+fn begins(stack: &mut Stack, case: Case, past: Past) -> bool {
+    match past {
+        Past::OfCaller | Past::OfCalled => true,
+        Past::OfAsking => asks(stack) && feed(stack, case.before, usize::MAX).is_some(),
+        Past::OfAnswering => feed(stack, case.before, usize::MAX).is_some(),
     }
 }
 
 /// An end that is over uses all that it is fed, shows nothing and sends nothing more.
 fn is_still(stack: &mut Stack, octets: &[u8]) -> bool {
     let sent = stack.outgoing().len();
-    let fed = take(stack, octets);
+    let fed = calls::feed(stack, octets);
     fed.used == octets.len() && !fed.whole && stack.outgoing().len() == sent
 }
 
-/// An end with this past, to which no octet has come.
-fn fresh(alloc: Global, past: Past, classes: (bool, bool)) -> Option<Stack> {
+/// An end on which nothing has happened.
+fn fresh(alloc: Global, past: Past, local: Local) -> Stack {
+    match past {
+        Past::OfCaller | Past::OfAsking => Stack::caller(alloc, local),
+        Past::OfCalled | Past::OfAnswering => Stack::called(alloc, local),
+    }
+}
+
+/// What an end of these classes supports.
+fn local(classes: (bool, bool)) -> Option<Local> {
     let (class0, class2) = classes;
-    let local = Local {
+    Some(Local {
         class0,
         class2,
         size: SizeCode::new(10)?,
         window: Window::new(4)?,
-    };
-    match past {
-        Past::OfCaller => Some(Stack::caller(alloc, local)),
-        Past::OfCalled | Past::OfAnswering => Some(Stack::called(alloc, local)),
-        Past::OfAsking => asking(alloc, local),
-    }
-}
-
-/// An end that has asked for a connection.
-fn asking(alloc: Global, local: Local) -> Option<Stack> {
-    let mut stack = Stack::caller(alloc, local);
-    match ask(&mut stack) {
-        Some(()) => Some(stack),
-        None => None,
-    }
+    })
 }
 
 /// Asks for a connection with points, restarts and negotiated release; the other side chooses who holds
 /// the tokens.
-fn ask(stack: &mut Stack) -> Option<()> {
-    let connect = Connect {
+fn asks(stack: &mut Stack) -> bool {
+    match Serial::new(1) {
+        Some(serial) => calls::connect(stack, &connect_from(serial)).is_ok(),
+        None => false,
+    }
+}
+
+fn connect_from(serial: Serial) -> Connect<'static> {
+    Connect {
         requirements: Requirements::from_bits_retain(0x00B9),
-        serial: Serial::new(1)?,
+        serial,
         wishes: TokenSetting {
             data_token: Wish::Choice,
             minor: Wish::Choice,
@@ -275,9 +291,7 @@ fn ask(stack: &mut Stack) -> Option<()> {
         called_selector: None,
         sizes: TsduSizes::NONE,
         user_data: &[],
-    };
-    stack.connect(&connect).ok()?;
-    Some(())
+    }
 }
 
 /// Feeds octets, and fetches what is shown; none where something is not as it should be.
@@ -297,7 +311,7 @@ fn feed(stack: &mut Stack, octets: &[u8], piece: usize) -> Option<()> {
 /// end is over or is ended by it for a fault.
 fn feed_piece(stack: &mut Stack, piece: &[u8]) -> Option<usize> {
     let is_over = stack.ended().is_some();
-    let fed = take(stack, piece);
+    let fed = calls::feed(stack, piece);
     let is_spoilt = matches!(stack.ended(), Some(EndReason::Fault(_)));
     if fed.used == 0 || fed.used > piece.len() {
         return None;
@@ -311,13 +325,9 @@ fn feed_piece(stack: &mut Stack, piece: &[u8]) -> Option<usize> {
     Some(fed.used)
 }
 
-fn take(stack: &mut Stack, octets: &[u8]) -> Fed {
-    stack.feed(octets)
-}
-
 /// Fetches what is shown next; false where nothing is.
 fn shows(stack: &mut Stack) -> bool {
-    stack.next_indication().is_some()
+    calls::next(stack).is_some()
 }
 
 /// Fetches all that is shown.
@@ -340,7 +350,7 @@ fn is_within_bounds(stack: &Stack) -> bool {
         if !matches!(phase, Phase::Ended) {
             most = most.saturating_add(OF_A_CONNECTION);
         }
-        if stack.ended().is_some() && !stack.held(Ref(reference)).is_empty() {
+        if stack.ended().is_some() && calls::holds_a_token(stack, Ref(reference)) {
             return false;
         }
     }

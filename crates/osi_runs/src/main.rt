@@ -12,6 +12,8 @@
 #![tactic(auto)]
 
 mod again;
+mod asked;
+mod calls;
 mod damaged;
 mod digits;
 mod long;
@@ -68,13 +70,22 @@ impl Kind {
         }
     }
 
-    /// The kind of the file that is run; it is also what is wanted where there is no other.
+    /// The kind of the file that is run.
     fn given(self) -> &'static str {
         match self {
             Kind::Pair | Kind::EachWay | Kind::Again | Kind::Long | Kind::Together => "script",
             Kind::Octets => "octets",
             Kind::Show | Kind::Damaged => "hex",
             Kind::Texts => "texts",
+        }
+    }
+
+    /// The kind of the file in which stands what is wanted; none where the file that is run says it.
+    fn wanted(self) -> Option<&'static str> {
+        match self {
+            Kind::Pair | Kind::EachWay | Kind::Again | Kind::Long => Some("transcript"),
+            Kind::Show => Some("listing"),
+            Kind::Octets | Kind::Damaged | Kind::Together | Kind::Texts => None,
         }
     }
 }
@@ -104,13 +115,28 @@ fn judge<R: Files + Print + AllocGlobal>(rt: &R, name: &str, kind: Kind) -> io::
 /// What is said of a name: that all is as it is written, or what came in its place.
 fn judged<R: Files + AllocGlobal>(rt: &R, name: &str, kind: Kind) -> io::Result<String> {
     let given = text_of(rt, name, kind.given())?;
+    judged_text(rt, name, kind, given.as_str())
+}
+
+fn judged_text<R: Files + AllocGlobal>(
+    rt: &R,
+    name: &str,
+    kind: Kind,
+    given: &str,
+) -> io::Result<String> {
+    match kind.wanted() {
+        Some(other) => judged_beside(rt, name, other, kind, given),
+        None => judged_alone(rt.alloc(), kind, given),
+    }
+}
+
+/// What is said of a file that says what is wanted.
+fn judged_alone(alloc: Global, kind: Kind, given: &str) -> io::Result<String> {
     match kind {
-        Kind::Octets => judged_octets(rt.alloc(), given.as_str()),
-        Kind::Damaged => judged_damage(rt.alloc(), given.as_str()),
-        Kind::Together => judged_together(rt.alloc(), given.as_str()),
-        Kind::Texts => judged_texts(rt.alloc(), given.as_str()),
-        Kind::Show => judged_beside(rt, name, "listing", kind, given.as_str()),
-        _ => judged_beside(rt, name, "transcript", kind, given.as_str()),
+        Kind::Octets => judged_octets(alloc, given),
+        Kind::Damaged => judged_damage(alloc, given),
+        Kind::Together => judged_together(alloc, given),
+        _ => judged_texts(alloc, given),
     }
 }
 
@@ -123,12 +149,16 @@ fn judged_beside<R: Files + AllocGlobal>(
     given: &str,
 ) -> io::Result<String> {
     let wanted = text_of(rt, name, other)?;
+    judged_by(rt.alloc(), kind, given, wanted.as_str())
+}
+
+fn judged_by(alloc: Global, kind: Kind, given: &str, wanted: &str) -> io::Result<String> {
     match kind {
-        Kind::Show => judged_listing(rt.alloc(), given, wanted.as_str()),
-        Kind::Again => judged_again(rt.alloc(), given, wanted.as_str()),
-        Kind::Long => judged_long(rt.alloc(), given, wanted.as_str()),
-        Kind::EachWay => judged_each_way(rt.alloc(), given, wanted.as_str()),
-        _ => judged_pair(rt.alloc(), given, wanted.as_str()),
+        Kind::Show => judged_listing(alloc, given, wanted),
+        Kind::Again => judged_again(alloc, given, wanted),
+        Kind::Long => judged_long(alloc, given, wanted),
+        Kind::EachWay => judged_each_way(alloc, given, wanted),
+        _ => judged_pair(alloc, given, wanted),
     }
 }
 
@@ -157,7 +187,10 @@ fn said_of_replay(alloc: Global, came: &Replay, wanted: &str) -> io::Result<Stri
     if !came.is_good || came.lines.as_slice() != wanted.as_bytes() {
         return another(alloc, came.lines.as_slice(), 0);
     }
-    let (refused, stopped) = (came.refused, came.stopped);
+    as_asked_again(alloc, came.refused, came.stopped)
+}
+
+fn as_asked_again(alloc: Global, refused: u32, stopped: u32) -> io::Result<String> {
     Ok(format!(in alloc; "as it is written, {refused} asked again, {stopped} carried on")?)
 }
 
@@ -177,8 +210,11 @@ fn judged_listing(alloc: Global, capture: &str, wanted: &str) -> io::Result<Stri
 }
 
 fn judged_list(alloc: Global, octets: &[u8], wanted: &str) -> io::Result<String> {
-    let mut came = Vec::new(alloc);
-    let status = list(alloc, &mut came, octets)?;
+    judged_in(alloc, &mut Vec::new(alloc), octets, wanted)
+}
+
+fn judged_in(alloc: Global, came: &mut Vec<u8>, octets: &[u8], wanted: &str) -> io::Result<String> {
+    let status = list(alloc, came, octets)?;
     compared(alloc, came.as_slice(), wanted, status)
 }
 
@@ -189,12 +225,20 @@ fn judged_damage(alloc: Global, capture: &str) -> io::Result<String> {
 
 fn judged_long(alloc: Global, script: &str, wanted: &str) -> io::Result<String> {
     let script = written_out(alloc, script)?;
+    judged_script(alloc, script.as_str(), wanted)
+}
+
+fn judged_script(alloc: Global, script: &str, wanted: &str) -> io::Result<String> {
     let wanted = written_out(alloc, wanted)?;
-    judged_whole(alloc, script.as_str(), wanted.as_str())
+    judged_whole(alloc, script, wanted.as_str())
 }
 
 fn judged_whole(alloc: Global, script: &str, wanted: &str) -> io::Result<String> {
     let came = told(alloc, script)?;
+    said_of_whole(alloc, &came, wanted)
+}
+
+fn said_of_whole(alloc: Global, came: &Transcript, wanted: &str) -> io::Result<String> {
     if came.lines.as_slice() != wanted.as_bytes() {
         return words(alloc, "GIVES SOMETHING ELSE");
     }
@@ -203,7 +247,11 @@ fn judged_whole(alloc: Global, script: &str, wanted: &str) -> io::Result<String>
 
 fn judged_together(alloc: Global, text: &str) -> io::Result<String> {
     let script = written_out(alloc, text)?;
-    let came = run_together(alloc, script.as_str())?;
+    judged_events(alloc, script.as_str())
+}
+
+fn judged_events(alloc: Global, script: &str) -> io::Result<String> {
+    let came = run_together(alloc, script)?;
     said_of_both(alloc, &came)
 }
 
@@ -254,21 +302,35 @@ fn str_of(lines: &[u8]) -> io::Result<&str> {
 }
 
 fn judged_each_way(alloc: Global, script: &str, wanted: &str) -> io::Result<String> {
-    let came = told(alloc, script)?;
-    if came.lines.as_slice() != wanted.as_bytes() {
-        return another(alloc, came.lines.as_slice(), came.status);
+    if !is_told(alloc, script, wanted)? {
+        return judged_pair(alloc, script, wanted);
     }
     judged_ways(alloc, script, wanted)
 }
 
+/// The transcript of a script is what is wanted.
+fn is_told(alloc: Global, script: &str, wanted: &str) -> io::Result<bool> {
+    let came = told(alloc, script)?;
+    Ok(came.lines.as_slice() == wanted.as_bytes())
+}
+
 fn judged_ways(alloc: Global, script: &str, wanted: &str) -> io::Result<String> {
     for way in WAYS {
-        let came = told_in(alloc, script, way)?;
-        if !is_same(alloc, came.lines.as_slice(), wanted)? {
-            return another(alloc, came.lines.as_slice(), came.status);
+        if !is_told_in(alloc, script, way, wanted)? {
+            return another_in(alloc, script, way);
         }
     }
     words(alloc, "as it is written, each way")
+}
+
+fn is_told_in(alloc: Global, script: &str, way: Way, wanted: &str) -> io::Result<bool> {
+    let came = told_in(alloc, script, way)?;
+    is_same(alloc, came.lines.as_slice(), wanted)
+}
+
+fn another_in(alloc: Global, script: &str, way: Way) -> io::Result<String> {
+    let came = told_in(alloc, script, way)?;
+    another(alloc, came.lines.as_slice(), came.status)
 }
 
 fn told_in(alloc: Global, script: &str, way: Way) -> io::Result<Transcript> {

@@ -6,13 +6,20 @@
 //! `where` says where the first connections of both ends stand;
 //! `tsdu HEX` reads session units, and writes them again.
 
+ghost use Rattle.std.specs.Prelude.{IfOk};
+ghost use Rattle.osi_spdu.specs.Groups.{units_of};
+ghost use Rattle.osi_spdu.specs.Writing.{TsduFits};
+
+use crate::asked::{ends_in, event_in};
+use crate::calls;
 use crate::digits::octets_in;
 use bytes::BytesMut;
 use osi_carrier::Ref;
-use osi_script::{Command, Line, Side, Standing, push_indication, push_standing};
-use osi_session::{CallError, Indication, Request};
-use osi_spdu::{SpduFault, read_tsdu, write_tsdu};
-use osi_stack::{Connect, ConnectError, Stack};
+use osi_pair::Event;
+use osi_script::{Line, Side, Standing, push_indication, push_standing};
+use osi_session::{Indication, Request};
+use osi_spdu::{Group, SpduFault, read_tsdu, write_tsdu};
+use osi_stack::{Connect, Stack};
 use std::alloc::{AllocError, Global};
 use std::io;
 
@@ -21,6 +28,16 @@ use std::io;
 struct Ends {
     left: Stack,
     right: Stack,
+}
+
+impl Ends {
+    /// The end of a side.
+    fn at(&mut self, side: osi_pair::Side) -> &mut Stack {
+        match side {
+            osi_pair::Side::Left => &mut self.left,
+            osi_pair::Side::Right => &mut self.right,
+        }
+    }
 }
 
 /// The lines of a text, with what comes of those that ask for something.
@@ -65,40 +82,26 @@ fn play(alloc: Global, out: &mut Vec<u8>, ends: &mut Option<Ends>, asked: &str) 
         return write_again(alloc, out, digits);
     }
     let line = Line::read(alloc, asked.as_bytes())?;
-    play_command(alloc, out, ends, asked, line.command())
+    play_line(alloc, out, ends, asked, &line)
 }
 
-fn play_command(
+fn play_line<'a>(
     alloc: Global,
     out: &mut Vec<u8>,
     ends: &mut Option<Ends>,
     asked: &str,
-    command: Option<Command>,
+    line: &'a Line<'a>,
 ) -> io::Result<()> {
-    if let Some(new) = ends_of(alloc, command) {
-        *ends = Some(new);
+    if let Some((caller, called)) = ends_in(line) {
+        *ends = Some(Ends {
+            left: Stack::caller(alloc, caller),
+            right: Stack::called(alloc, called),
+        });
         return Ok(());
     }
     match ends {
-        Some(ends) => play_at(alloc, out, ends, asked, command),
+        Some(ends) => play_at(alloc, out, ends, asked, event_in(line)),
         None => Err(io::Error::from(io::ErrorKind::InvalidInput)),
-    }
-}
-
-fn ends_of(alloc: Global, command: Option<Command>) -> Option<Ends> {
-    match command {
-        Some(
-            Command::Ends {
-                caller,
-                called,
-                size,
-                window,
-            },
-        ) => Some(Ends {
-            left: Stack::caller(alloc, caller.local(size, window)),
-            right: Stack::called(alloc, called.local(size, window)),
-        }),
-        _ => None,
     }
 }
 
@@ -107,20 +110,32 @@ fn play_at(
     out: &mut Vec<u8>,
     ends: &mut Ends,
     asked: &str,
-    command: Option<Command>,
+    event: Option<Event>,
+) -> io::Result<()> {
+    act(alloc, out, ends, asked, event)?;
+    push_all_told(alloc, out, ends)?;
+    Ok(())
+}
+
+/// Feeds an end, says where both stand, or does what a line of a script asks for.
+fn act(
+    alloc: Global,
+    out: &mut Vec<u8>,
+    ends: &mut Ends,
+    asked: &str,
+    event: Option<Event>,
 ) -> io::Result<()> {
     if let Some(digits) = asked.strip_prefix("feed left ") {
-        feed(alloc, out, &mut ends.left, digits)?;
-    } else if let Some(digits) = asked.strip_prefix("feed right ") {
-        feed(alloc, out, &mut ends.right, digits)?;
-    } else if asked == "where" {
-        push_where(alloc, out, Side::Left, &ends.left, 4)?;
-        push_where(alloc, out, Side::Right, &ends.right, 4)?;
-    } else {
-        ask(alloc, out, ends, command)?;
+        return feed(alloc, out, &mut ends.left, digits);
     }
-    push_told(alloc, out, Side::Left, &mut ends.left)?;
-    push_told(alloc, out, Side::Right, &mut ends.right)?;
+    if let Some(digits) = asked.strip_prefix("feed right ") {
+        return feed(alloc, out, &mut ends.right, digits);
+    }
+    if asked == "where" {
+        push_both_where(alloc, out, ends)?;
+    } else {
+        ask(alloc, out, ends, event)?;
+    }
     Ok(())
 }
 
@@ -128,51 +143,15 @@ fn ask(
     alloc: Global,
     out: &mut Vec<u8>,
     ends: &mut Ends,
-    command: Option<Command>,
+    event: Option<Event>,
 ) -> Result<(), AllocError> {
-    match command {
-        Some(
-            Command::Connect {
-                requirements,
-                serial,
-                wishes,
-                sizes,
-                user_data,
-            },
-        ) => {
-            let connect = Connect {
-                requirements,
-                serial,
-                wishes,
-                calling_tsap: None,
-                called_tsap: None,
-                calling_selector: None,
-                called_selector: None,
-                sizes,
-                user_data,
-            };
-            connect_at(alloc, out, &mut ends.left, &connect)
+    match event {
+        Some(Event::Connect(connect)) => connect_at(alloc, out, &mut ends.left, &connect),
+        Some(Event::Call(side, reference, request)) => {
+            call_at(alloc, out, ends.at(side), reference, request)
         }
-        Some(
-            Command::Call {
-                side: Side::Left,
-                reference,
-                request,
-            },
-        ) => call(alloc, out, &mut ends.left, reference, request),
-        Some(
-            Command::Call {
-                side: Side::Right,
-                reference,
-                request,
-            },
-        ) => call(alloc, out, &mut ends.right, reference, request),
-        Some(Command::Told { side: Side::Left }) => {
-            ends.left.broken();
-            Ok(())
-        }
-        Some(Command::Told { side: Side::Right }) => {
-            ends.right.broken();
+        Some(Event::Told(side)) => {
+            calls::tell_of_a_break(ends.at(side));
             Ok(())
         }
         _ => push(out, "asks for nothing"),
@@ -185,46 +164,48 @@ fn connect_at(
     stack: &mut Stack,
     connect: &Connect,
 ) -> Result<(), AllocError> {
-    match connected(stack, connect) {
+    match calls::connect(stack, connect) {
         Ok(Ref(reference)) => push_made(out, format!(in alloc; "connection {reference}")?),
         Err(error) => push_made(out, format!(in alloc; "refused {error:?}")?),
     }
 }
 
-fn connected(stack: &mut Stack, connect: &Connect) -> Result<Ref, ConnectError> {
-    stack.connect(connect)
-}
-
-fn call(
+fn call_at(
     alloc: Global,
     out: &mut Vec<u8>,
     stack: &mut Stack,
-    reference: u16,
+    reference: Ref,
     request: Request,
 ) -> Result<(), AllocError> {
-    match called(stack, reference, request) {
+    match calls::call(stack, reference, request) {
         Ok(()) => push(out, "ok"),
         Err(error) => push_made(out, format!(in alloc; "refused {error:?}")?),
     }
 }
 
-fn called(stack: &mut Stack, reference: u16, request: Request) -> Result<(), CallError> {
-    stack.call(Ref(reference), request)
-}
-
 /// Feeds octets, and says how many are used where some are left.
 fn feed(alloc: Global, out: &mut Vec<u8>, stack: &mut Stack, digits: &str) -> io::Result<()> {
     let octets = octets_in(alloc, digits)?;
-    let used = used_of(stack, octets.as_slice());
+    feed_octets(alloc, out, stack, octets.as_slice())
+}
+
+fn feed_octets(
+    alloc: Global,
+    out: &mut Vec<u8>,
+    stack: &mut Stack,
+    octets: &[u8],
+) -> io::Result<()> {
+    let used = calls::feed(stack, octets).used;
     if used != octets.len() {
         push_made(out, format!(in alloc; "uses {used}")?)?;
     }
     Ok(())
 }
 
-/// How many of these octets an end uses.
-fn used_of(stack: &mut Stack, octets: &[u8]) -> usize {
-    stack.feed(octets).used
+/// Adds what the users of both ends are shown, and what the ends send.
+fn push_all_told(alloc: Global, out: &mut Vec<u8>, ends: &mut Ends) -> Result<(), AllocError> {
+    push_told(alloc, out, Side::Left, &mut ends.left)?;
+    push_told(alloc, out, Side::Right, &mut ends.right)
 }
 
 /// Adds what the users of an end are shown, and what the end sends.
@@ -247,7 +228,7 @@ fn push_next(
     side: Side,
     stack: &mut Stack,
 ) -> Result<(), AllocError> {
-    match stack.next_indication() {
+    match calls::next(stack) {
         Some((Ref(reference), indication)) => {
             push_shown(alloc, out, side, reference, &indication)
         }
@@ -280,7 +261,7 @@ fn push_sent(
         return Ok(());
     }
     push_digits(alloc, out, sends(side), stack.outgoing())?;
-    stack.taken(stack.outgoing().len());
+    calls::take_all(stack);
     Ok(())
 }
 
@@ -299,7 +280,20 @@ fn push_digits(
     octets: &[u8],
 ) -> Result<(), AllocError> {
     let digits = hex::encode(alloc, octets)?;
-    push_made(out, format!(in alloc; "{said} {digits}")?)
+    push_behind(out, said, digits.as_str())
+}
+
+/// Adds a line of what is said, and of what stands behind it.
+fn push_behind(out: &mut Vec<u8>, said: &str, rest: &str) -> Result<(), AllocError> {
+    out.extend_from_slice(said.as_bytes())?;
+    out.push(b' ')?;
+    push(out, rest)
+}
+
+/// Adds where the first three connections of both ends stand.
+fn push_both_where(alloc: Global, out: &mut Vec<u8>, ends: &Ends) -> Result<(), AllocError> {
+    push_where(alloc, out, Side::Left, &ends.left, 4)?;
+    push_where(alloc, out, Side::Right, &ends.right, 4)
 }
 
 /// Adds where the connections of an end with lower references than this stand, how many octets it
@@ -344,25 +338,33 @@ pub(crate) fn push_phase(
     stack: &Stack,
     reference: Ref,
 ) -> Result<(), AllocError> {
-    let Some(phase) = stack.phase(reference) else {
-        return Ok(());
-    };
-    let standing = Standing {
+    match standing(side, stack, reference) {
+        Some(standing) => push_standing(alloc, out, &standing),
+        None => Ok(()),
+    }
+}
+
+/// Where a connection stands at an end, if it has been asked for.
+fn standing(side: Side, stack: &Stack, reference: Ref) -> Option<Standing> {
+    Some(Standing {
         side,
         reference: reference.0,
-        phase,
+        phase: stack.phase(reference)?,
         held: stack.held(reference),
         next_serial: stack.next_serial(reference),
         confirmed_below: stack.confirmed_below(reference),
         lowest_restart: stack.lowest_restart(reference),
-    };
-    push_standing(alloc, out, &standing)
+    })
 }
 
 /// Adds the written form of session units, or their fault.
 fn write_again(alloc: Global, out: &mut Vec<u8>, digits: &str) -> io::Result<()> {
     let tsdu = octets_in(alloc, digits)?;
-    push_written(alloc, out, &mut BytesMut::new(alloc), tsdu.as_slice())?;
+    write_octets_again(alloc, out, tsdu.as_slice())
+}
+
+fn write_octets_again(alloc: Global, out: &mut Vec<u8>, tsdu: &[u8]) -> io::Result<()> {
+    push_written(alloc, out, &mut BytesMut::new(alloc), tsdu)?;
     Ok(())
 }
 
@@ -380,11 +382,18 @@ fn push_written(
 
 /// Reads session units and writes them, where they have no fault.
 fn fault_of(written: &mut BytesMut, tsdu: &[u8]) -> Result<Option<SpduFault>, AllocError> {
-    match read_tsdu(tsdu) {
+    match group_in(tsdu) {
         Ok(group) => {
             write_tsdu(&group, written)?;
             Ok(None)
         }
         Err(fault) => Ok(Some(fault)),
     }
+}
+
+/// The session units of a TSDU.
+fn group_in(tsdu: &[u8]) -> Result<Group<'_>, SpduFault>
+    ensures { IfOk result (λ group. TsduFits (units_of group)) }
+{
+    read_tsdu(tsdu)
 }

@@ -1,6 +1,8 @@
 //! Scripts of two ends whose events are given in one list.
 
-use crate::again::{asks, event_in, pair_in, push_entries, state_of, unreadable};
+use crate::again::{pair_in, push_entries, state_of, unreadable};
+use crate::asked::{asks, event_in};
+use crate::calls;
 use osi_pair::{Event, Pair, RunError};
 use osi_script::Line;
 use osi_stack::Connect;
@@ -32,34 +34,53 @@ struct Outcome {
 /// Runs the events of a script, of which each line can be read, and applies them one by one.
 pub(crate) fn run_together(alloc: Global, script: &str) -> io::Result<Together> {
     let lines = lines_in(alloc, script)?;
-    let events = events_in(alloc, lines.as_slice())?;
-    compare(alloc, script, events.as_slice())
+    run_lines(alloc, script, lines.as_slice())
+}
+
+fn run_lines<'a>(alloc: Global, script: &str, lines: &'a [Line<'a>]) -> io::Result<Together> {
+    let events = events_in(alloc, lines)?;
+    run_events(alloc, script, events.as_slice())
 }
 
 /// Both ways beside each other.
-fn compare(alloc: Global, script: &str, events: &[Event]) -> io::Result<Together> {
+fn run_events(alloc: Global, script: &str, events: &[Event]) -> io::Result<Together> {
     let run = in_one_list(alloc, script, events)?;
+    beside_one_by_one(alloc, script, events, &run)
+}
+
+fn beside_one_by_one(
+    alloc: Global,
+    script: &str,
+    events: &[Event],
+    run: &Outcome,
+) -> io::Result<Together> {
     let applied = one_by_one(alloc, script, events)?;
-    let is_same = run.refused == applied.refused && run.said.as_slice() == applied.said.as_slice();
-    Ok(Together {
-        is_same,
+    Ok(compared(run, &applied))
+}
+
+fn compared(run: &Outcome, applied: &Outcome) -> Together {
+    Together {
+        is_same: run.refused == applied.refused && run.said.as_slice() == applied.said.as_slice(),
         refused: run.refused,
-    })
+    }
 }
 
 /// What comes of events that are given in one list.
 fn in_one_list(alloc: Global, script: &str, events: &[Event]) -> io::Result<Outcome> {
     let mut pair = pair_in(alloc, script)?;
     let refused = run_all(&mut pair, events);
-    let said = all_of(alloc, &pair)?;
-    Ok(Outcome { refused, said })
+    outcome_of(alloc, &pair, refused)
 }
 
 /// What comes of events that are applied one by one.
 fn one_by_one(alloc: Global, script: &str, events: &[Event]) -> io::Result<Outcome> {
     let mut pair = pair_in(alloc, script)?;
     let refused = apply_each(&mut pair, events);
-    let said = all_of(alloc, &pair)?;
+    outcome_of(alloc, &pair, refused)
+}
+
+fn outcome_of(alloc: Global, pair: &Pair, refused: Option<RunError>) -> io::Result<Outcome> {
+    let said = all_of(alloc, pair)?;
     Ok(Outcome { refused, said })
 }
 
@@ -116,7 +137,7 @@ fn tsap() -> Option<Tsap> {
 /// Applies events one by one, up to the first that is refused.
 fn apply_each(pair: &mut Pair, events: &[Event]) -> Option<RunError> {
     for (place, event) in events.iter().enumerate() {
-        if let Err(error) = pair.apply(event) {
+        if let Err(error) = calls::apply(pair, event) {
             return Some(RunError { place, error });
         }
     }
@@ -126,6 +147,6 @@ fn apply_each(pair: &mut Pair, events: &[Event]) -> Option<RunError> {
 /// All that can be asked of two ends, and each entry of their journal.
 fn all_of(alloc: Global, pair: &Pair) -> Result<Vec<u8>, AllocError> {
     let mut out = state_of(alloc, pair)?;
-    push_entries(alloc, &mut out, "", pair.journal())?;
+    push_entries(alloc, &mut out, "", calls::journal(pair))?;
     Ok(out)
 }

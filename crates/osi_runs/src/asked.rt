@@ -1,0 +1,33 @@
+//! What lines of scripts ask for.
+
+use osi_class::Local;
+use osi_pair::Event;
+use osi_script::{Command, Line};
+use osi_transcript::asking::event_of;
+
+/// Whether a line asks for an event.
+pub(crate) fn asks(line: &str) -> bool {
+    !line.is_empty() && !line.starts_with('#') && !line.starts_with("ends ")
+}
+
+/// What a line asks for; none for the line of the two ends, and for one that can't be read.
+pub(crate) fn event_in<'a>(line: &'a Line<'a>) -> Option<Event<'a>> {
+    event_of(line.command()?)
+}
+
+/// What the two ends are that a line asks for; none for every other line.
+pub(crate) fn ends_in(line: &Line) -> Option<(Local, Local)> {
+    ends_of(line.command()?)
+}
+
+fn ends_of(command: Command) -> Option<(Local, Local)> {
+    match command {
+        Command::Ends {
+            caller,
+            called,
+            size,
+            window,
+        } => Some((caller.local(size, window), called.local(size, window))),
+        _ => None,
+    }
+}

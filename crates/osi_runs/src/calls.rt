@@ -1,0 +1,56 @@
+//! Calls of one end and of two, each in a function that promises nothing: who calls it has no contract to
+//! look at.
+
+use bitflags::Flags;
+use osi_carrier::Ref;
+use osi_pair::{Entry, Event, Pair, PairError, Side};
+use osi_session::{CallError, Indication, Request};
+use osi_stack::{Connect, ConnectError, Stack};
+use osi_tpkt::Fed;
+
+pub(crate) fn connect(stack: &mut Stack, connect: &Connect) -> Result<Ref, ConnectError> {
+    stack.connect(connect)
+}
+
+pub(crate) fn call(stack: &mut Stack, reference: Ref, request: Request) -> Result<(), CallError> {
+    stack.call(reference, request)
+}
+
+pub(crate) fn feed(stack: &mut Stack, octets: &[u8]) -> Fed {
+    stack.feed(octets)
+}
+
+pub(crate) fn tell_of_a_break(stack: &mut Stack) {
+    stack.broken();
+}
+
+/// What a user is shown next.
+pub(crate) fn next(stack: &mut Stack) -> Option<(Ref, Indication)> {
+    stack.next_indication()
+}
+
+/// Takes all that an end sends.
+pub(crate) fn take_all(stack: &mut Stack) {
+    stack.taken(stack.outgoing().len());
+}
+
+/// Whether a side of a connection holds a token.
+pub(crate) fn holds_a_token(stack: &Stack, reference: Ref) -> bool {
+    !stack.held(reference).is_empty()
+}
+
+pub(crate) fn stack_of(pair: &Pair, side: Side) -> &Stack {
+    pair.stack(side)
+}
+
+pub(crate) fn journal(pair: &Pair) -> &[Entry] {
+    pair.journal()
+}
+
+/// How many octets an event has carried.
+pub(crate) fn apply(pair: &mut Pair, event: &Event) -> Result<usize, PairError> {
+    match pair.apply(event) {
+        Ok(applied) => Ok(applied.carried),
+        Err(error) => Err(error),
+    }
+}
