@@ -4,10 +4,11 @@
 //! the rest is carried. So the transcript is the same whichever growth is refused, unless an end that is
 //! fed finds no memory: it is over then, and so is the script.
 
-use crate::asked::{asks, ends_in, event_in};
+use crate::asked::{asks, ends_asked, event_in, unreadable};
 use crate::calls;
-use crate::octets::{push, push_made, push_phase, push_where};
+use crate::octets::{push, push_behind, push_made, push_name, push_number, push_phase, push_where};
 use osi_carrier::{EndReason, Ref};
+use osi_class::Local;
 use osi_pair::{Entry, Event, Pair, PairError};
 use osi_script::{Line, Side, push_indication};
 use osi_session::{CallError, Phase};
@@ -36,8 +37,12 @@ pub(crate) struct Replay {
 
 /// Plays a script of which each line can be read and fits.
 pub(crate) fn replayed(alloc: Global, script: &str) -> io::Result<Replay> {
-    let mut pair = pair_in(alloc, script)?;
-    replay_over(alloc, &mut pair, script)
+    let (left, right) = ends_asked(alloc, script)?;
+    replay_between(alloc, left, right, script)
+}
+
+fn replay_between(alloc: Global, left: Local, right: Local, script: &str) -> io::Result<Replay> {
+    replay_over(alloc, &mut Pair::new(alloc, left, right), script)
 }
 
 fn replay_over(alloc: Global, pair: &mut Pair, script: &str) -> io::Result<Replay> {
@@ -50,28 +55,6 @@ fn replay_over(alloc: Global, pair: &mut Pair, script: &str) -> io::Result<Repla
     };
     play_all(alloc, &mut replay, pair, script)?;
     Ok(replay)
-}
-
-/// The two ends that a script asks for.
-pub(crate) fn pair_in(alloc: Global, script: &str) -> io::Result<Pair> {
-    for line in script.lines() {
-        if line.starts_with("ends ") {
-            return pair_of(alloc, line);
-        }
-    }
-    Err(unreadable())
-}
-
-fn pair_of(alloc: Global, asked: &str) -> io::Result<Pair> {
-    let line = Line::read(alloc, asked.as_bytes())?;
-    pair_asked(alloc, &line)
-}
-
-fn pair_asked(alloc: Global, line: &Line) -> io::Result<Pair> {
-    match ends_in(line) {
-        Some((left, right)) => Ok(Pair::new(alloc, left, right)),
-        None => Err(unreadable()),
-    }
 }
 
 fn play_all(alloc: Global, replay: &mut Replay, pair: &mut Pair, script: &str) -> io::Result<()> {
@@ -105,10 +88,6 @@ fn play_line<'a>(
         Some(event) => play_event(alloc, replay, pair, asked, &event),
         None => Err(unreadable()),
     }
-}
-
-pub(crate) fn unreadable() -> io::Error {
-    io::Error::from(io::ErrorKind::InvalidData)
 }
 
 fn play_event(
@@ -244,8 +223,7 @@ fn push_side(
 
 /// Adds how many entries there are, and the last one.
 fn push_journal(alloc: Global, out: &mut Vec<u8>, journal: &[Entry]) -> Result<(), AllocError> {
-    let count = journal.len();
-    push_made(out, format!(in alloc; "{count} entries")?)?;
+    push_number(alloc, out, "entries", journal.len())?;
     push_last(alloc, out, journal)
 }
 
@@ -265,10 +243,8 @@ fn push_said(
 ) -> Result<(), AllocError> {
     match *event {
         Event::Connect(_) | Event::Call(_, _, _) => Ok(()),
-        Event::Carry(side, _) => {
-            let name = named(side).name();
-            push_made(out, format!(in alloc; "{name} carried {carried}")?)
-        }
+        Event::Carry(osi_pair::Side::Left, _) => push_number(alloc, out, "left carried", carried),
+        Event::Carry(osi_pair::Side::Right, _) => push_number(alloc, out, "right carried", carried),
         Event::Break(_, _) => push(out, "broken"),
         Event::Told(osi_pair::Side::Left) => push(out, "left told"),
         Event::Told(osi_pair::Side::Right) => push(out, "right told"),
@@ -322,11 +298,21 @@ fn push_call(
     answer: Result<(), CallError>,
 ) -> Result<(), AllocError> {
     let (name, reference) = (side.name(), reference.0);
-    let line = match answer {
-        Ok(()) => format!(in alloc; "{name} {reference} {verb} ok")?,
-        Err(error) => format!(in alloc; "{name} {reference} {verb} refused {error:?}")?,
-    };
-    push_made(out, line)
+    let asked = format!(in alloc; "{name} {reference} {verb}")?;
+    push_answer(alloc, out, asked.as_str(), answer)
+}
+
+/// Adds what was asked for, and what is answered.
+fn push_answer(
+    alloc: Global,
+    out: &mut Vec<u8>,
+    asked: &str,
+    answer: Result<(), CallError>,
+) -> Result<(), AllocError> {
+    match answer {
+        Ok(()) => push_behind(out, asked, "ok"),
+        Err(error) => push_made(out, format!(in alloc; "{asked} refused {error:?}")?),
+    }
 }
 
 fn push_connect(
@@ -334,12 +320,11 @@ fn push_connect(
     out: &mut Vec<u8>,
     answer: Result<Ref, ConnectError>,
 ) -> Result<(), AllocError> {
-    let line = match answer {
-        Ok(Ref(reference)) => format!(in alloc; "left connect ok {reference}")?,
-        Err(ConnectError::Open(error)) => format!(in alloc; "left connect refused {error:?}")?,
-        Err(error) => format!(in alloc; "left connect refused {error:?}")?,
-    };
-    push_made(out, line)
+    match answer {
+        Ok(Ref(reference)) => push_number(alloc, out, "left connect ok", usize::from(reference)),
+        Err(ConnectError::Open(error)) => push_name(alloc, out, "left connect refused", &error),
+        Err(error) => push_name(alloc, out, "left connect refused", &error),
+    }
 }
 
 /// Adds where the connections of both sides stand that have not ended.

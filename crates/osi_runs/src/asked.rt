@@ -4,6 +4,8 @@ use osi_class::Local;
 use osi_pair::Event;
 use osi_script::{Command, Line};
 use osi_transcript::asking::event_of;
+use std::alloc::Global;
+use std::io;
 
 /// Whether a line asks for an event.
 pub(crate) fn asks(line: &str) -> bool {
@@ -13,6 +15,28 @@ pub(crate) fn asks(line: &str) -> bool {
 /// What a line asks for; none for the line of the two ends, and for one that can't be read.
 pub(crate) fn event_in<'a>(line: &'a Line<'a>) -> Option<Event<'a>> {
     event_of(line.command()?)
+}
+
+/// What the two ends of a script are.
+pub(crate) fn ends_asked(alloc: Global, script: &str) -> io::Result<(Local, Local)> {
+    for line in script.lines() {
+        if line.starts_with("ends ") {
+            return ends_read(alloc, line);
+        }
+    }
+    Err(unreadable())
+}
+
+fn ends_read(alloc: Global, asked: &str) -> io::Result<(Local, Local)> {
+    let line = Line::read(alloc, asked.as_bytes())?;
+    match ends_in(&line) {
+        Some(ends) => Ok(ends),
+        None => Err(unreadable()),
+    }
+}
+
+pub(crate) fn unreadable() -> io::Error {
+    io::Error::from(io::ErrorKind::InvalidData)
 }
 
 /// What the two ends are that a line asks for; none for every other line.

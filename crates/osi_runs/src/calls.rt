@@ -1,5 +1,5 @@
-//! Calls of one end and of two, each in a function that promises nothing: who calls it has no contract to
-//! look at.
+//! Calls of one end and of two. Each stands in a function that promises nothing, so that where it is called
+//! no proof looks at what the call promises.
 
 use bitflags::Flags;
 use osi_carrier::Ref;
@@ -8,18 +8,22 @@ use osi_session::{CallError, Indication, Request};
 use osi_stack::{Connect, ConnectError, Stack};
 use osi_tpkt::Fed;
 
+/// Asks an end for a connection.
 pub(crate) fn connect(stack: &mut Stack, connect: &Connect) -> Result<Ref, ConnectError> {
     stack.connect(connect)
 }
 
+/// A call of the user of a connection.
 pub(crate) fn call(stack: &mut Stack, reference: Ref, request: Request) -> Result<(), CallError> {
     stack.call(reference, request)
 }
 
+/// Feeds an end octets.
 pub(crate) fn feed(stack: &mut Stack, octets: &[u8]) -> Fed {
     stack.feed(octets)
 }
 
+/// Tells an end that its byte connection broke.
 pub(crate) fn tell_of_a_break(stack: &mut Stack) {
     stack.broken();
 }
@@ -39,15 +43,17 @@ pub(crate) fn holds_a_token(stack: &Stack, reference: Ref) -> bool {
     !stack.held(reference).is_empty()
 }
 
+/// The end of a side.
 pub(crate) fn stack_of(pair: &Pair, side: Side) -> &Stack {
     pair.stack(side)
 }
 
+/// What two ends were asked, answered and shown.
 pub(crate) fn journal(pair: &Pair) -> &[Entry] {
     pair.journal()
 }
 
-/// How many octets an event has carried.
+/// Applies an event, and says how many octets it has carried.
 pub(crate) fn apply(pair: &mut Pair, event: &Event) -> Result<usize, PairError> {
     match pair.apply(event) {
         Ok(applied) => Ok(applied.carried),

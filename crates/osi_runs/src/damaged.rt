@@ -195,14 +195,19 @@ fn has(lines: &[u8], word: &str) -> bool {
 /// to the same.
 fn goes_well(alloc: Global, case: Case, past: Past, classes: (bool, bool)) -> bool {
     match local(classes) {
-        Some(local) => go_well(
-            &mut fresh(alloc, past, local),
-            &mut fresh(alloc, past, local),
-            case,
-            past,
-        ),
+        Some(local) => goes_well_from(alloc, case, past, local),
         None => false,
     }
+}
+
+fn goes_well_from(alloc: Global, case: Case, past: Past, local: Local) -> bool {
+    let mut whole = fresh(alloc, past, local);
+    goes_as(alloc, &mut whole, case, past, local)
+}
+
+fn goes_as(alloc: Global, whole: &mut Stack, case: Case, past: Past, local: Local) -> bool {
+    let mut single = fresh(alloc, past, local);
+    go_well(whole, &mut single, case, past)
 }
 
 fn go_well(whole: &mut Stack, single: &mut Stack, case: Case, past: Past) -> bool {

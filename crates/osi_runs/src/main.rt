@@ -29,7 +29,7 @@ use long::written_out;
 use octets::played;
 use osi_listing::list;
 use osi_transcript::{Transcript, transcribe};
-use std::alloc::Global;
+use std::alloc::{AllocError, Global};
 use std::rt::{Env, Files};
 use std::{env, fs, io};
 use texts::all_texts;
@@ -341,6 +341,11 @@ fn told_in(alloc: Global, script: &str, way: Way) -> io::Result<Transcript> {
 /// Transcripts differ in nothing but how many octets were carried.
 fn is_same(alloc: Global, lines: &[u8], wanted: &str) -> io::Result<bool> {
     let lines = counts_left_out(alloc, str_of(lines)?)?;
-    let wanted = counts_left_out(alloc, wanted)?;
-    Ok(lines.as_str() == wanted.as_str())
+    Ok(is_rest_of(alloc, lines.as_str(), wanted)?)
+}
+
+/// What is left of a transcript without the counts of octets is this.
+fn is_rest_of(alloc: Global, rest: &str, transcript: &str) -> Result<bool, AllocError> {
+    let transcript = counts_left_out(alloc, transcript)?;
+    Ok(rest == transcript.as_str())
 }

@@ -15,12 +15,14 @@ use crate::calls;
 use crate::digits::octets_in;
 use bytes::BytesMut;
 use osi_carrier::Ref;
+use osi_class::Local;
 use osi_pair::Event;
 use osi_script::{Line, Side, Standing, push_indication, push_standing};
 use osi_session::{Indication, Request};
 use osi_spdu::{Group, SpduFault, read_tsdu, write_tsdu};
 use osi_stack::{Connect, Stack};
 use std::alloc::{AllocError, Global};
+use std::fmt::Debug;
 use std::io;
 
 /// Two ends, which have nothing between them.
@@ -43,8 +45,12 @@ impl Ends {
 /// The lines of a text, with what comes of those that ask for something.
 pub(crate) fn played(alloc: Global, text: &str) -> io::Result<Vec<u8>> {
     let mut out = Vec::new(alloc);
-    play_all(alloc, &mut out, &mut None, text)?;
+    play_text(alloc, &mut out, text)?;
     Ok(out)
+}
+
+fn play_text(alloc: Global, out: &mut Vec<u8>, text: &str) -> io::Result<()> {
+    play_all(alloc, out, &mut None, text)
 }
 
 fn play_all(
@@ -72,6 +78,26 @@ pub(crate) fn push(out: &mut Vec<u8>, line: &str) -> Result<(), AllocError> {
     Ok(())
 }
 
+/// Adds a line of what is said, and of a number.
+pub(crate) fn push_number(
+    alloc: Global,
+    out: &mut Vec<u8>,
+    said: &str,
+    number: usize,
+) -> Result<(), AllocError> {
+    push_made(out, format!(in alloc; "{said} {number}")?)
+}
+
+/// Adds a line of what is said, and of a name.
+pub(crate) fn push_name<T: Debug>(
+    alloc: Global,
+    out: &mut Vec<u8>,
+    said: &str,
+    name: &T,
+) -> Result<(), AllocError> {
+    push_made(out, format!(in alloc; "{said} {name:?}")?)
+}
+
 /// Adds a line that was made.
 pub(crate) fn push_made(out: &mut Vec<u8>, line: String) -> Result<(), AllocError> {
     push(out, line.as_str())
@@ -93,16 +119,21 @@ fn play_line<'a>(
     line: &'a Line<'a>,
 ) -> io::Result<()> {
     if let Some((caller, called)) = ends_in(line) {
-        *ends = Some(Ends {
-            left: Stack::caller(alloc, caller),
-            right: Stack::called(alloc, called),
-        });
+        begin(alloc, ends, caller, called);
         return Ok(());
     }
     match ends {
         Some(ends) => play_at(alloc, out, ends, asked, event_in(line)),
         None => Err(io::Error::from(io::ErrorKind::InvalidInput)),
     }
+}
+
+/// Two ends on which nothing has happened stand in place of the others.
+fn begin(alloc: Global, ends: &mut Option<Ends>, caller: Local, called: Local) {
+    *ends = Some(Ends {
+        left: Stack::caller(alloc, caller),
+        right: Stack::called(alloc, called),
+    });
 }
 
 fn play_at(
@@ -165,8 +196,8 @@ fn connect_at(
     connect: &Connect,
 ) -> Result<(), AllocError> {
     match calls::connect(stack, connect) {
-        Ok(Ref(reference)) => push_made(out, format!(in alloc; "connection {reference}")?),
-        Err(error) => push_made(out, format!(in alloc; "refused {error:?}")?),
+        Ok(Ref(reference)) => push_number(alloc, out, "connection", usize::from(reference)),
+        Err(error) => push_name(alloc, out, "refused", &error),
     }
 }
 
@@ -179,7 +210,7 @@ fn call_at(
 ) -> Result<(), AllocError> {
     match calls::call(stack, reference, request) {
         Ok(()) => push(out, "ok"),
-        Err(error) => push_made(out, format!(in alloc; "refused {error:?}")?),
+        Err(error) => push_name(alloc, out, "refused", &error),
     }
 }
 
@@ -197,7 +228,7 @@ fn feed_octets(
 ) -> io::Result<()> {
     let used = calls::feed(stack, octets).used;
     if used != octets.len() {
-        push_made(out, format!(in alloc; "uses {used}")?)?;
+        push_number(alloc, out, "uses", used)?;
     }
     Ok(())
 }
@@ -246,7 +277,7 @@ fn push_shown(
 ) -> Result<(), AllocError> {
     push_indication(alloc, out, side, reference, indication)?;
     match indication {
-        Indication::ProviderAbort { cause } => push_made(out, format!(in alloc; "by {cause:?}")?),
+        Indication::ProviderAbort { cause } => push_name(alloc, out, "by", cause),
         _ => Ok(()),
     }
 }
@@ -284,7 +315,7 @@ fn push_digits(
 }
 
 /// Adds a line of what is said, and of what stands behind it.
-fn push_behind(out: &mut Vec<u8>, said: &str, rest: &str) -> Result<(), AllocError> {
+pub(crate) fn push_behind(out: &mut Vec<u8>, said: &str, rest: &str) -> Result<(), AllocError> {
     out.extend_from_slice(said.as_bytes())?;
     out.push(b' ')?;
     push(out, rest)
@@ -308,26 +339,40 @@ pub(crate) fn push_where(
     for reference in 1..references {
         push_phase(alloc, out, side, stack, Ref(reference))?;
     }
-    push_kept(alloc, out, side.name(), stack)?;
-    push_end(alloc, out, side.name(), stack)
+    push_kept(alloc, out, side, stack)?;
+    push_end(alloc, out, side, stack)
 }
 
 fn push_kept(
     alloc: Global,
     out: &mut Vec<u8>,
-    name: &str,
+    side: Side,
     stack: &Stack,
 ) -> Result<(), AllocError> {
     match stack.kept() {
         0 => Ok(()),
-        kept => push_made(out, format!(in alloc; "{name} keeps {kept}")?),
+        kept => push_number(alloc, out, keeps(side), kept),
     }
 }
 
-fn push_end(alloc: Global, out: &mut Vec<u8>, name: &str, stack: &Stack) -> Result<(), AllocError> {
+fn keeps(side: Side) -> &'static str {
+    match side {
+        Side::Left => "left keeps",
+        Side::Right => "right keeps",
+    }
+}
+
+fn push_end(alloc: Global, out: &mut Vec<u8>, side: Side, stack: &Stack) -> Result<(), AllocError> {
     match stack.ended() {
         None => Ok(()),
-        Some(reason) => push_made(out, format!(in alloc; "{name} ended {reason:?}")?),
+        Some(reason) => push_name(alloc, out, ended(side), &reason),
+    }
+}
+
+fn ended(side: Side) -> &'static str {
+    match side {
+        Side::Left => "left ended",
+        Side::Right => "right ended",
     }
 }
 

@@ -1,8 +1,9 @@
 //! Scripts of two ends whose events are given in one list.
 
-use crate::again::{pair_in, push_entries, state_of, unreadable};
-use crate::asked::{asks, event_in};
+use crate::again::{push_entries, state_of};
+use crate::asked::{asks, ends_asked, event_in, unreadable};
 use crate::calls;
+use osi_class::Local;
 use osi_pair::{Event, Pair, RunError};
 use osi_script::Line;
 use osi_stack::Connect;
@@ -22,6 +23,13 @@ pub(crate) struct Together {
     pub(crate) is_same: bool,
     /// Which event was refused, and why.
     pub(crate) refused: Option<RunError>,
+}
+
+/// How events are given.
+#[derive(Clone, Copy)]
+enum Given {
+    InOneList,
+    OneByOne,
 }
 
 /// What came of a list of events: which was refused and why, and all that the two ends say behind it.
@@ -44,7 +52,7 @@ fn run_lines<'a>(alloc: Global, script: &str, lines: &'a [Line<'a>]) -> io::Resu
 
 /// Both ways beside each other.
 fn run_events(alloc: Global, script: &str, events: &[Event]) -> io::Result<Together> {
-    let run = in_one_list(alloc, script, events)?;
+    let run = outcome_of(alloc, script, events, Given::InOneList)?;
     beside_one_by_one(alloc, script, events, &run)
 }
 
@@ -54,7 +62,7 @@ fn beside_one_by_one(
     events: &[Event],
     run: &Outcome,
 ) -> io::Result<Together> {
-    let applied = one_by_one(alloc, script, events)?;
+    let applied = outcome_of(alloc, script, events, Given::OneByOne)?;
     Ok(compared(run, &applied))
 }
 
@@ -65,21 +73,32 @@ fn compared(run: &Outcome, applied: &Outcome) -> Together {
     }
 }
 
-/// What comes of events that are given in one list.
-fn in_one_list(alloc: Global, script: &str, events: &[Event]) -> io::Result<Outcome> {
-    let mut pair = pair_in(alloc, script)?;
-    let refused = run_all(&mut pair, events);
-    outcome_of(alloc, &pair, refused)
+/// What comes of events that are given so, on the two ends that a script asks for.
+fn outcome_of(alloc: Global, script: &str, events: &[Event], given: Given) -> io::Result<Outcome> {
+    let (left, right) = ends_asked(alloc, script)?;
+    outcome_between(alloc, left, right, events, given)
 }
 
-/// What comes of events that are applied one by one.
-fn one_by_one(alloc: Global, script: &str, events: &[Event]) -> io::Result<Outcome> {
-    let mut pair = pair_in(alloc, script)?;
-    let refused = apply_each(&mut pair, events);
-    outcome_of(alloc, &pair, refused)
+fn outcome_between(
+    alloc: Global,
+    left: Local,
+    right: Local,
+    events: &[Event],
+    given: Given,
+) -> io::Result<Outcome> {
+    outcome_on(alloc, &mut Pair::new(alloc, left, right), events, given)
 }
 
-fn outcome_of(alloc: Global, pair: &Pair, refused: Option<RunError>) -> io::Result<Outcome> {
+fn outcome_on(
+    alloc: Global,
+    pair: &mut Pair,
+    events: &[Event],
+    given: Given,
+) -> io::Result<Outcome> {
+    let refused = match given {
+        Given::InOneList => run_all(pair, events),
+        Given::OneByOne => apply_each(pair, events),
+    };
     let said = all_of(alloc, pair)?;
     Ok(Outcome { refused, said })
 }
