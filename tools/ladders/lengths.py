@@ -5,6 +5,8 @@ CLOSING, CLOSED, CONFIRMED = 11, 10, {"0": 14, "2": 17}
 POINTS = 0x08 | 0x10 | 0x20
 SMALLEST_LIMIT = 123
 SIZES = ("asker", "answerer")
+# A part of a Data: an empty GT, then the DT's code and length and its enclosure item, in front of the user data.
+HEADER_OF_PART = 2 + 2 + 3
 
 
 def coded(octets):
@@ -48,6 +50,23 @@ def tsdu_length(name, fields):
         return WRITTEN[name](fields, octets)
     except (KeyError, TypeError):
         return None
+
+
+def smaller(size, answer):
+    """The size of TSDUs for one direction, of a CN's and the answerer's: 0 where the CN has none (X.225 6.3)."""
+    asked, answered = int(size or 0), int(answer or 0)
+    return min(asked, answered) if asked and answered else asked
+
+
+def tsdu_lengths(name, fields, most):
+    """The lengths of the TSDUs in which a call leaves, [None] where that is not known.
+
+    Data leaves in parts where it would be longer than `most` octets as one TSDU; 0 is no limit."""
+    whole = tsdu_length(name, fields)
+    if name != "data" or not most or whole is None or whole <= most:
+        return [whole]
+    data, room = len(fields["data"]) // 2, most - HEADER_OF_PART
+    return [HEADER_OF_PART + min(room, data - start) for start in range(0, data, room)]
 
 
 WRITTEN = {

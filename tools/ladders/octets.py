@@ -3,12 +3,15 @@ from collections import deque
 
 
 class Message:
-    """What one line sends on one connection; `shown` is the index of the line in which it is seen."""
+    """What one line sends on one connection; `shown` is the index of the line in which it is seen.
 
-    __slots__ = ("side", "connection", "name", "line", "fields", "shown", "arrived")
+    Data that leaves in parts is a message for each of them: `part` is then its place and how many there are, and
+    only the last part has the name of the call."""
 
-    def __init__(self, side, connection, name, line, fields=None):
-        self.side, self.connection, self.name, self.line = side, connection, name, line
+    __slots__ = ("side", "connection", "name", "line", "fields", "shown", "arrived", "part")
+
+    def __init__(self, side, connection, name, line, fields=None, part=None):
+        self.side, self.connection, self.name, self.line, self.part = side, connection, name, line, part
         self.fields, self.shown, self.arrived = fields or {}, None, False
 
 

@@ -5,7 +5,7 @@ from .history import overlaps
 
 UNITS = {"connect": "CN", "accept": "AC", "refuse": "RF", "data": "DT", "give": "GT", "please": "PT", "minor": "MIP",
          "minorconfirm": "MIA", "major": "MAP", "majorconfirm": "MAA", "restart": "RS", "restartconfirm": "RA",
-         "release": "FN", "releaseaccept": "DN", "releaserefuse": "NF", "abort": "AB", "answer to an abort": "AA"}
+         "part": "DT", "release": "FN", "releaseaccept": "DN", "releaserefuse": "NF", "abort": "AB", "answer to an abort": "AA"}
 
 
 class Row:
@@ -101,14 +101,16 @@ def arrow_of(piece, lines):
     run, message = piece.run, piece.run.message
     total = run.length
     unit = UNITS.get(message.name, message.name)
+    label = "{} ({}/{})".format(unit, *message.part) if message.part else unit
     ends = total is not None and piece.reach == total
     begin, reach = (piece.begin / total, piece.reach / total) if total else (0, 0.75)
     of_all = "" if octets == total else f" of {total}" if total else ""
-    whole = (f"{piece.side}, connection {message.connection}: {unit}, {octets}{of_all} octets, "
+    named = "{}, part {} of {}".format(unit, *message.part) if message.part else unit
+    whole = (f"{piece.side}, connection {message.connection}: {named}, {octets}{of_all} octets, "
              f"written at line {run.line + 1}, carried at line {piece.carry + 1}")
     whole += f", seen at line {message.shown + 1}" if ends and message.shown is not None else ""
     arrow = Arrow(piece.side, message.connection, piece.start, piece.end, begin, reach,
-                  f"{unit} {octets}{of_all}", whole)
+                  f"{label} {octets}{of_all}", whole)
     if not ends and piece.reach == run.passed:
         arrow.stop = "cut" if total else "open"
     elif not ends:

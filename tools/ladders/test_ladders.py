@@ -174,6 +174,21 @@ class Octets(unittest.TestCase):
         self.assertEqual((last.stop, last.begin, round(last.reach * 12)), ("cut", 0, 1))
         self.assertEqual(last.label, "DT 1 of 12")
 
+    def test_each_part_of_a_data_is_an_arrow(self):
+        # Three hundred octets under a limit of 64 octets a TSDU, with a window of one.
+        arrows = Run(os.path.join(DATA, "parts_need_credit")).picture.arrows
+        self.assertEqual([arrow.label for arrow in arrows if "/" in arrow.label],
+                         [f"DT ({place}/6) 73" for place in range(1, 6)] + ["DT (6/6) 31"])
+
+    def test_each_direction_has_a_limit_of_its_own(self):
+        arrows = Run(os.path.join(DATA, "parts_in_one_direction")).picture.arrows
+        self.assertEqual([(arrow.side, arrow.label) for arrow in arrows if arrow.label.startswith("DT")],
+                         [("left", "DT (1/2) 71"), ("left", "DT (2/2) 18"), ("right", "DT 72")])
+
+    def test_parts_without_their_script_are_not_guessed(self):
+        run = Run(os.path.join(DATA, "parts_need_credit"), with_script=False)
+        self.assertEqual(run.lines[run.wire.untold].text, "left carried 82")
+
     def test_a_wrong_transcript_is_not_believed(self):
         text = text_of(os.path.join(DATA, "points.transcript")).replace("left carried 59", "left carried 60")
         followed = wire.Wire(transcript.read(text)).run()

@@ -29,6 +29,7 @@ class Wire:
         self.unread, self.untold, self.assumed_window, self.reached = {}, None, False, {}
         self.first_request, self.link_class = None, None
         self.limit = self.window = None
+        self.agreed_sizes = {}
         self.opening = self.look_ahead()
         if ends:
             self.first_request = ASKED.get(ends["caller"], 20)
@@ -84,15 +85,22 @@ class Wire:
 
     def send(self, side, connection, name, line, fields):
         """The TSDU of a call is handed to the link."""
-        message = Message(side, connection, name, line, fields)
+        tsdus = lengths.tsdu_lengths(name, fields, self.most(side, connection))
+        count = len(tsdus)
+        messages = [Message(side, connection, name if place == count else "part", line, fields,
+                            (place, count) if count > 1 else None) for place in range(1, count + 1)]
         link = self.links.get((side, connection))
         if link is None or link.closing or side in self.ended:
-            return message
-        sizes = lengths.parts(lengths.tsdu_length(name, fields), self.link_class, self.limit) or [None]
-        for place, size in enumerate(sizes, 1):
-            link.waiting.append((message, size, place == len(sizes)))
+            return messages[-1]
+        for message, tsdu in zip(messages, tsdus):
+            sizes = lengths.parts(tsdu, self.link_class, self.limit) or [None]
+            link.waiting += [(message, size, place == len(sizes)) for place, size in enumerate(sizes, 1)]
         self.flush(side, connection, line)
-        return message
+        return messages[-1]
+
+    def most(self, side, connection):
+        """The most octets of a TSDU that a side sends, once the CN is answered; 0 where nothing limits it."""
+        return self.agreed_sizes.get(connection, {}).get("asker" if side == "left" else "answerer", 0)
 
     def flush(self, side, connection, line):
         """The link writes what its credit allows."""
@@ -125,9 +133,12 @@ class Wire:
             fields.update(self.opening.get(("Connected", line.connection), {}))
             # An AC names a size where the CN does, and no other.
             asked = self.opening.get(("Connect", line.connection), {})
-            fields.update({size: asked.get(size) for size in lengths.SIZES})
+            agreed = {size: lengths.smaller(asked.get(size), fields.get(size)) for size in lengths.SIZES}
+            fields.update(agreed)
         self.number(line.name, key, fields)
         self.messages[line.index] = self.send(line.side, line.connection, line.name, line.index, fields)
+        if line.name == "accept":
+            self.agreed_sizes[line.connection] = agreed
         if line.name == "restart":
             self.restarting.add(key)
         elif line.name == "abort":
@@ -219,9 +230,15 @@ class Wire:
                 return packet
             if receiver in self.restarting | self.over | self.aborting or receiver[0] in self.ended:
                 raise Untold
+            if message.name == "data" and self.most(message.side, message.connection):
+                raise Untold
             return packet
         message.fields = {**message.fields, **self.lines[shown[0]].fields}
-        sizes = lengths.parts(lengths.tsdu_length(message.name, message.fields), self.link_class, self.limit)
+        most = self.most(message.side, message.connection)
+        tsdu, *parts = lengths.tsdu_lengths(message.name, message.fields, most)
+        if parts:
+            raise Untold
+        sizes = lengths.parts(tsdu, self.link_class, self.limit)
         if sizes is None and (rest or self.link_class != "0"):
             raise Untold
         sizes = sizes or [packet.passed + left]
