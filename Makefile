@@ -1,5 +1,7 @@
 # make: proves the program and builds it; every half minute it says how far it is (scripts/proving).
-# make test: proves and tests everything.
+# make test: proves and tests everything, as the gate does (bash .ci/run), and then runs the tests of what is not Rattle: the
+# ladders, the programs and bindings, the packages, the pages (scripts/test_all). What needs something that isn't here is
+# named and counted as skipped.
 # make edits, or make edits CRATE=osi_spdu: tries the edits of crates/*/edits, which the prover must refuse, and the
 # functions of scripts/refused_borrows, which must not compile.
 # make lib: builds the library for C, into build/: libosi-session.a and libosi-session.so, with the number of its soname.
@@ -26,7 +28,7 @@ all:
 	scripts/sources > crates/osi_tool/out/sources
 
 test:
-	bash .ci/run
+	scripts/test_all
 
 edits:
 	scripts/edits -v $(CRATE)
