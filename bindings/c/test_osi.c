@@ -289,7 +289,7 @@ static uint16_t second_of(struct pair *p)
 
 static void a_connection_is_given_up_alone(void)
 {
-    static const uint8_t message[100000];
+    static const uint8_t message[200000];
     struct pair p = opened();
     const uint16_t second = second_of(&p);
     CHECK(osi_data(&p.caller, p.of, message, sizeof message) == OSI_OK && osi_unsent(&p.caller, p.of) > 0);

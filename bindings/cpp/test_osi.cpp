@@ -441,7 +441,7 @@ static void a_connection_is_given_up_alone()
     two.carry();
     CHECK(two.called.accept(2, all_units, 1) == code::ok);
     two.carry();
-    CHECK(two.caller.data(two.of, std::string(100000, 'x')) == code::ok && two.caller.backlog() > 0);
+    CHECK(two.caller.data(two.of, std::string(200000, 'x')) == code::ok && two.caller.backlog() > 0);
     CHECK(two.caller.disconnect(two.of) == code::ok && two.caller.backlog() == 0 && two.caller.wants_write());
     CHECK(two.caller.phase(two.of) == osi::phase::ended && two.caller.disconnect(two.of) == code::ok);
     two.carry();

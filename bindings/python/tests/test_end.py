@@ -345,7 +345,7 @@ class GivenUp(Case):
         pair.carry()
         pair.called.accept(second, ALL_UNITS, 1)
         pair.carry()
-        pair.caller.data(1, bytes(100000))
+        pair.caller.data(1, bytes(200000))
         self.assertTrue(pair.caller.backlog() > 0 and pair.caller.wants_write())
         pair.caller.disconnect(1)
         self.assertEqual((pair.caller.backlog(), pair.caller.phase(1)), (0, Phase.ENDED))

@@ -324,7 +324,7 @@ fn a_connection_is_given_up_alone() {
     pair.by_called();
     pair.called.accept(second, ALL_UNITS, 1, ASKERS, b"").unwrap();
     pair.by_caller();
-    pair.caller.data(pair.of, &[0; 100_000]).unwrap();
+    pair.caller.data(pair.of, &[0; 200_000]).unwrap();
     assert!(pair.caller.backlog() > 0 && pair.caller.wants_write());
     pair.caller.disconnect(pair.of).unwrap();
     assert_eq!((pair.caller.backlog(), pair.caller.phase(pair.of)), (0, Some(Phase::Ended)));
