@@ -68,40 +68,6 @@ impl Session {
         self.state.numbers = numbers;
     }
 
-    /// A call of the user for a minor point.
-    #[inline(never)]
-    pub(super) fn call_minor(&mut self, confirm: bool, user_data: &[u8]) -> Result<Sent, CallError>
-        ensures state { OnOk result (self.new ≡ (react self.old (called (Minor confirm user_data.now))).next) }
-        ensures sent { IfOk result (λ s. s ≡ tsdus_sent (limit_of self.old.state) (react self.old (called (Minor confirm user_data.now))).reply) }
-        ensures accepted { OnOk result ((react self.old (called (Minor confirm user_data.now))).error ≡ None) }
-        ensures sendable { OnOk result (CanBeSent (react self.old (called (Minor confirm user_data.now))).reply) }
-        ensures refused { IfErr result (λ e. Refused e (react self.old (called (Minor confirm user_data.now))).error) }
-        ensures err { OnErr result (self.new ≡ self.old) }
-    {
-        let point = self.plan_minor(confirm, user_data)?;
-        self.advance(point.numbers);
-        Ok(point.sent)
-    }
-
-    /// A call of the user for the confirmation of a minor point.
-    #[inline(never)]
-    pub(super) fn call_minor_confirm(
-        &mut self,
-        number: u32,
-        user_data: &[u8],
-    ) -> Result<Sent, CallError>
-        ensures state { OnOk result (self.new ≡ (react self.old (called (MinorConfirm number user_data.now))).next) }
-        ensures sent { IfOk result (λ s. s ≡ tsdus_sent (limit_of self.old.state) (react self.old (called (MinorConfirm number user_data.now))).reply) }
-        ensures accepted { OnOk result ((react self.old (called (MinorConfirm number user_data.now))).error ≡ None) }
-        ensures sendable { OnOk result (CanBeSent (react self.old (called (MinorConfirm number user_data.now))).reply) }
-        ensures refused { IfErr result (λ e. Refused e (react self.old (called (MinorConfirm number user_data.now))).error) }
-        ensures err { OnErr result (self.new ≡ self.old) }
-    {
-        let point = self.plan_minor_confirm(number, user_data)?;
-        self.advance(point.numbers);
-        Ok(point.sent)
-    }
-
     /// A minor point or a confirmation that is expected. It stands out of line: data comes more often.
     #[inline(never)]
     pub(super) fn take_point(&mut self, tsdu: &[u8]) -> Option<Indication>
