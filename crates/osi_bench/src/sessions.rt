@@ -1,8 +1,12 @@
-//! Data, a minor synchronization point and its confirmation, over a pair of sessions.
+//! Data, a minor synchronization point and its confirmation, over a pair of sessions, by the calls that an
+//! end makes of them.
+
+ghost use Rattle.std.specs.Prelude.{◌≡◌, true};
+ghost use Rattle.osi_session.specs.Points.{may_advance};
 
 use bitflags::Flags;
 use osi_message::Sent;
-use osi_session::{Opening, Request, Session, Sides};
+use osi_session::{Opening, PlannedPoint, Request, Session, Sides};
 use osi_spdu::{Requirements, Serial, Side, TokenSetting, TsduSizes, Wish};
 use std::alloc::Global;
 
@@ -54,13 +58,40 @@ fn tell(from: &mut Session, request: Request, to: &mut Session) -> Option<usize>
     hand(&sent, to)
 }
 
-/// Makes a call, and hands what it sends to nobody: the octets of the TSDU.
-fn send(from: &mut Session, request: Request) -> Option<usize> {
-    let sent = from.call(request).ok()?;
+/// The octets of the TSDU, which is handed to nobody.
+fn length_of(sent: &Sent) -> Option<usize> {
     match sent.tsdus() {
         [tsdu] => Some(tsdu.len()),
         _ => None,
     }
+}
+
+/// Calls for data as an end does.
+fn data(from: &Session, user_data: &[u8]) -> Option<Sent> {
+    from.call_data(user_data).ok()
+}
+
+/// Goes on after a planned point, as an end does that has sent it.
+fn go_on(from: &mut Session, plan: PlannedPoint) -> Sent
+    requires { may_advance from.old.state plan.point ≡ true }
+{
+    let PlannedPoint { sent, point } = plan;
+    if !from.advance(point) {
+        unreachable!()
+    }
+    sent
+}
+
+/// Calls as an end does for a point that asks for its confirmation.
+fn point(from: &mut Session) -> Option<Sent> {
+    let plan = from.plan_minor(true, &[]).ok()?;
+    Some(go_on(from, plan))
+}
+
+/// Calls as an end does for the confirmation of this point.
+fn confirmation(from: &mut Session, number: u32) -> Option<Sent> {
+    let plan = from.plan_minor_confirm(number, &[]).ok()?;
+    Some(go_on(from, plan))
 }
 
 /// Sends the CN.
@@ -102,46 +133,32 @@ fn connected(alloc: Global) -> Option<Ends> {
     }
 }
 
-/// A point that asks for its confirmation.
-const MINOR: Request = Request::Minor {
-    confirm: true,
-    user_data: &[],
-};
-
-/// The confirmation of this point.
-fn confirm<'a>(number: u32) -> Request<'a> {
-    Request::MinorConfirm {
-        number,
-        user_data: &[],
-    }
-}
-
 /// A point, and its confirmation, which is handed over or not: the octets of both TSDUs.
 fn confirmed(ends: &mut Ends, handed: bool) -> Option<usize> {
     let number = ends.caller.next_serial();
-    let point = tell(&mut ends.caller, MINOR, &mut ends.called)?;
-    let confirmation = if handed {
-        tell(&mut ends.called, confirm(number), &mut ends.caller)?
+    let first = hand(&point(&mut ends.caller)?, &mut ends.called)?;
+    let answer = confirmation(&mut ends.called, number)?;
+    let second = if handed {
+        hand(&answer, &mut ends.caller)?
     } else {
-        send(&mut ends.called, confirm(number))?
+        length_of(&answer)?
     };
-    point.checked_add(confirmation)
+    first.checked_add(second)
 }
 
 /// A part of a round: the octets of its TSDUs. 0 sends data, 1 hands it over too; 2 and 3 do the
 /// same with a point; 4 hands a point over and sends its confirmation, 5 hands both over; any other
 /// number does 1 and 5.
 fn part(ends: &mut Ends, user_data: &[u8], number: usize) -> Option<usize> {
-    let data = Request::Data { user_data };
     match number {
-        0 => send(&mut ends.caller, data),
-        1 => tell(&mut ends.caller, data, &mut ends.called),
-        2 => send(&mut ends.caller, MINOR),
-        3 => tell(&mut ends.caller, MINOR, &mut ends.called),
+        0 => length_of(&data(&ends.caller, user_data)?),
+        1 => hand(&data(&ends.caller, user_data)?, &mut ends.called),
+        2 => length_of(&point(&mut ends.caller)?),
+        3 => hand(&point(&mut ends.caller)?, &mut ends.called),
         4 => confirmed(ends, false),
         5 => confirmed(ends, true),
         _ => {
-            let octets = tell(&mut ends.caller, data, &mut ends.called)?;
+            let octets = hand(&data(&ends.caller, user_data)?, &mut ends.called)?;
             octets.checked_add(confirmed(ends, true)?)
         }
     }

@@ -1,6 +1,6 @@
 -- What is joined at all times: it is kept by the phase, and at most as much as one Data.
 use Rattle.std.proofs.Common.{◌≡◌, refl, ap, subst, ℕ, ◌≤◌, Bool, true, false, not, if◌then◌else◌, nat_le, List, [], ◌∷◌, ◌++◌, length, Option, Some, None, Result, Ok, Err, arith}
-use Rattle.osi_session.proofs.Vocabulary.{is_some, leb-true, length-append, SpduFault, UnitFault, Unexpected, BadEnclosure, DataTooLong, Phase, Connecting, Ended, without_tokens, State, most_data, Answer, allowed, is_over, is_wait_transport, may_hold, Condition, si, conditions, first_fault, is_expected, drops, Verdict, over, dropped, faulty, fine, by_fault, is_faulty, enacted, bad, respond_fault, Place, First, Middle, Last, DT, said_at, Word, Words, says, part, as_message, Taker, joined_octets, drops_parts, kept_in, is_in_place, enclosure_conditions, word_conditions, word_verdict, joined_by, good_word, Hearing, enacted_word, respond_word, respond_words, acting_words, respond_tsdu, respond_came, IsKeptIn, IsKept, Input, called, taken, unread, opened, refused, broken, Listener, Move, taker_of, in_state, answered, begun, denied, rests, react, after_input, after_inputs}
+use Rattle.osi_session.proofs.Vocabulary.{is_some, leb-true, length-append, SpduFault, BadEnclosure, DataTooLong, Phase, State, most_data, Answer, may_hold, Condition, si, conditions, first_fault, Verdict, fine, is_faulty, respond_fault, Place, DT, said_at, Word, Words, part, as_message, Taker, joined_octets, drops_parts, kept_in, is_in_place, enclosure_conditions, word_conditions, word_verdict, joined_by, Hearing, enacted_word, respond_word, respond_words, acting_words, respond_tsdu, respond_came, IsKeptIn, IsKept, Input, Listener, Move, in_state, answered, react, after_input, after_inputs}
 use Rattle.osi_session.proofs.WordLaws.{kept_twice, word_kept}
 
 -- ---- what each word leaves, words leave
@@ -25,9 +25,12 @@ word_in_phase t w = ap (λ (r : Taker). r.joined) (word_kept t w)
 pub words_in_phase : (t : Taker) (words : Words) → InPhase t → InPhase (respond_tsdu t words).next
 words_in_phase t words h = all_leave InPhase t (acting_words words) (λ r w k. word_in_phase r w) h
 
+pub fault_in_phase : (t : Taker) (fault : SpduFault) → InPhase (respond_came t (Err fault)).next
+fault_in_phase t fault = kept_twice (respond_fault t.state fault).next.phase t.joined
+
 read_in_phase : (t : Taker) (read : Result Words SpduFault) → InPhase t → InPhase (respond_came t read).next
 read_in_phase t (Ok words) h = words_in_phase t words h
-read_in_phase t (Err fault) h = kept_twice (respond_fault t.state fault).next.phase t.joined
+read_in_phase t (Err fault) h = fault_in_phase t fault
 
 pub octets_in_phase : (t : Taker) (tsdu : List ℕ) (h : Hearing) → respond_came t (said_at tsdu) ≡ h → InPhase t → InPhase h.next
 octets_in_phase t tsdu h e k = subst (λ (x : Hearing). InPhase x.next) e (read_in_phase t (said_at tsdu) k)
@@ -81,9 +84,12 @@ word_few t w h = enacted_few t w (word_verdict t w) refl h
 pub words_few : (t : Taker) (words : Words) → Few t.joined → Few (respond_tsdu t words).next.joined
 words_few t words h = all_leave (λ r. Few r.joined) t (acting_words words) word_few h
 
+pub fault_few : (t : Taker) (fault : SpduFault) → Few t.joined → Few (respond_came t (Err fault)).next.joined
+fault_few t fault h = kept_few (respond_fault t.state fault).next.phase t.joined h
+
 read_few : (t : Taker) (read : Result Words SpduFault) → Few t.joined → Few (respond_came t read).next.joined
 read_few t (Ok words) h = words_few t words h
-read_few t (Err fault) h = kept_few (respond_fault t.state fault).next.phase t.joined h
+read_few t (Err fault) h = fault_few t fault h
 
 pub octets_few : (t : Taker) (tsdu : List ℕ) (h : Hearing) → respond_came t (said_at tsdu) ≡ h → Few t.joined → Few h.next.joined
 octets_few t tsdu h e k = subst (λ (x : Hearing). Few x.next.joined) e (read_few t (said_at tsdu) k)

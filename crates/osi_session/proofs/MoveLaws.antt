@@ -1,7 +1,7 @@
 -- The move of each thing, from what the tables answer.
-use Rattle.std.proofs.Common.{inl, inr, ◌≡◌, refl, sym, ◌∙◌, ap, ℕ, true, false, Some, None, Result, Ok, Err}
+use Rattle.std.proofs.Common.{inl, inr, ◌≡◌, refl, sym, ◌∙◌, ap, ℕ, List, true, false, Some, None, Result, Ok, Err}
 use Rattle.osi_session.specs.declared.faults.CallError.TheVariants as error
-use Rattle.osi_session.proofs.Vocabulary.{SpduFault, State, CallError, Words, tsdus_of, tsdus_sent, Call, Step, Answer, allowed, Outcome, respond_fault, lost, Hearing, heard, respond_tsdu, respond_came, called, taken, unread, opened, refused, broken, came_as, Listener, Move, taker_of, rests, in_state, answered, moved, begun, denied, react, after_input, Planned, IsPlanOf, limit_of, cases_Bool, is_wait_transport, is_over}
+use Rattle.osi_session.proofs.Vocabulary.{SpduFault, Units, tsdu_at, said_at, said_by_units, said_if_read, State, CallError, Words, tsdus_of, tsdus_sent, Call, Step, Answer, allowed, respond_fault, lost, Hearing, heard, respond_tsdu, respond_came, called, taken, unread, opened, refused, broken, came, came_as, Listener, Move, taker_of, rests, in_state, answered, moved, begun, denied, react, after_input, Planned, IsPlanOf, limit_of, cases_Bool, is_wait_transport, is_over}
 
 pub call_is : (s : Listener) (c : Call) (a : Answer) → allowed s.state c ≡ a → react s (called c) ≡ answered s a
 unfolding react
@@ -34,6 +34,14 @@ pub came_is : (s : Listener) (read : Result Words SpduFault) (h : Hearing) → r
 unfolding react
 came_is s (Ok words) h e = ap (moved s) e
 came_is s (Err fault) h e = ap (moved s) e
+
+pub came_words : (tsdu : List ℕ) (units : Units) → tsdu_at tsdu ≡ Ok units → taken (said_by_units units) ≡ came tsdu
+unfolding said_at
+came_words tsdu units e = ap (λ (r : Result Units SpduFault). came_as (said_if_read r)) (sym e)
+
+pub came_fault : (tsdu : List ℕ) (fault : SpduFault) → tsdu_at tsdu ≡ Err fault → unread fault ≡ came tsdu
+unfolding said_at
+came_fault tsdu fault e = ap (λ (r : Result Units SpduFault). came_as (said_if_read r)) (sym e)
 
 -- ---- plans
 

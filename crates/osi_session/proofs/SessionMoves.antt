@@ -4,10 +4,10 @@ use Rattle.osi_session.specs.declared.joining.PartVerdict.TheVariants as is
 use Rattle.osi_session.specs.declared.hearing.Joined.{Joined}
 use Rattle.osi_session.specs.declared.taken.Taken.{Taken}
 use Rattle.osi_session.specs.Shown.{Data}
-use Rattle.osi_session.proofs.Vocabulary.{append-nil, SpduFault, Meaning, IsNumberedWord, AreNumberedWords, said_at, Place, First, Middle, Last, Word, Words, part, in_one, Indication, Reactions, Heard, State, Taker, Hearing, kept_in, joined_octets, is_last, word_verdict, heard, respond_word, respond_tsdu, respond_came, Listener, Move, in_state, moved, taker_of, is_wait_transport, may_hold, Outcome, nothing, shows, fine, respond_fault, shown_by, Takes, takes_memory, IsSound, hearing_of, hearing_of_all, outcome_of, outcome_of_all, shown_list, takes_room, told_of}
+use Rattle.osi_session.proofs.Vocabulary.{append-nil, SpduFault, Meaning, IsNumberedWord, AreNumberedWords, said_at, Place, First, Middle, Last, Word, Words, part, in_one, Indication, Reactions, Heard, State, Taker, Hearing, kept_in, joined_octets, is_last, word_verdict, heard, respond_word, respond_tsdu, respond_came, Listener, Move, in_state, moved, taker_of, is_wait_transport, may_hold, Outcome, nothing, shows, fine, shown_by, Takes, takes_memory, IsSound, hearing_of, hearing_of_all, outcome_of, outcome_of_all, shown_list, takes_room, told_of}
 use Rattle.osi_session.proofs.HearingLaws.{kept_held, part_dropped, fine_holds, first_is, middle_is, last_is, early_takes}
-use Rattle.osi_session.proofs.JoinedLaws.{InPhase, Few, words_in_phase, words_few, octets_in_phase, octets_few}
-use Rattle.osi_session.proofs.TsduLaws.{words_sound, words_begun, octets_sound, octets_begun}
+use Rattle.osi_session.proofs.JoinedLaws.{InPhase, Few, words_in_phase, words_few, octets_in_phase, octets_few, fault_in_phase, fault_few}
+use Rattle.osi_session.proofs.TsduLaws.{words_sound, words_begun, octets_sound, octets_begun, fault_sound, fault_begun}
 use Rattle.osi_session.proofs.WordLaws.{kept_none, word_alone}
 
 -- a session stays as it is where its phase keeps what is joined
@@ -59,6 +59,14 @@ leaves_octets l tsdu h = record {
   begun = octets_begun (taker_of l) tsdu _ refl;
   phase = octets_in_phase (taker_of l) tsdu _ refl h.phase;
   few = octets_few (taker_of l) tsdu _ refl h.few;
+}
+
+pub leaves_fault : (l : Listener) (fault : SpduFault) → Holds l → Leaves l (respond_came (taker_of l) (Err fault))
+leaves_fault l fault h = record {
+  sound = fault_sound l.state fault h.sound;
+  begun = fault_begun l.state fault;
+  phase = fault_in_phase (taker_of l) fault;
+  few = fault_few (taker_of l) fault h.few;
 }
 
 pub leaves_as : (l : Listener) (h k : Hearing) → h ≡ k → Leaves l k → Leaves l h

@@ -36,7 +36,7 @@ pub use Rattle.osi_spdu.specs.declared.fields.TsduMaximumSize.{TsduMaximumSize}
 pub use Rattle.osi_spdu.specs.declared.kinds.Category.TheVariants.{One, Two, Zero}
 pub use Rattle.osi_spdu.specs.declared.kinds.Kind.{Kind}
 pub use Rattle.osi_spdu.specs.declared.settings.TokenSetting.{TokenSetting}
-pub use Rattle.osi_session.specs.Allowed.{AllHold, Answer, Passed, Step, Test, after, first_error, has_right, is_confirmable, is_restartable, last_number, may_call, most_data, most_of, needs, octets_of, opened_with, sends, sized}
+pub use Rattle.osi_session.specs.Allowed.{AllHold, Answer, Passed, Step, Test, after, first_error, has_right, is_confirmable, is_restartable, last_number, may_call, most_data, most_of, most_user_data, needs, octets_of, opened_with, sends, sized}
 unfoldable pub use Rattle.osi_session.specs.Allowed.{allowed, met}
 pub use Rattle.osi_session.specs.Calls.{Abort, Accept, Call, Data, Give, HasSerial, Major, MajorConfirm, Minor, MinorConfirm, Please, Refuse, Release, ReleaseAccept, ReleaseRefuse, Restart, RestartConfirm, called_by}
 pub use Rattle.osi_session.specs.Causes.{asks_first, asks_for_connection, call_gives, call_holds, call_opens, call_renews, is_taken, opens_connection, renews, some_word, to_answerer, to_asker, unit_asks, unit_gives, unit_holds, unit_opens, unit_renews}
@@ -51,7 +51,7 @@ unfoldable pub use Rattle.osi_session.specs.Numbers.{major_confirmed, minor_conf
 pub use Rattle.osi_session.specs.Openings.{asked_for}
 pub use Rattle.osi_session.specs.Parts.{Act, AreAlike, AreParts, AreSilent, HasProfile, IsOfProfile, act_in_octets, act_in_words, calls, calls_in, comes, has_profile, part_comes}
 pub use Rattle.osi_session.specs.Phases.{every_phase, in_major, is_aborting, is_answering, is_connecting, is_ended, is_major_asked, is_major_due, is_over, is_ready, is_release_due, is_releasing, is_restart_due, is_restarting, is_settled, is_wait_cn, is_wait_transport, may_abort, may_ask, may_confirm_minor, may_give, may_hold, may_restart, shows_loss, takes_data, takes_minor_ack, takes_restart}
-pub use Rattle.osi_session.specs.Points.{PlansPoint, in_numbers, only_shows}
+pub use Rattle.osi_session.specs.Points.{PlansPoint, advanced, all_hold, call_for, has_next, in_numbers, may_advance, only_shows}
 pub use Rattle.osi_session.specs.Respond.{AllMet, Condition, IsGood, Outcome, Verdict, and_then, bad, becomes, by_fault, closes_for, conditions, dropped, drops, enacted, faulty, fine, first_fault, first_reply, good, has_no_effect, in_aborting, in_ended, is_acceptable, is_acknowledgeable, is_expected, is_faulty, is_nil, is_resynchronize, is_silent, is_token_item, judged, kind_of, lost, nothing, over, replies_abort, reply_for, respond, shown_for, shows, si, verdict}
 unfoldable pub use Rattle.osi_session.specs.Respond.{acting, respond_all, respond_fault, respond_unit, stands, take_expected}
 pub use Rattle.osi_session.specs.Runs.{HasNumbers, HasNumbersInWords, IsFresh}

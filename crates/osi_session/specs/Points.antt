@@ -1,14 +1,17 @@
 -- Minor points and their confirmations: calls and units that change the numbers alone.
-use Rattle.std.specs.Prelude.{◌≡◌, [], ◌∷◌, None}
+use Rattle.std.specs.Prelude.{◌≡◌, ◌==◌, ◌&&◌, ℕ, Bool, true, List, [], ◌∷◌, None}
 use Rattle.osi_message.specs.Parting.{tsdus_sent}
 use Rattle.osi_session.specs.declared.numbers.Numbers.{Numbers}
 use Rattle.osi_session.specs.declared.plans.PlannedPoint.{PlannedPoint}
-use Rattle.osi_session.specs.Calls.{Call}
-use Rattle.osi_session.specs.Listening.{Listener, Move, called, react, rests}
+use Rattle.osi_session.specs.declared.plans.SentPoint.{SentPoint}
+use Rattle.osi_session.specs.declared.plans.SentPoint.TheVariants as point
+use Rattle.osi_session.specs.declared.state.State.{State}
+use Rattle.osi_session.specs.Allowed.{Test, after, may_call, needs}
+use Rattle.osi_session.specs.Calls.{Call, Minor, MinorConfirm}
+use Rattle.osi_session.specs.Listening.{Listener, Move, called, in_state, react, rests}
 use Rattle.osi_session.specs.Sessions.{CanBeSent}
 use Rattle.osi_session.specs.Shown.{Shown}
 use Rattle.osi_session.specs.Sizes.{limit_of}
-use Rattle.osi_session.specs.Sound.{IsSound}
 
 -- a session with these numbers
 abbrev pub in_numbers : Listener → Numbers → Listener
@@ -18,10 +21,34 @@ in_numbers l n = record l { state = record l.state { numbers = n } }
 abbrev pub only_shows : Listener → Shown → Move
 only_shows next shown = record (rests next) { shown = shown ∷ [] }
 
--- what an accepted call for a point sends, and the numbers behind it
-pub record PlansPoint (l : Listener) (call : Call) (point : PlannedPoint) : Type 0 where
-  pub state : (react l (called call)).next ≡ in_numbers l point.numbers
-  pub sound : IsSound (record l.state { numbers = point.numbers })
-  pub sent : point.sent ≡ tsdus_sent (limit_of l.state) (react l (called call)).reply
+-- ---- a point that is planned, and then sent
+
+-- the call for it with this user data, which asks for a point's confirmation or not
+abbrev pub call_for : SentPoint → Bool → List ℕ → Call
+call_for (point.Minor number) confirm octets = Minor confirm octets
+call_for (point.Confirmation number) confirm octets = MinorConfirm number.number octets
+
+-- a point has the number of the next
+abbrev pub has_next : State → SentPoint → Bool
+has_next s (point.Minor number) = number.number == s.numbers.next
+has_next s (point.Confirmation number) = true
+
+abbrev pub all_hold : List Test → Bool
+all_hold [] = true
+all_hold (t ∷ ts) = t.0 && all_hold ts
+
+-- the phase allows the call for it, its number is the one, and what the call needs is there, whatever its user data
+abbrev pub may_advance : State → SentPoint → Bool
+may_advance s p = may_call s.phase (call_for p true []) && (has_next s p && all_hold (needs s (call_for p true [])))
+
+-- the session after it
+abbrev pub advanced : Listener → SentPoint → Listener
+advanced l p = in_state l (after l.state (call_for p true []))
+
+-- what an accepted call for a point sends, and the point
+pub record PlansPoint (l : Listener) (call : Call) (plan : PlannedPoint) : Type 0 where
+  pub state : (react l (called call)).next ≡ advanced l plan.point
+  pub may : may_advance l.state plan.point ≡ true
+  pub sent : plan.sent ≡ tsdus_sent (limit_of l.state) (react l (called call)).reply
   pub accepted : (react l (called call)).error ≡ None
   pub sendable : CanBeSent (react l (called call)).reply

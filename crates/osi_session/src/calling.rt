@@ -2,10 +2,12 @@
 
 ghost use Rattle.osi_spdu.specs.Fields.{bits_of, unit_bits};
 ghost use Rattle.osi_spdu.specs.Sizes.{named_by};
-ghost use Rattle.std.specs.Prelude.{◌≡◌, ◌<◌, ◌≤◌, ◌&&◌, true, length, nat_le, nat_lt, Ok, Err, IfOk, OnOk, IfErr};
-ghost use Rattle.osi_session.specs.Allowed.{allowed, met, needs, may_call, octets_of, most_of, has_right, point_needs, is_restartable};
+ghost use Rattle.std.specs.Prelude.{◌≡◌, ◌<◌, ◌≤◌, ◌&&◌, if◌then◌else◌, true, [], length, nat_le, nat_lt, None, Some, Ok, Err, IfOk, OnOk, IfErr};
+ghost use Rattle.osi_session.specs.Allowed.{after, allowed, met, needs, may_call, octets_of, most_of, has_right, point_needs, is_restartable};
 ghost use Rattle.osi_session.specs.Calls.{called_by, Accept, Refuse, Data, Give, Please, Minor, MinorConfirm, Major, MajorConfirm, Restart, RestartConfirm, Release, ReleaseAccept, ReleaseRefuse, Abort};
 ghost use Rattle.osi_message.specs.Meanings.{meant_by, DT, MIP, MIA};
+ghost use Rattle.osi_session.specs.Numbers.{minor_confirmed, point_sent};
+ghost use Rattle.osi_session.specs.Points.{call_for, may_advance};
 ghost use Rattle.osi_session.specs.Sound.{IsSound};
 ghost use Rattle.osi_session.specs.State.{without_tokens};
 ghost use Rattle.osi_session.specs.Steps.{Answers, Finds, step_of};
@@ -16,6 +18,7 @@ ghost use Rattle.osi_session.specs.Units.{available};
 use crate::faults::CallError;
 use crate::numbers::Numbers;
 use crate::phases::Phase;
+use crate::plans::SentPoint;
 use crate::requests::Request;
 use crate::selected::{FunctionalUnits, is_profile};
 use crate::sides::{Sides, offered};
@@ -566,24 +569,17 @@ pub(crate) fn allow_data(state: &State, user_data: &[u8]) -> Result<(), CallErro
     Ok(())
 }
 
-/// A minor point that may be sent or confirmed, and the numbers after it.
-#[derive(Clone, Copy)]
-pub(crate) struct Point {
-    pub(crate) number: Serial,
-    pub(crate) numbers: Numbers,
-}
-
-/// The first error of a minor point; else its number and the numbers after it: nothing else changes,
-/// and MIP is sent.
+/// The first error of a minor point; else its number: the numbers alone change, and MIP is sent.
 #[tactic(auto, unfolding(crate::specs::Allowed::allowed, crate::specs::Allowed::met, osi_message::specs::Written::user_data_of))]
 pub(crate) fn allow_minor(
     state: &State,
     confirm: bool,
     user_data: &[u8],
-) -> Result<Point, CallError>
+) -> Result<Serial, CallError>
     requires { IsSound state.now }
-    ensures ok { IfOk result (λ p. allowed state.now (Minor confirm user_data.now)
-        ≡ Ok (record { next = record state.now { numbers = p.numbers }; sent = MIP confirm p.number.number user_data.now })) }
+    ensures ok { IfOk result (λ n. allowed state.now (Minor confirm user_data.now)
+        ≡ Ok (record { next = record state.now { numbers = point_sent state.now.numbers }; sent = MIP confirm n.number user_data.now })) }
+    ensures number { IfOk result (λ n. n.number ≡ state.now.numbers.next) }
     ensures err { IfErr result (λ e. allowed state.now (Minor confirm user_data.now) ≡ Err e) }
 {
     if state.phase.is_over() {
@@ -599,20 +595,20 @@ pub(crate) fn allow_minor(
     if !fits_point(state, confirm, number, user_data) {
         return Err(CallError::TooLong);
     }
-    let numbers = state.numbers.point_sent();
-    Ok(Point { number, numbers })
+    Ok(number)
 }
 
-/// The first error of a confirmation; else the numbers after it: nothing else changes, and MIA is sent.
+/// The first error of a confirmation; else its number: the numbers alone change, and MIA is sent.
 #[tactic(auto, unfolding(crate::specs::Allowed::allowed, crate::specs::Allowed::met, osi_message::specs::Written::user_data_of))]
 pub(crate) fn allow_minor_confirm(
     state: &State,
     number: u32,
     user_data: &[u8],
-) -> Result<Point, CallError>
+) -> Result<Serial, CallError>
     requires { IsSound state.now }
-    ensures ok { IfOk result (λ p. allowed state.now (MinorConfirm number user_data.now)
-        ≡ Ok (record { next = record state.now { numbers = p.numbers }; sent = MIA p.number.number user_data.now })) }
+    ensures ok { IfOk result (λ n. allowed state.now (MinorConfirm number user_data.now)
+        ≡ Ok (record { next = record state.now { numbers = minor_confirmed number state.now.numbers }; sent = MIA n.number user_data.now })) }
+    ensures number { IfOk result (λ n. n.number ≡ number) }
     ensures err { IfErr result (λ e. allowed state.now (MinorConfirm number user_data.now) ≡ Err e) }
 {
     if state.phase.is_over() {
@@ -635,8 +631,39 @@ pub(crate) fn allow_minor_confirm(
     if !fits_ack(state, serial, user_data) {
         return Err(CallError::TooLong);
     }
-    Ok(Point {
-        number: serial,
-        numbers: numbers.minor_confirmed(number),
-    })
+    Ok(serial)
+}
+
+/// Whether a point or a confirmation may be sent now, whatever its user data: the phase, the functional
+/// unit and the tokens allow it, and its number is still the one.
+fn may_advance(state: &State, point: SentPoint) -> bool
+    ensures { result ≡ may_advance state.now point }
+{
+    match point {
+        SentPoint::Minor(number) => {
+            state.phase.is_ready()
+                && number.number == state.numbers.next
+                && state.units.minor
+                && state.has_minor_rights()
+                && state.numbers.next <= LAST_NUMBER
+        }
+        SentPoint::Confirmation(number) => {
+            state.phase.may_confirm_minor()
+                && state.units.minor
+                && is_confirmable(state.numbers, number.number)
+        }
+    }
+}
+
+/// The numbers after a point or a confirmation that may be sent now.
+pub(crate) fn numbers_after(state: &State, point: SentPoint) -> Option<Numbers>
+    ensures { result ≡ (if may_advance state.now point then Some (after state.now (call_for point true [])).numbers else None) }
+{
+    if !may_advance(state, point) {
+        return None;
+    }
+    match point {
+        SentPoint::Minor(_) => Some(state.numbers.point_sent()),
+        SentPoint::Confirmation(number) => Some(state.numbers.minor_confirmed(number.number)),
+    }
 }

@@ -2,9 +2,9 @@
 
 ghost use Rattle.std.specs.Prelude.{◌≡◌, ℕ, ◌||◌, ◌++◌, List, [], true, false, Option, None, option_copied, IfOk, OnOk, OnErr};
 ghost use Rattle.osi_message.specs.Meanings.{DT};
-ghost use Rattle.osi_message.specs.Reading.{said_by_units, said_at};
+ghost use Rattle.osi_message.specs.Reading.{said_by_units};
 ghost use Rattle.osi_spdu.specs.Groups.{units_of};
-ghost use Rattle.osi_session.specs.Joining.{heard, heard_then, idle, kept_in, word_verdict, respond_word, respond_tsdu, respond_came};
+ghost use Rattle.osi_session.specs.Joining.{heard, heard_then, idle, kept_in, word_verdict, respond_word, respond_tsdu};
 ghost use Rattle.osi_session.specs.Respond.{is_nil, is_faulty, respond_unit, respond_fault, shows};
 ghost use Rattle.osi_session.specs.Shown.{Data};
 ghost use Rattle.osi_session.specs.Steps.{all_shown, hearing_of, hearing_of_all, joined_after, outcome_of, outcome_of_all, shown_list, takes_room, word_by};
@@ -16,7 +16,7 @@ use crate::reactions::{Reaction, Reply};
 use crate::state::State;
 use crate::words::Word;
 use osi_message::Octets;
-use osi_spdu::{Group, SpduFault, read_tsdu};
+use osi_spdu::{Group, SpduFault};
 use std::alloc::{AllocError, Global};
 
 /// What the units of a TSDU do: the state after them, what they leave of the octets that are joined,
@@ -159,37 +159,13 @@ fn either(one: bool, other: bool) -> bool
 
 /// A TSDU that is no session units: in Aborting and Ended it is discarded unread.
 #[tactic(auto, unfolding(crate::specs::Respond::respond_fault))]
-pub(crate) fn unread(state: &State, fault: SpduFault) -> Reaction
+pub(crate) fn judge_unread(state: &State, fault: SpduFault) -> Reaction
     ensures { outcome_of result ≡ respond_fault state.now fault }
 {
     if state.phase.is_over() {
         return Reaction::silent(*state);
     }
     Reaction::bad(state, UnitFault::Spelling(fault))
-}
-
-/// What the octets of a TSDU do, read by the general reader.
-#[tactic(auto, unfolding(osi_message::specs::Reading::said_at))]
-pub(crate) fn take_read(
-    alloc: Global,
-    state: &State,
-    joined: Option<&Octets>,
-    tsdu: &[u8],
-) -> Result<Reactions, AllocError>
-    requires { kept_in state.now.phase (option_copied joined) ≡ option_copied joined }
-    ensures heard { IfOk result (λ r. hearing_of_all (option_copied joined.entry) r
-        ≡ respond_came (record { state = state.now; joined = option_copied joined.entry }) (said_at tsdu.now)) }
-    ensures ordered { IfOk result (λ r. r.first ≡ None → r.more.items ≡ []) }
-    ensures err { OnErr result (takes_room (option_copied joined.entry)
-        (respond_came (record { state = state.now; joined = option_copied joined.entry }) (said_at tsdu.now)) ≡ true) }
-{
-    match read_tsdu(tsdu) {
-        Ok(group) => take_all(alloc, state, joined, &group),
-        Err(fault) => {
-            let heard = Heard::of(unread(state, fault), Joined::Kept);
-            Ok(Reactions::of(alloc, heard))
-        }
-    }
 }
 
 /// Whether data that comes now is shown, and changes nothing: the phase expects it, and the peer has

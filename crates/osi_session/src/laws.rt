@@ -1,7 +1,7 @@
 //! Laws of the definitions that the contracts cite. Each function does nothing: its clauses are the
 //! laws.
 
-ghost use Rattle.std.specs.Prelude.{◌≡◌, ◌+◌, ◌<◌, ◌≤◌, ◌⊎◌, ℕ, true, false, ◌||◌, if◌then◌else◌, length, map, List, [], ◌∷◌, ◌++◌, Option, Some, None, Ok, is_some, option_map};
+ghost use Rattle.std.specs.Prelude.{◌≡◌, ◌+◌, ◌<◌, ◌≤◌, ◌⊎◌, ℕ, Bool, true, false, nat_le, ◌||◌, if◌then◌else◌, length, map, List, [], ◌∷◌, ◌++◌, Option, Some, None, Ok, is_some, option_map};
 ghost use Rattle.std.specs.List.{AllByRecursion, list_any};
 ghost use Rattle.std.specs.Int.RustNames.{bit_and};
 ghost use Rattle.osi_session.specs.declared.faults.UnitFault.{UnitFault};
@@ -13,10 +13,11 @@ ghost use Rattle.osi_spdu.specs.declared.fields.TsduMaximumSize.{TsduMaximumSize
 ghost use Rattle.osi_spdu.specs.declared.settings.TokenSetting.{TokenSetting};
 ghost use Rattle.osi_spdu.specs.Known.{Units};
 ghost use Rattle.osi_session.specs.declared.opening.Opening.{Opening};
+ghost use Rattle.osi_session.specs.declared.plans.SentPoint.{SentPoint};
 ghost use Rattle.osi_session.specs.declared.requests.Request.{Request};
 ghost use Rattle.osi_session.specs.declared.state.State.{State};
 ghost use Rattle.osi_message.specs.declared.tokens.Tokens.{Tokens};
-ghost use Rattle.osi_session.specs.Allowed.{Step, allowed, most_data, Passed};
+ghost use Rattle.osi_session.specs.Allowed.{Step, allowed, most_data, most_user_data, sends, Passed};
 ghost use Rattle.osi_session.specs.Calls.{Call, Data, Give, MinorConfirm, HasSerial, called_by};
 ghost use Rattle.osi_session.specs.Causes.{asks_for_connection, is_taken, opens_connection, call_gives, unit_gives, call_holds, unit_holds, renews};
 ghost use Rattle.osi_message.specs.Meanings.{Meaning, DT, MIA, RS, AA};
@@ -36,12 +37,13 @@ ghost use Rattle.osi_spdu.specs.Fields.{unit_bits};
 ghost use Rattle.osi_session.specs.Whole.{listening, standing_of, in_words, is_apart, joins};
 ghost use Rattle.osi_message.specs.Parting.{is_whole, tsdus_of, tsdus_sent, in_one, AreFull};
 ghost use Rattle.osi_message.specs.Written.{written};
+ghost use Rattle.osi_session.specs.Points.{advanced, call_for, has_next, may_advance};
 ghost use Rattle.osi_session.specs.Respond.{nothing, bad, becomes, respond_unit, respond_all, respond, respond_fault, lost, stands, drops, verdict, enacted, fine, IsGood, has_no_effect, is_token_item, is_resynchronize, and_then};
 ghost use Rattle.osi_session.specs.Restarts.{HasAsked, AreCrossed, after_restart};
 ghost use Rattle.osi_session.specs.Runs.{HasNumbers, HasNumbersInWords, IsFresh};
 ghost use Rattle.osi_session.specs.Sessions.{awaiting, asking, Planned, IsPlanOf};
 ghost use Rattle.osi_session.specs.Shown.{MinorConfirmed, shows_connect};
-ghost use Rattle.osi_session.specs.Sizes.{answered, smaller_sizes, answered_sizes, limit_of, is_data, is_bounded};
+ghost use Rattle.osi_session.specs.Sizes.{answered, smaller_sizes, answered_sizes, fits_limit, limit_of, is_data, is_bounded};
 ghost use Rattle.osi_session.specs.Sound.{IsSound};
 ghost use Rattle.osi_message.specs.Tokens.{Token, has, is_disjoint, token_octet};
 ghost use Rattle.osi_session.specs.Openings.{asked_for};
@@ -302,6 +304,20 @@ pub fn a_plan_is_its_call()
     ensures sent { (l : Listener) (call : Call) (plan : Planned) → IsPlanOf call plan → plan.was ≡ l.state →
         plan.sent ≡ tsdus_sent (limit_of l.state) (react l (called call)).reply }
     ensures live { (call : Call) (plan : Planned) → IsPlanOf call plan → is_over plan.was.phase ≡ false }
+{}
+
+/// A session goes on after a planned point as after its call, whatever the call's user data; and it does so
+/// exactly where the point has its number and such a call is accepted, the lengths apart.
+#[tactic(auto, using(crate::proofs::PointLaws::point_steps, crate::proofs::PointLaws::point_may, crate::proofs::PointLaws::point_accepted))]
+pub fn a_point_is_its_call()
+    ensures step { (l : Listener) (p : SentPoint) (confirm : Bool) (octets : List ℕ) → (react l (called (call_for p confirm octets))).error ≡ None →
+        after_input l (called (call_for p confirm octets)) ≡ advanced l p }
+    ensures may { (l : Listener) (p : SentPoint) (confirm : Bool) (octets : List ℕ) → has_next l.state p ≡ true →
+        (react l (called (call_for p confirm octets))).error ≡ None → may_advance l.state p ≡ true }
+    ensures accepted { (l : Listener) (p : SentPoint) (confirm : Bool) (octets : List ℕ) → may_advance l.state p ≡ true →
+        nat_le (length octets) most_user_data ≡ true →
+        fits_limit l.state (call_for p confirm octets) (sends l.state (call_for p confirm octets)) ≡ true →
+        (react l (called (call_for p confirm octets))).error ≡ None }
 {}
 
 /// Two restarts that cross: the lower number stands at both sides, and of equal numbers the caller's.

@@ -28,10 +28,9 @@ mod words;
 
 pub use faults::{CallError, UnitFault};
 pub use indications::{AbortCause, Indication};
-pub use numbers::Numbers;
 pub use opening::Opening;
 pub use phases::Phase;
-pub use plans::{Plan, PlannedPoint};
+pub use plans::{Plan, PlannedPoint, SentPoint};
 pub use requests::Request;
 pub use selected::is_profile;
 pub use sessions::Session;

@@ -2,9 +2,9 @@
 
 ghost use Rattle.std.specs.Prelude.{◌≡◌};
 
-use crate::numbers::Numbers;
 use crate::state::State;
 use osi_message::Sent;
+use osi_spdu::Serial;
 use std::marker::Model;
 
 /// What a call would do: the state in which it was planned, the state after it, and the TSDUs that it
@@ -44,6 +44,15 @@ impl Plan {
 pub struct PlannedPoint {
     /// What is to be sent.
     pub sent: Sent,
-    /// The numbers behind it, for `Session::advance`.
-    pub numbers: Numbers,
+    /// What it is: the session goes on after it by `Session::advance`.
+    pub point: SentPoint,
+}
+
+/// A minor point, or the confirmation of one, that is sent.
+#[derive(Clone, Copy)]
+pub enum SentPoint {
+    /// The point of this number.
+    Minor(Serial),
+    /// The confirmation of the points up to this number.
+    Confirmation(Serial),
 }

@@ -12,7 +12,7 @@ ghost use Rattle.osi_session.specs.Sizes.{limit_of};
 
 use crate::calling::{MOST_USER_DATA, allow_data, decide};
 use crate::faults::CallError;
-use crate::grouping::{Reactions, expects_data, take_all, take_read};
+use crate::grouping::{Reactions, expects_data, judge_unread, take_all};
 use crate::hearing::{Heard, Joined, take_says};
 use crate::indications::Indication;
 use crate::joining::{PartVerdict, join, joined_octets, judge_part, shown_behind};
@@ -26,7 +26,7 @@ use crate::sizes::limit_of;
 use crate::state::State;
 use crate::taken::Taken;
 use osi_message::{Message, Octets, Place, PlainUnit, Sent, laws};
-use osi_spdu::{Group, SpduFault, TokenSet};
+use osi_spdu::{Group, SpduFault, TokenSet, read_tsdu};
 use std::alloc::{AllocError, Global};
 use std::marker::Model;
 
@@ -103,7 +103,7 @@ impl Session {
     ghost use Rattle.osi_message.specs.Reading.{said_by_units};
     ghost use Rattle.osi_message.specs.Tokens.{named, token_octet};
     ghost use Rattle.osi_session.specs.Calls.{Data, called_by};
-    ghost use Rattle.osi_session.specs.Listening.{called, taken, came, opened, refused, broken, in_state, moved, react, taker_of};
+    ghost use Rattle.osi_session.specs.Listening.{called, taken, unread, came, opened, refused, broken, in_state, moved, react, taker_of};
     ghost use Rattle.osi_session.specs.Phases.{is_wait_transport};
     ghost use Rattle.osi_session.specs.Points.{only_shows};
     ghost use Rattle.osi_session.specs.Respond.{fine};
@@ -237,10 +237,9 @@ impl Session {
         Some(plan.sent)
     }
 
-    /// A call of the user (X.225 section 7): the TSDU that is to be sent, or the first error that
-    /// applies. A call that is refused changes nothing, and `OutOfMemory` comes only where no other
-    /// error does.
-    #[inline(always)]
+    /// A call of the user (X.225 section 7), planned and done at once: the TSDUs that are to be sent, or the
+    /// first error that applies. A call that is refused changes nothing, and `OutOfMemory` comes only if no
+    /// other error does.
     pub fn call(&mut self, request: Request) -> Result<Sent, CallError>
         ensures state { OnOk result (self.new ≡ (react self.old (called (called_by request.entry))).next) }
         ensures sent { IfOk result (λ s. s ≡ tsdus_sent (limit_of self.old.state) (react self.old (called (called_by request.entry))).reply) }
@@ -249,21 +248,15 @@ impl Session {
         ensures refused { IfErr result (λ e. Refused e (react self.old (called (called_by request.entry))).error) }
         ensures err { OnErr result (self.new ≡ self.old) }
     {
-        if let Request::Data { user_data } = request {
-            return self.call_data(user_data);
-        }
-        // A value of its own: else the answer of data, too, would be made in the room of this one.
-        let answer = match request {
-            Request::Minor { confirm, user_data } => self.call_minor(confirm, user_data),
-            Request::MinorConfirm { number, user_data } => {
-                self.call_minor_confirm(number, user_data)
-            }
-            _ => self.call_other(request),
+        let plan = self.plan(request)?;
+        let Some(sent) = self.commit(plan) else {
+            unreachable!()
         };
-        answer
+        Ok(sent)
     }
 
-    /// A call of the user for data, which changes nothing: what [`Session::call`] does with it.
+    /// A call of the user for data, which changes nothing and needs no plan: what [`Session::call`] does with
+    /// it.
     #[inline(always)]
     #[tactic(auto, using(crate::proofs::CallLaws::refused, crate::proofs::CallLaws::wanting), unfolding(osi_message::specs::Written::user_data_of))]
     pub fn call_data(&self, user_data: &[u8]) -> Result<Sent, CallError>
@@ -274,7 +267,7 @@ impl Session {
         ensures refused { IfErr result (λ e. Refused e (react self.now (called (Data user_data.now))).error) }
     {
         if allow_data(&self.state, user_data).is_err() || limit_of(&self.state) != 0 {
-            // A value of its own, as in `call`.
+            // A value of its own: else other data, too, would be answered in the room of this one.
             let answer = self.call_bounded_data(user_data);
             return answer;
         }
@@ -303,45 +296,26 @@ impl Session {
         }
     }
 
-    /// Any call. It stands out of line: else the room for its state and its message would be made on
-    /// the way to data, too.
-    #[inline(never)]
-    #[tactic(auto, using(crate::proofs::CallLaws::refused, crate::proofs::CallLaws::wanting, crate::proofs::MoveLaws::call_leaves, crate::proofs::MoveLaws::call_sends))]
-    fn call_other(&mut self, request: Request) -> Result<Sent, CallError>
-        ensures state { OnOk result (self.new ≡ (react self.old (called (called_by request.entry))).next) }
-        ensures sent { IfOk result (λ s. s ≡ tsdus_sent (limit_of self.old.state) (react self.old (called (called_by request.entry))).reply) }
-        ensures accepted { OnOk result ((react self.old (called (called_by request.entry))).error ≡ None) }
-        ensures sendable { OnOk result (CanBeSent (react self.old (called (called_by request.entry))).reply) }
-        ensures refused { IfErr result (λ e. Refused e (react self.old (called (called_by request.entry))).error) }
-        ensures err { OnErr result (self.new ≡ self.old) }
-    {
-        let step = decide(&self.state, &request)?;
-        match Sent::within(self.alloc, limit_of(&self.state), &step.sent) {
-            Ok(sent) => {
-                self.go(step.next);
-                Ok(sent)
-            }
-            Err(_) => Err(CallError::OutOfMemory),
-        }
-    }
-
     /// The units of a TSDU that came: the indications, the TSDU to send, and whether the transport
     /// connection is closed (X.225 section 7). A part of one Data is joined to those before it. `Err`
-    /// changes nothing, and comes only where something is shown or sent, or octets are joined.
+    /// changes nothing, and comes only if something is shown or sent, or octets are joined.
     pub fn take(&mut self, group: &Group) -> Result<Taken, AllocError>
-        ensures state { OnOk result (self.new ≡ (react self.old (taken (said_by_units (units_of group.now)))).next) }
-        ensures shown { IfOk result (λ t. shown_in t ≡ (react self.old (taken (said_by_units (units_of group.now)))).shown) }
-        // the first indication stands in the first place
-        ensures first { IfOk result (λ t. t.first ≡ None → t.more.items ≡ []) }
-        ensures reply { IfOk result (λ t. t.reply ≡ option_map in_one (react self.old (taken (said_by_units (units_of group.now)))).reply) }
-        ensures closes { IfOk result (λ t. t.closes ≡ (react self.old (taken (said_by_units (units_of group.now)))).closes) }
-        ensures err { OnErr result (self.new ≡ self.old) }
-        ensures memory { OnErr result (takes_memory self.old (react self.old (taken (said_by_units (units_of group.now)))) ≡ true) }
+        ensures { Takes result (react self.old (taken (said_by_units (units_of group.now)))) self.old self.new }
     {
         match take_all(self.alloc, &self.state, self.joined.as_ref(), group) {
             Ok(reactions) => self.settle(reactions),
             Err(error) => Err(error),
         }
+    }
+
+    /// A TSDU that came and whose octets are no session units, for this reason. In Aborting and Ended it is
+    /// discarded; else it is answered by AB, and the user is shown the reason (X.225 section 7). `Err`
+    /// changes nothing, and comes only if something is sent.
+    pub fn take_bad(&mut self, fault: SpduFault) -> Result<Taken, AllocError>
+        ensures { Takes result (react self.old (unread fault)) self.old self.new }
+    {
+        let heard = Heard::of(judge_unread(&self.state, fault), Joined::Kept);
+        self.settle(Reactions::of(self.alloc, heard))
     }
 
     /// Whole data, a minor point or a confirmation without other parameters, of which the octets of a
@@ -366,10 +340,9 @@ impl Session {
         }
     }
 
-    /// A TSDU that came, as octets: what [`Session::take`] does with its units. Octets that are none are
-    /// discarded unread in Aborting and Ended, and else answered by AB, and the user is shown why. Data,
-    /// minor points and confirmations without other parameters are read straight, and where they are
-    /// expected they are shown straight.
+    /// A TSDU that came, as octets: what [`Session::take`] does with its units, or [`Session::take_bad`] if
+    /// they are none. Data, minor points and confirmations without other parameters are read straight, and
+    /// where they are expected they are shown straight.
     #[inline(always)]
     pub fn take_tsdu(&mut self, tsdu: &[u8]) -> Result<Taken, AllocError>
         ensures state { OnOk result (self.new ≡ (react self.old (came tsdu.now)).next) }
@@ -405,9 +378,9 @@ impl Session {
     fn take_general(&mut self, tsdu: &[u8]) -> Result<Taken, AllocError>
         ensures { Takes result (react self.old (came tsdu.now)) self.old self.new }
     {
-        match take_read(self.alloc, &self.state, self.joined.as_ref(), tsdu) {
-            Ok(reactions) => self.settle(reactions),
-            Err(error) => Err(error),
+        match read_tsdu(tsdu) {
+            Ok(group) => self.take(&group),
+            Err(fault) => self.take_bad(fault),
         }
     }
 

@@ -1,12 +1,11 @@
 //! A call of the user: what it sends is handed to the carrier, and then the session does it.
 
-ghost use Rattle.std.specs.Prelude.{◌≡◌, None, IfErr, OnOk, OnErr};
+ghost use Rattle.std.specs.Prelude.{◌≡◌, true, None, IfErr, OnOk, OnErr};
 ghost use Rattle.osi_carrier.specs.Calls.{send_all_error, open_link};
 ghost use Rattle.osi_session.specs.Calls.{Data, Minor, MinorConfirm, called_by};
 ghost use Rattle.osi_session.specs.Listening.{called, react};
-ghost use Rattle.osi_session.specs.Points.{in_numbers};
+ghost use Rattle.osi_session.specs.Points.{advanced, may_advance};
 ghost use Rattle.osi_session.specs.Sizes.{limit_of};
-ghost use Rattle.osi_session.specs.Sound.{IsSound};
 ghost use Rattle.osi_stack.specs.Calls.{move_refusal, send_refusal, Refuses};
 ghost use Rattle.osi_stack.specs.Moving.{answers};
 ghost use Rattle.osi_stack.specs.Transport.{hands};
@@ -15,31 +14,29 @@ use crate::transport::{send_call, send_owned_call};
 use osi_carrier::Carrier;
 use osi_session::{CallError, PlannedPoint, Request, Session};
 
-/// Sends a point, and then the session has the numbers behind it. Each error changes nothing.
+/// Sends a point, and then the session goes on after it. Each error changes nothing.
 fn send_point(
     session: &mut Session,
     carrier: &mut Carrier,
     reference: u16,
-    point: PlannedPoint,
+    plan: PlannedPoint,
 ) -> Result<(), CallError>
-    requires { IsSound (record session.old.state { numbers = point.numbers }) }
-    ensures session { OnOk result (session.new ≡ in_numbers session.old point.numbers) }
-    ensures carrier { OnOk result (carrier.new ≡ record carrier.old { state = hands reference point.sent carrier.old.state }) }
-    ensures allowed { OnOk result (send_refusal (send_all_error point.sent (open_link reference carrier.old.state)) ≡ None) }
-    ensures refused { IfErr result (λ e. Refuses e None (send_refusal (send_all_error point.sent (open_link reference carrier.old.state)))) }
+    requires { may_advance session.old.state plan.point ≡ true }
+    ensures session { OnOk result (session.new ≡ advanced session.old plan.point) }
+    ensures carrier { OnOk result (carrier.new ≡ record carrier.old { state = hands reference plan.sent carrier.old.state }) }
+    ensures allowed { OnOk result (send_refusal (send_all_error plan.sent (open_link reference carrier.old.state)) ≡ None) }
+    ensures refused { IfErr result (λ e. Refuses e None (send_refusal (send_all_error plan.sent (open_link reference carrier.old.state)))) }
     ensures err { OnErr result ((session.new ≡ session.old) × (carrier.new ≡ carrier.old)) }
 {
-    let PlannedPoint {
-        sent: tsdus,
-        numbers,
-    } = point;
-    match send_owned_call(carrier, reference, tsdus) {
-        Ok(()) => {
-            session.advance(numbers);
-            Ok(())
-        }
-        Err(error) => Err(error),
+    let PlannedPoint { sent, point } = plan;
+    match send_owned_call(carrier, reference, sent) {
+        Ok(()) => {}
+        Err(error) => return Err(error),
     }
+    if !session.advance(point) {
+        unreachable!()
+    }
+    Ok(())
 }
 
 /// Sends a minor point, which changes the numbers of the session alone. Each error changes nothing. It
@@ -58,8 +55,8 @@ fn make_minor_call(
     ensures refused { IfErr result (λ e. Refuses e (react session.old (called (Minor confirm user_data.now))).error (move_refusal reference (limit_of session.old.state) (react session.old (called (Minor confirm user_data.now))) carrier.old.state)) }
     ensures err { OnErr result ((session.new ≡ session.old) × (carrier.new ≡ carrier.old)) }
 {
-    let point = session.plan_minor(confirm, user_data)?;
-    send_point(session, carrier, reference, point)
+    let plan = session.plan_minor(confirm, user_data)?;
+    send_point(session, carrier, reference, plan)
 }
 
 /// Sends the confirmation of a minor point, in the same way.
@@ -77,8 +74,8 @@ fn make_minor_confirm_call(
     ensures refused { IfErr result (λ e. Refuses e (react session.old (called (MinorConfirm number user_data.now))).error (move_refusal reference (limit_of session.old.state) (react session.old (called (MinorConfirm number user_data.now))) carrier.old.state)) }
     ensures err { OnErr result ((session.new ≡ session.old) × (carrier.new ≡ carrier.old)) }
 {
-    let point = session.plan_minor_confirm(number, user_data)?;
-    send_point(session, carrier, reference, point)
+    let plan = session.plan_minor_confirm(number, user_data)?;
+    send_point(session, carrier, reference, plan)
 }
 
 /// Sends what a call of the user does, and then the session does it. Each error changes nothing. It

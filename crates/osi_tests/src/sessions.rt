@@ -5,7 +5,8 @@ use bitflags::Flags;
 use osi_message::Sent;
 use osi_session::*;
 use osi_spdu::{
-    Group, Requirements, Serial, Side, TokenSet, TokenSetting, TsduSizes, Wish, read_tsdu,
+    Group, Requirements, Serial, Side, SpduFault, TokenSet, TokenSetting, TsduSizes, Wish,
+    read_tsdu,
 };
 use std::alloc::AllocError;
 use std::test::Fail;
@@ -227,6 +228,69 @@ fn called(rt: &HostRuntime) -> Session {
 #[test]
 fn a_part_of_data_may_be_too_long(rt: HostRuntime) -> Result<(), Fail> {
     begins_too_long(&mut called(&rt), &mut Vec::new(rt.alloc()))
+}
+
+/// A minor point is planned.
+fn plans_point(left: &Session) -> Result<PlannedPoint, CallError> {
+    left.plan_minor(true, &[])
+}
+
+/// The session goes on after a point.
+fn goes_on(left: &mut Session, point: SentPoint) -> bool {
+    left.advance(point)
+}
+
+/// MIP with number 1, of which the confirmation is asked for.
+const POINT: [u8; 7] = [0x01, 0x00, 0x31, 0x03, 0x2A, 0x01, 0x31];
+
+/// The point is sent, and the session goes on after it once: then it is stale.
+fn goes_on_once(left: &mut Session) -> Result<(), Fail> {
+    is_connected(left)?;
+    let plan = plans_point(left)?;
+    is_one(&plan.sent, &POINT)?;
+    let point = plan.point;
+    if !goes_on(left, point) || goes_on(left, point) || left.next_serial() != 2 {
+        return Err(Fail::from("the session does not go on once"));
+    }
+    Ok(())
+}
+
+#[test]
+fn a_planned_point_is_stale_once_it_is_sent(rt: HostRuntime) -> Result<(), Fail> {
+    goes_on_once(&mut caller(&rt)?)
+}
+
+/// Octets come that are no session units.
+fn take_bad(session: &mut Session, fault: SpduFault) -> Result<Taken, AllocError> {
+    session.take_bad(fault)
+}
+
+/// An AB for an error of the protocol, which releases the transport connection too.
+const PROTOCOL_ERROR: [u8; 5] = [0x19, 0x03, 0x11, 0x01, 0x05];
+
+/// The fault of the octets is shown, and AB is sent.
+fn is_refused(taken: &Taken) -> Result<(), Fail> {
+    match (&taken.first, &taken.reply) {
+        (
+            Some(
+                Indication::ProviderAbort {
+                    cause: AbortCause::Unit(UnitFault::Spelling(SpduFault::UnknownSi(0))),
+                },
+            ),
+            Some(reply),
+        ) => is_one(reply, &PROTOCOL_ERROR),
+        _ => Err(Fail::from("the fault is not shown")),
+    }
+}
+
+fn refuses_octets(left: &mut Session) -> Result<(), Fail> {
+    is_connected(left)?;
+    is_refused(&take_bad(left, SpduFault::UnknownSi(0))?)
+}
+
+#[test]
+fn octets_that_are_no_units_are_answered_by_an_abort(rt: HostRuntime) -> Result<(), Fail> {
+    refuses_octets(&mut caller(&rt)?)
 }
 
 /// How many octets a request is sent in, where it is one TSDU.

@@ -2,37 +2,33 @@
 //! is made.
 
 use super::Session;
-use crate::calling::{allow_minor, allow_minor_confirm};
+use crate::calling::{allow_minor, allow_minor_confirm, numbers_after};
 use crate::expected::expected_point;
 use crate::faults::CallError;
 use crate::indications::Indication;
-use crate::numbers::Numbers;
-use crate::plans::PlannedPoint;
+use crate::plans::{PlannedPoint, SentPoint};
 use osi_message::Sent;
 
 impl Session {
-    ghost use Rattle.std.specs.Prelude.{◌≡◌, None, IfOk, IfErr, IfSome, OnOk, OnErr};
-    ghost use Rattle.osi_message.specs.Parting.{tsdus_sent};
+    ghost use Rattle.std.specs.Prelude.{◌≡◌, true, false, None, IfOk, IfErr, IfSome};
     ghost use Rattle.osi_session.specs.Calls.{Minor, MinorConfirm};
     ghost use Rattle.osi_session.specs.Listening.{called, came, react};
-    ghost use Rattle.osi_session.specs.Points.{PlansPoint, in_numbers, only_shows};
-    ghost use Rattle.osi_session.specs.Sessions.{CanBeSent, Refused};
+    ghost use Rattle.osi_session.specs.Points.{PlansPoint, advanced, may_advance, only_shows};
+    ghost use Rattle.osi_session.specs.Sessions.{Refused};
     ghost use Rattle.osi_session.specs.Shown.{shown_by};
-    ghost use Rattle.osi_session.specs.Sizes.{limit_of};
-    ghost use Rattle.osi_session.specs.Sound.{IsSound};
 
-    /// What a call of the user for a minor point would send, and the numbers behind it; nothing changes.
+    /// What a call of the user for a minor point would send, and the point; nothing changes.
     #[inline(always)]
     #[tactic(auto, using(crate::proofs::CallLaws::refused, crate::proofs::CallLaws::wanting))]
     pub fn plan_minor(&self, confirm: bool, user_data: &[u8]) -> Result<PlannedPoint, CallError>
         ensures planned { IfOk result (λ p. PlansPoint self.now (Minor confirm user_data.now) p) }
         ensures refused { IfErr result (λ e. Refused e (react self.now (called (Minor confirm user_data.now))).error) }
     {
-        let point = allow_minor(&self.state, confirm, user_data)?;
-        match Sent::minor_point(self.alloc, confirm, point.number, user_data) {
+        let number = allow_minor(&self.state, confirm, user_data)?;
+        match Sent::minor_point(self.alloc, confirm, number, user_data) {
             Ok(sent) => Ok(PlannedPoint {
                 sent,
-                numbers: point.numbers,
+                point: SentPoint::Minor(number),
             }),
             Err(_) => Err(CallError::OutOfMemory),
         }
@@ -49,57 +45,30 @@ impl Session {
         ensures planned { IfOk result (λ p. PlansPoint self.now (MinorConfirm number user_data.now) p) }
         ensures refused { IfErr result (λ e. Refused e (react self.now (called (MinorConfirm number user_data.now))).error) }
     {
-        let point = allow_minor_confirm(&self.state, number, user_data)?;
-        match Sent::minor_ack(self.alloc, point.number, user_data) {
+        let serial = allow_minor_confirm(&self.state, number, user_data)?;
+        match Sent::minor_ack(self.alloc, serial, user_data) {
             Ok(sent) => Ok(PlannedPoint {
                 sent,
-                numbers: point.numbers,
+                point: SentPoint::Confirmation(serial),
             }),
             Err(_) => Err(CallError::OutOfMemory),
         }
     }
 
-    /// The numbers are those behind a planned point that was sent.
+    /// Goes on after a planned point or confirmation that is sent: the numbers are those after it, and
+    /// nothing else changes. `false` if the session would not send it now, since it was done before, or the
+    /// tokens, the phase or the numbers are others: then nothing changes.
     #[inline(always)]
-    pub fn advance(&mut self, numbers: Numbers)
-        requires { IsSound (record self.old.state { numbers = numbers }) }
-        ensures { self.new ≡ in_numbers self.old numbers }
+    pub fn advance(&mut self, point: SentPoint) -> bool
+        ensures done { result ≡ may_advance self.old.state point }
+        ensures state { result ≡ true → self.new ≡ advanced self.old point }
+        ensures rests { result ≡ false → self.new ≡ self.old }
     {
+        let Some(numbers) = numbers_after(&self.state, point) else {
+            return false;
+        };
         self.state.numbers = numbers;
-    }
-
-    /// A call of the user for a minor point.
-    #[inline(never)]
-    pub(super) fn call_minor(&mut self, confirm: bool, user_data: &[u8]) -> Result<Sent, CallError>
-        ensures state { OnOk result (self.new ≡ (react self.old (called (Minor confirm user_data.now))).next) }
-        ensures sent { IfOk result (λ s. s ≡ tsdus_sent (limit_of self.old.state) (react self.old (called (Minor confirm user_data.now))).reply) }
-        ensures accepted { OnOk result ((react self.old (called (Minor confirm user_data.now))).error ≡ None) }
-        ensures sendable { OnOk result (CanBeSent (react self.old (called (Minor confirm user_data.now))).reply) }
-        ensures refused { IfErr result (λ e. Refused e (react self.old (called (Minor confirm user_data.now))).error) }
-        ensures err { OnErr result (self.new ≡ self.old) }
-    {
-        let point = self.plan_minor(confirm, user_data)?;
-        self.advance(point.numbers);
-        Ok(point.sent)
-    }
-
-    /// A call of the user for the confirmation of a minor point.
-    #[inline(never)]
-    pub(super) fn call_minor_confirm(
-        &mut self,
-        number: u32,
-        user_data: &[u8],
-    ) -> Result<Sent, CallError>
-        ensures state { OnOk result (self.new ≡ (react self.old (called (MinorConfirm number user_data.now))).next) }
-        ensures sent { IfOk result (λ s. s ≡ tsdus_sent (limit_of self.old.state) (react self.old (called (MinorConfirm number user_data.now))).reply) }
-        ensures accepted { OnOk result ((react self.old (called (MinorConfirm number user_data.now))).error ≡ None) }
-        ensures sendable { OnOk result (CanBeSent (react self.old (called (MinorConfirm number user_data.now))).reply) }
-        ensures refused { IfErr result (λ e. Refused e (react self.old (called (MinorConfirm number user_data.now))).error) }
-        ensures err { OnErr result (self.new ≡ self.old) }
-    {
-        let point = self.plan_minor_confirm(number, user_data)?;
-        self.advance(point.numbers);
-        Ok(point.sent)
+        true
     }
 
     /// A minor point or a confirmation that is expected. It stands out of line: data comes more often.
