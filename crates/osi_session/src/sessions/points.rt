@@ -1,23 +1,19 @@
-//! Minor points and their confirmations, sent and taken: the numbers alone change, so that no whole state
-//! is made.
+//! Calls for minor points and their confirmations: the numbers alone change, so that no whole state is made.
 
 use super::Session;
 use crate::calling::{allow_minor, allow_minor_confirm};
-use crate::expected::expected_point;
 use crate::faults::CallError;
-use crate::indications::Indication;
 use crate::numbers::Numbers;
 use crate::plans::PlannedPoint;
 use osi_message::Sent;
 
 impl Session {
-    ghost use Rattle.std.specs.Prelude.{◌≡◌, None, IfOk, IfErr, IfSome, OnOk, OnErr};
+    ghost use Rattle.std.specs.Prelude.{◌≡◌, None, IfOk, IfErr, OnOk, OnErr};
     ghost use Rattle.osi_message.specs.Parting.{tsdus_sent};
     ghost use Rattle.osi_session.specs.Calls.{Minor, MinorConfirm};
-    ghost use Rattle.osi_session.specs.Listening.{called, came, react};
-    ghost use Rattle.osi_session.specs.Points.{PlansPoint, in_numbers, only_shows};
+    ghost use Rattle.osi_session.specs.Listening.{called, react};
+    ghost use Rattle.osi_session.specs.Points.{PlansPoint, in_numbers};
     ghost use Rattle.osi_session.specs.Sessions.{CanBeSent, Refused};
-    ghost use Rattle.osi_session.specs.Shown.{shown_by};
     ghost use Rattle.osi_session.specs.Sizes.{limit_of};
     ghost use Rattle.osi_session.specs.Sound.{IsSound};
 
@@ -100,16 +96,5 @@ impl Session {
         let point = self.plan_minor_confirm(number, user_data)?;
         self.advance(point.numbers);
         Ok(point.sent)
-    }
-
-    /// A minor point or a confirmation that is expected. It stands out of line: data comes more often.
-    #[inline(never)]
-    pub(super) fn take_point(&mut self, tsdu: &[u8]) -> Option<Indication>
-        ensures shown { IfSome result (λ i. react self.old (came tsdu.now) ≡ only_shows self.new (shown_by i)) }
-        ensures rests { result ≡ None → self.new ≡ self.old }
-    {
-        let expected = expected_point(self.alloc, &self.state, self.joined.is_some(), tsdu)?;
-        self.state.numbers = expected.numbers;
-        Some(expected.shown)
     }
 }

@@ -1,25 +1,22 @@
 use Rattle.std.proofs.Common.{◌∙◌}
 use Rattle.osi_session.proofs.Vocabulary.{called_by, step_of}
+use Rattle.osi_spdu.specs.Sizes.{size_of}
 use Rattle.osi_session.proofs.CallLaws.{sent_short}
-use Rattle.osi_session.proofs.SentLaws.{limit_sized}
 use Rattle.osi_session.proofs.SessionLaws.{request_small, request_sound, request_begun}
 use Rattle.osi_session.proofs.Accepted.{accepts}
 use Rattle.osi_session.proofs.sessions.Session.call_other.Goals as goal
 
 -- what an accepted call sends is short
 pub within-requires : goal.within-requires
-within-requires c = record {
-  short = sent_short c.self.inside.state (called_by c.args.request) (step_of c.in_ok-step.step) c.in_ok-step.ensures;
-  sized = limit_sized c.self.inside.state c.limit_of.result c.limit_of.ensures c.self.invariant.0;
-}
+within-requires c = sent_short c.self.inside.state (called_by c.args.request) (step_of c.in_ok-step.step) c.in_ok-step.ensures
 
 pub returns-in-Ok : goal.returns-in-Ok
 returns-in-Ok c =
-    let a = accepts c.limit_of.result _ c.args.self.now (called_by c.args.request) (step_of c.in_ok-step.step) c.limit_of.ensures c.self.view_is c.self.invariant.0 (request_small c.args.request) c.in_ok-step.ensures in
+    let a = accepts (size_of c.size_limit.result) _ c.args.self.now (called_by c.args.request) (step_of c.in_ok-step.step) c.size_limit.ensures c.self.view_is c.self.invariant.0 (request_small c.args.request) c.in_ok-step.ensures in
     record { state = c.go.ensures ∙ a.leaves; sent = c.in-Ok.ensures ∙ a.sends; accepted = a.passes; sendable = a.sendable; refused = tt; err = tt }
 
 pub returns-in-Err-clause-refused : goal.returns-in-Err-clause-refused
-returns-in-Err-clause-refused c = (accepts c.limit_of.result _ c.args.self.now (called_by c.args.request) (step_of c.in_ok-step.step) c.limit_of.ensures c.self.view_is c.self.invariant.0 (request_small c.args.request) c.in_ok-step.ensures).passes
+returns-in-Err-clause-refused c = (accepts (size_of c.size_limit.result) _ c.args.self.now (called_by c.args.request) (step_of c.in_ok-step.step) c.size_limit.ensures c.self.view_is c.self.invariant.0 (request_small c.args.request) c.in_ok-step.ensures).passes
 
 pub go-requires : goal.go-requires
 go-requires c = record {

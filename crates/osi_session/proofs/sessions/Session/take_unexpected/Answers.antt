@@ -2,7 +2,7 @@ use Rattle.std.proofs.Common.{◌≡◌, refl, subst, sym, ℕ, List, Option, tr
 use Rattle.osi_session.proofs.Vocabulary.{option_and_then, Listener, Move, moved, taker_of, kept_in, respond_came, hearing_of_all, unit_in, takes_memory, said_at}
 use Rattle.osi_session.proofs.MoveLaws.{came_is}
 use Rattle.osi_session.proofs.SessionMoves.{leaves_octets, heard_by, room_by, leaves_by, takes_as, takes_nothing}
-use Rattle.osi_session.proofs.sessions.Session.take_general.Goals as goal
+use Rattle.osi_session.proofs.sessions.Session.take_unexpected.Goals as goal
 
 pub take_read-requires : goal.take_read-requires
 take_read-requires c =
