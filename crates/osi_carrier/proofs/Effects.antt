@@ -2,7 +2,7 @@
 use Rattle.std.proofs.Common.{◌≡◌, ◌≢◌, ℕ, ◌+◌, ◌<◌, ◌≤◌, Bool, true, false, List, [], ◌∷◌, ◌++◌, length, take, Option, Some, None, Result, Ok, Err, IsSome, is_some, nat_le, ◌||◌, refl, sym, ap, subst, ◌∙◌, ◌⊎◌, inl, inr, arith, length-append, not, if◌then◌else◌}
 use Rattle.osi_carrier.specs.declared.faults.OpenError.{OpenError}
 use Rattle.osi_carrier.specs.declared.faults.OpenError.TheVariants.{NotCaller, Ended, TooMany, ReferencesUsedUp}
-use Rattle.osi_carrier.proofs.Vocabulary.{nat_tests, append-nil, AllByRecursion, units_of, TpduFault, Value, Connect, request, confirm, disconnect, disconnected, data0, error, Standing, taken, Selection, accept, refuse, selected_by, LinkFault, Class, Zero, Two, Local, Happening, refused, confirmed, fresh_state, class_error, or_else, room_error, may_connect, asks, sent_on, open_link, sent, closes, closed_on, closed_with, ended_by, RiseFrom, AreUpTo, only_of, connection_by, connection_of, told_of, IsOrderly, ChangesOne, acts_by, after_packet, denies, answers, is_full, has_peer, answers_request, to_unknown, opens, to_asked, tells_of, taking, breaks, leaves, to_linked, to_closing, to_connection, to_reference, before_class, to_only, in_zero, in_two, in_class, react, react_by, reacts, Rows, value_at, put, without, Connection, asked, closing, State, drops, ends, EndReason, AreNamed}
+use Rattle.osi_carrier.proofs.Vocabulary.{nat_tests, append-nil, AllByRecursion, units_of, TpduFault, Value, Connect, request, confirm, disconnect, disconnected, data0, error, Standing, taken, Selection, accept, refuse, selected_by, LinkFault, Class, Zero, Two, Local, Happening, refused, confirmed, fresh_state, class_error, or_else, room_error, may_connect, asks, sent_on, open_link, sent, closes, closed_on, closed_with, ended_by, RiseFrom, AreUpTo, only_of, connection_by, connection_of, told_of, IsOrderly, ChangesOne, acts_by, after_packet, denies, answers, is_full, has_peer, answers_request, to_unknown, opens, to_asked, tells_of, taking, breaks, leaves, to_linked, to_closing, to_connection, to_reference, before_class, to_only, in_zero, in_two, in_class, react, react_by, reacts, Rows, value_at, put, without, Connection, asked, closing, State, drops, ends, EndReason, AreNamed, sent_all}
 use Rattle.osi_carrier.proofs.AtReferences.{put_other, without_other, push_other, put_none, without_none, put_rise, without_rise, push_rise, put_up, without_up, push_up, put_length, without_length}
 use Rattle.osi_carrier.proofs.Naming.{Naming, named, unit_named, asks_named, sent_names, closes_names}
 use Rattle.osi_carrier.proofs.Reacts.{react_over}
@@ -315,6 +315,10 @@ sent_by r octets (Some (peer, link)) s h = put_over r _ s (sent_on r octets (Som
 pub orderly_sent : (r : ℕ) (octets : List ℕ) (s : State) → IsOrderly s → IsOrderly (sent r octets s)
 orderly_sent r octets s h = sent_by r octets (open_link r s) s h
 
+pub orderly_sent_all : (r : ℕ) (tsdus : List (List ℕ)) (s : State) → IsOrderly s → IsOrderly (sent_all r tsdus s)
+orderly_sent_all r [] s h = h
+orderly_sent_all r (tsdu ∷ tsdus) s h = orderly_sent_all r tsdus (sent r tsdu s) (orderly_sent r tsdu s h)
+
 closes_by : (r peer reason : ℕ) (held : Option Class) (s : State) → IsOrderly s → IsOrderly (closes r peer reason held s)
 closes_by r peer reason (Some Zero) s h = orderly_end _ s h
 closes_by r peer reason held s h = put_over r (closing peer) s (closes r peer reason held s) refl refl refl (closes_names r peer reason held s) h
@@ -346,6 +350,10 @@ sent_gone_by r q octets link s none = grind (arith, put_none)
 
 pub sent_gone : (q r : ℕ) (octets : List ℕ) (s : State) → value_at r s.live ≡ None → value_at r (sent q octets s).live ≡ None
 sent_gone q r octets s none = sent_gone_by r q octets (open_link q s) s none
+
+pub sent_all_gone : (q r : ℕ) (tsdus : List (List ℕ)) (s : State) → value_at r s.live ≡ None → value_at r (sent_all q tsdus s).live ≡ None
+sent_all_gone q r [] s none = none
+sent_all_gone q r (tsdu ∷ tsdus) s none = sent_all_gone q r tsdus (sent q tsdu s) (sent_gone q r tsdu s none)
 
 closes_gone : (r q peer reason : ℕ) (held : Option Class) (s : State) → value_at r s.live ≡ None → value_at r (closes q peer reason held s).live ≡ None
 closes_gone r q peer reason held s none = grind (arith, put_none)

@@ -2,7 +2,7 @@
 -- same with others in front of these.
 use Rattle.std.proofs.Common.{◌≡◌, ℕ, ◌+◌, Bool, true, false, List, [], ◌∷◌, ◌++◌, take, map, Option, Some, None, Result, Ok, Err, is_some, refl, ap, ◌∙◌, append_assoc, if◌then◌else◌}
 use Rattle.osi_carrier.specs.Runs.UserCall.{closes as closing_call, breaks as breaking_call}
-use Rattle.osi_carrier.proofs.Vocabulary.{connection_by, units_of, Value, Connect, request, confirm, disconnect, disconnected, data0, error, TpduFault, Standing, taken, Selection, accept, refuse, selected_by, LinkFault, Class, Zero, Two, sent_on, open_link, closes, closed_on, Happening, opened, refused, tsdu, closed, faulted, proposal, acceptance, confirmed, agreed_size, opened_link, acts_by, after_packet, written_by, pumped, denies, tsaps_of, answers, is_full, has_peer, answers_request, to_unknown, opens, to_asked, handed_out, pumps, tells_of, settles, taking, breaks, leaves, to_linked, to_closing, to_connection, to_reference, before_class, to_only, in_zero, in_two, in_class, react, react_by, reacts, Rows, value_at, UserCall, Act, user_does, does, all_done, put_back, connects, sends, packet, user, Connection, asked, linked, closing, State, writes, tells, joins, moves, drops, ends, packets, EndReason}
+use Rattle.osi_carrier.proofs.Vocabulary.{connection_by, units_of, Value, Connect, request, confirm, disconnect, disconnected, data0, error, TpduFault, Standing, taken, Selection, accept, refuse, selected_by, LinkFault, Class, Zero, Two, sent_on, open_link, closes, closed_on, Happening, opened, refused, tsdu, closed, faulted, proposal, acceptance, confirmed, agreed_size, opened_link, acts_by, after_packet, written_by, pumped, denies, tsaps_of, answers, is_full, has_peer, answers_request, to_unknown, opens, to_asked, handed_out, pumps, tells_of, settles, taking, breaks, leaves, to_linked, to_closing, to_connection, to_reference, before_class, to_only, in_zero, in_two, in_class, react, react_by, reacts, Rows, value_at, UserCall, Act, user_does, does, all_done, put_back, connects, sends, packet, user, Connection, asked, linked, closing, State, writes, tells, joins, moves, drops, ends, packets, EndReason, sent_all, sends_all, sent}
 
 -- these events and octets stand in front
 module _ (e : List Happening) (o : List ℕ) where
@@ -149,6 +149,10 @@ module _ (e : List Happening) (o : List ℕ) where
   apart_sent r octets None s = refl
   apart_sent r octets (Some (peer, link)) s = apart_pumps r peer _ s
 
+  apart_sent_all : (r : ℕ) (tsdus : List (List ℕ)) (s : State) → sent_all r tsdus (put_back e o s) ≡ put_back e o (sent_all r tsdus s)
+  apart_sent_all r [] s = refl
+  apart_sent_all r (octets ∷ tsdus) s = ap (sent_all r tsdus) (apart_sent r octets (open_link r s) s) ∙ apart_sent_all r tsdus (sent r octets s)
+
   apart_closes : (r peer reason : ℕ) (held : Option Class) (s : State) → closes r peer reason held (put_back e o s) ≡ put_back e o (closes r peer reason held s)
   apart_closes r peer reason (Some Zero) s = refl
   apart_closes r peer reason held s = apart_writes (disconnect peer r reason [] ∷ []) (moves r (closing peer) s)
@@ -166,6 +170,7 @@ module _ (e : List Happening) (o : List ℕ) where
   apart_user (connects calling called) s =
       apart_writes (request (proposal s.local s.class calling called (s.given + 1)) ∷ []) (joins (s.given + 1) asked (record { calling = calling; called = called }) (record s { given = s.given + 1 }))
   apart_user (sends r octets) s = apart_sent r octets (open_link r s) s
+  apart_user (sends_all r tsdus) s = apart_sent_all r tsdus s
   apart_user (closing_call r reason) s = apart_closed r reason (open_link r s) s
   apart_user (breaking_call reason) s = apart_ended reason (is_some s.ended) s
 

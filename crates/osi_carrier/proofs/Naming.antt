@@ -2,7 +2,7 @@
 use Rattle.std.proofs.Common.{◌≡◌, ℕ, ◌+◌, ◌==◌, Bool, true, false, List, [], ◌∷◌, ◌++◌, Option, Some, None, is_some, IsSome, Result, Ok, Err, refl, sym, ap, subst, ◌∙◌, arith, if◌then◌else◌}
 use Rattle.std.proofs.Common.{eq-eqb}
 use Rattle.osi_carrier.specs.References.{references, dropped}
-use Rattle.osi_carrier.proofs.Vocabulary.{connection_by, eqb-true, Value, Connect, request, confirm, disconnect, disconnected, data0, error, Standing, taken, Selection, accept, refuse, selected_by, LinkFault, Class, Zero, Two, Local, fresh_state, asks, sent_on, sent, open_link, closes, closed_on, closed_with, ended_by, tsaps_at, AreNamed, KeepsTsaps, confirmed, IsOrderly, denies, answers, is_full, has_peer, answers_request, to_unknown, opens, to_asked, taking, breaks, leaves, to_linked, to_closing, to_connection, to_reference, before_class, to_only, in_zero, in_two, in_class, react, react_by, Rows, value_at, put, without, Connection, asked, linked, closing, TsapIds, State, ends, EndReason}
+use Rattle.osi_carrier.proofs.Vocabulary.{connection_by, eqb-true, Value, Connect, request, confirm, disconnect, disconnected, data0, error, Standing, taken, Selection, accept, refuse, selected_by, LinkFault, Class, Zero, Two, Local, fresh_state, asks, sent_on, sent, open_link, closes, closed_on, closed_with, ended_by, tsaps_at, AreNamed, KeepsTsaps, confirmed, IsOrderly, denies, answers, is_full, has_peer, answers_request, to_unknown, opens, to_asked, taking, breaks, leaves, to_linked, to_closing, to_connection, to_reference, before_class, to_only, in_zero, in_two, in_class, react, react_by, Rows, value_at, put, without, Connection, asked, linked, closing, TsapIds, State, ends, EndReason, sent_all}
 use Rattle.osi_carrier.proofs.Apart.{without_here}
 use Rattle.osi_carrier.proofs.AtReferences.{without_other, push_other}
 
@@ -188,6 +188,10 @@ asks_named calling called s h = named s (asks calling called s) (asks_names call
 pub sent_named : (r : ℕ) (tsdu : List ℕ) (s : State) → AreNamed s → AreNamed (sent r tsdu s)
 sent_named r tsdu s h = named s (sent r tsdu s) (sent_names r tsdu (open_link r s) s) h
 
+pub sent_all_named : (r : ℕ) (tsdus : List (List ℕ)) (s : State) → AreNamed s → AreNamed (sent_all r tsdus s)
+sent_all_named r [] s h = h
+sent_all_named r (tsdu ∷ tsdus) s h = sent_all_named r tsdus (sent r tsdu s) (sent_named r tsdu s h)
+
 pub closed_named : (r reason : ℕ) (s : State) → AreNamed s → AreNamed (closed_with r reason s)
 closed_named r reason s h = named s (closed_with r reason s) (closed_names r reason (open_link r s) s) h
 
@@ -205,6 +209,17 @@ asks_keeps calling called s orderly = keeps s (asks calling called s) (asks_name
 
 pub sent_keeps : (r : ℕ) (tsdu : List ℕ) (s : State) → IsOrderly s → KeepsTsaps s (sent r tsdu s)
 sent_keeps r tsdu s orderly = keeps s (sent r tsdu s) (sent_names r tsdu (open_link r s) s) orderly
+
+sent_tsaps : (r : ℕ) (tsdu : List ℕ) (link : Option (ℕ × Standing)) (s : State) → (sent_on r tsdu link s).tsaps ≡ s.tsaps
+sent_tsaps r tsdu None s = refl
+sent_tsaps r tsdu (Some (peer, link)) s = refl
+
+sent_all_tsaps : (r : ℕ) (tsdus : List (List ℕ)) (s : State) → (sent_all r tsdus s).tsaps ≡ s.tsaps
+sent_all_tsaps r [] s = refl
+sent_all_tsaps r (tsdu ∷ tsdus) s = sent_all_tsaps r tsdus (sent r tsdu s) ∙ sent_tsaps r tsdu (open_link r s) s
+
+pub sent_all_keeps : (r : ℕ) (tsdus : List (List ℕ)) (s : State) → IsOrderly s → KeepsTsaps s (sent_all r tsdus s)
+sent_all_keeps r tsdus s orderly q within there = ap (value_at q) (sent_all_tsaps r tsdus s)
 
 pub closed_keeps : (r reason : ℕ) (s : State) → IsOrderly s → KeepsTsaps s (closed_with r reason s)
 closed_keeps r reason s orderly = keeps s (closed_with r reason s) (closed_names r reason (open_link r s) s) orderly

@@ -2,7 +2,7 @@
 use Rattle.std.proofs.Common.{◌≡◌, ℕ, ◌+◌, ◌-◌, ◌<◌, ◌^◌, ◌||◌, Bool, true, false, List, [], ◌∷◌, ◌++◌, length, take, map, Option, Some, None, is_some, refl, sym, ap, subst, ◌∙◌, inl, inr, arith, append_assoc, length-append, if◌then◌else◌}
 use Rattle.std.proofs.lemmas.List.Concat.{flat_map-append}
 pub use Rattle.osi_tpkt.proofs.Runs.{packets_joined}
-use Rattle.osi_carrier.proofs.Vocabulary.{append-nil, take_all, flat_map, IsPartial, ArePackets, offset_of, Fed, Tells, sent_on, closes as closes_at, closed_on, Happening, Standing, Class, Carrying, Feeds, Goes, RunsDry, StopsBehind, TakesPackets, after_packet, waits, UserCall, Act, Call, user_does, does, all_done, packet_in, call_in, Calls, CallsAlong, used_in, told_in, carried_in, called_in, put_back, Reads, AreAlike, packet, user, feeding, telling, carrying, calling, State, ends, EndReason}
+use Rattle.osi_carrier.proofs.Vocabulary.{append-nil, take_all, flat_map, IsPartial, ArePackets, offset_of, Fed, Tells, sent_on, closes as closes_at, closed_on, Happening, Standing, Class, Carrying, Feeds, Goes, RunsDry, StopsBehind, TakesPackets, after_packet, waits, UserCall, Act, Call, user_does, does, all_done, packet_in, call_in, Calls, CallsAlong, used_in, told_in, carried_in, called_in, put_back, Reads, AreAlike, packet, user, feeding, telling, carrying, calling, State, ends, EndReason, sent_all, sent, open_link}
 use Rattle.osi_carrier.proofs.InFront.{apart_all}
 use Rattle.osi_carrier.proofs.Reacts.{none_of}
 use Rattle.osi_carrier.proofs.Reading.{packets_leave}
@@ -11,6 +11,10 @@ use Rattle.osi_carrier.proofs.Reading.{packets_leave}
 
 sent_ended : (r : ℕ) (octets : List ℕ) (link : Option (ℕ × Standing)) (s : State) → (sent_on r octets link s).ended ≡ s.ended
 sent_ended r octets link s = grind arith
+
+sent_all_ended : (r : ℕ) (tsdus : List (List ℕ)) (s : State) → (sent_all r tsdus s).ended ≡ s.ended
+sent_all_ended r [] s = refl
+sent_all_ended r (tsdu ∷ tsdus) s = sent_all_ended r tsdus (sent r tsdu s) ∙ sent_ended r tsdu (open_link r s) s
 
 closes_lasts : (r peer reason : ℕ) (held : Option Class) (s : State) → (closes_at r peer reason held s).ended ≡ None → s.ended ≡ None
 closes_lasts r peer reason held s h = grind arith
@@ -22,7 +26,7 @@ ended_lasts : (reason : EndReason) (over : Bool) (s : State) → (if over then s
 ended_lasts reason over s h = grind arith
 
 user_lasts : (call : UserCall) (s : State) → (user_does call s).ended ≡ None → s.ended ≡ None
-user_lasts call s h = grind (arith, sent_ended, closed_lasts, ended_lasts, is_some)
+user_lasts call s h = grind (arith, sent_ended, sent_all_ended, closed_lasts, ended_lasts, is_some)
 
 tells_lasts : (event : Option Happening) (old new : State) → Tells event old new → new.ended ≡ None → old.ended ≡ None
 tells_lasts event old new h lasts = grind arith

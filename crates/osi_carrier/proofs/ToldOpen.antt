@@ -2,7 +2,7 @@
 use Rattle.std.proofs.Common.{◌≡◌, ◌≢◌, ℕ, ◌+◌, ◌==◌, Bool, true, false, ◌&&◌, ◌||◌, not, List, [], ◌∷◌, ◌++◌, take, Option, Some, None, Result, Ok, Err, is_some, refl, sym, ap, subst, ◌∙◌, arith, append_assoc, if◌then◌else◌}
 use Rattle.std.proofs.Common.{eq-eqb}
 use Rattle.osi_carrier.specs.Told.{is_open, open_after, TellsOpen}
-use Rattle.osi_carrier.proofs.Vocabulary.{connection_by, eqb-true, append-nil, units_of, Value, Connect, request, confirm, disconnect, disconnected, data0, error, TpduFault, Standing, taken, Selection, accept, refuse, selected_by, LinkFault, Class, Zero, Two, asks, link_of, open_link, sent_on, sent, closes, closed_on, closed_with, Happening, opened, refused, closed, faulted, confirmed, RiseFrom, AreUpTo, IsOrderly, acts_by, after_packet, denies, answers, is_full, has_peer, answers_request, to_unknown, opens, to_asked, tells_of, taking, breaks, leaves, to_linked, to_closing, to_connection, to_reference, before_class, to_only, in_zero, in_two, in_class, react, react_by, reacts, Rows, value_at, put, without, Connection, asked, linked, closing, State, ends, EndReason}
+use Rattle.osi_carrier.proofs.Vocabulary.{connection_by, eqb-true, append-nil, units_of, Value, Connect, request, confirm, disconnect, disconnected, data0, error, TpduFault, Standing, taken, Selection, accept, refuse, selected_by, LinkFault, Class, Zero, Two, asks, link_of, open_link, sent_on, sent, closes, closed_on, closed_with, Happening, opened, refused, closed, faulted, confirmed, RiseFrom, AreUpTo, IsOrderly, acts_by, after_packet, denies, answers, is_full, has_peer, answers_request, to_unknown, opens, to_asked, tells_of, taking, breaks, leaves, to_linked, to_closing, to_connection, to_reference, before_class, to_only, in_zero, in_two, in_class, react, react_by, reacts, Rows, value_at, put, without, Connection, asked, linked, closing, State, ends, EndReason, sent_all}
 use Rattle.osi_carrier.proofs.Apart.{put_here, without_here, push_here, beyond}
 use Rattle.osi_carrier.proofs.AtReferences.{put_other, without_other, push_other}
 use Rattle.osi_carrier.proofs.Effects.{orderly_unit}
@@ -288,6 +288,10 @@ sent_by r q octets link s e = grind (arith, link_there, is_some, at_end, kept_op
 
 pub sent_opens : (q r : ℕ) (octets : List ℕ) (s : State) → is_open r (sent q octets s) ≡ is_open r s
 sent_opens q r octets s = sent_by r q octets (open_link q s) s refl
+
+pub sent_all_opens : (q r : ℕ) (tsdus : List (List ℕ)) (s : State) → is_open r (sent_all q tsdus s) ≡ is_open r s
+sent_all_opens q r [] s = refl
+sent_all_opens q r (tsdu ∷ tsdus) s = sent_all_opens q r tsdus (sent q tsdu s) ∙ sent_opens q r tsdu s
 
 closing_by : (b was : Bool) → (if b then false else was) ≡ (was && not b)
 closing_by b was = grind arith

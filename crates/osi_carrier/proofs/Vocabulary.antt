@@ -49,7 +49,7 @@ pub use Rattle.osi_carrier.specs.Rows.{Rows, first_of, place_of, put, value_at, 
 pub use Rattle.osi_carrier.specs.Runs.{Act, AreAlike, Call, Calls, CallsAlong, EndAlike, Reads, UserCall, all_done, call_in, called_in, carried_in, does, packet_in, put_back, told_in, used_in, user_does}
 pub use Rattle.osi_carrier.specs.Runs.Act.{packet, user}
 pub use Rattle.osi_carrier.specs.Runs.Call.{calling, carrying, feeding, telling}
-pub use Rattle.osi_carrier.specs.Runs.UserCall.{connects, sends}
+pub use Rattle.osi_carrier.specs.Runs.UserCall.{connects, sends, sends_all}
 pub use Rattle.osi_carrier.specs.Opened.{link_in, peer_in}
 pub use Rattle.osi_carrier.specs.State.{Connection, State, TsapIds, asked, closing, drops, ends, fails, joins, linked, moves, packets, tells, writes}
 pub use Rattle.osi_carrier.specs.Steps.{StepsTo, link_after, units_after, whole_after}

@@ -4,7 +4,7 @@ use Rattle.std.specs.List.{flat_map}
 use Rattle.osi_tpkt.specs.Packet.{IsPartial}
 use Rattle.osi_tpkt.specs.Stream.{ArePackets, offset_of}
 use Rattle.osi_tpkt.specs.declared.cutting.Fed.{Fed}
-use Rattle.osi_carrier.specs.Calls.{asks, sent, closed_with, ended_by, Tells}
+use Rattle.osi_carrier.specs.Calls.{asks, sent, sent_all, closed_with, ended_by, Tells}
 use Rattle.osi_carrier.specs.Happenings.{Happening}
 use Rattle.osi_carrier.specs.Packets.{Carrying, Feeds, after_packet}
 use Rattle.osi_carrier.specs.State.{State}
@@ -12,11 +12,12 @@ use Rattle.osi_carrier.specs.declared.ends.EndReason.{EndReason}
 
 -- ---- what acts on a carrier
 
--- what its user does: it asks for a connection with these selectors, sends a TSDU on one, closes one
--- for a reason, or ends the carrier
+-- what its user does: it asks for a connection with these selectors, sends a TSDU or several on one, closes
+-- one for a reason, or ends the carrier
 pub data UserCall : Type 0 where
   connects : Option (List ℕ) → Option (List ℕ) → UserCall
   sends : ℕ → List ℕ → UserCall
+  sends_all : ℕ → List (List ℕ) → UserCall
   closes : ℕ → ℕ → UserCall
   breaks : EndReason → UserCall
 
@@ -28,6 +29,7 @@ pub data Act : Type 0 where
 abbrev pub user_does : UserCall → State → State
 user_does (connects calling called) s = asks calling called s
 user_does (sends r octets) s = sent r octets s
+user_does (sends_all r tsdus) s = sent_all r tsdus s
 user_does (closes r reason) s = closed_with r reason s
 user_does (breaks reason) s = ended_by reason s
 

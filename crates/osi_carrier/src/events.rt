@@ -1,6 +1,8 @@
 //! What a carrier tells its user.
 
-use osi_class::LinkFault;
+ghost use Rattle.std.specs.Prelude.{◌≡◌, ◌++◌, ◌∷◌, [], true};
+
+use osi_class::{LinkFault, Queue};
 
 /// The reference that this end gave a connection: 1 to 65,535, and none twice.
 #[derive(Clone, Copy, PartialEq, Eq, Debug)]
@@ -19,4 +21,15 @@ pub enum Event {
     Closed(Ref, u8),
     /// The peer broke a rule of this connection alone, and a DR was sent.
     Faulted(Ref, LinkFault),
+}
+
+/// Puts an event behind the others, for which there is room.
+#[inline(always)]
+pub(crate) fn tell(events: &mut Queue<Event>, event: Event)
+    requires { events.old.has_room ≡ true }
+    ensures { events.new.items ≡ events.old.items ++ event ∷ [] }
+{
+    let Ok(()) = events.push(event) else {
+        unreachable!()
+    };
 }

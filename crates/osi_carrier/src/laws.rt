@@ -5,7 +5,7 @@ ghost use Rattle.std.specs.List.{flat_map};
 ghost use Rattle.osi_tpkt.specs.Packet.{IsPartial};
 ghost use Rattle.osi_tpdu.specs.Value.{Value};
 ghost use Rattle.osi_class.specs.declared.terms.Local.{Local};
-ghost use Rattle.osi_carrier.specs.Calls.{fresh_state, may_connect, asks, sent, closed_with, ended_by, tsaps_at};
+ghost use Rattle.osi_carrier.specs.Calls.{fresh_state, may_connect, asks, sent, sent_all, closed_with, ended_by, tsaps_at};
 ghost use Rattle.osi_carrier.specs.Happenings.{Happening};
 ghost use Rattle.osi_carrier.specs.Named.{AreNamed, KeepsTsaps};
 ghost use Rattle.osi_carrier.specs.Orderly.{IsOrderly, ChangesOne, connection_of};
@@ -35,6 +35,7 @@ pub fn references_rise()
     ensures packet { (packet : List ℕ) (s : State) → IsOrderly s → IsOrderly (after_packet s packet) }
     ensures asks { (calling called : Option (List ℕ)) (s : State) → may_connect s ≡ None → IsOrderly s → IsOrderly (asks calling called s) }
     ensures sent { (r : ℕ) (tsdu : List ℕ) (s : State) → IsOrderly s → IsOrderly (sent r tsdu s) }
+    ensures sent_all { (r : ℕ) (tsdus : List (List ℕ)) (s : State) → IsOrderly s → IsOrderly (sent_all r tsdus s) }
     ensures closed { (r reason : ℕ) (s : State) → IsOrderly s → IsOrderly (closed_with r reason s) }
     ensures ends { (reason : EndReason) (s : State) → IsOrderly s → IsOrderly (ends reason s) }
     ensures ended { (reason : EndReason) (s : State) → IsOrderly s → IsOrderly (ended_by reason s) }
@@ -48,6 +49,7 @@ pub fn no_reference_is_given_twice()
     ensures asks { (calling called : Option (List ℕ)) (s : State) (r : ℕ) → r ≤ s.given → value_at r s.live ≡ None →
         value_at r (asks calling called s).live ≡ None }
     ensures sent { (q r : ℕ) (tsdu : List ℕ) (s : State) → value_at r s.live ≡ None → value_at r (sent q tsdu s).live ≡ None }
+    ensures sent_all { (q r : ℕ) (tsdus : List (List ℕ)) (s : State) → value_at r s.live ≡ None → value_at r (sent_all q tsdus s).live ≡ None }
     ensures closed { (q r reason : ℕ) (s : State) → value_at r s.live ≡ None → value_at r (closed_with q reason s).live ≡ None }
 {}
 
@@ -60,11 +62,13 @@ pub fn each_live_connection_has_its_tsaps()
     ensures unit { (unit : Value) (s : State) → AreNamed s → AreNamed (react unit s) }
     ensures asks { (calling called : Option (List ℕ)) (s : State) → AreNamed s → AreNamed (asks calling called s) }
     ensures sent { (r : ℕ) (tsdu : List ℕ) (s : State) → AreNamed s → AreNamed (sent r tsdu s) }
+    ensures sent_all { (r : ℕ) (tsdus : List (List ℕ)) (s : State) → AreNamed s → AreNamed (sent_all r tsdus s) }
     ensures closed { (r reason : ℕ) (s : State) → AreNamed s → AreNamed (closed_with r reason s) }
     ensures ended { (reason : EndReason) (s : State) → AreNamed s → AreNamed (ended_by reason s) }
     ensures unit_keeps { (unit : Value) (s : State) → IsOrderly s → KeepsTsaps s (react unit s) }
     ensures asks_keeps { (calling called : Option (List ℕ)) (s : State) → IsOrderly s → KeepsTsaps s (asks calling called s) }
     ensures sent_keeps { (r : ℕ) (tsdu : List ℕ) (s : State) → IsOrderly s → KeepsTsaps s (sent r tsdu s) }
+    ensures sent_all_keeps { (r : ℕ) (tsdus : List (List ℕ)) (s : State) → IsOrderly s → KeepsTsaps s (sent_all r tsdus s) }
     ensures closed_keeps { (r reason : ℕ) (s : State) → IsOrderly s → KeepsTsaps s (closed_with r reason s) }
 {}
 
@@ -100,6 +104,7 @@ pub fn what_is_open_is_told()
     ensures packet { (packet : List ℕ) (s : State) (r : ℕ) → IsOrderly s → (after_packet s packet).ended ≡ None → TellsOpen r s (after_packet s packet) }
     ensures asks { (calling called : Option (List ℕ)) (s : State) (r : ℕ) → IsOrderly s → is_open r (asks calling called s) ≡ is_open r s }
     ensures sent { (q r : ℕ) (tsdu : List ℕ) (s : State) → is_open r (sent q tsdu s) ≡ is_open r s }
+    ensures sent_all { (q r : ℕ) (tsdus : List (List ℕ)) (s : State) → is_open r (sent_all q tsdus s) ≡ is_open r s }
     ensures closed { (q r reason : ℕ) (s : State) → (closed_with q reason s).ended ≡ None →
         is_open r (closed_with q reason s) ≡ (is_open r s && not (q == r)) }
 {}

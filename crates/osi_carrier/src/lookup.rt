@@ -15,10 +15,17 @@ pub trait Referred {
         ensures { result ≡ reference_of self.now };
 }
 
+/// The place of a reference among rows, of which each is looked at.
+#[inline(always)]
+fn walk<R: Referred>(rows: &[R], reference: u16) -> Option<usize>
+    ensures { result ≡ place_by R.reference_of reference rows.now }
+{
+    rows.iter().position(|row| row.reference() == reference)
+}
+
 /// The place of a reference among rows that rise, looked for by halves.
 fn halve<R: Referred>(rows: &[R], reference: u16) -> Option<usize>
-    requires { RiseBy R.reference_of 0 rows.now }
-    ensures { result ≡ place_by R.reference_of reference rows.now }
+    ensures { RiseBy R.reference_of 0 rows.now → result ≡ place_by R.reference_of reference rows.now }
 {
     rows.binary_search_by_key(&reference, |row| row.reference())
         .ok()
@@ -35,15 +42,15 @@ pub fn is_above<R: Referred>(rows: &[R], reference: u16) -> bool
     rows[rows.len() - 1].reference() < reference
 }
 
-/// The place of a reference among rows, which may rise: then it stands as far behind the first one as
-/// they are apart, where none between the two was dropped.
+/// The place of a reference among rows. Where the caller says that they rise, it is looked for as far behind
+/// the first one as they are apart, and then by halves: as of a binary search, its answer is the place only if
+/// they do rise.
 #[inline]
 pub fn place_in<R: Referred>(rows: &[R], rises: bool, reference: u16) -> Option<usize>
-    requires { rises ≡ true → RiseBy R.reference_of 0 rows.now }
-    ensures { result ≡ place_by R.reference_of reference rows.now }
+    ensures { (rises ≡ true → RiseBy R.reference_of 0 rows.now) → result ≡ place_by R.reference_of reference rows.now }
 {
     if !rises {
-        return rows.iter().position(|row| row.reference() == reference);
+        return walk(rows, reference);
     }
     let [first, ..] = rows else {
         return None;

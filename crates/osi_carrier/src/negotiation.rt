@@ -133,7 +133,9 @@ pub fn opened_link(
 {
     match class {
         Class::Zero => AnyLink::Zero(Class0::new(alloc, size)),
-        Class::Two => { AnyLink::Two(Class2::new(alloc, size, local.window, Credit::of(credit))) }
+        Class::Two => {
+            AnyLink::Two(Class2::new(alloc, size, local.window, Credit::up_to(credit)))
+        }
     }
 }
 

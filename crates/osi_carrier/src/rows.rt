@@ -240,6 +240,7 @@ impl Connections {
     }
 
     /// The place of a reference.
+    #[inline(always)]
     pub fn find(&self, reference: u16) -> Option<usize>
         ensures { result ≡ place_of reference self.now }
     {
@@ -253,7 +254,7 @@ impl Connections {
         ensures open { IfSome result (λ o. (place_of reference self.now ≡ Some o.0) × (peer_in (value_at reference self.now) ≡ Some o.1)) }
         ensures none { result ≡ None → link_of (value_at reference self.now) ≡ None }
     {
-        let Some(place) = place_in(self.rows.as_slice(), self.rises, reference) else {
+        let Some(place) = self.find(reference) else {
             return None;
         };
         match self.phase(place, reference) {

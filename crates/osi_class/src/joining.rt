@@ -111,7 +111,9 @@ impl Begun {
             return Err(LinkFault::OutOfMemory);
         }
         let tsdu = mem::replace(&mut self.octets, Vec::new(self.alloc));
-        whole.push_reserved(tsdu);
+        let Ok(()) = whole.push(tsdu) else {
+            unreachable!()
+        };
         Ok(())
     }
 

@@ -1,6 +1,6 @@
 //! The greatest lengths and counts of links.
 
-ghost use Rattle.std.specs.Prelude.{◌≡◌, ◌≤◌, ◌↔◌, IsSome, IfSome};
+ghost use Rattle.std.specs.Prelude.{◌≡◌, ◌≤◌, ◌↔◌, min, IsSome, IfSome};
 
 /// The longest TSDU that is taken, in octets.
 pub const LONGEST_TSDU: usize = 1_048_576;
@@ -28,12 +28,13 @@ impl Credit {
         }
     }
 
-    /// The credit of so many units, as a CR, a CC or an AK holds it: 0 to 15.
-    pub fn of(units: u8) -> Self
-        requires { units ≤ 15 }
-        ensures { credit_units result ≡ units }
+    /// The credit of so many units, or of 15 if they are more: a CR, a CC or an AK gives no more.
+    pub fn up_to(units: u8) -> Self
+        ensures { credit_units result ≡ min units 15 }
     {
-        Credit { units }
+        Credit {
+            units: units.min(15),
+        }
     }
 
     /// The number of units, 0 to 15.

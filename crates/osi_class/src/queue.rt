@@ -62,21 +62,8 @@ impl<T: Drop> Queue<T> {
         self.others.reserve(1)
     }
 
-    /// Puts a value behind the others, for which there is room.
-    #[inline(always)]
-    pub fn push_reserved(&mut self, value: T)
-        requires { self.old.has_room ≡ true }
-        ensures { self.new.items ≡ self.old.items ++ value ∷ [] }
-    {
-        if self.first.is_none() {
-            self.first = Some(value);
-            return;
-        }
-        self.others.push_back_reserved(value);
-    }
-
-    /// Puts a value behind the others. Where there is no memory for it nothing has changed; memory is needed
-    /// only where there is a first one.
+    /// Puts a value behind the others. If there is no memory for it nothing has changed; memory is needed only
+    /// if there is a first one, and never after [`Queue::reserve`].
     #[inline(always)]
     pub fn push(&mut self, value: T) -> Result<(), AllocError>
         ensures ok { OnOk result (self.new.items ≡ self.old.items ++ value ∷ []) }

@@ -2,7 +2,7 @@
 use Rattle.std.proofs.Common.{◌≡◌, ◌∙◌, refl, sym, ap, subst, ◌&&◌, nat_le, nat_lt, take, drop, if◌then◌else◌, ℕ, ◌+◌, ◌/◌, ◌%◌, ◌≤◌, ◌<◌, Bool, true, false, List, [], ◌∷◌, ◌++◌, length, Some, None, Result, Ok, eqb, arith}
 use Rattle.osi_message.specs.declared.plain.PlainUnit.{PlainUnit}
 use Rattle.osi_message.specs.declared.plain.PlainUnit.TheVariants as plain
-use Rattle.osi_message.proofs.Vocabulary.{list_all, ne_eqb, and_parts, leb-true, ltb-true, take-append-drop, append-nil, Kind, MinorSyncPoint, MinorSyncAck, Number, number_of, is_group, codes_of, si_of, nothing, put, significant, six_digits, digits_of, is_digit, is_numeral, decimal_from, decimal, numeral, written_code, body_octets, unit_octets, tsdu_octets, tsdu_at, SpduFault, Meaning, DT, GT, MIP, MIA, Place, no_token, says, part, Words, part_head, part_octets, plain_meaning, plain_octets, plain_said, data_octets, point_octets, has_zero_in_front, said_by_units, said_if_read, said_at, IsSendable, words_of, with_data, unit_with, unit_of, is_second, behind_tokens, spelled, written, user_data_of}
+use Rattle.osi_message.proofs.Vocabulary.{list_all, ne_eqb, and_parts, leb-true, ltb-true, take-append-drop, append-nil, Kind, MinorSyncPoint, MinorSyncAck, Number, number_of, is_group, codes_of, si_of, nothing, put, significant, six_digits, digits_of, is_digit, is_numeral, decimal_from, decimal, numeral, written_code, body_octets, unit_octets, tsdu_octets, tsdu_at, SpduFault, Meaning, DT, GT, MIP, MIA, Place, no_token, says, part, Words, part_head, part_octets, as_message, plain_octets, plain_said, plain_word, data_octets, point_octets, has_zero_in_front, said_by_units, said_if_read, said_at, IsSendable, words_of, with_data, unit_with, unit_of, is_second, behind_tokens, spelled, written, user_data_of}
 use Rattle.osi_message.proofs.NumberLaws.{six}
 
 -- ---- the digits of a number
@@ -123,7 +123,7 @@ point_parts si tsdu head rest digits h r e d =
 
 -- ---- what they say
 
-plain_sendable : (p : PlainUnit) → IsSendable (plain_meaning p)
+plain_sendable : (p : PlainUnit) → IsSendable (as_message (plain_word p))
 unfolding user_data_of
 plain_sendable p = grind arith
 
@@ -138,7 +138,6 @@ pub said_plain : ((m : Meaning) → IsSendable m → tsdu_at (written m) ≡ Ok 
     → (p : PlainUnit) (tsdu : List ℕ) → tsdu ≡ plain_octets p → said_at tsdu ≡ Ok (plain_said p)
 unfolding is_second
 said_plain read said parts (plain.Part place octets) tsdu e = ap said_at e ∙ parts place octets.now
-said_plain read said parts (plain.Data octets) tsdu e = ap said_at e ∙ said_whole read said (DT octets.now) (plain_sendable (plain.Data octets))
 said_plain read said parts (plain.MinorPoint number) tsdu e = ap said_at e ∙ said_whole read said (MIP true number.number []) (plain_sendable (plain.MinorPoint number))
 said_plain read said parts (plain.MinorAck number) tsdu e = ap said_at e ∙ said_whole read said (MIA number.number []) (plain_sendable (plain.MinorAck number))
 

@@ -38,13 +38,13 @@ pub use Rattle.osi_message.specs.Meanings.{AA, AB, AC, CN, DN, DT, FN, GT, MAA, 
 pub use Rattle.osi_message.specs.Numbered.{AreNumberedWords, IsNumbered, IsNumberedWord, IsSmall}
 pub use Rattle.osi_message.specs.Parting.{AreFull, AreLater, AreParts, behind_no_token, in_one, is_parted, is_whole, joined, later_parts, parts_of, pieces, tsdus_of}
 unfoldable pub use Rattle.osi_message.specs.Parting.{words_sent}
-pub use Rattle.osi_message.specs.Plain.{data_octets, has_zero_in_front, plain_meaning, plain_octets, plain_said, point_octets}
+pub use Rattle.osi_message.specs.Plain.{data_octets, has_zero_in_front, plain_octets, plain_said, plain_word, point_octets}
 pub use Rattle.osi_message.specs.Reading.{alone, behind, first_in, meaning_by, number_in, octet_in, octets_in, resync_named, said_by_units, said_if_read, serial_in, setting_named, sizes_in, two_in, wish_named, word_at}
 unfoldable pub use Rattle.osi_message.specs.Reading.{meaning, place_of, said_at, word}
 pub use Rattle.osi_message.specs.Sendable.{IsAddress, IsAddressed, IsSendable, is_of_version_2, words_of}
 pub use Rattle.osi_message.specs.Tokens.{named, no_token}
 unfoldable pub use Rattle.osi_message.specs.Tokens.{token_octet}
-pub use Rattle.osi_message.specs.Words.{Word, Words, enclosure_of, part, part_head, part_octets, says, word_octets}
+pub use Rattle.osi_message.specs.Words.{Word, Words, as_message, enclosure_of, part, part_head, part_octets, says, word_octets}
 pub use Rattle.osi_message.specs.Written.{alone_units, behind_tokens, connect_unit, numbered, put_some, sync_type, terms, unit_with, with_data, written}
 unfoldable pub use Rattle.osi_message.specs.Written.{is_second, spelled, unit_of, user_data_of}
 pub use Rattle.osi_message.specs.declared.messages.Message.{Message}

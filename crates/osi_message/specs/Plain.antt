@@ -1,13 +1,13 @@
--- The TSDUs that come most often: data, and a minor point or its confirmation with no parameter but its number.
+-- The TSDUs that come most often: data, a part of it, and a minor point or its confirmation with no parameter
+-- but its number.
 use Rattle.std.specs.Prelude.{ℕ, ◌+◌, ◌==◌, Bool, true, false, List, [], ◌∷◌, length}
 use Rattle.osi_message.specs.declared.plain.PlainUnit.{PlainUnit}
 use Rattle.osi_message.specs.declared.plain.PlainUnit.TheVariants as plain
 use Rattle.osi_message.specs.Tokens.{no_token}
-use Rattle.osi_message.specs.Meanings.{Meaning, DT, GT, MIP, MIA}
-use Rattle.osi_message.specs.Words.{Word, says, part, Words, as_message, word_octets}
+use Rattle.osi_message.specs.Meanings.{GT, MIP, MIA}
+use Rattle.osi_message.specs.Words.{Word, says, part, Words, word_octets}
 
 abbrev pub plain_word : PlainUnit → Word
-plain_word (plain.Data user_octets) = says (DT user_octets.now)
 plain_word (plain.Part place user_octets) = part place user_octets.now
 plain_word (plain.MinorPoint number) = says (MIP true number.number [])
 plain_word (plain.MinorAck number) = says (MIA number.number [])
@@ -15,10 +15,6 @@ plain_word (plain.MinorAck number) = says (MIA number.number [])
 -- the octets of its TSDU
 abbrev pub plain_octets : PlainUnit → List ℕ
 plain_octets p = word_octets (plain_word p)
-
--- the message as which it is judged
-abbrev pub plain_meaning : PlainUnit → Meaning
-plain_meaning p = as_message (plain_word p)
 
 -- what its TSDU says
 abbrev pub plain_said : PlainUnit → Words

@@ -1,18 +1,17 @@
 //! The TSDUs that come most often, written and read straight: data, a part of it, and a minor
 //! synchronization point or its confirmation with no parameter but its number, behind a GT that names
-//! no token.
+//! no token. Whole data has a reader of its own, [`PlainUnit::data`]; [`PlainUnit::read`] reads the others.
 
 ghost use Rattle.std.specs.Prelude.{◌≡◌, ◌+◌, ◌%◌, ◌≤◌, true, [], ◌∷◌, Ok, IfOk, IfSome};
 ghost use Rattle.osi_spdu.specs.Values.{digits_of};
-ghost use Rattle.osi_message.specs.Meanings.{DT, GT, MIP, MIA, meant_by};
-ghost use Rattle.osi_message.specs.Plain.{plain_meaning, plain_octets, plain_said, data_octets, point_octets, has_zero_in_front};
+ghost use Rattle.osi_message.specs.Meanings.{DT, GT, MIP, MIA};
+ghost use Rattle.osi_message.specs.Plain.{plain_octets, plain_said, data_octets, point_octets, has_zero_in_front};
 ghost use Rattle.osi_message.specs.Reading.{said_at};
 ghost use Rattle.osi_message.specs.Tokens.{no_token};
 ghost use Rattle.osi_message.specs.Words.{part_head, says};
 ghost use Rattle.osi_message.specs.Written.{written};
 
 use crate::laws;
-use crate::messages::Message;
 use crate::places::Place;
 use osi_spdu::Serial;
 use std::alloc::{AllocError, Global};
@@ -29,14 +28,9 @@ const NUMBER: u8 = 0x2A;
 /// The code of an enclosure.
 const ENCLOSURE: u8 = 0x19;
 
-/// The most frequent units.
+/// The most frequent units beside whole data.
 #[derive(Clone, Copy)]
 pub enum PlainUnit<'a> {
-    /// Data transfer (DT).
-    Data {
-        /// User data.
-        user_data: &'a [u8],
-    },
     /// A part of one Data (DT).
     Part {
         /// Which part it is.
@@ -192,8 +186,7 @@ fn place_in_front(head: &[u8]) -> Option<Place>
     }
 }
 
-/// A part of one Data, behind a GT that names no token. It stands out of line: whole data comes more
-/// often.
+/// A part of one Data, behind a GT that names no token. It stands out of line: points come more often.
 #[inline(never)]
 #[tactic(auto, using(crate::proofs::PlainLaws::part_parts))]
 fn part_of(tsdu: &[u8]) -> Option<PlainUnit<'_>>
@@ -208,7 +201,7 @@ fn part_of(tsdu: &[u8]) -> Option<PlainUnit<'_>>
 }
 
 /// The unit whose written form the octets are.
-#[tactic(auto, using(crate::proofs::PlainLaws::data_written, crate::proofs::PlainLaws::point_written, crate::proofs::PlainLaws::ack_written))]
+#[tactic(auto, using(crate::proofs::PlainLaws::point_written, crate::proofs::PlainLaws::ack_written))]
 fn plain_unit(tsdu: &[u8]) -> Option<PlainUnit<'_>>
     ensures { IfSome result (λ p. tsdu.now ≡ plain_octets p) }
 {
@@ -216,12 +209,7 @@ fn plain_unit(tsdu: &[u8]) -> Option<PlainUnit<'_>>
         return None;
     }
     match tsdu[2] {
-        1 => {
-            let Some(user_data) = PlainUnit::data(tsdu) else {
-                return part_of(tsdu);
-            };
-            Some(PlainUnit::Data { user_data })
-        }
+        1 => part_of(tsdu),
         MINOR_POINT => {
             let number = number_of(tsdu, MINOR_POINT)?;
             Some(PlainUnit::MinorPoint { number })
@@ -235,8 +223,8 @@ fn plain_unit(tsdu: &[u8]) -> Option<PlainUnit<'_>>
 }
 
 impl<'a> PlainUnit<'a> {
-    /// What the octets of a TSDU say, where they are the written form of one of these; whatever else
-    /// they are, `read_tsdu` reads them.
+    /// What the octets of a TSDU say, if they are the written form of one of these. `None` for whole data,
+    /// which [`PlainUnit::data`] reads, and for all other octets, which `read_tsdu` reads.
     pub fn read(tsdu: &'a [u8]) -> Option<PlainUnit<'a>>
         ensures written { IfSome result (λ p. tsdu.now ≡ plain_octets p) }
         ensures said { IfSome result (λ p. said_at tsdu.now ≡ Ok (plain_said p)) }
@@ -247,8 +235,8 @@ impl<'a> PlainUnit<'a> {
         Some(unit)
     }
 
-    /// The user data of whole data, where the octets of a TSDU are its written form, behind a GT that
-    /// names no token: what [`PlainUnit::read`] finds there.
+    /// The user data of whole data, if the octets of a TSDU are its written form, behind a GT that names no
+    /// token.
     #[inline(always)]
     #[tactic(auto, using(crate::proofs::PlainLaws::data_parts))]
     pub fn data(tsdu: &'a [u8]) -> Option<&'a [u8]>
@@ -267,24 +255,5 @@ impl<'a> PlainUnit<'a> {
             return None;
         }
         Some(user_data)
-    }
-
-    /// The message as which it is judged: a part as data.
-    pub fn message(self) -> Message<'a>
-        ensures { meant_by result ≡ plain_meaning self.entry }
-    {
-        match self {
-            PlainUnit::Data { user_data } => Message::Data { user_data },
-            PlainUnit::Part { user_data, .. } => Message::Data { user_data },
-            PlainUnit::MinorPoint { number } => Message::MinorPoint {
-                confirm: true,
-                number,
-                user_data: &[],
-            },
-            PlainUnit::MinorAck { number } => Message::MinorAck {
-                number,
-                user_data: &[],
-            },
-        }
     }
 }

@@ -2,6 +2,7 @@
 
 ghost use Rattle.std.specs.Prelude.{◌≡◌, ◌<◌, true, false, [], ◌∷◌, length, map, IfOk, IfErr, OnErr};
 ghost use Rattle.osi_spdu.specs.Groups.{units_of};
+ghost use Rattle.osi_spdu.specs.Sizes.{size_of};
 ghost use Rattle.osi_spdu.specs.Values.{is_size};
 ghost use Rattle.osi_spdu.specs.Writing.{tsdu_octets, TsduFits};
 ghost use Rattle.osi_message.specs.Meanings.{DT, MIP, MIA, meant_by};
@@ -13,7 +14,7 @@ use crate::parts::parts;
 use crate::plain;
 use crate::tsdus::Tsdus;
 use bytes::BytesMut;
-use osi_spdu::{Group, Serial, write_tsdu};
+use osi_spdu::{Group, Serial, TsduSize, write_tsdu};
 use std::alloc::{AllocError, Global};
 use std::marker::Model;
 use std::slice;
@@ -150,16 +151,16 @@ impl Sent {
         })
     }
 
-    /// Data (X.225 section 6.3.5, segmenting), where a TSDU has at most so many octets, 0 for no limit:
-    /// whole where its TSDU is within the limit, else in parts, of which all but the last are as long
-    /// as the limit. All of them are written, or none.
+    /// Data (X.225 section 6.3.5, segmenting), where a TSDU has at most this size: whole if its TSDU is
+    /// within it, else in parts, of which all but the last are as long as the size. All of them are
+    /// written, or none.
     #[tactic(auto, using(crate::proofs::SentLaws::sent_whole))]
-    pub fn data(alloc: Global, limit: u16, user_data: &[u8]) -> Result<Sent, AllocError>
-        requires { is_size limit ≡ true }
-        ensures { IfOk result (λ s. s ≡ tsdus_of limit (DT user_data.now)) }
+    pub fn data(alloc: Global, limit: TsduSize, user_data: &[u8]) -> Result<Sent, AllocError>
+        ensures { IfOk result (λ s. s ≡ tsdus_of (size_of limit) (DT user_data.now)) }
     {
-        if !Sent::is_whole(limit, user_data) {
-            return Sent::in_parts(alloc, limit, user_data);
+        let octets = limit.octets();
+        if !Sent::is_whole(octets, user_data) {
+            return Sent::in_parts(alloc, octets, user_data);
         }
         let sent = Sent::whole(alloc, user_data)?;
         Ok(sent)
@@ -213,12 +214,11 @@ impl Sent {
         ack_by_units(alloc, number, user_data)
     }
 
-    /// A message, where a TSDU has at most so many octets, 0 for no limit: data as [`Sent::data`] writes
-    /// it, and all else in one TSDU.
-    pub fn within(alloc: Global, limit: u16, message: &Message) -> Result<Sent, AllocError>
-        requires short { length (user_data_of (meant_by message.now)) < 65000 }
-        requires sized { is_size limit ≡ true }
-        ensures { IfOk result (λ s. s ≡ tsdus_of limit (meant_by message.now)) }
+    /// A message, where a TSDU has at most this size: data as [`Sent::data`] writes it, and all else in one
+    /// TSDU, as [`Sent::of`] writes it.
+    pub fn within(alloc: Global, limit: TsduSize, message: &Message) -> Result<Sent, AllocError>
+        requires { length (user_data_of (meant_by message.now)) < 65000 }
+        ensures { IfOk result (λ s. s ≡ tsdus_of (size_of limit) (meant_by message.now)) }
     {
         match *message {
             Message::Data { user_data } => Sent::data(alloc, limit, user_data),

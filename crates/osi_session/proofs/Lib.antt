@@ -41,4 +41,5 @@ pub mod PartLaws
 pub mod KeptLaws
 pub mod PartRuns
 pub mod ProfileLaws
+pub mod FirstFaults
 pub mod ConnectLaws

@@ -1,15 +1,17 @@
 -- Data, minor points and confirmations: those that come where they are expected, and points that are sent.
-use Rattle.std.proofs.Common.{◌≡◌, ◌∙◌, ap, ℕ, ◌≤◌, ◌==◌, nat_le, nat_lt, Bool, List, [], ◌∷◌, Option, Some, None, is_some, Result, Ok, Err, if◌then◌else◌, true, false, refl, sym, subst, length}
+use Rattle.std.proofs.Common.{◌≡◌, ◌∙◌, ap, ℕ, ◌≤◌, ◌==◌, nat_le, nat_lt, Bool, List, [], ◌∷◌, Option, Some, None, is_some, Result, Ok, Err, if◌then◌else◌, true, false, refl, sym, subst, length, arith}
+use Rattle.osi_message.specs.declared.plain.PlainUnit.{PlainUnit}
+use Rattle.osi_message.specs.Plain.{plain_word as unit_word}
 use Rattle.osi_session.specs.declared.plans.PlannedPoint.{PlannedPoint}
 use Rattle.osi_session.specs.declared.plans.SentPoint.{SentPoint}
 use Rattle.osi_session.specs.declared.plans.SentPoint.TheVariants as point
 use Rattle.osi_session.specs.Shown.{Data, Minor}
-use Rattle.osi_session.proofs.Vocabulary.{and_from, and_parts, AllHold, Answer, Test, after, fits_limit, most_of, most_user_data, octets_of, sends, all_hold, advanced, after_input, call_for, has_next, in_state, may_advance, may_call, needs, SpduFault, Meaning, DT, MIP, MIA, GT, tsdus_of, said_at, no_token, Words, says, Indication, Numbers, Phase, Ready, Releasing, State, Step, allowed, Call, HasSerial, Taker, heard, joined_octets, kept_in, respond_came, Listener, called, react, came_as, taker_of, point_taken, minor_confirmed, is_ready, takes_data, respond_unit, shows, take_expected, in_numbers, only_shows, PlansPoint, limit_of, Shown, MinorConfirmed, shown_by, IsSound}
-use Rattle.osi_session.proofs.MoveLaws.{came_is, call_errs, call_next, call_passes, call_sends}
+use Rattle.osi_session.proofs.Vocabulary.{and_from, and_parts, AllHold, Answer, Test, after, fits_limit, most_of, most_user_data, octets_of, sends, all_hold, advanced, after_input, call_for, has_next, in_state, may_advance, may_call, needs, SpduFault, Meaning, DT, MIP, MIA, GT, tsdus_of, said_at, no_token, Words, says, Indication, Numbers, Phase, Ready, Releasing, State, Step, allowed, Call, HasSerial, Taker, heard, joined_octets, kept_in, respond_came, Listener, called, react, came_as, taker_of, point_taken, minor_confirmed, is_ready, takes_data, respond_unit, shows, take_expected, in_numbers, only_shows, PlansPoint, limit_of, Shown, MinorConfirmed, shown_by, IsSound, IsNumberedWord, Word, respond_word, moved}
+use Rattle.osi_session.proofs.MoveLaws.{came_is, call_errs, call_next, call_passes, call_sends, call_leaves}
 use Rattle.osi_session.proofs.Passed.{accepted, passed}
 use Rattle.osi_session.proofs.SendableLaws.{call_sendable}
-use Rattle.osi_session.proofs.SessionMoves.{holds, leaves_as, leaves_octets, stays_in}
-use Rattle.osi_session.proofs.SoundCalls.{after_sound}
+use Rattle.osi_session.proofs.SessionMoves.{holds, leaves_as, leaves_octets, stays_in, leaves_word}
+use Rattle.osi_session.proofs.SoundCalls.{after_sound, call_sound}
 use Rattle.osi_session.proofs.WordLaws.{kept_none, plain_word, word_behind}
 
 data_in : (s : State) (octets : List ℕ) (p : Phase) → s.phase ≡ p → takes_data p ≡ true → s.held.data_token ≡ false → respond_unit s (DT octets) ≡ shows s (Data octets)
@@ -44,12 +46,17 @@ pub ack_is_shown : (s : State) (n : ℕ) → is_ready s.phase ≡ true → s.uni
     → nat_lt n s.numbers.next ≡ true → respond_unit s (MIA n []) ≡ shows (record s { numbers = minor_confirmed n s.numbers }) (MinorConfirmed n [])
 ack_is_shown s n r u a k l = ack_in s n s.phase refl r u a k l
 
+-- where nothing is joined
+pub word_comes : (s : State) (u : Meaning) (v : Numbers) (i : Shown) → respond_unit s u ≡ shows (record s { numbers = v }) i
+    → respond_word (record { state = s; joined = None }) (says u) ≡ heard None (shows (record s { numbers = v }) i)
+word_comes s u v i h = plain_word s u ∙ ap (heard None) h
+
 -- behind a token item that names no token
 pub unit_comes : (s : State) (u : Meaning) (v : Numbers) (i : Shown) (read : Result Words SpduFault) → read ≡ Ok (says (GT no_token) ∷ says u ∷ [])
     → respond_unit s u ≡ shows (record s { numbers = v }) i → respond_came (record { state = s; joined = None }) read ≡ heard None (shows (record s { numbers = v }) i)
 unit_comes s u v i read e h =
     let t : Taker = record { state = s; joined = None } in
-    ap (respond_came t) e ∙ word_behind t (says u) ∙ plain_word s u ∙ ap (heard None) h
+    ap (respond_came t) e ∙ word_behind t (says u) ∙ word_comes s u v i h
 
 none_joined : (j : Option (List ℕ)) (b : Bool) → b ≡ is_some j → b ≡ false → j ≡ None
 none_joined None b h k = refl
@@ -78,14 +85,29 @@ point_shows l s w j b v i read view n h =
     subst (λ (x : Listener). react x (came_as read) ≡ only_shows (record { state = record s { numbers = v }; waiting = w; joined = j }) (shown_by i)) view
     (point_moves s w j b v i read n h)
 
+-- the same of a word alone
+pub word_shows : (l : Listener) (s : State) (w : Option Meaning) (j : Option (List ℕ)) (b : Bool) (v : Numbers) (i : Indication) (word : Word)
+    → (let y : Listener = record { state = s; waiting = w; joined = j } in y ≡ l) → b ≡ is_some j
+    → (b ≡ false) × (respond_word (record { state = s; joined = None }) word ≡ heard None (shows (record s { numbers = v }) (shown_by i)))
+    → moved l (respond_word (taker_of l) word) ≡ only_shows (record { state = record s { numbers = v }; waiting = w; joined = j }) (shown_by i)
+word_shows l s w j b v i word view n h =
+    let read : Result Words SpduFault = Ok (says (GT no_token) ∷ word ∷ []) in
+    sym (came_is l read (respond_word (taker_of l) word) (word_behind (taker_of l) word))
+    ∙ point_shows l s w j b v i read view n (h.0, word_behind (record { state = s; joined = None }) word ∙ h.1)
+
 -- and its state is sound
-pub point_leaves : (s : State) (w : Option Meaning) (j : Option (List ℕ)) (b : Bool) (v : Numbers) (i : Indication) (tsdu : List ℕ) → b ≡ is_some j
-    → (b ≡ false) × (respond_came (record { state = s; joined = None }) (said_at tsdu) ≡ heard None (shows (record s { numbers = v }) (shown_by i)))
+pub point_leaves : (s : State) (w : Option Meaning) (j : Option (List ℕ)) (b : Bool) (v : Numbers) (i : Indication) (word : Word) → IsNumberedWord word → b ≡ is_some j
+    → (b ≡ false) × (respond_word (record { state = s; joined = None }) word ≡ heard None (shows (record s { numbers = v }) (shown_by i)))
     → IsSound s → kept_in s.phase j ≡ j → length (joined_octets j) ≤ 1048572 → IsSound (record s { numbers = v })
-point_leaves s w j b v i tsdu n h sound kept few =
+point_leaves s w j b v i word small n h sound kept few =
     let l : Listener = record { state = s; waiting = w; joined = j } in
-    (leaves_as l (heard None (shows (record s { numbers = v }) (shown_by i))) (respond_came (taker_of l) (said_at tsdu)) (sym (comes_to s j b v i (said_at tsdu) n h))
-    (leaves_octets l tsdu (holds l s w j refl sound kept few))).sound
+    (leaves_as l (heard None (shows (record s { numbers = v }) (shown_by i))) (respond_word (taker_of l) word)
+    (sym (ap (λ (x : Option (List ℕ)). respond_word (record { state = s; joined = x }) word) (none_joined j b n h.0) ∙ h.1))
+    (leaves_word l word (holds l s w j refl sound kept few) small)).sound
+
+-- the numbers in a unit that is read straight
+pub plain_numbered : (p : PlainUnit) → IsNumberedWord (unit_word p)
+plain_numbered p = grind arith
 
 -- ---- a point that is planned, and then sent
 

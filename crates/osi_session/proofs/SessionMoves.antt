@@ -1,14 +1,18 @@
 -- The moves of a session in memory.
 use Rattle.std.proofs.Common.{◌≡◌, ◌∙◌, refl, sym, ap, subst, ℕ, ◌≤◌, ◌<◌, true, false, ◌&&◌, if◌then◌else◌, is_some, List, [], ◌∷◌, ◌++◌, length, map, Option, Some, None, option_map, Result, Ok, Err}
-use Rattle.osi_session.specs.declared.joining.PartVerdict.TheVariants as is
+use Rattle.osi_message.specs.declared.plain.PlainUnit.{PlainUnit}
+use Rattle.osi_session.specs.declared.expected.Expected.{Expected}
 use Rattle.osi_session.specs.declared.hearing.Joined.{Joined}
 use Rattle.osi_session.specs.declared.taken.Taken.{Taken}
+use Rattle.osi_session.specs.Expecting.{Meets, Tries, met_by}
+use Rattle.osi_session.specs.Listening.{rests}
 use Rattle.osi_session.specs.Shown.{Data}
-use Rattle.osi_session.proofs.Vocabulary.{append-nil, SpduFault, Meaning, IsNumberedWord, AreNumberedWords, said_at, Place, First, Middle, Last, Word, Words, part, in_one, Indication, Reactions, Heard, State, Taker, Hearing, kept_in, joined_octets, is_last, word_verdict, heard, respond_word, respond_tsdu, respond_came, Listener, Move, in_state, moved, taker_of, is_wait_transport, may_hold, Outcome, nothing, shows, fine, shown_by, Takes, takes_memory, IsSound, hearing_of, hearing_of_all, outcome_of, outcome_of_all, shown_list, takes_room, told_of}
+use Rattle.osi_session.proofs.Vocabulary.{append-nil, SpduFault, Meaning, IsNumberedWord, AreNumberedWords, said_at, Place, First, Middle, Last, Word, Words, part, in_one, Indication, Reactions, Heard, State, Taker, Hearing, kept_in, joined_octets, is_last, word_verdict, heard, respond_word, respond_tsdu, respond_came, Listener, Move, in_state, moved, taker_of, is_wait_transport, may_hold, Outcome, nothing, shows, fine, shown_by, Takes, takes_memory, IsSound, hearing_of, hearing_of_all, outcome_of, outcome_of_all, shown_list, takes_room, told_of, plain_said, plain_word, came, react, respond_fault}
 use Rattle.osi_session.proofs.HearingLaws.{kept_held, part_dropped, fine_holds, first_is, middle_is, last_is, early_takes}
 use Rattle.osi_session.proofs.JoinedLaws.{InPhase, Few, words_in_phase, words_few, octets_in_phase, octets_few, fault_in_phase, fault_few}
 use Rattle.osi_session.proofs.TsduLaws.{words_sound, words_begun, octets_sound, octets_begun, fault_sound, fault_begun}
-use Rattle.osi_session.proofs.WordLaws.{kept_none, word_alone}
+use Rattle.osi_session.proofs.WordLaws.{kept_none, word_alone, word_behind}
+use Rattle.osi_session.proofs.MoveLaws.{came_is}
 
 -- a session stays as it is where its phase keeps what is joined
 pub stays : (l : Listener) → kept_in l.state.phase l.joined ≡ l.joined → l ≡ in_state l l.state
@@ -113,20 +117,6 @@ pub of_place : (P : Taker → Type 0) (l : Listener) (s : State) (j : Option (Li
 of_place P l s j e f h =
     subst (λ (k : Option (List ℕ)). P (record { state = l.state; joined = k })) f (subst (λ (x : State). P (record { state = x; joined = j })) e h)
 
--- ---- what shows at most one thing, and sends nothing
-
-pub takes_shown : {E : Type 0} (t : Taken) (l new : Listener) (h : Hearing) → new ≡ (moved l h).next → shown_list t.first ≡ h.shown → t.more.items ≡ []
-    → (t.reply ≡ None) × (t.closes ≡ false) → h.reply ≡ None → h.closes ≡ false → (let r : Result Taken E = Ok t in Takes r (moved l h) l new)
-takes_shown t l new h n s m o r c = record {
-  state = n;
-  shown = ap (λ (more : List Indication). shown_list t.first ++ map shown_by more) m ∙ append-nil (shown_list t.first) ∙ s;
-  first = λ k. m;
-  reply = o.0 ∙ ap (option_map in_one) (sym r);
-  closes = o.1 ∙ sym c;
-  err = tt;
-  memory = tt;
-}
-
 -- ---- a part
 
 abbrev quietly : State → Option (List ℕ) → Hearing
@@ -141,50 +131,57 @@ early s j m = let k = kept_held s.phase j m in λ i. record { next = record { st
 last : (s : State) (o : List ℕ) → heard None (shows s (Data o)) ≡ showing s o
 last s o = let k = kept_none s.phase in λ i. record { next = record { state = s; joined = k i }; shown = Data o ∷ []; reply = None; closes = false }
 
-joins_early : {E : Type 0} (t : Taken) (s : State) (w : Option Meaning) (j k m : Option (List ℕ)) (h : Hearing) (o : List ℕ) → h ≡ quietly s (Some (joined_octets j ++ o))
-    → k ≡ Some (joined_octets j ++ o) → shown_list t.first ≡ [] → m ≡ k → t.more.items ≡ [] → (t.reply ≡ None) × (t.closes ≡ false)
-    → (let l : Listener = record { state = s; waiting = w; joined = j } in let r : Result Taken E = Ok t in let n : Listener = record { state = s; waiting = w; joined = m } in Takes r (moved l h) l n)
-joins_early t s w j k m h o e f shown n more others =
+joins_early : (r : Option Indication) (s : State) (w : Option Meaning) (j k m : Option (List ℕ)) (h : Hearing) (o : List ℕ) → h ≡ quietly s (Some (joined_octets j ++ o))
+    → k ≡ Some (joined_octets j ++ o) → shown_list r ≡ [] → m ≡ k
+    → (let l : Listener = record { state = s; waiting = w; joined = j } in let n : Listener = record { state = s; waiting = w; joined = m } in moved l h ≡ record (rests n) { shown = shown_list r })
+joins_early r s w j k m h o e f shown n =
     let l : Listener = record { state = s; waiting = w; joined = j } in
-    let x : Listener = record { state = s; waiting = w; joined = m } in
     let g : m ≡ Some (joined_octets j ++ o) = n ∙ f in
-    takes_as (Ok t) (moved l (quietly s (Some (joined_octets j ++ o)))) (moved l h) l x (ap (moved l) (sym e))
-    (takes_shown t l x (quietly s (Some (joined_octets j ++ o))) (λ i. record { state = s; waiting = w; joined = g i }) shown more others refl refl)
+    ap (moved l) e ∙ (λ i. record { next = record { state = s; waiting = w; joined = sym g i }; shown = sym shown i; reply = None; closes = false; error = None })
 
-joins_last : {E : Type 0} (t : Taken) (s : State) (w : Option Meaning) (j k m : Option (List ℕ)) (h : Hearing) (o : List ℕ) → h ≡ showing s (joined_octets j ++ o)
-    → k ≡ Some (joined_octets j ++ o) → shown_list t.first ≡ (if is_some k then Data (joined_octets k) ∷ [] else []) → m ≡ None → t.more.items ≡ [] → (t.reply ≡ None) × (t.closes ≡ false)
-    → (let l : Listener = record { state = s; waiting = w; joined = j } in let r : Result Taken E = Ok t in let n : Listener = record { state = s; waiting = w; joined = m } in Takes r (moved l h) l n)
-joins_last t s w j k m h o e f shown n more others =
+joins_last : (r : Option Indication) (s : State) (w : Option Meaning) (j k m : Option (List ℕ)) (h : Hearing) (o : List ℕ) → h ≡ showing s (joined_octets j ++ o)
+    → k ≡ Some (joined_octets j ++ o) → shown_list r ≡ (if is_some k then Data (joined_octets k) ∷ [] else []) → m ≡ None
+    → (let l : Listener = record { state = s; waiting = w; joined = j } in let n : Listener = record { state = s; waiting = w; joined = m } in moved l h ≡ record (rests n) { shown = shown_list r })
+joins_last r s w j k m h o e f shown n =
     let l : Listener = record { state = s; waiting = w; joined = j } in
-    let x : Listener = record { state = s; waiting = w; joined = m } in
-    takes_as (Ok t) (moved l (showing s (joined_octets j ++ o))) (moved l h) l x (ap (moved l) (sym e))
-    (takes_shown t l x (showing s (joined_octets j ++ o)) (λ i. record { state = s; waiting = w; joined = n i })
-    (shown ∙ ap (λ (y : Option (List ℕ)). if is_some y then Data (joined_octets y) ∷ [] else []) f) more others refl refl)
+    let g : shown_list r ≡ Data (joined_octets j ++ o) ∷ [] = shown ∙ ap (λ (y : Option (List ℕ)). if is_some y then Data (joined_octets y) ∷ [] else []) f in
+    ap (moved l) e ∙ (λ i. record { next = record { state = s; waiting = w; joined = sym n i }; shown = sym g i; reply = None; closes = false; error = None })
 
-joins_placed : {E : Type 0} (place : Place) (t : Taken) (s : State) (w : Option Meaning) (j k m : Option (List ℕ)) (o : List ℕ)
+joins_placed : (place : Place) (r : Option Indication) (s : State) (w : Option Meaning) (j k m : Option (List ℕ)) (o : List ℕ)
     → (let u : Taker = record { state = s; joined = j } in word_verdict u (part place o) ≡ fine) → k ≡ Some (joined_octets j ++ o)
-    → shown_list t.first ≡ (if is_last place && is_some k then Data (joined_octets k) ∷ [] else []) → m ≡ (if◌then◌else◌ {A = Option (List ℕ)} (is_last place) None k)
-    → t.more.items ≡ [] → (t.reply ≡ None) × (t.closes ≡ false)
-    → (let l : Listener = record { state = s; waiting = w; joined = j } in let r : Result Taken E = Ok t in let n : Listener = record { state = s; waiting = w; joined = m } in
-    Takes r (moved l (respond_word (taker_of l) (part place o))) l n)
-joins_placed First t s w j k m o e f shown n more others =
+    → shown_list r ≡ (if is_last place && is_some k then Data (joined_octets k) ∷ [] else []) → m ≡ (if◌then◌else◌ {A = Option (List ℕ)} (is_last place) None k)
+    → (let l : Listener = record { state = s; waiting = w; joined = j } in let n : Listener = record { state = s; waiting = w; joined = m } in
+    moved l (respond_word (taker_of l) (part place o)) ≡ record (rests n) { shown = shown_list r })
+joins_placed First r s w j k m o e f shown n =
     let u : Taker = record { state = s; joined = j } in
-    joins_early t s w j k m (respond_word u (part First o)) o (first_is u o e ∙ early s (Some (joined_octets j ++ o)) (fine_holds u First o e)) f shown n more others
-joins_placed Middle t s w j k m o e f shown n more others =
+    joins_early r s w j k m (respond_word u (part First o)) o (first_is u o e ∙ early s (Some (joined_octets j ++ o)) (fine_holds u First o e)) f shown n
+joins_placed Middle r s w j k m o e f shown n =
     let u : Taker = record { state = s; joined = j } in
-    joins_early t s w j k m (respond_word u (part Middle o)) o (middle_is u o e ∙ early s (Some (joined_octets j ++ o)) (fine_holds u Middle o e)) f shown n more others
-joins_placed Last t s w j k m o e f shown n more others =
+    joins_early r s w j k m (respond_word u (part Middle o)) o (middle_is u o e ∙ early s (Some (joined_octets j ++ o)) (fine_holds u Middle o e)) f shown n
+joins_placed Last r s w j k m o e f shown n =
     let u : Taker = record { state = s; joined = j } in
-    joins_last t s w j k m (respond_word u (part Last o)) o (last_is u o e ∙ last s (joined_octets j ++ o)) f shown n more others
+    joins_last r s w j k m (respond_word u (part Last o)) o (last_is u o e ∙ last s (joined_octets j ++ o)) f shown n
 
-pub part_joins : {E : Type 0} (place : Place) (t : Taken) (l : Listener) (s : State) (w : Option Meaning) (j k m : Option (List ℕ)) (o : List ℕ)
+meets_shown : (r : Option Indication) (move : Move) (old new : Listener) → move ≡ record (rests new) { shown = shown_list r } → Meets (met_by r) move old new
+meets_shown None move old new e = e
+meets_shown (Some i) move old new e = e
+
+-- a good part is joined, and the last shows what is joined
+pub part_joins : {E : Type 0} (place : Place) (e : Expected) (r : Option Indication) (l : Listener) (s : State) (w : Option Meaning) (j k m : Option (List ℕ)) (o : List ℕ)
     → (let v : Listener = record { state = s; waiting = w; joined = j } in v ≡ l) → word_verdict (taker_of l) (part place o) ≡ fine → k ≡ Some (joined_octets j ++ o)
-    → shown_list t.first ≡ (if is_last place && is_some k then Data (joined_octets k) ∷ [] else []) → m ≡ (if◌then◌else◌ {A = Option (List ℕ)} (is_last place) None k)
-    → t.more.items ≡ [] → (t.reply ≡ None) × (t.closes ≡ false)
-    → (let r : Result Taken E = Ok t in let n : Listener = record { state = s; waiting = w; joined = m } in Takes r (moved l (respond_word (taker_of l) (part place o))) l n)
-part_joins {E = E} place t l s w j k m o view e f shown n more others =
-    subst (λ (x : Listener). let r : Result Taken E = Ok t in let y : Listener = record { state = s; waiting = w; joined = m } in Takes r (moved x (respond_word (taker_of x) (part place o))) x y) view
-    (joins_placed place t s w j k m o (subst (λ (x : Listener). word_verdict (taker_of x) (part place o) ≡ fine) (sym view) e) f shown n more others)
+    → shown_list r ≡ (if is_last place && is_some k then Data (joined_octets k) ∷ [] else []) → m ≡ (if◌then◌else◌ {A = Option (List ℕ)} (is_last place) None k)
+    → e ≡ met_by r
+    → (let x : Result Expected E = Ok e in let n : Listener = record { state = s; waiting = w; joined = m } in Tries x (moved l (respond_word (taker_of l) (part place o))) l n)
+part_joins {E = E} place e r l s w j k m o view fit f shown n met =
+    let x : Listener = record { state = s; waiting = w; joined = m } in
+    let move : moved l (respond_word (taker_of l) (part place o)) ≡ record (rests x) { shown = shown_list r } =
+    subst (λ (y : Listener). moved y (respond_word (taker_of y) (part place o)) ≡ record (rests x) { shown = shown_list r }) view
+    (joins_placed place r s w j k m o (subst (λ (y : Listener). word_verdict (taker_of y) (part place o) ≡ fine) (sym view) fit) f shown n) in
+    record {
+      taken = subst (λ (y : Expected). Meets y (moved l (respond_word (taker_of l) (part place o))) l x) (sym met) (meets_shown r _ l x move);
+      err = tt;
+      memory = tt;
+    }
 
 part_room : (t : Taker) (place : Place) (o : List ℕ) → word_verdict t (part place o) ≡ fine → 0 < length o → takes_room t.joined (respond_word t (part place o)) ≡ true
 part_room t First o e h = subst (λ (x : Hearing). takes_room t.joined x ≡ true) (sym (first_is t o e)) (early_takes t.state t.joined o (fine_holds t First o e) h)
@@ -194,17 +191,19 @@ part_room t Last o e h = subst (λ (x : Hearing). takes_room t.joined x ≡ true
 -- a refused growth changes nothing
 pub part_refused : {E : Type 0} (e : E) (place : Place) (l : Listener) (s : State) (w : Option Meaning) (j k : Option (List ℕ)) (o : List ℕ)
     → (let v : Listener = record { state = s; waiting = w; joined = j } in v ≡ l) → word_verdict (taker_of l) (part place o) ≡ fine → k ≡ j → 0 < length o
-    → (let r : Result Taken E = Err e in let n : Listener = record { state = s; waiting = w; joined = k } in Takes r (moved l (respond_word (taker_of l) (part place o))) l n)
+    → (let r : Result Expected E = Err e in let n : Listener = record { state = s; waiting = w; joined = k } in Tries r (moved l (respond_word (taker_of l) (part place o))) l n)
 part_refused e place l s w j k o view fit same h =
     let n : Listener = record { state = s; waiting = w; joined = k } in
     let p : n ≡ record { state = s; waiting = w; joined = j } = λ i. record { state = s; waiting = w; joined = same i } in
-    takes_nothing e l n (moved l (respond_word (taker_of l) (part place o))) (p ∙ view) (part_room (taker_of l) place o fit h)
+    record { taken = tt; err = p ∙ view; memory = part_room (taker_of l) place o fit h }
 
--- a part that does nothing
-pub part_rests : {E : Type 0} (t : Taken) (l : Listener) (place : Place) (o : List ℕ) → kept_in l.state.phase l.joined ≡ l.joined
-    → is.Dropped ≡ told_of (word_verdict (taker_of l) (part place o)) → t.first ≡ None → t.more.items ≡ [] → (t.reply ≡ None) × (t.closes ≡ false)
-    → (let r : Result Taken E = Ok t in Takes r (moved l (respond_word (taker_of l) (part place o))) l l)
-part_rests t l place o k e first more others =
-    takes_as (Ok t) (moved l (heard l.joined (nothing l.state))) (moved l (respond_word (taker_of l) (part place o))) l l
-    (ap (moved l) (sym (part_dropped (taker_of l) place o e)))
-    (takes_shown t l l (heard l.joined (nothing l.state)) (stays l k) (ap shown_list first) more others refl refl)
+-- ---- a TSDU that is read straight
+
+pub tries_as : {E : Type 0} (r : Result Expected E) (m n : Move) (old new : Listener) → m ≡ n → Tries r m old new → Tries r n old new
+tries_as r m n old new e t = subst (λ (x : Move). Tries r x old new) e t
+
+-- behind a token item that names no token a unit does what it does alone
+pub came_plain : (l : Listener) (tsdu : List ℕ) (p : PlainUnit) → said_at tsdu ≡ Ok (plain_said p)
+    → moved l (respond_word (taker_of l) (plain_word p)) ≡ react l (came tsdu)
+came_plain l tsdu p said =
+    sym (came_is l (said_at tsdu) (respond_word (taker_of l) (plain_word p)) (ap (respond_came (taker_of l)) said ∙ word_behind (taker_of l) (plain_word p)))

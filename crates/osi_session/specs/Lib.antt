@@ -2,6 +2,7 @@ pub mod Allowed
 pub mod Calls
 pub mod Causes
 pub mod Closing
+pub mod Expecting
 pub mod Joining
 pub mod Listening
 pub mod Moves

@@ -1,10 +1,11 @@
-//! Minor points and confirmations that are expected: they change the numbers alone, so that no whole
-//! state is made.
+//! What a session makes of a TSDU that is tried as one that it expects; and minor points and confirmations
+//! that are expected: they change the numbers alone, so that no whole state is made.
 
 ghost use Rattle.std.specs.Prelude.{◌≡◌, ◌==◌, [], None, false, true, IfSome, nat_le, nat_lt};
 ghost use Rattle.osi_message.specs.Meanings.{MIP, MIA};
-ghost use Rattle.osi_message.specs.Reading.{said_at};
-ghost use Rattle.osi_session.specs.Joining.{heard, respond_came};
+ghost use Rattle.osi_message.specs.Plain.{plain_word};
+ghost use Rattle.osi_session.specs.Expecting.{met_by};
+ghost use Rattle.osi_session.specs.Joining.{heard, respond_word};
 ghost use Rattle.osi_session.specs.Respond.{respond_unit, shows};
 ghost use Rattle.osi_session.specs.Shown.{Minor, MinorConfirmed, shown_by};
 
@@ -15,9 +16,34 @@ use osi_message::{Octets, PlainUnit};
 use osi_spdu::Serial;
 use std::alloc::Global;
 
-/// What the user is shown, and the numbers after it: nothing else changes.
+/// What a session made of a TSDU that it tried as one that it expects ([`Session::take_expected`]).
+///
+/// [`Session::take_expected`]: crate::Session::take_expected
 #[derive(Drop)]
-pub(crate) struct Expected {
+pub enum Expected {
+    /// It was expected: the user is shown this, and nothing is sent.
+    Shown(Indication),
+    /// It was expected: a part of one Data that is not the last was joined. Nothing is shown or sent.
+    Joined,
+    /// It is any other, and the session is as it was. `Session::take_unexpected` takes it.
+    Other,
+}
+
+impl Expected {
+    /// What was joined shows this, or nothing.
+    pub(crate) fn behind(shown: Option<Indication>) -> Expected
+        ensures { result ≡ met_by shown }
+    {
+        match shown {
+            Some(indication) => Expected::Shown(indication),
+            None => Expected::Joined,
+        }
+    }
+}
+
+/// What the user is shown by a point, and the numbers after it: nothing else changes.
+#[derive(Drop)]
+pub(crate) struct ExpectedPoint {
     pub(crate) shown: Indication,
     pub(crate) numbers: Numbers,
 }
@@ -54,22 +80,22 @@ fn after_ack(state: &State, number: Serial) -> Option<Numbers>
     Some(numbers.minor_confirmed(number.number))
 }
 
-/// What a TSDU shows with a minor point or a confirmation that is expected, where nothing is unfinished;
-/// none of any other.
+/// What a minor point or a confirmation shows that is expected, if nothing is unfinished; `None` for any
+/// other unit.
 pub(crate) fn expected_point(
     alloc: Global,
     state: &State,
     is_unfinished: bool,
-    tsdu: &[u8],
-) -> Option<Expected>
+    unit: PlainUnit<'_>,
+) -> Option<ExpectedPoint>
     ensures { IfSome result (λ e. (is_unfinished ≡ false)
-        × (respond_came (record { state = state.now; joined = None }) (said_at tsdu.now)
+        × (respond_word (record { state = state.now; joined = None }) (plain_word unit.entry)
         ≡ heard None (shows (record state.now { numbers = e.numbers }) (shown_by e.shown)))) }
 {
     if is_unfinished {
         return None;
     }
-    match PlainUnit::read(tsdu)? {
+    match unit {
         PlainUnit::MinorPoint { number } => {
             let numbers = after_point(state, number)?;
             let shown = Indication::Minor {
@@ -77,7 +103,7 @@ pub(crate) fn expected_point(
                 confirm: true,
                 user_data: Octets::new(alloc),
             };
-            Some(Expected { shown, numbers })
+            Some(ExpectedPoint { shown, numbers })
         }
         PlainUnit::MinorAck { number } => {
             let numbers = after_ack(state, number)?;
@@ -85,8 +111,8 @@ pub(crate) fn expected_point(
                 number: number.number,
                 user_data: Octets::new(alloc),
             };
-            Some(Expected { shown, numbers })
+            Some(ExpectedPoint { shown, numbers })
         }
-        _ => None,
+        PlainUnit::Part { .. } => None,
     }
 }

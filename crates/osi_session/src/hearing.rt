@@ -240,7 +240,7 @@ fn take_part(
 }
 
 /// What a message does, and that it leaves the octets that are joined.
-pub(crate) fn take_says(
+fn take_says(
     alloc: Global,
     state: &State,
     joined: Option<&Octets>,

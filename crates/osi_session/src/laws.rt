@@ -5,6 +5,7 @@ ghost use Rattle.std.specs.Prelude.{◌≡◌, ◌+◌, ◌<◌, ◌≤◌, ◌�
 ghost use Rattle.std.specs.List.{AllByRecursion, list_any};
 ghost use Rattle.std.specs.Int.RustNames.{bit_and};
 ghost use Rattle.osi_session.specs.declared.faults.UnitFault.{UnitFault};
+ghost use Rattle.osi_session.specs.declared.faults.UnitFault.TheVariants.{BadEnclosure};
 ghost use Rattle.osi_spdu.specs.declared.faults.SpduFault.{SpduFault};
 ghost use Rattle.osi_spdu.specs.declared.fields.ResyncType.{ResyncType};
 ghost use Rattle.osi_message.specs.declared.places.Place.{Place};
@@ -20,25 +21,25 @@ ghost use Rattle.osi_message.specs.declared.tokens.Tokens.{Tokens};
 ghost use Rattle.osi_session.specs.Allowed.{Step, allowed, most_data, most_user_data, sends, Passed};
 ghost use Rattle.osi_session.specs.Calls.{Call, Data, Give, MinorConfirm, HasSerial, called_by};
 ghost use Rattle.osi_session.specs.Causes.{asks_for_connection, is_taken, opens_connection, call_gives, unit_gives, call_holds, unit_holds, renews};
-ghost use Rattle.osi_message.specs.Meanings.{Meaning, DT, MIA, RS, AA};
+ghost use Rattle.osi_message.specs.Meanings.{Meaning, AA, CN, DT, MIA, RF, RS};
 ghost use Rattle.osi_session.specs.Numbers.{lower};
 ghost use Rattle.osi_session.specs.Closing.{closes_alone, is_answer, awaits_close};
 ghost use Rattle.osi_session.specs.declared.phases.Phase.{Phase};
-ghost use Rattle.osi_session.specs.Phases.{is_wait_transport, is_wait_cn, is_aborting, is_over, is_ended, is_restarting, is_restart_due, may_abort, may_hold, shows_loss};
+ghost use Rattle.osi_session.specs.Phases.{is_wait_transport, is_wait_cn, is_aborting, is_over, is_ended, is_restarting, is_restart_due, may_abort, may_hold, shows_loss, takes_data};
 ghost use Rattle.osi_message.specs.Reading.{Said, alone, behind, said_by_units, said_at};
 ghost use Rattle.osi_message.specs.Words.{Words, says, part, part_octets};
-ghost use Rattle.osi_session.specs.Joining.{Taker, kept_in, heard, respond_word, respond_words, respond_tsdu};
+ghost use Rattle.osi_session.specs.Joining.{Taker, is_in_place, kept_in, heard, word_verdict, respond_word, respond_words, respond_tsdu};
 ghost use Rattle.osi_session.specs.Listening.{Input, is_opened, called, taken, unread, opened, refused, broken, came, rests, answered as call_move, moved, begun, denied, Listener, taker_of, in_state, react, after_input, after_inputs};
 ghost use Rattle.osi_session.specs.Moves as whole;
 ghost use Rattle.osi_session.specs.Kept.{IsKeptIn, IsKept, IsJoinedAs, IsNoFault, IsJoined};
 ghost use Rattle.osi_session.specs.Parts.{Act, part_comes, act_in_words, act_in_octets, calls_in, AreParts, AreSilent, HasProfile};
-ghost use Rattle.osi_session.specs.Units.{is_profile};
+ghost use Rattle.osi_session.specs.Units.{functional_units, has_data, is_profile};
 ghost use Rattle.osi_spdu.specs.Fields.{unit_bits};
 ghost use Rattle.osi_session.specs.Whole.{listening, standing_of, in_words, is_apart, joins};
 ghost use Rattle.osi_message.specs.Parting.{is_whole, tsdus_of, tsdus_sent, in_one, AreFull};
 ghost use Rattle.osi_message.specs.Written.{written};
 ghost use Rattle.osi_session.specs.Points.{advanced, call_for, has_next, may_advance};
-ghost use Rattle.osi_session.specs.Respond.{nothing, bad, becomes, respond_unit, respond_all, respond, respond_fault, lost, stands, drops, verdict, enacted, fine, IsGood, has_no_effect, is_token_item, is_resynchronize, and_then};
+ghost use Rattle.osi_session.specs.Respond.{nothing, bad, becomes, respond_unit, respond_all, respond, respond_fault, lost, stands, drops, verdict, enacted, fine, IsGood, has_no_effect, is_token_item, is_resynchronize, and_then, faulty, si};
 ghost use Rattle.osi_session.specs.Restarts.{HasAsked, AreCrossed, after_restart};
 ghost use Rattle.osi_session.specs.Runs.{HasNumbers, HasNumbersInWords, IsFresh};
 ghost use Rattle.osi_session.specs.Sessions.{awaiting, asking, Planned, IsPlanOf};
@@ -400,4 +401,18 @@ pub fn units_are_a_profile()
     ensures called { HasProfile awaiting }
     ensures caller { (o : Opening) → is_profile (unit_bits o.requirements) ≡ true → HasProfile (asking o) }
     ensures kept { (l : Listener) (inputs : List Input) → HasProfile l.state → HasProfile (after_inputs l inputs).state }
+{}
+
+/// What is refused for which reason. A CN without version 2 is answered by RF with reason 132, and one with it
+/// that names neither half-duplex nor duplex by reason 134 (X.225 section 8, refuse). A part that does not
+/// continue what is joined is a bad enclosure, also if it is too long.
+#[tactic(auto, using(crate::proofs::FirstFaults::refused_version, crate::proofs::FirstFaults::refused_units, crate::proofs::FirstFaults::out_of_place))]
+pub fn what_is_refused_for_which_reason()
+    ensures version { (s : State) (requirements : ℕ) (serial : Option ℕ) (wishes : TokenSetting) (calling called : Option (List ℕ)) (sizes : TsduMaximumSize) (octets : List ℕ) →
+        is_wait_cn s.phase ≡ true → (respond_unit s (CN false requirements serial wishes calling called sizes octets)).reply ≡ Some (RF 132 []) }
+    ensures units { (s : State) (requirements : ℕ) (serial : Option ℕ) (wishes : TokenSetting) (calling called : Option (List ℕ)) (sizes : TsduMaximumSize) (octets : List ℕ) →
+        is_wait_cn s.phase ≡ true → has_data (functional_units requirements) ≡ false →
+        (respond_unit s (CN true requirements serial wishes calling called sizes octets)).reply ≡ Some (RF 134 []) }
+    ensures part { (t : Taker) (place : Place) (octets : List ℕ) → takes_data t.state.phase ≡ true → t.state.held.data_token ≡ false →
+        is_in_place t.joined place ≡ false → word_verdict t (part place octets) ≡ faulty (BadEnclosure (si (DT octets))) }
 {}

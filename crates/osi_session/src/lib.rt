@@ -26,6 +26,7 @@ mod taken;
 mod taking;
 mod words;
 
+pub use expected::Expected;
 pub use faults::{CallError, UnitFault};
 pub use indications::{AbortCause, Indication};
 pub use opening::Opening;

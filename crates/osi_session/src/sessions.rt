@@ -11,25 +11,27 @@ ghost use Rattle.osi_message.specs.Written.{user_data_of};
 ghost use Rattle.osi_session.specs.Sizes.{limit_of};
 
 use crate::calling::{MOST_USER_DATA, allow_data, decide};
+use crate::expected::Expected;
 use crate::faults::CallError;
-use crate::grouping::{Reactions, expects_data, judge_unread, take_all};
-use crate::hearing::{Heard, Joined, take_says};
+use crate::grouping::{Reactions, judge_unread, take_all};
+use crate::hearing::{Heard, Joined};
 use crate::indications::Indication;
-use crate::joining::{PartVerdict, join, joined_octets, judge_part, shown_behind};
+use crate::joining::joined_octets;
 use crate::opening::Opening;
 use crate::phases::Phase;
 use crate::plans::Plan;
 use crate::reactions::{Reaction, Reply};
 use crate::requests::Request;
 use crate::selected::is_profile;
-use crate::sizes::limit_of;
+use crate::sizes::{limit_of, size_limit};
 use crate::state::State;
 use crate::taken::Taken;
-use osi_message::{Message, Octets, Place, PlainUnit, Sent, laws};
+use osi_message::{Message, Octets, Sent, laws};
 use osi_spdu::{Group, SpduFault, TokenSet, read_tsdu};
 use std::alloc::{AllocError, Global};
 use std::marker::Model;
 
+mod expecting;
 mod points;
 
 /// One side of one session connection (X.225 version 2): which call its user may make now, what
@@ -103,18 +105,13 @@ impl Session {
     ghost use Rattle.osi_message.specs.Reading.{said_by_units};
     ghost use Rattle.osi_message.specs.Tokens.{named, token_octet};
     ghost use Rattle.osi_session.specs.Calls.{Data, called_by};
-    ghost use Rattle.osi_session.specs.Listening.{called, taken, unread, came, opened, refused, broken, in_state, moved, react, taker_of};
+    ghost use Rattle.osi_session.specs.Listening.{called, taken, unread, came, opened, refused, broken, in_state, moved, react};
     ghost use Rattle.osi_session.specs.Phases.{is_wait_transport};
-    ghost use Rattle.osi_session.specs.Points.{only_shows};
-    ghost use Rattle.osi_session.specs.Respond.{fine};
     ghost use Rattle.osi_session.specs.Sessions.{Refused, CanBeSent, IsPlanOf, opens, refusal_of, awaits, shown_in, takes_memory, Takes};
     ghost use Rattle.osi_session.specs.Shown.{shown_by};
     ghost use Rattle.osi_session.specs.Sound.{IsSound};
     ghost use Rattle.osi_session.specs.Steps.{shown_list, joined_after, hearing_of_all};
-    ghost use Rattle.osi_session.specs.Joining.{joined_octets, kept_in, respond_word, word_verdict};
-    ghost use Rattle.osi_message.specs.Meanings.{meant_by};
-    ghost use Rattle.osi_message.specs.Plain.{plain_word};
-    ghost use Rattle.osi_message.specs.Words.{says, part};
+    ghost use Rattle.osi_session.specs.Joining.{joined_octets, kept_in};
 
     /// The calling side: the CN is made, and is sent once the transport connection is there.
     ///
@@ -210,7 +207,7 @@ impl Session {
         ensures refused { IfErr result (λ e. Refused e (react self.now (called (called_by request.entry))).error) }
     {
         let step = decide(&self.state, &request)?;
-        match Sent::within(self.alloc, limit_of(&self.state), &step.sent) {
+        match Sent::within(self.alloc, size_limit(&self.state), &step.sent) {
             Ok(sent) => Ok(Plan {
                 was: self.state,
                 next: step.next,
@@ -290,7 +287,7 @@ impl Session {
         ensures refused { IfErr result (λ e. Refused e (react self.now (called (Data user_data.now))).error) }
     {
         allow_data(&self.state, user_data)?;
-        match Sent::data(self.alloc, limit_of(&self.state), user_data) {
+        match Sent::data(self.alloc, size_limit(&self.state), user_data) {
             Ok(sent) => Ok(sent),
             Err(_) => Err(CallError::OutOfMemory),
         }
@@ -318,31 +315,8 @@ impl Session {
         self.settle(Reactions::of(self.alloc, heard))
     }
 
-    /// Whole data, a minor point or a confirmation without other parameters, of which the octets of a
-    /// TSDU are the written form, where it is expected: what the user is shown, which is all that
-    /// [`Session::take_tsdu`] would do beside the state. `None` changes nothing: the TSDU is any other.
-    #[inline(always)]
-    pub fn take_expected(&mut self, tsdu: &[u8]) -> Result<Option<Indication>, AllocError>
-        ensures shown { IfOk result (λ shown. IfSome shown (λ i. react self.old (came tsdu.now) ≡ only_shows self.new (shown_by i))) }
-        ensures rests { IfOk result (λ shown. shown ≡ None → self.new ≡ self.old) }
-        ensures err { OnErr result (self.new ≡ self.old) }
-        ensures memory { OnErr result (takes_memory self.old (react self.old (came tsdu.now)) ≡ true) }
-    {
-        let Some(user_data) = PlainUnit::data(tsdu) else {
-            return Ok(self.take_point(tsdu));
-        };
-        if self.joined.is_some() || !expects_data(&self.state) {
-            return Ok(None);
-        }
-        match Octets::copy(self.alloc, user_data) {
-            Ok(user_data) => Ok(Some(Indication::Data { user_data })),
-            Err(error) => Err(error),
-        }
-    }
-
     /// A TSDU that came, as octets: what [`Session::take`] does with its units, or [`Session::take_bad`] if
-    /// they are none. Data, minor points and confirmations without other parameters are read straight, and
-    /// where they are expected they are shown straight.
+    /// they are none. What is expected ([`Session::take_expected`]) is read and shown straight.
     #[inline(always)]
     pub fn take_tsdu(&mut self, tsdu: &[u8]) -> Result<Taken, AllocError>
         ensures state { OnOk result (self.new ≡ (react self.old (came tsdu.now)).next) }
@@ -354,90 +328,23 @@ impl Session {
         ensures memory { OnErr result (takes_memory self.old (react self.old (came tsdu.now)) ≡ true) }
     {
         match self.take_expected(tsdu) {
-            Ok(Some(indication)) => Ok(Taken::showing(self.alloc, Some(indication))),
-            Ok(None) => self.take_other(tsdu),
+            Ok(Expected::Shown(indication)) => Ok(Taken::showing(self.alloc, Some(indication))),
+            Ok(Expected::Joined) => Ok(Taken::showing(self.alloc, None)),
+            Ok(Expected::Other) => self.take_unexpected(tsdu),
             Err(error) => Err(error),
         }
     }
 
-    /// Any TSDU. It stands out of line: else the room for what its units do would be made on the way to
-    /// data, too.
+    /// A TSDU that is not expected, by the general reader: what [`Session::take_tsdu`] does after
+    /// [`Session::take_expected`] answered `Other`. It takes any other TSDU too, only later. It stands out of
+    /// line: else the room for its units would be made for each TSDU that is read straight.
     #[inline(never)]
-    fn take_other(&mut self, tsdu: &[u8]) -> Result<Taken, AllocError>
-        ensures { Takes result (react self.old (came tsdu.now)) self.old self.new }
-    {
-        match PlainUnit::read(tsdu) {
-            Some(unit) => self.take_plain(unit),
-            None => self.take_general(tsdu),
-        }
-    }
-
-    /// A TSDU that is read by the general reader. It stands out of line: else the room for its units
-    /// would be made for each TSDU that is read straight.
-    #[inline(never)]
-    fn take_general(&mut self, tsdu: &[u8]) -> Result<Taken, AllocError>
+    pub fn take_unexpected(&mut self, tsdu: &[u8]) -> Result<Taken, AllocError>
         ensures { Takes result (react self.old (came tsdu.now)) self.old self.new }
     {
         match read_tsdu(tsdu) {
             Ok(group) => self.take(&group),
             Err(fault) => self.take_bad(fault),
-        }
-    }
-
-    /// A word behind a token item that names no token, which does what the word does alone.
-    fn take_plain(&mut self, unit: PlainUnit<'_>) -> Result<Taken, AllocError>
-        ensures { Takes result (moved self.old (respond_word (taker_of self.old) (plain_word unit.entry))) self.old self.new }
-    {
-        match unit {
-            PlainUnit::Data { user_data } => self.take_message(Message::Data { user_data }),
-            PlainUnit::Part { place, user_data } => self.take_part(place, user_data),
-            PlainUnit::MinorPoint { number } => self.take_message(Message::MinorPoint {
-                confirm: true,
-                number,
-                user_data: &[],
-            }),
-            PlainUnit::MinorAck { number } => self.take_message(Message::MinorAck {
-                number,
-                user_data: &[],
-            }),
-        }
-    }
-
-    /// A message, alone.
-    fn take_message(&mut self, message: Message<'_>) -> Result<Taken, AllocError>
-        ensures { Takes result (moved self.old (respond_word (taker_of self.old) (says (meant_by message.entry)))) self.old self.new }
-    {
-        match take_says(self.alloc, &self.state, self.joined.as_ref(), message) {
-            Ok(heard) => self.settle(Reactions::of(self.alloc, heard)),
-            Err(error) => Err(error),
-        }
-    }
-
-    /// A part of one Data, which is joined to those before it. It stands out of line: whole data comes
-    /// more often.
-    #[inline(never)]
-    fn take_part(&mut self, place: Place, user_data: &[u8]) -> Result<Taken, AllocError>
-        ensures { Takes result (moved self.old (respond_word (taker_of self.old) (part place user_data.now))) self.old self.new }
-    {
-        match judge_part(&self.state, self.joined.as_ref(), place, user_data) {
-            PartVerdict::Dropped => Ok(Taken::showing(self.alloc, None)),
-            PartVerdict::Bad(fault) => {
-                let heard = Heard::of(Reaction::bad(&self.state, fault), Joined::Kept);
-                self.settle(Reactions::of(self.alloc, heard))
-            }
-            PartVerdict::Good => self.join(place, user_data),
-        }
-    }
-
-    /// Joins a part that is good. The octets of the last are put behind what is joined, which then is
-    /// shown, and is not copied.
-    fn join(&mut self, place: Place, user_data: &[u8]) -> Result<Taken, AllocError>
-        requires { word_verdict (taker_of self.old) (part place user_data.now) ≡ fine }
-        ensures { Takes result (moved self.old (respond_word (taker_of self.old) (part place user_data.now))) self.old self.new }
-    {
-        match join(self.alloc, &mut self.joined, place, user_data) {
-            Ok(()) => Ok(Taken::showing(self.alloc, shown_behind(place, &mut self.joined))),
-            Err(error) => Err(error),
         }
     }
 

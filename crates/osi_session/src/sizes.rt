@@ -1,17 +1,18 @@
 //! The largest TSDU in each direction: what a CN and an AC agree on, and what it bounds.
 
 ghost use Rattle.std.specs.Prelude.{◌≡◌, ◌<◌, ◌==◌, ◌||◌, nat_le, length};
-ghost use Rattle.osi_spdu.specs.Sizes.{are_sizes};
+ghost use Rattle.osi_spdu.specs.Sizes.{are_sizes, size_of};
 ghost use Rattle.osi_spdu.specs.Values.{is_size};
 ghost use Rattle.osi_message.specs.Meanings.{MIP, MIA, meant_by};
 ghost use Rattle.osi_message.specs.Written.{user_data_of, written};
 ghost use Rattle.osi_session.specs.Calls.{called_by};
 ghost use Rattle.osi_session.specs.Sizes.{smaller, answered, smaller_sizes, answered_sizes, limit_of, fits_limit};
+ghost use Rattle.osi_session.specs.Sound.{IsSound};
 
 use crate::requests::Request;
 use crate::state::State;
 use osi_message::Message;
-use osi_spdu::{Serial, TsduMaximumSize};
+use osi_spdu::{Serial, TsduMaximumSize, TsduSize};
 
 /// A user may give this size: no limit, or 64 octets and more.
 fn is_size(octets: u16) -> bool
@@ -84,6 +85,17 @@ pub(crate) fn limit_of(state: &State) -> u16
         state.sizes.from_asker
     } else {
         state.sizes.from_answerer
+    }
+}
+
+/// The same, as a size that a user may give.
+pub(crate) fn size_limit(state: &State) -> TsduSize
+    requires { IsSound state.now }
+    ensures { size_of result ≡ limit_of state.now }
+{
+    match TsduSize::new(limit_of(state)) {
+        Some(limit) => limit,
+        None => unreachable!(),
     }
 }
 

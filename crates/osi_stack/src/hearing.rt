@@ -14,7 +14,7 @@ ghost use Rattle.osi_stack.specs.Telling.{told_input};
 use crate::told::Told;
 use crate::transport::answer;
 use osi_carrier::Carrier;
-use osi_session::{Indication, Session, Taken};
+use osi_session::{Expected, Indication, Session, Taken};
 use std::alloc::{AllocError, Global};
 use std::collections::VecDeque;
 
@@ -33,7 +33,8 @@ fn quiet(alloc: Global, shown: Option<Indication>) -> Taken
     }
 }
 
-/// What a session does. Want of memory changes nothing.
+/// What a session does; a TSDU is read by the general reader, and not tried as one that is expected. Want of
+/// memory changes nothing.
 fn listen(alloc: Global, session: &mut Session, told: Told<'_>) -> Result<Taken, AllocError>
     ensures { Takes result (react session.old (told_input told.entry)) session.old session.new }
 {
@@ -43,7 +44,7 @@ fn listen(alloc: Global, session: &mut Session, told: Told<'_>) -> Result<Taken,
             ..quiet(alloc, None)
         }),
         Told::Refused(reason) => Ok(quiet(alloc, session.refused(reason))),
-        Told::Tsdu(octets) => session.take_tsdu(octets),
+        Told::Tsdu(octets) => session.take_unexpected(octets),
         Told::Lost => Ok(quiet(alloc, session.broken())),
     }
 }
@@ -68,8 +69,8 @@ fn is_connect(shown: &Indication) -> bool
     matches!(shown, Indication::Connect { .. })
 }
 
-/// A session hears anything. It stands out of line: else the room for all that it may do would be made on
-/// the way of data, too.
+/// A session hears anything, but a TSDU as one that is not expected ([`hear`] tried that). It stands out of
+/// line: else the room for all that it may do would be made on the way of data, too.
 #[inline(never)]
 fn hear_any(
     alloc: Global,
@@ -111,7 +112,7 @@ fn hear_any(
 /// A session hears what happens to it; says whether its user is shown that a connection is asked for.
 /// There is room for one indication, and behind it for one more. Memory is needed only where something is
 /// shown, sent or joined, or a DR is written; want of it leaves the indications that wait, and the carrier.
-/// Data, points and confirmations that it expects are shown straight.
+/// A TSDU is tried once as one that it expects, which is shown straight; any other goes to the general reader.
 pub fn hear(
     alloc: Global,
     session: &mut Session,
@@ -133,11 +134,15 @@ pub fn hear(
     ensures needed { OnErr result (session_needs reference (Some session.old) (told_input told.entry) carrier.old.state ≡ true) }
 {
     if let Told::Tsdu(octets) = told {
-        if let Some(indication) = session.take_expected(octets)? {
-            let connects = is_connect(&indication);
-            waiting.reserve(2)?;
-            waiting.push_back_reserved(indication);
-            return Ok(connects);
+        match session.take_expected(octets)? {
+            Expected::Shown(indication) => {
+                let connects = is_connect(&indication);
+                waiting.reserve(2)?;
+                waiting.push_back_reserved(indication);
+                return Ok(connects);
+            }
+            Expected::Joined => return Ok(false),
+            Expected::Other => (),
         }
     }
     hear_any(alloc, session, waiting, told, carrier, reference)

@@ -355,14 +355,22 @@ impl Lines {
     pub fn has(&self, reference: u16) -> bool
         ensures { result ≡ is_some (value_at reference self.now) }
     {
-        place_in(self.rows.as_slice(), self.rises, reference).is_some()
+        self.find(reference).is_some()
+    }
+
+    /// The place of a reference.
+    #[inline(always)]
+    fn find(&self, reference: u16) -> Option<usize>
+        ensures { result ≡ place_of reference self.now }
+    {
+        place_in(self.rows.as_slice(), self.rises, reference)
     }
 
     /// The session of a reference.
     pub fn session(&self, reference: u16) -> Option<&Session>
         ensures { option_map (λ s. s.now) result ≡ session_in (value_at reference self.now) }
     {
-        let place = place_in(self.rows.as_slice(), self.rises, reference);
+        let place = self.find(reference);
         let Some(place) = place else {
             return None;
         };
@@ -373,7 +381,7 @@ impl Lines {
     pub fn selectors(&self, reference: u16) -> Option<SessionSelectors>
         ensures { option_map session_selectors result ≡ selectors_in (value_at reference self.now) }
     {
-        let place = place_in(self.rows.as_slice(), self.rises, reference);
+        let place = self.find(reference);
         let Some(place) = place else {
             return None;
         };
@@ -418,7 +426,7 @@ impl Lines {
         ensures err { OnErr result (carrier.new ≡ carrier.old) }
         ensures needed { OnErr result (session_needs reference (session_in (value_at reference self.old)) (told_input told.entry) carrier.old.state ≡ true) }
     {
-        let Some(place) = place_in(self.rows.as_slice(), self.rises, reference) else {
+        let Some(place) = self.find(reference) else {
             return Ok(());
         };
         let line = &mut self.rows[place];
@@ -444,7 +452,7 @@ impl Lines {
         ensures refused { IfErr result (λ e. Refuses e (session_error (session_in (value_at reference self.old)) (called_by request.entry)) (session_refusal reference (session_in (value_at reference self.old)) (called_by request.entry) carrier.old.state)) }
         ensures err { OnErr result ((self.new ≡ self.old) × (carrier.new ≡ carrier.old)) }
     {
-        let place = place_in(self.rows.as_slice(), self.rises, reference);
+        let place = self.find(reference);
         let Some(place) = place else {
             return Err(CallError::Ended);
         };

@@ -10,7 +10,7 @@ use osi_tpkt::laws::a_prefix_of_a_packet;
 
 /// What became of the octets that were looked at.
 #[derive(Clone, Copy, PartialEq, Eq, Debug)]
-pub enum Fetched {
+pub(super) enum Fetched {
     /// So many octets made a packet whole, which acted.
     Packet(usize),
     /// All of them belong to a packet whose end has not come.
@@ -24,7 +24,7 @@ impl Carrier {
     /// it lies whole in them, with no copy of it. Where the carrier ends by them, what was held of the
     /// stream is dropped.
     #[inline(always)]
-    pub fn fetch(&mut self, octets: &[u8]) -> Fetched
+    pub(super) fn fetch(&mut self, octets: &[u8]) -> Fetched
         requires { stops self.old.state ≡ false }
         ensures { Fetches self.old octets.now result self.new }
     {

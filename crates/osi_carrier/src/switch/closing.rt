@@ -12,7 +12,7 @@ ghost use Rattle.osi_carrier.specs.declared.ends.EndReason.TheVariants.{NoMemory
 
 use super::Switch;
 use crate::ends::CarrierFault;
-use crate::events::{Event, Ref};
+use crate::events::{Event, Ref, tell};
 use crate::writing::put_disconnected;
 use osi_tpdu::Tpdu;
 use std::alloc::AllocError;
@@ -61,7 +61,7 @@ impl Switch {
         ensures needs { OnErr result (grows self.old (tells (happening event) (drops reference self.old)) ≡ true) }
     {
         self.events.reserve()?;
-        self.events.push_reserved(event);
+        tell(&mut self.events, event);
         self.leave_out(place, reference);
         Ok(())
     }

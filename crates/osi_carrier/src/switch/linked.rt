@@ -12,7 +12,7 @@ ghost use Rattle.osi_carrier.specs.declared.ends.EndReason.TheVariants.{NoMemory
 
 use super::Switch;
 use crate::ends::{CarrierFault, EndReason};
-use crate::events::{Event, Ref};
+use crate::events::{Event, Ref, tell};
 use crate::links::Step;
 use crate::rows::Phase;
 use crate::writing::{put_disconnect, put_disconnected};
@@ -100,8 +100,7 @@ impl Switch {
             Some(Class::Two) => {
                 self.events.reserve()?;
                 put_disconnect(&mut self.outgoing, peer, reference, PROTOCOL_ERROR)?;
-                self.events
-                    .push_reserved(Event::Faulted(Ref(reference), fault));
+                tell(&mut self.events, Event::Faulted(Ref(reference), fault));
                 self.live.set(place, reference, Phase::Closing(peer));
             }
             None | Some(Class::Zero) => self.fail(CarrierFault::Link(fault)),
@@ -127,13 +126,11 @@ impl Switch {
         match self.class {
             Some(Class::Two) => {
                 put_disconnected(&mut self.outgoing, peer, reference)?;
-                self.events
-                    .push_reserved(Event::Closed(Ref(reference), reason));
+                tell(&mut self.events, Event::Closed(Ref(reference), reason));
                 self.leave_out(place, reference);
             }
             None | Some(Class::Zero) => {
-                self.events
-                    .push_reserved(Event::Closed(Ref(reference), reason));
+                tell(&mut self.events, Event::Closed(Ref(reference), reason));
                 self.end(EndReason::PeerClosed(reason));
             }
         }

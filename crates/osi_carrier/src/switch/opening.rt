@@ -11,7 +11,7 @@ ghost use Rattle.osi_carrier.specs.State.{ends};
 ghost use Rattle.osi_carrier.specs.declared.ends.EndReason.TheVariants.{NoMemory};
 
 use super::Switch;
-use crate::events::{Event, Ref};
+use crate::events::{Event, Ref, tell};
 use crate::faults::OpenError;
 use crate::negotiation::{acceptance, opened_link, proposal};
 use crate::rows::{MOST_LIVE, Phase};
@@ -171,7 +171,7 @@ impl Switch {
         self.enter(reference, phase, Tsaps::of(request))?;
         self.events.reserve()?;
         put_confirm(&mut self.outgoing, &confirm)?;
-        self.events.push_reserved(Event::Opened(Ref(reference)));
+        tell(&mut self.events, Event::Opened(Ref(reference)));
         self.class = Some(class);
         self.given = reference;
         Ok(())

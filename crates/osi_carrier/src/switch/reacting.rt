@@ -13,7 +13,7 @@ ghost use Rattle.osi_carrier.specs.declared.ends.EndReason.TheVariants.{NoMemory
 
 use super::Switch;
 use crate::ends::CarrierFault;
-use crate::events::{Event, Ref};
+use crate::events::{Event, Ref, tell};
 use crate::negotiation::{agreed_size, confirmed, opened_link};
 use crate::rows::Phase;
 use osi_class::Class;
@@ -75,7 +75,7 @@ impl Switch {
         self.events.reserve()?;
         let size = agreed_size(answer.fields.parameters.size, &self.local);
         let link = opened_link(self.alloc, class, size, &self.local, answer.fields.credit);
-        self.events.push_reserved(Event::Opened(Ref(reference)));
+        tell(&mut self.events, Event::Opened(Ref(reference)));
         self.live.set(place, reference, Phase::Linked(answer.fields.source, link));
         self.class = Some(class);
         Ok(())

@@ -1,21 +1,17 @@
-//! Minor points and their confirmations, sent and taken: the numbers alone change, so that no whole state
-//! is made.
+//! Calls for minor points and their confirmations: the numbers alone change, so that no whole state is made.
 
 use super::Session;
 use crate::calling::{allow_minor, allow_minor_confirm, numbers_after};
-use crate::expected::expected_point;
 use crate::faults::CallError;
-use crate::indications::Indication;
 use crate::plans::{PlannedPoint, SentPoint};
 use osi_message::Sent;
 
 impl Session {
-    ghost use Rattle.std.specs.Prelude.{◌≡◌, true, false, None, IfOk, IfErr, IfSome};
+    ghost use Rattle.std.specs.Prelude.{◌≡◌, true, false, None, IfOk, IfErr};
     ghost use Rattle.osi_session.specs.Calls.{Minor, MinorConfirm};
-    ghost use Rattle.osi_session.specs.Listening.{called, came, react};
-    ghost use Rattle.osi_session.specs.Points.{PlansPoint, advanced, may_advance, only_shows};
+    ghost use Rattle.osi_session.specs.Listening.{called, react};
+    ghost use Rattle.osi_session.specs.Points.{PlansPoint, advanced, may_advance};
     ghost use Rattle.osi_session.specs.Sessions.{Refused};
-    ghost use Rattle.osi_session.specs.Shown.{shown_by};
 
     /// What a call of the user for a minor point would send, and the point; nothing changes.
     #[inline(always)]
@@ -69,16 +65,5 @@ impl Session {
         };
         self.state.numbers = numbers;
         true
-    }
-
-    /// A minor point or a confirmation that is expected. It stands out of line: data comes more often.
-    #[inline(never)]
-    pub(super) fn take_point(&mut self, tsdu: &[u8]) -> Option<Indication>
-        ensures shown { IfSome result (λ i. react self.old (came tsdu.now) ≡ only_shows self.new (shown_by i)) }
-        ensures rests { result ≡ None → self.new ≡ self.old }
-    {
-        let expected = expected_point(self.alloc, &self.state, self.joined.is_some(), tsdu)?;
-        self.state.numbers = expected.numbers;
-        Some(expected.shown)
     }
 }

@@ -1,4 +1,4 @@
-use Rattle.osi_carrier.proofs.Naming.{known_is, fresh_named, unit_named, asks_named, sent_named, closed_named, ended_named, unit_keeps, asks_keeps, sent_keeps, closed_keeps}
+use Rattle.osi_carrier.proofs.Naming.{known_is, fresh_named, unit_named, asks_named, sent_named, sent_all_named, closed_named, ended_named, unit_keeps, asks_keeps, sent_keeps, sent_all_keeps, closed_keeps}
 use Rattle.osi_carrier.proofs.laws.each_live_connection_has_its_tsaps.Goals as goal
 
 pub returns : goal.returns
@@ -8,10 +8,12 @@ returns c = record {
   unit = unit_named;
   asks = asks_named;
   sent = sent_named;
+  sent_all = sent_all_named;
   closed = closed_named;
   ended = ended_named;
   unit_keeps = unit_keeps;
   asks_keeps = asks_keeps;
   sent_keeps = sent_keeps;
+  sent_all_keeps = sent_all_keeps;
   closed_keeps = closed_keeps;
 }

@@ -1,4 +1,4 @@
-use Rattle.osi_carrier.proofs.Effects.{orderly_fresh, orderly_unit, orderly_packet, orderly_asks, orderly_sent, orderly_closed, orderly_end, orderly_ended, orderly_same}
+use Rattle.osi_carrier.proofs.Effects.{orderly_fresh, orderly_unit, orderly_packet, orderly_asks, orderly_sent, orderly_sent_all, orderly_closed, orderly_end, orderly_ended, orderly_same}
 use Rattle.osi_carrier.proofs.laws.references_rise.Goals as goal
 
 pub returns : goal.returns
@@ -8,6 +8,7 @@ returns c = record {
   packet = orderly_packet;
   asks = orderly_asks;
   sent = orderly_sent;
+  sent_all = orderly_sent_all;
   closed = orderly_closed;
   ends = orderly_end;
   ended = orderly_ended;

@@ -6,5 +6,5 @@ use Rattle.osi_carrier.proofs.rows.Connections.open_at.Goals as goal
 pub returns-in_default-clause-none : goal.returns-in_default-clause-none
 returns-in_default-clause-none c = λ _.
     let none : place_of c.args.reference c.args.self.now ≡ None =
-    ap (place_of c.args.reference) (sym c.self.view_is) ∙ ap (place_of c.args.reference) (sym c.as_slice.ensures.value) ∙ sym c.place_in.ensures ∙ c.in_default.is in
+    sym c.find.ensures ∙ c.in_default.is in
     ap link_of (nowhere c.args.reference c.args.self.now none)

@@ -1,15 +1,12 @@
 use Rattle.std.proofs.Common.{◌∙◌}
 use Rattle.osi_session.proofs.Vocabulary.{DT, Data}
+use Rattle.osi_spdu.specs.Sizes.{size_of}
 use Rattle.osi_session.proofs.Accepted.{accepts, rests_by}
-use Rattle.osi_session.proofs.SentLaws.{limit_sized}
 use Rattle.osi_session.proofs.sessions.Session.call_bounded_data.Goals as goal
-
-pub data-requires : goal.data-requires
-data-requires c = limit_sized c.self.inside.state c.limit_of.result c.limit_of.ensures c.self.invariant.0
 
 pub returns-in-Ok : goal.returns-in-Ok
 returns-in-Ok c =
-    let a = accepts c.limit_of.result _ c.args.self.now (Data c.args.user_data.now) (record { next = c.self.inside.state; sent = DT c.args.user_data.now }) c.limit_of.ensures c.self.view_is c.self.invariant.0 tt c.in_ok-allow_data.ensures.ok in
+    let a = accepts (size_of c.size_limit.result) _ c.args.self.now (Data c.args.user_data.now) (record { next = c.self.inside.state; sent = DT c.args.user_data.now }) c.size_limit.ensures c.self.view_is c.self.invariant.0 tt c.in_ok-allow_data.ensures.ok in
     record {
       state = rests_by _ c.args.self.now (Data c.args.user_data.now) (DT c.args.user_data.now) c.self.view_is c.self.invariant.3 c.in_ok-allow_data.ensures.ok;
       sent = c.in-Ok.ensures ∙ a.sends;
@@ -19,4 +16,4 @@ returns-in-Ok c =
     }
 
 pub returns-in-Err-clause-refused : goal.returns-in-Err-clause-refused
-returns-in-Err-clause-refused c = (accepts c.limit_of.result _ c.args.self.now (Data c.args.user_data.now) (record { next = c.self.inside.state; sent = DT c.args.user_data.now }) c.limit_of.ensures c.self.view_is c.self.invariant.0 tt c.in_ok-allow_data.ensures.ok).passes
+returns-in-Err-clause-refused c = (accepts (size_of c.size_limit.result) _ c.args.self.now (Data c.args.user_data.now) (record { next = c.self.inside.state; sent = DT c.args.user_data.now }) c.size_limit.ensures c.self.view_is c.self.invariant.0 tt c.in_ok-allow_data.ensures.ok).passes

@@ -1,12 +1,11 @@
-use Rattle.std.proofs.Common.{ap, ◌∙◌}
-use Rattle.osi_session.proofs.Vocabulary.{shown_list, option_and_then, unit_in}
+use Rattle.osi_session.proofs.Vocabulary.{option_and_then, unit_in}
 use Rattle.osi_session.proofs.SessionMoves.{part_joins, part_refused}
 use Rattle.osi_session.proofs.sessions.Session.join.Goals as goal
 
 pub returns-in-Ok : goal.returns-in-Ok
-returns-in-Ok c = part_joins c.args.place c.showing.result c.args.self.now c.self.inside.state (option_and_then unit_in c.self.inside.waiting)
+returns-in-Ok c = part_joins c.args.place c.behind.result c.shown_behind.result c.args.self.now c.self.inside.state (option_and_then unit_in c.self.inside.waiting)
     c.self.inside.joined c.join.new.joined c.shown_behind.new.joined c.args.user_data.now c.self.view_is c.requires c.in-Ok.ensures.ok
-    (ap shown_list c.showing.ensures.first ∙ c.shown_behind.ensures.shown) c.shown_behind.ensures.joined c.showing.ensures.more c.showing.ensures.others
+    c.shown_behind.ensures.shown c.shown_behind.ensures.joined c.behind.ensures
 
 pub returns-in-Err : goal.returns-in-Err
 returns-in-Err c = part_refused c.in-Err.error c.args.place c.args.self.now c.self.inside.state (option_and_then unit_in c.self.inside.waiting)

@@ -1,27 +1,24 @@
 use Rattle.std.proofs.Common.{◌∙◌, ℕ, ap, sym, refl}
 use Rattle.osi_session.proofs.Vocabulary.{Listener, tsdus_of, tsdus_sent, called_by, step_of}
+use Rattle.osi_spdu.specs.Sizes.{size_of}
 use Rattle.osi_session.proofs.CallLaws.{sent_short}
 use Rattle.osi_session.proofs.MoveLaws.{plan_of}
-use Rattle.osi_session.proofs.SentLaws.{limit_sized}
 use Rattle.osi_session.proofs.SessionLaws.{request_small, request_sound, request_begun}
 use Rattle.osi_session.proofs.Accepted.{accepts}
 use Rattle.osi_session.proofs.sessions.Session.plan.Goals as goal
 
 -- what an accepted call sends is short
 pub within-requires : goal.within-requires
-within-requires c = record {
-  short = sent_short c.self.inside.state (called_by c.args.request) (step_of c.in_ok-step.step) c.in_ok-step.ensures;
-  sized = limit_sized c.self.inside.state c.limit_of.result c.limit_of.ensures c.self.invariant.0;
-}
+within-requires c = sent_short c.self.inside.state (called_by c.args.request) (step_of c.in_ok-step.step) c.in_ok-step.ensures
 
 pub returns-in-Ok : goal.returns-in-Ok
 returns-in-Ok c =
     let x = step_of c.in_ok-step.step in
-    let a = accepts c.limit_of.result _ c.args.self.now (called_by c.args.request) x c.limit_of.ensures c.self.view_is c.self.invariant.0 (request_small c.args.request) c.in_ok-step.ensures in
+    let a = accepts (size_of c.size_limit.result) _ c.args.self.now (called_by c.args.request) x c.size_limit.ensures c.self.view_is c.self.invariant.0 (request_small c.args.request) c.in_ok-step.ensures in
     record {
       state = sym a.leaves;
       sent = c.in-Ok.ensures ∙ a.sends;
-      planned = plan_of (called_by c.args.request) (record { was = c.self.inside.state; next = c.in_ok-step.step.next; sent = c.in-Ok.sent }) x c.in_ok-step.ensures refl (c.in-Ok.ensures ∙ ap (λ (n : ℕ). tsdus_of n x.sent) c.limit_of.ensures);
+      planned = plan_of (called_by c.args.request) (record { was = c.self.inside.state; next = c.in_ok-step.step.next; sent = c.in-Ok.sent }) x c.in_ok-step.ensures refl (c.in-Ok.ensures ∙ ap (λ (n : ℕ). tsdus_of n x.sent) c.size_limit.ensures);
       was = ap (λ (s : Listener). s.state) c.self.view_is;
       accepted = a.passes;
       sendable = a.sendable;
@@ -29,7 +26,7 @@ returns-in-Ok c =
     }
 
 pub returns-in-Err-clause-refused : goal.returns-in-Err-clause-refused
-returns-in-Err-clause-refused c = (accepts c.limit_of.result _ c.args.self.now (called_by c.args.request) (step_of c.in_ok-step.step) c.limit_of.ensures c.self.view_is c.self.invariant.0 (request_small c.args.request) c.in_ok-step.ensures).passes
+returns-in-Err-clause-refused c = (accepts (size_of c.size_limit.result) _ c.args.self.now (called_by c.args.request) (step_of c.in_ok-step.step) c.size_limit.ensures c.self.view_is c.self.invariant.0 (request_small c.args.request) c.in_ok-step.ensures).passes
 
 pub invariant_of-result : goal.invariant_of-result
 invariant_of-result c = (

@@ -10,13 +10,13 @@ use Rattle.osi_stack.proofs.lines.Lines.hear.Goals as goal
 
 pub returns-in_default-clause-ok : goal.returns-in_default-clause-ok
 returns-in_default-clause-ok c =
-    let none : place_of c.args.reference c.args.self.now ≡ None = ap (λ (l : Rows Line). place_of c.args.reference l) (sym (c.as_slice.ensures.value ∙ c.self.view_is)) ∙ sym c.place_in.ensures ∙ c.in_default.is in
+    let none : place_of c.args.reference c.args.self.now ≡ None = sym c.find.ensures ∙ c.in_default.is in
     unheard c.args.reference c.args.self.now (told_input c.args.told) c.args.carrier.now.state none
 
 pub returns-clause-ok : goal.returns-clause-ok
 returns-clause-ok c =
     let row = c.index_mut-line.result.now in
-    let some : place_of c.args.reference c.args.self.now ≡ Some c.in-Some.place = ap (λ (l : Rows Line). place_of c.args.reference l) (sym (c.as_slice.ensures.value ∙ c.self.view_is)) ∙ sym c.place_in.ensures ∙ c.in-Some.is in
+    let some : place_of c.args.reference c.args.self.now ≡ Some c.in-Some.place = sym c.find.ensures ∙ c.in-Some.is in
     let here = c.index_mut-line.ensures.value ∙ ap (λ (l : Rows Line). get_or l c.in-Some.place row) c.self.view_is in
     let eq : c.if-waits.self-inside.rows.items ≡ set c.self.inside.rows.items c.in-Some.place c.hear-result.new.self =
     elim c.if-waits.branch [ then-waits+then-not-waited w ↦ ap (λ (x : Inside). x.rows.items) w.self-inside-is | else-waits w ↦ ap (λ (x : Inside). x.rows.items) w.self-inside-is ] in
@@ -28,7 +28,7 @@ returns-clause-ok c =
 pub returns-clause-lost : goal.returns-clause-lost
 returns-clause-lost c =
     let row = c.index_mut-line.result.now in
-    let some : place_of c.args.reference c.args.self.now ≡ Some c.in-Some.place = ap (λ (l : Rows Line). place_of c.args.reference l) (sym (c.as_slice.ensures.value ∙ c.self.view_is)) ∙ sym c.place_in.ensures ∙ c.in-Some.is in
+    let some : place_of c.args.reference c.args.self.now ≡ Some c.in-Some.place = sym c.find.ensures ∙ c.in-Some.is in
     let here = c.index_mut-line.ensures.value ∙ ap (λ (l : Rows Line). get_or l c.in-Some.place row) c.self.view_is in
     let eq : c.if-waits.self-inside.rows.items ≡ set c.self.inside.rows.items c.in-Some.place c.hear-result.new.self =
     elim c.if-waits.branch [ then-waits+then-not-waited w ↦ ap (λ (x : Inside). x.rows.items) w.self-inside-is | else-waits w ↦ ap (λ (x : Inside). x.rows.items) w.self-inside-is ] in
@@ -38,14 +38,14 @@ returns-clause-lost c =
 pub returns-clause-needed : goal.returns-clause-needed
 returns-clause-needed c =
     let row = c.index_mut-line.result.now in
-    let some : place_of c.args.reference c.args.self.now ≡ Some c.in-Some.place = ap (λ (l : Rows Line). place_of c.args.reference l) (sym (c.as_slice.ensures.value ∙ c.self.view_is)) ∙ sym c.place_in.ensures ∙ c.in-Some.is in
+    let some : place_of c.args.reference c.args.self.now ≡ Some c.in-Some.place = sym c.find.ensures ∙ c.in-Some.is in
     let here = c.index_mut-line.ensures.value ∙ ap (λ (l : Rows Line). get_or l c.in-Some.place row) c.self.view_is in
     needs_at c.hear-result.result c.args.reference c.args.self.now c.in-Some.place row (told_input c.args.told) c.args.carrier.now.state some here c.hear-result.ensures.needed
 
 pub overflow_add-self : goal.overflow_add-self
 overflow_add-self c =
     let row = c.index_mut-line.result.now in
-    let some : place_of c.args.reference c.args.self.now ≡ Some c.in-Some.place = ap (λ (l : Rows Line). place_of c.args.reference l) (sym (c.as_slice.ensures.value ∙ c.self.view_is)) ∙ sym c.place_in.ensures ∙ c.in-Some.is in
+    let some : place_of c.args.reference c.args.self.now ≡ Some c.in-Some.place = sym c.find.ensures ∙ c.in-Some.is in
     let here = c.index_mut-line.ensures.value ∙ ap (λ (l : Rows Line). get_or l c.in-Some.place row) c.self.view_is in
     let less = room_of c.args.reference c.args.self.now c.self.inside.rows.items c.in-Some.place row c.self.inside.waiting (length c.self.inside.rows.items) some here c.self.view_is
     c.self.invariant.0 refl (sym c.waits-waited.ensures ∙ c.if-not-waited.true) in
@@ -58,7 +58,7 @@ overflow_add-self c =
 pub invariant_of-self : goal.invariant_of-self
 invariant_of-self c =
     let row = c.index_mut-line.result.now in
-    let some : place_of c.args.reference c.self.inside.rows.items ≡ Some c.in-Some.place = ap (λ (l : Rows Line). place_of c.args.reference l) (sym c.as_slice.ensures.value) ∙ sym c.place_in.ensures ∙ c.in-Some.is in
+    let some : place_of c.args.reference c.self.inside.rows.items ≡ Some c.in-Some.place = ap (λ (l : Rows Line). place_of c.args.reference l) c.self.view_is ∙ sym c.find.ensures ∙ c.in-Some.is in
     let within = (placed c.args.reference c.self.inside.rows.items c.in-Some.place row some).within in
     let stays = (λ (h : c.waits-waited.result ≡ true). c.waits.ensures
     ∙ heard_stays c.hear-result.result row c.hear-result.new.self (told_input c.args.told) c.hear-result.ensures.ok c.hear-result.ensures.lost (sym c.waits-waited.ensures ∙ h)) in

@@ -5,12 +5,12 @@ use Rattle.osi_stack.proofs.lines.Lines.selectors.Goals as goal
 
 pub returns-in_default : goal.returns-in_default
 returns-in_default c =
-    let none : place_of c.args.reference c.args.self.now ≡ None = ap (λ (l : Rows Line). place_of c.args.reference l) (sym (c.as_slice.ensures.value ∙ c.self.view_is)) ∙ sym c.place_in-place.ensures ∙ c.in_default.is in
+    let none : place_of c.args.reference c.args.self.now ≡ None = sym c.find-place.ensures ∙ c.in_default.is in
     sym (ap selectors_in (nowhere c.args.reference c.args.self.now none))
 
 pub returns : goal.returns
 returns c =
     let row = c.index.result.now in
-    let some : place_of c.args.reference c.args.self.now ≡ Some c.in-Some.place = ap (λ (l : Rows Line). place_of c.args.reference l) (sym (c.as_slice.ensures.value ∙ c.self.view_is)) ∙ sym c.place_in-place.ensures ∙ c.in-Some.is in
+    let some : place_of c.args.reference c.args.self.now ≡ Some c.in-Some.place = sym c.find-place.ensures ∙ c.in-Some.is in
     let here = c.index.ensures ∙ ap (λ (l : Rows Line). get_or l c.in-Some.place row) c.self.view_is in
     c.selectors.ensures ∙ sym (ap selectors_in (here_is c.args.reference c.args.self.now c.args.self.now c.in-Some.place row some here refl))

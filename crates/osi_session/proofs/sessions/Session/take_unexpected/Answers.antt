@@ -2,7 +2,7 @@ use Rattle.std.proofs.Common.{ap}
 use Rattle.osi_session.proofs.Vocabulary.{Listener, came, react, said_by_units, taken, units_of, unread}
 use Rattle.osi_session.proofs.MoveLaws.{came_fault, came_words}
 use Rattle.osi_session.proofs.SessionMoves.{takes_as}
-use Rattle.osi_session.proofs.sessions.Session.take_general.Goals as goal
+use Rattle.osi_session.proofs.sessions.Session.take_unexpected.Goals as goal
 
 pub returns-in-Ok : goal.returns-in-Ok
 returns-in-Ok c =

@@ -1,0 +1,93 @@
+//! TSDUs that a session expects, and takes straight: whole data, a part of it, a minor point or its
+//! confirmation. Each is tried once: what is none of these goes to the general reader.
+
+use super::Session;
+use crate::expected::{Expected, expected_point};
+use crate::grouping::expects_data;
+use crate::indications::Indication;
+use crate::joining::{PartVerdict, join, judge_part, shown_behind};
+use osi_message::{Octets, Place, PlainUnit};
+use std::alloc::AllocError;
+
+impl Session {
+    ghost use Rattle.std.specs.Prelude.{◌≡◌, true, IfOk, OnErr};
+    ghost use Rattle.osi_message.specs.Plain.{plain_word};
+    ghost use Rattle.osi_message.specs.Words.{part};
+    ghost use Rattle.osi_session.specs.Expecting.{Meets, Tries};
+    ghost use Rattle.osi_session.specs.Joining.{respond_word, word_verdict};
+    ghost use Rattle.osi_session.specs.Listening.{came, moved, react, taker_of};
+    ghost use Rattle.osi_session.specs.Respond.{fine};
+    ghost use Rattle.osi_session.specs.Sessions.{takes_memory};
+
+    /// Tries a TSDU as one that is expected: the written form of whole data, of a part of it, or of a minor
+    /// point or a confirmation without other parameters, behind a GT that names no token. `Shown` and
+    /// `Joined` are all that [`Session::take_tsdu`] would do beside the state. `Other` changes nothing: the
+    /// TSDU goes to [`Session::take_unexpected`], which doesn't try this again. `Err` changes nothing, and
+    /// comes only where something is shown or octets are joined.
+    #[inline(always)]
+    pub fn take_expected(&mut self, tsdu: &[u8]) -> Result<Expected, AllocError>
+        ensures taken { IfOk result (λ e. Meets e (react self.old (came tsdu.now)) self.old self.new) }
+        ensures err { OnErr result (self.new ≡ self.old) }
+        ensures memory { OnErr result (takes_memory self.old (react self.old (came tsdu.now)) ≡ true) }
+    {
+        let Some(user_data) = PlainUnit::data(tsdu) else {
+            return self.take_plain(tsdu);
+        };
+        if self.joined.is_some() || !expects_data(&self.state) {
+            return Ok(Expected::Other);
+        }
+        match Octets::copy(self.alloc, user_data) {
+            Ok(user_data) => Ok(Expected::Shown(Indication::Data { user_data })),
+            Err(error) => Err(error),
+        }
+    }
+
+    /// What is no whole data. It stands out of line: data comes more often.
+    #[inline(never)]
+    fn take_plain(&mut self, tsdu: &[u8]) -> Result<Expected, AllocError>
+        ensures { Tries result (react self.old (came tsdu.now)) self.old self.new }
+    {
+        let Some(unit) = PlainUnit::read(tsdu) else {
+            return Ok(Expected::Other);
+        };
+        match unit {
+            PlainUnit::Part { place, user_data } => self.take_part(place, user_data),
+            _ => Ok(self.take_point(unit)),
+        }
+    }
+
+    /// A minor point or a confirmation.
+    fn take_point(&mut self, unit: PlainUnit<'_>) -> Expected
+        ensures { Meets result (moved self.old (respond_word (taker_of self.old) (plain_word unit.entry))) self.old self.new }
+    {
+        let Some(expected) = expected_point(self.alloc, &self.state, self.joined.is_some(), unit)
+        else {
+            return Expected::Other;
+        };
+        self.state.numbers = expected.numbers;
+        Expected::Shown(expected.shown)
+    }
+
+    /// A part of one Data, which is joined to those before it. It stands out of line: points come more often.
+    #[inline(never)]
+    fn take_part(&mut self, place: Place, user_data: &[u8]) -> Result<Expected, AllocError>
+        ensures { Tries result (moved self.old (respond_word (taker_of self.old) (part place user_data.now))) self.old self.new }
+    {
+        match judge_part(&self.state, self.joined.as_ref(), place, user_data) {
+            PartVerdict::Good => self.join(place, user_data),
+            PartVerdict::Dropped | PartVerdict::Bad(_) => Ok(Expected::Other),
+        }
+    }
+
+    /// Joins a part that is good. The octets of the last are put behind what is joined, which then is
+    /// shown, and is not copied.
+    fn join(&mut self, place: Place, user_data: &[u8]) -> Result<Expected, AllocError>
+        requires { word_verdict (taker_of self.old) (part place user_data.now) ≡ fine }
+        ensures { Tries result (moved self.old (respond_word (taker_of self.old) (part place user_data.now))) self.old self.new }
+    {
+        match join(self.alloc, &mut self.joined, place, user_data) {
+            Ok(()) => Ok(Expected::behind(shown_behind(place, &mut self.joined))),
+            Err(error) => Err(error),
+        }
+    }
+}
