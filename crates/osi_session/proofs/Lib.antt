@@ -13,6 +13,8 @@ pub mod RestartLaws
 pub mod RunCases
 pub mod RunLaws
 pub mod SendableLaws
+pub mod CountingLaws
+pub mod SayingLaws
 pub mod SentLaws
 pub mod SessionLaws
 pub mod ShownLaws

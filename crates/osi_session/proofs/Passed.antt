@@ -42,7 +42,7 @@ all_pass : (ts : List Test) (a : Answer) → AllHold ts → first_error ts a ≡
 all_pass [] a h = refl
 all_pass (t ∷ ts) a h = rw h.0 (all_pass ts a h.1)
 
-over_calls : (c : Call) (p : Phase) → may_call p c ≡ true → is_over p ≡ false
+pub over_calls : (c : Call) (p : Phase) → may_call p c ≡ true → is_over p ≡ false
 over_calls (Accept requirements serial sides sizes octets) p h = excluded is_answering is_over refl p h
 over_calls (Refuse octets) p h = excluded is_answering is_over refl p h
 over_calls (Give tokens) p h = excluded may_give is_over refl p h

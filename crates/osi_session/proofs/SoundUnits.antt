@@ -25,10 +25,10 @@ chosen_if false x y h k = k
 third : (a b c : Bool) → (a && (b && c)) ≡ true → c ≡ true
 third a b c h = (and_parts b c (and_parts a (b && c) h).1).1
 
-base_small : (b : Bool) (serial : Option ℕ) (proposed : ℕ) → IsSmall serial → proposed < 1000000 → (if b then unwrap_or serial proposed else 0) ≤ 1000000
+pub base_small : (b : Bool) (serial : Option ℕ) (proposed : ℕ) → IsSmall serial → proposed < 1000000 → (if b then unwrap_or serial proposed else 0) ≤ 1000000
 base_small b serial proposed h0 h1 = grind arith
 
-first_small : (serial : Option ℕ) → IsSmall serial → unwrap_or serial 0 < 1000000
+pub first_small : (serial : Option ℕ) → IsSmall serial → unwrap_or serial 0 < 1000000
 first_small None h = omega arith
 first_small (Some n) h = omega arith
 

@@ -2,6 +2,7 @@ pub mod Allowed
 pub mod Calls
 pub mod Causes
 pub mod Closing
+pub mod Counting
 pub mod Expecting
 pub mod Joining
 pub mod Listening
@@ -18,8 +19,10 @@ pub mod Shown
 pub mod Sides
 pub mod Sizes
 pub mod Sound
+pub mod Standing
 pub mod State
 pub mod Steps
+pub mod Taking
 pub mod Units
 pub mod Same
 pub mod Whole

@@ -47,7 +47,7 @@ pub(crate) struct Step<'a> {
 }
 
 /// Whether the phase allows the call.
-fn may_call(phase: Phase, request: &Request) -> bool
+pub(crate) fn may_call(phase: Phase, request: &Request) -> bool
     ensures { result ≡ may_call phase (called_by request.now) }
 {
     match request {
@@ -66,7 +66,7 @@ fn may_call(phase: Phase, request: &Request) -> bool
 }
 
 /// Whether the user data of a call is not too long.
-fn fits(request: &Request) -> bool
+pub(crate) fn fits(request: &Request) -> bool
     ensures { result ≡ nat_le (length (octets_of (called_by request.now))) (most_of (called_by request.now)) }
 {
     match request {
@@ -102,7 +102,7 @@ impl State {
 
     /// The tokens that are held, or not available.
     #[tactic(auto, unfolding(crate::specs::Units::available))]
-    fn rights(&self) -> Tokens
+    pub(crate) fn rights(&self) -> Tokens
         ensures { result ≡ set_of (has_right self.now) }
     {
         let there = self.units.available();
@@ -487,7 +487,7 @@ fn abort<'a>(state: &State, user_data: &'a [u8]) -> Step<'a>
 
 /// What a call gives that its phase allows.
 #[tactic(auto, unfolding(crate::specs::Allowed::met))]
-fn decide_row<'a>(state: &State, request: &Request<'a>) -> Result<Step<'a>, CallError>
+pub(crate) fn decide_row<'a>(state: &State, request: &Request<'a>) -> Result<Step<'a>, CallError>
     requires sound { IsSound state.now }
     requires allowed { may_call state.now.phase (called_by request.now) ≡ true }
     ensures { Answers result (met state.now (called_by request.now)) }

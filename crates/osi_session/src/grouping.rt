@@ -151,7 +151,7 @@ pub(crate) fn take_all(
     Ok(reactions)
 }
 
-fn either(one: bool, other: bool) -> bool
+pub(crate) fn either(one: bool, other: bool) -> bool
     ensures { result ≡ (one || other) }
 {
     one || other

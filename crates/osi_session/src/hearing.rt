@@ -88,7 +88,7 @@ impl Heard {
 }
 
 /// The kind of a message that doesn't come within an SSDU.
-fn begins_anew(message: &Message) -> Option<Kind>
+pub(crate) fn begins_anew(message: &Message) -> Option<Kind>
     ensures { result ≡ (if begins_anew (meant_by message.now) then Some (kind_of (meant_by message.now)) else None) }
 {
     match message {
@@ -133,7 +133,7 @@ fn take_misplaced(
 }
 
 /// What a message does.
-fn take_message(
+pub(crate) fn take_message(
     alloc: Global,
     state: &State,
     joined: Option<&Octets>,

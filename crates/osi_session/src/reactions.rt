@@ -29,7 +29,7 @@ const PROTOCOL_ERROR: u8 = 0x05;
 
 /// What is sent in answer to a unit, besides what the user sends.
 #[derive(Clone, Copy, Debug)]
-pub(crate) enum Reply {
+pub enum Reply {
     /// RF with reason 132: the peer has not version 2.
     VersionNotSupported,
     /// RF with reason 134: there is neither half-duplex nor duplex, or a size is one that no user

@@ -24,7 +24,7 @@ mod restarts;
 mod transfers;
 
 /// A token item that names no token has no effect.
-fn has_no_effect(message: &Message) -> bool
+pub(crate) fn has_no_effect(message: &Message) -> bool
     ensures { result ≡ has_no_effect (meant_by message.now) }
 {
     match message {

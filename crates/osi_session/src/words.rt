@@ -41,3 +41,10 @@ impl<'a> Word<'a> {
         }
     }
 }
+
+/// Whether a unit is an RS: a token item in front of it has no effect.
+pub fn is_restart_unit(unit: &Spdu) -> bool
+    ensures { result ≡ is_restart_word (word (said_by unit.now)) }
+{
+    Word::of(unit).is_restart()
+}

@@ -1,0 +1,221 @@
+//! What the units of a TSDU leave, with the octets of an unfinished SSDU counted in place of kept.
+
+ghost use Rattle.std.specs.Prelude.{◌≡◌, ◌+◌, ◌++◌, ◌≤◌, ℕ, List, [], Option, Some, IfOk, OnOk, IfSome, OnSome, IfNone, option_map, option_copied, is_some, unwrap_or, length, None, ◌<◌, if◌then◌else◌};
+ghost use Rattle.osi_message.specs.Reading.{said_by_units, said_at};
+ghost use Rattle.osi_message.specs.Words.{says, part};
+ghost use Rattle.osi_session.specs.Allowed.{most_data};
+ghost use Rattle.osi_message.specs.Meanings.{meant_by};
+ghost use Rattle.osi_session.specs.Counting.{no_octets, count_of, count_by, taker_with, Counts, CountsAll, CountsCame, count_by_idle};
+ghost use Rattle.osi_session.specs.Joining.{is_last, Hearing, heard_then, respond_word, respond_tsdu, respond_came, word_verdict};
+ghost use Rattle.osi_session.specs.Respond.{is_faulty, replies_abort};
+ghost use Rattle.osi_session.specs.Standing.{counted};
+ghost use Rattle.osi_session.specs.Steps.{outcome_of, word_by};
+ghost use Rattle.osi_spdu.specs.Groups.{units_of};
+
+use crate::calling::MOST_DATA;
+use crate::faults::UnitFault;
+use crate::grouping::{either, unread};
+use crate::hearing::take_message;
+use crate::joining::{PartVerdict, judge_part};
+use crate::reactions::{Reaction, Reply};
+use crate::state::State;
+use crate::words::Word;
+use osi_message::{Message, Octets, Place};
+use osi_spdu::{Group, Kind, read_tsdu};
+use std::alloc::{AllocError, Global};
+
+/// What the units of a TSDU leave and answer.
+#[derive(Clone, Copy)]
+pub(crate) struct Counting {
+    pub(crate) next: State,
+    /// How many octets are joined of an unfinished SSDU.
+    pub(crate) joined: Option<usize>,
+    pub(crate) reply: Option<Reply>,
+    pub(crate) closes: bool,
+}
+
+impl Counting {
+    /// What a reaction leaves, where so many octets are joined before its phase is looked at.
+    fn of(reaction: Reaction, joined: Option<usize>) -> Counting
+        ensures { count_of result ≡ count_by joined (outcome_of reaction) }
+    {
+        Counting {
+            next: reaction.next,
+            joined: if reaction.next.phase.may_hold() {
+                joined
+            } else {
+                None
+            },
+            reply: reaction.reply,
+            closes: reaction.closes,
+        }
+    }
+}
+
+/// What stands for the octets that are joined, where it matters alone whether some are.
+fn placeholder(alloc: Global, joined: Option<usize>) -> Option<Octets>
+    ensures { result ≡ no_octets joined }
+{
+    match joined {
+        Some(_) => Some(Octets::new(alloc)),
+        None => None,
+    }
+}
+
+/// What a message leaves.
+fn count_message(
+    alloc: Global,
+    state: &State,
+    joined: Option<usize>,
+    message: Message<'_>,
+) -> Result<Counting, AllocError>
+    ensures { IfOk result (λ c. Counts state.now joined (says (meant_by message.entry)) (count_of c)) }
+{
+    let begun = placeholder(alloc, joined);
+    let reaction = take_message(alloc, state, begun.as_ref(), message)?;
+    Ok(Counting::of(reaction, joined))
+}
+
+/// How many octets are joined behind a part, if they are no more than one Data may have.
+pub(crate) fn total(joined: Option<usize>, octets: usize) -> Option<usize>
+    ensures some { IfSome result (λ n. n ≡ unwrap_or joined 0 + octets) }
+    ensures few { OnSome result (unwrap_or joined 0 + octets ≤ most_data) }
+    ensures none { IfNone result (most_data < unwrap_or joined 0 + octets) }
+{
+    let begun = joined.unwrap_or(0);
+    if octets > MOST_DATA || begun > MOST_DATA - octets {
+        return None;
+    }
+    Some(begun + octets)
+}
+
+/// What a good part leaves joined: nothing behind the last.
+pub(crate) fn behind_part(place: Place, total: usize) -> Option<usize>
+    ensures { result ≡ (if is_last place then None else Some total) }
+{
+    match place {
+        Place::First | Place::Middle => Some(total),
+        Place::Last => None,
+    }
+}
+
+/// What a part leaves.
+fn count_part(
+    alloc: Global,
+    state: &State,
+    joined: Option<usize>,
+    place: Place,
+    user_data: &[u8],
+) -> Counting
+    ensures { Counts state.now joined (part place user_data.now) (count_of result) }
+{
+    let begun = placeholder(alloc, joined);
+    match judge_part(state, begun.as_ref(), place, user_data) {
+        PartVerdict::Dropped => Counting::of(Reaction::silent(*state), joined),
+        PartVerdict::Bad(fault) => Counting::of(Reaction::bad(state, fault), joined),
+        PartVerdict::Good => match total(joined, user_data.len()) {
+            Some(total) => Counting::of(Reaction::silent(*state), behind_part(place, total)),
+            None => {
+                let fault = UnitFault::DataTooLong(Kind::DataTransfer.si());
+                Counting::of(Reaction::bad(state, fault), joined)
+            }
+        },
+    }
+}
+
+/// What a word leaves.
+fn count_word(
+    alloc: Global,
+    state: &State,
+    joined: Option<usize>,
+    word: Word<'_>,
+) -> Result<Counting, AllocError>
+    ensures { IfOk result (λ c. Counts state.now joined (word_by word.entry) (count_of c)) }
+{
+    match word {
+        Word::Says(message) => count_message(alloc, state, joined, message),
+        Word::Part(place, user_data) => Ok(count_part(alloc, state, joined, place, user_data)),
+    }
+}
+
+impl Counting {
+    /// Whether the last word was bad.
+    fn is_bad(&self) -> bool
+        ensures { result ≡ replies_abort (count_of self.now).reply }
+    {
+        matches!(self.reply, Some(Reply::ProtocolError))
+    }
+
+    /// Nothing is done yet.
+    fn none(state: &State, joined: Option<usize>) -> Counting
+        ensures { count_of result ≡ count_by_idle state.now joined }
+    {
+        Counting {
+            next: *state,
+            joined,
+            reply: None,
+            closes: false,
+        }
+    }
+
+    /// What one word leaves, behind what was left so far; and whether the word is bad.
+    fn then(&mut self, alloc: Global, word: Word<'_>) -> Result<bool, AllocError>
+        ensures bad { IfOk result (λ b. (h : Hearing) → counted h ≡ count_of self.old → b ≡ is_faulty (word_verdict h.next (word_by word.entry))) }
+        ensures left { OnOk result ((h : Hearing) → counted h ≡ count_of self.old → counted (heard_then h (respond_word h.next (word_by word.entry))) ≡ count_of self.new) }
+    {
+        let counting = count_word(alloc, &self.next, self.joined, word)?;
+        let is_bad = counting.is_bad();
+        self.next = counting.next;
+        self.joined = counting.joined;
+        self.closes = self.closes || counting.closes;
+        if self.reply.is_none() {
+            self.reply = counting.reply;
+        }
+        Ok(is_bad)
+    }
+}
+
+/// What the units of a TSDU leave, one after the other: the first unit acts after those behind it, and
+/// does not act where one of these is an RS. A bad unit is the last that acts.
+fn count_all(
+    alloc: Global,
+    state: &State,
+    joined: Option<usize>,
+    group: &Group,
+) -> Result<Counting, AllocError>
+    ensures { IfOk result (λ c. CountsAll state.now joined (said_by_units (units_of group.now)) (count_of c)) }
+{
+    let first = Word::of(group.first());
+    let mut behind = group.behind();
+    let mut counting = Counting::none(state, joined);
+    let mut restarts = false;
+    'units: while let Some(unit) = behind.next() {
+        let word = Word::of(&unit);
+        restarts = either(restarts, word.is_restart());
+        let is_bad = counting.then(alloc, word)?;
+        if is_bad {
+            return Ok(counting);
+        }
+    }
+    if restarts {
+        return Ok(counting);
+    }
+    let _is_bad = counting.then(alloc, first)?;
+    Ok(counting)
+}
+
+/// What the octets of a TSDU leave.
+#[tactic(auto, unfolding(osi_message::specs::Reading::said_at))]
+pub(crate) fn count_tsdu(
+    alloc: Global,
+    state: &State,
+    joined: Option<usize>,
+    tsdu: &[u8],
+) -> Result<Counting, AllocError>
+    ensures { IfOk result (λ c. CountsCame state.now joined (said_at tsdu.now) (count_of c)) }
+{
+    match read_tsdu(tsdu) {
+        Ok(group) => count_all(alloc, state, joined, &group),
+        Err(fault) => Ok(Counting::of(unread(state, fault), joined)),
+    }
+}

@@ -1,0 +1,273 @@
+//! One side of a session as what passes shows it.
+
+ghost use Rattle.std.specs.Prelude.{◌≡◌, ◌≢◌, [], MatchBool, ◌+◌, ◌||◌, true, not, is_none, unwrap_or, IfOk};
+ghost use Rattle.osi_message.specs.Reading.{word};
+ghost use Rattle.osi_session.specs.Standing.{Seen, seen_called, seen_calling, listens, Takes, after_count, answers, answers_word, goes, said, said_within, parting, SaysAs};
+ghost use Rattle.osi_session.specs.Joining.{begins_anew};
+ghost use Rattle.osi_session.specs.Sound.{IsSound};
+ghost use Rattle.osi_session.specs.Steps.{reply_of, word_by};
+ghost use Rattle.osi_session.specs.Taking.{count_taken};
+ghost use Rattle.osi_message.specs.Meanings.{AB, meant_by};
+ghost use Rattle.osi_message.specs.Words.{says};
+ghost use Rattle.osi_spdu.specs.Units.{said_by};
+
+use crate::breaches::Breach;
+use crate::counting::{behind_part, count_tsdu, total};
+use crate::faults::CallError;
+use crate::hearing::begins_anew;
+use crate::phases::Phase;
+use crate::reactions::Reply;
+use crate::saying::{is_in_size, may_send, said_message, stands_in_place};
+use crate::sizes::limit_of;
+use crate::state::State;
+use crate::taking::has_no_effect;
+use crate::words::Word;
+use osi_message::{Message, Place};
+use osi_spdu::Spdu;
+use std::alloc::{AllocError, Global};
+use std::marker::Model;
+
+/// The bit of an AB of a user.
+const BY_USER: u8 = 0x02;
+
+/// One side of a session as what passes shows it (X.225 version 2), without user data: what it knows, how
+/// much it has joined of the peer's unfinished SSDU, how much it has sent of its own, and whether it has
+/// closed the transport connection by itself.
+#[derive(Clone, Copy)]
+pub struct Standing {
+    state: State,
+    joined: Option<usize>,
+    sent: Option<usize>,
+    closed: bool,
+}
+
+impl Model for Standing {
+    ghost use Rattle.osi_session.specs.Standing.{Seen};
+    ghost use Rattle.osi_session.specs.Sound.{IsSound};
+
+    ghost Value = { Seen };
+
+    ghost view = { λ s. record { state = s.state; joined = s.joined; sent = s.sent; closed = s.closed } };
+
+    ghost inverse = { λ s. record { state = s.state; joined = s.joined; sent = s.sent; closed = s.closed } };
+
+    ghost invariant = { λ s. IsSound s.state };
+}
+
+/// What a side that takes a TSDU comes to, and what it sends at once.
+#[derive(Clone, Copy)]
+pub struct Taking {
+    /// How it stands then.
+    pub next: Standing,
+    /// What it sends in answer, before anything else.
+    pub reply: Option<Reply>,
+}
+
+/// Whether two counts are one.
+fn is_same_count(one: Option<usize>, other: Option<usize>) -> bool
+    ensures { MatchBool result (one ≡ other) (one ≢ other) }
+{
+    match (one, other) {
+        (None, None) => true,
+        (Some(one), Some(other)) => one == other,
+        _ => false,
+    }
+}
+
+impl Reply {
+    /// Whether a unit that was said is this answer: an RF with any reason, an AB with any bits but that of
+    /// the user, or AA (X.225 sections 8.3.5, 8.3.9, 8.3.10).
+    pub fn is_said_by(self, unit: &Spdu) -> bool
+        ensures { result ≡ answers_word (reply_of self) (word (said_by unit.now)) }
+    {
+        match Word::of(unit) {
+            Word::Says(message) => self.is_meant_by(&message),
+            Word::Part(..) => false,
+        }
+    }
+
+    fn is_meant_by(self, message: &Message) -> bool
+        ensures { result ≡ answers (reply_of self) (meant_by message.now) }
+    {
+        match self {
+            Reply::VersionNotSupported | Reply::ImplementationRestriction => {
+                matches!(message, Message::Refuse { .. })
+            }
+            Reply::ProtocolError => is_providers_abort(message),
+            Reply::AbortAccept => matches!(message, Message::AbortAccept),
+        }
+    }
+}
+
+/// Whether a message is an AB that is not the user's.
+fn is_providers_abort(message: &Message) -> bool
+    ensures { result ≡ answers (AB 5 []) (meant_by message.now) }
+{
+    match message {
+        Message::Abort {
+            transport_disconnect,
+            ..
+        } => transport_disconnect & BY_USER != BY_USER,
+        _ => false,
+    }
+}
+
+impl Standing {
+    /// Whether this is the other standing.
+    pub fn is_same(&self, other: &Standing) -> bool
+        ensures { MatchBool result (self.now ≡ other.now) (self.now ≢ other.now) }
+    {
+        if !self.state.is_same(&other.state) {
+            return false;
+        }
+        if !is_same_count(self.joined, other.joined) {
+            return false;
+        }
+        if !is_same_count(self.sent, other.sent) {
+            return false;
+        }
+        self.closed == other.closed
+    }
+
+    /// The called side, which awaits a CN.
+    #[tactic(auto, using(crate::proofs::SessionLaws::awaiting_sound))]
+    pub fn called() -> Standing
+        ensures { result ≡ seen_called }
+    {
+        Standing {
+            state: State::AWAITING,
+            joined: None,
+            sent: None,
+            closed: false,
+        }
+    }
+
+    /// The calling side, whose transport connection is there, before its CN.
+    #[tactic(auto, using(crate::proofs::SayingLaws::calling_sound))]
+    pub fn calling() -> Standing
+        ensures { result ≡ seen_calling }
+    {
+        Standing {
+            state: State {
+                phase: Phase::WaitTransport,
+                is_caller: true,
+                ..State::AWAITING
+            },
+            joined: None,
+            sent: None,
+            closed: false,
+        }
+    }
+}
+
+impl Standing {
+    /// A TSDU of the peer that is taken: what the session does that stands so, whatever octets are joined. It
+    /// is no matter where the CN was not yet said, or behind a close by itself: nothing is taken there.
+    /// `Err` changes nothing.
+    pub fn take(&self, alloc: Global, tsdu: &[u8]) -> Result<Taking, AllocError>
+        requires { listens self.now ≡ true }
+        ensures counted { IfOk result (λ t. Takes self.now tsdu.now (count_taken t)) }
+        ensures sent { IfOk result (λ t. t.next ≡ after_count self.now (count_taken t)) }
+    {
+        let counting = count_tsdu(alloc, &self.state, self.joined, tsdu)?;
+        let is_kept = counting.next.phase.may_hold();
+        Ok(Taking {
+            next: Standing {
+                state: counting.next,
+                joined: counting.joined,
+                sent: if is_kept { self.sent } else { None },
+                closed: counting.closes,
+            },
+            reply: counting.reply,
+        })
+    }
+
+    /// Whether a TSDU of the peer may be taken: the CN was said or is awaited, and the transport connection
+    /// was not closed.
+    pub fn listens(&self) -> bool
+        ensures { result ≡ listens self.now }
+    {
+        !(self.closed || self.state.phase.is_wait_transport())
+    }
+
+    /// How it stands with another state, by whose phase an unfinished SSDU is kept or dropped.
+    fn goes(&self, next: State) -> Standing
+        requires { IsSound next }
+        ensures { result ≡ goes self.now next }
+    {
+        let is_kept = next.phase.may_hold();
+        Standing {
+            state: next,
+            joined: if is_kept { self.joined } else { None },
+            sent: if is_kept { self.sent } else { None },
+            closed: self.closed,
+        }
+    }
+
+    /// A unit of a TSDU of so many octets that this side says: how it stands then, or why no session that
+    /// stands so says it.
+    #[tactic(auto, unfolding(crate::specs::Standing::said))]
+    pub fn say(&self, unit: &Spdu, tsdu_octets: usize) -> Result<Standing, Breach>
+        ensures { SaysAs result (said self.now (word (said_by unit.now)) tsdu_octets) }
+    {
+        if self.closed {
+            return Err(Breach::Call(CallError::Ended));
+        }
+        let next = self.say_word(Word::of(unit))?;
+        if !is_in_size(&self.state, tsdu_octets) {
+            return Err(Breach::Call(CallError::TooLong));
+        }
+        Ok(next)
+    }
+
+    fn say_word(&self, word: Word) -> Result<Standing, Breach>
+        ensures { SaysAs result (said_within self.now (word_by word.entry)) }
+    {
+        match word {
+            Word::Says(message) => self.say_message(&message),
+            Word::Part(place, user_data) => self.say_part(place, user_data.len()),
+        }
+    }
+
+    /// A message. Within an unfinished SSDU none that begins anew.
+    #[tactic(auto, using(crate::proofs::SayingLaws::message_sound))]
+    fn say_message(&self, message: &Message) -> Result<Standing, Breach>
+        ensures { SaysAs result (said_within self.now (says (meant_by message.now))) }
+    {
+        if has_no_effect(message) {
+            return Ok(*self);
+        }
+        let next = said_message(&self.state, message)?;
+        if self.is_misplaced(message) {
+            return Err(Breach::BadEnclosure);
+        }
+        Ok(self.goes(next))
+    }
+
+    /// Whether a message begins anew within an unfinished SSDU of this side.
+    fn is_misplaced(&self, message: &Message) -> bool
+        ensures { result ≡ not (is_none self.now.sent || not (begins_anew (meant_by message.now))) }
+    {
+        match self.sent {
+            None => false,
+            Some(_) => begins_anew(message).is_some(),
+        }
+    }
+
+    /// A part of one Data, with so many octets.
+    fn say_part(&self, place: Place, octets: usize) -> Result<Standing, Breach>
+        ensures { SaysAs result (parting self.now place (unwrap_or self.now.sent 0 + octets)) }
+    {
+        let Some(total) = total(self.sent, octets) else {
+            return Err(Breach::Call(CallError::TooLong));
+        };
+        may_send(&self.state, total)?;
+        if !stands_in_place(self.sent, place) || limit_of(&self.state) == 0 {
+            return Err(Breach::BadEnclosure);
+        }
+        Ok(Standing {
+            sent: behind_part(place, total),
+            ..*self
+        })
+    }
+}
