@@ -1,3 +1,4 @@
 pub mod Fields
 pub mod Joining
 pub mod Listings
+pub mod OneListing

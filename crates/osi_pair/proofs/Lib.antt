@@ -68,3 +68,6 @@ pub mod StandingRefusal
 pub mod StandingConnect
 pub mod StandingEvent
 pub mod Reaching
+pub mod CarriedInRoom
+pub mod SameCarry
+pub mod SameEvents

@@ -18,9 +18,9 @@ left_over Right c o from used is =
     ∙ ap (λ (n : ℕ). within (reach_after Right used o) Right n) (length-drop used from.end.carrier.outgoing) ∙ within_less Right o used (length from.end.carrier.outgoing)
 
 -- two ends behind pieces of so many octets
-record SoFar (f : Side) (p : TwoEnds) (steps : List Step) (most octets : ℕ) (new : Crossing) : Type 0 where
-  stands : StandsAtArrivals (other f) (crossed f new (reach_after f octets p.reach)) steps
-  left : most - octets ≤ reachable f (crossed f new (reach_after f octets p.reach))
+pub record SoFar (f : Side) (p : TwoEnds) (steps : List Step) (most octets : ℕ) (new : Crossing) : Type 0 where
+  pub stands : StandsAtArrivals (other f) (crossed f new (reach_after f octets p.reach)) steps
+  pub left : most - octets ≤ reachable f (crossed f new (reach_after f octets p.reach))
 
 -- one piece more, at an end that lasts or not
 piece_then : PieceLaws → (f : Side) (q : TwoEnds) (steps : List Step) (most used : ℕ) (new : Crossing) (o : Option EndReason) → (end_at (other f) q).end.carrier.ended ≡ o →
@@ -34,7 +34,7 @@ piece_then laws f q steps most used new (Some why) e x le c = record {
   stands = piece_over laws f q (steps ++ x.more) most used new why x.stands e le c;
 }
 
-pieces_stand : PieceLaws → (f : Side) (p : TwoEnds) (steps : List Step) (most : ℕ) (pieces : List ℕ) (new : Crossing) → StandsAt p steps → most ≤ reachable f p →
+pub pieces_stand : PieceLaws → (f : Side) (p : TwoEnds) (steps : List Step) (most : ℕ) (pieces : List ℕ) (new : Crossing) → StandsAt p steps → most ≤ reachable f p →
     CarriesPieces (other f) most pieces (crossing f p) new → SoFar f p steps most (sum pieces) new
 pieces_stand laws f p steps most [] new at le c =
     let same : crossed f new (reach_after f 0 p.reach) ≡ p = ap (λ (d : Crossing). crossed f d (reach_after f 0 p.reach)) c ∙ ap (crossed f (crossing f p)) (none_less f p.reach) ∙ crossed_same f p in
@@ -79,6 +79,9 @@ pub record CarryLaws : Type 0 where
   pub sound : (terms : Terms) (end : Bool) (both : Both) (b : Between) (at : ℕ) (fault : TpktFault) → AreBetween terms both b →
       (side end both).state.ended ≡ None → IsFaultOf at (side end both).held fault → ⊥
 
+pub piece_laws : CarryLaws → PieceLaws
+piece_laws laws = grind (arith, taken_laws, few_wait)
+
 pub carries_stand : CarryLaws → (f : Side) (most : ℕ) (p : TwoEnds) (octets : ℕ) (new : TwoEnds) (steps : List Step) → StandsAt p steps → CarriesFrom f most p octets new →
     StandsAtArrivals (other f) new steps
-carries_stand laws = carry_at (grind (arith, taken_laws, few_wait))
+carries_stand laws = carry_at (piece_laws laws)

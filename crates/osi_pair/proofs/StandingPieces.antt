@@ -1,5 +1,5 @@
 -- Pieces of the stream that are fed to an end one after the other, and what comes of them is shown.
-use Rattle.std.proofs.Common.{◌≡◌, ℕ, zero, suc, ◌+◌, ◌-◌, ◌≤◌, ◌⊎◌, inl, inr, Bool, true, false, ◌||◌, List, [], ◌∷◌, ◌++◌, length, take, drop, Option, Some, None, is_some, refl, sym, ap, subst, ◌∙◌, if◌then◌else◌, arith}
+use Rattle.std.proofs.Common.{◌≡◌, ℕ, zero, suc, ◌+◌, ◌-◌, ◌≤◌, ◌⊎◌, inl, inr, Bool, true, false, List, [], ◌∷◌, ◌++◌, length, take, drop, Option, Some, None, is_some, refl, sym, ap, subst, ◌∙◌, if◌then◌else◌, arith}
 use Rattle.osi_carrier.specs.Packets as carriers
 use Rattle.osi_carrier.specs.State as states
 use Rattle.osi_stack.specs.Feeding.{Goes}
@@ -25,7 +25,7 @@ pub record PieceLaws : Type 0 where
 
 -- ---- lists
 
-take_less : {A : Type 0} (k m : ℕ) (xs : List A) → k ≤ m → take k (take m xs) ≡ take k xs
+pub take_less : {A : Type 0} (k m : ℕ) (xs : List A) → k ≤ m → take k (take m xs) ≡ take k xs
 take_less (suc k) (suc m) (x ∷ xs) le = ap (λ l. x ∷ l) (take_less k m xs (omega arith))
 take_less k m xs le = grind arith
 
@@ -59,14 +59,14 @@ less_shown Right p k e h g =
 
 -- ---- what is handed over first
 
-abbrev more_held : Side → ℕ → TwoEnds → Held
+abbrev pub more_held : Side → ℕ → TwoEnds → Held
 more_held f k p = record (end_at (other f) p).held { octets = (end_at (other f) p).held.octets ++ take k (end_at f p).end.carrier.outgoing }
 
-handed_there : (f : Side) (k : ℕ) (h : Held) (p : TwoEnds) → end_at (other f) (handed f k h p) ≡ record { end = (end_at (other f) p).end; held = h }
+pub handed_there : (f : Side) (k : ℕ) (h : Held) (p : TwoEnds) → end_at (other f) (handed f k h p) ≡ record { end = (end_at (other f) p).end; held = h }
 handed_there f k h p = grind arith
 
 -- packets of what is held then
-packed : PieceLaws → (f : Side) (p : TwoEnds) (steps : List Step) (k : ℕ) (octets : List ℕ) (units : List (List ℕ)) (mid : End) (rest : Held) → StandsAt p steps →
+pub packed : PieceLaws → (f : Side) (p : TwoEnds) (steps : List Step) (k : ℕ) (octets : List ℕ) (units : List (List ℕ)) (mid : End) (rest : Held) → StandsAt p steps →
     (end_at (other f) p).end.carrier.ended ≡ None → k ≤ reachable f p → octets ≡ take k (end_at f p).end.carrier.outgoing → TakesPackets (end_at (other f) p).end units mid →
     ArePackets units ((end_at (other f) p).held.octets ++ octets) rest.octets → StandsFew (other f) (handed f k (more_held f k p) p) steps mid rest
 packed laws f p steps k octets units mid rest at alive le is taken packets =

@@ -13,3 +13,4 @@ pub mod Standing
 pub mod Promises
 pub mod Reached
 pub mod Advancing
+pub mod SameEnds

@@ -11,9 +11,12 @@ ghost use Rattle.osi_stack.specs.declared.connecting.Connect.{Connect};
 ghost use Rattle.osi_pair.specs.Asked.{asked_of, CanBeAsked};
 ghost use Rattle.osi_pair.specs.Carrying.{CarriesFrom};
 ghost use Rattle.osi_pair.specs.Ends.{TwoEnds, end_at, fresh_ends, after_connect, after_call, after_break};
-ghost use Rattle.osi_pair.specs.Events.{TellsBreak};
+ghost use Rattle.osi_pair.specs.Events.{Does, TellsBreak};
+ghost use Rattle.osi_pair.specs.Reached.{IsReached};
+ghost use Rattle.osi_pair.specs.SameEnds.{AreSameEnds, FoundMemory};
 ghost use Rattle.osi_pair.specs.Sides.{other};
 ghost use Rattle.osi_pair.specs.Standing.{side_in, offer_in, StandsAt, StandsAtArrivals, StandsAtBreak, StandsAtTold};
+ghost use Rattle.osi_pair.specs.declared.events.Event.{Event};
 ghost use Rattle.osi_pair.specs.declared.sides.Side.{Side};
 
 use osi_between::laws::{
@@ -80,9 +83,13 @@ pub fn how_two_ends_are_called()
 /// Where two ends stand at a list of steps, and octets of a side are carried, however many and wherever they are
 /// cut, they stand at that list followed by deliveries to the other side: one for each message that arrives, and none
 /// for a part of one. Where that side finds no memory its end follows.
+///
+/// What as many octets do is the same, wherever they are cut into pieces, unless a side ends for want of memory.
 pub fn how_two_ends_carry()
     ensures carries { (side : Side) (most : ℕ) (old new : TwoEnds) (octets : ℕ) (steps : List Step) → StandsAt old steps →
         CarriesFrom side most old octets new → StandsAtArrivals (other side) new steps }
+    ensures once { (side : Side) (most : ℕ) (p q a b : TwoEnds) (octets : ℕ) → IsReached p → IsReached q → AreSameEnds p q →
+        CarriesFrom side most p octets a → CarriesFrom side most q octets b → FoundMemory a → FoundMemory b → AreSameEnds a b }
 {
     whatever_becomes_of_two_carriers();
     what_two_carriers_have();
@@ -106,4 +113,15 @@ pub fn how_two_ends_carry()
     data_is_no_fault_behind();
     who_is_left_is_over();
     what_two_tables_tell();
+}
+
+/// An event does one thing. Where nobody can tell two pairs of ends apart, and the same event happens to both and
+/// carries as many octets, nobody can tell them apart afterwards, unless a side has ended for want of memory: their
+/// connections, their octets and their journals are the same. Only the room that a side keeps ready for the octets of
+/// a packet may differ.
+pub fn an_event_does_one_thing()
+    ensures { (event : Event) (p q a b : TwoEnds) (octets : ℕ) → IsReached p → IsReached q → IsReached a → IsReached b → AreSameEnds p q →
+        Does event p octets a → Does event q octets b → FoundMemory a → FoundMemory b → AreSameEnds a b }
+{
+    how_two_ends_carry();
 }

@@ -1,6 +1,7 @@
 use Rattle.osi_pair.proofs.StandingAhead.{TakeLaws}
 use Rattle.osi_pair.proofs.StandingAnswering.{AnswerLaws}
-use Rattle.osi_pair.proofs.StandingCarried.{carries_stand}
+use Rattle.osi_pair.proofs.SameCarry.{same_carry}
+use Rattle.osi_pair.proofs.StandingCarried.{CarryLaws, carries_stand}
 use Rattle.osi_pair.proofs.StandingMoved.{MovingLaws}
 use Rattle.osi_pair.proofs.StandingPacket.{PacketLaws}
 use Rattle.osi_pair.proofs.StandingStarved.{StarveLaws}
@@ -56,11 +57,13 @@ returns c =
       late = c.what_two_tables_tell.ensures.lost;
       takes = takes;
     } in
+    let carrying : CarryLaws = record {
+      packet = packet_stands moves answers starving;
+      few = record { packets = packets; starved = c.what_an_end_holds.ensures.starved; acts = c.what_an_end_holds.ensures.acts };
+      carried = c.whatever_becomes_of_two_carriers.ensures.carried;
+      sound = c.what_an_end_holds.ensures.sound;
+    } in
     record {
-      carries = λ side most old new octets. carries_stand (record {
-        packet = packet_stands moves answers starving;
-        few = record { packets = packets; starved = c.what_an_end_holds.ensures.starved; acts = c.what_an_end_holds.ensures.acts };
-        carried = c.whatever_becomes_of_two_carriers.ensures.carried;
-        sound = c.what_an_end_holds.ensures.sound;
-      }) side most old octets new;
+      carries = λ side most old new octets. carries_stand carrying side most old octets new;
+      once = same_carry carrying;
     }

@@ -1,0 +1,5 @@
+use Rattle.osi_pair.proofs.SameEvents.{same_event}
+use Rattle.osi_pair.proofs.standing.an_event_does_one_thing.Goals as goal
+
+pub returns : goal.returns
+returns c = same_event c.how_two_ends_carry.ensures.once
