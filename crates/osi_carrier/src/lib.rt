@@ -1,6 +1,28 @@
-//! The transport protocol (X.224, classes 0 and 2) of one end of a byte connection, as a value: many
-//! connections by reference, each with TSDUs each way. It is told of each call of its user and of
-//! the octets that come, and tells what happened and which octets are to be carried to the peer.
+//! The transport protocol of X.224, classes 0 and 2, at one end of a byte connection, as a value.
+//!
+//! A [`Carrier`] carries TSDUs for many connections over one stream of octets. Its user asks for a
+//! connection, sends TSDUs and closes; the octets that come are fed in whatever pieces they come; and it
+//! tells [`Event`]s: a connection was opened, refused or closed, a TSDU came whole, a peer broke a rule.
+//!
+//! ```text
+//! let mut carrier = Carrier::caller(alloc, local);
+//! let reference = carrier.connect(None, None)?;
+//! let fed = carrier.feed(piece);                // stops after a packet that tells something
+//! while let Some(event) = carrier.next_event() {
+//!     // Event::Opened(reference): carrier.send(reference, tsdu)?
+//! }
+//! // what is to be carried: carrier.outgoing(), and carrier.taken(count)
+//! ```
+//!
+//! A connection goes by a [`Ref`], the number that this end gave it. In class 0 a byte connection has one
+//! connection; in class 2 it has up to 64, and what a connection's credit holds back waits with it.
+//!
+//! `react` (`specs/React.antt`) says what one unit does to the state of a carrier; `Feeds` what a piece
+//! does. The laws say that one unit changes one connection, that references rise and are never given
+//! twice, and that the pieces do not matter.
+//!
+//! What it leaves to others: packets (`osi_tpkt`), how units are spelled (`osi_tpdu`), negotiation, and how
+//! TSDUs are cut into data units under credit (`osi_class`). It knows nothing of sessions.
 #![tactic(auto)]
 
 mod carrier;

@@ -1,6 +1,23 @@
-//! Two ends of one byte connection, and what is carried between them: user calls, octets carried in any
-//! number, and a break at any octet. The journal keeps what the users asked for, what they were
-//! answered and what they were shown.
+//! Two ends of one byte connection, and the theorem about them.
+//!
+//! A [`Pair`] holds two `Stack`s, Left a caller and Right a called one, and moves octets from one to the
+//! other as it is told: any number at a time, with a break at any octet. Its journal keeps what the users
+//! asked for, what they were answered and what they were shown.
+//!
+//! ```text
+//! let mut pair = Pair::new(alloc, left, right);
+//! pair.apply(&Event::Connect(asked))?;
+//! pair.apply(&Event::Carry(Side::Left, 7))?;     // seven octets go over, half a header
+//! pair.apply(&Event::Break(0, 3))?;              // three octets of the right side can still be carried
+//! pair.journal();                                // what the two users did and saw
+//! ```
+//!
+//! The contracts of [`Pair::apply`], [`Pair::journal`] and [`Pair::stack`] are the promises: after each
+//! event of every list, the journal is one of the machine of whole messages (`osi_machine`), no token is
+//! held by both, points that both have seen agree, and neither end calls something of the other's a fault.
+//!
+//! The program `osi pair` plays scripts on it (`osi_transcript`). It is no part of a gateway: that holds a
+//! `Stack` and a socket.
 #![tactic(auto)]
 
 mod asking;

@@ -1,10 +1,27 @@
-//! Packets on a byte stream: the TPKT of RFC 1006 section 6, in which OSI transport units travel
-//! over TCP.
+//! Packets on a byte stream: the TPKT of RFC 1006 section 6, in which the transport units of X.224 travel
+//! over TCP. A packet is the octet 3, a reserved octet, the length of the whole packet in two octets, and
+//! a transport unit.
 //!
-//! A [`Cutter`] is fed the octets of a stream in whatever pieces they come and gives the packets,
-//! one at a time. [`write_packet`] appends a packet to a buffer. [`Unit`] is what a grammar of units
-//! offers, here and in the crates above: reading that borrows its input and takes no memory,
-//! writing, and the relation of which octets spell which value. [`Packet`] is its first grammar.
+//! A [`Cutter`] is fed the octets of a stream in whatever pieces they come and gives the packets, one at
+//! a time. [`write_packet`] appends a packet to a buffer.
+//!
+//! ```text
+//! let mut cutter = Cutter::new(alloc);
+//! let fed = cutter.feed(piece)?;                 // fed.used octets of the piece were used
+//! if let Some(unit) = cutter.packet() {          // fed.whole says whether a packet is there
+//!     // read it, for example by `read_units` of `osi_tpdu`
+//!     cutter.advance();
+//! }
+//! ```
+//!
+//! A fault names its place in the stream: [`TpktFault`]. After one, each further call answers the same.
+//!
+//! [`Unit`] is what a grammar of units offers, here and in the crates above: reading that borrows its
+//! input and takes no memory, writing, and the relation of which octets spell which value. [`Packet`] is
+//! its first grammar.
+//!
+//! The laws ([`mod@laws`]) say that a stream is packets in exactly one way, and that the pieces in which it
+//! comes do not matter.
 #![tactic(auto)]
 
 mod cutting;
