@@ -14,7 +14,7 @@ ghost use Rattle.osi_spdu.specs.Groups.{units_of};
 
 use crate::calling::MOST_DATA;
 use crate::faults::UnitFault;
-use crate::grouping::{either, unread};
+use crate::grouping::{either, judge_unread};
 use crate::hearing::take_message;
 use crate::joining::{PartVerdict, judge_part};
 use crate::reactions::{Reaction, Reply};
@@ -216,6 +216,6 @@ pub(crate) fn count_tsdu(
 {
     match read_tsdu(tsdu) {
         Ok(group) => count_all(alloc, state, joined, &group),
-        Err(fault) => Ok(Counting::of(unread(state, fault), joined)),
+        Err(fault) => Ok(Counting::of(judge_unread(state, fault), joined)),
     }
 }
