@@ -33,7 +33,7 @@ done number line c event old new before after read is h = record {
   text = event_text event (carried_by event old) ++ new_texts old new;
   says = h.says ∙ append_assoc before (event_text event (carried_by event old)) (new_texts old new);
   plays = λ lines more status rest. plays_event number line c event lines old ((event_text event (carried_by event old) ++ new_texts old new) ++ more) status read is
-      (inl (new, more, h.fits, h.does, refl, rest));
+      (inl (new, more, h.applied, refl, rest));
 }
 
 pub failed : (number : ℕ) (line : List ℕ) (c : Command) (event : Event) (old : TwoEnds) (before after : List ℕ) →
@@ -113,23 +113,19 @@ played_all all old before lines new said after h none says = record {
 
 pub goes_behind : (b : Bool) (number : ℕ) (line : List ℕ) (old : TwoEnds) (before : List ℕ) (new : TwoEnds) (after : List ℕ) → b ≡ true →
     PlaysOne b number line old before new after → GoesBehind number line old before new after
-goes_behind true number line old before new after e h = h
-goes_behind false number line old before new after e h = cc
+goes_behind b number line old before new after e h = subst (λ (x : Bool). PlaysOne x number line old before new after) e h
 
 pub stops_at : (b : Bool) (number : ℕ) (line : List ℕ) (old : TwoEnds) (before : List ℕ) (new : TwoEnds) (after : List ℕ) → b ≡ false →
     PlaysOne b number line old before new after → StopsAtLine number line old before after
-stops_at true number line old before new after e h = cc
-stops_at false number line old before new after e h = h
+stops_at b number line old before new after e h = subst (λ (x : Bool). PlaysOne x number line old before new after) e h
 
 pub event_goes : (b : Bool) (number : ℕ) (event : Event) (old : TwoEnds) (before : List ℕ) (new : TwoEnds) (after : List ℕ) → b ≡ true →
     PlaysEvent b number event old before new after → DoesEvent event old before new after
-event_goes true number event old before new after e h = h
-event_goes false number event old before new after e h = cc
+event_goes b number event old before new after e h = subst (λ (x : Bool). PlaysEvent x number event old before new after) e h
 
 pub event_stops : (b : Bool) (number : ℕ) (event : Event) (old : TwoEnds) (before : List ℕ) (new : TwoEnds) (after : List ℕ) → b ≡ false →
     PlaysEvent b number event old before new after → FailsEvent number event old before after
-event_stops true number event old before new after e h = cc
-event_stops false number event old before new after e h = h
+event_stops b number event old before new after e h = subst (λ (x : Bool). PlaysEvent x number event old before new after) e h
 
 -- ---- a whole script
 

@@ -4,6 +4,8 @@ use Rattle.osi_class.specs.declared.terms.Local.{Local}
 use Rattle.osi_tpdu.specs.Limits.{size_code, window_units}
 use Rattle.osi_pair.specs.Ends.{TwoEnds, fresh_ends, reachable}
 use Rattle.osi_pair.specs.Events.{misfit, Does}
+use Rattle.osi_pair.specs.Reached.{IsReached}
+use Rattle.osi_pair.specs.SameEnds.{FoundMemory}
 use Rattle.osi_pair.specs.declared.events.Event.{Event}
 use Rattle.osi_pair.specs.declared.events.Event.TheVariants as event
 use Rattle.osi_pair.specs.declared.faults.PairError.{PairError}
@@ -46,6 +48,14 @@ abbrev pub fault_of : Option PairError → Option LineFault
 fault_of None = None
 fault_of (Some error) = fault_by error
 
+-- An event that fits is applied whole, and no side has ended for want of memory. The two ends stand then at steps of
+-- the machine, as those of every pair do.
+pub record IsApplied (event : Event) (old new : TwoEnds) : Type 0 where
+  pub fits : misfit event old ≡ None
+  pub does : Does event old (carried_by event old) new
+  pub memory : FoundMemory new
+  pub reached : IsReached new
+
 -- ---- the end of a script
 
 -- all lines were read: the last lines say where connections stand
@@ -77,7 +87,7 @@ Rest = TwoEnds → List ℕ → ℕ → Type 0
 -- an event that fits is applied, and the rest of the lines follows; or it does not fit
 abbrev pub Applies : ℕ → Event → Rest → TwoEnds → List ℕ → ℕ → Type 0
 Applies number event rest p text status =
-    ((new : TwoEnds) × (more : List ℕ) × (misfit event p ≡ None) × Does event p (carried_by event p) new
+    ((new : TwoEnds) × (more : List ℕ) × IsApplied event p new
     × (text ≡ event_text event (carried_by event p) ++ new_texts p new ++ more) × rest new more status)
     ⊎ FailsAt number event p text status
 

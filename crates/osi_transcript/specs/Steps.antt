@@ -1,14 +1,12 @@
 -- What one line of a script does, and what the lines read so far did.
-use Rattle.std.specs.Prelude.{◌≡◌, ℕ, Bool, true, false, List, ◌∷◌, ◌++◌, None}
+use Rattle.std.specs.Prelude.{◌≡◌, ℕ, Bool, true, false, List, ◌∷◌, ◌++◌}
 use Rattle.osi_pair.specs.Ends.{TwoEnds}
-use Rattle.osi_pair.specs.Events.{misfit, Does}
 use Rattle.osi_pair.specs.declared.events.Event.{Event}
-use Rattle.osi_transcript.specs.Playing.{Lines, FailsAt, Plays, carried_by, event_text, new_texts}
+use Rattle.osi_transcript.specs.Playing.{Lines, IsApplied, FailsAt, Plays, carried_by, event_text, new_texts}
 
 -- an event that fits is applied, and the text says what comes of it
 pub record DoesEvent (event : Event) (old : TwoEnds) (before : List ℕ) (new : TwoEnds) (after : List ℕ) : Type 0 where
-  pub fits : misfit event old ≡ None
-  pub does : Does event old (carried_by event old) new
+  pub applied : IsApplied event old new
   pub says : after ≡ before ++ event_text event (carried_by event old) ++ new_texts old new
 
 -- an event does not fit, and the text says so

@@ -3,6 +3,7 @@
 
 pub mod asking;
 mod entries;
+pub mod laws;
 mod playing;
 mod standings;
 mod transcripts;

@@ -1,6 +1,8 @@
 //! The lines of a script behind the first, one after the other.
 
-ghost use Rattle.std.specs.Prelude.{◌≡◌, ◌<◌, ◌++◌, OnOk, IfOk};
+ghost use Rattle.std.specs.Prelude.{◌≡◌, ◌≢◌, ◌<◌, ◌++◌, false, Some, OnOk, IfOk, MatchBool};
+ghost use Rattle.osi_pair.specs.Reached.{IsReached};
+ghost use Rattle.osi_pair.specs.SameEnds.{FoundMemory};
 ghost use Rattle.osi_transcript.specs.Walks.{lines_in, IsSmall};
 ghost use Rattle.osi_transcript.specs.Playing.{event_text, fault_by};
 ghost use Rattle.osi_transcript.specs.Steps.{PlaysEvent, PlaysOne, PlaysAll};
@@ -9,8 +11,10 @@ use crate::asking::{event_of, named};
 use crate::entries::push_entries;
 use crate::standings::push_standings;
 use crate::walks::Walk;
-use osi_pair::{Applied, Event, Pair, PairError};
+use osi_carrier::EndReason;
+use osi_pair::{Applied, Event, Pair, PairError, Side};
 use osi_script::{Answer, Line, LineFault, push_answer};
+use osi_stack::Stack;
 use std::alloc::{AllocError, Global};
 
 /// The answer to an event, where its entry in the journal does not say it.
@@ -48,8 +52,24 @@ fn fault(error: PairError) -> Option<LineFault>
     }
 }
 
-/// Applies an event, and adds what comes of it. Says whether it fits. A carry that is cut short for want
-/// of memory is no line of a transcript.
+/// Whether a side has ended for want of memory.
+#[tactic(auto, using(crate::proofs::Texts::found_memory))]
+fn has_starved(pair: &Pair) -> bool
+    ensures found { result ≡ false → FoundMemory pair.now }
+    ensures reached { IsReached pair.now }
+{
+    is_starved(pair.stack(Side::Left)) || is_starved(pair.stack(Side::Right))
+}
+
+/// Whether an end has ended for want of memory.
+fn is_starved(stack: &Stack) -> bool
+    ensures { MatchBool result (stack.now.end.carrier.ended ≡ Some EndReason.NoMemory) (stack.now.end.carrier.ended ≢ Some EndReason.NoMemory) }
+{
+    matches!(stack.ended(), Some(EndReason::NoMemory))
+}
+
+/// Applies an event, and adds what comes of it. Says whether it fits. Where memory runs out there is no
+/// transcript: also where a carry is cut short by that, or a side has ended by it.
 fn play_event(
     alloc: Global,
     out: &mut Vec<u8>,
@@ -63,6 +83,9 @@ fn play_event(
     match pair.apply(event) {
         Ok(applied) => {
             if applied.is_cut_short {
+                return Err(AllocError);
+            }
+            if has_starved(pair) {
                 return Err(AllocError);
             }
             push_event(alloc, out, event, applied)?;
