@@ -49,7 +49,7 @@ fn named(sizes: Sizes) -> String {
 
 /// The words of an indication in a transcript (docs/TOOL.md).
 fn words(indication: &Indication<&[u8]>) -> String {
-    let data = hex(indication.user_data().unwrap_or(&b"".as_slice()));
+    let data = hex(indication.user_data().unwrap_or_default());
     match *indication {
         Indication::Connect { requirements, number, wishes, sizes, .. } => {
             format!("Connect {} data {data}{}", opened(requirements, number, wishes), named(sizes))
