@@ -302,6 +302,16 @@ uint32_t osi_release_refuse(osi_end *end, uint16_t reference, const uint8_t *dat
 /* Aborts the connection. */
 uint32_t osi_abort(osi_end *end, uint16_t reference, const uint8_t *data, size_t length);
 
+/* Gives up one connection at once, whatever it waits for (X.224 section 6.7). What the peer's credit
+ * holds back is dropped, which osi_abort has to wait behind, and nothing of this connection is shown any
+ * more: its pending indications are dropped. All other connections go on. In class 2 a DR stands in
+ * osi_outgoing then, behind all that stood there, the peer's user is shown OSI_LOST, and the connection
+ * is live until the peer answers. In class 0 the end ends with OSI_END_CLOSED. A connection that is gone
+ * already loses its pending indications. OSI_OK, OSI_SLOT_EMPTY, OSI_NO_SUCH_CONNECTION, OSI_BAD_STATE
+ * (OSI_PHASE_WAIT_TRANSPORT: the peer has not answered the CR, and X.224 sends no DR before that; call
+ * again in a later phase), OSI_NO_MEMORY (for the DR). */
+uint32_t osi_disconnect(osi_end *end, uint16_t reference);
+
 /* ---- octets ------------------------------------------------------------------------------------- */
 
 /* What osi_feed did. */
@@ -320,6 +330,9 @@ uint32_t osi_feed(osi_end *end, const uint8_t *piece, size_t length, osi_fed *fe
 /* Lends the octets that are to be carried to the peer, the first of them first; none of a slot that
  * holds no end. They are there until the next call with this end, which stays as it is. */
 void osi_outgoing(osi_end *end, osi_octets *octets);
+
+/* Whether osi_outgoing would lend an octet: wait until the socket can be written to. */
+bool osi_wants_write(osi_end *end);
 
 /* So many of them, the first, have been carried. OSI_OK, OSI_SLOT_EMPTY, OSI_BAD_ARGUMENT (more than
  * there are). */
@@ -354,6 +367,11 @@ uint32_t osi_broken(osi_end *end);
 #define OSI_END_TSDU_TOO_LONG 21u
 #define OSI_END_NO_MEMORY_FOR_TSDU 22u
 uint32_t osi_ended(osi_end *end, uint64_t *detail);
+
+/* Whether the byte connection may be closed now: nothing stands in osi_outgoing, and the end has ended,
+ * or there were connections and none is live. Ask once all indications are fetched. To ask for another
+ * connection, keep the byte connection open all the same. False for a slot that holds no end. */
+bool osi_is_over(osi_end *end);
 
 /* How many octets are kept of a packet, of TSDUs and of data in parts that are not whole yet: at most
  * 65,535, and 2,097,148 for each live connection (1,048,576 of a TSDU, 1,048,572 of data). */

@@ -747,6 +747,10 @@ public:
     /* Aborts the connection. */
     code abort(osi::reference of, octets data = {}) noexcept { return say(osi_abort, of, data); }
 
+    /* Gives up one connection at once, and shows nothing more of it: a DR in class 2, the end of the end in
+     * class 0. Other connections go on. */
+    code disconnect(osi::reference of) noexcept { return call(osi_disconnect, of); }
+
     /* ---- octets */
 
     /* Feeds octets that came from the peer, cut in any way. It stops behind a packet that gives an
@@ -786,6 +790,9 @@ public:
         return lent;
     }
 
+    /* Whether outgoing has an octet: wait until the socket can be written to. */
+    bool wants_write() noexcept { return slot_ && osi_wants_write(slot_.get()); }
+
     /* So many of them, the first, have been carried: ok, slot_empty, bad_argument (more than there are). */
     code taken(std::size_t count) noexcept { return call(osi_taken, count); }
 
@@ -802,6 +809,10 @@ public:
             return std::nullopt;
         return osi::ended{static_cast<ending>(why), more};
     }
+
+    /* Whether the byte connection may be closed now: nothing is outgoing, and the end has ended, or there were
+     * connections and none is live. */
+    bool is_over() noexcept { return slot_ && osi_is_over(slot_.get()); }
 
     /* How many octets are kept of what is not whole yet: of a packet, of TSDUs, and of data that comes in
      * parts. */

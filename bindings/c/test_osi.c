@@ -270,6 +270,44 @@ static void addresses(void)
     CHECK(osi_addresses(&pair.called, pair.of, &shown) == OSI_SLOT_EMPTY && shown.called_selector.length == 0);
 }
 
+/* ---- one connection is given up */
+
+/* A second connection on the byte connection of a first. */
+static uint16_t second_of(struct pair *p)
+{
+    osi_opening opening = OSI_OPENING;
+    uint16_t second = 0;
+    CHECK(osi_connect(&p->caller, &opening, &second) == OSI_OK && second == 2);
+    CHECK(osi_disconnect(&p->caller, second) == OSI_BAD_STATE && osi_disconnect(&p->caller, 3) == OSI_NO_SUCH_CONNECTION);
+    carry(&p->caller, &p->called);
+    carry(&p->called, &p->caller);
+    CHECK(carry(&p->caller, &p->called).tag == OSI_CONNECT);
+    CHECK(osi_accept(&p->called, second, OSI_HALF_DUPLEX, 0, &asker, OSI_NO_DATA) == OSI_OK);
+    CHECK(carry(&p->called, &p->caller).tag == OSI_CONNECTED);
+    return second;
+}
+
+static void a_connection_is_given_up_alone(void)
+{
+    static const uint8_t message[200000];
+    struct pair p = opened();
+    const uint16_t second = second_of(&p);
+    CHECK(osi_data(&p.caller, p.of, message, sizeof message) == OSI_OK && osi_unsent(&p.caller, p.of) > 0);
+    CHECK(osi_abort(&p.caller, p.of, OSI_NO_DATA) == OSI_OK && osi_live(&p.caller) == 2);
+    CHECK(osi_disconnect(&p.caller, p.of) == OSI_OK && osi_backlog(&p.caller) == 0);
+    CHECK(osi_phase(&p.caller, p.of) == OSI_PHASE_ENDED && osi_disconnect(&p.caller, p.of) == OSI_OK);
+    const osi_indication lost = carry(&p.caller, &p.called);
+    CHECK(lost.tag == OSI_LOST && lost.reference == p.of);
+    CHECK(carry(&p.called, &p.caller).tag == OSI_NONE && osi_live(&p.caller) == 1 && osi_live(&p.called) == 1);
+    CHECK(osi_data(&p.caller, second, (const uint8_t *)"still here", 10) == OSI_OK && osi_wants_write(&p.caller));
+    CHECK(!osi_is_over(&p.caller) && carry(&p.caller, &p.called).tag == OSI_DATA && !osi_wants_write(&p.caller));
+    CHECK(osi_disconnect(&p.called, second) == OSI_OK && carry(&p.called, &p.caller).tag == OSI_LOST);
+    CHECK(!osi_is_over(&p.caller) && carry(&p.caller, &p.called).tag == OSI_NONE);
+    CHECK(osi_is_over(&p.caller) && osi_is_over(&p.called));
+    let_go(&p);
+    CHECK(osi_disconnect(&p.caller, 1) == OSI_SLOT_EMPTY && !osi_is_over(&p.caller) && !osi_wants_write(&p.caller));
+}
+
 /* ---- names */
 
 static void names(void)
@@ -292,6 +330,7 @@ int main(void)
     openings_of_other_headers();
     indications_of_other_headers();
     addresses();
+    a_connection_is_given_up_alone();
     names();
     printf("%u passed, %u failed\n", passed, failed);
     return failed != 0;

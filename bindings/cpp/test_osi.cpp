@@ -432,6 +432,31 @@ static void what_credit_holds_back_is_unsent()
     CHECK(zero.caller.unsent(zero.of) == 0 && zero.caller.backlog() == 0 && zero.caller.live() == 1);
 }
 
+static void a_connection_is_given_up_alone()
+{
+    pair two = opened(osi::classes::class_2);
+    CHECK(!two.caller.wants_write() && !two.caller.is_over());
+    CHECK(two.caller.connect(opening()).value == 2 && two.caller.disconnect(2) == code::bad_state);
+    CHECK(two.caller.disconnect(3) == code::no_such_connection);
+    two.carry();
+    CHECK(two.called.accept(2, all_units, 1) == code::ok);
+    two.carry();
+    CHECK(two.caller.data(two.of, std::string(200000, 'x')) == code::ok && two.caller.backlog() > 0);
+    CHECK(two.caller.disconnect(two.of) == code::ok && two.caller.backlog() == 0 && two.caller.wants_write());
+    CHECK(two.caller.phase(two.of) == osi::phase::ended && two.caller.disconnect(two.of) == code::ok);
+    two.carry();
+    CHECK(two.shown(two.by_called, tag::lost).reference == two.of);
+    CHECK(two.caller.live() == 1 && two.called.live() == 1 && !two.caller.is_over());
+    CHECK(two.caller.data(2, "still here") == code::ok);
+    two.carry();
+    CHECK(two.shown(two.by_called, tag::data).reference == 2);
+    pair zero = opened(osi::classes::class_0);
+    CHECK(zero.caller.disconnect(zero.of) == code::ok && !zero.caller.next());
+    CHECK(zero.caller.ended() && zero.caller.ended()->why == osi::ending::closed && zero.caller.is_over());
+    osi::end none;
+    CHECK(none.disconnect(1) == code::slot_empty && !none.is_over() && !none.wants_write());
+}
+
 static void connections_have_addresses()
 {
     pair two = opened(osi::classes::class_2);
@@ -595,6 +620,7 @@ int main()
     losses_are_shown();
     bad_units_are_shown();
     what_credit_holds_back_is_unsent();
+    a_connection_is_given_up_alone();
     connections_have_addresses();
     data_in_parts_is_joined();
     bad_packets_end_an_end();

@@ -336,6 +336,38 @@ class Backlog(Case):
         self.assertEqual((pair.caller.live(), pair.called.live()), (0, 0))
 
 
+class GivenUp(Case):
+    def test_a_connection_is_given_up_alone(self):
+        pair = Pair.opened(Classes.CLASS_2)
+        second = pair.caller.connect(ASKED)
+        self.refused(Code.BAD_STATE, pair.caller.disconnect, second)
+        self.refused(Code.NO_SUCH_CONNECTION, pair.caller.disconnect, 3)
+        pair.carry()
+        pair.called.accept(second, ALL_UNITS, 1)
+        pair.carry()
+        pair.caller.data(1, bytes(200000))
+        self.assertTrue(pair.caller.backlog() > 0 and pair.caller.wants_write())
+        pair.caller.disconnect(1)
+        self.assertEqual((pair.caller.backlog(), pair.caller.phase(1)), (0, Phase.ENDED))
+        self.assertEqual(pair.carry(), ([], [Lost(1)]))
+        self.assertEqual((pair.caller.live(), pair.called.live(), pair.caller.is_over()), (1, 1, False))
+        pair.caller.disconnect(1)
+        pair.caller.data(second, b"still here")
+        self.assertEqual(pair.carry(), ([], [Data(second, b"still here")]))
+        pair.called.disconnect(second)
+        self.assertEqual(pair.carry(), ([Lost(second)], []))
+        self.assertTrue(pair.caller.is_over() and pair.called.is_over())
+
+    def test_what_waits_of_it_is_dropped(self):
+        pair = Pair.opened()
+        pair.caller.data(1, b"unseen")
+        self.assertTrue(pair.called.feed(pair.caller.outgoing()).waits)
+        pair.called.disconnect(1)
+        self.assertIsNone(pair.called.next_indication())
+        self.assertEqual(pair.called.ended(), Ending(Reason.CLOSED, 0))
+        self.assertTrue(pair.called.is_over() and not pair.called.wants_write())
+
+
 class OfConnections(Case):
     def test_two_connections_are_told_apart_by_whom_they_ask_for(self):
         pair = Pair(Classes.CLASS_2, Classes.CLASS_2)
@@ -377,6 +409,8 @@ class Ends(Case):
         self.refused(Code.SLOT_EMPTY, end.feed, b"x")
         self.refused(Code.SLOT_EMPTY, end.taken, 0)
         self.refused(Code.SLOT_EMPTY, end.broken)
+        self.refused(Code.SLOT_EMPTY, end.disconnect, 1)
+        self.assertEqual((end.is_over(), end.wants_write()), (False, False))
         self.assertEqual((end.outgoing(), end.kept(), end.ended()), (b"", 0, None))
         self.assertEqual((end.unsent(1), end.backlog(), end.live()), (0, 0, 0))
         self.assertEqual((end.phase(1), end.held(1), end.next_serial(1)), (Phase.NONE, Tokens.NONE, 0))

@@ -43,7 +43,7 @@ def structs():
 
 def functions():
     """The functions that the library has; those of the header itself are static."""
-    return set(re.findall(r"^(?:uint32_t|uint8_t|size_t|void|const char) \*?(osi_\w+)\(", header(), re.MULTILINE))
+    return set(re.findall(r"^(?:uint32_t|uint8_t|size_t|bool|void|const char) \*?(osi_\w+)\(", header(), re.MULTILINE))
 
 
 def numbers():

@@ -306,6 +306,20 @@ impl End {
         self.say(ffi::osi_abort, of, user_data)
     }
 
+    /// Gives up one connection at once, whatever it waits for: what the peer's credit holds back is dropped,
+    /// and nothing of this connection is shown any more, its pending indications included. In class 2 a
+    /// disconnect request is [`outgoing`](End::outgoing), the peer's user is shown [`Indication::Lost`], and
+    /// all other connections go on. In class 0 the end ends with [`Ending::Closed`]. A connection that is
+    /// gone already loses its pending indications.
+    ///
+    /// # Errors
+    /// [`NoSuchConnection`](Error::NoSuchConnection), [`BadState`](Error::BadState) (in
+    /// [`Phase::WaitTransport`]: the peer has not answered yet; call again in a later phase) and
+    /// [`NoMemory`](Error::NoMemory) (for the request).
+    pub fn disconnect(&mut self, of: Reference) -> Result<(), Error> {
+        answer(unsafe { ffi::osi_disconnect(self.at(), of.0) })
+    }
+
     /// Feeds octets that came from the peer, in the order in which they came, cut in any way.
     ///
     /// It stops behind a packet that gives an indication, and uses nothing while one waits: fetch them
@@ -359,6 +373,11 @@ impl End {
         }
     }
 
+    /// Whether [`outgoing`](End::outgoing) has an octet: wait until the socket can be written to.
+    pub fn wants_write(&mut self) -> bool {
+        unsafe { ffi::osi_wants_write(self.at()) }
+    }
+
     /// So many octets of [`outgoing`](End::outgoing), the first, have been carried.
     ///
     /// # Errors
@@ -382,6 +401,12 @@ impl End {
             ffi::OSI_END_NONE => None,
             number => Some(Ending::of(number, detail)),
         }
+    }
+
+    /// Whether the byte connection may be closed now: nothing is [`outgoing`](End::outgoing), and the end
+    /// has ended, or there were connections and none is live. To ask for another connection, keep it open.
+    pub fn is_over(&mut self) -> bool {
+        unsafe { ffi::osi_is_over(self.at()) }
     }
 
     /// How many octets are kept of a packet, of TSDUs and of data in parts that are not whole yet: at

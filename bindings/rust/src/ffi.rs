@@ -181,11 +181,14 @@ extern "C" {
     pub fn osi_release_accept(end: *mut osi_end, reference: u16, data: *const u8, length: usize) -> u32;
     pub fn osi_release_refuse(end: *mut osi_end, reference: u16, data: *const u8, length: usize) -> u32;
     pub fn osi_abort(end: *mut osi_end, reference: u16, data: *const u8, length: usize) -> u32;
+    pub fn osi_disconnect(end: *mut osi_end, reference: u16) -> u32;
     pub fn osi_feed(end: *mut osi_end, piece: *const u8, length: usize, fed: *mut osi_fed) -> u32;
     pub fn osi_outgoing(end: *mut osi_end, octets: *mut osi_octets);
+    pub fn osi_wants_write(end: *mut osi_end) -> bool;
     pub fn osi_taken(end: *mut osi_end, octets: usize) -> u32;
     pub fn osi_broken(end: *mut osi_end) -> u32;
     pub fn osi_ended(end: *mut osi_end, detail: *mut u64) -> u32;
+    pub fn osi_is_over(end: *mut osi_end) -> bool;
     pub fn osi_kept(end: *mut osi_end) -> usize;
     pub fn osi_unsent(end: *mut osi_end, reference: u16) -> usize;
     pub fn osi_backlog(end: *mut osi_end) -> usize;

@@ -315,6 +315,42 @@ fn what_credit_holds_back_is_unsent() {
     assert_eq!((pair.caller.unsent(pair.of), pair.caller.backlog(), pair.caller.live()), (0, 0, 1));
 }
 
+#[test]
+fn a_connection_is_given_up_alone() {
+    let mut pair = Pair::opened(Classes::CLASS_2, &opening());
+    let second = pair.caller.connect(&opening()).unwrap();
+    assert_eq!(pair.caller.disconnect(second), Err(Error::BadState));
+    assert_eq!(pair.caller.disconnect(Reference::new(3)), Err(Error::NoSuchConnection));
+    pair.by_called();
+    pair.called.accept(second, ALL_UNITS, 1, ASKERS, b"").unwrap();
+    pair.by_caller();
+    pair.caller.data(pair.of, &[0; 200_000]).unwrap();
+    assert!(pair.caller.backlog() > 0 && pair.caller.wants_write());
+    pair.caller.disconnect(pair.of).unwrap();
+    assert_eq!((pair.caller.backlog(), pair.caller.phase(pair.of)), (0, Some(Phase::Ended)));
+    let (by_caller, by_called) = pair.carry();
+    assert_eq!((by_caller, by_called), (vec![], vec![(pair.of, Indication::Lost)]));
+    assert_eq!((pair.caller.live(), pair.called.live(), pair.caller.is_over()), (1, 1, false));
+    assert_eq!(pair.caller.disconnect(pair.of), Ok(()));
+    pair.caller.data(second, b"still here").unwrap();
+    assert_eq!(pair.by_called(), Indication::Data { user_data: b"still here".to_vec() });
+    pair.called.disconnect(second).unwrap();
+    assert_eq!(pair.by_caller(), Indication::Lost);
+    assert!(pair.caller.is_over() && pair.called.is_over());
+}
+
+#[test]
+fn what_waits_of_a_connection_that_is_given_up_is_dropped() {
+    let mut pair = Pair::opened(Classes::CLASS_0, &opening());
+    pair.caller.data(pair.of, b"unseen").unwrap();
+    let octets = pair.caller.outgoing().to_vec();
+    assert!(pair.called.feed(&octets).waits);
+    pair.called.disconnect(pair.of).unwrap();
+    assert_eq!(pair.called.next_indication(), None);
+    assert_eq!((pair.called.ended(), pair.called.is_over()), (Some(Ending::Closed), true));
+    assert!(!pair.called.wants_write());
+}
+
 fn known(end: &mut End, of: Reference) -> Option<[String; 4]> {
     let addresses = end.addresses(of)?;
     let all = [

@@ -1,8 +1,9 @@
 -- What the functions that C calls do: `old` and `new` are what the slot holds.
-use Rattle.std.specs.Prelude.{◌≡◌, ℕ, ◌≤◌, ◌+◌, ◌-◌, ◌*◌, ◌^◌, min, Bool, false, List, [], length, Option, Some, None, option_map}
+use Rattle.std.specs.Prelude.{◌≡◌, ℕ, ◌≤◌, ◌+◌, ◌-◌, ◌*◌, ◌^◌, min, Bool, true, false, not, ◌==◌, List, [], length, Option, Some, None, option_map}
 use Rattle.osi_tpkt.specs.Held.{fresh}
 use Rattle.osi_class.specs.declared.terms.Local.{Local}
-use Rattle.osi_carrier.specs.Calls.{unsent_at, backlog_of}
+use Rattle.osi_carrier.specs.Calls.{closed_with, unsent_at, backlog_of}
+use Rattle.osi_carrier.specs.Growth.{grows}
 use Rattle.osi_carrier.specs.Rows.{value_at}
 use Rattle.osi_carrier.specs.declared.ends.EndReason.{EndReason}
 use Rattle.osi_message.specs.Tokens.{token_octet}
@@ -11,9 +12,11 @@ use Rattle.osi_session.specs.Listening.{called}
 use Rattle.osi_session.specs.Numbers.{from_base}
 use Rattle.osi_session.specs.Shown.{Shown, shown_by}
 use Rattle.osi_session.specs.declared.faults.CallError.{CallError}
+use Rattle.osi_session.specs.declared.faults.CallError.TheVariants.{OutOfMemory}
 use Rattle.osi_session.specs.declared.numbers.Numbers.{Numbers}
 use Rattle.osi_session.specs.declared.phases.Phase.{Phase}
-use Rattle.osi_stack.specs.Calls.{connect_error, refusal, connects, call_error, table_error, Refuses, held_by, phase_at, numbers_of, first_shown, without_first, carried, breaks}
+use Rattle.osi_stack.specs.Calls.{connect_error, refusal, connects, call_error, table_error, Refuses, by_rule, held_by, phase_at, numbers_of, first_shown, without_first, carried, breaks, is_over as over}
+use Rattle.osi_stack.specs.Disconnecting.{disconnect_error, disconnects}
 use Rattle.osi_stack.specs.Feeding.{Feeds}
 use Rattle.osi_stack.specs.Moving.{to_session}
 use Rattle.osi_stack.specs.State.{End, fresh_end, session_at, kept_octets}
@@ -77,6 +80,16 @@ CallsIf r (Some call) answer old new = Calls r call answer old new
 CallsIf r None (Some BadArgument) old new = new ≡ old
 CallsIf r None answer old new = ⊥
 
+-- One connection is given up. For want of memory it is not where a DR is to be written, and that alone.
+abbrev pub Disconnects : ℕ → Option (Answer CallError) → Option Contents → Option Contents → Type 0
+Disconnects r (Some Done) (Some old) new =
+    (disconnect_error r old.stack.end ≡ None) × (new ≡ Some (with_end old (disconnects r old.stack.end)))
+Disconnects r (Some (Refused error)) (Some old) new =
+    (by_rule error ≡ disconnect_error r old.stack.end)
+    × (error ≡ OutOfMemory → grows old.stack.end.carrier (closed_with r 128 old.stack.end.carrier) ≡ true) × (new ≡ Some old)
+Disconnects r (Some Closed) None new = new ≡ None
+Disconnects r answer old new = ⊥
+
 -- ---- octets
 
 abbrev pub FeedsTo : List ℕ → ℕ → Bool → Option (Answer CallError) → Option Contents → Option Contents → Type 0
@@ -89,6 +102,10 @@ FeedsTo piece used waits answer old new = ⊥
 abbrev pub outgoing : Option Contents → List ℕ
 outgoing None = []
 outgoing (Some c) = c.stack.end.carrier.outgoing
+
+-- whether there are some
+abbrev pub wants_write : Option Contents → Bool
+wants_write c = not (length (outgoing c) == 0)
 
 abbrev pub Carries : ℕ → Option (Answer CallError) → Option Contents → Option Contents → Type 0
 Carries octets (Some Done) (Some old) new =
@@ -125,6 +142,11 @@ Fetches answer old new = ⊥
 abbrev pub ended : Option Contents → Option EndReason
 ended None = None
 ended (Some c) = c.stack.end.carrier.ended
+
+-- whether the byte connection may be closed
+abbrev pub is_over : Option Contents → Bool
+is_over None = false
+is_over (Some c) = over c.stack.end
 
 abbrev pub held : ℕ → Option Contents → ℕ
 held r None = 0

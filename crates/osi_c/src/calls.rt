@@ -6,7 +6,7 @@ ghost use Rattle.osi_session.specs.Calls.{called_by, Accept, Refuse, Data, Give,
 ghost use Rattle.osi_spdu.specs.Sizes.{named_by, no_sizes};
 ghost use Rattle.osi_c.specs.Arguments.{accept_of, accept_with, restart_of, restart_confirm_of};
 ghost use Rattle.osi_c.specs.Codes.{answer_of};
-ghost use Rattle.osi_c.specs.Ends.{Calls, CallsIf};
+ghost use Rattle.osi_c.specs.Ends.{Calls, CallsIf, Disconnects};
 
 use crate::arguments::{OsiSides, serial, sides, sizes, wishes};
 use crate::codes::{BAD_ARGUMENT, CLOSED, OK, refusal};
@@ -248,4 +248,19 @@ pub extern "C" fn osi_abort(end: &mut OsiEnd, reference: u16, user_data: &[u8]) 
     ensures { Calls reference (Abort user_data.now) (answer_of result) end.old.inner.value end.new.inner.value }
 {
     call(end, reference, Request::Abort { user_data })
+}
+
+/// Gives up one connection at once: no more of it is shown, and its transport connection is closed by a DR
+/// or, in class 0, by the end of the end.
+#[unsafe(no_mangle)]
+pub extern "C" fn osi_disconnect(end: &mut OsiEnd, reference: u16) -> u32
+    ensures { Disconnects reference (answer_of result) end.old.inner.value end.new.inner.value }
+{
+    if !end.full {
+        return CLOSED;
+    }
+    match end.get_mut().stack.disconnect(Ref(reference)) {
+        Ok(()) => OK,
+        Err(error) => refusal(error),
+    }
 }

@@ -3,7 +3,7 @@
 ghost use types.Logic.{sem};
 ghost use Rattle.std.specs.Prelude.{◌≡◌, ◌≤◌, Some};
 ghost use Rattle.osi_c.specs.Codes.{answer_of, reason_of, detail_of};
-ghost use Rattle.osi_c.specs.Ends.{FeedsTo, outgoing, Carries, Breaks, ended, kept, most_kept, unsent, backlog, live};
+ghost use Rattle.osi_c.specs.Ends.{FeedsTo, outgoing, Carries, Breaks, wants_write, is_over, ended, kept, most_kept, unsent, backlog, live};
 ghost use Rattle.osi_c.specs.Lent.{KeepsSlot};
 
 use crate::codes::{BAD_ARGUMENT, CLOSED, OK, end_code};
@@ -102,6 +102,31 @@ pub extern "C" fn osi_ended(end: &mut OsiEnd, detail: &mut u64) -> u32
     let why = end_code(end.get_mut().stack.ended());
     *detail = why.detail;
     why.code
+}
+
+/// Whether there are octets to be carried to the peer; none of a slot that holds no end.
+#[unsafe(no_mangle)]
+pub extern "C" fn osi_wants_write(end: &mut OsiEnd) -> bool
+    ensures value { result ≡ wants_write end.old.inner.value }
+    ensures same { end.new.inner.value ≡ end.old.inner.value }
+{
+    if !end.full {
+        return false;
+    }
+    !end.get_mut().stack.outgoing().is_empty()
+}
+
+/// Whether the byte connection may be closed now: nothing is to be carried, and the end has ended, or there
+/// were connections and none is live. Not of a slot that holds no end.
+#[unsafe(no_mangle)]
+pub extern "C" fn osi_is_over(end: &mut OsiEnd) -> bool
+    ensures value { result ≡ is_over end.old.inner.value }
+    ensures same { end.new.inner.value ≡ end.old.inner.value }
+{
+    if !end.full {
+        return false;
+    }
+    end.get_mut().stack.is_over()
 }
 
 /// How many octets of packets, TSDUs and data in parts are kept that are not whole yet: at most 65,535,

@@ -37,7 +37,7 @@ asked_closes : (r q peer : ℕ) (class : Option Class) (c : Carrier) → (c.ende
 asked_closes r q peer (Some Zero) c ne here over = cc
 asked_closes r q peer _ c ne here over = put_other r q (closing peer) c.live (ne over) ∙ here over
 
-asked_closed : (r q : ℕ) (o : Option (ℕ × Link)) (c : Carrier) → open_link q c ≡ o → (c.ended ≡ None → value_at r c.live ≡ Some asked) → (closed_on q 128 o c).ended ≡ None →
+pub asked_closed : (r q : ℕ) (o : Option (ℕ × Link)) (c : Carrier) → open_link q c ≡ o → (c.ended ≡ None → value_at r c.live ≡ Some asked) → (closed_on q 128 o c).ended ≡ None →
     value_at r (closed_on q 128 o c).live ≡ Some asked
 asked_closed r q None c e here over = here over
 asked_closed r q (Some (peer, link)) c e here over = asked_closes r q peer c.class c (λ lasts. other_link r q c (peer, link) (here lasts) e) here over

@@ -1,7 +1,7 @@
 -- Once the carrier has ended no session is left.
 use Rattle.std.proofs.Common.{◌≡◌, ℕ, ◌||◌, Bool, true, false, List, ◌∷◌, Option, Some, None, is_some, IsSome, refl, sym, ap, subst, ◌∙◌, inl, inr, ◌⊎◌, if◌then◌else◌, []}
 use Rattle.osi_carrier.specs.Packets as carriers
-use Rattle.osi_stack.proofs.Vocabulary.{tsdus_sent, limit_of, Fed, open_link, sent_on, may_connect, send_all_error, value_at, put, State as Carrier, EndReason, free_of, put_same, Standing as Link, Call, Input, Listener, called, react, connects, connect_error, terms_error, breaks, without_first, Feeds, with_events, with_carrier, hears_all, hears_times, attends, after_packet, ends, all_lost, Starves, kept_at, line_by, carrier_by, by_line, to_session, IsGone, Line, End, Holding, session_in, answers_by, Connect, none_of}
+use Rattle.osi_stack.proofs.Vocabulary.{tsdus_sent, limit_of, Fed, open_link, sent_on, may_connect, send_all_error, value_at, put, State as Carrier, EndReason, free_of, put_same, Standing as Link, Call, Input, Listener, called, react, connects, connect_error, terms_error, breaks, without_first, Feeds, with_events, with_carrier, hears_all, hears_times, attends, concludes, after_packet, ends, all_lost, Starves, kept_at, line_by, carrier_by, by_line, to_session, IsGone, Line, End, Holding, session_in, answers_by, Connect, none_of}
 use Rattle.osi_stack.proofs.Lifting.{packet_is}
 use Rattle.osi_stack.proofs.Moves.{are_lost, kept_first}
 use Rattle.osi_stack.proofs.Soundness.{open_none}
@@ -64,6 +64,9 @@ first_gone e gone over r = kept_first r e.lines ∙ gone over r
 concludes_by : (o : Option EndReason) (e : End) → e.carrier.ended ≡ o → IsGone (if is_some o then record e { lines = all_lost e.lines } else e)
 concludes_by None e is = lasting_gone e is
 concludes_by (Some reason) e is = lost_gone e (record e { lines = all_lost e.lines }) refl
+
+pub concluded_gone : (e : End) → IsGone (concludes e)
+concluded_gone e = concludes_by e.carrier.ended e refl
 
 then_gone : (e new : End) → new ≡ attends e → IsGone new
 then_gone e new is = subst IsGone (sym is) (concludes_by (hears_all e).carrier.ended (hears_all e) refl)

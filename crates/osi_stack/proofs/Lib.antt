@@ -29,6 +29,8 @@ pub mod Lowest
 mod Vocabulary
 pub mod Waiting
 pub mod Knowing
+pub mod DisconnectSettles
+pub mod DisconnectLeaves
 pub mod Settling
 pub mod Empties
 pub mod Opened

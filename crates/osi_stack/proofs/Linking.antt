@@ -336,7 +336,7 @@ not_opened_by : (read : Result Words SpduFault) → came_as read ≡ opened → 
 not_opened_by (Ok said) e = cc
 not_opened_by (Err fault) e = cc
 
-broken_needs_none : (s : Listener) → needs_link (react s broken).next.state.phase ≡ false
+pub broken_needs_none : (s : Listener) → needs_link (react s broken).next.state.phase ≡ false
 unfolding react
 broken_needs_none s = refl
 

@@ -1,7 +1,9 @@
 -- What needs memory shows, sends or keeps something.
-use Rattle.std.proofs.Common.{◌≡◌, ℕ, ◌||◌, ◌&&◌, true, [], ◌∷◌, get_or, Option, Some, None, Result, OnErr, refl, ◌∙◌, arith}
+use Rattle.std.proofs.Common.{◌≡◌, ℕ, ◌||◌, ◌&&◌, Bool, true, [], ◌∷◌, get_or, Option, Some, None, Result, Ok, Err, OnErr, refl, ◌∙◌, arith}
 use Rattle.osi_carrier.proofs.Growing.{written_grows}
 use Rattle.osi_carrier.specs.Growth.{grows}
+use Rattle.osi_session.specs.declared.faults.CallError.{CallError}
+use Rattle.osi_session.specs.declared.faults.CallError.TheVariants.{OutOfMemory}
 use Rattle.osi_stack.proofs.Vocabulary.{disconnect, Standing, Class, Zero, placed, closes, closed_on, closed_with, close_error, open_link, Rows, value_at, place_of, State as Carrier, Input, session_needs, Line, session_in}
 use Rattle.osi_stack.proofs.Found.{session_here}
 
@@ -19,7 +21,10 @@ closing_on r c (Some (peer, link)) e other = closing_in r peer c c.class other
 pub closing_needs : (r : ℕ) (c : Carrier) → close_error (open_link r c) ≡ None → (c.class ≡ Some Zero → ⊥) → grows c (closed_with r 128 c) ≡ true
 closing_needs r c e other = closing_on r c (open_link r c) e other
 
--- ---- a session
+-- where memory is wanted, and there is no other error
+pub wants_memory : {A : Type 0} (result : Result A CallError) (grown : Bool) → OnErr result (grown ≡ true) → result ≡ Err OutOfMemory → grown ≡ true
+wants_memory (Ok x) grown h is = cc
+wants_memory (Err e) grown h is = h
 
 -- ---- at a place
 

@@ -34,7 +34,7 @@ put_by : (Q : Line → Type 0) (r q : ℕ) (x y : Line) (lines : Rows Line) (b :
 put_by Q r q x y lines true e new old all more = rw e (new, all)
 put_by Q r q x y lines false e new old all more = rw e (old, more)
 
-put_lines : (Q : Line → Type 0) (r : ℕ) (x : Line) (lines : Rows Line) → Q x → OfLines Q lines → OfLines Q (put r x lines)
+pub put_lines : (Q : Line → Type 0) (r : ℕ) (x : Line) (lines : Rows Line) → Q x → OfLines Q lines → OfLines Q (put r x lines)
 put_lines Q r x [] new all = tt
 put_lines Q r x ((q, y) ∷ lines) new all = put_by Q r q x y lines (q == r) refl new all.0 all.1 (put_lines Q r x lines new all.1)
 
@@ -46,7 +46,7 @@ more_lines Q live (first ∷ lines) row here all =
     let more = more_lines Q live lines row here all.1 in
     used_keep (OfLines Q) live first (lines ++ row ∷ []) more (λ used. (all.0, more))
 
-lost_lines : (Q : Line → Type 0) (lines : Rows Line) → ((line : Line) → Q (loses line)) → OfLines Q (all_lost lines)
+pub lost_lines : (Q : Line → Type 0) (lines : Rows Line) → ((line : Line) → Q (loses line)) → OfLines Q (all_lost lines)
 lost_lines Q [] lost = tt
 lost_lines Q ((q, y) ∷ lines) lost = (lost y, lost_lines Q lines lost)
 

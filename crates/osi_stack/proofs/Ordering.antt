@@ -15,9 +15,9 @@ use Rattle.osi_stack.proofs.Moves.{used_keep, first_keep}
 
 -- ---- what sessions leave of the carrier
 
-record Leaves (old new : Carrier) : Type 0 where
-  side : new.is_caller ≡ old.is_caller
-  awaited : AwaitedBefore old.live new.live
+pub record Leaves (old new : Carrier) : Type 0 where
+  pub side : new.is_caller ≡ old.is_caller
+  pub awaited : AwaitedBefore old.live new.live
 
 left : (c : Carrier) → Leaves c c
 left c = record { side = refl; awaited = λ q h. h }
@@ -33,7 +33,7 @@ closes_leaves : (r peer reason : ℕ) (class : Option Class) (c : Carrier) → L
 closes_leaves r peer reason (Some Zero) c = record { side = refl; awaited = λ q h. cc }
 closes_leaves r peer reason _ c = record { side = refl; awaited = awaited_put r (closing peer) c.live (closing_not_asked peer) }
 
-closed_leaves : (r reason : ℕ) (o : Option (ℕ × Link)) (c : Carrier) → Leaves c (closed_on r reason o c)
+pub closed_leaves : (r reason : ℕ) (o : Option (ℕ × Link)) (c : Carrier) → Leaves c (closed_on r reason o c)
 closed_leaves r reason None c = left c
 closed_leaves r reason (Some (peer, link)) c = closes_leaves r peer reason c.class c
 
@@ -191,7 +191,7 @@ heard_by false n e c is_called none known o a =
 heard_ordered : (n : ℕ) (e : End) (c : Carrier) → e.carrier.events ≡ [] → AreUpTo e.carrier.given e.lines → IsOrdered e → OpensAlong e.carrier c → IsOrdered (hears_times n (with_carrier c e))
 heard_ordered n e c none known o a = heard_by e.carrier.is_caller n e c refl none known o a
 
-lost_ordered : (e : End) → IsOrdered e → IsOrdered (record e { lines = all_lost e.lines })
+pub lost_ordered : (e : End) → IsOrdered e → IsOrdered (record e { lines = all_lost e.lines })
 lost_ordered e o = record { rise = rise_lost 0 e.lines o.rise; awaiting = λ r h. ((o.awaiting r h).0, has_lost r e.lines (o.awaiting r h).1) }
 
 attends_ordered : (e : End) (c : Carrier) → e.carrier.events ≡ [] → AreUpTo e.carrier.given e.lines → IsOrdered e → OpensAlong e.carrier c → IsOrdered (attends (with_carrier c e))

@@ -1,5 +1,5 @@
 -- What the calls of a user of one end answer and do.
-use Rattle.std.specs.Prelude.{◌≡◌, ℕ, ◌+◌, Bool, true, false, not, ◌&&◌, ◌||◌, List, [], ◌∷◌, length, drop, nat_le, nat_lt, Option, Some, None, is_some, option_map, if◌then◌else◌}
+use Rattle.std.specs.Prelude.{◌≡◌, ℕ, ◌+◌, Bool, true, false, not, ◌&&◌, ◌||◌, List, [], ◌∷◌, length, drop, nat_le, nat_lt, ◌==◌, Option, Some, None, is_some, option_map, if◌then◌else◌}
 use Rattle.osi_tpdu.specs.Limits.{tsap_octets}
 use Rattle.osi_carrier.specs.Calls.{may_connect, asks, send_all_error, open_link}
 use Rattle.osi_carrier.specs.Rows.{Rows, value_at}
@@ -196,6 +196,11 @@ without_first ((r, line) ∷ lines) = rest_by r line line.waiting lines (without
 abbrev pub TellsOf : Option Shown → ℕ × Line → ℕ × Line → Type 0
 TellsOf None old new = (old.1.waiting ≡ []) × (new ≡ old)
 TellsOf (Some shown) old new = old ≡ (new.0, record new.1 { waiting = shown ∷ new.1.waiting })
+
+-- Nothing is left to do on the byte connection: no octets are to be carried, and the end has ended, or there were
+-- connections and none is live.
+abbrev pub is_over : End → Bool
+is_over e = (length e.carrier.outgoing == 0) && (is_some e.carrier.ended || (nat_lt 0 e.carrier.given && (length e.carrier.live == 0)))
 
 -- the first octets were carried
 abbrev pub carried : ℕ → End → End

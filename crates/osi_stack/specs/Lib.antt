@@ -11,6 +11,7 @@ pub mod Coming
 pub mod Messages
 pub mod Links
 pub mod Calls
+pub mod Disconnecting
 pub mod Addresses
 pub mod Fetching
 pub mod Folds

@@ -1,21 +1,22 @@
 //! Laws of one end. Each function does nothing: its clauses are the laws.
 
-ghost use Rattle.std.specs.Prelude.{◌≡◌, ◌≢◌, ◌<◌, ◌≤◌, ◌^◌, ◌+◌, ◌⊎◌, ℕ, Bool, List, [], ◌++◌, None, Some, IsSome, IfSome, is_some, false, true, length, map, take};
+ghost use Rattle.std.specs.Prelude.{◌≡◌, ◌≢◌, ◌<◌, ◌≤◌, ◌^◌, ◌+◌, ◌⊎◌, ℕ, Bool, List, [], ◌∷◌, ◌++◌, None, Some, IsSome, IfSome, is_some, false, true, length, map, take};
 ghost use Rattle.std.specs.List.{flat_map};
 ghost use Rattle.osi_tpkt.specs.Held.{fresh};
 ghost use Rattle.osi_tpkt.specs.Packet.{IsPartial};
 ghost use Rattle.osi_tpkt.specs.declared.cutting.Fed.{Fed};
-ghost use Rattle.osi_tpdu.specs.Value.{Value};
+ghost use Rattle.osi_tpdu.specs.Value.{Value, disconnect};
 ghost use Rattle.osi_tpdu.specs.Writing.{written};
+ghost use Rattle.osi_carrier.specs.Calls.{open_link};
 ghost use Rattle.osi_carrier.specs.Coming.{IsSendable, AreComing};
 ghost use Rattle.osi_carrier.specs.Place.{Place};
 ghost use Rattle.osi_carrier.specs.Named.{AreNamed};
 ghost use Rattle.osi_carrier.specs.Orderly.{RiseFrom};
 ghost use Rattle.osi_carrier.specs.React.{react as carrier_react};
 ghost use Rattle.osi_carrier.specs.Rows.{Rows, value_at};
-ghost use Rattle.osi_carrier.specs.State.{Connection};
+ghost use Rattle.osi_carrier.specs.State.{Connection, closing, writes, moves, ends as carrier_ends};
 ghost use Rattle.osi_carrier.specs.Told.{is_open};
-ghost use Rattle.osi_carrier.specs.declared.ends.EndReason.TheVariants.{NoMemory};
+ghost use Rattle.osi_carrier.specs.declared.ends.EndReason.TheVariants.{Closed, NoMemory};
 ghost use Rattle.osi_session.specs.Calls.{Call, HasSerial};
 ghost use Rattle.osi_message.specs.Meanings.{DT};
 ghost use Rattle.osi_message.specs.Words.{part_octets};
@@ -26,19 +27,22 @@ ghost use Rattle.osi_session.specs.Joining.{joined_octets};
 ghost use Rattle.osi_session.specs.Kept.{IsNoFault};
 ghost use Rattle.osi_session.specs.Listening.{Input, Listener, called, came, react};
 ghost use Rattle.osi_session.specs.Parts.{Act, AreParts, HasProfile, act_in_octets, calls_in};
-ghost use Rattle.osi_session.specs.Phases.{shows_loss};
+ghost use Rattle.osi_session.specs.Phases.{is_ended, shows_loss};
 ghost use Rattle.osi_stack.specs.Addresses.{addresses_at, asked_addresses, selectors_in};
 ghost use Rattle.osi_stack.specs.Selectors.{selectors_told, shows_connect};
 ghost use Rattle.osi_stack.specs.Calls.{call_error, table_error, connect_error, connects, carried, breaks, phase_at, first_shown, without_first};
+ghost use Rattle.osi_stack.specs.Disconnecting.{LeavesOthers, disconnects};
 ghost use Rattle.osi_stack.specs.Folds.{AllCameAbout};
 ghost use Rattle.osi_stack.specs.Inputs.{AreMadeBy, Past, Step, StepsAlong, no_past};
 ghost use Rattle.osi_stack.specs.Links.{IsSound, Soundness};
 ghost use Rattle.osi_stack.specs.declared.connecting.Connect.{Connect};
+ghost use Rattle.osi_class.specs.Link.{Standing};
+ghost use Rattle.osi_class.specs.declared.terms.Class.TheVariants.{Zero};
 ghost use Rattle.osi_class.specs.declared.terms.Local.{Local};
 ghost use Rattle.osi_stack.specs.Coming.{after_unit, TakesSome};
 ghost use Rattle.osi_stack.specs.Feeding.{Feeds};
 ghost use Rattle.osi_stack.specs.Hearing.{after_packet, all_lost};
-ghost use Rattle.osi_stack.specs.Messages.{Message, Effect, begins, IsWhole, Acts, effect_at, told_at, CanHear, Arrives, kept_at, Becomes, Says, AreLost, all_waiting, IsFirstOf};
+ghost use Rattle.osi_stack.specs.Messages.{Message, Effect, begins, IsWhole, Acts, effect_at, told_at, CanHear, Arrives, kept_at, Becomes, Says, AreLost, all_waiting, waiting_at, IsFirstOf};
 ghost use Rattle.osi_stack.specs.Moving.{to_session};
 ghost use Rattle.osi_stack.specs.Ordered.{IsOrdered, TellsLowest};
 ghost use Rattle.osi_stack.specs.Parted.{to_session_along};
@@ -113,6 +117,7 @@ pub fn a_session_that_is_called_has_a_connection()
     ensures fed { (old new : Holding) (piece : List ℕ) (fed : Fed) → Feeds old piece fed new → IsAttended old.end → IsSound old.end → IsSound new.end }
     ensures shown { (e : End) → IsSound e → IsSound (record e { lines = without_first e.lines }) }
     ensures carried { (octets : ℕ) (e : End) → IsSound e → IsSound (carried octets e) }
+    ensures disconnected { (r : ℕ) (e : End) → IsSound e → IsSound (disconnects r e) }
     ensures broken { (e : End) → IsSound (breaks e) }
     ensures heard { (e : End) (unit : Value) → IsSendable unit → e.carrier.ended ≡ None → IsAttended e → IsSound e → IsSound (after_unit e unit) }
 {
@@ -129,6 +134,7 @@ pub fn a_session_is_what_its_inputs_made_it()
     ensures called { (r : ℕ) (call : Call) (e : End) → HasSerial call → AllCameAbout e.lines → AllCameAbout (to_session r (called call) e).lines }
     ensures fed { (old new : Holding) (piece : List ℕ) (fed : Fed) → Feeds old piece fed new → AllCameAbout old.end.lines → AllCameAbout new.end.lines }
     ensures shown { (lines : Rows Line) → AllCameAbout lines → AllCameAbout (without_first lines) }
+    ensures disconnected { (r : ℕ) (e : End) → AllCameAbout e.lines → AllCameAbout (disconnects r e).lines }
     ensures broken { (e : End) → AllCameAbout e.lines → AllCameAbout (breaks e).lines }
     ensures heard { (e : End) (unit : Value) → IsSendable unit → AllCameAbout e.lines → AllCameAbout (after_unit e unit).lines }
 {
@@ -176,6 +182,7 @@ pub fn lines_rise_by_reference()
     ensures arrives { (r : ℕ) (effect : Effect) (unit : Value) (e new : End) → Arrives r effect unit e new → Soundness e →
         (effect ≡ begins → e.carrier.given < r) → RiseFrom 0 e.lines → RiseFrom 0 new.lines }
     ensures shown { (lines : Rows Line) → RiseFrom 0 lines → RiseFrom 0 (without_first lines) }
+    ensures disconnected { (r : ℕ) (e : End) → RiseFrom 0 e.lines → RiseFrom 0 (disconnects r e).lines }
     ensures broken { (e : End) → RiseFrom 0 e.lines → RiseFrom 0 (breaks e).lines }
 {}
 
@@ -190,6 +197,7 @@ pub fn lines_rise_whatever_comes()
         IsOrdered old.end → IsOrdered new.end }
     ensures shown { (e : End) → IsOrdered e → IsOrdered (record e { lines = without_first e.lines }) }
     ensures carried { (octets : ℕ) (e : End) → IsOrdered e → IsOrdered (carried octets e) }
+    ensures disconnected { (r : ℕ) (e : End) → IsOrdered e → IsOrdered (disconnects r e) }
     ensures broken { (e : End) → IsOrdered e → IsOrdered (breaks e) }
 {
     an_ended_session_stays_ended();
@@ -209,6 +217,7 @@ pub fn an_end_is_settled_between_calls()
     ensures fed { (old new : Holding) (piece : List ℕ) (fed : Fed) → Feeds old piece fed new → IsSettled old.end → IsSettled new.end }
     ensures shown { (e : End) → IsSettled e → IsSettled (record e { lines = without_first e.lines }) }
     ensures carried { (octets : ℕ) (e : End) → IsSettled e → IsSettled (carried octets e) }
+    ensures disconnected { (r : ℕ) (e : End) → IsSettled e → IsSettled (disconnects r e) }
     ensures broken { (e : End) → IsSettled e → IsSettled (breaks e) }
     ensures over { (r : ℕ) (e : End) → IsSettled e → IsSome e.carrier.ended → session_at r e ≡ None }
     ensures gone { (r : ℕ) (e : End) → IsSettled e → IsSome e.carrier.ended → kept_at r e.lines ≡ None }
@@ -278,12 +287,31 @@ pub fn parts_are_one_data()
     what_a_part_says();
 }
 
+/// A connection that is given up takes nothing from the others: while the end goes on they are as they were, octet
+/// for octet of what they keep and have to send (`others`). In class 2 it goes on (`lasts`), and what is to be
+/// carried is what was, and behind it a DR with reason 128; what the connection had still to send is gone with its
+/// link (`asks`). In class 0 the end ends as by a close, and what is to be carried stays (`zero`). Where the
+/// transport connection is not open the carrier is left as it is (`rests`). Nothing of the connection waits to be
+/// shown (`hushed`), and its session, if it has one still, has ended (`over`).
+pub fn what_a_disconnect_leaves()
+    ensures others { (r : ℕ) (e : End) → (disconnects r e).carrier.ended ≡ None → LeavesOthers r e (disconnects r e) }
+    ensures lasts { (r : ℕ) (e : End) → e.carrier.ended ≡ None → e.carrier.class ≢ Some Zero → (disconnects r e).carrier.ended ≡ None }
+    ensures asks { (r peer : ℕ) (link : Standing) (e : End) → open_link r e.carrier ≡ Some (peer, link) → e.carrier.class ≢ Some Zero →
+        (disconnects r e).carrier ≡ writes (disconnect peer r 128 [] ∷ []) (moves r (closing peer) e.carrier) }
+    ensures zero { (r peer : ℕ) (link : Standing) (e : End) → open_link r e.carrier ≡ Some (peer, link) → e.carrier.class ≡ Some Zero →
+        (disconnects r e).carrier ≡ carrier_ends Closed e.carrier }
+    ensures rests { (r : ℕ) (e : End) → open_link r e.carrier ≡ None → (disconnects r e).carrier ≡ e.carrier }
+    ensures hushed { (r : ℕ) (e : End) → waiting_at r (disconnects r e).lines ≡ [] }
+    ensures over { (r : ℕ) (s : Listener) (e : End) → kept_at r (disconnects r e).lines ≡ Some s → is_ended s.state.phase ≡ true }
+{}
+
 /// While the carrier of an end lasts, the sessions have heard all that it told, between any two calls.
 pub fn all_that_is_told_is_heard()
     ensures begins { (is_caller : Bool) (local : Local) → IsAttended (fresh_end is_caller local) }
     ensures connects { (c : Connect) (e : End) → IsAttended e → IsAttended (connects c e) }
     ensures called { (r : ℕ) (call : Call) (e : End) → IsAttended e → IsAttended (to_session r (called call) e) }
     ensures fed { (old new : Holding) (piece : List ℕ) (fed : Fed) → Feeds old piece fed new → IsAttended old.end → IsAttended new.end }
+    ensures disconnected { (r : ℕ) (e : End) → IsAttended e → IsAttended (disconnects r e) }
     ensures broken { (e : End) → IsAttended e → IsAttended (breaks e) }
 {}
 

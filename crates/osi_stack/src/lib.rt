@@ -7,6 +7,7 @@ mod addresses;
 mod calls;
 mod connecting;
 mod connects;
+mod disconnecting;
 mod hearing;
 pub mod laws;
 mod lines;

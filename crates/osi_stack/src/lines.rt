@@ -9,6 +9,7 @@ ghost use Rattle.osi_session.specs.Listening.{called, react};
 ghost use Rattle.osi_session.specs.Shown.{Lost, shown_by};
 ghost use Rattle.osi_session.specs.Sizes.{limit_of};
 ghost use Rattle.osi_stack.specs.Calls.{move_refusal, session_refusal, session_error, Refuses, first_shown, without_first, TellsOf};
+ghost use Rattle.osi_stack.specs.Disconnecting.{given_up, gives_up};
 ghost use Rattle.osi_stack.specs.Hearing.{loses, all_lost};
 ghost use Rattle.osi_stack.specs.Moving.{answers, line_by, carrier_by, to_session};
 ghost use Rattle.osi_stack.specs.Needs.{session_needs};
@@ -209,6 +210,17 @@ impl Line {
         };
         let is_shown = session.phase().shows_loss();
         forget(&mut self.session, &mut self.waiting, is_shown);
+    }
+
+    /// The connection is given up: its session is lost, and its user is shown nothing more.
+    fn give_up(&mut self)
+        ensures { self.new ≡ (self.old.0, given_up self.old.1) }
+    {
+        self.waiting.clear();
+        let Some(session) = &mut self.session else {
+            return;
+        };
+        let _unseen = session.broken();
     }
 
     /// A call of the user, who is shown nothing by it. Each error changes nothing.
@@ -445,6 +457,17 @@ impl Lines {
         ensures { self.new ≡ all_lost self.old }
     {
         lose_each(&mut self.rows);
+        self.waiting = count_waiting(self.rows.as_slice());
+    }
+
+    /// The connection of a reference is given up: its session is lost, and its user is shown nothing more.
+    pub fn give_up(&mut self, reference: u16)
+        ensures { self.new ≡ gives_up reference self.old }
+    {
+        let Some(place) = place_in(self.rows.as_slice(), self.rises, reference) else {
+            return;
+        };
+        self.rows[place].give_up();
         self.waiting = count_waiting(self.rows.as_slice());
     }
 

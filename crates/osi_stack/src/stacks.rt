@@ -3,6 +3,7 @@
 use crate::addresses::Addresses;
 use crate::connecting::{Connect, ConnectError};
 use crate::connects::ask;
+use crate::disconnecting::give_up;
 use crate::laws::{
     a_call_of_a_settled_end_is_answered_by_its_session, an_end_is_settled_between_calls,
     what_waits_is_told_in_order,
@@ -41,9 +42,10 @@ impl Model for Stack {
 }
 
 impl Stack {
-    ghost use Rattle.std.specs.Prelude.{◌≡◌, ◌+◌, ◌-◌, ◌*◌, ◌^◌, ◌≤◌, true, false, None, [], IsSome, IfSome, OnOk, OnErr, IfOk, IfErr, option_map, length, min};
+    ghost use Rattle.std.specs.Prelude.{◌≡◌, ◌+◌, ◌-◌, ◌*◌, ◌^◌, ◌≤◌, true, false, None, [], Err, IsSome, IfSome, OnOk, OnErr, IfOk, IfErr, option_map, length, min};
     ghost use Rattle.osi_tpkt.specs.Held.{fresh};
-    ghost use Rattle.osi_carrier.specs.Calls.{unsent_at, backlog_of};
+    ghost use Rattle.osi_carrier.specs.Calls.{closed_with, unsent_at, backlog_of};
+    ghost use Rattle.osi_carrier.specs.Growth.{grows};
     ghost use Rattle.osi_carrier.specs.Rows.{value_at};
     ghost use Rattle.osi_message.specs.Tokens.{named, no_token, token_octet};
     ghost use Rattle.osi_spdu.specs.Fields.{bits_of};
@@ -52,7 +54,8 @@ impl Stack {
     ghost use Rattle.osi_session.specs.Phases.{shows_loss};
     ghost use Rattle.osi_session.specs.Shown.{shown_by};
     ghost use Rattle.osi_stack.specs.Addresses.{addresses, addresses_at};
-    ghost use Rattle.osi_stack.specs.Calls.{connect_error, refusal, connects, call_error, table_error, Refuses, by_rule, has_given, held_by, phase_at, numbers_of, first_shown, without_first, carried, breaks};
+    ghost use Rattle.osi_stack.specs.Calls.{connect_error, refusal, connects, call_error, table_error, Refuses, by_rule, has_given, held_by, phase_at, numbers_of, first_shown, without_first, carried, is_over, breaks};
+    ghost use Rattle.osi_stack.specs.Disconnecting.{awaits_transport, disconnect_error, disconnects};
     ghost use Rattle.osi_stack.specs.Feeding.{Feeds};
     ghost use Rattle.osi_stack.specs.Moving.{to_session};
     ghost use Rattle.osi_stack.specs.Ordered.{TellsLowest};
@@ -131,6 +134,48 @@ impl Stack {
             return Err(CallError::NoSuchConnection);
         }
         self.lines.call(reference.0, request, &mut self.carrier)
+    }
+
+    /// Whether the session of a live connection waits for its transport connection.
+    fn awaits_transport(&self, reference: Ref) -> bool
+        ensures { result ≡ awaits_transport (session_at reference.0 self.now.end) }
+    {
+        match self.session(reference) {
+            None => false,
+            Some(session) => matches!(session.phase(), Phase::WaitTransport),
+        }
+    }
+
+    /// Gives up one connection at once (X.224 section 6.7), whatever its session does and whatever of it
+    /// waits for credit, which is dropped. Afterwards nothing of this reference is shown any more: its
+    /// session has ended, and its pending indications are dropped. All other connections go on.
+    ///
+    /// In class 2 a DR with reason 128 is written where the transport connection is open, behind what
+    /// [`Stack::outgoing`] has already, and the peer's user is shown that the connection is lost. The
+    /// connection is live until the peer answers. In class 0 the end ends with [`EndReason::Closed`], as
+    /// the byte connection has no other: what is still to be carried stays, and then its owner closes it.
+    /// A connection that is closing or gone, and one of an end that has ended, loses its pending
+    /// indications.
+    ///
+    /// `NoSuchConnection` for a reference that was never given; `BadState` in the phase `WaitTransport`,
+    /// since X.224 waits for the CC before it sends a DR; and then `OutOfMemory`, only where a DR is to be
+    /// written: never in class 0, and never where the transport connection is not open. Each error changes
+    /// nothing.
+    pub fn disconnect(&mut self, reference: Ref) -> Result<(), CallError>
+        ensures ok { OnOk result (self.new ≡ record self.old { end = disconnects reference.0 self.old.end }) }
+        ensures allowed { OnOk result (disconnect_error reference.0 self.old.end ≡ None) }
+        ensures refused { IfErr result (λ e. by_rule e ≡ disconnect_error reference.0 self.old.end) }
+        ensures needed { result ≡ Err CallError.OutOfMemory → grows self.old.end.carrier (closed_with reference.0 128 self.old.end.carrier) ≡ true }
+        ensures err { OnErr result (self.new ≡ self.old) }
+    {
+        an_end_is_settled_between_calls();
+        if !self.has_given(reference) {
+            return Err(CallError::NoSuchConnection);
+        }
+        if self.awaits_transport(reference) {
+            return Err(CallError::BadState);
+        }
+        give_up(&mut self.carrier, &mut self.lines, reference.0)
     }
 
     /// Feeds a piece of the stream that comes from the peer: its packets act one after the other, up
@@ -326,6 +371,18 @@ impl Stack {
         ensures { result ≡ min (backlog_of self.now.end.carrier.live) (2 ^ 64 - 1) }
     {
         self.carrier.backlog()
+    }
+
+    /// Whether the byte connection may be closed now: nothing is to be carried, and the end has ended, or
+    /// there were connections and none is live. (Who wants to ask for another one keeps it open.) Takes no
+    /// memory.
+    pub fn is_over(&self) -> bool
+        ensures { result ≡ is_over self.now.end }
+    {
+        if !self.outgoing().is_empty() {
+            return false;
+        }
+        self.ended().is_some() || (self.carrier.given() > 0 && self.live() == 0)
     }
 
     /// How many connections are live: those whose transport connection is asked for, open or closing. At

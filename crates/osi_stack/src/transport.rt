@@ -58,7 +58,7 @@ fn hand_some(carrier: &mut Carrier, reference: u16, sent: Option<Sent>) -> Resul
 
 /// Closes an open connection. Memory is needed for a DR, and want of it changes nothing.
 #[tactic(auto, using(crate::proofs::Needing::closing_needs))]
-fn close(carrier: &mut Carrier, reference: u16) -> Result<(), AllocError>
+pub fn close(carrier: &mut Carrier, reference: u16) -> Result<(), AllocError>
     ensures ok { OnOk result (carrier.new ≡ record carrier.old { state = closed_with reference 128 carrier.old.state }) }
     ensures err { OnErr result (carrier.new ≡ carrier.old) }
     ensures needed { OnErr result (grows carrier.old.state (closed_with reference 128 carrier.old.state) ≡ true) }

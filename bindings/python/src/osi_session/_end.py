@@ -249,6 +249,15 @@ class End:
         """Aborts the connection. BAD_STATE, TOO_LONG, and those of every call."""
         self._say(self._osi.osi_abort, reference, user_data)
 
+    def disconnect(self, reference: int) -> None:
+        """Gives up one connection at once, whatever it waits for: what the peer's credit holds back is
+        dropped, and nothing of this connection is shown any more, its pending indications included. In class
+        2 a disconnect request is outgoing, the peer's user is shown ``Lost``, and all other connections go
+        on. In class 0 the end ends. A connection that is gone already loses its pending indications.
+        SLOT_EMPTY, NO_SUCH_CONNECTION, BAD_STATE (WAIT_TRANSPORT: the peer has not answered yet; call again
+        in a later phase), NO_MEMORY."""
+        self._call(self._osi.osi_disconnect, reference)
+
     # ---- octets
 
     def _feed(self, at: int, length: int) -> Fed:
@@ -296,6 +305,11 @@ class End:
             self._osi.osi_outgoing(byref(self._slot), byref(octets))
         return octets.length
 
+    def wants_write(self) -> bool:
+        """Whether there are octets to be carried."""
+        with self._lock:
+            return bool(self._osi.osi_wants_write(byref(self._slot)))
+
     def taken(self, octets: int) -> None:
         """So many of them, the first, have been carried. SLOT_EMPTY, BAD_ARGUMENT (more than there are)."""
         passed = _within("octets", octets, 8 * ctypes.sizeof(ctypes.c_size_t))
@@ -317,6 +331,12 @@ class End:
         with self._lock:
             reason = self._osi.osi_ended(byref(self._slot), byref(detail))
         return Ending(Reason(reason), detail.value) if reason != 0 else None
+
+    def is_over(self) -> bool:
+        """Whether the byte connection may be closed now: nothing is outgoing, and the end has ended, or there
+        were connections and none is live. To ask for another connection, keep it open."""
+        with self._lock:
+            return bool(self._osi.osi_is_over(byref(self._slot)))
 
     def kept(self) -> int:
         """How many octets are kept of a packet, of TSDUs and of data in parts that are not whole yet: at

@@ -1,6 +1,7 @@
 use Rattle.std.proofs.Common.{subst}
 use Rattle.osi_stack.proofs.Vocabulary.{CameAbout, AllCameAbout, End}
 use Rattle.osi_stack.proofs.Comings.{packet_is_unit}
+use Rattle.osi_stack.proofs.DisconnectSettles.{disconnect_came}
 use Rattle.osi_stack.proofs.Folds.{packet_all, connect_all, call_came, feeds_all, told_all, breaks_all, came_asking, came_true}
 use Rattle.osi_stack.proofs.laws.a_session_is_what_its_inputs_made_it.Goals as goal
 
@@ -10,6 +11,7 @@ returns c = record {
   called = call_came;
   fed = feeds_all CameAbout (came_true c.what_happens_has_numbers.ensures.units);
   shown = told_all CameAbout;
+  disconnected = disconnect_came;
   broken = breaks_all CameAbout;
   heard = λ e unit sendable all. subst (λ (x : End). AllCameAbout x.lines) (packet_is_unit e unit sendable) (packet_all CameAbout (came_true c.what_happens_has_numbers.ensures.units) _ e all);
 }

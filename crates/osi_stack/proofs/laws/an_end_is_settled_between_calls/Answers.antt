@@ -1,5 +1,7 @@
-use Rattle.std.proofs.Common.{refl}
+use Rattle.std.proofs.Common.{◌∷◌, [], refl}
 use Rattle.osi_carrier.specs.Rows.{value_at}
+use Rattle.osi_session.specs.Listening.{broken}
+use Rattle.osi_stack.proofs.DisconnectSettles.{disconnect_settled}
 use Rattle.osi_stack.proofs.Knowing.{ShownFirst, known_at}
 use Rattle.osi_stack.proofs.Linking.{SessionLaws}
 use Rattle.osi_stack.proofs.Settling.{Profiles, fresh_settled, connect_settled, call_settled, feeds_settled, first_settled, carried_settled, breaks_settled, none_at, profiled_at}
@@ -31,6 +33,7 @@ returns c =
       fed = feeds_settled (record { laws = laws; profiles = profiles; waits = c.where_a_call_is_accepted.ensures.begun; units = c.what_happens_has_numbers.ensures.units; shown = shown });
       shown = first_settled;
       carried = carried_settled;
+      disconnected = disconnect_settled (λ s h. c.units_are_a_profile.ensures.kept s (broken ∷ []) h);
       broken = breaks_settled;
       over = λ r e s over. none_at r e s.orderly over;
       gone = λ r e s over. s.gone over r;

@@ -1,0 +1,13 @@
+use Rattle.osi_stack.proofs.DisconnectLeaves.{leaves_others, goes_on, asks_peer, ends_in_zero, rests_unlinked, hushes, is_over_then}
+use Rattle.osi_stack.proofs.laws.what_a_disconnect_leaves.Goals as goal
+
+pub returns : goal.returns
+returns c = record {
+  others = leaves_others;
+  lasts = goes_on;
+  asks = asks_peer;
+  zero = ends_in_zero;
+  rests = rests_unlinked;
+  hushed = hushes;
+  over = is_over_then;
+}
