@@ -32,7 +32,7 @@ def plain(*window):
 
 def gateway(number):
     terms = ["--classes", number, "--window", "15"]
-    server = subprocess.Popen([f"{OUT}/server", "--port", "0", *terms], stdout=subprocess.PIPE, text=True)
+    server = subprocess.Popen([f"{OUT}/server", "--port", "0", "--peers", "1", *terms], stdout=subprocess.PIPE, text=True)
     port = server.stdout.readline().split()[1]
     client = subprocess.run([f"{OUT}/client", "--port", port, *terms, "--bulk", str(COUNT), "--size", str(OCTETS)],
                             capture_output=True, text=True, check=True)

@@ -66,6 +66,16 @@ template <class T>
 inline constexpr bool holds_octets<T, std::void_t<element<T>, decltype(std::size(std::declval<const T &>()))>> =
     is_octet<element<T>> && !(std::is_array_v<T> && std::is_same_v<element<T>, char>);
 
+template <class T, class = void>
+inline constexpr bool owns_octets = false;
+
+/* What has octets in a row and goes with them. A std::string_view or std::span only views them: a const one lends the same
+ * pointer as another, and a const container lends a pointer to const. */
+template <class T>
+inline constexpr bool owns_octets<T, std::enable_if_t<holds_octets<T>>> =
+    !std::is_trivially_copyable_v<T> ||
+    !std::is_same_v<decltype(std::data(std::declval<const T &>())), decltype(std::data(std::declval<T &>()))>;
+
 } // namespace detail
 
 /* A view of octets that somebody else holds. It never points to null. */
@@ -122,6 +132,28 @@ public:
 private:
     const std::uint8_t *at_ = &detail::no_octet;
     std::size_t length_ = 0;
+};
+
+/* A view of octets that is kept for a later statement, as a field of an opening is. So it isn't made of a container that
+ * goes at the end of its statement, such as a std::string that a function returns: that does not compile. */
+class lasting_octets : public octets {
+public:
+    constexpr lasting_octets() noexcept = default;
+    lasting_octets(std::nullptr_t) = delete;
+    constexpr lasting_octets(octets view) noexcept : octets(view) {}
+    constexpr lasting_octets(const std::uint8_t *at, std::size_t length) noexcept : octets(at, length) {}
+    lasting_octets(const void *at, std::size_t length) noexcept : octets(at, length) {}
+    lasting_octets(osi_octets view) noexcept : octets(view) {}
+    lasting_octets(const char *text) noexcept : octets(text) {}
+
+    template <class T, class = std::enable_if_t<detail::holds_octets<T>>>
+    lasting_octets(const T &all) noexcept : octets(all)
+    {
+    }
+
+    /* Keep the container in a variable of its own first. */
+    template <class T, class = std::enable_if_t<!std::is_reference_v<T> && detail::owns_octets<std::remove_cv_t<T>>>>
+    lasting_octets(T &&temporary) = delete;
 };
 
 /* ---- what calls answer --------------------------------------------------------------------------- */
@@ -299,17 +331,17 @@ struct tsdu_sizes {
     std::uint16_t from_answerer = 0;
 };
 
-/* A connection that is asked for. */
+/* A connection that is asked for. It views its octets: they are to be there until end::connect was called. */
 struct opening {
     units requirements = units::half_duplex;
-    std::uint32_t serial = 0; /* the number of the first point, 0 to 999,999 */
-    sides wishes;             /* who is to hold each token */
-    octets calling_tsap;      /* the transport address of this end, 1 to 32 octets; none: no address */
-    octets called_tsap;       /* that of the other end */
-    octets calling_selector;  /* the session address of this user, 1 to 16 octets; none: no address */
-    octets called_selector;   /* that of the other user */
-    octets user_data;         /* at most 10,240 octets */
-    tsdu_sizes sizes;         /* the sizes that are asked for */
+    std::uint32_t serial = 0;        /* the number of the first point, 0 to 999,999 */
+    sides wishes;                    /* who is to hold each token */
+    lasting_octets calling_tsap;     /* the transport address of this end, 1 to 32 octets; none: no address */
+    lasting_octets called_tsap;      /* that of the other end */
+    lasting_octets calling_selector; /* the session address of this user, 1 to 16 octets; none: no address */
+    lasting_octets called_selector;  /* that of the other user */
+    lasting_octets user_data;        /* at most 10,240 octets */
+    tsdu_sizes sizes;                /* the sizes that are asked for */
 };
 
 /* ---- what is shown ----------------------------------------------------------------------------------- */

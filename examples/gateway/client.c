@@ -2,18 +2,19 @@
  * confirmation it awaits, gives the tokens and accepts the release.
  *
  *   client [--port 4000] [--classes 0|2|20] [--window 1..15] [--tsdu OCTETS] [--wait SECONDS] [--messages 5]
- *          [--log FILE|-] [--capture NAME] [--bulk COUNT] [--size OCTETS]
+ *          [--log FILE|-] [--capture NAME] [--bulk COUNT] [--size OCTETS] [--points EVERY]
  *
  * With --tsdu it asks for TSDUs of at most so many octets in both directions: 64 to 65535.
  * With --bulk it sends so many messages of one size, as fast as they go, and one point at the end, and
- * prints messages and megabytes a second. The status is 0 where the connection was released, and 3
- * where it was lost. */
+ * prints messages and megabytes a second. With --points it sets a point behind each so many of them, too, and awaits none
+ * of the confirmations but the last. The status is 0 where the connection was released, and 3 where it was lost. */
 #define _POSIX_C_SOURCE 200809L
 #include "gateway.h"
 
 #include <arpa/inet.h>
 #include <netinet/in.h>
 #include <netinet/tcp.h>
+#include <poll.h>
 #include <stdlib.h>
 #include <string.h>
 #include <sys/socket.h>
@@ -23,7 +24,8 @@
 #define TOKENS (OSI_TOKEN_DATA | OSI_TOKEN_MINOR | OSI_TOKEN_RELEASE)
 
 struct plan {
-    unsigned long messages, bulk, said;
+    unsigned long messages, bulk, said, points;
+    uint32_t last; /* the number of the point at the end of the bulk */
     size_t size;
     uint8_t *data;
     uint16_t connection, tsdu;
@@ -67,6 +69,8 @@ static void shown(struct gateway *g, const osi_indication *i)
             go_on(g);
         break;
     case OSI_MINOR_CONFIRMED:
+        if (plan->bulk > 0 && (plan->said < plan->bulk || i->number < plan->last))
+            break;
         if (plan->bulk > 0)
             tell_speed(plan);
         go_on(g);
@@ -89,11 +93,13 @@ static void shown(struct gateway *g, const osi_indication *i)
 static void send_bulk(struct gateway *g)
 {
     struct plan *plan = g->user;
+    const uint16_t r = plan->connection;
     while (plan->ready && plan->said < plan->bulk && gateway_waiting(g) < MOST_WAITING) {
-        if (osi_data(&g->end, plan->connection, plan->data, plan->size) != OSI_OK)
+        if (osi_data(&g->end, r, plan->data, plan->size) != OSI_OK)
             return;
-        if (++plan->said == plan->bulk)
-            osi_minor(&g->end, plan->connection, 1, OSI_NO_DATA);
+        plan->last = osi_next_serial(&g->end, r);
+        if (++plan->said == plan->bulk || (plan->points > 0 && plan->said % plan->points == 0))
+            osi_minor(&g->end, r, 1, OSI_NO_DATA);
     }
     g->has_more = plan->ready && plan->said < plan->bulk;
     if (plan->said == plan->bulk)
@@ -129,10 +135,18 @@ static bool ask(struct gateway *g)
     return code == OSI_OK;
 }
 
+/* Waits until there is something to do, and does it. False once all is done. */
+static bool turn(struct gateway *g)
+{
+    struct pollfd waits = {g->socket, gateway_events(g), 0};
+    poll(&waits, 1, gateway_timeout(g));
+    return gateway_turn(g, waits.revents);
+}
+
 int main(int count, char **words)
 {
     struct plan plan = {0};
-    struct gateway g = {.end = OSI_END, .socket = -1, .shown = shown, .user = &plan};
+    struct gateway g = {.end = OSI_END, .socket = -1, .log = log_file(count, words), .shown = shown, .user = &plan};
     int socket = connects(option(count, words, "--port", "4000"));
     if (socket < 0) {
         perror("client");
@@ -140,16 +154,19 @@ int main(int count, char **words)
     }
     plan.messages = strtoul(option(count, words, "--messages", "5"), NULL, 10);
     plan.bulk = strtoul(option(count, words, "--bulk", "0"), NULL, 10);
+    plan.points = strtoul(option(count, words, "--points", "0"), NULL, 10);
     plan.size = strtoul(option(count, words, "--size", "1000"), NULL, 10);
     plan.tsdu = (uint16_t)strtoul(option(count, words, "--tsdu", "0"), NULL, 10);
     plan.data = calloc(plan.size + 1, 1);
     if (plan.data == NULL || !gateway_open(&g, socket, true, count, words))
         return 2;
     bool asked = ask(&g);
-    while (asked && gateway_turn(&g))
+    while (asked && turn(&g))
         if (plan.bulk > 0)
             send_bulk(&g);
     gateway_close(&g);
+    if (g.log != NULL && g.log != stdout)
+        fclose(g.log);
     free(plan.data);
     return plan.lost ? 3 : plan.released ? 0 : 2;
 }

@@ -2,14 +2,23 @@
  * confirmation it awaits, gives the tokens and accepts the release.
  *
  *   client [--port 4000] [--classes 0|2|20] [--tsdu OCTETS] [--wait SECONDS] [--messages 5] [--log FILE|-]
+ *          [--bulk COUNT] [--size OCTETS]
  *
- * The status is 0 where the connection was released, and 3 where it was lost. */
+ * With --bulk it sends so many messages of one size as fast as they go, with a point behind each, and awaits none of the
+ * confirmations but the last: both sides then write much. The status is 0 where the connection was released, and 3 where it
+ * was lost. */
 #include "line.hpp"
+
+/* What is to be said: so many messages, and where each has a size, as fast as they go. */
+struct plan {
+    unsigned long messages = 5;
+    std::optional<std::size_t> size;
+};
 
 class client final : public line {
 public:
-    client(osi::end made, connection socket, const std::string &log, unsigned long messages)
-        : line(std::move(made), std::move(socket), "left", log), messages_(messages)
+    client(osi::end made, connection socket, std::ostream &log, std::chrono::seconds patience, plan wanted)
+        : line(std::move(made), std::move(socket), "left", log, patience), plan_(wanted)
     {
     }
 
@@ -24,29 +33,62 @@ public:
             log() << "connect refused: " << osi::text(connection.code) << '\n';
             return false;
         }
-        log() << "connect ok " << *connection << '\n';
+        of_ = *connection;
+        log() << "connect ok " << of_ << '\n';
         return true;
+    }
+
+    /* Goes on until the byte connection is over. */
+    void run()
+    {
+        pollfd ready = waits();
+        while (poll(&ready, 1, has_more() ? 0 : timeout()) >= 0 || errno == EINTR) {
+            if (!turn(ready.revents))
+                return;
+            while (has_more())
+                say_one();
+            ready = waits();
+        }
     }
 
     int status() const noexcept { return lost_ ? 3 : released_ ? 0 : 2; }
 
 private:
-    /* The next message, and a point behind it; or the tokens where all was said. */
-    void go_on(osi::reference of)
+    /* The next message, and a point behind it. */
+    void say_one()
     {
-        if (said_ == messages_) {
-            did(of, "give", end.give(of, osi::tokens::data | osi::tokens::minor | osi::tokens::release));
-            return;
-        }
-        did(of, "data", end.data(of, "message " + std::to_string(++said_)));
-        did(of, "minor", end.minor_point(of));
+        said_++;
+        did(of_, "data", end.data(of_, plan_.size ? std::string(*plan_.size, 'x') : "message " + std::to_string(said_)));
+        did(of_, "minor", end.minor_point(of_));
+    }
+
+    /* The next message; or the tokens where all was said. */
+    void go_on()
+    {
+        if (said_ < plan_.messages)
+            say_one();
+        else
+            did(of_, "give", end.give(of_, osi::tokens::data | osi::tokens::minor | osi::tokens::release));
+    }
+
+    /* Whether messages are sent ahead and little waits to be sent. */
+    bool has_more()
+    {
+        return plan_.size && ready_ && said_ < plan_.messages && end.outgoing().size() + end.backlog() < most_waiting;
     }
 
     void shown(const osi::indication &one) override
     {
         switch (one.tag) {
         case osi::tag::connected:
-        case osi::tag::minor_confirmed: go_on(one.reference); break;
+            ready_ = true;
+            if (!plan_.size)
+                go_on();
+            break;
+        case osi::tag::minor_confirmed:
+            if (!plan_.size || *one.number + 1 == plan_.messages)
+                go_on();
+            break;
         case osi::tag::release:
             released_ = did(one.reference, "releaseaccept", end.release_accept(one.reference));
             break;
@@ -54,8 +96,10 @@ private:
         }
     }
 
-    unsigned long messages_, said_ = 0;
-    bool released_ = false, lost_ = false;
+    const plan plan_;
+    osi::reference of_ = 0;
+    unsigned long said_ = 0;
+    bool ready_ = false, released_ = false, lost_ = false;
 };
 
 int main(int count, char **words)
@@ -73,9 +117,13 @@ int main(int count, char **words)
         std::cerr << "client: " << osi::text(made.code) << '\n';
         return 2;
     }
-    client one(std::move(*made), std::move(socket), option(count, words, "--log", "-"),
-               std::stoul(option(count, words, "--messages", "5")));
-    one.patience = std::chrono::seconds(std::stoi(option(count, words, "--wait", "10")));
+    const unsigned long bulk = std::stoul(option(count, words, "--bulk", "0"));
+    plan wanted{std::stoul(option(count, words, "--messages", "5")), std::nullopt};
+    if (bulk > 0)
+        wanted = {bulk, std::stoul(option(count, words, "--size", "1000"))};
+    log_file log(option(count, words, "--log", bulk > 0 ? "/dev/null" : "-"));
+    const std::chrono::seconds patience(std::stoi(option(count, words, "--wait", "10")));
+    client one(std::move(*made), std::move(socket), log.stream(), patience, wanted);
     if (one.ask(sizes_of(option(count, words, "--tsdu", "0"))))
         one.run();
     return one.status();

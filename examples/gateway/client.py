@@ -88,7 +88,7 @@ FUNCTIONS = {
     "osi_outgoing": ([POINTER(Octets)], None),
     "osi_taken": ([c_size_t], c_uint32),
     "osi_broken": ([], c_uint32),
-    "osi_live": ([], c_size_t),
+    "osi_is_over": ([], c_bool),
     "osi_fetch": ([], c_uint32),
     "osi_last_with_size": ([POINTER(Indication), c_size_t], None),
 }
@@ -214,10 +214,10 @@ class Client:
         return of(octets)
 
     def turn(self, connection):
-        """Waits once, and carries what can be carried. False once the peer has closed, or this side is to:
-        all is sent, and the one connection that was asked for is gone."""
+        """Waits once, and carries what can be carried. False once the peer has closed, or this side may: all is sent, and
+        the one connection that was asked for is gone."""
         waiting = self.outgoing()
-        if not waiting and self.osi.osi_live(byref(self.end)) == 0:
+        if self.osi.osi_is_over(byref(self.end)):
             return False
         readable, writable, _ = select.select([connection], [connection] if waiting else [], [], self.patience)
         if writable:

@@ -1,5 +1,6 @@
 //! The calling side of client.c, in Rust without crates: it sends messages with a minor point behind
-//! each, whose confirmation it awaits, gives the tokens and accepts the release.
+//! each, whose confirmation it awaits, gives the tokens and accepts the release. It writes all before it
+//! reads, which is enough for who says little at a time; `bindings/rust/examples` has the loop of a gateway.
 //!
 //!     rustc -O --edition 2021 -L build -l static=osi-session client.rs
 //!     client [--port 4000] [--classes 0|2|20] [--tsdu OCTETS] [--wait SECONDS] [--messages 5] [--log FILE]
@@ -101,7 +102,7 @@ mod osi {
         pub fn osi_outgoing(end: *mut End, octets: *mut Octets);
         pub fn osi_taken(end: *mut End, octets: usize) -> u32;
         pub fn osi_broken(end: *mut End) -> u32;
-        pub fn osi_live(end: *mut End) -> usize;
+        pub fn osi_is_over(end: *mut End) -> bool;
         pub fn osi_fetch(end: *mut End) -> u32;
         pub fn osi_last_with_size(end: *mut End, shown: *mut Indication, size: usize);
     }
@@ -187,9 +188,9 @@ impl Caller {
         unsafe { osi::osi_broken(&mut *self.end) };
     }
 
-    /// How many connections are not gone.
-    fn live(&mut self) -> usize {
-        unsafe { osi::osi_live(&mut *self.end) }
+    /// Whether the byte connection may be closed now.
+    fn is_over(&mut self) -> bool {
+        unsafe { osi::osi_is_over(&mut *self.end) }
     }
 
     fn next(&mut self) -> Option<Shown> {
@@ -346,7 +347,7 @@ impl Client {
         let mut piece = [0; 65536];
         loop {
             self.transmit(stream)?;
-            if self.caller.live() == 0 {
+            if self.caller.is_over() {
                 return stream.shutdown(Shutdown::Both);
             }
             match stream.read(&mut piece) {

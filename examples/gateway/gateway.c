@@ -1,5 +1,5 @@
 /* One end over a TCP socket: octets are read and written as they come and go, in any pieces, and each
- * indication is told to the user of the program. It never waits for the peer to read. */
+ * indication is told to the user of the program. It waits neither for the peer to read nor for it to write. */
 #define _POSIX_C_SOURCE 200809L
 #include "gateway.h"
 
@@ -8,7 +8,7 @@
 #include <stdlib.h>
 #include <string.h>
 #include <sys/socket.h>
-#include <sys/time.h>
+#include <time.h>
 #include <unistd.h>
 
 #define PIECE 65536
@@ -116,6 +116,13 @@ bool gateway_did(struct gateway *g, unsigned reference, const char *call, uint32
 
 /* ---- the socket */
 
+static long long now_in_milliseconds(void)
+{
+    struct timespec now;
+    clock_gettime(CLOCK_MONOTONIC, &now);
+    return (long long)now.tv_sec * 1000 + now.tv_nsec / 1000000;
+}
+
 static size_t outgoing_length(struct gateway *g)
 {
     osi_octets octets;
@@ -126,6 +133,14 @@ static size_t outgoing_length(struct gateway *g)
 size_t gateway_waiting(struct gateway *g)
 {
     return outgoing_length(g) + osi_backlog(&g->end);
+}
+
+bool gateway_may_answer(struct gateway *g, uint16_t reference)
+{
+    if (osi_unsent(&g->end, reference) <= MOST_UNSENT)
+        return true;
+    gateway_did(g, reference, "disconnect", osi_disconnect(&g->end, reference));
+    return false;
 }
 
 /* Fetches all that waits. */
@@ -142,7 +157,7 @@ static void show_all(struct gateway *g)
     }
 }
 
-static void is_over(struct gateway *g)
+static void close_socket(struct gateway *g)
 {
     osi_broken(&g->end);
     show_all(g);
@@ -161,21 +176,24 @@ static void feed_all(struct gateway *g, const uint8_t *piece, size_t length)
     }
 }
 
-/* Reads what there is, once. Without a flag it waits for something to come; false where nothing came. */
-static bool receive(struct gateway *g, int flags)
+static bool comes_later(void)
+{
+    return errno == EAGAIN || errno == EWOULDBLOCK || errno == EINTR;
+}
+
+/* Reads what there is, once. */
+static void receive(struct gateway *g)
 {
     static uint8_t piece[PIECE];
-    ssize_t count = recv(g->socket, piece, sizeof piece, flags);
-    if (count < 0 && (errno == EAGAIN || errno == EWOULDBLOCK))
-        return false;
+    const ssize_t count = recv(g->socket, piece, sizeof piece, MSG_DONTWAIT);
     if (count > 0) {
+        g->was_heard = true;
         if (g->came != NULL)
             write_octets(g->came, piece, (size_t)count);
         feed_all(g, piece, (size_t)count);
-    } else if (count == 0 || errno != EINTR) {
-        is_over(g);
+    } else if (count == 0 || !comes_later()) {
+        close_socket(g);
     }
-    return true;
 }
 
 /* Stands still in the middle of what it sends, until somebody ends it. */
@@ -195,74 +213,76 @@ static void transmit(struct gateway *g)
     size_t most = octets.length;
     if (g->stall_at > 0 && g->sent_octets + most > g->stall_at)
         most = g->stall_at - g->sent_octets;
-    ssize_t count = send(g->socket, octets.at, most, MSG_NOSIGNAL | MSG_DONTWAIT);
+    const ssize_t count = send(g->socket, octets.at, most, MSG_NOSIGNAL | MSG_DONTWAIT);
     if (count >= 0) {
         if (g->sent != NULL)
             write_octets(g->sent, octets.at, (size_t)count);
         g->sent_octets += (size_t)count;
+        g->moved = now_in_milliseconds();
         osi_taken(&g->end, (size_t)count);
         if (g->stall_at > 0 && g->sent_octets == g->stall_at)
             stall();
-    } else if (errno != EAGAIN && errno != EWOULDBLOCK && errno != EINTR) {
-        is_over(g);
+    } else if (!comes_later()) {
+        close_socket(g);
     }
 }
 
-/* ---- when it is over (docs/GUIDE.md, Who closes TCP) */
-
-/* Whether this side is to close: all is sent, and the end has ended, or its last connection is gone. */
-static bool has_said_all(struct gateway *g)
-{
-    uint64_t detail;
-    if (outgoing_length(g) > 0)
-        return false;
-    if (osi_live(&g->end) > 0)
-        g->was_live = true;
-    return osi_ended(&g->end, &detail) != OSI_END_NONE || (g->was_live && osi_live(&g->end) == 0);
-}
+/* ---- a turn of the loop (docs/GUIDE.md) */
 
 /* Gives the peer up: it says nothing, or nothing that is ever shown. Then osi_phase tells what its connections wait for. */
-static void give_up(struct gateway *g, const char *why)
+static void give_up(struct gateway *g)
 {
     FILE *log = g->log != NULL ? g->log : stderr;
+    const char *why = g->was_heard && !g->was_shown ? "nothing was shown" : "the peer is silent";
     fprintf(log, "%s gives up: %s\n", g->side, why);
     for (uint16_t r = 1; !g->was_shown && osi_phase(&g->end, r) != OSI_PHASE_NONE; r++)
         fprintf(log, "%s %u was never shown, %s\n", g->side, r, osi_phase_name(osi_phase(&g->end, r)));
-    is_over(g);
+    close_socket(g);
 }
 
-/* Waits for the socket once, and reads. Where nothing may be sent the read itself waits: so it is where the peer
- * gives no credit, which in class 2 is the rule. False where nothing happened for too long. */
-static bool wait_and_read(struct gateway *g)
+short gateway_events(struct gateway *g)
 {
-    const size_t left = outgoing_length(g);
-    const bool goes_on = g->has_more && gateway_waiting(g) < MOST_WAITING;
-    if (left == 0 && !goes_on)
-        return receive(g, 0);
-    struct pollfd waits = {g->socket, 0, 0};
-    waits.events = (short)((left <= MOST_WAITING ? POLLIN : 0) | (left > 0 ? POLLOUT : 0));
-    const int came = poll(&waits, 1, goes_on ? 0 : (int)g->patience * 1000);
-    if (waits.revents & (POLLIN | POLLERR | POLLHUP))
-        receive(g, MSG_DONTWAIT);
-    return came > 0 || goes_on;
+    const bool reads = outgoing_length(g) <= MOST_OUTGOING;
+    return (short)((reads ? POLLIN : 0) | (osi_wants_write(&g->end) ? POLLOUT : 0));
 }
 
-bool gateway_turn(struct gateway *g)
+/* When it is given up, unless something happens before. */
+static long long deadline(const struct gateway *g)
 {
-    if (has_said_all(g)) {
-        is_over(g);
-        return false;
-    }
-    if (!wait_and_read(g))
-        give_up(g, "the peer is silent");
-    if (g->socket >= 0 && outgoing_length(g) > 0)
+    return (g->was_shown ? g->moved : g->began) + g->patience;
+}
+
+int gateway_timeout(struct gateway *g)
+{
+    const long long left = deadline(g) - now_in_milliseconds() + 1;
+    if (g->has_more && gateway_waiting(g) < MOST_WAITING)
+        return 0;
+    return left > 0 ? (int)left : 0;
+}
+
+bool gateway_turn(struct gateway *g, short found)
+{
+    const long long now = now_in_milliseconds();
+    if (found != 0)
+        g->moved = now;
+    if (found & (POLLIN | POLLERR | POLLHUP))
+        receive(g);
+    if (g->socket >= 0 && osi_wants_write(&g->end))
         transmit(g);
-    if (g->socket >= 0 && !g->was_shown && time(NULL) - g->began > g->patience)
-        give_up(g, "nothing was shown");
+    if (g->socket >= 0 && osi_is_over(&g->end))
+        close_socket(g);
+    if (g->socket >= 0 && now > deadline(g))
+        give_up(g);
     return g->socket >= 0;
 }
 
 /* ---- opening and closing */
+
+FILE *log_file(int count, char **words)
+{
+    const char *log = option(count, words, "--log", NULL);
+    return log == NULL ? NULL : strcmp(log, "-") == 0 ? stdout : fopen(log, "w");
+}
 
 static FILE *capture_file(const char *capture, const char *side)
 {
@@ -277,7 +297,7 @@ bool gateway_open(struct gateway *g, int socket, bool calls, int count, char **w
 {
     /* A caller offers class 2 where its peer is known to have it; the called side takes what it is asked for. */
     const char *classes = option(count, words, "--classes", calls ? "0" : "20");
-    const char *log = option(count, words, "--log", NULL), *capture = option(count, words, "--capture", NULL);
+    const char *capture = option(count, words, "--capture", NULL);
     osi_terms terms = {0, 13, (uint8_t)atoi(option(count, words, "--window", "15"))};
     if (strchr(classes, '0') != NULL)
         terms.classes |= OSI_CLASS_0;
@@ -285,23 +305,20 @@ bool gateway_open(struct gateway *g, int socket, bool calls, int count, char **w
         terms.classes |= OSI_CLASS_2;
     g->socket = socket;
     g->side = calls ? "left" : "right";
-    g->patience = atoi(option(count, words, "--wait", "10"));
-    g->began = time(NULL);
-    g->log = log == NULL ? NULL : strcmp(log, "-") == 0 ? stdout : fopen(log, "w");
+    g->patience = atoll(option(count, words, "--wait", "10")) * 1000;
+    g->began = g->moved = now_in_milliseconds();
     g->sent = capture_file(capture, g->side);
     g->came = capture_file(capture, calls ? "right" : "left");
-    const struct timeval patience = {g->patience, 0};
-    setsockopt(socket, SOL_SOCKET, SO_RCVTIMEO, &patience, sizeof patience);
     return (calls ? osi_caller(&g->end, &terms) : osi_called(&g->end, &terms)) == OSI_OK;
 }
 
 void gateway_close(struct gateway *g)
 {
-    FILE *files[] = {g->log, g->sent, g->came};
     if (g->socket >= 0)
         close(g->socket);
+    if (g->sent != NULL)
+        fclose(g->sent);
+    if (g->came != NULL)
+        fclose(g->came);
     osi_free(&g->end);
-    for (size_t i = 0; i < 3; i++)
-        if (files[i] != NULL && files[i] != stdout)
-            fclose(files[i]);
 }

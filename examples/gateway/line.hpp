@@ -149,39 +149,60 @@ inline std::string words(const osi::indication &shown)
 
 /* ---- an end on its socket */
 
-/* An end, its socket and its log. Who uses it overrides shown. */
+/* An end, its socket and its log. No call of it waits, so one thread carries many of them, and a peer that does not read
+ * holds up nobody. Who uses it overrides shown. */
 class line {
 public:
-    line(osi::end made, connection socket, const char *side, const std::string &log)
-        : end(std::move(made)), socket_(std::move(socket)), side_(side)
+    line(osi::end made, connection socket, const char *side, std::ostream &log, std::chrono::seconds patience)
+        : end(std::move(made)), socket_(std::move(socket)), side_(side), log_(log), patience_(patience)
     {
-        if (log != "-")
-            file_.open(log);
     }
     line(const line &) = delete;
     line &operator=(const line &) = delete;
     virtual ~line() = default;
 
-    /* Goes on until the byte connection is closed, by this side or by the other. */
-    void run()
+    /* No more is called while so many octets wait to be sent: those that go next, and those that wait for credit. */
+    static constexpr std::size_t most_waiting = 262144;
+    /* No more is read while so many octets go next: what is read is answered. This is above the bound of calls, since else
+     * two sides that both write much would read no more, and wait for each other for ever. */
+    static constexpr std::size_t most_outgoing = 524288;
+    /* A connection whose peer gives no credit for so many octets of answers gets no more of them, and is given up. */
+    static constexpr std::size_t most_unsent = 16384;
+
+    /* What poll is to wait for, and for how many milliseconds at most. */
+    pollfd waits()
     {
-        while (turn()) {
-        }
-        (void)end.broken();
-        show({});
+        const int reads = end.outgoing().size() <= most_outgoing ? POLLIN : 0;
+        return {socket_.handle(), static_cast<short>(reads | (end.wants_write() ? POLLOUT : 0)), 0};
+    }
+    int timeout() const
+    {
+        const auto left = std::chrono::ceil<std::chrono::milliseconds>(deadline() - clock::now());
+        return left.count() > 0 ? static_cast<int>(left.count()) : 0;
     }
 
-    /* No more is read while so many octets wait to be sent. */
-    static constexpr std::size_t most_waiting = 262144;
-
-    std::chrono::milliseconds patience{10000};
+    /* One turn of the loop: carries what can be carried, and waits for nothing. False once there is nothing left to do,
+     * since the byte connection is over, or the peer was given up; then the line is to go. */
+    bool turn(short found)
+    {
+        if (found != 0)
+            moved_ = clock::now();
+        const bool goes_on = carry(found);
+        if (goes_on && clock::now() <= deadline())
+            return true;
+        if (goes_on)
+            give_up();
+        (void)end.broken();
+        show({});
+        return false;
+    }
 
 protected:
     osi::end end;
 
     virtual void shown(const osi::indication &one) = 0;
 
-    std::ostream &log() { return (file_.is_open() ? file_ : std::cout) << side_ << ' '; }
+    std::ostream &log() { return log_ << side_ << ' '; }
 
     /* Writes the line of a call, as "left 1 data ok", and answers whether it was done. */
     bool did(osi::reference of, const char *call, osi::code answer)
@@ -191,7 +212,18 @@ protected:
         return answer == osi::code::ok;
     }
 
+    /* Whether a connection may be answered. One whose peer asks on and gives no credit for the answers is given up. */
+    bool may_answer(osi::reference of)
+    {
+        if (end.unsent(of) <= most_unsent)
+            return true;
+        did(of, "disconnect", end.disconnect(of));
+        return false;
+    }
+
 private:
+    using clock = std::chrono::steady_clock;
+
     void show(osi::octets piece)
     {
         (void)end.feed_all(piece, [this](const osi::indication &one) {
@@ -201,37 +233,26 @@ private:
         });
     }
 
-    /* Whether this side is to close: all is sent, and the end has ended, or its last connection is gone. */
-    bool has_said_all()
+    /* When the peer is given up, unless something happens before. */
+    clock::time_point deadline() const { return (was_shown_ ? moved_ : began_) + patience_; }
+
+    /* Reads, if there is something, and writes, if something is to be sent; whether the byte connection goes on. */
+    bool carry(short found)
     {
-        was_live_ = was_live_ || end.live() > 0;
-        return end.outgoing().empty() && (end.ended() || (was_live_ && end.live() == 0));
+        if ((found & (POLLIN | POLLERR | POLLHUP)) != 0 && !receive())
+            return false;
+        return (!end.wants_write() || transmit()) && !end.is_over();
     }
 
-    /* Waits for the socket once, and carries what can be carried. False once it is to be closed: also where
-     * the peer is silent, or where nothing was shown for so long. */
-    bool turn()
+    /* The log says of connections that were never shown where they stand. */
+    void give_up()
     {
-        if ((!end.outgoing().empty() && !transmit()) || has_said_all())
-            return false;
-        const std::size_t left = end.outgoing().size();
-        pollfd ready = {socket_.handle(), 0, 0};
-        ready.events = static_cast<short>((left <= most_waiting ? POLLIN : 0) | (left > 0 ? POLLOUT : 0));
-        if (poll(&ready, 1, static_cast<int>(patience.count())) <= 0)
-            return gives_up("the peer is silent");
-        if ((ready.revents & (POLLIN | POLLERR | POLLHUP)) != 0 && !receive())
-            return false;
-        return was_shown_ || std::chrono::steady_clock::now() - began_ <= patience || gives_up("nothing was shown");
-    }
-
-    /* False; and the log says of connections that were never shown where they stand. */
-    bool gives_up(const char *why)
-    {
-        log() << "gives up: " << why << '\n';
+        log() << "gives up: " << (was_heard_ && !was_shown_ ? "nothing was shown" : "the peer is silent") << '\n';
         for (osi::reference of = 1; !was_shown_ && end.phase(of) != osi::phase::none; of++)
             log() << of << " was never shown, " << osi::name(end.phase(of)) << '\n';
-        return false;
     }
+
+    static bool comes_later() { return errno == EAGAIN || errno == EWOULDBLOCK || errno == EINTR; }
 
     /* Writes what the socket takes, once. */
     bool transmit()
@@ -239,25 +260,45 @@ private:
         const osi::octets waiting = end.outgoing();
         const ssize_t count = send(socket_.handle(), waiting.data(), waiting.size(), MSG_NOSIGNAL | MSG_DONTWAIT);
         if (count < 0)
-            return errno == EAGAIN || errno == EWOULDBLOCK || errno == EINTR;
+            return comes_later();
+        moved_ = clock::now();
         return end.taken(static_cast<std::size_t>(count)) == osi::code::ok;
     }
 
     /* Reads what there is, once. */
     bool receive()
     {
-        const ssize_t count = recv(socket_.handle(), piece_.data(), piece_.size(), MSG_DONTWAIT);
-        if (count > 0)
-            show({piece_.data(), static_cast<std::size_t>(count)});
-        return count > 0 || (count < 0 && (errno == EAGAIN || errno == EWOULDBLOCK || errno == EINTR));
+        static std::array<std::uint8_t, 65536> piece;
+        const ssize_t count = recv(socket_.handle(), piece.data(), piece.size(), MSG_DONTWAIT);
+        if (count <= 0)
+            return count < 0 && comes_later();
+        was_heard_ = true;
+        show({piece.data(), static_cast<std::size_t>(count)});
+        return true;
     }
 
     connection socket_;
     const char *side_;
-    bool was_live_ = false, was_shown_ = false;
-    const std::chrono::steady_clock::time_point began_ = std::chrono::steady_clock::now();
+    std::ostream &log_;
+    const std::chrono::seconds patience_;
+    const clock::time_point began_ = clock::now();
+    clock::time_point moved_ = began_;
+    bool was_heard_ = false, was_shown_ = false;
+};
+
+/* Where the log goes that --log FILE|- names. */
+class log_file {
+public:
+    explicit log_file(const std::string &name)
+    {
+        if (name != "-")
+            file_.open(name);
+    }
+
+    std::ostream &stream() { return file_.is_open() ? file_ : std::cout; }
+
+private:
     std::ofstream file_;
-    std::array<std::uint8_t, 65536> piece_{};
 };
 
 #endif

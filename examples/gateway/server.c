@@ -1,62 +1,80 @@
-/* The called side: takes one byte connection, accepts what is asked for, confirms each point, answers
+/* The called side, for many peers at once: takes byte connections, accepts what is asked for, confirms each point, answers
  * when it is given the tokens, and releases the connection.
  *
- *   server [--port 4000] [--classes 0|2|20] [--window 1..15] [--tsdu OCTETS] [--wait SECONDS] [--log FILE|-]
- *          [--capture NAME] [--stall OCTETS]
+ *   server [--port 4000] [--peers COUNT] [--classes 0|2|20] [--window 1..15] [--tsdu OCTETS] [--wait SECONDS]
+ *          [--log FILE|-] [--capture NAME] [--stall OCTETS]
  *
- * It prints the port that it listens on (0 takes a free one). A peer whose connection is not shown within
- * --wait seconds, or that is silent for so long, is logged and given up. With --tsdu it takes TSDUs of at most
- * so many octets, 64 to 65535, and sends none that are longer, where the client names a size too. With --stall
- * it stops for good once it has sent so many octets. */
+ * It prints the port that it listens on (0 takes a free one), and what each peer said once it is gone. With --peers it ends
+ * when so many peers have come and gone. A peer whose connection is not shown within --wait seconds, or that is silent for
+ * so long, is logged and given up. With --tsdu it takes TSDUs of at most so many octets, 64 to 65535, and sends none that
+ * are longer, where the client names a size too. With --stall it stops for good once it has sent so many octets to a peer.
+ * --capture is for one peer. */
 #define _POSIX_C_SOURCE 200809L
 #include "gateway.h"
 
 #include <arpa/inet.h>
+#include <errno.h>
+#include <fcntl.h>
 #include <netinet/in.h>
 #include <netinet/tcp.h>
+#include <poll.h>
 #include <stdlib.h>
 #include <string.h>
 #include <sys/socket.h>
 #include <unistd.h>
 
 #define UNITS (OSI_HALF_DUPLEX | OSI_MINOR_SYNC | OSI_NEGOTIATED_RELEASE)
+#define MOST_PEERS 64
 
-struct seen {
+/* A byte connection, and what came on it. */
+struct peer {
+    struct gateway gateway;
     unsigned long messages;
     unsigned long octets;
     uint16_t tsdu;
 };
 
+struct server {
+    int listener;
+    FILE *log;
+    struct peer *peers[MOST_PEERS];
+    int here;             /* how many peers are here */
+    unsigned long awaits; /* how many more may come */
+    int count;            /* the command line */
+    char **words;
+};
+
 /* The tokens came: says how many messages did, and asks for the release. */
 static void answer(struct gateway *g, uint16_t r)
 {
-    struct seen *seen = g->user;
+    const struct peer *peer = g->user;
     char text[64];
-    int length = snprintf(text, sizeof text, "%lu messages", seen->messages);
+    int length = snprintf(text, sizeof text, "%lu messages", peer->messages);
     gateway_did(g, r, "data", osi_data(&g->end, r, (const uint8_t *)text, (size_t)length));
     gateway_did(g, r, "release", osi_release(&g->end, r, OSI_NO_DATA));
 }
 
 static void shown(struct gateway *g, const osi_indication *i)
 {
-    struct seen *seen = g->user;
+    struct peer *peer = g->user;
     static const osi_sides asker = {OSI_ASKER, OSI_ASKER, OSI_ASKER, OSI_ASKER};
     uint16_t r = i->reference;
     switch (i->tag) {
     case OSI_CONNECT:
-        gateway_did(g, r, "accept", osi_accept_sized(&g->end, r, i->requirements & UNITS, 0, &asker, seen->tsdu,
-                                                     seen->tsdu, OSI_NO_DATA));
+        gateway_did(g, r, "accept", osi_accept_sized(&g->end, r, i->requirements & UNITS, 0, &asker, peer->tsdu,
+                                                     peer->tsdu, OSI_NO_DATA));
         break;
     case OSI_DATA:
-        seen->messages++;
-        seen->octets += i->user_data.length;
+        peer->messages++;
+        peer->octets += i->user_data.length;
         break;
     case OSI_MINOR:
-        if (i->confirm)
+        if (i->confirm && gateway_may_answer(g, r))
             gateway_did(g, r, "minorconfirm", osi_minor_confirm(&g->end, r, i->number, OSI_NO_DATA));
         break;
     case OSI_GIVEN:
-        answer(g, r);
+        if (gateway_may_answer(g, r))
+            answer(g, r);
         break;
     default:
         break;
@@ -73,32 +91,86 @@ static int listens(const char *port, int *listener)
     own.sin_addr.s_addr = htonl(INADDR_LOOPBACK);
     *listener = socket(AF_INET, SOCK_STREAM, 0);
     setsockopt(*listener, SOL_SOCKET, SO_REUSEADDR, &yes, sizeof yes);
-    if (bind(*listener, (struct sockaddr *)&own, sizeof own) != 0 || listen(*listener, 1) != 0)
+    if (bind(*listener, (struct sockaddr *)&own, sizeof own) != 0 || listen(*listener, MOST_PEERS) != 0)
         return -1;
+    fcntl(*listener, F_SETFL, O_NONBLOCK);
     getsockname(*listener, (struct sockaddr *)&own, &size);
     return ntohs(own.sin_port);
 }
 
+/* Takes the next peer, if there is one. Where there is no memory for it, it is hung up on. */
+static void take_peer(struct server *s)
+{
+    int yes = 1, socket = accept(s->listener, NULL, NULL);
+    if (socket < 0)
+        return;
+    struct peer *peer = calloc(1, sizeof *peer);
+    if (peer == NULL) {
+        close(socket);
+        return;
+    }
+    setsockopt(socket, IPPROTO_TCP, TCP_NODELAY, &yes, sizeof yes);
+    peer->tsdu = (uint16_t)strtoul(option(s->count, s->words, "--tsdu", "0"), NULL, 10);
+    peer->gateway = (struct gateway){.end = OSI_END, .log = s->log, .shown = shown, .user = peer};
+    peer->gateway.stall_at = (size_t)atol(option(s->count, s->words, "--stall", "0"));
+    s->awaits--;
+    if (gateway_open(&peer->gateway, socket, false, s->count, s->words)) {
+        s->peers[s->here++] = peer;
+        return;
+    }
+    gateway_close(&peer->gateway);
+    free(peer);
+}
+
+/* The peer at this place is gone; the last one takes its place. */
+static void forget(struct server *s, int place)
+{
+    struct peer *peer = s->peers[place];
+    printf("took %lu messages, %lu octets\n", peer->messages, peer->octets);
+    fflush(stdout);
+    gateway_close(&peer->gateway);
+    free(peer);
+    s->peers[place] = s->peers[--s->here];
+}
+
+/* Waits until there is something to do, and does it. */
+static void turn(struct server *s)
+{
+    struct pollfd waits[1 + MOST_PEERS];
+    const int here = s->here;
+    int timeout = -1;
+    waits[0] = (struct pollfd){here < MOST_PEERS && s->awaits > 0 ? s->listener : -1, POLLIN, 0};
+    for (int i = 0; i < here; i++) {
+        struct gateway *g = &s->peers[i]->gateway;
+        const int own = gateway_timeout(g);
+        waits[1 + i] = (struct pollfd){g->socket, gateway_events(g), 0};
+        timeout = timeout < 0 || own < timeout ? own : timeout;
+    }
+    if (poll(waits, (nfds_t)(1 + here), timeout) < 0 && errno != EINTR)
+        exit(2);
+    for (int i = here - 1; i >= 0; i--)
+        if (!gateway_turn(&s->peers[i]->gateway, waits[1 + i].revents))
+            forget(s, i);
+    if (waits[0].revents != 0)
+        take_peer(s);
+}
+
 int main(int count, char **words)
 {
-    struct seen seen = {0, 0, (uint16_t)strtoul(option(count, words, "--tsdu", "0"), NULL, 10)};
-    struct gateway g = {.end = OSI_END, .socket = -1, .shown = shown, .user = &seen};
-    int listener, yes = 1, port = listens(option(count, words, "--port", "4000"), &listener);
+    struct server s = {.count = count, .words = words, .log = log_file(count, words)};
+    const char *peers = option(count, words, "--peers", NULL);
+    int port = listens(option(count, words, "--port", "4000"), &s.listener);
     if (port < 0) {
         perror("server");
         return 2;
     }
     printf("port %d\n", port);
     fflush(stdout);
-    int socket = accept(listener, NULL, NULL);
-    setsockopt(socket, IPPROTO_TCP, TCP_NODELAY, &yes, sizeof yes);
-    close(listener);
-    g.stall_at = (size_t)atol(option(count, words, "--stall", "0"));
-    if (!gateway_open(&g, socket, false, count, words))
-        return 2;
-    while (gateway_turn(&g))
-        ;
-    printf("took %lu messages, %lu octets\n", seen.messages, seen.octets);
-    gateway_close(&g);
+    s.awaits = peers != NULL ? strtoul(peers, NULL, 10) : (unsigned long)-1;
+    while (s.awaits > 0 || s.here > 0)
+        turn(&s);
+    close(s.listener);
+    if (s.log != NULL && s.log != stdout)
+        fclose(s.log);
     return 0;
 }

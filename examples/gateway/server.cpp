@@ -1,16 +1,24 @@
-/* The called side of server.c, in C++: it takes one byte connection, accepts what is asked for, confirms
- * each point, answers when it is given the tokens, and releases the connection.
+/* The called side of server.c, in C++: for many peers at once it accepts what is asked for, confirms each point, answers
+ * when it is given the tokens, and releases the connection.
  *
- *   server [--port 4000] [--classes 0|2|20] [--tsdu OCTETS] [--wait SECONDS] [--log FILE|-]
+ *   server [--port 4000] [--peers COUNT] [--classes 0|2|20] [--tsdu OCTETS] [--wait SECONDS] [--log FILE|-]
  *
- * It prints the port that it listens on (0 takes a free one). A peer whose connection is not shown within
- * --wait seconds, or that is silent for so long, is logged and given up. */
+ * It prints the port that it listens on (0 takes a free one). With --peers it ends when so many peers have come and gone. A
+ * peer whose connection is not shown within --wait seconds, or that is silent for so long, is logged and given up. */
 #include "line.hpp"
 
-class server final : public line {
+#include <fcntl.h>
+
+#include <algorithm>
+#include <limits>
+#include <memory>
+#include <vector>
+
+/* A byte connection, and what came on it. */
+class peer final : public line {
 public:
-    server(osi::end made, connection socket, const std::string &log, osi::tsdu_sizes sizes)
-        : line(std::move(made), std::move(socket), "right", log), sizes_(sizes)
+    peer(osi::end made, connection socket, std::ostream &log, std::chrono::seconds patience, osi::tsdu_sizes sizes)
+        : line(std::move(made), std::move(socket), "right", log, patience), sizes_(sizes)
     {
     }
 
@@ -34,10 +42,13 @@ private:
             break;
         case osi::tag::data: messages_++; break;
         case osi::tag::minor:
-            if (one.confirm)
-                did(of, "minorconfirm", end.minor_confirm(of, *one.number));
+            if (const std::uint32_t number = *one.number; one.confirm && may_answer(of))
+                did(of, "minorconfirm", end.minor_confirm(of, number));
             break;
-        case osi::tag::given: answer(of); break;
+        case osi::tag::given:
+            if (may_answer(of))
+                answer(of);
+            break;
         default: break;
         }
     }
@@ -46,35 +57,93 @@ private:
     unsigned long messages_ = 0;
 };
 
-/* The first who connects; and the port is printed. */
-static connection takes(const std::string &port)
-{
-    sockaddr_in own = loopback(port);
-    socklen_t size = sizeof own;
-    const int yes = 1;
-    const connection listener(::socket(AF_INET, SOCK_STREAM, 0));
-    setsockopt(listener.handle(), SOL_SOCKET, SO_REUSEADDR, &yes, sizeof yes);
-    auto *const place = reinterpret_cast<sockaddr *>(&own);
-    if (bind(listener.handle(), place, size) != 0 || listen(listener.handle(), 1) != 0)
-        return connection(-1);
-    getsockname(listener.handle(), place, &size);
-    std::cout << "port " << ntohs(own.sin_port) << std::endl;
-    connection came(accept(listener.handle(), nullptr, nullptr));
-    setsockopt(came.handle(), IPPROTO_TCP, TCP_NODELAY, &yes, sizeof yes);
-    return came;
-}
+/* All peers, in one thread. */
+class server {
+public:
+    server(int count, char **words)
+        : log_(option(count, words, "--log", "-")), own_(terms_of(option(count, words, "--classes", "20"))),
+          sizes_(sizes_of(option(count, words, "--tsdu", "0"))), patience_(std::stoi(option(count, words, "--wait", "10"))),
+          awaits_(std::stoul(option(count, words, "--peers", std::to_string(std::numeric_limits<unsigned long>::max())))),
+          listener_(::socket(AF_INET, SOCK_STREAM, 0))
+    {
+    }
+
+    /* Whether it listens; then the port is printed. */
+    bool listens(const std::string &port)
+    {
+        sockaddr_in own = loopback(port);
+        socklen_t size = sizeof own;
+        const int yes = 1;
+        auto *const place = reinterpret_cast<sockaddr *>(&own);
+        setsockopt(listener_.handle(), SOL_SOCKET, SO_REUSEADDR, &yes, sizeof yes);
+        if (bind(listener_.handle(), place, size) != 0 || listen(listener_.handle(), most_peers) != 0)
+            return false;
+        fcntl(listener_.handle(), F_SETFL, O_NONBLOCK);
+        getsockname(listener_.handle(), place, &size);
+        std::cout << "port " << ntohs(own.sin_port) << std::endl;
+        return true;
+    }
+
+    /* Goes on until all the peers that it awaits have come and gone. */
+    void run()
+    {
+        while (awaits_ > 0 || !peers_.empty())
+            turn();
+    }
+
+private:
+    static constexpr int most_peers = 64;
+
+    /* Waits until there is something to do, and does it. */
+    void turn()
+    {
+        std::vector<pollfd> waits;
+        int timeout = -1;
+        for (const auto &one : peers_) {
+            waits.push_back(one->waits());
+            timeout = timeout < 0 ? one->timeout() : std::min(timeout, one->timeout());
+        }
+        const bool has_place = awaits_ > 0 && peers_.size() < most_peers;
+        waits.push_back({has_place ? listener_.handle() : -1, POLLIN, 0});
+        poll(waits.data(), waits.size(), timeout);
+        std::vector<std::unique_ptr<peer>> stay;
+        for (std::size_t at = 0; at < peers_.size(); at++)
+            if (peers_[at]->turn(waits[at].revents))
+                stay.push_back(std::move(peers_[at]));
+        peers_ = std::move(stay);
+        if (waits.back().revents != 0)
+            take();
+    }
+
+    /* Takes the next peer, if there is one. Where there is no memory for it, it is hung up on. */
+    void take()
+    {
+        connection came(accept(listener_.handle(), nullptr, nullptr));
+        auto made = osi::end::called(own_);
+        const int yes = 1;
+        if (!came || !made)
+            return;
+        setsockopt(came.handle(), IPPROTO_TCP, TCP_NODELAY, &yes, sizeof yes);
+        peers_.push_back(std::make_unique<peer>(std::move(*made), std::move(came), log_.stream(), patience_, sizes_));
+        awaits_--;
+    }
+
+    log_file log_;
+    const osi::terms own_;
+    const osi::tsdu_sizes sizes_;
+    const std::chrono::seconds patience_;
+    unsigned long awaits_;
+    connection listener_;
+    std::vector<std::unique_ptr<peer>> peers_;
+};
 
 int main(int count, char **words)
 {
-    connection socket = takes(option(count, words, "--port", "4000"));
-    auto made = osi::end::called(terms_of(option(count, words, "--classes", "20")));
-    if (!socket || !made) {
-        std::cerr << "server: " << (made ? std::strerror(errno) : osi::text(made.code)) << '\n';
+    server one(count, words);
+    if (!one.listens(option(count, words, "--port", "4000"))) {
+        std::cerr << "server: " << std::strerror(errno) << '\n';
         return 2;
     }
-    server one(std::move(*made), std::move(socket), option(count, words, "--log", "-"),
-               sizes_of(option(count, words, "--tsdu", "0")));
-    one.patience = std::chrono::seconds(std::stoi(option(count, words, "--wait", "10")));
     one.run();
     return 0;
 }

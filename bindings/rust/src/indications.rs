@@ -148,9 +148,9 @@ pub enum Indication<D> {
     },
 }
 
-impl<D> Indication<D> {
+impl<D: AsRef<[u8]>> Indication<D> {
     /// The user data, of those that have some.
-    pub fn user_data(&self) -> Option<&D> {
+    pub fn user_data(&self) -> Option<&[u8]> {
         match self {
             Indication::Connect { user_data, .. }
             | Indication::Connected { user_data, .. }
@@ -166,7 +166,7 @@ impl<D> Indication<D> {
             | Indication::Release { user_data }
             | Indication::Released { user_data }
             | Indication::ReleaseRefused { user_data }
-            | Indication::Aborted { user_data } => Some(user_data),
+            | Indication::Aborted { user_data } => Some(user_data.as_ref()),
             Indication::RefusedByTransport { .. }
             | Indication::Given { .. }
             | Indication::Lost
@@ -174,7 +174,9 @@ impl<D> Indication<D> {
             | Indication::BadUnit { .. } => None,
         }
     }
+}
 
+impl<D> Indication<D> {
     /// Whether the connection is over with this indication.
     pub fn is_over(&self) -> bool {
         matches!(

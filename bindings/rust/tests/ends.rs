@@ -449,9 +449,9 @@ fn user_data_is_lent_and_can_be_kept() {
     let octets = pair.caller.outgoing().to_vec();
     let (of, indication) = pair.called.feed_next(&mut octets.as_slice()).unwrap();
     let kept = indication.clone().into_owned();
-    assert_eq!(indication.user_data(), Some(&b"lent".as_slice()));
+    assert_eq!(indication.user_data(), Some(b"lent".as_slice()));
     pair.called.broken();
-    assert_eq!((of, kept.user_data()), (pair.of, Some(&b"lent".to_vec())));
+    assert_eq!((of, kept.user_data()), (pair.of, Some(b"lent".as_slice())));
     assert_eq!(Indication::<Vec<u8>>::Lost.user_data(), None);
     assert!(Indication::<Vec<u8>>::Lost.is_over() && !kept.is_over());
 }

@@ -1,0 +1,116 @@
+//! The called side of a gateway over [`std::net`], for many peers at once in one thread: it accepts what is asked for,
+//! confirms each point, answers when it is given the tokens, and releases the connection.
+//!
+//! ```text
+//! server [--port 4000] [--peers COUNT] [--classes 0|2|20] [--tsdu OCTETS] [--wait SECONDS] [--log FILE|-]
+//! ```
+//!
+//! It prints the port that it listens on (0 takes a free one). With `--peers` it ends when so many peers have come and gone.
+//! A peer whose connection is not shown within `--wait` seconds, or that is silent for so long, is logged and given up.
+
+mod line;
+
+use line::{option, wait, Line, Log, User, Waits};
+use osi_session::{Classes, End, Indication, Reference, Sides, Sizes, Terms, Units};
+use std::error::Error;
+use std::io::{self, ErrorKind};
+use std::net::{TcpListener, TcpStream};
+
+/// More byte connections wait until one of these is gone.
+const MOST_PEERS: usize = 64;
+
+/// A byte connection, and what came on it.
+struct Peer {
+    line: Line,
+    messages: u32,
+    sizes: Sizes,
+}
+
+impl Peer {
+    fn accept(&mut self, of: Reference, offered: Units) {
+        let known = Units::HALF_DUPLEX | Units::MINOR_SYNC | Units::NEGOTIATED_RELEASE;
+        let (selected, sizes) = (offered & known, self.sizes);
+        let accepted = self.line.end.accept_sized(of, selected, 0, Sides::default(), sizes, b"");
+        self.line.did(of, "accept", accepted);
+    }
+
+    /// The tokens came: says how many messages did, and asks for the release.
+    fn answer(&mut self, of: Reference) {
+        let sent = self.line.end.data(of, format!("{} messages", self.messages).as_bytes());
+        self.line.did(of, "data", sent);
+        let asked = self.line.end.release(of, b"");
+        self.line.did(of, "release", asked);
+    }
+}
+
+impl User for Peer {
+    fn line(&mut self) -> &mut Line {
+        &mut self.line
+    }
+
+    fn shown(&mut self, of: Reference, indication: Indication<Vec<u8>>) {
+        match indication {
+            Indication::Connect { requirements, .. } => self.accept(of, requirements),
+            Indication::Data { .. } => self.messages += 1,
+            Indication::Minor { number, confirm: true, .. } if self.line.may_answer(of) => {
+                let confirmed = self.line.end.minor_confirm(of, number, b"");
+                self.line.did(of, "minorconfirm", confirmed);
+            }
+            Indication::Given { .. } if self.line.may_answer(of) => self.answer(of),
+            _ => {}
+        }
+    }
+}
+
+fn classes(named: &str) -> Classes {
+    let class = |letter, class| if named.contains(letter) { class } else { Classes::NONE };
+    class('0', Classes::CLASS_0) | class('2', Classes::CLASS_2)
+}
+
+/// The next peer.
+fn peer(stream: TcpStream, log: &Log) -> Result<Peer, Box<dyn Error>> {
+    let end = End::called(Terms { classes: classes(&option("--classes", "20")), ..Terms::default() })?;
+    let tsdu = option("--tsdu", "0").parse()?;
+    let line = Line::new(end, stream, "right", Some(log.clone()))?;
+    Ok(Peer { line, messages: 0, sizes: Sizes { from_asker: tsdu, from_answerer: tsdu } })
+}
+
+/// Takes the next peer, if there is one.
+fn take(listener: &TcpListener, log: &Log) -> Result<Option<Peer>, Box<dyn Error>> {
+    match listener.accept() {
+        Ok((stream, _)) => peer(stream, log).map(Some),
+        Err(error) if matches!(error.kind(), ErrorKind::WouldBlock | ErrorKind::ConnectionAborted) => {
+            Ok(None)
+        }
+        Err(error) => Err(error.into()),
+    }
+}
+
+/// Waits until there is something to do, and carries what the peers have; whether another peer is at the door.
+fn turn(listener: &TcpListener, takes: bool, peers: &mut Vec<Peer>) -> io::Result<bool> {
+    let mut waits: Vec<Waits> = peers.iter_mut().map(|peer| peer.line.waits()).collect();
+    if takes && peers.len() < MOST_PEERS {
+        waits.push(Waits::to_read(listener));
+    }
+    wait(&mut waits, peers.iter().map(|peer| peer.line.timeout()).min())?;
+    let comes = waits.get(peers.len()).is_some_and(|door| door.found != 0);
+    let mut found = waits.iter().map(|waits| waits.found);
+    peers.retain_mut(|peer| peer.turn(found.next().unwrap_or(0)));
+    Ok(comes)
+}
+
+fn main() -> Result<(), Box<dyn Error>> {
+    let listener = TcpListener::bind(format!("127.0.0.1:{}", option("--port", "4000")))?;
+    listener.set_nonblocking(true)?;
+    println!("port {}", listener.local_addr()?.port());
+    let log = line::log()?;
+    let (mut peers, mut awaited) = (Vec::new(), option("--peers", &u64::MAX.to_string()).parse::<u64>()?);
+    while awaited > 0 || !peers.is_empty() {
+        if turn(&listener, awaited > 0, &mut peers)? {
+            let taken = take(&listener, &log)?;
+            awaited -= u64::from(taken.is_some());
+            peers.extend(taken);
+        }
+    }
+    Ok(())
+}

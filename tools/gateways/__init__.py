@@ -1,0 +1,1 @@
+"""What scripts/gateways runs against the programs of examples/gateway, beside each other."""
