@@ -113,10 +113,10 @@ def free_port(family=socket.AF_INET):
         return listener.getsockname()[1]
 
 
-def waits_for(port, longest=20):
-    """Whether a server takes connections at this port within some seconds."""
+def waits_for(port, longest=20, server=None):
+    """Whether a server takes connections at this port within some seconds, and does not end before."""
     began = time.time()
-    while time.time() - began < longest:
+    while time.time() - began < longest and (server is None or server.poll() is None):
         try:
             socket.create_connection(("127.0.0.1", port), 1).close()
             return True

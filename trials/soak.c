@@ -346,9 +346,9 @@ static bool is_turning(struct flow *f)
 
 static void send_more(void)
 {
-    for (uint64_t flow = 0; flow < s.connections && s.sent < s.messages; flow++) {
+    for (uint64_t flow = 0; flow < s.connections && s.sent < s.messages && waiting(0) < MOST_WAITING; flow++) {
         struct flow *f = &s.flows[flow];
-        if (!f->ready || f->restarting || f->ending || is_turning(f) || waiting(0) >= MOST_WAITING)
+        if (!f->ready || f->restarting || f->ending || is_turning(f))
             continue;
         say(&s.ends[0], f->left, flow, &f->sent);
         s.sent++;
@@ -403,7 +403,7 @@ int main(int count, char **words)
     s.class_2 = strcmp(words[3], "2") == 0;
     const double began = now();
     for (open_ends(); !is_all_there(); open_again()) {
-        for (int more = 0; more < 64; more++)
+        for (int more = 0; more < 64 && waiting(0) < MOST_WAITING; more++)
             send_more();
         carry();
         if (first == 0 && s.received >= s.messages / 100)

@@ -139,6 +139,18 @@ static void is_refused(struct asking *a, const osi_indication *i)
     fails(a, REFUSED, text);
 }
 
+static void is_lost(struct asking *a)
+{
+    uint64_t detail;
+    char text[80];
+    const uint32_t why = osi_ended(&a->link.end, &detail);
+    if (why >= OSI_END_NO_MEMORY)
+        snprintf(text, sizeof text, "no packets of an MMS server: %s", osi_end_name(why));
+    else
+        snprintf(text, sizeof text, "%s", a->is_associated ? "lost" : "closed by the server before an association");
+    fails(a, a->is_associated ? LOST : REFUSED, text);
+}
+
 static void shown(struct link *l, const osi_indication *i)
 {
     struct asking *a = l->user;
@@ -168,7 +180,7 @@ static void shown(struct link *l, const osi_indication *i)
         fails(a, LOST, "a session unit is bad");
         break;
     case OSI_LOST:
-        fails(a, a->is_associated ? LOST : REFUSED, a->is_associated ? "lost" : "closed by the server before an association");
+        is_lost(a);
         break;
     default:
         break;

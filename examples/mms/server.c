@@ -249,7 +249,12 @@ static void make_room(struct server *s)
 static void forget(struct server *s, size_t at)
 {
     struct client *c = s->clients[at];
-    tell(c, "closed");
+    uint64_t detail;
+    const uint32_t why = osi_ended(&c->link.end, &detail);
+    if (why >= OSI_END_NO_MEMORY)
+        tell(c, "closed: %s", osi_end_name(why));
+    else
+        tell(c, "closed");
     link_close(&c->link);
     free(c);
     s->clients[at] = s->clients[--s->live];

@@ -24,9 +24,13 @@ static int digit(char letter)
     return found == NULL ? -1 : (int)(found - digits) % 16;
 }
 
-/* "0001" are two octets, and ":plant" is five. */
+/* "0001" are two octets, ":plant" is five, and "-" is none. */
 static bool read_selector(const char *text, const struct word *w)
 {
+    if (strcmp(text, "-") == 0) {
+        w->selector->length = 0;
+        return true;
+    }
     const bool is_text = text[0] == ':';
     const size_t length = is_text ? strlen(text) - 1 : strlen(text) / 2;
     if (length == 0 || length > w->most || (!is_text && strlen(text) % 2 != 0))
@@ -50,7 +54,7 @@ static bool read_value(const char *program, const struct word *w, const char *va
         return false;
     }
     if (w->selector != NULL && !read_selector(value, w)) {
-        fprintf(stderr, "%s: %s wants hexadecimal digits, or text behind a colon, of 1 to %lu octets, and not %s\n", program,
+        fprintf(stderr, "%s: %s wants hexadecimal digits, or text behind a colon, of at most %lu octets, and not %s\n", program,
                 w->name, w->most, value);
         return false;
     }

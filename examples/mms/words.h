@@ -13,7 +13,7 @@ struct word {
     const char **text;
     unsigned long *number;
     unsigned long least, most;  /* of a number */
-    struct selector *selector;  /* hexadecimal digits, or text behind a colon; `most` octets */
+    struct selector *selector;  /* hexadecimal digits, text behind a colon, or - for none; `most` octets */
     bool *is_there;             /* a switch without a value */
 };
 
