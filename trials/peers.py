@@ -131,6 +131,13 @@ def memory(process):
         return int(file.read().split()[1]) * os.sysconf("SC_PAGESIZE")
 
 
+def processor_time(process):
+    """The seconds of processor that a process has had."""
+    with open(f"/proc/{process.pid}/stat") as file:
+        fields = file.read().rpartition(")")[2].split()
+    return (int(fields[11]) + int(fields[12])) / os.sysconf("SC_CLK_TCK")
+
+
 def version(package):
     """The version of a package of Debian, or None where it is not installed."""
     if not shutil.which("dpkg-query"):
