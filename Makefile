@@ -13,15 +13,20 @@
 # clients of bindings/ (scripts/gateways does so with what was built before).
 # make trials: builds the same and runs what is proved against hostile octets, want of memory and breaks
 # (docs/TRIALS.md); make trials PART=--part runs a part of it. make fuzz SECONDS=60 SEED=1 feeds ends octets at random.
+# make mms: builds the library, and the MMS server and client of examples/mms over it. make interop: builds the program
+# too, and runs both against programs of others (docs/INTEROP.md); make slow-peers and make scaling run them against peers
+# that are slow or silent, and in several processes. make soak MESSAGES=200000: so many messages in each row of a table.
 # make ladders: draws the pictures of docs/ladders from examples/ladders (docs/LADDERS.md); make ladders-check runs the
 # tests of the program that draws them, and compares.
 # make pages: checks the links, limits and commands of the pages; it proves and builds nothing (scripts/pages).
 # make ledger: builds the same and the benchmarks, counts the instructions of each operation that a benchmark times, and
 # fails where one takes more than bench/ledger.txt says; some minutes where all is proved.
 .PHONY: all test edits bench ledger lib install uninstall dist check-dist gateways trials fuzz ladders ladders-check pages
+.PHONY: mms interop slow-peers scaling soak
 PREFIX ?= /usr/local
 LIBDIR ?= $(PREFIX)/lib
 SECONDS ?= 60
+MESSAGES ?= 200000
 
 all:
 	scripts/proving osi_tool rt run -- --help
@@ -69,6 +74,21 @@ trials: all lib
 
 fuzz: lib
 	scripts/trials --fuzz $(SECONDS) $(SEED)
+
+mms: lib
+	$(MAKE) -C examples/mms
+
+interop: all mms
+	scripts/interop
+
+slow-peers: mms
+	scripts/slow_peers
+
+scaling: mms
+	scripts/scaling
+
+soak: lib
+	scripts/soak $(MESSAGES)
 
 ladders:
 	scripts/draw_ladders docs/ladders
