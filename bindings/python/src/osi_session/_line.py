@@ -3,7 +3,7 @@ from __future__ import annotations
 
 import asyncio
 from collections import deque
-from contextlib import asynccontextmanager
+from contextlib import asynccontextmanager, suppress
 from typing import Any, AsyncIterator, Awaitable, Callable, Deque, Dict, Optional, Set, Type, TypeVar, Union, cast, overload
 
 from ._codes import Code, Phase, SessionError
@@ -18,6 +18,15 @@ T = TypeVar("T", bound=Indication)
 
 # So many octets are handed to the transport at once; who waits for room waits until no more are unsent.
 _PIECE = 65536
+
+
+def _unwritten(transport: asyncio.Transport) -> int:
+    """How many octets the transport still has. (In Python 3.9 and 3.10 a transport of TLS whose socket is gone raises
+    AttributeError, until the protocol is told of it.)"""
+    try:
+        return transport.get_write_buffer_size()
+    except AttributeError:
+        return 0
 
 
 class _Waiter:
@@ -55,29 +64,30 @@ class EndProtocol(asyncio.Protocol):
     most: int = 16_777_216
     """How many octets of indications may be pending: those of their user data, and 512 for each."""
     linger: float = 30.0
-    """How many seconds a line that closes waits for its peer to close too, once everything is written."""
+    """How many seconds a line that closes waits for its peer, to take something or, at last, to close too."""
 
     def __init__(self, end: End) -> None:
         self.end = end
         end.on_outgoing = self.flush
-        self.unwritten = 0
-        """How many octets of users were not written when the byte connection was closed, of connections that were not
-        over. 0 as long as the line is open, and after ``abort``."""
         self._transport: Optional[asyncio.Transport] = None
         self._made: Callable[[], None] = lambda: None
         self._feed, self._pending, self._answers = Feed(end), Pending(), Answers()
         self._shown: Deque[Indication] = deque()
         self._sessions: Dict[int, Session] = {}
-        # Connections that were shown and are not over, and those whose session was left.
+        # Connections that were shown and are not over; those of which no indication is kept any more; and those that
+        # were lost with octets unwritten, so many in all, as long as their users were not told.
         self._open: Set[int] = set()
         self._left: Set[int] = set()
+        self._cut: Set[int] = set()
+        self._cut_octets = 0
         # Tasks that wait, the oldest first; and how many of them wait for room.
         self._waiters: Dict[_Waiter, None] = {}
         self._draining = self._turn = 0
         self._reading, self._paused, self._feeding, self._was_live = True, False, False, False
-        # How far closing is: asked for; the peer's or our direction is closed; the transport is gone, and the end knows.
-        self._closing = self._came_to_end = self._half_closed = self._closed = self._broken = self._aborted = False
+        # How far closing is: asked for; the peer's or our direction is closed; the transport is gone.
+        self._closing = self._came_to_end = self._half_closed = self._closed = self._aborted = False
         self._lingering: Optional[asyncio.TimerHandle] = None
+        self._took = 0
 
     # ---- sessions
 
@@ -212,7 +222,10 @@ class EndProtocol(asyncio.Protocol):
 
     def close(self) -> None:
         """Closes the byte connection once all is written, also what waits for the peer's credit. Over plain TCP it then
-        waits until the peer has closed too, at most ``linger`` seconds, so that nothing on its way is lost."""
+        waits until the peer has closed too, so that nothing on its way is lost. If the peer takes nothing for ``linger``
+        seconds, it closes at once."""
+        if self._lingering is None:
+            self._linger()
         self._closing = True
         self._go_on()
 
@@ -237,16 +250,19 @@ class EndProtocol(asyncio.Protocol):
 
     def connection_made(self, transport: asyncio.BaseTransport) -> None:
         self._transport = cast(asyncio.Transport, transport)
+        if self._closing:
+            self._linger()
         self._go_on()
         self._made()
 
     def data_received(self, data: bytes) -> None:
-        self._feed.add(data)
-        self._go_on()
+        if not self.end.closed:
+            self._feed.add(data)
+            self._go_on()
 
     def eof_received(self) -> bool:
-        self._came_to_end = self._closing = True
-        self._go_on()
+        self._came_to_end = True
+        self.close()
         # (asyncio closes a transport of TLS by itself)
         return self.get_extra_info("ssl_object") is None
 
@@ -254,9 +270,22 @@ class EndProtocol(asyncio.Protocol):
         self._closed = True
         if self._lingering is not None:
             self._lingering.cancel()
+        if self._transport is not None and not self._transport.is_closing():
+            # (a transport of TLS in Python 3.9 and 3.10 does not know)
+            self._transport.close()
+        if self.end.closed:
+            self._tell()
+            return
         if not self._aborted:
-            self.unwritten = self._unwritten()
-        self._go_on()
+            self._note_loss()
+        self._pump()
+        if not self.end.closed:
+            self.end.broken()
+            self._feed.add(b"")
+            self._pump()
+        # Who overrides indication_received has been told by now.
+        self._cut = {reference for reference in self._cut if self._pending.has(reference)}
+        self._tell()
 
     def pause_writing(self) -> None:
         self._paused = True
@@ -274,7 +303,18 @@ class EndProtocol(asyncio.Protocol):
     @property
     def is_done(self) -> bool:
         """Whether no indication can come any more."""
-        return self._closed and (self.end.closed or (self._broken and self._feed.is_empty))
+        return self._closed
+
+    @property
+    def is_shut(self) -> bool:
+        """Whether nothing can be written any more."""
+        is_closing = self._transport is not None and self._transport.is_closing()
+        return self._closed or self._half_closed or is_closing or self.end.closed
+
+    @property
+    def untold(self) -> int:
+        """How many octets were not written when the byte connection was lost, if a user of them was not told yet."""
+        return self._cut_octets if self._cut else 0
 
     def begin(self, session: Session) -> None:
         """From now on this session takes the indications of its connection, also those that are pending."""
@@ -288,25 +328,29 @@ class EndProtocol(asyncio.Protocol):
         """The session fetches no more indications, and nobody else does."""
         self._drop(session.reference)
         self._left.add(session.reference)
+        self._cut.discard(session.reference)
         self._sessions.pop(session.reference, None)
         self._go_on()
 
     def fetched(self, indication: Indication) -> None:
         """An indication is pending no more."""
         self._pending.fetched(indication)
+        if indication.is_over:
+            self._cut.discard(indication.reference)
         if not self._reading or not self._feed.is_empty:
             self._go_on()
 
     def end_alone(self, reference: int) -> None:
-        """Ends this connection and no other, if the end allows it."""
+        """Ends this connection and no other, if it is not over."""
         if self.end.closed:
             return
+        with suppress(SessionError):
+            self.end.abort(reference)
+        # An abort waits for credit, and a disconnection does not.
         disconnect = getattr(self.end, "disconnect", None)
-        call = disconnect if disconnect is not None and self.end.unsent(reference) > 0 else self.end.abort
-        try:
-            call(reference)
-        except SessionError:
-            pass
+        if disconnect is not None and self.end.unsent(reference) > 0:
+            with suppress(SessionError):
+                disconnect(reference)
 
     async def room(self, reference: int, or_else: Callable[[], bool]) -> None:
         """Waits until there is room for more of this connection, or until something else holds."""
@@ -395,10 +439,6 @@ class EndProtocol(asyncio.Protocol):
 
     def _step(self) -> Optional[Indication]:
         """Feeds up to the next indication; None if all that came is fed."""
-        if self._feed.is_empty and self._closed and not self._broken:
-            self._broken = True
-            self.end.broken()
-            self._feed.add(b"")
         outgoing, backlog = self.end.outgoing_length(), self.end.backlog()
         indication = self._feed.next()
         if not self.end.closed:
@@ -416,12 +456,13 @@ class EndProtocol(asyncio.Protocol):
 
     def _show(self, indication: Indication) -> None:
         """Keeps an indication for who fetches it."""
+        if indication.reference in self._left:
+            return
+        self._pending.add(indication)
         session = self._sessions.get(indication.reference)
         if session is not None:
-            self._pending.add(indication)
             session.take(indication)
-        elif indication.reference not in self._left:
-            self._pending.add(indication)
+        else:
             self._shown.append(indication)
 
     def _drop(self, reference: int) -> None:
@@ -435,7 +476,7 @@ class EndProtocol(asyncio.Protocol):
     def _must_wait(self) -> bool:
         """Whether no more should be read: nobody fetches indications, or the peer does not read what is written."""
         if self._closed:
-            return self._pending.is_full
+            return False
         if self._answers.octets > _PIECE:
             return True
         if self._waits_for_room():
@@ -452,7 +493,7 @@ class EndProtocol(asyncio.Protocol):
 
     def _waits_for_room(self) -> bool:
         """Whether somebody waits for what only reading brings: the peer's credit."""
-        return not self._closed and (self._draining > 0 or self._closing)
+        return not (self._closed or self._came_to_end) and (self._draining > 0 or self._closing)
 
     def _read_or_wait(self) -> None:
         transport = self._transport
@@ -461,7 +502,8 @@ class EndProtocol(asyncio.Protocol):
         reads = self._feed.is_empty and not self._must_wait()
         if reads != self._reading:
             self._reading = reads
-            (transport.resume_reading if reads else transport.pause_reading)()
+            with suppress(AttributeError):
+                (transport.resume_reading if reads else transport.pause_reading)()
 
     # ---- closing
 
@@ -472,11 +514,12 @@ class EndProtocol(asyncio.Protocol):
     def _unsent_of_all(self) -> int:
         return sum(self._unsent(reference) for reference in self._open)
 
-    def _unwritten(self) -> int:
-        """How many octets of users are not written, of connections that are not over."""
-        if self.end.closed or all(self.end.phase(of) in (Phase.ABORTING, Phase.ENDED) for of in self._open):
-            return 0
-        return max(0, self.end.outgoing_length() - self._answers.octets) + self._unsent_of_all()
+    def _note_loss(self) -> None:
+        """The byte connection is gone: notes which users lose octets by it."""
+        lost = max(0, self.end.outgoing_length() - self._answers.octets) + self._unsent_of_all()
+        if lost > 0:
+            self._cut = {of for of in self._open if self.end.phase(of) not in (Phase.ABORTING, Phase.ENDED)}
+            self._cut_octets = lost
 
     def _all_sent(self) -> bool:
         """Whether nothing is left to write that can still be written."""
@@ -501,7 +544,7 @@ class EndProtocol(asyncio.Protocol):
 
     def _finish(self, transport: asyncio.Transport) -> None:
         """Closes the transport, to which all octets were handed, or begins to."""
-        if transport.get_write_buffer_size() > 0:
+        if _unwritten(transport) > 0:
             # So the transport tells when it has written them.
             transport.set_write_buffer_limits(0)
         elif self._came_to_end or self.end.live() == 0 or not transport.can_write_eof():
@@ -510,4 +553,15 @@ class EndProtocol(asyncio.Protocol):
             # (A close while the peer still writes would drop what it has not read.)
             self._half_closed = True
             transport.write_eof()
-            self._lingering = asyncio.get_running_loop().call_later(self.linger, transport.close)
+
+    def _linger(self) -> None:
+        """From now on the peer has so many seconds each time to take something; then the transport is closed."""
+        transport = self._transport
+        if transport is None or self._closed:
+            return
+        took = self._answers.taken - _unwritten(transport)
+        if self._lingering is not None and took == self._took:
+            (transport.close if self._half_closed else transport.abort)()
+            return
+        self._took = took
+        self._lingering = asyncio.get_running_loop().call_later(self.linger, self._linger)

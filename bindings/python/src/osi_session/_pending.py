@@ -43,6 +43,10 @@ class Pending:
         """The pending indications of this connection were dropped."""
         self._change(reference, -self._counts.get(reference, 0), -self._octets.get(reference, 0))
 
+    def has(self, reference: int) -> bool:
+        """Whether something of this connection is pending."""
+        return reference in self._counts
+
     def longest(self) -> Optional[int]:
         """The connection whose pending indications have the most octets."""
         return max(self._octets, key=self._octets.__getitem__) if self._octets else None

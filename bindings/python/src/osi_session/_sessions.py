@@ -86,7 +86,7 @@ class Session:
             if indication.is_over and not isinstance(indication, Released):
                 raise SessionOver(indication)
             return indication
-        if self._is_done or isinstance(self._over, Released):
+        if isinstance(self._over, Released) or (self._is_done and self._over is None):
             return None
         raise SessionOver(self._over or Lost(self.reference))
 
@@ -128,12 +128,12 @@ class Session:
         await self.line.room(self.reference, lambda: self._over is not None or self._is_done)
         if self._over is not None:
             raise SessionOver(self._over)
+        if self.line.is_shut:
+            raise SessionOver(Lost(self.reference))
 
     async def _call(self, call: Callable[..., None], *arguments: Any) -> None:
         """Makes a call as soon as there is room."""
         await self.drain()
-        if self.end.closed:
-            raise SessionOver(Lost(self.reference))
         call(self.reference, *arguments)
 
     async def data(self, user_data: bytes) -> None:

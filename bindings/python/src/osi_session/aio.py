@@ -37,17 +37,16 @@ async def dial(
     host: str, port: int, terms: Terms = Terms(), protocol: Callable[[End], EndProtocol] = EndProtocol, **options: Any
 ) -> AsyncIterator[EndProtocol]:
     """A line with a calling end to a TCP port. After the block the byte connection is closed once all is written
-    (``EndProtocol.close``), or at once if the block raises, and the end is freed. ConnectionResetError if the peer
-    closed before all was written, and the user was not told. Options are those of ``loop.create_connection``, as
-    ``ssl``."""
+    (``EndProtocol.close``), or at once if the block raises, and the end is freed. ConnectionResetError if it was lost
+    before all was written and the block was not told. Options are those of ``loop.create_connection``, as ``ssl``."""
     loop = asyncio.get_running_loop()
     line = protocol(End.caller(terms))
     try:
         await loop.create_connection(lambda: line, host, port, **options)
         yield line
         await _closed(line)
-        if line.unwritten > 0:
-            raise ConnectionResetError(f"the byte connection was closed with {line.unwritten} octets unwritten")
+        if line.untold > 0:
+            raise ConnectionResetError(f"the byte connection was closed with {line.untold} octets unwritten")
     finally:
         line.abort()
         line.end.close()
