@@ -4,11 +4,23 @@ import os
 import shutil
 import ssl
 import subprocess
+import unittest
 
 from osi_session import Classes, End, Terms
 
 # Seconds that nothing takes, however much other work the machine has.
 LONGEST = 60
+
+
+class Case(unittest.IsolatedAsyncioTestCase):
+    """Its event loop is not in debug mode, in which it takes many times as long."""
+
+    async def asyncSetUp(self):
+        asyncio.get_running_loop().set_debug(False)
+
+
+async def within(awaited):
+    return await asyncio.wait_for(awaited, LONGEST)
 
 
 def packets(octets):

@@ -28,22 +28,19 @@ from osi_session import (
     Units,
     aio,
 )
-from peers import HAS_OPENSSL, LONGEST, Peer, contexts, is_ack, port_of
+from peers import HAS_OPENSSL, Case, Peer, contexts, is_ack, port_of, within
 
 HALF = Units.HALF_DUPLEX | Units.MINOR_SYNC | Units.NEGOTIATED_RELEASE
 TOKENS = Tokens.DATA | Tokens.MINOR | Tokens.RELEASE
 BOTH, CLASS_2 = Terms(Classes.BOTH), Terms(Classes.CLASS_2)
 
 
-async def within(awaited):
-    return await asyncio.wait_for(awaited, LONGEST)
-
-
-class Sessions(unittest.IsolatedAsyncioTestCase):
+class Sessions(Case):
     async def asyncSetUp(self):
-        self.loop = asyncio.get_running_loop()
+        await super().asyncSetUp()
         self.raised, self.ended, self.release = [], asyncio.Queue(), asyncio.Event()
-        self.loop.set_exception_handler(lambda loop, context: self.raised.append(context.get("exception")))
+        keep = lambda loop, context: self.raised.append(context.get("exception"))
+        asyncio.get_running_loop().set_exception_handler(keep)
         self.listener = await aio.serve_sessions(self.answer, "127.0.0.1", 0, BOTH)
         self.port = port_of(self.listener)
 
@@ -327,7 +324,7 @@ class Sessions(unittest.IsolatedAsyncioTestCase):
             listener.close()
 
 
-class Bounds(unittest.IsolatedAsyncioTestCase):
+class Bounds(Case):
     """What a line keeps, whatever its peer does."""
 
     async def serving(self, handler, protocol=aio.EndProtocol):
@@ -376,7 +373,7 @@ class Bounds(unittest.IsolatedAsyncioTestCase):
         """The peer gives no credit for one session and sends requests in it for ever; another goes on."""
 
         class Small(aio.EndProtocol):
-            most = 1_000_000
+            most_unpaid = 1_000_000
 
         over = []
 
@@ -407,7 +404,7 @@ class Bounds(unittest.IsolatedAsyncioTestCase):
             await peer.until(lambda: len(answers()) > number)
             pending, kept = max(pending, lines[0]._pending.octets), max(kept, lines[0].end.backlog())
         self.assertEqual(over, [aio.GivenUp(1)])
-        self.assertLess(pending, Small.most + 60_000)
+        self.assertLess(pending, Small.most_unpaid + 400_000)
         self.assertLess(kept, 200_000)
         self.assertEqual(answers()[-1].user_data, b"199")
         await peer.close()
@@ -422,7 +419,7 @@ class Bounds(unittest.IsolatedAsyncioTestCase):
                     await session.minor_confirm(shown.number, bytes(1_000))
 
         class Small(aio.EndProtocol):
-            most = 500_000
+            most_unpaid = 500_000
 
         lines, peer = await self.serving(answer, Small)
         peer.holds_back = is_ack

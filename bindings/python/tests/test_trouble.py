@@ -23,15 +23,11 @@ from osi_session import (
     Units,
     aio,
 )
-from peers import HAS_OPENSSL, LONGEST, Peer, contexts, is_ack, port_of
+from peers import HAS_OPENSSL, Case, Peer, contexts, is_ack, port_of, within
 
 HALF = Units.HALF_DUPLEX | Units.MINOR_SYNC | Units.NEGOTIATED_RELEASE
 CLASS_2 = Terms(Classes.CLASS_2)
 PAGE = os.path.join(os.path.dirname(__file__), *[os.pardir] * 3, "docs", "PYTHON.md")
-
-
-async def within(awaited):
-    return await asyncio.wait_for(awaited, LONGEST)
 
 
 async def collect(line, into):
@@ -43,44 +39,44 @@ async def collect(line, into):
             into.append(shown.user_data)
 
 
-class Draining(unittest.IsolatedAsyncioTestCase):
-    async def echoed(self, count, size, drains):
-        """A server that answers each message with as much and drains, and a client that sends all ahead."""
+class Draining(Case):
+    async def answered(self, count, size, answer, send):
+        """A server that answers each message and drains, and a client that sends all of them ahead."""
 
-        async def answer(line):
+        async def serve(line):
             async for shown in line:
                 if isinstance(shown, Connect):
                     line.end.accept(shown.reference, shown.requirements)
                 elif isinstance(shown, Data):
-                    line.end.data(shown.reference, shown.user_data)
+                    line.end.data(shown.reference, shown.user_data[:4] + bytes(answer - 4))
                     await line.drain()
 
-        listener = await aio.serve(answer, "127.0.0.1", 0, CLASS_2)
+        listener = await aio.serve(serve, "127.0.0.1", 0, CLASS_2)
         async with aio.dial("127.0.0.1", port_of(listener), CLASS_2) as line:
             of = line.end.connect(Opening(Units.DUPLEX))
             await line.expect(Connected)
-
-            async def send():
-                for number in range(count):
-                    line.end.data(of, number.to_bytes(4, "big") + bytes(size - 4))
-                    if drains:
-                        await line.drain()
-
-            sending = asyncio.ensure_future(send())
+            await within(send(line, of, [number.to_bytes(4, "big") + bytes(size - 4) for number in range(count)]))
             for number in range(count):
                 shown = await within(line.expect(Data))
-                self.assertEqual((int.from_bytes(shown.user_data[:4], "big"), len(shown.user_data)), (number, size))
-            await sending
+                self.assertEqual((int.from_bytes(shown.user_data[:4], "big"), len(shown.user_data)), (number, answer))
         listener.close()
 
     async def test_who_answers_and_drains_goes_on_where_requests_come_ahead(self):
-        await self.echoed(300, 100_000, False)
+        """Each of these sends all requests before it fetches an answer: at once, or as fast as it has room."""
 
-    async def test_both_sides_drain(self):
-        await self.echoed(300, 100_000, True)
+        async def at_once(line, of, messages):
+            for message in messages:
+                line.end.data(of, message)
 
-    async def test_small_messages(self):
-        await self.echoed(5_000, 1_000, False)
+        async def draining(line, of, messages):
+            for message in messages:
+                line.end.data(of, message)
+                await line.drain()
+
+        for send in (at_once, draining):
+            for size, answer in ((100_000, 100_000), (1_000, 100_000), (100_000, 200_000), (100_000, 10)):
+                with self.subTest(send=send.__name__, size=size, answer=answer):
+                    await self.answered(300, size, answer, send)
 
     async def test_both_sides_send_much_before_they_read(self):
         """In class 0, and in duplex: neither waits for the other to read first."""
@@ -142,7 +138,7 @@ class Draining(unittest.IsolatedAsyncioTestCase):
         listener.close()
 
 
-class Closing(unittest.IsolatedAsyncioTestCase):
+class Closing(Case):
     async def sent(self, terms, messages, size, server_ssl=None, **options):
         """What a server has when the client leaves its block, behind so many messages."""
         came, done = [], asyncio.Event()
@@ -238,7 +234,7 @@ class Closing(unittest.IsolatedAsyncioTestCase):
         listener.close()
 
 
-class Aborting(unittest.IsolatedAsyncioTestCase):
+class Aborting(Case):
     async def outlives(self, handler):
         """Of two connections of a line the peer aborts one between a point and its confirmation: the other goes on."""
         listener = await aio.serve(handler, "127.0.0.1", 0, CLASS_2)
@@ -298,7 +294,7 @@ class Aborting(unittest.IsolatedAsyncioTestCase):
         await self.outlives(serve)
 
 
-class Leaving(unittest.IsolatedAsyncioTestCase):
+class Leaving(Case):
     async def test_with_much_unwritten_raises_nothing(self):
         """The peer reads slowly: the transport's buffer is full when the block is left."""
 

@@ -52,17 +52,21 @@ class EndProtocol(asyncio.Protocol):
     indications as they come overrides ``indication_received``. One line is used in one event loop, by its thread alone.
 
     Memory stays bounded. If a connection has 64 pending indications, or 256 KiB of them, the line reads no more until
+    Memory stays bounded. If a connection has 64 pending indications, or 256 KiB of them, the line reads no more until
     some are fetched, so TCP slows the peer down. It does read on while somebody waits for room (``drain``, or a call
-    of a session), because the peer's acknowledgements come in the same octets. If more than ``most`` octets are
-    pending then, the connection that has most of them is given up, and the others go on.
+    of a session), because the peer's acknowledgements come in the same octets. Then a connection is given up (see
+    ``give_up``) if ``most`` octets are pending, or ``most_unpaid`` that came while their connections gave no credit: it
+    is the one that has most of them, and the others go on.
 
     The line closes the byte connection if the end has ended, and, unless ``stays`` is true, after its last connection.
     A line of ``serve`` stays, since its peer may ask for more; so does one on which ``session`` was called.
     """
 
     stays: bool = False
-    most: int = 16_777_216
+    most: int = 67_108_864
     """How many octets of indications may be pending: those of their user data, and 512 for each."""
+    most_unpaid: int = 8_388_608
+    """How many of these may be unpaid: they came on connections for whose credit this side waits, and that gave none."""
     linger: float = 30.0
     """How many seconds a line that closes waits for its peer, to take something or, at last, to close too."""
 
@@ -439,12 +443,17 @@ class EndProtocol(asyncio.Protocol):
 
     def _step(self) -> Optional[Indication]:
         """Feeds up to the next indication; None if all that came is fed."""
-        outgoing, backlog = self.end.outgoing_length(), self.end.backlog()
+        end = self.end
+        outgoing, backlog = end.outgoing_length(), end.backlog()
+        unsent = [(of, end.unsent(of)) for of in self._pending.owing]
         indication = self._feed.next()
-        if not self.end.closed:
-            now = self.end.outgoing_length()
+        if not end.closed:
+            now = end.outgoing_length()
             # What left the backlog is the users' own.
-            self._answers.came(now - outgoing - max(0, backlog - self.end.backlog()), now)
+            self._answers.came(now - outgoing - max(0, backlog - end.backlog()), now)
+            for of, before in unsent:
+                if end.unsent(of) < before:
+                    self._pending.paid(of)
         return indication
 
     def _note(self, indication: Indication) -> None:
@@ -458,7 +467,7 @@ class EndProtocol(asyncio.Protocol):
         """Keeps an indication for who fetches it."""
         if indication.reference in self._left:
             return
-        self._pending.add(indication)
+        self._pending.add(indication, self._unsent(indication.reference) > _PIECE)
         session = self._sessions.get(indication.reference)
         if session is not None:
             session.take(indication)
@@ -484,12 +493,17 @@ class EndProtocol(asyncio.Protocol):
         return self._pending.is_full or max(self._pending.octets, self.end.outgoing_length()) > self.most
 
     def _make_room(self) -> None:
-        """If too much is pending and the line has to read on, gives up connections of which most is pending."""
-        while self._waits_for_room() and self._pending.octets > self.most:
-            longest = self._pending.longest()
-            if longest is None or longest in self._left:
-                break
-            self.give_up(longest)
+        """If too much is pending and the line has to read on, gives up the connections to blame."""
+        while self._waits_for_room():
+            if self._pending.unpaid > self.most_unpaid:
+                blamed = self._pending.most_unpaid()
+            elif self._pending.octets > self.most:
+                blamed = self._pending.most_octets()
+            else:
+                return
+            if blamed is None or blamed in self._left:
+                return
+            self.give_up(blamed)
 
     def _waits_for_room(self) -> bool:
         """Whether somebody waits for what only reading brings: the peer's credit."""

@@ -2,7 +2,7 @@
 from __future__ import annotations
 
 from collections import deque
-from typing import Deque, Dict, Iterator, List, Optional, Set
+from typing import Deque, Dict, Iterator, List, Optional, Set, Tuple
 
 from ._end import End
 from ._values import Indication
@@ -19,50 +19,81 @@ def _weight(indication: Indication) -> int:
     return _EACH + len(getattr(indication, "user_data", b""))
 
 
-class Pending:
-    """How many indications of each connection are pending, and their octets."""
+class _Share:
+    """What is pending of one connection."""
+
+    __slots__ = ("count", "octets", "unpaid")
 
     def __init__(self) -> None:
-        self.octets = 0
-        self._counts: Dict[int, int] = {}
-        self._octets: Dict[int, int] = {}
+        self.count = self.octets = self.unpaid = 0
+
+    @property
+    def is_full(self) -> bool:
+        return self.count >= MOST_INDICATIONS or self.octets >= MOST_OCTETS
+
+
+class Pending:
+    """How many indications of each connection are pending, and their octets. Unpaid are those that came while this side
+    waited for credit of their connection and got none."""
+
+    def __init__(self) -> None:
+        self.octets = self.unpaid = 0
+        self._shares: Dict[int, _Share] = {}
         self._full: Set[int] = set()
+        self._owing: Set[int] = set()
 
     @property
     def is_full(self) -> bool:
         """Whether some connection has so many that no more should be read."""
         return bool(self._full)
 
-    def add(self, indication: Indication) -> None:
-        self._change(indication.reference, 1, _weight(indication))
-
-    def fetched(self, indication: Indication) -> None:
-        self._change(indication.reference, -1, -_weight(indication))
-
-    def forget(self, reference: int) -> None:
-        """The pending indications of this connection were dropped."""
-        self._change(reference, -self._counts.get(reference, 0), -self._octets.get(reference, 0))
+    @property
+    def owing(self) -> Tuple[int, ...]:
+        """The connections of which unpaid indications are pending."""
+        return tuple(self._owing)
 
     def has(self, reference: int) -> bool:
         """Whether something of this connection is pending."""
-        return reference in self._counts
+        return reference in self._shares
 
-    def longest(self) -> Optional[int]:
-        """The connection whose pending indications have the most octets."""
-        return max(self._octets, key=self._octets.__getitem__) if self._octets else None
+    def most_octets(self) -> Optional[int]:
+        """The connection of which most octets are pending."""
+        return max(self._shares, key=lambda of: self._shares[of].octets) if self._shares else None
 
-    def _change(self, reference: int, count: int, octets: int) -> None:
-        now_count = self._counts.get(reference, 0) + count
-        now_octets = self._octets.get(reference, 0) + octets
-        self.octets += octets
-        self._full.discard(reference)
-        if now_count <= 0:
-            self._counts.pop(reference, None)
-            self._octets.pop(reference, None)
-            return
-        self._counts[reference], self._octets[reference] = now_count, now_octets
-        if now_count >= MOST_INDICATIONS or now_octets >= MOST_OCTETS:
-            self._full.add(reference)
+    def most_unpaid(self) -> Optional[int]:
+        """The connection of which most are unpaid."""
+        return max(self._owing, key=lambda of: self._shares[of].unpaid) if self._owing else None
+
+    def add(self, indication: Indication, is_unpaid: bool) -> None:
+        share = self._shares.setdefault(indication.reference, _Share())
+        weight = _weight(indication)
+        self._set(indication.reference, share.count + 1, share.octets + weight, share.unpaid + weight * is_unpaid)
+
+    def fetched(self, indication: Indication) -> None:
+        share = self._shares.get(indication.reference)
+        if share is not None:
+            octets = share.octets - _weight(indication)
+            self._set(indication.reference, share.count - 1, octets, min(share.unpaid, octets))
+
+    def paid(self, reference: int) -> None:
+        """The connection has given credit."""
+        share = self._shares[reference]
+        self._set(reference, share.count, share.octets, 0)
+
+    def forget(self, reference: int) -> None:
+        """The pending indications of this connection were dropped."""
+        if reference in self._shares:
+            self._set(reference, 0, 0, 0)
+
+    def _set(self, reference: int, count: int, octets: int, unpaid: int) -> None:
+        share = self._shares[reference]
+        self.octets += octets - share.octets
+        self.unpaid += unpaid - share.unpaid
+        share.count, share.octets, share.unpaid = count, octets, unpaid
+        for references, holds in ((self._full, share.is_full), (self._owing, unpaid > 0)):
+            (references.add if holds else references.discard)(reference)
+        if count == 0:
+            del self._shares[reference]
 
 
 class Answers:
