@@ -1,18 +1,44 @@
 //! TSDUs that go over a pair of links, of which one sends and one receives.
 
+ghost use Rattle.osi_class.specs.Link.{FitsAUnit};
+
 use crate::moved::Moved;
-use osi_class::{Class0, Class2, Credit, Link};
-use osi_tpdu::{SizeCode, Window};
+use osi_class::{Class0, Class2, Credit, Link, Out};
+use osi_tpdu::{DataAcknowledgement, DataClass0, DataClass2, SizeCode, Tpdu, Window};
 use std::alloc::Global;
 
 /// The reference that each unit of class 2 is for.
 const REFERENCE: u16 = 1;
 
+/// The unit that a link gives, for the reference of its peer.
+fn unit_of(out: Out<'_>) -> Tpdu<'_>
+    requires { FitsAUnit out }
+{
+    match out {
+        Out::Data0 { end, octets } => Tpdu::Dt0(DataClass0 { end, user: octets }),
+        Out::Data2 {
+            number,
+            end,
+            octets,
+        } => Tpdu::Dt2(DataClass2 {
+            destination: REFERENCE,
+            number,
+            end,
+            user: octets,
+        }),
+        Out::Ack { number, credit } => Tpdu::Ak(DataAcknowledgement {
+            credit,
+            destination: REFERENCE,
+            number,
+        }),
+    }
+}
+
 /// Hands the next unit of one end to the other; false where there is none, or it is refused.
 fn pass(from: &mut impl Link, to: &mut impl Link) -> bool {
     match from.next_out() {
         None => false,
-        Some(out) => to.take(&out.unit(REFERENCE)).is_ok(),
+        Some(out) => to.take(&unit_of(out)).is_ok(),
     }
 }
 

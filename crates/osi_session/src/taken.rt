@@ -23,6 +23,7 @@ pub struct Taken {
 
 impl Taken {
     /// The user is shown at most this, and nothing is sent.
+    #[inline(always)]
     pub(crate) fn showing(alloc: Global, first: Option<Indication>) -> Taken
         ensures first { result.first ≡ first }
         ensures more { result.more.items ≡ [] }

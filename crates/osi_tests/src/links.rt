@@ -1,10 +1,11 @@
 //! Links of both classes, call by call, and the longest TSDUs between two of them.
 
 ghost use Rattle.std.specs.Prelude.{◌<◌};
+ghost use Rattle.osi_class.specs.Link.{FitsAUnit};
 
 use crate::transport_units::only_unit;
 use osi_class::*;
-use osi_tpdu::{DataClass0, SizeCode, Tpdu, Window};
+use osi_tpdu::{DataAcknowledgement, DataClass0, DataClass2, SizeCode, Tpdu, Window};
 use std::alloc::Global;
 use std::test::Fail;
 
@@ -359,12 +360,36 @@ struct Ends {
     to: AnyLink,
 }
 
+/// The unit that a link gives, for reference 1.
+fn unit_of(out: Out<'_>) -> Tpdu<'_>
+    requires { FitsAUnit out }
+{
+    match out {
+        Out::Data0 { end, octets } => Tpdu::Dt0(DataClass0 { end, user: octets }),
+        Out::Data2 {
+            number,
+            end,
+            octets,
+        } => Tpdu::Dt2(DataClass2 {
+            destination: 1,
+            number,
+            end,
+            user: octets,
+        }),
+        Out::Ack { number, credit } => Tpdu::Ak(DataAcknowledgement {
+            credit,
+            destination: 1,
+            number,
+        }),
+    }
+}
+
 /// Hands the next unit of one link to the other, for reference 1; false where there is none.
 fn passes(from: &mut AnyLink, to: &mut AnyLink) -> Result<bool, LinkFault> {
     match from.next_out() {
         None => Ok(false),
         Some(out) => {
-            to.take(&out.unit(1))?;
+            to.take(&unit_of(out))?;
             Ok(true)
         }
     }
