@@ -472,7 +472,7 @@ impl Lines {
     pub fn give_up(&mut self, reference: u16)
         ensures { self.new ≡ gives_up reference self.old }
     {
-        let Some(place) = place_in(self.rows.as_slice(), self.rises, reference) else {
+        let Some(place) = self.find(reference) else {
             return;
         };
         self.rows[place].give_up();
