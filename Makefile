@@ -17,7 +17,7 @@
 # too, and runs both against programs of others (docs/INTEROP.md); make slow-peers and make scaling run them against peers
 # that are slow or silent, and in several processes. make soak MESSAGES=200000: so many messages in each row of a table.
 # make ladders: draws the pictures of docs/ladders from examples/ladders (docs/LADDERS.md); make ladders-check runs the
-# tests of the program that draws them, and compares.
+# tests of the programs in tools/ (these, and osi-capture), and compares.
 # make pages: checks the links, limits and commands of the pages; it proves and builds nothing (scripts/pages).
 # make ledger: builds the same and the benchmarks, counts the instructions of each operation that a benchmark times, and
 # fails where one takes more than bench/ledger.txt says; some minutes where all is proved.

@@ -82,7 +82,8 @@ def title_of(text):
 
 def run(program, word, text, tick=lambda seconds: None):
     """What the program `osi` prints for a text, or `BadInput` where it prints nothing."""
-    command = [program or os.path.join(TOP, "osi"), word]
+    beside = os.path.join(TOP, "osi")
+    command = [program or (beside if os.path.isfile(beside) else "osi"), word]
     try:
         started = subprocess.Popen(command, stdin=subprocess.PIPE, stdout=subprocess.PIPE, stderr=subprocess.PIPE,
                                    encoding="utf-8", errors="replace")

@@ -1,0 +1,111 @@
+"""Lists a stream by `osi show`, both directions in the order in which they passed, with times."""
+import os
+import re
+import subprocess
+
+from .streams import SIDES, packets
+from .tshark import BadInput
+
+TOP = os.path.dirname(os.path.dirname(os.path.dirname(os.path.abspath(__file__))))
+PACKET = re.compile(r"packet (\d+) length (\d+) code ([0-9a-f]{2})")
+DATA_UNIT = re.compile(r"  DT (?:dst ([0-9a-f]{4}) )?number \d+ eot ([01]) octets (\d+)")
+DATA = re.compile(r"    DT .*?octets (\d+)")
+
+
+class Line:
+    """A line of a listing: its side, the frame and time at which its packet had passed, and the octets of data that it tells."""
+
+    __slots__ = ("side", "frame", "time", "packet", "text", "data")
+
+    def __init__(self, side, frame, time, packet, text, data=None):
+        self.side, self.frame, self.time, self.packet, self.text, self.data = side, frame, time, packet, text, data
+
+
+def program(asked):
+    """The program `osi`: the one that was named, the one beside this script, or the one on the path."""
+    beside = os.path.join(TOP, "osi")
+    return asked or (beside if os.path.isfile(beside) else "osi")
+
+
+def shown(osi, octets):
+    """The lines of `osi show` for octets."""
+    try:
+        done = subprocess.run([osi, "show"], input=octets.hex(), capture_output=True, text=True, check=False)
+    except OSError as error:
+        raise BadInput(f"{osi} can't be run: {error.strerror}") from None
+    if done.returncode not in (0, 1) or not done.stdout:
+        said = [line for line in done.stderr.splitlines() if line.startswith("osi: ") and "not built" not in line]
+        raise BadInput(f"{osi} show printed nothing" + (f": {said[-1]}" if said else ""))
+    return done.stdout.splitlines()
+
+
+class Passing:
+    """When each octet of a direction passed."""
+
+    def __init__(self, pieces):
+        self.pieces, self.place = pieces, 0
+
+    def at(self, octet):
+        """The piece that has this octet; octets are asked for in rising order."""
+        while self.place + 1 < len(self.pieces) and self.pieces[self.place + 1].start <= octet:
+            self.place += 1
+        return self.pieces[self.place]
+
+
+class Joining:
+    """Joins data units to TSDUs, each by its reference, to tell the data of session units."""
+
+    def __init__(self):
+        self.parts, self.tsdu = {}, b""
+
+    def take(self, packet, text):
+        """The data that a line tells, or None."""
+        unit = DATA_UNIT.fullmatch(text)
+        if unit:
+            reference, eot, count = unit.groups()
+            joined = self.parts.pop(reference, b"") + packet[len(packet) - int(count):]
+            if eot == "1":
+                self.tsdu = joined
+            else:
+                self.parts[reference] = joined
+        data = DATA.fullmatch(text)
+        return self.tsdu[len(self.tsdu) - int(data.group(1)):] if data else None
+
+
+def lines_of(side, pieces, osi):
+    """The lines of one direction, each packet at the time at which its last octet passed."""
+    octets = b"".join(piece.octets for piece in pieces)
+    passing, joining, packet, piece, found = Passing(pieces), Joining(), b"", None, []
+    for text in shown(osi, octets):
+        begun = PACKET.fullmatch(text)
+        if begun:
+            start, length = int(begun.group(1)), int(begun.group(2))
+            packet, piece = octets[start:start + length], passing.at(start + length - 1)
+        piece = piece or (pieces[-1] if pieces else None)
+        if piece:
+            found.append(Line(side, piece.frame, piece.time, text.startswith(" ") or begun, text, joining.take(packet, text)))
+    return found
+
+
+def lines(stream, osi):
+    """The lines of both directions in the order in which their packets passed."""
+    sides = {side: [] for side in SIDES}
+    for side, piece in stream.by_side():
+        sides[side].append(piece)
+    groups = [group for side in SIDES for group in by_packet(lines_of(side, sides[side], osi))]
+    groups.sort(key=lambda group: group[0].frame)
+    return [line for group in groups for line in group]
+
+
+def by_packet(found):
+    """The lines in groups, each that of a packet; what follows the last packet is a group of its own."""
+    groups = []
+    for line in found:
+        if line.text.startswith(" ") and groups:
+            groups[-1].append(line)
+        else:
+            groups.append([line])
+    return groups
+
+
+__all__ = ["Line", "lines", "packets", "program"]

@@ -1,0 +1,195 @@
+"""The program osi-capture: captures of a network as users have them, and the captures of one direction that `osi` reads."""
+import argparse
+import json
+import os
+import re
+import sys
+import tempfile
+
+from . import listing, pcap, streams, tshark
+from .streams import SIDES
+from .tshark import BadInput
+
+PORT = 102
+TEXT = """\
+  osi-capture list FILE                 the TCP streams of a pcap or pcapng that carry TPKT
+  osi-capture show FILE [--stream N]    both directions as `osi show` lists them, in their order, with times
+  osi-capture split FILE -o NAME        NAME.left and NAME.right, what each side sent, and NAME.follow, both in their order
+  osi-capture join NAME -o FILE         the way back: a pcap with a TCP segment for each TPKT packet
+"""
+
+
+class Words(argparse.ArgumentParser):
+    """A bad word is one line on standard error."""
+
+    def error(self, message):
+        raise BadInput(f"{message} (osi-capture --help)")
+
+
+def words():
+    """The words of the program."""
+    made = Words(prog="osi-capture", description=__doc__, epilog=TEXT, formatter_class=argparse.RawDescriptionHelpFormatter)
+    jobs = made.add_subparsers(dest="job", required=True, metavar="list|show|split|join")
+    for job in ("list", "show", "split"):
+        one = jobs.add_parser(job)
+        one.add_argument("file")
+        one.add_argument("--port", type=int, default=PORT, help="the port of TPKT where no CR tells it (102)")
+        if job != "list":
+            one.add_argument("--stream", type=int, help="the number of the stream, as list has it; none: the only one")
+        if job == "show":
+            one.add_argument("--json", action="store_true", help="an object for each line of the listing")
+            one.add_argument("--data", action="store_true", help="the octets of each data unit, too")
+            one.add_argument("--osi", help="the program osi")
+        if job == "split":
+            one.add_argument("-o", "--output", required=True, metavar="NAME")
+    join = jobs.add_parser("join")
+    join.add_argument("file", metavar="NAME")
+    join.add_argument("-o", "--output", required=True, metavar="FILE")
+    return made
+
+
+def found_in(asked):
+    """The streams with TPKT of the capture that was asked for."""
+    found = streams.with_packets(streams.joined(tshark.segments(asked.file)), asked.port)
+    if not found:
+        raise BadInput(f"{asked.file}: no TCP stream carries TPKT (list --port N where it is another port than {asked.port})")
+    return found
+
+
+def named(end):
+    return f"{end[0]}:{end[1]}" if "." in end[0] else f"[{end[0]}]:{end[1]}"
+
+
+def list_streams(asked):
+    """A line for each stream: who called whom, and how many octets went each way, or why it is left out."""
+    for stream in found_in(asked):
+        caller = stream.caller() or stream.ends[0]
+        far = next(end for end in stream.ends if end != caller)
+        why = stream.why_not()
+        counts = f"left {len(stream.octets(caller))} octets right {len(stream.octets(far))} octets"
+        print(f"stream {stream.number} {named(caller)} {named(far)} {'left out: ' + why if why else counts}")
+
+
+def chosen(asked):
+    """The one stream that is meant, which can be read whole."""
+    found = found_in(asked)
+    if asked.stream is not None:
+        found = [stream for stream in found if stream.number == asked.stream]
+        if not found:
+            raise BadInput(f"{asked.file}: stream {asked.stream} carries no TPKT")
+    whole = [stream for stream in found if not stream.why_not()]
+    if not whole:
+        raise BadInput(f"{asked.file}: stream {found[0].number}: {found[0].why_not()}")
+    if len(whole) > 1:
+        raise BadInput(f"{asked.file}: name one of the streams {', '.join(str(it.number) for it in whole)} by --stream")
+    return whole[0]
+
+
+def show(asked):
+    """Lists both directions in their order."""
+    stream = chosen(asked)
+    found = listing.lines(stream, listing.program(asked.osi))
+    begin = found[0].time if found else 0
+    for line in found:
+        if asked.json:
+            told = {"stream": stream.number, "side": line.side, "frame": line.frame, "time": round(line.time, 6), "line": line.text}
+            if asked.data and line.data is not None:
+                told["data"] = line.data.hex()
+            print(json.dumps(told))
+            continue
+        when = f"{line.time - begin:11.6f}" if not line.text.startswith(" ") else " " * 11
+        print(f"{when} {line.side:5} {line.text}")
+        if asked.data and line.data is not None:
+            print(f"{'':11} {line.side:5}       {line.data.hex()}")
+
+
+def in_lines(octets):
+    """Octets as lines of hexadecimal digits."""
+    digits = octets.hex()
+    return [digits[start:start + 96] for start in range(0, len(digits), 96)]
+
+
+def split(asked):
+    """Writes what each side sent, and both in the order in which they passed."""
+    stream = chosen(asked)
+    texts = {side: [] for side in (*SIDES, "follow")}
+    for side, piece in stream.by_side():
+        note = f"# {piece.time:.6f} frame {piece.frame}"
+        rows = in_lines(piece.octets)
+        texts[side] += [note, *rows]
+        texts["follow"] += [note, *("\t" * (side == "right") + row for row in rows)]
+    write_all({f"{asked.output}.{name}": "\n".join([*rows, ""]) for name, rows in texts.items()})
+
+
+def write_all(files):
+    """Writes files, all of them or none."""
+    made = {}
+    try:
+        for name, content in files.items():
+            whole = content.encode() if isinstance(content, str) else content
+            room, made[name] = tempfile.mkstemp(prefix=".osi-capture-", dir=os.path.dirname(name) or ".")
+            with os.fdopen(room, "wb") as file:
+                file.write(whole)
+            os.chmod(made[name], 0o644)
+        for name, written in made.items():
+            os.replace(written, name)
+    except OSError as error:
+        for written in made.values():
+            if os.path.exists(written):
+                os.remove(written)
+        raise BadInput(f"{error.filename or name}: {error.strerror}") from None
+
+
+def text_of(name):
+    try:
+        with open(name, encoding="ascii") as file:
+            return file.read()
+    except (OSError, UnicodeDecodeError) as error:
+        raise BadInput(f"{name}: {getattr(error, 'strerror', None) or 'it is no text'}") from None
+
+
+def pieces_of(text, name):
+    """The pieces of a text as `split` writes it: for each its time, its side and its octets."""
+    time, found = 0.0, []
+    for row in text.split("\n"):
+        noted = re.match(r"# (\d+\.\d+) frame \d+", row)
+        time = float(noted.group(1)) if noted else time
+        digits = row.partition("#")[0]
+        side = SIDES[digits.startswith("\t")]
+        digits = re.sub(r"\s", "", digits)
+        if not re.fullmatch(r"([0-9a-fA-F]{2})*", digits):
+            raise BadInput(f"{name}: a line has something other than pairs of hexadecimal digits")
+        if digits:
+            found.append((time, side, bytes.fromhex(digits)))
+    return found
+
+
+def join(asked):
+    """Writes a pcap of NAME.follow, or of NAME.left and NAME.right where there is none."""
+    follow = f"{asked.file}.follow"
+    if os.path.exists(follow):
+        pieces = pieces_of(text_of(follow), follow)
+    else:
+        pieces = [(0.0, side, octets) for side in SIDES
+                  for _, _, octets in pieces_of(text_of(f"{asked.file}.{side}"), f"{asked.file}.{side}")]
+    if not any(streams.is_packet(octets) for _, _, octets in pieces):
+        raise BadInput(f"{asked.file}: there is no TPKT packet in it")
+    write_all({asked.output: pcap.written(pieces)})
+
+
+JOBS = {"list": list_streams, "show": show, "split": split, "join": join}
+
+
+def main(given=None):
+    """Runs the program; the status is 0, or 2 with one line on standard error."""
+    try:
+        asked = words().parse_args(given)
+        JOBS[asked.job](asked)
+        sys.stdout.flush()
+    except BadInput as error:
+        print(f"osi-capture: {error}", file=sys.stderr)
+        return 2
+    except BrokenPipeError:
+        os.dup2(os.open(os.devnull, os.O_WRONLY), sys.stdout.fileno())
+        return 2
+    return 0

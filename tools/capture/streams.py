@@ -1,0 +1,138 @@
+"""Joins TCP segments to the octets of each direction, in the order in which they passed, and finds the streams with TPKT in them.
+
+An octet has passed when all octets before it have: so of segments out of order the later octets wait, and what comes twice counts
+once. Octets that the capture does not have leave a gap, and behind a gap nothing is known.
+"""
+SPACE = 2 ** 32
+SIDES = ("left", "right")
+CONNECT_REQUEST = 0xE0
+
+
+class Piece:
+    """Octets of one direction that passed together: at which frame and time, and from which place in the direction on."""
+
+    __slots__ = ("frame", "time", "start", "octets")
+
+    def __init__(self, frame, time, start, octets):
+        self.frame, self.time, self.start, self.octets = frame, time, start, octets
+
+
+class Direction:
+    """One direction of a TCP connection."""
+
+    def __init__(self):
+        self.next, self.count, self.waiting = None, 0, {}
+
+    def take(self, segment):
+        """The octets that have passed with this segment, or none."""
+        start = (segment.sequence + segment.is_first) % SPACE
+        self.next = start if self.next is None else self.next
+        if len(segment.octets) > len(self.waiting.get(start, b"")):
+            self.waiting[start] = segment.octets
+        passed = b"".join(self.in_order())
+        piece = Piece(segment.frame, segment.time, self.count, passed)
+        self.count += len(passed)
+        return piece if passed else None
+
+    def in_order(self):
+        """The octets that are next, as far as they are there."""
+        while True:
+            found = [(self.known(start), start) for start in self.waiting if 0 <= self.known(start) <= len(self.waiting[start])]
+            if not found:
+                return
+            known, start = max(found, key=lambda each: len(self.waiting[each[1]]) - each[0])
+            octets = self.waiting.pop(start)[known:]
+            if octets:
+                self.next = (self.next + len(octets)) % SPACE
+                yield octets
+
+    def known(self, start):
+        """How many octets from a sequence number on have passed already; negative where it lies ahead."""
+        return (self.next - start + SPACE // 2) % SPACE - SPACE // 2
+
+    def lost(self):
+        """How many octets are missing in front of what waits."""
+        ahead = [-self.known(start) for start in self.waiting if self.known(start) < 0]
+        return min(ahead, default=0)
+
+
+class Stream:
+    """A TCP connection: `pieces` in their order, each with the end that sent it."""
+
+    def __init__(self, number, ends):
+        self.number, self.ends, self.pieces = number, ends, []
+        self.directions = {end: Direction() for end in ends}
+
+    def take(self, segment):
+        piece = self.directions[segment.source].take(segment)
+        if piece:
+            self.pieces.append((segment.source, piece))
+
+    def octets(self, end):
+        return b"".join(piece.octets for source, piece in self.pieces if source == end)
+
+    def caller(self):
+        """The end whose first packet is a CR, or None."""
+        for end in self.ends:
+            if is_connect_request(self.octets(end)):
+                return end
+        return None
+
+    def ports(self):
+        return {port for _, port in self.ends}
+
+    def why_not(self):
+        """Why nothing is made of it, or None."""
+        lost = sum(direction.lost() for direction in self.directions.values())
+        if lost:
+            return f"lost segments: {lost} octets or more are not in the capture"
+        sent = [octets for octets in map(self.octets, self.ends) if octets]
+        return None if self.caller() is not None and all(map(is_packet, sent)) else "begins in the middle"
+
+    def by_side(self):
+        """The pieces, each with its side: left is the caller."""
+        caller = self.caller()
+        for source, piece in self.pieces:
+            yield SIDES[source != caller], piece
+
+
+def is_packet(octets):
+    """Whether octets may begin a TPKT packet: its header is there, and says so."""
+    return len(octets) >= 4 and octets[0] == 3 and int.from_bytes(octets[2:4], "big") >= 7
+
+
+def is_connect_request(octets):
+    """Whether octets begin with a CR in a TPKT packet."""
+    return len(octets) > 5 and is_packet(octets) and octets[5] & 0xF0 == CONNECT_REQUEST
+
+
+def joined(segments):
+    """The streams of a capture by number."""
+    streams = {}
+    for segment in segments:
+        ends = segment.source, segment.target
+        streams.setdefault(segment.stream, Stream(segment.stream, ends)).take(segment)
+    return streams
+
+
+def with_packets(streams, port):
+    """The streams that carry TPKT: by a CR at the front, or by the port where both directions look like packets."""
+    found = []
+    for stream in streams.values():
+        sent = [octets for octets in map(stream.octets, stream.ends) if octets]
+        if stream.caller() is not None or (port in stream.ports() and sent and any(octets[0] == 3 for octets in sent)):
+            found.append(stream)
+    return found
+
+
+def packets(octets):
+    """The TPKT packets of octets, and last what is left: from which octet on, and how many."""
+    start = 0
+    while is_packet(octets[start:start + 4]):
+        length = int.from_bytes(octets[start + 2:start + 4], "big")
+        if start + length > len(octets):
+            break
+        yield start, length
+        start += length
+    if start < len(octets):
+        yield start, len(octets) - start

@@ -1,0 +1,202 @@
+"""Tests of osi-capture, over captures that tshark's own tools make: python3 -m unittest discover -s tools -t tools"""
+import contextlib
+import glob
+import io
+import json
+import os
+import shutil
+import subprocess
+import tempfile
+import unittest
+
+from . import program, streams
+
+TOP = os.path.dirname(os.path.dirname(os.path.dirname(os.path.abspath(__file__))))
+TUTORIAL = os.path.join(TOP, "examples", "tutorial")
+TOOLS = ("tshark", "text2pcap", "editcap", "mergecap")
+OSI = os.path.join(TOP, "crates", "osi_tool", "out", "osi_tool")
+
+
+def call(*words):
+    """The status of the program, and what it wrote."""
+    out, err = io.StringIO(), io.StringIO()
+    with contextlib.redirect_stdout(out), contextlib.redirect_stderr(err):
+        status = program.main(list(words))
+    return status, out.getvalue(), err.getvalue()
+
+
+def octets_of(name):
+    with open(name, encoding="ascii") as file:
+        return bytes.fromhex("".join(line.partition("#")[0] for line in file))
+
+
+def packets_of(octets):
+    return [octets[start:start + length] for start, length in streams.packets(octets)]
+
+
+def association():
+    """The packets of an association, each with its direction as text2pcap has it: O for the caller."""
+    left = packets_of(octets_of(os.path.join(TUTORIAL, "whole.left.hex")))
+    right = packets_of(octets_of(os.path.join(TUTORIAL, "whole.right.hex")))
+    return [each for pair in zip(left, right) for each in zip("OI", pair)]
+
+
+def dump(packets):
+    """What text2pcap reads."""
+    text = ""
+    for direction, octets in packets:
+        text += direction + "\n"
+        text += "".join(f"{at:06x} {octets[at:at + 16].hex(' ')}\n" for at in range(0, len(octets), 16)) + "\n"
+    return text
+
+
+@unittest.skipUnless(all(map(shutil.which, TOOLS)), "tshark and its tools are not installed")
+class Captures(unittest.TestCase):
+    """Captures of one association, whole and damaged."""
+
+    def setUp(self):
+        self.room = tempfile.TemporaryDirectory()
+        self.addCleanup(self.room.cleanup)
+
+    def path(self, name):
+        return os.path.join(self.room.name, name)
+
+    def run_tool(self, *words, text=None):
+        subprocess.run(words, input=text, check=True, capture_output=True, text=True)
+
+    def capture(self, packets=None, name="run.pcapng", ports="40000,102"):
+        """A capture with a segment for each packet."""
+        self.run_tool("text2pcap", "-q", "-D", "-T", ports, "-", self.path(name), text=dump(packets or association()))
+        return self.path(name)
+
+    def without(self, *frames):
+        self.run_tool("editcap", self.capture(), self.path("cut.pcapng"), *map(str, frames))
+        return self.path("cut.pcapng")
+
+    def slices(self, *ranges):
+        """The frames of these ranges, one behind the other, in this order."""
+        whole, names = self.capture(), []
+        for first, last in ranges:
+            names.append(self.path(f"{len(names)}.pcapng"))
+            self.run_tool("editcap", "-r", whole, names[-1], f"{first}-{last}")
+        self.run_tool("mergecap", "-a", "-w", self.path("mixed.pcapng"), *names)
+        return self.path("mixed.pcapng")
+
+    def sides(self, capture):
+        """What each side sent, as split writes it."""
+        status, out, err = call("split", capture, "-o", self.path("out"))
+        self.assertEqual((status, out, err), (0, "", ""))
+        return [octets_of(self.path(f"out.{side}")) for side in streams.SIDES]
+
+    def wanted(self):
+        return [octets_of(os.path.join(TUTORIAL, f"whole.{side}.hex")) for side in streams.SIDES]
+
+    def refused(self, *words):
+        before = sorted(os.listdir(self.room.name))
+        status, out, err = call(*words)
+        self.assertEqual((status, out, err.count("\n"), err.startswith("osi-capture: ")), (2, "", 1, True), err)
+        self.assertEqual(sorted(os.listdir(self.room.name)), before)
+        return err
+
+    def test_the_streams_are_listed_by_who_sent_the_request(self):
+        status, out, _ = call("list", self.capture())
+        self.assertEqual(status, 0)
+        self.assertRegex(out, r"^stream 0 [\d.]+:\d+ [\d.]+:\d+ left 209 octets right 180 octets\n$")
+        turned = [("I" if direction == "O" else "O", octets) for direction, octets in association()]
+        self.assertIn("left 209 octets right 180 octets", call("list", self.capture(turned))[1])
+
+    def test_both_sides_come_out_as_they_were_sent(self):
+        self.assertEqual(self.sides(self.capture()), self.wanted())
+
+    def test_segments_out_of_order_and_twice_count_once(self):
+        self.assertEqual(self.sides(self.slices((1, 4), (7, 8), (5, 6), (5, 8))), self.wanted())
+
+    def test_a_lost_segment_is_named_and_nothing_is_written(self):
+        cut = self.without(5)
+        self.assertIn("left out: lost segments: ", call("list", cut)[1])
+        self.assertIn("lost segments", self.refused("split", cut, "-o", self.path("out")))
+
+    def test_a_stream_that_begins_in_the_middle_is_named(self):
+        self.assertIn("left out: begins in the middle", call("list", self.without(1, 2))[1])
+
+    def test_other_streams_are_not_listed(self):
+        text = self.capture([("O", b"GET / HTTP/1.0\r\n\r\n"), ("I", b"HTTP/1.0 200 OK\r\n\r\n")], "http.pcapng", "41000,80")
+        self.run_tool("mergecap", "-w", self.path("both.pcapng"), text, self.capture())
+        self.assertEqual(call("list", self.path("both.pcapng"))[1].count("stream "), 1)
+        self.assertIn("no TCP stream carries TPKT", self.refused("list", text))
+
+    def test_of_several_streams_one_has_to_be_named(self):
+        other = self.capture(name="other.pcapng", ports="40001,102")
+        self.run_tool("mergecap", "-w", self.path("two.pcapng"), self.capture(), other)
+        self.assertIn("name one of the streams", self.refused("split", self.path("two.pcapng"), "-o", self.path("out")))
+        self.assertEqual(call("split", self.path("two.pcapng"), "--stream", "1", "-o", self.path("out"))[0], 0)
+
+    def test_the_way_back_has_a_segment_for_each_packet(self):
+        self.sides(self.capture())
+        self.assertEqual(call("join", self.path("out"), "-o", self.path("back.pcap")), (0, "", ""))
+        found = list(streams.joined(program.tshark.segments(self.path("back.pcap"))).values())
+        self.assertEqual([len(found), len(found[0].pieces)], [1, 8])
+        self.assertEqual(self.sides(self.path("back.pcap")), self.wanted())
+
+    def test_five_thousand_messages_are_five_thousand_segments(self):
+        with open(self.path("many.left"), "w", encoding="ascii") as file:
+            file.write(self.wanted()[0][:18].hex() + "\n" + "0300000d02f080010001004142" * 5000 + "\n")
+        with open(self.path("many.right"), "w", encoding="ascii") as file:
+            file.write(self.wanted()[1][:18].hex() + "\n")
+        self.assertEqual(call("join", self.path("many"), "-o", self.path("many.pcap"))[0], 0)
+        stream = streams.joined(program.tshark.segments(self.path("many.pcap")))[0]
+        self.assertEqual(len(stream.pieces), 5002)
+
+    def test_what_can_not_be_read_is_refused(self):
+        self.assertIn("no such file", self.refused("list", self.path("nothing")))
+        self.refused("list", os.path.join(TOP, "README.md"))
+        self.refused("list", self.capture(), "--wrong")
+        self.refused("split", self.capture(), "-o", "/no/such/folder/out")
+        self.refused("join", os.path.join(TOP, "examples", "hello"), "-o", self.path("x.pcap"))
+        self.refused()
+
+    @unittest.skipUnless(os.path.exists(OSI), "`make` has not built the program")
+    def test_both_directions_are_listed_in_their_order(self):
+        status, out, err = call("show", self.capture(), "--osi", OSI)
+        self.assertEqual((status, err), (0, ""))
+        order = [name for name in (row.split()[1] for row in out.splitlines() if row.startswith(" " * 12))
+                 if name in ("CR", "CC", "CN", "AC", "FN", "DN")]
+        self.assertEqual(order, ["CR", "CC", "CN", "AC", "FN", "DN"])
+
+    @unittest.skipUnless(os.path.exists(OSI), "`make` has not built the program")
+    def test_data_is_told_in_json(self):
+        status, out, _ = call("show", self.capture(), "--osi", OSI, "--json", "--data")
+        told = [json.loads(line) for line in out.splitlines()]
+        data = [bytes.fromhex(each["data"]) for each in told if "data" in each]
+        self.assertEqual((status, data), (0, [octets_of(os.path.join(TUTORIAL, f"{name}.hex")) for name in ("request", "answer")]))
+        self.assertEqual({tuple(sorted(each)) for each in told if "data" not in each}, {("frame", "line", "side", "stream", "time")})
+
+
+class Joining(unittest.TestCase):
+    """Sequence numbers."""
+
+    def segment(self, sequence, octets, is_first=False):
+        made = object.__new__(program.tshark.Segment)
+        made.frame, made.time, made.stream, made.source, made.target = 1, 0.0, 0, ("a", 1), ("b", 2)
+        made.sequence, made.is_first, made.octets = sequence % 2 ** 32, is_first, octets
+        return made
+
+    def taken(self, *segments):
+        direction = streams.Direction()
+        pieces = [direction.take(self.segment(*each)) for each in segments]
+        return b"".join(piece.octets for piece in pieces if piece), direction.lost()
+
+    def test_numbers_begin_anew_behind_the_last(self):
+        last = 2 ** 32 - 2
+        self.assertEqual(self.taken((last, b"", True), (last + 1, b"ab"), (last + 3, b"cd")), (b"abcd", 0))
+
+    def test_overlaps_count_once(self):
+        self.assertEqual(self.taken((5, b"abcd"), (7, b"cdef"), (6, b"bc"), (11, b"g")), (b"abcdefg", 0))
+
+    def test_a_gap_holds_back_what_stands_behind(self):
+        self.assertEqual(self.taken((5, b"ab"), (9, b"ef")), (b"ab", 2))
+        self.assertEqual(self.taken((5, b"ab"), (9, b"ef"), (7, b"cd")), (b"abcdef", 0))
+
+
+if __name__ == "__main__":
+    unittest.main()
