@@ -22,6 +22,7 @@ from osi_session import (
     RefusedByTransport,
     Release,
     Released,
+    ReleaseRefused,
     SessionError,
     Terms,
     Tokens,
@@ -179,6 +180,27 @@ class Sessions(Case):
                     await session.next()
                 await other.data(b"still here")
                 self.assertEqual((await within(other.expect(Data))).user_data, b"still here")
+
+    async def test_a_loop_accepts_a_release_that_its_body_does_not_answer(self):
+        shown, done = [], asyncio.Event()
+
+        async def answer(session):
+            await session.accept()
+            async for one in session:
+                shown.append(type(one))
+                if one.user_data == b"not yet":
+                    await session.release_refuse()
+            done.set()
+
+        listener = await aio.serve_sessions(answer, "127.0.0.1", 0)
+        async with aio.dial("127.0.0.1", port_of(listener)) as line:
+            async with line.session(Opening(HALF)) as session:
+                await session.release(b"not yet")
+                await within(session.expect(ReleaseRefused))
+                await session.data(b"hello")
+            await within(done.wait())
+        self.assertEqual(shown, [Release, Data, Release])
+        listener.close()
 
     async def test_an_end_may_be_expected(self):
         async with aio.dial("127.0.0.1", self.port, CLASS_2) as line:

@@ -35,7 +35,8 @@ class Session:
     without effect. So a loop that awaits each call keeps little, however slow the peer is.
 
     Indications are fetched by ``next``, ``expect`` or ``async for``. If the session ends in another way than by a
-    release, these raise SessionOver, after all that came before; calls raise it as soon as the end has come.
+    release, these raise SessionOver, after all that came before; calls raise it as soon as the end has come. If the body
+    of an ``async for`` does not answer ``Release``, the loop accepts it, and ends.
     """
 
     def __init__(self, line: EndProtocol, reference: int) -> None:
@@ -47,6 +48,8 @@ class Session:
         # The indication with which it is over; and whether the user himself has ended it.
         self._over: Optional[Indication] = None
         self._is_done = False
+        # Whether the last indication that was fetched asks for the release.
+        self._asked_for_release = False
         line.begin(self)
 
     # ---- what its user looks at
@@ -83,6 +86,7 @@ class Session:
         if self._shown:
             indication = self._shown.popleft()
             self.line.fetched(indication)
+            self._asked_for_release = isinstance(indication, Release)
             if indication.is_over and not isinstance(indication, Released):
                 raise SessionOver(indication)
             return indication
@@ -116,6 +120,9 @@ class Session:
         return self
 
     async def __anext__(self) -> Indication:
+        if self._asked_for_release and not self._shown and self.phase is Phase.RELEASE_DUE:
+            # The body of the loop has not answered it.
+            await self.release_accept()
         indication = await self.next()
         if indication is None:
             raise StopAsyncIteration
