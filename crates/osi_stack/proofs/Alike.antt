@@ -1,8 +1,8 @@
 -- What is seen of two ends that came to the same.
 use Rattle.std.proofs.Common.{option_map, ◌≡◌, ℕ, ◌==◌, Bool, true, false, not, List, [], ◌∷◌, length, Option, Some, None, is_some, refl, sym, ap, ◌∙◌, if◌then◌else◌, arith}
-use Rattle.osi_carrier.specs.Runs as runs
+use Rattle.osi_session.specs.declared.faults.CallError.TheVariants.{BadState}
 use Rattle.osi_stack.specs.Runs.{Call, told_of}
-use Rattle.osi_stack.proofs.Vocabulary.{flat_map, kept_in, Rows, value_at, Call as SessionCall, Listener, NoSuchConnection, has_given, connect_error, call_error, session_refusal, phase_of, phase_at, quieted, hushed, put_back, carried_in, AreAlike, AreAlikeByReference, LookAlike, Line, End, Holding, session_in, session_at, joined_in}
+use Rattle.osi_stack.proofs.Vocabulary.{flat_map, kept_in, Rows, value_at, Call as SessionCall, Listener, NoSuchConnection, has_given, awaits_transport, disconnect_error, connect_error, call_error, session_refusal, phase_of, phase_at, quieted, hushed, put_back, carried_in, AreAlike, AreAlikeByReference, LookAlike, Line, End, Holding, session_in, session_at, joined_in}
 use Rattle.osi_stack.proofs.Keeps.{joined_quiet, kept_same}
 
 -- a line for which nothing waits
@@ -43,6 +43,10 @@ call_hushed r call e = ap (λ (s : Option Listener). if not (has_given r e.carri
 call_same : (o : List ℕ) (r : ℕ) (call : SessionCall) (e : End) → call_error r call (put_back o (hushed e)) ≡ call_error r call e
 call_same o r call e = call_apart o r call (hushed e) ∙ call_hushed r call e
 
+disconnect_same : (o : List ℕ) (r : ℕ) (e : End) → disconnect_error r (put_back o (hushed e)) ≡ disconnect_error r e
+disconnect_same o r e =
+    ap (λ (s : Option Listener). if not (has_given r e.carrier) then Some NoSuchConnection else (if awaits_transport s then Some BadState else None)) (session_hushed r e)
+
 -- also where what was told of several references stands in another order
 pub look_apart : (a b : Holding) (xs ys : List Call) → AreAlikeByReference a xs b ys → LookAlike a xs b ys
 look_apart a b xs ys h = record {
@@ -56,6 +60,7 @@ look_apart a b xs ys h = record {
       (ap (λ (e : End). joined_in e.carrier.live e.lines) h.end);
   requests = λ c. ap (connect_error c) h.end;
   answers = λ r call. sym (call_same (flat_map carried_in xs) r call a.end) ∙ ap (call_error r call) h.end ∙ call_same (flat_map carried_in ys) r call b.end;
+  disconnects = λ r. sym (disconnect_same (flat_map carried_in xs) r a.end) ∙ ap (disconnect_error r) h.end ∙ disconnect_same (flat_map carried_in ys) r b.end;
 }
 
 pub look_alike : (a b : Holding) (xs ys : List Call) → AreAlike a xs b ys → LookAlike a xs b ys

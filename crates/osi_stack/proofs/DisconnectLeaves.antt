@@ -5,8 +5,7 @@ use Rattle.osi_carrier.specs.State.{writes, moves}
 use Rattle.osi_carrier.specs.declared.ends.EndReason.TheVariants.{Closed}
 use Rattle.osi_stack.specs.Disconnecting.{given_up, gives_up, disconnects, LeavesOthers}
 use Rattle.osi_stack.proofs.Vocabulary.{Standing as Link, Class, Zero, open_link, closes, closed_on, closed_with, disconnect, value_at, put_other, closing, carrier_ends, State as Carrier, Rows, Listener, after_input, broken, react, is_ended, shown_at_loss, all_lost, kept_at, waiting_of, waiting_at, Line, End, session_in}
-use Rattle.osi_stack.proofs.DisconnectSettles.{closed_and_given, disconnect_carrier, disconnect_lasts, disconnect_is, given_here, given_other, session_given}
-use Rattle.osi_stack.proofs.Lifting.{both}
+use Rattle.osi_stack.proofs.DisconnectKeeps.{closed_and_given, disconnect_carrier, disconnect_lasts, disconnect_is, given_here, given_other, session_given}
 use Rattle.osi_stack.proofs.Moves.{are_lost}
 use Rattle.osi_stack.proofs.Soundness.{closed_given}
 

@@ -29,6 +29,7 @@ pub mod Lowest
 mod Vocabulary
 pub mod Waiting
 pub mod Knowing
+pub mod DisconnectKeeps
 pub mod DisconnectSettles
 pub mod DisconnectLeaves
 pub mod Settling
@@ -50,6 +51,7 @@ pub mod Endings
 pub mod Alike
 pub mod Hushing
 pub mod Asking
+pub mod DisconnectAlike
 pub mod Rounds
 pub mod Asked
 pub mod Breaking

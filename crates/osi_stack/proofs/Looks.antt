@@ -1,8 +1,9 @@
 -- What is seen of two ends that are the same but for lines of connections that are gone; and where a break is
 -- found.
 use Rattle.std.proofs.Common.{◌≡◌, ℕ, Bool, true, false, not, List, [], ◌∷◌, ◌++◌, length, Option, Some, None, is_some, IsSome, refl, sym, ap, subst, ◌∙◌, arith, if◌then◌else◌}
+use Rattle.osi_session.specs.declared.faults.CallError.TheVariants.{BadState}
 use Rattle.osi_stack.specs.Runs.{Call, told_of}
-use Rattle.osi_stack.proofs.Vocabulary.{flat_map-append, sum_by-cons, flat_map, Held, kept_in, Rows, value_at, Connection, Broken, none_of, Call as SessionCall, Listener, Shown, NoSuchConnection, has_given, connect_error, call_error, session_refusal, phase_of, phase_at, breaks, ends, shown_at_loss, all_lost, kept_at, shown_of, all_waiting, quieted, hushed, put_back, live_lines, pruned, Account, account_of, CallsAlong, told_in, carried_in, AreAlikeInLive, LookAlike, IsSettled, Line, End, Holding, session_in, session_at, joined_of, joined_live, joined_in}
+use Rattle.osi_stack.proofs.Vocabulary.{flat_map-append, sum_by-cons, flat_map, Held, kept_in, Rows, value_at, Connection, Broken, none_of, Call as SessionCall, Listener, Shown, NoSuchConnection, has_given, awaits_transport, disconnect_error, connect_error, call_error, session_refusal, phase_of, phase_at, breaks, ends, shown_at_loss, all_lost, kept_at, shown_of, all_waiting, quieted, hushed, put_back, live_lines, pruned, Account, account_of, CallsAlong, told_in, carried_in, AreAlikeInLive, LookAlike, IsSettled, Line, End, Holding, session_in, session_at, joined_of, joined_live, joined_in}
 use Rattle.osi_stack.proofs.Accounts.{after_more, account_joined}
 use Rattle.osi_stack.proofs.Alike.{quieted_at, call_apart, call_hushed, look_alike}
 use Rattle.osi_stack.proofs.Breaking.{lost_told}
@@ -34,6 +35,10 @@ call_view : (r : ℕ) (call : SessionCall) (o : List ℕ) (e : End) → call_err
 call_view r call o e =
     call_apart o r call (hushed (pruned e)) ∙ call_hushed r call (pruned e)
     ∙ ap (λ (s : Option Listener). if not (has_given r e.carrier) then Some NoSuchConnection else session_refusal r s call e.carrier) (session_pruned r e)
+
+disconnect_view : (r : ℕ) (o : List ℕ) (e : End) → disconnect_error r (put_back o (hushed (pruned e))) ≡ disconnect_error r e
+disconnect_view r o e =
+    ap (λ (s : Option Listener). if not (has_given r e.carrier) then Some NoSuchConnection else (if awaits_transport s then Some BadState else None)) (session_view r o e)
 
 gone_joined : (live : Rows Connection) (row : ℕ × Line) → is_some (value_at row.0 live) ≡ false → joined_live live row ≡ 0
 gone_joined live row e = ap (λ (b : Bool). if◌then◌else◌ {A = ℕ} b (joined_of row.1.session) 0) e
@@ -76,6 +81,7 @@ looks a b xs ys octets same told =
           (ap (λ (e : End). kept_in e.carrier.live) same) (ap (λ (e : End). joined_in e.carrier.live e.lines) same);
       requests = λ c. ap (connect_error c) same;
       answers = λ r call. sym (call_view r call o a.end) ∙ ap (call_error r call) same ∙ call_view r call p b.end;
+      disconnects = λ r. sym (disconnect_view r o a.end) ∙ ap (disconnect_error r) same ∙ disconnect_view r p b.end;
     }
 
 pub looks_in_live : (a b : Holding) (xs ys : List Call) → AreAlikeInLive a xs b ys → LookAlike a xs b ys
@@ -156,6 +162,7 @@ look_turned a b xs ys h = record {
   kept = sym h.kept;
   requests = λ c. sym (h.requests c);
   answers = λ r call. sym (h.answers r call);
+  disconnects = λ r. sym (h.disconnects r);
 }
 
 look_through : (a b c : Holding) (xs ys zs : List Call) → LookAlike a xs b ys → LookAlike b ys c zs → LookAlike a xs c zs
@@ -168,6 +175,7 @@ look_through a b c xs ys zs h k = record {
   kept = h.kept ∙ k.kept;
   requests = λ d. h.requests d ∙ k.requests d;
   answers = λ r call. h.answers r call ∙ k.answers r call;
+  disconnects = λ r. h.disconnects r ∙ k.disconnects r;
 }
 
 -- one that has ended looks the same, whatever it is fed, and whatever is told and carried of it

@@ -1,10 +1,14 @@
 -- Each session of an end is what its own inputs made of what it began as.
-use Rattle.std.proofs.Common.{◌≡◌, ◌≢◌, ℕ, ◌+◌, ◌<◌, ◌≤◌, ◌==◌, Bool, true, false, ◌||◌, List, ◌∷◌, ◌++◌, length, take, Option, Some, None, is_some, IsSome, refl, sym, ap, subst, ◌∙◌, inl, inr, ◌⊎◌, arith, append_assoc, option_map, if◌then◌else◌, []}
+use Rattle.std.proofs.Common.{◌≡◌, ◌≢◌, ℕ, ◌+◌, ◌<◌, ◌≤◌, ◌==◌, Bool, true, false, List, ◌∷◌, ◌++◌, length, take, Option, Some, None, is_some, IsSome, not, refl, sym, ap, subst, ◌∙◌, inl, inr, ◌⊎◌, arith, append_assoc, option_map, if◌then◌else◌, []}
 use Rattle.osi_carrier.specs.Packets as carriers
+use Rattle.osi_session.specs.Listening.{broken as linked_down, after_input}
+use Rattle.osi_session.specs.declared.faults.CallError.TheVariants.{BadState}
+use Rattle.osi_stack.specs.Disconnecting.{given_up, gives_up_by, gives_up}
 use Rattle.osi_stack.specs.Inputs.{Step}
-use Rattle.osi_stack.proofs.Vocabulary.{eqb-true, eq-eqb, append-nil, AllByRecursion, fresh, IsPartial, ArePackets, Fed, tsap_octets, Local, beyond, push_here, push_other, OneCut, asks, Happening, told_of, RiseFrom, Rows, value_at, Connection, State as Carrier, Broken, Call as SessionCall, Input, Listener, called, opened as linked_up, react, after_inputs, awaits, calls_with, connects, breaks, call_error, connect_error, without_first, TakesPackets, Goes, Feeds, opens, hears, hears_next, hears_times, hears_all, with_events, with_carrier, after_packet, ends, input_of, inputs_told, Past, no_past, then_came, inputs_of, begun_as, made_at, AreMadeBy, told_along, past_called, IsAccepted, serving, using, Steps, StepsAlong, AreApart, Soundness, IsSound, kept_at, to_session, IsOrdered, UserCall, user_does, connecting, calling, breaking, put_back, Calls, used_in, feeding, telling, carrying, Line, End, Holding, IsAttended, fresh_end, session_in, used_lines, joins, waits, fresh_line, Connect, told_opened as opened, EndCall as Call}
+use Rattle.osi_stack.proofs.Vocabulary.{eqb-true, eq-eqb, append-nil, AllByRecursion, fresh, IsPartial, ArePackets, Fed, tsap_octets, Local, beyond, push_here, push_other, OneCut, asks, Happening, told_of, RiseFrom, Rows, value_at, Connection, State as Carrier, Broken, Call as SessionCall, Input, Listener, called, opened as linked_up, react, after_inputs, awaits, calls_with, connects, breaks, call_error, connect_error, without_first, TakesPackets, Goes, Feeds, opens, hears, hears_next, hears_times, hears_all, with_events, with_carrier, after_packet, ends, input_of, inputs_told, Past, no_past, then_came, inputs_of, begun_as, made_at, AreMadeBy, told_along, past_called, IsAccepted, serving, using, Steps, StepsAlong, AreApart, Soundness, IsSound, kept_at, to_session, IsOrdered, UserCall, user_does, connecting, calling, disconnecting, breaking, awaits_transport, disconnect_error, disconnects, has_given, session_at, NoSuchConnection, nat_tests, open_link, put, put_here, put_other, line_by, by_line, put_back, Calls, used_in, feeding, telling, carrying, Line, End, Holding, IsAttended, fresh_end, session_in, used_lines, joins, waits, fresh_line, Connect, told_opened as opened, EndCall as Call}
 use Rattle.osi_stack.proofs.Attending.{session_attended, connect_attended, feeds_attended}
 use Rattle.osi_stack.proofs.Comings.{attended_then}
+use Rattle.osi_stack.proofs.DisconnectKeeps.{disconnect_attended, disconnect_is, disconnect_ordered, disconnect_sound}
 use Rattle.osi_stack.proofs.Events.{concluded_carrier}
 use Rattle.osi_stack.proofs.Lifting.{both, packet_is, lasting_of, never}
 use Rattle.osi_stack.proofs.Linking.{SessionLaws, HasMoved, session_hears, hears_apart, used_at, apart_push, joined_lines, unlike, first_is, rest_is, Stays}
@@ -12,7 +16,7 @@ use Rattle.osi_stack.proofs.Moves.{kept_first, says_is}
 use Rattle.osi_stack.proofs.Opened.{opened_in, NoneAwaited, IsGiven, Comes, OpensAlong}
 use Rattle.osi_stack.proofs.Ordering.{HaveLines, have_still, have_rest, one_heard, awaited_lines, packet_along, packet_ordered, connect_ordered, call_ordered, feeds_ordered, first_ordered, fresh_ordered}
 use Rattle.osi_stack.proofs.Runs.{call_lasts, reads_dry, reads_stopped, ReadsOne, none_ended}
-use Rattle.osi_stack.proofs.Soundness.{concludes_lasting, packet_sound, connect_sound, call_sound, feeds_sound, first_sound, fresh_sound, up_at}
+use Rattle.osi_stack.proofs.Soundness.{concludes_lasting, packet_sound, connect_sound, call_sound, feeds_sound, first_sound, fresh_sound, up_at, closed_given}
 use Rattle.osi_stack.proofs.Stepwise.{Carries, session_carried, events_heard}
 
 -- ---- inputs
@@ -327,6 +331,10 @@ sane_call laws r call e s = search (session_attended r (called call) e s.attende
 
 -- ---- a call of the user
 
+session_left : (line : Line) (o : Option Listener) → line.session ≡ o → (given_up line).session ≡ (line_by line o linked_down).session
+session_left line None is = ap (option_map (λ s. after_input s linked_down)) is ∙ sym is
+session_left line (Some s) is = ap (option_map (λ s. after_input s linked_down)) is
+
 asked_here : (q : ℕ) (c : Connect) (past : Past) → value_at q past.asked ≡ None → inputs_of q past.inputs ≡ [] →
     made_at q (record past { asked = past.asked ++ (q, c) ∷ [] }) ≡ calls_with c
 asked_here q c past unasked unheard =
@@ -363,6 +371,47 @@ call_known r call e past allowed s k =
     subst (λ n. IsKnown n (past_called (calling r call) e past) (to_session r (called call) e).lines) (sym (session_carried (λ k. k.given ≡ e.carrier.given) (session_given e.carrier) r (called call) e refl))
     (given_known e.carrier.given r (called call) e past up k)
 
+-- what is left of sessions where one is given up is what a break leaves of it
+given_line : (r : ℕ) (line : Line) (o : Option Listener) (lines : Rows Line) → line.session ≡ o → value_at r lines ≡ Some line →
+    ((q : ℕ) → kept_at q (put r (given_up line) lines) ≡ kept_at q (put r (line_by line o linked_down) lines))
+given_line r line o lines is here q = by (q == r) refl
+  where
+    by : (b : Bool) → (q == r) ≡ b → kept_at q (put r (given_up line) lines) ≡ kept_at q (put r (line_by line o linked_down) lines)
+    by true e =
+        let same = eqb-true q r e in
+        ap (λ n. kept_at n (put r (given_up line) lines)) same ∙ ap session_in (put_here r (given_up line) line lines here) ∙ session_left line o is
+        ∙ sym (ap (λ n. kept_at n (put r (line_by line o linked_down) lines)) same ∙ ap session_in (put_here r (line_by line o linked_down) line lines here))
+    by false e =
+        let ne : q ≢ r = (λ same. both (q == r) (eq-eqb q r same) e) in
+        ap session_in (put_other q r (given_up line) lines ne) ∙ sym (ap session_in (put_other q r (line_by line o linked_down) lines ne))
+
+given_same : (r : ℕ) (e : End) (o : Option Line) → value_at r e.lines ≡ o → (q : ℕ) → kept_at q (gives_up_by r o e.lines) ≡ kept_at q (by_line r o linked_down e).lines
+given_same r e None here q = refl
+given_same r e (Some line) here q = given_line r line line.session e.lines refl here q
+
+given_of : (r : ℕ) (c : Carrier) → has_given r c ≡ true → r ≤ c.given
+given_of r c h = grind (arith, nat_tests, has_given)
+
+accepted_given : (b waits : Bool) → (if not b then Some NoSuchConnection else (if waits then Some BadState else None)) ≡ None → b ≡ true
+accepted_given true waits h = refl
+accepted_given false waits h = cc
+
+disconnect_known : (r : ℕ) (e : End) (past : Past) → disconnect_error r e ≡ None → (disconnects r e).carrier.ended ≡ None → IsKnown e.carrier.given past e.lines →
+    IsKnown (disconnects r e).carrier.given (past_called (disconnecting r) e past) (disconnects r e).lines
+disconnect_known r e past allowed lasts k =
+    let low = given_of r e.carrier (accepted_given (has_given r e.carrier) (awaits_transport (session_at r e)) allowed) in
+    let given = closed_given r 128 (open_link r e.carrier) e.carrier in
+    let was = given_known e.carrier.given r linked_down e past low k in
+    subst (λ (x : End). IsKnown x.carrier.given (past_called (disconnecting r) e past) x.lines) (sym (disconnect_is r e lasts))
+    (subst (λ n. IsKnown n (past_called (disconnecting r) e past) (gives_up r e.lines)) (sym given) (record {
+      made = λ q s is. was.made q s (sym (given_same r e (value_at r e.lines) refl q) ∙ is);
+      unasked = was.unasked;
+      unheard = was.unheard;
+    }))
+
+sane_disconnect : (r : ℕ) (e : End) → IsSane e → IsSane (disconnects r e)
+sane_disconnect r e s = record { attended = disconnect_attended r e s.attended; sound = disconnect_sound r e s.sound; ordered = disconnect_ordered r e s.ordered }
+
 -- ---- steps
 
 record IsRun (h : Holding) (past : Past) : Type 0 where
@@ -381,6 +430,11 @@ used_run : SessionLaws → (call : UserCall) (old : Holding) (before : Past) →
     IsRun old before → IsRun (record old { end = user_does call old.end }) (past_called call old.end before)
 used_run laws (connecting c) old before quiet allowed lasts run = search (sane_connect c old.end allowed run.sane, connect_known c old.end before (run.sane.sound quiet) run.known)
 used_run laws (calling r call) old before quiet allowed lasts run = search (sane_call laws r call old.end run.sane, call_known r call old.end before allowed (run.sane.sound quiet) run.known)
+used_run laws (disconnecting r) old before quiet allowed lasts run = record {
+  sane = sane_disconnect r old.end run.sane;
+  partial = run.partial;
+  known = disconnect_known r old.end before allowed lasts run.known;
+}
 used_run laws breaking old before quiet allowed lasts run = never (breaks old.end) (break_over (is_some old.end.carrier.ended) old.end refl) lasts
 
 step_run : SessionLaws → IsPartial [] → OneCut → (step : Step) (old new : Holding) (before behind : Past) → Steps old before step new behind → new.end.carrier.ended ≡ None →

@@ -44,7 +44,7 @@ module _ (K : ℕ → Bool) where
   only_at r [] here = refl
   only_at r ((q, y) ∷ lines) here = at_by r q y lines (q == r) (K q) refl refl here (only_at r lines here)
 
-  put_row : (r q : ℕ) (x y : Line) (lines : Rows Line) (b : Bool) → (q == r) ≡ b → put r x ((q, y) ∷ lines) ≡ (if b then (q, x) ∷ lines else (q, y) ∷ put r x lines)
+  pub put_row : (r q : ℕ) (x y : Line) (lines : Rows Line) (b : Bool) → (q == r) ≡ b → put r x ((q, y) ∷ lines) ≡ (if b then (q, x) ∷ lines else (q, y) ∷ put r x lines)
   put_row r q x y lines b e = ap (λ (c : Bool). if◌then◌else◌ {A = Rows Line} c ((q, x) ∷ lines) ((q, y) ∷ put r x lines)) e
 
   put_by : (r q : ℕ) (x y : Line) (lines : Rows Line) (b c : Bool) → (q == r) ≡ b → K q ≡ c → K r ≡ true → put r x (only lines) ≡ only (put r x lines) →
@@ -58,7 +58,7 @@ module _ (K : ℕ → Bool) where
   put_by r q x y lines false false e f here more =
       ap (put r x) (only_row q y lines false f) ∙ more ∙ sym (ap only (put_row r q x y lines false e) ∙ only_row q y (put r x lines) false f)
 
-  only_put : (r : ℕ) (x : Line) (lines : Rows Line) → K r ≡ true → put r x (only lines) ≡ only (put r x lines)
+  pub only_put : (r : ℕ) (x : Line) (lines : Rows Line) → K r ≡ true → put r x (only lines) ≡ only (put r x lines)
   only_put r x [] here = refl
   only_put r x ((q, y) ∷ lines) here = put_by r q x y lines (q == r) (K q) refl refl here (only_put r x lines here)
 
@@ -133,7 +133,7 @@ module _ (K : ℕ → Bool) where
   only_times zero e all = refl
   only_times (suc n) e all = ap (hears_times n) (only_first e.carrier.events e all) ∙ only_times n (hears_next e) (next_of e all)
 
-  only_concludes : (over : Bool) (e : End) →
+  pub only_concludes : (over : Bool) (e : End) →
       (if over then record (only_end e) { lines = all_lost (only e.lines) } else only_end e) ≡ only_end (if over then record e { lines = all_lost e.lines } else e)
   only_concludes true e = ap (λ (l : Rows Line). record e { lines = l }) (only_lost e.lines)
   only_concludes false e = refl

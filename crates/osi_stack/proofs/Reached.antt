@@ -1,7 +1,6 @@
 -- What happens to an end happens to live connections and to new ones alone: it is the same without the lines of
 -- connections that are gone.
 use Rattle.std.proofs.Common.{◌≡◌, ℕ, ◌<◌, ◌≤◌, Bool, true, false, ◌||◌, nat_lt, List, [], ◌∷◌, ◌++◌, length, Option, None, is_some, refl, sym, ap, subst, ◌∙◌, inl, inr, arith}
-use Rattle.osi_carrier.specs.Happenings as told
 use Rattle.osi_carrier.specs.Packets as carriers
 use Rattle.osi_stack.proofs.Vocabulary.{nat_tests, AllByRecursion, or_right, sent_gone, closed_gone, Happening, AreUpTo, IsOrderly, told_of, Rows, value_at, Connection, State as Carrier, EndReason, Input, hears_times, hears_all, with_carrier, after_packet, ends, all_waiting, to_session, live_lines, pruned, Line, End, input_of}
 use Rattle.osi_stack.proofs.Events.{concluded_carrier}
@@ -71,7 +70,7 @@ gone_packet e unit q orderly gone =
 abbrev pub Within : (ℕ → Bool) → (ℕ → Bool) → Type 0
 Within K L = (q : ℕ) → K q ≡ true → L q ≡ true
 
-within_by : (o : Option Connection) (b : Bool) → (b ≡ false → o ≡ None) → is_some o ≡ true → b ≡ true
+pub within_by : (o : Option Connection) (b : Bool) → (b ≡ false → o ≡ None) → is_some o ≡ true → b ≡ true
 within_by o true none here = refl
 within_by o false none here = both (is_some o) here (ap is_some (none refl))
 
@@ -117,7 +116,7 @@ pub record SameInLive (a b : End) : Type 0 where
   pub told : all_waiting a.lines ≡ all_waiting b.lines
 
 -- what does the same without them
-acts_alike : (e new : End) → Within (is_live new.carrier) (reached e.carrier) → AreStill (reached e.carrier) new.lines → SameInLive (only_end (reached e.carrier) new) new
+pub acts_alike : (e new : End) → Within (is_live new.carrier) (reached e.carrier) → AreStill (reached e.carrier) new.lines → SameInLive (only_end (reached e.carrier) new) new
 acts_alike e new within still = record {
   end = ap (λ (l : Rows Line). record new { lines = l }) (only_less (is_live new.carrier) (reached e.carrier) within new.lines);
   told = only_told (reached e.carrier) new.lines still;

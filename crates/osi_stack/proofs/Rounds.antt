@@ -1,8 +1,9 @@
 -- Two runs in step come to the same, whatever the pieces.
 use Rattle.std.proofs.Common.{◌≡◌, ℕ, ◌+◌, ◌-◌, ◌<◌, ◌^◌, Bool, true, false, List, ◌∷◌, ◌++◌, Option, Some, None, is_some, length, option_map, arith, refl, sym, ap, subst, ◌∙◌, append_assoc, if◌then◌else◌, []}
-use Rattle.osi_stack.proofs.Vocabulary.{append-nil, flat_map-append, flat_map, IsPartial, ArePackets, offset_of, TpktFault, tsap_octets, apart_all, OneCut, user, Rows, asked, State as Carrier, Broken, called, Shown, connects, calls_with, ends, all_waiting, UserCall, user_does, Round, WaitForLive, MayCall, IsCalled, RoundsBy, RoundsAlong, calls_of, AreInStep, connecting, calling, breaking, hushed, put_back, Account, account_of, with_packet, with_packets, CallsAlong, used_in, told_in, carried_in, account_along, AreAlike, Line, End, Holding, joins, waits, Connect, none_of, connects_call, EndCall as Call}
+use Rattle.osi_stack.proofs.Vocabulary.{append-nil, flat_map-append, flat_map, IsPartial, ArePackets, offset_of, TpktFault, tsap_octets, apart_all, OneCut, user, Rows, asked, State as Carrier, Broken, called, Shown, connects, calls_with, ends, all_waiting, UserCall, user_does, Round, WaitForLive, MayCall, IsCalled, RoundsBy, RoundsAlong, calls_of, AreInStep, connecting, calling, disconnecting, breaking, hushed, put_back, Account, account_of, with_packet, with_packets, CallsAlong, used_in, told_in, carried_in, account_along, AreAlike, Line, End, Holding, joins, waits, Connect, none_of, connects_call, EndCall as Call}
 use Rattle.osi_stack.proofs.Accounts.{made, after_more, account_quiet, account_joined, packets_apart}
 use Rattle.osi_stack.proofs.Asking.{wait_push, joins_alike}
+use Rattle.osi_stack.proofs.DisconnectAlike.{disconnects_apart}
 use Rattle.osi_stack.proofs.Endings.{faulted}
 use Rattle.osi_stack.proofs.Hushing.{account_calling}
 use Rattle.osi_stack.proofs.Lasting.{account_over}
@@ -110,6 +111,7 @@ breaks_apart o false e = refl
 user_apart : (o : List ℕ) (call : UserCall) (e : End) → user_does call (put_back o e) ≡ put_back o (user_does call e)
 user_apart o (connecting c) e = connects_apart o c e
 user_apart o (calling r call) e = apart_session o r (called call) e
+user_apart o (disconnecting r) e = disconnects_apart o r e
 user_apart o breaking e = breaks_apart o (is_some e.carrier.ended) e
 
 -- the account where nothing waits
@@ -136,6 +138,8 @@ account_connecting t o c e h =
 pub account_called : (t : List (ℕ × Shown)) (o : List ℕ) (call : UserCall) (e : End) → MayCall call e → account_of t o (user_does call e) ≡ called_by call (account_of t o e)
 account_called t o (connecting c) e h = account_connecting t o c e h
 account_called t o (calling r call) e h = account_calling t o r call e h
+account_called t o (disconnecting r) e h =
+    ap (account_of t []) (sym (user_apart o (disconnecting r) e)) ∙ ap (called_by (disconnecting r)) (sym (account_still t o e h))
 account_called t o breaking e h = ap (account_of t []) (sym (user_apart o breaking e)) ∙ ap (called_by breaking) (sym (account_still t o e h))
 
 -- accounts that are the same

@@ -85,6 +85,7 @@ pub use Rattle.osi_tpkt.specs.declared.faults.TpktFault.{TpktFault}
 pub use Rattle.osi_stack.specs.Addresses.{addressed, addresses_at, asked_addresses, selectors_in}
 pub use Rattle.osi_stack.specs.Calls.{Refuses, RefusesBy, TellsOf, after_open, breaks, by_rule, call_error, calls_with, carried, connect_error, connects, first_by, first_shown, has_given, held_by, move_refusal, opening_of, or_else, phase_at, phase_of, reply_refusal, rest_by, send_refusal, session_error, session_refusal, table_error, terms_error, without_first}
 pub use Rattle.osi_stack.specs.Coming.{IsUnheard, TakesSome, TakesUnits, after_unit, carries_out}
+pub use Rattle.osi_stack.specs.Disconnecting.{awaits_transport, disconnect_error, disconnects}
 pub use Rattle.osi_stack.specs.Feeding.{Feeds, FindsNoMemory, FindsNoRoom, Goes, RunsDry, StopsBehind, TakesPackets, stops, uses_all}
 pub use Rattle.osi_stack.specs.Fetching.{Fetches, Interrupted, LeftOff}
 pub use Rattle.osi_stack.specs.Folds.{AllCameAbout, AllNamed, CameAbout, IsNamed, IsProfiled, OfLines, OfSession, OfSessions}
@@ -97,7 +98,7 @@ pub use Rattle.osi_stack.specs.Moving.{answers, by_line, carrier_by, limit_for, 
 pub use Rattle.osi_stack.specs.Needs.{needs_memory, session_needs}
 pub use Rattle.osi_stack.specs.Ordered.{IsLowest, IsOrdered, TellsLowest}
 pub use Rattle.osi_stack.specs.Rounds.{AreInStep, IsCalled, MayAsk, MayCall, Round, RoundsAlong, RoundsAsking, RoundsBy, UserCall, WaitForLive, calls_of, user_does}
-pub use Rattle.osi_stack.specs.Rounds.UserCall.{breaking, calling, connecting}
+pub use Rattle.osi_stack.specs.Rounds.UserCall.{breaking, calling, connecting, disconnecting}
 pub use Rattle.osi_stack.specs.Runs.{Account, AreAlike, AreAlikeByReference, AreAlikeInLive, Calls, CallsAlong, CallsInRoom, HasRoom, LookAlike, Reads, account_along, account_of, carried_in, hushed, live_lines, pruned, put_back, quieted, told_in, used_in, with_packet, with_packets, Call as EndCall}
 pub use Rattle.osi_stack.specs.Runs.Call.{carrying, feeding, telling}
 pub use Rattle.osi_stack.specs.Selectors.{Selectors, selectors_of, selectors_said, selectors_told, session_selectors, shows_connect}

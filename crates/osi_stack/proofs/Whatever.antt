@@ -1,11 +1,14 @@
 -- Rounds in which connections are asked for whatever waits: two runs in step come to the same but for lines of
 -- connections that are gone.
 use Rattle.std.proofs.Common.{◌≡◌, ℕ, ◌<◌, ◌^◌, true, false, List, [], ◌++◌, Option, Some, None, is_some, refl, sym, ap, ◌∙◌, if◌then◌else◌}
-use Rattle.osi_stack.proofs.Vocabulary.{flat_map, IsPartial, PacketLaws, OneCut, value_at, Connection, Tpkt, EndReason, Broken, Fault, Call as SessionCall, Listener, called, Shown, connects, connect_error, call_error, after_packet, ends, all_waiting, to_session, UserCall, user_does, Round, MayAsk, RoundsAsking, calls_of, AreInStep, connecting, calling, breaking, hushed, put_back, pruned, Account, account_of, with_packet, CallsInRoom, used_in, told_in, carried_in, AreAlikeInLive, IsSettled, End, Holding, waits, Connect, EndCall as Call}
+use Rattle.osi_stack.proofs.Vocabulary.{flat_map, IsPartial, PacketLaws, OneCut, value_at, Connection, Tpkt, EndReason, Broken, Fault, Call as SessionCall, Listener, called, Shown, connects, connect_error, call_error, after_packet, ends, all_waiting, to_session, UserCall, user_does, Round, MayAsk, RoundsAsking, calls_of, AreInStep, connecting, calling, disconnecting, breaking, disconnects, hushed, put_back, pruned, Account, account_of, with_packet, CallsInRoom, used_in, told_in, carried_in, AreAlikeInLive, IsSettled, End, Holding, waits, Connect, EndCall as Call}
 use Rattle.osi_stack.proofs.Accounts.{made}
 use Rattle.osi_stack.proofs.Asked.{waits_asked, connects_pruned, connects_back}
 use Rattle.osi_stack.proofs.Attending.{session_attended, connect_attended}
 use Rattle.osi_stack.proofs.Awaiting.{StillWaits, call_asked, connect_asked}
+use Rattle.osi_stack.proofs.DisconnectAlike.{disconnect_alike}
+use Rattle.osi_stack.proofs.DisconnectKeeps.{disconnect_attended, disconnect_sound}
+use Rattle.osi_stack.proofs.DisconnectSettles.{disconnect_asked}
 use Rattle.osi_stack.proofs.InLive.{IsFit, fit_over, fit_hushed, fit_back, fit_packet, fit_still, pruned_account, account_view, account_alike, none_waits}
 use Rattle.osi_stack.proofs.Linking.{SessionLaws}
 use Rattle.osi_stack.proofs.Looks.{settled_fit}
@@ -79,6 +82,27 @@ like_call laws law r call x y here there lasts h =
     let still = sym (ended_same x y h) ∙ lasts in
     search (one_call r call x here lasts h.left h.quiet ∙ ap (λ (z : Account). pruned_account (called_by (calling r call) z)) h.same ∙ sym (one_call r call y there still h.right h.quiet_too), fit_hushed [] (to_session r (called call) x.end) (fit_call laws law r call x.end h.left), fit_hushed [] (to_session r (called call) y.end) (fit_call laws law r call y.end h.right), none_waits (to_session r (called call) x.end).lines, none_waits (to_session r (called call) y.end).lines)
 
+-- ---- a connection is given up
+
+one_disconnect : (r : ℕ) (z : Account) → z.end.carrier.ended ≡ None → IsFit z.end → waits z.end.lines ≡ false →
+    pruned_account (called_by (disconnecting r) z) ≡ pruned_account (called_by (disconnecting r) (pruned_account z))
+one_disconnect r z lasts f quiet =
+    sym (account_alike z.told [] (disconnects r (pruned z.end)) (disconnects r z.end) (disconnect_alike r z.end (f.sound lasts).known (fit_still z.end lasts f quiet)))
+
+fit_disconnect : (r : ℕ) (e : End) → IsFit e → IsFit (disconnects r e)
+fit_disconnect r e f = record { attended = disconnect_attended r e f.attended; sound = disconnect_sound r e f.sound; asks = disconnect_asked r e f.asks }
+
+like_disconnect : (r : ℕ) (x y : Account) → x.end.carrier.ended ≡ None → LikeInLive x y → LikeInLive (called_by (disconnecting r) x) (called_by (disconnecting r) y)
+like_disconnect r x y lasts h =
+    let still = sym (ended_same x y h) ∙ lasts in
+    record {
+      same = one_disconnect r x lasts h.left h.quiet ∙ ap (λ (z : Account). pruned_account (called_by (disconnecting r) z)) h.same ∙ sym (one_disconnect r y still h.right h.quiet_too);
+      left = fit_hushed [] (disconnects r x.end) (fit_disconnect r x.end h.left);
+      right = fit_hushed [] (disconnects r y.end) (fit_disconnect r y.end h.right);
+      quiet = none_waits (disconnects r x.end).lines;
+      quiet_too = none_waits (disconnects r y.end).lines;
+    }
+
 -- ---- a connection is asked for
 
 -- what that makes of an account
@@ -114,6 +138,11 @@ like_user laws law t o a u p b (calling r call) lasts may might h =
     alike_at LikeInLive (account_of t o (to_session r (called call) a)) (account_of u p (to_session r (called call) b)) (called_by (calling r call) x) (called_by (calling r call) y)
     (account_called t o (calling r call) a may) (account_called u p (calling r call) b might)
     (like_call laws law r call x y (accepted_live r call a may) (accepted_live r call b might) lasts h)
+like_user laws law t o a u p b (disconnecting r) lasts may might h =
+    let x = account_of t o a in
+    let y = account_of u p b in
+    alike_at LikeInLive (account_of t o (disconnects r a)) (account_of u p (disconnects r b)) (called_by (disconnecting r) x) (called_by (disconnecting r) y)
+    (account_called t o (disconnecting r) a may) (account_called u p (disconnecting r) b might) (like_disconnect r x y lasts h)
 like_user laws law t o a u p b breaking lasts may might h =
     let x = account_of t o a in
     let y = account_of u p b in

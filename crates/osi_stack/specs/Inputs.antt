@@ -9,10 +9,11 @@ use Rattle.osi_carrier.specs.Rows.{Rows, value_at}
 use Rattle.osi_session.specs.Listening.{Input, Listener, called, opened, refused, broken, came, after_inputs}
 use Rattle.osi_session.specs.Sessions.{awaits}
 use Rattle.osi_stack.specs.Calls.{calls_with, connect_error, call_error}
+use Rattle.osi_stack.specs.Disconnecting.{disconnect_error}
 use Rattle.osi_stack.specs.Hearing.{after_packet}
 use Rattle.osi_stack.specs.Messages.{kept_at}
 use Rattle.osi_stack.specs.Rounds.{UserCall, user_does}
-use Rattle.osi_stack.specs.Rounds.UserCall.{connecting, calling, breaking}
+use Rattle.osi_stack.specs.Rounds.UserCall.{connecting, calling, disconnecting, breaking}
 use Rattle.osi_stack.specs.Runs.{Call, Calls, used_in}
 use Rattle.osi_stack.specs.State.{End, Holding}
 use Rattle.osi_stack.specs.declared.connecting.Connect.{Connect}
@@ -70,12 +71,14 @@ told_along e (packet ∷ packets) = inputs_told (carriers.after_packet e.carrier
 abbrev pub past_called : UserCall → End → Past → Past
 past_called (connecting c) e past = record past { asked = past.asked ++ (e.carrier.given + 1, c) ∷ [] }
 past_called (calling r call) e past = then_came ((r, called call) ∷ []) past
+past_called (disconnecting r) e past = then_came ((r, broken) ∷ []) past
 past_called breaking e past = past
 
 -- the user's call is accepted; a break needs no leave
 abbrev pub IsAccepted : UserCall → End → Type 0
 IsAccepted (connecting c) e = connect_error c e ≡ None
 IsAccepted (calling r call) e = call_error r call e ≡ None
+IsAccepted (disconnecting r) e = disconnect_error r e ≡ None
 IsAccepted breaking e = Unit {0}
 
 -- octets and indications come and go, in which these packets came whole; or the user calls

@@ -7,21 +7,24 @@ use Rattle.osi_carrier.specs.State.{Connection}
 use Rattle.osi_session.specs.Calls.{Call as SessionCall}
 use Rattle.osi_session.specs.Listening.{called}
 use Rattle.osi_stack.specs.Calls.{connects, breaks, connect_error, call_error}
+use Rattle.osi_stack.specs.Disconnecting.{disconnects}
 use Rattle.osi_stack.specs.Moving.{to_session}
 use Rattle.osi_stack.specs.Runs.{Call, CallsAlong, used_in}
 use Rattle.osi_stack.specs.State.{Line, End, Holding, line_waits, waits}
 use Rattle.osi_stack.specs.declared.connecting.Connect.{Connect}
 
--- an accepted call of the user: it asks for a connection, calls the session of one, or finds that the byte
--- connection broke
+-- an accepted call of the user: it asks for a connection, calls the session of one, gives one up, or finds that
+-- the byte connection broke
 pub data UserCall : Type 0 where
   connecting : Connect → UserCall
   calling : ℕ → SessionCall → UserCall
+  disconnecting : ℕ → UserCall
   breaking : UserCall
 
 abbrev pub user_does : UserCall → End → End
 user_does (connecting c) e = connects c e
 user_does (calling r call) e = to_session r (called call) e
+user_does (disconnecting r) e = disconnects r e
 user_does breaking e = breaks e
 
 -- some of the other calls, and then, perhaps, one of the user
@@ -35,16 +38,18 @@ WaitForLive live [] = Unit {0}
 WaitForLive live ((r, line) ∷ lines) = ((is_some (value_at r live) || not (line_waits line)) ≡ true) × WaitForLive live lines
 
 -- A session is called whatever waits; a connection is asked for once all was told that waits for connections
--- that are gone; and a break is found once all was told that waits.
+-- that are gone; and a connection is given up, and a break found, once all was told that waits.
 abbrev pub MayCall : UserCall → End → Type 0
 MayCall (connecting c) e = WaitForLive e.carrier.live e.lines
 MayCall (calling r call) e = call_error r call e ≡ None
+MayCall (disconnecting r) e = waits e.lines ≡ false
 MayCall breaking e = waits e.lines ≡ false
 
 -- The same, but a connection is asked for wherever that is accepted, whatever waits.
 abbrev pub MayAsk : UserCall → End → Type 0
 MayAsk (connecting c) e = connect_error c e ≡ None
 MayAsk (calling r call) e = call_error r call e ≡ None
+MayAsk (disconnecting r) e = waits e.lines ≡ false
 MayAsk breaking e = waits e.lines ≡ false
 
 -- the user calls an end that lasts, as it may, or does not

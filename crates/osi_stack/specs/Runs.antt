@@ -10,6 +10,7 @@ use Rattle.osi_carrier.specs.State.{Connection}
 use Rattle.osi_session.specs.Calls.{Call as SessionCall}
 use Rattle.osi_session.specs.Shown.{Shown}
 use Rattle.osi_stack.specs.Calls.{connect_error, call_error, first_shown, without_first, phase_at}
+use Rattle.osi_stack.specs.Disconnecting.{disconnect_error}
 use Rattle.osi_stack.specs.Feeding.{stops, RunsDry, StopsBehind, Refuses, Feeds}
 use Rattle.osi_stack.specs.Hearing.{after_packet}
 use Rattle.osi_stack.specs.Messages.{all_waiting}
@@ -153,3 +154,4 @@ pub record LookAlike (a : Holding) (xs : List Call) (b : Holding) (ys : List Cal
   pub kept : kept_octets a ≡ kept_octets b
   pub requests : (c : Connect) → connect_error c a.end ≡ connect_error c b.end
   pub answers : (r : ℕ) (call : SessionCall) → call_error r call a.end ≡ call_error r call b.end
+  pub disconnects : (r : ℕ) → disconnect_error r a.end ≡ disconnect_error r b.end

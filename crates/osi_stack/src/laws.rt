@@ -142,8 +142,9 @@ pub fn a_session_is_what_its_inputs_made_it()
 }
 
 /// And these inputs are no others than its user's calls, the TSDUs that came for it and the other events that
-/// its carrier told of its connection, all of them, in the order in which they came. Over every list of steps
-/// from a new end, in which octets come and go, indications are told and its user calls, while the end lasts:
+/// its carrier told of its connection, all of them, in the order in which they came; a connection that its user
+/// gave up is lost to its session there. Over every list of steps from a new end, in which octets come and go,
+/// indications are told and its user calls and gives up connections, while the end lasts:
 /// each session is what the inputs of its reference made of what it began as, at a caller with the CN of the
 /// `connect` that was given the reference, at a called end awaiting a CN.
 pub fn a_session_is_made_by_what_came_for_it()
@@ -344,13 +345,13 @@ pub fn the_pieces_do_not_matter()
 
 /// So over whole runs too, with the user's calls between: where in each round the same octets were used, in
 /// whatever pieces, and then the user made the same call, the ends come to the same, and the same was told and
-/// put. A session may be called while indications wait, and a connection asked for while they wait for live
-/// connections (`rounds`). Behind the rounds the same octets may end them, or they may have ended: where memory
-/// is not wanted there, they come to the same all the same (`last`). And the byte connection may break whatever
-/// waits: then the same is told of each reference, in the same order, if not of several (of 1 that it is lost
-/// before what waits of 2, where that was not yet told), and all else is the same (`broken`). Behind an end, as
-/// behind a break, there are no rounds: no packet acts and no call is accepted, and what is fed, told and carried
-/// there leaves what is seen the same (`behind`).
+/// put. A session may be called while indications wait, a connection asked for while they wait for live
+/// connections, and one given up once all was told (`rounds`). Behind the rounds the same octets may end them, or
+/// they may have ended: where memory is not wanted there, they come to the same all the same (`last`). And the byte
+/// connection may break whatever waits: then the same is told of each reference, in the same order, if not of
+/// several (of 1 that it is lost before what waits of 2, where that was not yet told), and all else is the same
+/// (`broken`). Behind an end, as behind a break, there are no rounds: no packet acts and no call is accepted, and
+/// what is fed, told and carried there leaves what is seen the same (`behind`).
 ///
 /// `connect` drops the lines of connections that are gone and for which nothing waits. So where it is called
 /// whatever waits, one of two ends may keep such a line that the other has dropped (`asked`). From then on, where

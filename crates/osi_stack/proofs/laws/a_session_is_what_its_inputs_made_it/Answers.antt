@@ -1,7 +1,7 @@
 use Rattle.std.proofs.Common.{subst}
 use Rattle.osi_stack.proofs.Vocabulary.{CameAbout, AllCameAbout, End}
 use Rattle.osi_stack.proofs.Comings.{packet_is_unit}
-use Rattle.osi_stack.proofs.DisconnectSettles.{disconnect_came}
+use Rattle.osi_stack.proofs.DisconnectKeeps.{disconnect_came}
 use Rattle.osi_stack.proofs.Folds.{packet_all, connect_all, call_came, feeds_all, told_all, breaks_all, came_asking, came_true}
 use Rattle.osi_stack.proofs.laws.a_session_is_what_its_inputs_made_it.Goals as goal
 

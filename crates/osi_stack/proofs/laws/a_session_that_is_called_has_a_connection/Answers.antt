@@ -1,7 +1,7 @@
 use Rattle.std.proofs.Common.{subst}
 use Rattle.osi_stack.specs.Links.{IsSound}
 use Rattle.osi_stack.proofs.Comings.{packet_is_unit}
-use Rattle.osi_stack.proofs.DisconnectSettles.{disconnect_sound}
+use Rattle.osi_stack.proofs.DisconnectKeeps.{disconnect_sound}
 use Rattle.osi_stack.proofs.Soundness.{packet_sound, fresh_sound, connect_sound, call_sound, feeds_sound, first_sound, carried_sound, breaks_sound}
 use Rattle.osi_stack.proofs.Tables.{session_laws, unopened}
 use Rattle.osi_stack.proofs.laws.a_session_that_is_called_has_a_connection.Goals as goal

@@ -1,5 +1,5 @@
 use Rattle.osi_session.specs.Listening.{called}
-use Rattle.osi_stack.proofs.DisconnectSettles.{disconnect_ordered}
+use Rattle.osi_stack.proofs.DisconnectKeeps.{disconnect_ordered}
 use Rattle.osi_stack.proofs.Linking.{SessionLaws}
 use Rattle.osi_stack.proofs.Ordering.{fresh_ordered, connect_ordered, call_ordered, feeds_ordered, first_ordered, carried_ordered, breaks_ordered}
 use Rattle.osi_stack.proofs.Tables.{session_laws, unopened}
