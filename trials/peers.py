@@ -275,7 +275,7 @@ def how_far(pieces):
         return "transport"
     far = "session"
     accept = next(answer for answer in answers if answer[0] == 14)
-    if b"\xa2\x03\x02\x01\x00" in accept and b"\x28\xca\x22\x02\x03" in accept:
+    if b"\xa2\x03\x02\x01\x00" in accept and b"\x28\xca\x22" in accept:
         far = "association"
     if far == "association" and any(answer[0] == 1 and len(answer) > 4 for answer in answers):
         far = "data"

@@ -241,7 +241,7 @@ static bool associate(struct asking *a, const char *host, unsigned long port, co
     if (is_open)
         carry(a);
     else
-        fprintf(stderr, "client: no memory, or %s can't be written\n", capture == NULL ? "nothing" : capture);
+        fprintf(stderr, "client: --capture %s: no such file can be written, or there is no memory\n", capture == NULL ? "" : capture);
     link_close(&a->link);
     return is_open;
 }
@@ -337,5 +337,9 @@ int main(int count, char **words)
     }
     const int status = run(&a, host, port, &terms, capture);
     free(a.jobs.at);
+    if (fflush(stdout) != 0 || ferror(stdout)) {
+        fputs("client: what was read can't be written to standard output\n", stderr);
+        return 2;
+    }
     return status;
 }

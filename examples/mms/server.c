@@ -382,10 +382,27 @@ static bool has_files(const struct server *s)
     return false;
 }
 
+/* Whether files for the octets of clients can be written: each is made when its client comes. */
+static bool may_capture(const struct server *s)
+{
+    char name[500];
+    if (s->capture == NULL)
+        return true;
+    snprintf(name, sizeof name, "%s.0.left", s->capture);
+    FILE *file = strlen(s->capture) < 400 ? fopen(name, "w") : NULL;
+    if (file == NULL) {
+        fprintf(stderr, "server: --capture %s: no such file can be written\n", s->capture);
+        return false;
+    }
+    fclose(file);
+    unlink(name);
+    return true;
+}
+
 static int serve(struct server *s, int listener)
 {
     struct sigaction action;
-    if (!has_files(s))
+    if (!has_files(s) || !may_capture(s))
         return 2;
     memset(&action, 0, sizeof action);
     action.sa_handler = on_signal;

@@ -9,8 +9,10 @@
 static const uint8_t acse_syntax[] = {0x52, 0x01, 0x00, 0x01};      /* 2.2.1.0.1 */
 static const uint8_t mms_syntax[] = {0x28, 0xca, 0x22, 0x02, 0x01}; /* 1.0.9506.2.1 */
 
-/* The application context 1.0.9506.2.3, which is that of MMS: of an AARQ and of an AARE. */
-static const uint8_t application[] = {0xa1, 0x07, 0x06, 0x05, 0x28, 0xca, 0x22, 0x02, 0x03};
+/* The application context 1.0.9506.2.3, which is that of MMS. Some clients name another one of ISO 9506,
+ * and are answered by the same: what they have in common are the first octets. */
+static const struct selector application = {{0x28, 0xca, 0x22, 0x02, 0x03}, 5};
+#define COMMON 3
 
 /* Mode-selector of a CP and of a CPA: normal mode. */
 static const uint8_t normal_mode[] = {0xa0, 0x03, 0x80, 0x01, 0x01};
@@ -56,6 +58,15 @@ static void put_information(struct ber_writer *w, uint8_t context, const uint8_t
     ber_wrap(w, 0xbe, before);
 }
 
+/* The name of the application context, of an AARQ and of an AARE. */
+static void put_name(struct ber_writer *w, const struct selector *name)
+{
+    const size_t before = ber_written(w);
+    ber_put(w, name->octets, name->length);
+    ber_wrap(w, 0x06, before);
+    ber_wrap(w, 0xa1, before);
+}
+
 static void put_selector(struct ber_writer *w, uint32_t tag, const struct selector *selector)
 {
     if (selector->length == 0)
@@ -86,8 +97,9 @@ size_t upper_ask(struct upper *u, const struct selector *calling, const struct s
     memset(u, 0, sizeof *u);
     u->acse = 1;
     u->mms = 3;
+    u->name = application;
     put_information(&w, u->mms, mms, length);
-    ber_put(&w, application, sizeof application);
+    put_name(&w, &u->name);
     ber_wrap(&w, 0x60, 0);
     wrap_in_context(&w, u->acse, 0);
     ber_put(&w, asked_contexts, sizeof asked_contexts);
@@ -115,7 +127,7 @@ size_t upper_accept(const struct upper *u, const struct selector *own, const uin
     struct ber_writer w = ber_writer_of(room->octets, sizeof room->octets);
     put_information(&w, u->mms, mms, length);
     ber_put(&w, accepted, sizeof accepted);
-    ber_put(&w, application, sizeof application);
+    put_name(&w, &u->name);
     ber_wrap(&w, 0x61, 0);
     wrap_in_context(&w, u->acse, 0);
     put_results(&w, u);
@@ -128,7 +140,7 @@ size_t upper_refuse(const struct upper *u, enum upper_problem why, struct room *
     struct ber_writer w = ber_writer_of(room->octets, sizeof room->octets);
     if (why == UPPER_OTHER_NAME) {
         ber_put(&w, other_name, sizeof other_name);
-        ber_put(&w, application, sizeof application);
+        put_name(&w, &application);
         ber_wrap(&w, 0x61, 0);
         wrap_in_context(&w, u->acse, 0);
         put_results(&w, u);
@@ -233,6 +245,18 @@ static bool read_contexts(struct upper *u, struct ber parameters)
     return list.length == 0 && !list.bad;
 }
 
+/* The application context of an AARQ. */
+static bool read_name(struct upper *u, struct ber association)
+{
+    struct ber name, spelled;
+    if (!ber_find(association, 0xa1, &name) || !ber_read_tag(&name, 0x06, &spelled) || spelled.length > sizeof u->name.octets)
+        return false;
+    u->name.length = (uint8_t)spelled.length;
+    if (spelled.length > 0)
+        memcpy(u->name.octets, spelled.at, spelled.length);
+    return true;
+}
+
 enum upper_problem upper_read_asked(struct upper *u, struct ber data, const struct selector *own, struct ber *mms)
 {
     struct ber connect, parameters, called, pdu, association;
@@ -246,10 +270,9 @@ enum upper_problem upper_read_asked(struct upper *u, struct ber data, const stru
         return UPPER_OTHER_CALLED;
     if (!read_user_data(parameters, &context, &pdu) || context != u->acse || !ber_read_tag(&pdu, 0x60, &association))
         return UPPER_UNREADABLE;
-    struct ber name, spelled;
-    if (!ber_find(association, 0xa1, &name) || !ber_read_tag(&name, 0x06, &spelled))
+    if (!read_name(u, association))
         return UPPER_UNREADABLE;
-    if (!ber_equals(spelled, application + 4, sizeof application - 4))
+    if (u->name.length < COMMON || memcmp(u->name.octets, application.octets, COMMON) != 0)
         return UPPER_OTHER_NAME;
     return read_information(association, mms) ? UPPER_NONE : UPPER_UNREADABLE;
 }

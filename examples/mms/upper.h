@@ -31,6 +31,7 @@ struct upper {
     uint8_t acse, mms;               /* the presentation contexts of both syntaxes, 1 to 127 */
     uint8_t contexts;                /* how many contexts were asked for */
     bool knows[MOST_CONTEXTS];       /* which of these are answered with yes */
+    struct selector name;            /* the application context, as an OBJECT IDENTIFIER has it */
 };
 
 /* A buffer for what is written. */
