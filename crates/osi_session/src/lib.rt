@@ -31,7 +31,7 @@ pub use indications::{AbortCause, Indication};
 pub use opening::Opening;
 pub use phases::Phase;
 pub use plans::{Plan, PlannedPoint, SentPoint};
-pub use requests::Request;
+pub use requests::{Refusal, Request};
 pub use selected::is_profile;
 pub use sessions::Session;
 pub use sides::Sides;
