@@ -147,6 +147,9 @@ static void terms_and_sets(void)
     VALUE(OSI_ASKER);
     VALUE(OSI_ANSWERER);
     VALUE(OSI_CHOICE);
+    VALUE(OSI_REFUSAL_UNSPECIFIED);
+    VALUE(OSI_REFUSAL_CONGESTION);
+    VALUE(OSI_REFUSAL_WITH_DATA);
 }
 
 static void indications(void)

@@ -152,6 +152,11 @@ typedef struct osi_sides {
 #define OSI_ANSWERER 1u /* the side that answers */
 #define OSI_CHOICE 2u   /* in a wish alone: whom the answer names */
 
+/* Why a user refuses a connection (X.225 section 8.3.5). */
+#define OSI_REFUSAL_UNSPECIFIED 0u /* no reason is given */
+#define OSI_REFUSAL_CONGESTION 1u  /* congestion that passes: the caller may ask again later */
+#define OSI_REFUSAL_WITH_DATA 2u   /* user data says why */
+
 /* A connection that is asked for. Begin with OSI_OPENING. */
 typedef struct osi_opening {
     uint16_t requirements;       /* functional units */
@@ -270,7 +275,11 @@ uint32_t osi_accept(osi_end *end, uint16_t reference, uint16_t requirements, uin
 uint32_t osi_accept_sized(osi_end *end, uint16_t reference, uint16_t requirements, uint32_t number,
                           const osi_sides *sides, uint16_t size_from_asker, uint16_t size_from_answerer,
                           const uint8_t *data, size_t length);
+
+/* Answers OSI_CONNECT by a refusal: with user data, or without a reason where there is none. osi_refuse_with
+ * takes the reason; user data goes with OSI_REFUSAL_WITH_DATA alone, and may be empty there. */
 uint32_t osi_refuse(osi_end *end, uint16_t reference, const uint8_t *data, size_t length);
+uint32_t osi_refuse_with(osi_end *end, uint16_t reference, uint8_t reason, const uint8_t *data, size_t length);
 
 /* Sends data, 1 to 1,048,572 octets. */
 uint32_t osi_data(osi_end *end, uint16_t reference, const uint8_t *data, size_t length);

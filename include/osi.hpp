@@ -311,6 +311,13 @@ enum class side : std::uint8_t {
     choice = OSI_CHOICE,     /* in a wish alone: whom the answer names */
 };
 
+/* Why a user refuses a connection (X.225 section 8.3.5). */
+enum class refusal : std::uint8_t {
+    unspecified = OSI_REFUSAL_UNSPECIFIED, /* no reason is given */
+    congestion = OSI_REFUSAL_CONGESTION,   /* congestion that passes: the caller may ask again later */
+    with_data = OSI_REFUSAL_WITH_DATA,     /* user data says why */
+};
+
 /* Who holds, or is to hold, each token at first. */
 struct sides {
     side data = side::asker;
@@ -701,6 +708,12 @@ public:
                     sizes.from_answerer, data.data(), data.size());
     }
     code refuse(osi::reference of, octets data = {}) noexcept { return say(osi_refuse, of, data); }
+
+    /* The same for this reason: user data goes with refusal::with_data alone. */
+    code refuse_with(osi::reference of, refusal reason, octets data = {}) noexcept
+    {
+        return call(osi_refuse_with, of, static_cast<std::uint8_t>(reason), data.data(), data.size());
+    }
 
     /* Sends data, 1 to 1,048,572 octets. */
     code data(osi::reference of, octets all) noexcept { return say(osi_data, of, all); }

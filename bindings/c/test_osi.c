@@ -93,6 +93,12 @@ static void none_at_opening(void)
     CHECK(carry(&pair.called, &pair.caller).tag == OSI_REFUSED_BY_SESSION);
     let_go(&pair);
     pair = asked(&opening);
+    CHECK(osi_refuse_with(&pair.called, pair.of, OSI_REFUSAL_CONGESTION, (const uint8_t *)"x", 1) == OSI_BAD_ARGUMENT);
+    CHECK(osi_refuse_with(&pair.called, pair.of, 3, NULL, 0) == OSI_BAD_ARGUMENT);
+    CHECK(osi_refuse_with(&pair.called, pair.of, OSI_REFUSAL_CONGESTION, NULL, 0) == OSI_OK);
+    CHECK(carry(&pair.called, &pair.caller).reason == 1);
+    let_go(&pair);
+    pair = asked(&opening);
     CHECK(osi_accept_sized(&pair.called, pair.of, OSI_HALF_DUPLEX, 0, &asker, 0, 0, NULL, 0) == OSI_OK);
     osi_indication shown = carry(&pair.called, &pair.caller);
     CHECK(shown.tag == OSI_CONNECTED && shown.user_data.at != NULL && shown.user_data.length == 0);

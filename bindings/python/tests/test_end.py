@@ -32,6 +32,7 @@ from osi_session import (
     PeerAbort,
     Phase,
     Reason,
+    Refusal,
     RefusedBySession,
     RefusedByTransport,
     Release,
@@ -172,6 +173,13 @@ class Indications(Case):
         pair.carry()
         pair.called.refuse(1, b"not now")
         self.shown(pair, to_caller=[RefusedBySession(1, 2, b"not now")])
+        pair = Pair()
+        pair.caller.connect(ASKED)
+        pair.carry()
+        self.refused(Code.BAD_ARGUMENT, pair.called.refuse_with, 1, Refusal.CONGESTION, b"not now")
+        self.refused(Code.BAD_ARGUMENT, pair.called.refuse_with, 1, 3)
+        pair.called.refuse_with(1, Refusal.CONGESTION)
+        self.shown(pair, to_caller=[RefusedBySession(1, 1, b"")])
         pair = Pair(called=Classes.NONE)
         pair.caller.connect(ASKED)
         self.shown(pair, to_caller=[RefusedByTransport(1, 130)])

@@ -22,6 +22,7 @@ PREFIXES = {
     osi_session.Units: "OSI_",
     osi_session.Tokens: "OSI_TOKEN_",
     osi_session.Side: "OSI_",
+    osi_session.Refusal: "OSI_REFUSAL_",
     osi_session.Phase: "OSI_PHASE_",
     osi_session.Reason: "OSI_END_",
 }

@@ -4,7 +4,7 @@ use crate::addresses::Addresses;
 use crate::codes::{Ending, Error};
 use crate::ffi;
 use crate::indications::Indication;
-use crate::terms::{Opening, Phase, Reference, Sides, Sizes, Terms, Tokens, Units};
+use crate::terms::{Opening, Phase, Reference, Refusal, Sides, Sizes, Terms, Tokens, Units};
 use std::fmt;
 use std::mem::{size_of, size_of_val, MaybeUninit};
 use std::slice;
@@ -171,6 +171,16 @@ impl End {
     /// [`BadState`](Error::BadState), [`TooLong`](Error::TooLong), and those of every call.
     pub fn refuse(&mut self, of: Reference, user_data: &[u8]) -> Result<(), Error> {
         self.say(ffi::osi_refuse, of, user_data)
+    }
+
+    /// The same as [`refuse`](End::refuse), for this reason.
+    ///
+    /// # Errors
+    /// Those of [`refuse`](End::refuse).
+    pub fn refuse_with(&mut self, of: Reference, refusal: Refusal<'_>) -> Result<(), Error> {
+        let (reason, user_data) = (refusal.reason(), refusal.user_data());
+        let (data, length) = (user_data.as_ptr(), user_data.len());
+        answer(unsafe { ffi::osi_refuse_with(self.at(), of.0, reason, data, length) })
     }
 
     /// Sends data, 1 to 1,048,572 octets.

@@ -149,6 +149,13 @@ extern "C" {
         length: usize,
     ) -> u32;
     pub fn osi_refuse(end: *mut osi_end, reference: u16, data: *const u8, length: usize) -> u32;
+    pub fn osi_refuse_with(
+        end: *mut osi_end,
+        reference: u16,
+        reason: u8,
+        data: *const u8,
+        length: usize,
+    ) -> u32;
     pub fn osi_data(end: *mut osi_end, reference: u16, data: *const u8, length: usize) -> u32;
     pub fn osi_give(end: *mut osi_end, reference: u16, tokens: u8) -> u32;
     pub fn osi_please(end: *mut osi_end, reference: u16, tokens: u8, data: *const u8, length: usize) -> u32;

@@ -97,7 +97,7 @@ pub use addresses::Addresses;
 pub use codes::{Ending, Error, Fault, Spelling};
 pub use end::{End, Fed};
 pub use indications::Indication;
-pub use terms::{Classes, Opening, Phase, Reference, Side, Sides, Sizes, Terms, Tokens, Units};
+pub use terms::{Classes, Opening, Phase, Reference, Refusal, Side, Sides, Sizes, Terms, Tokens, Units};
 
 /// What does not compile. An end is not used by two threads at a time:
 ///

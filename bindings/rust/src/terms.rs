@@ -155,6 +155,34 @@ impl Default for Terms {
     }
 }
 
+/// Why a user refuses a connection (X.225 section 8.3.5).
+#[derive(Clone, Copy, Debug, PartialEq, Eq, Hash)]
+pub enum Refusal<'a> {
+    /// No reason is given.
+    Unspecified,
+    /// Congestion that passes: the caller may ask again later.
+    Congestion,
+    /// This user data says why; it may be empty.
+    WithData(&'a [u8]),
+}
+
+impl<'a> Refusal<'a> {
+    pub(crate) fn reason(self) -> u8 {
+        match self {
+            Refusal::Unspecified => 0,
+            Refusal::Congestion => 1,
+            Refusal::WithData(_) => 2,
+        }
+    }
+
+    pub(crate) fn user_data(self) -> &'a [u8] {
+        match self {
+            Refusal::WithData(user_data) => user_data,
+            _ => &[],
+        }
+    }
+}
+
 /// A side of a connection or of a restart (X.215 section 12.1.2).
 #[derive(Clone, Copy, Debug, Default, PartialEq, Eq, Hash)]
 pub enum Side {

@@ -1,8 +1,8 @@
 //! Two ends in memory: each kind of indication, each code that is quick to come by, and what is lent.
 
 use osi_session::{
-    Classes, End, Ending, Error, Fault, Indication, Opening, Phase, Reference, Side, Sides, Sizes, Spelling,
-    Terms, Tokens, Units,
+    Classes, End, Ending, Error, Fault, Indication, Opening, Phase, Reference, Refusal, Side, Sides, Sizes,
+    Spelling, Terms, Tokens, Units,
 };
 use std::thread;
 
@@ -215,6 +215,11 @@ fn refusals_are_shown() {
     let user_data = b"not now".to_vec();
     let (by_caller, _) = pair.carry();
     assert_eq!(by_caller[0].1, Indication::RefusedBySession { reason: 2, user_data });
+    let mut pair = Pair::asked(Classes::CLASS_0, &opening());
+    pair.by_called();
+    pair.called.refuse_with(pair.of, Refusal::Congestion).unwrap();
+    let (by_caller, _) = pair.carry();
+    assert_eq!(by_caller[0].1, Indication::RefusedBySession { reason: 1, user_data: Vec::new() });
     let mut pair = Pair::new(of_class(Classes::BOTH), of_class(Classes::NONE));
     pair.caller.connect(&opening()).unwrap();
     assert_eq!(pair.by_caller(), Indication::RefusedByTransport { reason: 130 });

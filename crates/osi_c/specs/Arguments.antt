@@ -1,5 +1,5 @@
 -- What C passes, and what it says.
-use Rattle.std.specs.Prelude.{◌≡◌, ℕ, ◌≤◌, ◌&&◌, ◌||◌, List, length, Option, Some, None, IsSome, option_map, ◌==◌, nat_le, if◌then◌else◌}
+use Rattle.std.specs.Prelude.{◌≡◌, ℕ, ◌≤◌, ◌&&◌, ◌||◌, List, length, Option, Some, None, IsSome, option_map, ◌==◌, not, nat_le, if◌then◌else◌}
 use Rattle.osi_class.specs.declared.terms.Local.{Local}
 use Rattle.osi_tpdu.specs.Limits.{size_code, window_units, tsap_octets}
 use Rattle.osi_spdu.specs.Fields.{unit_bits}
@@ -11,7 +11,7 @@ use Rattle.osi_spdu.specs.declared.settings.Side.TheVariants as side
 use Rattle.osi_spdu.specs.declared.settings.Wish.{Wish}
 use Rattle.osi_spdu.specs.declared.settings.Wish.TheVariants as wish
 use Rattle.osi_spdu.specs.declared.settings.TokenSetting.{TokenSetting}
-use Rattle.osi_session.specs.Calls.{Call, Accept, Restart, RestartConfirm}
+use Rattle.osi_session.specs.Calls.{Refusal, Unspecified, Congestion, WithData, Call, Accept, Refuse, Restart, RestartConfirm}
 use Rattle.osi_session.specs.declared.sides.Sides.{Sides}
 use Rattle.osi_stack.specs.Calls.{calling_octets, called_octets}
 use Rattle.osi_stack.specs.declared.connecting.Connect.{Connect}
@@ -99,6 +99,20 @@ abbrev pub accept_of : ℕ → ℕ → OsiSides → (from_asker from_answerer : 
 accept_of requirements number codes from_asker from_answerer octets = do
   sizes ← sizes_of from_asker from_answerer
   accept_with requirements number codes sizes octets
+
+-- user data goes with reason 2 alone
+abbrev pub refusal_of : ℕ → List ℕ → Option Refusal
+refusal_of reason octets =
+    if reason == 2 then Some (WithData octets)
+    else if not (length octets == 0) then None
+    else if reason == 0 then Some Unspecified
+    else if reason == 1 then Some Congestion
+    else None
+
+abbrev pub refuse_of : ℕ → List ℕ → Option Call
+refuse_of reason octets = do
+  refusal ← refusal_of reason octets
+  Some (Refuse refusal)
 
 abbrev pub restart_of : ℕ → OsiSides → List ℕ → Option Call
 restart_of number codes octets = do

@@ -1,13 +1,14 @@
 //! What C passes.
 
 ghost use Rattle.std.specs.Prelude.{◌≡◌, ◌≤◌, length, option_map, IfSome, OnSome, IfNone};
+ghost use Rattle.osi_session.specs.Calls.{refusal_by};
 ghost use Rattle.osi_spdu.specs.Sizes.{named_by};
 ghost use Rattle.osi_tpdu.specs.Limits.{tsap_octets};
-ghost use Rattle.osi_c.specs.Arguments.{side_of, wish_of, sides_of, wishes_of, serial_of, sizes_of, given, IsTerms, SaysTerms, IsOpening, SaysOpening};
+ghost use Rattle.osi_c.specs.Arguments.{side_of, wish_of, sides_of, wishes_of, serial_of, sizes_of, refusal_of, given, IsTerms, SaysTerms, IsOpening, SaysOpening};
 
 use bitflags::Flags;
 use osi_class::Local;
-use osi_session::Sides;
+use osi_session::{Refusal, Sides};
 use osi_spdu::{Requirements, Serial, Side, TokenSetting, TsduSize, TsduSizes, Wish};
 use osi_stack::Connect;
 use osi_tpdu::{SizeCode, Tsap, Window};
@@ -111,6 +112,23 @@ pub(crate) fn sizes(from_asker: u16, from_answerer: u16) -> Option<TsduSizes>
         from_asker: TsduSize::new(from_asker)?,
         from_answerer: TsduSize::new(from_answerer)?,
     })
+}
+
+/// Why a user refuses, by the octet of the reason: user data goes with reason 2 alone.
+pub(crate) fn refusal_for<'a>(reason: u8, user_data: &'a [u8]) -> Option<Refusal<'a>>
+    ensures { option_map refusal_by result ≡ refusal_of reason user_data.entry.now }
+{
+    if reason == 2 {
+        return Some(Refusal::WithData(user_data));
+    }
+    if !user_data.is_empty() {
+        return None;
+    }
+    match reason {
+        0 => Some(Refusal::Unspecified),
+        1 => Some(Refusal::Congestion),
+        _ => None,
+    }
 }
 
 /// The transport protocol of an end, where its numbers are within their ranges.

@@ -2,18 +2,18 @@
 
 ghost use Rattle.std.specs.Prelude.{◌≡◌, ◌==◌, not, option_map, Some, None};
 ghost use Rattle.osi_message.specs.Tokens.{named};
-ghost use Rattle.osi_session.specs.Calls.{called_by, Accept, Refuse, Data, Give, Please, Minor, MinorConfirm, Major, MajorConfirm, Restart, RestartConfirm, Release, ReleaseAccept, ReleaseRefuse, Abort};
+ghost use Rattle.osi_session.specs.Calls.{called_by, refusal_with, Accept, Refuse, Data, Give, Please, Minor, MinorConfirm, Major, MajorConfirm, Restart, RestartConfirm, Release, ReleaseAccept, ReleaseRefuse, Abort};
 ghost use Rattle.osi_spdu.specs.Sizes.{named_by, no_sizes};
-ghost use Rattle.osi_c.specs.Arguments.{accept_of, accept_with, restart_of, restart_confirm_of};
+ghost use Rattle.osi_c.specs.Arguments.{accept_of, accept_with, refuse_of, restart_of, restart_confirm_of};
 ghost use Rattle.osi_c.specs.Codes.{answer_of};
 ghost use Rattle.osi_c.specs.Ends.{Calls, CallsIf, Disconnects};
 
-use crate::arguments::{OsiSides, serial, sides, sizes, wishes};
+use crate::arguments::{OsiSides, refusal_for, serial, sides, sizes, wishes};
 use crate::codes::{BAD_ARGUMENT, CLOSED, OK, refusal};
 use crate::slots::OsiEnd;
 use bitflags::Flags;
 use osi_carrier::Ref;
-use osi_session::Request;
+use osi_session::{Refusal, Request};
 use osi_spdu::{Requirements, TokenSet, TsduSizes};
 
 fn call(end: &mut OsiEnd, reference: u16, request: Request<'_>) -> u32
@@ -108,12 +108,30 @@ pub extern "C" fn osi_accept_sized(
     )
 }
 
-/// Refuses the connection (RF).
+/// Refuses the connection (RF): with reason 2 and the user data, or with reason 0 if there is none.
 #[unsafe(no_mangle)]
 pub extern "C" fn osi_refuse(end: &mut OsiEnd, reference: u16, user_data: &[u8]) -> u32
-    ensures { Calls reference (Refuse user_data.now) (answer_of result) end.old.inner.value end.new.inner.value }
+    ensures { Calls reference (Refuse (refusal_with user_data.now)) (answer_of result) end.old.inner.value end.new.inner.value }
 {
-    call(end, reference, Request::Refuse { user_data })
+    let refusal = Refusal::with(user_data);
+    call(end, reference, Request::Refuse { refusal })
+}
+
+/// Refuses the connection (RF) for one of the reasons of a user: 0 gives none, 1 is congestion that
+/// passes, and 2 has the user data. `BAD_ARGUMENT` for another reason, and for user data with 0 or 1.
+#[unsafe(no_mangle)]
+pub extern "C" fn osi_refuse_with(
+    end: &mut OsiEnd,
+    reference: u16,
+    reason: u8,
+    user_data: &[u8],
+) -> u32
+    ensures { CallsIf reference (refuse_of reason user_data.now) (answer_of result) end.old.inner.value end.new.inner.value }
+{
+    let Some(refusal) = refusal_for(reason, user_data) else {
+        return BAD_ARGUMENT;
+    };
+    call(end, reference, Request::Refuse { refusal })
 }
 
 /// Sends data (DT).

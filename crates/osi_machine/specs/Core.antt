@@ -29,7 +29,7 @@ turned w = record { history = w.history; owner = turned_owners w.owner; own = w.
 -- ---- a call
 
 abbrev pub stays_in_core : Call → Bool
-stays_in_core (Refuse octets) = false
+stays_in_core (Refuse refusal) = false
 stays_in_core (ReleaseAccept octets) = false
 stays_in_core (Abort octets) = false
 stays_in_core _ = true

@@ -3,6 +3,7 @@ use Rattle.std.proofs.Common.{◌≡◌, refl, sym, ◌∙◌, subst, ℕ, ◌<�
 use Rattle.std.proofs.lemmas.Nat.{and_le_r}
 use Rattle.std.specs.Int.RustNames.{bit_and}
 use Rattle.osi_spdu.specs.declared.fields.TsduMaximumSize.{TsduMaximumSize}
+use Rattle.osi_session.specs.Calls.{Refusal, Unspecified, Congestion, WithData, refusal_reason}
 use Rattle.osi_pair.proofs.Vocabulary.{eqb-true, are_sizes, is_size, IsOctets, IsInOctets, IsSendable, names, AllHold, needs, sends, octets_of, Passed, Call, Accept, Refuse, Abort, answered_sizes, is_profile, SessionStep as Step, SessionState as State}
 
 both_right : (a b : Bool) → (a && b) ≡ true → b ≡ true
@@ -32,10 +33,15 @@ asker_small s h = size_small s.from_asker (both_left (is_size s.from_asker) (is_
 pub answerer_small : (s : TsduMaximumSize) → are_sizes s ≡ true → s.from_answerer < 65536
 answerer_small s h = size_small s.from_answerer (both_right (is_size s.from_asker) (is_size s.from_answerer) h)
 
+reason_small : (r : Refusal) → refusal_reason r < 256
+reason_small Unspecified = omega arith
+reason_small Congestion = omega arith
+reason_small (WithData octets) = omega arith
+
 says_in : (s : State) (c : Call) → AllHold (needs s c) → IsSendable (sends s c) → IsOctets (octets_of c) → IsInOctets (sends s c)
 says_in s (Accept requirements serial sides sizes octets) needed sendable h =
     (profile_small requirements (both_right _ (is_profile requirements) needed.0), asker_small (answered_sizes s.sizes sizes) sendable.sized, answerer_small (answered_sizes s.sizes sizes) sendable.sized, h)
-says_in s (Refuse octets) needed sendable h = ((grind arith), h)
+says_in s (Refuse refusal) needed sendable h = (reason_small refusal, h)
 says_in s (Abort octets) needed sendable h = (omega arith, h)
 says_in s c needed sendable h = search
 

@@ -61,7 +61,7 @@ pub use Rattle.osi_session.proofs.JoinedLaws.{inputs_kept, joined_holds}
 pub use Rattle.osi_session.proofs.KeptLaws.{call_keeps, first_arrives, gone_is, last_arrives, middle_arrives}
 pub use Rattle.osi_session.proofs.PhaseLaws.{excluded, implied}
 pub use Rattle.osi_session.proofs.WordLaws.{kept_none, moves_as_whole, others, word_behind, words_of_message}
-pub use Rattle.osi_session.specs.Allowed.{AllHold, Answer, Passed, may_call, most_of, needs, octets_of, refusal_reason, sends, sized, Step as SessionStep}
+pub use Rattle.osi_session.specs.Allowed.{AllHold, Answer, Passed, may_call, most_of, needs, octets_of, sends, sized, Step as SessionStep}
 unfoldable pub use Rattle.osi_session.specs.Allowed.{allowed}
 pub use Rattle.osi_session.specs.Calls.{Abort, Accept, Call, Data, Give, HasSerial, Major, MajorConfirm, Minor, MinorConfirm, Please, Refuse, Release, ReleaseAccept, ReleaseRefuse, Restart, RestartConfirm, called_by}
 pub use Rattle.osi_session.specs.Joining.{joined_octets, respond_word}

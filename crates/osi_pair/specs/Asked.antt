@@ -13,6 +13,8 @@ use Rattle.osi_session.specs.Calls as call
 use Rattle.osi_stack.specs.Calls.{calling_octets, called_octets}
 use Rattle.osi_stack.specs.declared.connecting.Connect.{Connect}
 use Rattle.osi_pair.specs.declared.owned.OwnedConnect.{OwnedConnect}
+use Rattle.osi_pair.specs.declared.owned.OwnedRefusal.{OwnedRefusal}
+use Rattle.osi_pair.specs.declared.owned.OwnedRefusal.TheVariants as reason
 use Rattle.osi_pair.specs.declared.owned.OwnedRequest.{OwnedRequest}
 use Rattle.osi_pair.specs.declared.owned.OwnedRequest.TheVariants as owned
 
@@ -68,7 +70,7 @@ asked_by c = record {
 -- the user data of a call
 abbrev pub octets_of : Call → List ℕ
 octets_of (call.Accept requirements serial sides sizes octets) = octets
-octets_of (call.Refuse octets) = octets
+octets_of (call.Refuse refusal) = call.refusal_octets refusal
 octets_of (call.Data octets) = octets
 octets_of (call.Give tokens) = []
 octets_of (call.Please tokens octets) = octets
@@ -83,10 +85,16 @@ octets_of (call.ReleaseAccept octets) = octets
 octets_of (call.ReleaseRefuse octets) = octets
 octets_of (call.Abort octets) = octets
 
+-- a copy of a refusal in memory
+abbrev pub owned_refusal : OwnedRefusal → call.Refusal
+owned_refusal reason.Unspecified = call.Unspecified
+owned_refusal reason.Congestion = call.Congestion
+owned_refusal (reason.WithData octets) = call.WithData octets
+
 -- a copy of a call in memory
 abbrev pub owned_call : OwnedRequest → Call
 owned_call (owned.Accept requirements serial sides sizes octets) = call.Accept (unit_bits requirements) serial.number sides (named_by sizes) octets
-owned_call (owned.Refuse octets) = call.Refuse octets
+owned_call (owned.Refuse refusal) = call.Refuse (owned_refusal refusal)
 owned_call (owned.Data octets) = call.Data octets
 owned_call (owned.Give tokens) = call.Give (named (bits_of tokens))
 owned_call (owned.Please tokens octets) = call.Please (named (bits_of tokens)) octets

@@ -40,6 +40,6 @@ mod telling;
 pub use entries::Entry;
 pub use events::{Applied, Event};
 pub use faults::{PairError, RunError};
-pub use owned::{OwnedConnect, OwnedRequest};
+pub use owned::{OwnedConnect, OwnedRefusal, OwnedRequest};
 pub use pairs::Pair;
 pub use sides::Side;

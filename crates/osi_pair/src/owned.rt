@@ -1,11 +1,11 @@
 //! Copies of what a user asks for, which own their octets.
 
 ghost use Rattle.std.specs.Prelude.{◌≡◌, option_map, IfOk};
-ghost use Rattle.osi_session.specs.Calls.{called_by};
-ghost use Rattle.osi_pair.specs.Asked.{asked_of, asked_by, octets_of, owned_call};
+ghost use Rattle.osi_session.specs.Calls.{called_by, refusal_by, refusal_octets};
+ghost use Rattle.osi_pair.specs.Asked.{asked_of, asked_by, octets_of, owned_call, owned_refusal};
 
 use osi_message::Octets;
-use osi_session::{Request, Sides};
+use osi_session::{Refusal, Request, Sides};
 use osi_spdu::{Requirements, Serial, TokenSet, TokenSetting, TsduSizes};
 use osi_stack::Connect;
 use osi_tpdu::Tsap;
@@ -34,6 +34,17 @@ pub struct OwnedConnect {
     pub user_data: Octets,
 }
 
+/// Why a user refused a connection, as [`Refusal`] says it.
+#[derive(Drop)]
+pub enum OwnedRefusal {
+    /// No reason is given.
+    Unspecified,
+    /// There is congestion that passes.
+    Congestion,
+    /// With this user data.
+    WithData(Octets),
+}
+
 /// A call of a user, as [`Request`] says it.
 #[derive(Drop)]
 pub enum OwnedRequest {
@@ -51,7 +62,7 @@ pub enum OwnedRequest {
         user_data: Octets,
     },
     /// Refuses the connection.
-    Refuse(Octets),
+    Refuse(OwnedRefusal),
     /// Sends data.
     Data(Octets),
     /// Gives tokens.
@@ -129,8 +140,8 @@ pub(crate) fn user_data<'a>(request: Request<'a>) -> &'a [u8]
 {
     match request {
         Request::Give { .. } => &[],
+        Request::Refuse { refusal } => refusal.user_data(),
         Request::Accept { user_data, .. }
-        | Request::Refuse { user_data }
         | Request::Data { user_data }
         | Request::Please { user_data, .. }
         | Request::Minor { user_data, .. }
@@ -143,6 +154,17 @@ pub(crate) fn user_data<'a>(request: Request<'a>) -> &'a [u8]
         | Request::ReleaseAccept { user_data }
         | Request::ReleaseRefuse { user_data }
         | Request::Abort { user_data } => user_data,
+    }
+}
+
+/// A refusal with this copy of its user data.
+fn owned_refusal(refusal: Refusal, octets: Octets) -> OwnedRefusal
+    ensures { octets ≡ refusal_octets (refusal_by refusal.entry) → owned_refusal result ≡ refusal_by refusal.entry }
+{
+    match refusal {
+        Refusal::Unspecified => OwnedRefusal::Unspecified,
+        Refusal::Congestion => OwnedRefusal::Congestion,
+        Refusal::WithData(_) => OwnedRefusal::WithData(octets),
     }
 }
 
@@ -164,7 +186,7 @@ fn owned(request: Request, octets: Octets) -> OwnedRequest
             sizes,
             user_data: octets,
         },
-        Request::Refuse { .. } => OwnedRequest::Refuse(octets),
+        Request::Refuse { refusal } => OwnedRequest::Refuse(owned_refusal(refusal, octets)),
         Request::Data { .. } => OwnedRequest::Data(octets),
         Request::Give { tokens } => OwnedRequest::Give(tokens),
         Request::Please { tokens, .. } => OwnedRequest::Please(tokens, octets),

@@ -81,7 +81,8 @@ restart_confirm_of words user = do
 
 -- the calls that have no other word than user data
 unfoldable pub plain_call : Verb → List ℕ → Option Call
-plain_call verb.Refuse octets = Some (call.Refuse octets)
+-- without user data a refusal gives no reason
+plain_call verb.Refuse octets = Some (call.Refuse (call.refusal_with octets))
 plain_call verb.Data octets = Some (call.Data octets)
 plain_call verb.Major octets = Some (call.Major octets)
 plain_call verb.MajorConfirm octets = Some (call.MajorConfirm octets)

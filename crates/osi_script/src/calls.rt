@@ -9,7 +9,7 @@ ghost use Rattle.osi_script.specs.Splitting.{words_in};
 use crate::splitting::Words;
 use crate::verbs::Verb;
 use crate::words::{answer, number, serial, sides, sizes, tokens, units, wishes};
-use osi_session::Request;
+use osi_session::{Refusal, Request};
 use osi_spdu::TokenSet;
 
 /// The greatest number that a call can name.
@@ -69,7 +69,9 @@ fn plain_call<'a>(verb: Verb, user_data: &'a [u8]) -> Option<Request<'a>>
     ensures { option_map called_by result ≡ plain_call verb user_data.entry.now }
 {
     match verb {
-        Verb::Refuse => Some(Request::Refuse { user_data }),
+        Verb::Refuse => Some(Request::Refuse {
+            refusal: Refusal::with(user_data),
+        }),
         Verb::Data => Some(Request::Data { user_data }),
         Verb::Major => Some(Request::Major { user_data }),
         Verb::MajorConfirm => Some(Request::MajorConfirm { user_data }),

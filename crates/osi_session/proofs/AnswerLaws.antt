@@ -286,7 +286,7 @@ octets_awaited s octets = read_awaited s (said_at octets) (octets_alone octets)
 
 callable : (c : Call) (p : Phase) → may_call p c ≡ true → may_abort p ≡ true
 callable (Accept requirements serial sides sizes octets) p h = implied is_answering may_abort refl p h
-callable (Refuse octets) p h = implied is_answering may_abort refl p h
+callable (Refuse refusal) p h = implied is_answering may_abort refl p h
 callable (Give tokens) p h = implied may_give may_abort refl p h
 callable (Please tokens octets) p h = implied may_ask may_abort refl p h
 callable (MinorConfirm n octets) p h = implied may_confirm_minor may_abort refl p h

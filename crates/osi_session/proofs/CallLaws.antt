@@ -1,7 +1,7 @@
 -- The table of calls never answers that memory is wanted, and sends no more user data than fits.
 use Rattle.std.proofs.Common.{◌≡◌, refl, sym, ap, subst, ◌<◌, Bool, true, false, not, ◌&&◌, nat_le, List, [], ◌∷◌, length, Ok, Err, arith, if◌then◌else◌}
 use Rattle.osi_session.specs.declared.faults.CallError.TheVariants as error
-use Rattle.osi_session.proofs.Vocabulary.{leb-true, CallError, State, is_over, Call, Accept, Refuse, Data, Give, Please, Minor, MinorConfirm, Major, MajorConfirm, Restart, RestartConfirm, Release, ReleaseAccept, ReleaseRefuse, Abort, Test, Step, Answer, first_error, needs, may_call, octets_of, most_of, after, sends, met, sized, allowed, fits_limit, is_memory, Refused, RefusedBy, Meaning, user_data_of, called, Listener, react}
+use Rattle.osi_session.proofs.Vocabulary.{refusal_octets, leb-true, CallError, State, is_over, Call, Accept, Refuse, Data, Give, Please, Minor, MinorConfirm, Major, MajorConfirm, Restart, RestartConfirm, Release, ReleaseAccept, ReleaseRefuse, Abort, Test, Step, Answer, first_error, needs, may_call, octets_of, most_of, after, sends, met, sized, allowed, fits_limit, is_memory, Refused, RefusedBy, Meaning, user_data_of, called, Listener, react}
 use Rattle.osi_session.proofs.MoveLaws.{call_errs, call_passes}
 use Rattle.osi_session.proofs.Passed.{first_error_ok, passed}
 
@@ -63,7 +63,7 @@ wanting s c x h = call_passes s c x h
 sends_short : (s : State) (c : Call) → nat_le (length (octets_of c)) (most_of c) ≡ true → length (user_data_of (sends s c)) < 65000
 unfolding user_data_of
 sends_short s (Accept requirements serial sides sizes octets) h = let k = leb-true (length octets) 10240 h in omega arith
-sends_short s (Refuse octets) h = let k = leb-true (length octets) 10240 h in omega arith
+sends_short s (Refuse refusal) h = let k = leb-true (length (refusal_octets refusal)) 10240 h in omega arith
 sends_short s (Please tokens octets) h = let k = leb-true (length octets) 10240 h in omega arith
 sends_short s (Minor confirm octets) h = let k = leb-true (length octets) 10240 h in omega arith
 sends_short s (MinorConfirm n octets) h = let k = leb-true (length octets) 10240 h in omega arith

@@ -83,7 +83,7 @@ to_other s units sides t h = or_right (has s.held t) (to_answerer units sides t)
 
 after_held : (s : State) (c : Call) (t : Token) → HeldBy (call_gives s c t) s t (after s c).held
 after_held s (Accept requirements serial sides sizes octets) t = to_other s (functional_units requirements) (settle (functional_units requirements) s.wishes sides) t
-after_held s (Refuse octets) t = none s t
+after_held s (Refuse refusal) t = none s t
 after_held s (Give tokens) t = less s tokens t
 after_held s (Restart n wishes octets) t = none s t
 after_held s (RestartConfirm sides octets) t = to_other s s.units (settle s.units s.wishes sides) t
@@ -137,7 +137,7 @@ unit_held s u t = unit_cases (λ next. HeldBy (unit_gives s u t) s t next.held) 
 -- after an accepted call
 after_holds : (s : State) (c : Call) (t : Token) → has (after s c).held t ≡ call_holds s c t
 after_holds s (Accept requirements serial sides sizes octets) t = answerer_has (functional_units requirements) (settle (functional_units requirements) s.wishes sides) t
-after_holds s (Refuse octets) t = no_token_has t
+after_holds s (Refuse refusal) t = no_token_has t
 after_holds s (Give tokens) t = without_has s.held tokens t
 after_holds s (Restart n wishes octets) t = no_token_has t
 after_holds s (RestartConfirm sides octets) t = answerer_has s.units (settle s.units s.wishes sides) t

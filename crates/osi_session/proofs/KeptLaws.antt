@@ -12,7 +12,7 @@ use Rattle.osi_session.proofs.WordLaws.{word_at, kept_none, kept_some, kept_gone
 -- an end that discards data goes on discarding it, whatever its user calls: only an abort is allowed
 after_discards : (s : State) (c : Call) → may_call s.phase c ≡ true → discards s.phase ≡ true → discards (after s c).phase ≡ true
 after_discards s (Accept requirements serial sides sizes octets) m d = absurd (let z = excluded discards is_answering refl s.phase d in cc)
-after_discards s (Refuse octets) m d = refl
+after_discards s (Refuse refusal) m d = refl
 after_discards s (Major octets) m d = absurd (let z = excluded discards is_ready refl s.phase d in cc)
 after_discards s (MajorConfirm octets) m d = absurd (let z = excluded discards is_major_due refl s.phase d in cc)
 after_discards s (Restart k wishes octets) m d = refl

@@ -23,7 +23,7 @@ chosen cause false p x y h k = k
 
 after_opens : (s : State) (c : Call) → may_call s.phase c ≡ true → OpenedBy (call_opens c) s.phase (after s c).phase
 after_opens s (Accept requirements serial sides sizes octets) p = λ h k. refl
-after_opens s (Refuse octets) p = λ h k. absurd (cc)
+after_opens s (Refuse refusal) p = λ h k. absurd (cc)
 after_opens s (Major octets) p = open_before _ s.phase MajorAsked (implied is_ready may_hold refl s.phase p)
 after_opens s (MajorConfirm octets) p = open_before _ s.phase Ready (implied is_major_due may_hold refl s.phase p)
 after_opens s (Restart n wishes octets) p = λ h k. absurd (cc)

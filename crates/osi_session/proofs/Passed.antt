@@ -44,7 +44,7 @@ all_pass (t ∷ ts) a h = rw h.0 (all_pass ts a h.1)
 
 pub over_calls : (c : Call) (p : Phase) → may_call p c ≡ true → is_over p ≡ false
 over_calls (Accept requirements serial sides sizes octets) p h = excluded is_answering is_over refl p h
-over_calls (Refuse octets) p h = excluded is_answering is_over refl p h
+over_calls (Refuse refusal) p h = excluded is_answering is_over refl p h
 over_calls (Give tokens) p h = excluded may_give is_over refl p h
 over_calls (Please tokens octets) p h = excluded may_ask is_over refl p h
 over_calls (MinorConfirm n octets) p h = excluded may_confirm_minor is_over refl p h

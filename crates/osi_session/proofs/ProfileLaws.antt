@@ -57,7 +57,7 @@ chosen false x y h k = k
 after_profile : (s : State) (c : Call) → may_call s.phase c ≡ true → AllHold (needs s c) → HasProfile s → HasProfile (after s c)
 after_profile s (Accept requirements serial sides sizes octets) m n h = λ k.
     profile_of requirements (and_parts (units_within (functional_units requirements) s.units) (is_profile requirements) n.0).1
-after_profile s (Refuse octets) m n h = λ k. absurd (cc)
+after_profile s (Refuse refusal) m n h = λ k. absurd (cc)
 after_profile s (Major octets) m n h = λ k. h (implied is_ready has_profile refl s.phase m)
 after_profile s (MajorConfirm octets) m n h = λ k. h (implied is_major_due has_profile refl s.phase m)
 after_profile s (Restart k wishes octets) m n h = λ k. h (implied may_restart has_profile refl s.phase m)

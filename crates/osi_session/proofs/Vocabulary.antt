@@ -38,7 +38,7 @@ pub use Rattle.osi_spdu.specs.declared.kinds.Kind.{Kind}
 pub use Rattle.osi_spdu.specs.declared.settings.TokenSetting.{TokenSetting}
 pub use Rattle.osi_session.specs.Allowed.{AllHold, Answer, Passed, Step, Test, after, first_error, has_right, is_confirmable, is_restartable, last_number, may_call, most_data, most_of, most_user_data, needs, octets_of, opened_with, sends, sized}
 unfoldable pub use Rattle.osi_session.specs.Allowed.{allowed, met}
-pub use Rattle.osi_session.specs.Calls.{Abort, Accept, Call, Data, Give, HasSerial, Major, MajorConfirm, Minor, MinorConfirm, Please, Refuse, Release, ReleaseAccept, ReleaseRefuse, Restart, RestartConfirm, called_by}
+pub use Rattle.osi_session.specs.Calls.{Abort, Accept, Call, Data, Give, HasSerial, Major, MajorConfirm, Minor, MinorConfirm, Please, Refuse, Release, ReleaseAccept, ReleaseRefuse, Restart, RestartConfirm, called_by, refusal_octets}
 pub use Rattle.osi_session.specs.Causes.{asks_first, asks_for_connection, call_gives, call_holds, call_opens, call_renews, is_taken, opens_connection, renews, some_word, to_answerer, to_asker, unit_asks, unit_gives, unit_holds, unit_opens, unit_renews}
 pub use Rattle.osi_session.specs.Closing.{awaits_close, closes_alone, is_answer, may_close, may_close_word}
 pub use Rattle.osi_session.specs.Joining.{Hearing, Taker, begins_anew, drops_parts, enacted_word, enclosure_conditions, good_word, heard, heard_then, idle, is_in_place, is_last, is_restart_word, joined_by, joined_octets, kept_in, respond_came, respond_tsdu, word_conditions, word_verdict}

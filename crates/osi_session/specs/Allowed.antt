@@ -19,7 +19,7 @@ use Rattle.osi_session.specs.Phases.{is_over, is_ready, is_answering, is_major_d
 use Rattle.osi_session.specs.State.{without_tokens}
 use Rattle.osi_session.specs.Sizes.{answered_sizes, fits_limit}
 use Rattle.osi_message.specs.Meanings.{Meaning, AC, RF, DT, GT, PT, MIP, MIA, MAP, MAA, RS, RA, FN, DN, NF, AB}
-use Rattle.osi_session.specs.Calls.{Call, Accept, Refuse, Data, Give, Please, Minor, MinorConfirm, Major, MajorConfirm, Restart, RestartConfirm, Release, ReleaseAccept, ReleaseRefuse, Abort}
+use Rattle.osi_session.specs.Calls.{refusal_octets, refusal_reason, Call, Accept, Refuse, Data, Give, Please, Minor, MinorConfirm, Major, MajorConfirm, Restart, RestartConfirm, Release, ReleaseAccept, ReleaseRefuse, Abort}
 
 -- a test of a call, and the error where it fails
 abbrev pub Test : Type 0
@@ -79,7 +79,7 @@ point_needs s unit rights = selected unit ∷ holding rights ∷ numbers_left s 
 -- the phases in which a call is allowed
 abbrev pub may_call : Phase → Call → Bool
 may_call p (Accept requirements serial sides sizes octets) = is_answering p
-may_call p (Refuse octets) = is_answering p
+may_call p (Refuse refusal) = is_answering p
 may_call p (Data octets) = is_ready p
 may_call p (Give tokens) = may_give p
 may_call p (Please tokens octets) = may_ask p
@@ -118,7 +118,7 @@ needs s _ = []
 -- the user data of a call, and how much of it there may be
 abbrev pub octets_of : Call → List ℕ
 octets_of (Accept requirements serial sides sizes octets) = octets
-octets_of (Refuse octets) = octets
+octets_of (Refuse refusal) = refusal_octets refusal
 octets_of (Data octets) = octets
 octets_of (Give tokens) = []
 octets_of (Please tokens octets) = octets
@@ -151,7 +151,7 @@ after s (Accept requirements serial sides sizes octets) =
     opened_with (functional_units requirements)
     (of_answerer (functional_units requirements) (settle (functional_units requirements) s.wishes sides))
     (base_for (functional_units requirements) serial) (answered_sizes s.sizes sizes) s
-after s (Refuse octets) = without_tokens Ended s
+after s (Refuse refusal) = without_tokens Ended s
 after s (Data octets) = s
 after s (Give tokens) = record s { held = without s.held tokens }
 after s (Please tokens octets) = s
@@ -171,17 +171,12 @@ after s (Abort octets) = without_tokens Aborting s
 abbrev pub serial_for : FunctionalUnits → ℕ → Option ℕ
 serial_for units serial = if has_points units then Some serial else None
 
--- a user's refusal has reason 2 where its data follows, else 0
-abbrev pub refusal_reason : List ℕ → ℕ
-refusal_reason [] = 0
-refusal_reason (b ∷ octets) = 2
-
 -- the unit that an accepted call sends
 abbrev pub sends : State → Call → Meaning
 sends s (Accept requirements serial sides sizes octets) =
     AC true requirements (serial_for (functional_units requirements) serial)
     (setting_of (settle (functional_units requirements) s.wishes sides)) (answered_sizes s.sizes sizes) octets
-sends s (Refuse octets) = RF (refusal_reason octets) octets
+sends s (Refuse refusal) = RF (refusal_reason refusal) (refusal_octets refusal)
 sends s (Data octets) = DT octets
 sends s (Give tokens) = GT tokens
 sends s (Please tokens octets) = PT tokens octets

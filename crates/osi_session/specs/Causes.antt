@@ -85,7 +85,7 @@ call_holds s (Accept requirements serial sides sizes octets) t =
     to_answerer (functional_units requirements) (settle (functional_units requirements) s.wishes sides) t
 call_holds s (RestartConfirm sides octets) t = to_answerer s.units (settle s.units s.wishes sides) t
 call_holds s (Give tokens) t = has s.held t && not (has tokens t)
-call_holds s (Refuse octets) t = false
+call_holds s (Refuse refusal) t = false
 call_holds s (Restart n wishes octets) t = false
 call_holds s (ReleaseAccept octets) t = false
 call_holds s (Abort octets) t = false

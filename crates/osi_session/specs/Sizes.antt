@@ -34,13 +34,13 @@ is_data _ = false
 -- data may be longer, and so may an answer to the CN
 abbrev pub is_bounded : Call → Bool
 is_bounded (Accept requirements serial sides sizes octets) = false
-is_bounded (Refuse octets) = false
+is_bounded (Refuse refusal) = false
 is_bounded (Data octets) = false
 is_bounded _ = true
 
 -- whether the TSDU of a call is within the limit
 abbrev pub fits_limit : State → Call → Meaning → Bool
 fits_limit s (Accept requirements serial sides sizes octets) m = true
-fits_limit s (Refuse octets) m = true
+fits_limit s (Refuse refusal) m = true
 fits_limit s (Data octets) m = true
 fits_limit s _ m = (limit_of s == 0) || nat_le (length (written m)) (limit_of s)

@@ -4,7 +4,7 @@ ghost use Rattle.osi_spdu.specs.Fields.{bits_of, unit_bits};
 ghost use Rattle.osi_spdu.specs.Sizes.{named_by};
 ghost use Rattle.std.specs.Prelude.{◌≡◌, ◌<◌, ◌≤◌, ◌&&◌, if◌then◌else◌, true, [], length, nat_le, nat_lt, None, Some, Ok, Err, IfOk, OnOk, IfErr};
 ghost use Rattle.osi_session.specs.Allowed.{after, allowed, met, needs, may_call, octets_of, most_of, has_right, point_needs, is_restartable};
-ghost use Rattle.osi_session.specs.Calls.{called_by, Accept, Refuse, Data, Give, Please, Minor, MinorConfirm, Major, MajorConfirm, Restart, RestartConfirm, Release, ReleaseAccept, ReleaseRefuse, Abort};
+ghost use Rattle.osi_session.specs.Calls.{called_by, refusal_by, Accept, Refuse, Data, Give, Please, Minor, MinorConfirm, Major, MajorConfirm, Restart, RestartConfirm, Release, ReleaseAccept, ReleaseRefuse, Abort};
 ghost use Rattle.osi_message.specs.Meanings.{meant_by, DT, MIP, MIA};
 ghost use Rattle.osi_session.specs.Numbers.{minor_confirmed, point_sent};
 ghost use Rattle.osi_session.specs.Points.{call_for, may_advance};
@@ -19,7 +19,7 @@ use crate::faults::CallError;
 use crate::numbers::Numbers;
 use crate::phases::Phase;
 use crate::plans::SentPoint;
-use crate::requests::Request;
+use crate::requests::{Refusal, Request};
 use crate::selected::{FunctionalUnits, is_profile};
 use crate::sides::{Sides, offered};
 use crate::sizes::{answered_sizes, fits_ack, fits_limit, fits_point};
@@ -72,8 +72,8 @@ pub(crate) fn fits(request: &Request) -> bool
     match request {
         Request::Data { user_data } => user_data.len() <= MOST_DATA,
         Request::Give { .. } => true,
+        Request::Refuse { refusal } => refusal.user_data().len() <= MOST_USER_DATA,
         Request::Accept { user_data, .. }
-        | Request::Refuse { user_data }
         | Request::Please { user_data, .. }
         | Request::Minor { user_data, .. }
         | Request::MinorConfirm { user_data, .. }
@@ -457,12 +457,12 @@ fn over<'a>(state: &State, phase: Phase, sent: Message<'a>) -> Step<'a>
     }
 }
 
-/// A refusal has reason 2 where user data follows, else 0.
 #[tactic(auto, unfolding(crate::specs::Allowed::met))]
-fn refuse<'a>(state: &State, user_data: &'a [u8]) -> Step<'a>
-    ensures { Answers (Ok result) (met state.now (Refuse user_data.entry.now)) }
+fn refuse<'a>(state: &State, refusal: Refusal<'a>) -> Step<'a>
+    ensures { Answers (Ok result) (met state.now (Refuse (refusal_by refusal.entry))) }
 {
-    let reason = if user_data.is_empty() { 0 } else { 2 };
+    let reason = refusal.reason();
+    let user_data = refusal.user_data();
     over(state, Phase::Ended, Message::Refuse { reason, user_data })
 }
 
@@ -500,7 +500,7 @@ pub(crate) fn decide_row<'a>(state: &State, request: &Request<'a>) -> Result<Ste
             sizes,
             user_data,
         } => accept(state, requirements, serial, sides, sizes, user_data),
-        Request::Refuse { user_data } => Ok(refuse(state, user_data)),
+        Request::Refuse { refusal } => Ok(refuse(state, refusal)),
         Request::Data { user_data } => data(state, user_data),
         Request::Give { tokens } => give(state, tokens),
         Request::Please { tokens, user_data } => please(state, tokens, user_data),

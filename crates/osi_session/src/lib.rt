@@ -59,7 +59,7 @@ pub use opening::Opening;
 pub use phases::Phase;
 pub use plans::{Plan, PlannedPoint, SentPoint};
 pub use reactions::Reply;
-pub use requests::Request;
+pub use requests::{Refusal, Request};
 pub use selected::is_profile;
 pub use sessions::Session;
 pub use sides::Sides;

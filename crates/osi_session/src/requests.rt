@@ -1,7 +1,55 @@
 //! The calls of the user of a session.
 
+ghost use Rattle.std.specs.Prelude.{◌≡◌};
+ghost use Rattle.osi_session.specs.Calls.{refusal_by, refusal_octets, refusal_reason, refusal_with};
+
 use crate::sides::Sides;
 use osi_spdu::{Requirements, Serial, TokenSet, TokenSetting, TsduSizes};
+
+/// Why a user refuses a connection: the reasons of a called user that an RF has (X.225 section 8.3.5). User
+/// data goes with the last of them alone.
+#[derive(Clone, Copy)]
+pub enum Refusal<'a> {
+    /// Reason 0: rejected by the called user, which gives no reason.
+    Unspecified,
+    /// Reason 1: rejected by the called user, for congestion that passes.
+    Congestion,
+    /// Reason 2: rejected by the called user, with this user data, which may be empty.
+    WithData(&'a [u8]),
+}
+
+impl<'a> Refusal<'a> {
+    /// The refusal that hands on this user data, and gives no reason if there is none.
+    pub fn with(user_data: &'a [u8]) -> Refusal<'a>
+        ensures { refusal_by result ≡ refusal_with user_data.entry.now }
+    {
+        if user_data.is_empty() {
+            return Refusal::Unspecified;
+        }
+        Refusal::WithData(user_data)
+    }
+
+    /// The reason as the RF has it: 0, 1 or 2.
+    pub fn reason(self) -> u8
+        ensures { result ≡ refusal_reason (refusal_by self.entry) }
+    {
+        match self {
+            Refusal::Unspecified => 0,
+            Refusal::Congestion => 1,
+            Refusal::WithData(_) => 2,
+        }
+    }
+
+    /// The user data; none but with [`Refusal::WithData`].
+    pub fn user_data(self) -> &'a [u8]
+        ensures { result.now ≡ refusal_octets (refusal_by self.entry) }
+    {
+        match self {
+            Refusal::WithData(user_data) => user_data,
+            _ => &[],
+        }
+    }
+}
 
 /// A call of the user of a session (X.215 section 10, requests and responses). User data is at most
 /// 10,240 octets, and may be empty.
@@ -24,8 +72,8 @@ pub enum Request<'a> {
     },
     /// Refuses the connection (RF).
     Refuse {
-        /// User data.
-        user_data: &'a [u8],
+        /// The reason, and user data with one of the reasons.
+        refusal: Refusal<'a>,
     },
     /// Sends data (DT).
     Data {

@@ -293,6 +293,39 @@ fn octets_that_are_no_units_are_answered_by_an_abort(rt: HostRuntime) -> Result<
     refuses_octets(&mut caller(&rt)?)
 }
 
+/// A refusal, and the RF that is sent.
+const REFUSALS: [(Refusal<'static>, &[u8]); 4] = [
+    (
+        Refusal::Unspecified,
+        &[0x0C, 0x06, 0x11, 0x01, 0x01, 0x32, 0x01, 0x00],
+    ),
+    (
+        Refusal::Congestion,
+        &[0x0C, 0x06, 0x11, 0x01, 0x01, 0x32, 0x01, 0x01],
+    ),
+    (
+        Refusal::WithData(&[]),
+        &[0x0C, 0x06, 0x11, 0x01, 0x01, 0x32, 0x01, 0x02],
+    ),
+    (
+        Refusal::WithData(&[0x6E, 0x6F]),
+        &[0x0C, 0x08, 0x11, 0x01, 0x01, 0x32, 0x03, 0x02, 0x6E, 0x6F],
+    ),
+];
+
+fn refuses(right: &mut Session, refusal: Refusal, wanted: &[u8]) -> Result<(), Fail> {
+    is_asked(right)?;
+    is_one(&call(right, Request::Refuse { refusal })?, wanted)
+}
+
+#[test]
+fn a_refusal_says_why(rt: HostRuntime) -> Result<(), Fail> {
+    for (refusal, wanted) in REFUSALS {
+        refuses(&mut called(&rt), refusal, wanted)?;
+    }
+    Ok(())
+}
+
 /// How many octets a request is sent in, where it is one TSDU.
 fn length_of(session: &mut Session, request: Request) -> Result<usize, CallError> {
     match call(session, request)?.tsdus() {

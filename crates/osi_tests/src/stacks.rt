@@ -5,7 +5,7 @@ use crate::sessions::{ALL_UNITS, ASKER_WISHES};
 use bitflags::Flags;
 use osi_carrier::{EndReason, OpenError, Ref};
 use osi_class::Local;
-use osi_session::Request;
+use osi_session::{Refusal, Request};
 use osi_spdu::{Requirements, Serial, TsduSizes};
 use osi_stack::{Addresses, Connect, ConnectError, SessionSelector, Stack};
 use osi_tpdu::{SizeCode, Tsap, Window};
@@ -200,7 +200,12 @@ fn two_come(ends: &mut Ends) -> Result<(), Fail> {
 
 /// A user refuses a connection.
 fn refuses(right: &mut Stack) -> Result<(), Fail> {
-    right.call(Ref(1), Request::Refuse { user_data: &[] })?;
+    right.call(
+        Ref(1),
+        Request::Refuse {
+            refusal: Refusal::Unspecified,
+        },
+    )?;
     Ok(())
 }
 

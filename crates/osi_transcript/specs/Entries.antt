@@ -26,7 +26,7 @@ name_of Right = named.Right
 
 abbrev pub verb_of : Call → Verb
 verb_of (call.Accept requirements serial sides sizes octets) = verb.Accept
-verb_of (call.Refuse octets) = verb.Refuse
+verb_of (call.Refuse refusal) = verb.Refuse
 verb_of (call.Data octets) = verb.Data
 verb_of (call.Give tokens) = verb.Give
 verb_of (call.Please tokens octets) = verb.Please

@@ -132,6 +132,17 @@ class Side(IntEnum):
     """In a wish alone: whom the answer names."""
 
 
+class Refusal(IntEnum):
+    """Why a user refuses a connection (X.225 section 8.3.5)."""
+
+    UNSPECIFIED = 0
+    """No reason is given."""
+    CONGESTION = 1
+    """Congestion that passes: the caller may ask again later."""
+    WITH_DATA = 2
+    """User data says why; it goes with this reason alone, and may be empty."""
+
+
 class Phase(IntEnum):
     """Where a connection stands (X.225 annex A, states)."""
 

@@ -7,7 +7,7 @@ import weakref
 from ctypes import byref, c_uint16, c_uint64, sizeof
 from typing import Any, Callable, Iterator, NoReturn, Optional, Tuple, Type, TypeVar
 
-from ._codes import Code, Phase, Reason, SessionError, Tokens, Units
+from ._codes import Code, Phase, Reason, Refusal, SessionError, Tokens, Units
 from ._library import AddressingOfC, FedOfC, IndicationOfC, Octets, OpeningOfC, SidesOfC, Slot, TermsOfC, library
 from ._values import KINDS, Addresses, Ending, Fed, Indication, Opening, Sides, Sizes, Terms
 
@@ -181,6 +181,12 @@ class End:
     def refuse(self, reference: int, user_data: bytes = b"") -> None:
         """Refuses what ``Connect`` asks for. BAD_STATE, TOO_LONG, and those of every call."""
         self._say(self._osi.osi_refuse, reference, user_data)
+
+    def refuse_with(self, reference: int, reason: Refusal, user_data: bytes = b"") -> None:
+        """The same as ``refuse``, for this reason; user data goes with ``Refusal.WITH_DATA`` alone.
+        BAD_ARGUMENT, and those of ``refuse``."""
+        data = _octets(user_data)
+        self._call(self._osi.osi_refuse_with, reference, _within("reason", reason, 8), data, len(data))
 
     def data(self, reference: int, user_data: bytes) -> None:
         """Sends data, 1 to 1,048,572 octets. BAD_STATE, TOKEN_NOT_HELD, EMPTY, TOO_LONG, and those of

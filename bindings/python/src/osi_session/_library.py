@@ -126,6 +126,7 @@ FUNCTIONS: Dict[str, Tuple[List[Any], Any]] = {
         c_uint32,
     ),
     "osi_refuse": ([c_uint16, *_DATA], c_uint32),
+    "osi_refuse_with": ([c_uint16, c_uint8, *_DATA], c_uint32),
     "osi_data": ([c_uint16, *_DATA], c_uint32),
     "osi_give": ([c_uint16, c_uint8], c_uint32),
     "osi_please": ([c_uint16, c_uint8, *_DATA], c_uint32),

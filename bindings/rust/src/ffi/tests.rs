@@ -2,7 +2,7 @@
 //! program `bindings/layout.c`. Where that or a C compiler is not there, these tests say so and pass.
 
 use super::*;
-use crate::{Classes, Ending, Error, Indication, Phase, Side, Tokens, Units};
+use crate::{Classes, Ending, Error, Indication, Phase, Refusal, Side, Tokens, Units};
 use std::collections::BTreeMap;
 use std::env;
 use std::mem::{align_of, offset_of, size_of};
@@ -198,6 +198,9 @@ fn sets_are_the_bits_of_c() {
         ("OSI_ASKER", Side::Asker as u16),
         ("OSI_ANSWERER", Side::Answerer as u16),
         ("OSI_CHOICE", Side::Choice as u16),
+        ("OSI_REFUSAL_UNSPECIFIED", Refusal::Unspecified.reason().into()),
+        ("OSI_REFUSAL_CONGESTION", Refusal::Congestion.reason().into()),
+        ("OSI_REFUSAL_WITH_DATA", Refusal::WithData(&[]).reason().into()),
     ];
     for (name, bits) in here {
         assert_eq!(of_c[name], [usize::from(bits)], "{name}");
