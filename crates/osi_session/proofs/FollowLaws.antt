@@ -30,7 +30,7 @@ shift : (restarts r a : Bool) (u item : Word) (us : Words) →
     (if restarts || (r || a) then u ∷ us else (u ∷ us) ++ item ∷ []) ≡ u ∷ (if (restarts || r) || a then us else us ++ item ∷ [])
 shift restarts r a u item us = grind arith
 
-taken_next : (restarts : Bool) (item u : Word) (us : Words) →
+pub taken_next : (restarts : Bool) (item u : Word) (us : Words) →
     acting_behind restarts item (u ∷ us) ≡ u ∷ acting_behind (restarts || is_restart_word u) item us
 taken_next restarts item u us = shift restarts (is_restart_word u) (list_any is_restart_word us) u item us
 

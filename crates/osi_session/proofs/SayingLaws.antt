@@ -102,7 +102,7 @@ said_sound s AA n small e h = absurd (cc)
 -- ---- the state behind what is taken is sound
 
 -- some octets, so many
-abbrev some_octets : ℕ → List ℕ
+abbrev pub some_octets : ℕ → List ℕ
 some_octets zero = []
 some_octets (suc n) = 0 ∷ some_octets n
 
@@ -110,11 +110,11 @@ some_len : (n : ℕ) → length (some_octets n) ≡ n
 some_len zero = refl
 some_len (suc n) = let e = some_len n in omega arith
 
-abbrev so_many : Option ℕ → Option (List ℕ)
+abbrev pub so_many : Option ℕ → Option (List ℕ)
 so_many None = None
 so_many (Some n) = Some (some_octets n)
 
-so_many_are : (n : Option ℕ) → option_map length (so_many n) ≡ n
+pub so_many_are : (n : Option ℕ) → option_map length (so_many n) ≡ n
 so_many_are None = refl
 so_many_are (Some n) = ap Some (some_len n)
 

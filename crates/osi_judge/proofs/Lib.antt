@@ -1,0 +1,4 @@
+pub mod MemberLaws
+pub mod WalkLaws
+pub mod TellingLaws
+pub mod SideLaws

@@ -1,0 +1,178 @@
+-- What is known of a side, as it hears and tells.
+use Rattle.std.proofs.Common.{◌≡◌, ◌∙◌, refl, sym, ap, subst, ℕ, suc, zero, ◌+◌, ◌<◌, ◌≤◌, ◌↔◌, ◌==◌, true, false, inl, inr, List, [], ◌∷◌, ◌++◌, length, map, take, get_or, Result, Ok, Err, arith}
+use Rattle.std.proofs.lemmas.List.{append-nil, append_assoc, length-append}
+use Rattle.osi_spdu.specs.declared.faults.SpduFault.{SpduFault}
+use Rattle.osi_message.specs.Reading.{said_at}
+use Rattle.osi_message.specs.Words.{Words}
+use Rattle.osi_session.specs.Joining.{acting_words}
+use Rattle.osi_session.specs.Standing.{Seen}
+use Rattle.osi_judge.specs.declared.members.Member.{Member}
+use Rattle.osi_judge.specs.declared.findings.Finding.{Finding}
+use Rattle.osi_judge.specs.declared.findings.Finding.TheVariants.{Kept, Broke, TooMany}
+use Rattle.osi_judge.specs.Explaining.{Remark, remark, Told, read_as, remarks_of, remarks, Explains, done, IsExplained}
+use Rattle.osi_judge.specs.Members.{SomeExplains, Extends, IsBehind}
+use Rattle.osi_judge.specs.Walking.{Ever}
+use Rattle.osi_judge.specs.Judging.{Watched, is_empty, BrokeFor, AreAll, Keeps, WatchesBy, Watches, IsFound}
+
+-- ---- what was heard goes on
+
+get_front : (xs ys : List (List ℕ)) (i : ℕ) → i < length xs → get_or (xs ++ ys) i [] ≡ get_or xs i []
+get_front [] ys i l = absurd (omega arith)
+get_front (x ∷ xs) ys zero l = refl
+get_front (x ∷ xs) ys (suc i) l = get_front xs ys i (omega arith)
+
+extends_less : (us heard : List (List ℕ)) (x : List ℕ) → Extends us (heard ++ x ∷ []) → Extends us heard
+extends_less us heard x h = λ i l. let n = length-append heard (x ∷ []) in h i (omega arith) ∙ get_front heard (x ∷ []) i l
+
+heard_by : (f : Finding) (w : Watched) (x : List ℕ) (told : List Told) → WatchesBy f w told → WatchesBy f (record w { heard = w.heard ++ x ∷ [] }) told
+heard_by Kept w x told k = record { count = k.count; all = λ us later e h. k.all us later (extends_less us w.heard x e) h; some = k.some }
+heard_by (Broke i) w x told k = (k.0, λ us e. k.1 us (extends_less us w.heard x e))
+heard_by TooMany w x told k = tt
+
+pub hears : (w : Watched) (x : List ℕ) (told : List Told) → Watches w told → Watches (record w { heard = w.heard ++ x ∷ [] }) told
+hears w x told k = heard_by w.finding w x told k
+
+-- what was heard, by what is in memory
+pub hears_as : (w n : Watched) (x : List ℕ) (told : List Told) → n ≡ record w { heard = w.heard ++ x ∷ [] } → Watches w told → Watches n told
+hears_as w n x told e k = subst (λ (y : Watched). Watches y told) (sym e) (hears w x told k)
+
+-- ---- what was told goes on
+
+take_front : (xs ys : List Told) (n : ℕ) → n ≤ length xs → take n (xs ++ ys) ≡ take n xs
+take_front xs ys zero l = refl
+take_front [] ys (suc n) l = absurd (omega arith)
+take_front (x ∷ xs) ys (suc n) l = ap (λ (z : List Told). x ∷ z) (take_front xs ys n (omega arith))
+
+take_whole : (xs : List Told) (n : ℕ) → length xs ≤ n → take n xs ≡ xs
+take_whole [] zero l = refl
+take_whole [] (suc n) l = refl
+take_whole (x ∷ xs) zero l = absurd (omega arith)
+take_whole (x ∷ xs) (suc n) l = ap (λ (z : List Told). x ∷ z) (take_whole xs n (omega arith))
+
+-- a break stays where it is
+pub broke_stays : (begin : Seen) (heard : List (List ℕ)) (told : List Told) (x : Told) (i : ℕ) → BrokeFor begin heard told i → BrokeFor begin heard (told ++ x ∷ []) i
+broke_stays begin heard told x i k =
+    let n = length-append told (x ∷ []) in
+    let there = k.0 in
+    let a = take_front told (x ∷ []) i (omega arith) in
+    let b = take_front told (x ∷ []) (i + 1) (omega arith) in (
+      omega arith,
+      λ us e. let y = k.1 us e in
+          (subst (λ (z : List Told). IsExplained begin us z) (sym a) y.0, λ h. y.1 (subst (λ (z : List Told). IsExplained begin us z) b h)),
+    )
+
+pub broke_as : (w n : Watched) (told : List Told) (x : Told) (i : ℕ) → w.finding ≡ Broke i → n ≡ w → Watches w told → Watches n (told ++ x ∷ [])
+broke_as w n told x i f e k =
+    subst (λ (y : Watched). Watches y (told ++ x ∷ [])) (sym e)
+    (subst (λ (g : Finding). WatchesBy g w (told ++ x ∷ [])) (sym f) (broke_stays w.begin w.heard told x i (subst (λ (g : Finding). WatchesBy g w told) f k)))
+
+pub too_many_as : (n : Watched) (told : List Told) → n.finding ≡ TooMany → Watches n told
+too_many_as n told f = subst (λ (g : Finding). WatchesBy g n told) (sym f) tt
+
+-- the remarks of one TSDU more
+remarks_more : (told : List Told) (x : Told) (later : List Remark) → remarks (told ++ x ∷ []) ++ later ≡ remarks told ++ (remarks_of x ++ later)
+remarks_more [] x later = ap (λ (z : List Remark). z ++ later) (append-nil (remarks_of x))
+remarks_more (t ∷ told) x later =
+    append_assoc (remarks_of t) (remarks (told ++ x ∷ [])) later ∙ ap (λ (z : List Remark). remarks_of t ++ z) (remarks_more told x later) ∙ sym (append_assoc (remarks_of t) (remarks told) (remarks_of x ++ later))
+
+behind_less : (a b : ℕ) (later : List Remark) → a ≤ b → IsBehind b later → IsBehind a later
+behind_less a b [] l h = tt
+behind_less a b (m ∷ ms) l h = omega arith
+
+behind_words : (a : ℕ) (t : Told) (ws : Words) (later : List Remark) → a ≤ t.before → IsBehind t.before later → IsBehind a (map (remark t) ws ++ later)
+behind_words a t [] later l h = behind_less a t.before later l h
+behind_words a t (w ∷ ws) later l h = l
+
+behind_read : (a : ℕ) (t : Told) (came : Result Words SpduFault) (later : List Remark) → a ≤ t.before → IsBehind t.before later → IsBehind a (read_as t came ++ later)
+behind_read a t (Ok words) later l h = behind_words a t (acting_words words) later l h
+behind_read a t (Err fault) later l h = l
+
+-- what the members behind a TSDU explain
+abbrev pub Gives : Watched → Told → List Member → Type 0
+Gives w x new = Ever w.heard x.before (λ (us : List (List ℕ)) (later : List Remark). SomeExplains us w.members (remarks_of x ++ later) ↔ SomeExplains us new later)
+
+all_more : (w : Watched) (told : List Told) (x : Told) (new : List Member) → w.before ≤ x.before → AreAll w.begin w.heard w.before w.members told → Gives w x new
+    → AreAll w.begin w.heard x.before new (told ++ x ∷ [])
+all_more w told x new l a g = λ us later e h.
+    let k = a us (remarks_of x ++ later) e (behind_read w.before x (said_at x.octets) later l h) in
+    let i = g us later e h in
+    let same = remarks_more told x later in
+    (λ p. i.0 (k.0 (subst (λ (z : List Remark). Explains us z 0 w.begin) same p)), λ p. subst (λ (z : List Remark). Explains us z 0 w.begin) (sym same) (k.1 (i.1 p)))
+
+pub kept_as : (w n : Watched) (told : List Told) (x : Told) (new : List Member) → n ≡ record w { members = new; told = w.told + 1; before = x.before } → w.finding ≡ Kept → w.before ≤ x.before
+    → Gives w x new → is_empty new ≡ false → Keeps w told → Watches n (told ++ x ∷ [])
+kept_as w n told x new e f l g s k =
+    let m = length-append told (x ∷ []) in let c = k.count in
+    subst (λ (y : Watched). Watches y (told ++ x ∷ [])) (sym e)
+    (subst (λ (y : Finding). WatchesBy y (record w { members = new; told = w.told + 1; before = x.before }) (told ++ x ∷ [])) (sym f)
+    (record { count = omega arith; all = all_more w told x new l k.all g; some = s }))
+
+-- ---- a break
+
+some_done : (us : List (List ℕ)) (members : List Member) → is_empty members ≡ false → SomeExplains us members []
+some_done us [] s = absurd (cc)
+some_done us (m ∷ members) s = inl (done m.taken m.standing)
+
+explained_so_far : (w : Watched) (told : List Told) (us : List (List ℕ)) → Extends us w.heard → Keeps w told → IsExplained w.begin us told
+explained_so_far w told us e k = subst (λ (z : List Remark). Explains us z 0 w.begin) (append-nil (remarks told)) ((k.all us [] e tt).1 (some_done us w.members k.some))
+
+pub broke_here : (w : Watched) (told : List Told) (x : Told) (new : List Member) → w.before ≤ x.before → Gives w x new → new ≡ [] → Keeps w told → BrokeFor w.begin w.heard (told ++ x ∷ []) w.told
+broke_here w told x new l g z k =
+    let m = length-append told (x ∷ []) in let c = k.count in
+    let front = take_front told (x ∷ []) w.told (omega arith) ∙ take_whole told w.told (omega arith) in
+    let whole = take_whole (told ++ x ∷ []) (w.told + 1) (omega arith) in (
+      omega arith,
+      λ us e. (
+        subst (λ (y : List Told). IsExplained w.begin us y) (sym front) (explained_so_far w told us e k),
+        λ h.
+            let p = subst (λ (y : List Told). IsExplained w.begin us y) whole h in
+            let q = (all_more w told x new l k.all g us [] e tt).0 (subst (λ (y : List Remark). Explains us y 0 w.begin) (sym (append-nil (remarks (told ++ x ∷ [])))) p) in
+            subst (λ (y : List Member). SomeExplains us y []) z q,
+      ),
+    )
+
+pub breaks_as : (w n : Watched) (told : List Told) (x : Told) (new : List Member) → n ≡ record w { finding = Broke w.told } → w.before ≤ x.before → Gives w x new → new ≡ [] → Keeps w told
+    → Watches n (told ++ x ∷ [])
+breaks_as w n told x new e l g z k = subst (λ (y : Watched). Watches y (told ++ x ∷ [])) (sym e) (broke_here w told x new l g z k)
+
+-- ---- the beginning, and what is found
+
+pub begins : (w : Watched) (m : Member) → w.heard ≡ [] → w.members ≡ m ∷ [] → m.taken ≡ 0 → m.standing ≡ w.begin → w.told ≡ 0 → w.finding ≡ Kept → Watches w []
+begins w m h s t b o f = subst (λ (y : Finding). WatchesBy y w []) (sym f) (record {
+  count = o;
+  all = λ us later e k.
+      let there : Explains us later 0 w.begin → SomeExplains us w.members later
+      = λ p. subst (λ (y : List Member). SomeExplains us y later) (sym s) (inl (subst (λ (y : ℕ). Explains us later y m.standing) (sym t) (subst (λ (y : Seen). Explains us later 0 y) (sym b) p))) in
+      let back : SomeExplains us w.members later → Explains us later 0 w.begin
+      = λ p. begin_only us later m w.begin t b (subst (λ (y : List Member). SomeExplains us y later) s p) in
+      (there, back);
+  some = ap is_empty s;
+})
+  where
+    begin_only : (us : List (List ℕ)) (later : List Remark) (m : Member) (begin : Seen) → m.taken ≡ 0 → m.standing ≡ begin → SomeExplains us (m ∷ []) later → Explains us later 0 begin
+    begin_only us later m begin t b (inl p) = subst (λ (y : Seen). Explains us later 0 y) b (subst (λ (y : ℕ). Explains us later y m.standing) t p)
+    begin_only us later m begin t b (inr p) = absurd p
+
+found_by : (f : Finding) (w : Watched) (told : List Told) → WatchesBy f w told → IsFound w.begin w.heard told f
+found_by Kept w told k = explained_so_far w told w.heard (λ i l. refl) k
+found_by (Broke i) w told k = let y = k.1 w.heard (λ j l. refl) in record { there = k.0; so_far = y.0; broke = y.1 }
+found_by TooMany w told k = tt
+
+pub found_as : (w : Watched) (told : List Told) → Watches w told → IsFound w.begin w.heard told w.finding
+found_as w told k = found_by w.finding w told k
+
+-- ---- in memory
+
+pub empty_is : (members : List Member) → (length members == 0) ≡ is_empty members
+empty_is [] = refl
+empty_is (m ∷ members) = grind arith
+
+pub nil_of : (members : List Member) → is_empty members ≡ true → members ≡ []
+nil_of [] e = refl
+nil_of (m ∷ members) e = absurd (cc)
+
+pub gives_as : (w : Watched) (x : Told) (new : List Member) (heard : List (List ℕ)) (members : List Member) → heard ≡ w.heard → members ≡ w.members
+    → Ever heard x.before (λ (us : List (List ℕ)) (later : List Remark). SomeExplains us members (remarks_of x ++ later) ↔ SomeExplains us new later) → Gives w x new
+gives_as w x new heard members h m g =
+    subst (λ (y : List Member). Ever w.heard x.before (λ (us : List (List ℕ)) (later : List Remark). SomeExplains us y (remarks_of x ++ later) ↔ SomeExplains us new later)) m
+    (subst (λ (y : List (List ℕ)). Ever y x.before (λ (us : List (List ℕ)) (later : List Remark). SomeExplains us members (remarks_of x ++ later) ↔ SomeExplains us new later)) h g)

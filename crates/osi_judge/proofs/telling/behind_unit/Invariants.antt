@@ -1,0 +1,11 @@
+use Rattle.std.proofs.Common.{ℕ, List}
+use Rattle.osi_message.specs.Reading.{word}
+use Rattle.osi_spdu.specs.Units.{said_by}
+use Rattle.osi_judge.specs.Explaining.{Remark}
+use Rattle.osi_judge.specs.Walking.{the_remark, Ever}
+use Rattle.osi_judge.proofs.TellingLaws.{SoFar}
+use Rattle.osi_judge.proofs.telling.behind_unit.Given as goal
+
+abbrev pub invariant-members : goal.invariant-members
+invariant-members l = Ever l.heard l.before (λ (us : List (List ℕ)) (later : List Remark).
+    SoFar us later (the_remark (word (said_by l.unit)) l.octets l.before) l.members l.next.items l.member-index)

@@ -1,0 +1,52 @@
+-- What is known of a side of which so much was heard and told, and what is found of it.
+use Rattle.std.specs.Prelude.{◌≡◌, ◌<◌, ◌↔◌, ◌++◌, ◌+◌, ℕ, Bool, true, false, List, [], ◌∷◌, length, take}
+use Rattle.osi_session.specs.Standing.{Seen}
+use Rattle.osi_judge.specs.declared.members.Member.{Member}
+use Rattle.osi_judge.specs.declared.findings.Finding.{Finding}
+use Rattle.osi_judge.specs.declared.findings.Finding.TheVariants.{Kept, Broke, TooMany}
+use Rattle.osi_judge.specs.Explaining.{Told, Explains, remarks, IsExplained, IsBlamed}
+use Rattle.osi_judge.specs.Members.{SomeExplains, Extends}
+use Rattle.osi_judge.specs.Walking.{Ever}
+
+-- a side: what it heard, the sessions that still explain it, how many TSDUs it said, how many had passed before the last,
+-- and what is found
+pub record Watched : Type 0 where
+  pub begin : Seen
+  pub heard : List (List ℕ)
+  pub members : List Member
+  pub told : ℕ
+  pub before : ℕ
+  pub finding : Finding
+
+abbrev pub is_empty : List Member → Bool
+is_empty [] = true
+is_empty (m ∷ members) = false
+
+-- whatever the other side says later, the side is explained up to its i-th TSDU, and no further
+abbrev pub BrokeFor : Seen → List (List ℕ) → List Told → ℕ → Type 0
+BrokeFor begin heard told i = (i < length told) × ((us : List (List ℕ)) → Extends us heard → IsExplained begin us (take i told) × (IsExplained begin us (take (i + 1) told) → ⊥))
+
+-- the members explain what is said from here on just where the side is explained up to there
+abbrev pub AreAll : Seen → List (List ℕ) → ℕ → List Member → List Told → Type 0
+AreAll begin heard before members told = Ever heard before (λ us later. Explains us (remarks told ++ later) 0 begin ↔ SomeExplains us members later)
+
+-- of a side that keeps the protocol: how many TSDUs it said, and sessions that explain them
+pub record Keeps (w : Watched) (told : List Told) : Type 0 where
+  pub count : w.told ≡ length told
+  pub all : AreAll w.begin w.heard w.before w.members told
+  pub some : is_empty w.members ≡ false
+
+-- This is what is known of a side that said this, by what is found.
+abbrev pub WatchesBy : Finding → Watched → List Told → Type 0
+WatchesBy Kept w told = Keeps w told
+WatchesBy (Broke i) w told = BrokeFor w.begin w.heard told i
+WatchesBy TooMany w told = Unit {0}
+
+abbrev pub Watches : Watched → List Told → Type 0
+Watches w told = WatchesBy w.finding w told
+
+-- what is found of a side that said this where the other side said that
+abbrev pub IsFound : Seen → List (List ℕ) → List Told → Finding → Type 0
+IsFound begin heard told Kept = IsExplained begin heard told
+IsFound begin heard told (Broke i) = IsBlamed begin heard told i
+IsFound begin heard told TooMany = Unit {0}

@@ -1,0 +1,18 @@
+-- The sessions that still explain a side, each with how many TSDUs it has taken.
+use Rattle.std.specs.Prelude.{◌≡◌, ◌≤◌, ◌<◌, ◌⊎◌, ℕ, List, [], ◌∷◌, length, get_or}
+use Rattle.osi_judge.specs.declared.members.Member.{Member}
+use Rattle.osi_judge.specs.Explaining.{Remark, Explains}
+
+-- one of them explains what is said from here on
+abbrev pub SomeExplains : List (List ℕ) → List Member → List Remark → Type 0
+SomeExplains us [] ms = ⊥
+SomeExplains us (m ∷ members) ms = Explains us ms m.taken m.standing ⊎ SomeExplains us members ms
+
+-- the TSDUs of the other side go on from those that were heard
+abbrev pub Extends : List (List ℕ) → List (List ℕ) → Type 0
+Extends us heard = (i : ℕ) → i < length heard → get_or us i [] ≡ get_or heard i []
+
+-- the next remark came when so many TSDUs had passed, or more
+abbrev pub IsBehind : ℕ → List Remark → Type 0
+IsBehind before [] = Unit {0}
+IsBehind before (m ∷ ms) = before ≤ m.before

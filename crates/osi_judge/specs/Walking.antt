@@ -1,0 +1,76 @@
+-- How a session goes on to the next remark: it says it where it stands, or takes TSDUs first.
+use Rattle.std.specs.Prelude.{◌≡◌, ◌↔◌, ◌⊎◌, ℕ, true, List, ◌∷◌, Option, Some, None}
+use Rattle.osi_message.specs.Meanings.{Meaning}
+use Rattle.osi_message.specs.Words.{Word}
+use Rattle.osi_session.specs.Standing.{Seen, Count, CanSay, Takes, listens, after_count, answers_word}
+use Rattle.osi_judge.specs.declared.members.Member.{Member}
+use Rattle.osi_judge.specs.declared.walks.Walker.{Walker}
+use Rattle.osi_judge.specs.Explaining.{Remark, Explains}
+use Rattle.osi_judge.specs.Members.{SomeExplains, Extends, IsBehind}
+
+abbrev pub the_remark : Word → ℕ → ℕ → Remark
+the_remark w octets before = record { word = Some w; octets = octets; before = before }
+
+abbrev pub remarked : ℕ → ℕ → Word → Remark
+remarked octets before w = the_remark w octets before
+
+-- the remark is said here, and what comes later is explained from there
+abbrev pub SaidHere : List (List ℕ) → List Remark → Word → ℕ → Member → Type 0
+SaidHere us later w octets at = (next : Seen) × (CanSay at.standing w octets next) × (Explains us later at.taken next)
+
+-- a session that said the last remark earlier, and took all TSDUs since, explains no more than those that are known
+abbrev pub Covers : List (List ℕ) → List Remark → List Member → ℕ → Option Seen → Type 0
+Covers us later members taken None = Unit {0}
+Covers us later members taken (Some s) = Explains us later taken s → SomeExplains us members later
+
+abbrev pub WalkerCovers : List (List ℕ) → List Remark → List Member → Walker → Type 0
+WalkerCovers us later members w = Covers us later members w.at.taken w.said_before
+
+-- what the members that are known explain, and the session that goes on
+abbrev pub Open : List (List ℕ) → List Remark → Remark → List Member → Option Walker → Type 0
+Open us later m members None = SomeExplains us members later
+Open us later m members (Some w) = SomeExplains us members later ⊎ Explains us (m ∷ later) w.at.taken w.at.standing
+
+abbrev pub StillCovers : List (List ℕ) → List Remark → List Member → Option Walker → Type 0
+StillCovers us later members None = Unit {0}
+StillCovers us later members (Some w) = WalkerCovers us later members w
+
+-- whatever comes later, and whatever the other side says later
+abbrev pub Ever : List (List ℕ) → ℕ → (List (List ℕ) → List Remark → Type 0) → Type 0
+Ever heard before P = (us : List (List ℕ)) (later : List Remark) → Extends us heard → IsBehind before later → P us later
+
+-- saying the remark where the walker stands
+pub record SaysIt (us : List (List ℕ)) (later : List Remark) (w : Word) (octets : ℕ) (old new : List Member) (from to : Walker) : Type 0 where
+  pub same : to.at ≡ from.at
+  pub gives : WalkerCovers us later old from → ((SomeExplains us old later ⊎ SaidHere us later w octets from.at) ↔ SomeExplains us new later)
+  pub covers : WalkerCovers us later old from → WalkerCovers us later new to
+
+-- an answer that the remark is, or is not
+abbrev pub Answers : List (List ℕ) → List Remark → Word → Meaning → Member → List Member → List Member → Type 0
+Answers us later w reply at old new = (SomeExplains us old later ⊎ ((answers_word reply w ≡ true) × Explains us later at.taken at.standing)) ↔ SomeExplains us new later
+
+-- a session takes this TSDU, sends nothing, and stands so
+pub record Follows (s : Seen) (tsdu : List ℕ) (t : Seen) : Type 0 where
+  pub count : Count
+  pub listening : listens s ≡ true
+  pub taken : Takes s tsdu count
+  pub quiet : count.reply ≡ None
+  pub next : t ≡ after_count s count
+
+abbrev pub FollowsIn : Option Seen → List ℕ → Seen → Type 0
+FollowsIn None tsdu t = ⊥
+FollowsIn (Some s) tsdu t = Follows s tsdu t
+
+abbrev pub MayFollow : Option Seen → List ℕ → Option Seen → Type 0
+MayFollow s tsdu None = Unit {0}
+MayFollow s tsdu (Some t) = FollowsIn s tsdu t
+
+-- one step of a walker
+pub record Turns (us : List (List ℕ)) (later : List Remark) (m : Remark) (old new : List Member) (from : Walker) (to : Option Walker) : Type 0 where
+  pub gives : WalkerCovers us later old from → (Open us later m old (Some from) ↔ Open us later m new to)
+  pub covers : WalkerCovers us later old from → StillCovers us later new to
+
+-- so far a walk has lost nothing, and found nothing that is not
+pub record Walked (us : List (List ℕ)) (later : List Remark) (m : Remark) (old new : List Member) (from now : Walker) : Type 0 where
+  pub gives : Open us later m old (Some from) ↔ Open us later m new (Some now)
+  pub covers : WalkerCovers us later new now

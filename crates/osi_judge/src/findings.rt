@@ -1,0 +1,13 @@
+//! What is found of a side.
+
+/// What is found of one side of a connection.
+#[derive(Clone, Copy, PartialEq, Eq, Debug)]
+pub enum Finding {
+    /// Each TSDU that it said is explained.
+    Kept,
+    /// It broke the protocol at this one of its TSDUs, counted from 0: those before it are explained, and
+    /// those up to it are not.
+    Broke(usize),
+    /// Too many sessions explain it, so that it is not judged any more.
+    TooMany,
+}

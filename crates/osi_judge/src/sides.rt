@@ -1,0 +1,150 @@
+//! One side of a connection, judged by what it said and by what it may have heard.
+
+ghost use Rattle.std.specs.Prelude.{◌≡◌, ◌≤◌, ◌++◌, ◌∷◌, [], IfOk, OnOk, OnErr, List, length};
+ghost use Rattle.osi_session.specs.Standing.{seen_called, seen_calling};
+ghost use Rattle.osi_judge.specs.Explaining.{Told};
+ghost use Rattle.osi_judge.specs.Judging.{Watches, Keeps, IsFound};
+ghost use Rattle.osi_judge.specs.Sides.{watched};
+
+use crate::findings::Finding;
+use crate::members::{Member, none_is_left};
+use crate::telling::behind_tsdu;
+use osi_message::Octets;
+use osi_session::Standing;
+use std::alloc::{AllocError, Global};
+
+/// The most sessions that are kept of one side.
+const MOST_MEMBERS: usize = 4096;
+
+/// One side of a connection of class 0, whose TSDUs are told as they pass, between those of the other
+/// side (X.225). It keeps the sessions that explain all that the side said so far, each with how many
+/// TSDUs of the other side it has taken.
+#[derive(Drop)]
+pub struct Side {
+    alloc: Global,
+    begin: Standing,
+    heard: Vec<Octets>,
+    members: Vec<Member>,
+    told: usize,
+    before: usize,
+    finding: Finding,
+}
+
+impl Side {
+    /// The calling side, whose transport connection is there.
+    pub fn caller(alloc: Global) -> Result<Side, AllocError>
+        ensures begin { IfOk result (λ s. (watched s).begin ≡ seen_calling) }
+        ensures heard { IfOk result (λ s. ((watched s).heard ≡ []) × ((watched s).before ≡ 0)) }
+        ensures watches { IfOk result (λ s. Watches (watched s) []) }
+    {
+        let side = Side::beginning(alloc, Standing::calling())?;
+        Ok(side)
+    }
+
+    /// The called side.
+    pub fn called(alloc: Global) -> Result<Side, AllocError>
+        ensures begin { IfOk result (λ s. (watched s).begin ≡ seen_called) }
+        ensures heard { IfOk result (λ s. ((watched s).heard ≡ []) × ((watched s).before ≡ 0)) }
+        ensures watches { IfOk result (λ s. Watches (watched s) []) }
+    {
+        let side = Side::beginning(alloc, Standing::called())?;
+        Ok(side)
+    }
+
+    fn beginning(alloc: Global, begin: Standing) -> Result<Side, AllocError>
+        ensures begin { IfOk result (λ s. (watched s).begin ≡ begin) }
+        ensures heard { IfOk result (λ s. ((watched s).heard ≡ []) × ((watched s).before ≡ 0)) }
+        ensures watches { IfOk result (λ s. Watches (watched s) []) }
+    {
+        let mut members = Vec::new(alloc);
+        members.push(Member {
+            taken: 0,
+            standing: begin,
+        })?;
+        Ok(Side {
+            alloc,
+            begin,
+            heard: Vec::new(alloc),
+            members,
+            told: 0,
+            before: 0,
+            finding: Finding::Kept,
+        })
+    }
+
+    /// A TSDU of the other side, which has passed whole. `Err` changes nothing.
+    pub fn hear(&mut self, tsdu: &[u8]) -> Result<(), AllocError>
+        ensures heard { OnOk result ((watched self.new).heard ≡ (watched self.old).heard ++ tsdu.now ∷ []) }
+        ensures others { OnOk result (((watched self.new).begin ≡ (watched self.old).begin) × ((watched self.new).before ≡ (watched self.old).before)) }
+        ensures watches { OnOk result ((told : List Told) → Watches (watched self.old) told → Watches (watched self.new) told) }
+        ensures err { OnErr result (watched self.new ≡ watched self.old) }
+    {
+        let octets = Octets::copy(self.alloc, tsdu)?;
+        self.heard.push(octets)?;
+        Ok(())
+    }
+
+    /// A TSDU of this side, before whose first octet so many TSDUs of the other side had passed whole: as
+    /// many as before the last, or more. `Err` changes nothing.
+    #[tactic(auto, using(crate::proofs::SideLaws::broke_as, crate::proofs::SideLaws::too_many_as))]
+    pub fn tell(&mut self, tsdu: &[u8], before: usize) -> Result<(), AllocError>
+        requires order { (watched self.old).before ≤ before }
+        requires passed { before ≤ length (watched self.old).heard }
+        ensures others { OnOk result (((watched self.new).begin ≡ (watched self.old).begin) × ((watched self.new).heard ≡ (watched self.old).heard)) }
+        ensures order { OnOk result ((watched self.new).before ≤ before) }
+        ensures watches { OnOk result ((told : List Told) → Watches (watched self.old) told → Watches (watched self.new) (told ++ record { octets = tsdu.now; before = before } ∷ [])) }
+        ensures err { OnErr result (watched self.new ≡ watched self.old) }
+    {
+        match self.finding {
+            Finding::Kept => self.tell_kept(tsdu, before),
+            Finding::Broke(_) => Ok(()),
+            Finding::TooMany => Ok(()),
+        }
+    }
+
+    /// A TSDU of this side, which kept the protocol so far.
+    fn tell_kept(&mut self, tsdu: &[u8], before: usize) -> Result<(), AllocError>
+        requires kept { (watched self.old).finding ≡ Finding.Kept }
+        requires order { (watched self.old).before ≤ before }
+        requires passed { before ≤ length (watched self.old).heard }
+        ensures others { OnOk result (((watched self.new).begin ≡ (watched self.old).begin) × ((watched self.new).heard ≡ (watched self.old).heard)) }
+        ensures order { OnOk result ((watched self.new).before ≤ before) }
+        ensures watches { OnOk result ((told : List Told) → Keeps (watched self.old) told → Watches (watched self.new) (told ++ record { octets = tsdu.now; before = before } ∷ [])) }
+        ensures err { OnErr result (watched self.new ≡ watched self.old) }
+    {
+        let members = behind_tsdu(self.alloc, &self.heard, tsdu, before, &self.members)?;
+        if none_is_left(members.as_slice()) {
+            self.finding = Finding::Broke(self.told);
+            return Ok(());
+        }
+        if members.len() > MOST_MEMBERS || self.told == usize::MAX {
+            self.finding = Finding::TooMany;
+            return Ok(());
+        }
+        self.members = members;
+        self.told += 1;
+        self.before = before;
+        Ok(())
+    }
+
+    /// How many TSDUs of the other side it heard.
+    pub fn heard(&self) -> usize
+        ensures { result ≡ length (watched self.now).heard }
+    {
+        self.heard.len()
+    }
+
+    /// How many of them had passed before the last TSDU that it said.
+    pub fn before(&self) -> usize
+        ensures { result ≡ (watched self.now).before }
+    {
+        self.before
+    }
+
+    /// What is found of the side, by all that it said and by what it may have heard.
+    pub fn finding(&self) -> Finding
+        ensures { (told : List Told) → Watches (watched self.now) told → IsFound (watched self.now).begin (watched self.now).heard told result }
+    {
+        self.finding
+    }
+}

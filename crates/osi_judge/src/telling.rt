@@ -1,0 +1,91 @@
+//! The sessions that still explain a side behind another TSDU that it said.
+
+ghost use Rattle.std.specs.Prelude.{◌≡◌, ◌≤◌, ◌↔◌, ◌∷◌, ◌++◌, ◌||◌, IfOk, List, ℕ, length, map};
+ghost use Rattle.osi_message.specs.Reading.{word, said_by_units};
+ghost use Rattle.osi_session.specs.Joining.{acting_words};
+ghost use Rattle.osi_spdu.specs.Groups.{units_of};
+ghost use Rattle.osi_spdu.specs.Units.{said_by};
+ghost use Rattle.osi_judge.specs.Explaining.{Remark, Told, remarks_of};
+ghost use Rattle.osi_judge.specs.Members.{SomeExplains};
+ghost use Rattle.osi_judge.specs.Walking.{the_remark, remarked, Ever};
+
+use crate::members::Member;
+use crate::walks::walk;
+use osi_message::Octets;
+use osi_session::is_restart_unit;
+use osi_spdu::{Group, Spdu, read_tsdu};
+use std::alloc::{AllocError, Global};
+
+/// The members behind a unit of a TSDU of so many octets.
+fn behind_unit(
+    alloc: Global,
+    heard: &[Octets],
+    unit: &Spdu,
+    octets: usize,
+    before: usize,
+    members: &[Member],
+) -> Result<Vec<Member>, AllocError>
+    requires { before ≤ length heard.now }
+    ensures { IfOk result (λ next. Ever heard.now before (λ us later.
+        SomeExplains us members.now (the_remark (word (said_by unit.now)) octets before ∷ later) ↔ SomeExplains us next.items later)) }
+{
+    let mut next = Vec::new(alloc);
+    'members: for member in members {
+        walk(alloc, heard, unit, octets, before, *member, &mut next)?;
+    }
+    Ok(next)
+}
+
+fn either(one: bool, other: bool) -> bool
+    ensures { result ≡ (one || other) }
+{
+    one || other
+}
+
+/// The members behind the units of a TSDU of so many octets, in the order in which they act: the first unit
+/// after those behind it, and not where one of these is an RS.
+fn behind_units(
+    alloc: Global,
+    heard: &[Octets],
+    group: &Group,
+    octets: usize,
+    before: usize,
+    members: &[Member],
+) -> Result<Vec<Member>, AllocError>
+    requires { before ≤ length heard.now }
+    ensures { IfOk result (λ next. Ever heard.now before (λ us later.
+        SomeExplains us members.now (map (remarked octets before) (acting_words (said_by_units (units_of group.now))) ++ later) ↔ SomeExplains us next.items later)) }
+{
+    let first = *group.first();
+    let mut behind = group.behind();
+    let mut now = Vec::from_slice(alloc, members)?;
+    let mut restarts = false;
+    'units: while let Some(unit) = behind.next() {
+        restarts = either(restarts, is_restart_unit(&unit));
+        now = behind_unit(alloc, heard, &unit, octets, before, &now)?;
+    }
+    if restarts {
+        return Ok(now);
+    }
+    let last = behind_unit(alloc, heard, &first, octets, before, &now)?;
+    Ok(last)
+}
+
+/// The members behind a TSDU; none behind one that is no session units.
+#[tactic(auto, unfolding(osi_message::specs::Reading::said_at))]
+pub(crate) fn behind_tsdu(
+    alloc: Global,
+    heard: &[Octets],
+    tsdu: &[u8],
+    before: usize,
+    members: &[Member],
+) -> Result<Vec<Member>, AllocError>
+    requires { before ≤ length heard.now }
+    ensures { IfOk result (λ next. Ever heard.now before (λ us later.
+        SomeExplains us members.now (remarks_of (record { octets = tsdu.now; before = before }) ++ later) ↔ SomeExplains us next.items later)) }
+{
+    match read_tsdu(tsdu) {
+        Ok(group) => behind_units(alloc, heard, &group, tsdu.len(), before, members),
+        Err(_) => Ok(Vec::new(alloc)),
+    }
+}

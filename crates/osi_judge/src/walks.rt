@@ -1,0 +1,168 @@
+//! How a session goes on to the next unit that its side said: it says it where it stands, or takes TSDUs of
+//! the other side first.
+
+ghost use Rattle.std.specs.Prelude.{◌≡◌, ◌<◌, ◌≤◌, ◌+◌, ◌↔◌, ◌⊎◌, ◌∷◌, IfOk, OnOk, IfSome, length, get_or, [], true, List, ℕ, Some};
+ghost use Rattle.osi_message.specs.Reading.{word};
+ghost use Rattle.osi_session.specs.Steps.{reply_of};
+ghost use Rattle.osi_spdu.specs.Units.{said_by};
+ghost use Rattle.osi_judge.specs.Explaining.{Remark, Explains};
+ghost use Rattle.osi_judge.specs.Members.{SomeExplains};
+ghost use Rattle.osi_judge.specs.Walking.{the_remark, SaysIt, Answers, MayFollow, Turns, Ever};
+
+use crate::members::{Member, add};
+use osi_message::Octets;
+use osi_session::{Reply, Standing};
+use osi_spdu::Spdu;
+use std::alloc::{AllocError, Global};
+
+/// A session on its way to the next unit of its side.
+#[derive(Clone, Copy)]
+pub(crate) struct Walker {
+    /// Where it is.
+    pub(crate) at: Member,
+    /// How a session stands that said the unit at an earlier place, and took the TSDUs since.
+    pub(crate) said_before: Option<Standing>,
+}
+
+/// Whether a session that said the unit earlier stands so by now.
+fn is_covered(said_before: Option<Standing>, said: &Standing) -> bool
+    ensures { result ≡ true → said_before ≡ Some said.now }
+{
+    match said_before {
+        Some(before) => before.is_same(said),
+        None => false,
+    }
+}
+
+/// Says the unit where the walker stands, if it may.
+fn say_it(
+    unit: &Spdu,
+    octets: usize,
+    walker: Walker,
+    next: &mut Vec<Member>,
+) -> Result<Walker, AllocError>
+    ensures { IfOk result (λ w. (us : List (List ℕ)) (later : List Remark) → SaysIt us later (word (said_by unit.now)) octets next.old.items next.new.items walker w) }
+{
+    let at = walker.at;
+    let Ok(said) = at.standing.say(unit, octets) else {
+        return Ok(walker);
+    };
+    if is_covered(walker.said_before, &said) {
+        return Ok(walker);
+    }
+    let taken = at.taken;
+    add(
+        next,
+        Member {
+            taken,
+            standing: said,
+        },
+    )?;
+    Ok(Walker {
+        at,
+        said_before: Some(said),
+    })
+}
+
+/// Counts the answer to a TSDU that was taken, where the unit is this answer.
+fn answer(unit: &Spdu, reply: Reply, at: Member, next: &mut Vec<Member>) -> Result<(), AllocError>
+    ensures { OnOk result ((us : List (List ℕ)) (later : List Remark) → Answers us later (word (said_by unit.now)) (reply_of reply) at next.old.items next.new.items) }
+{
+    if !reply.is_said_by(unit) {
+        return Ok(());
+    }
+    add(next, at)
+}
+
+/// How a session stands that takes this TSDU too; none where it answers it, or takes nothing.
+fn follow(
+    alloc: Global,
+    said_before: Option<Standing>,
+    tsdu: &[u8],
+) -> Result<Option<Standing>, AllocError>
+    ensures { IfOk result (λ t. MayFollow said_before tsdu.now t) }
+{
+    let Some(standing) = said_before else {
+        return Ok(None);
+    };
+    if !standing.listens() {
+        return Ok(None);
+    }
+    let taking = standing.take(alloc, tsdu)?;
+    match taking.reply {
+        None => Ok(Some(taking.next)),
+        Some(_) => Ok(None),
+    }
+}
+
+/// The octets of one of these TSDUs.
+fn tsdu_at(heard: &[Octets], place: usize) -> &[u8]
+    requires { place < length heard.now }
+    ensures { result.now ≡ get_or heard.now place [] }
+{
+    heard[place].as_slice()
+}
+
+/// One step of a walker that has not taken all that had passed: it says the unit, if it may, and takes the
+/// next TSDU. None where it can't go on.
+fn turn(
+    alloc: Global,
+    heard: &[Octets],
+    unit: &Spdu,
+    octets: usize,
+    walker: Walker,
+    next: &mut Vec<Member>,
+) -> Result<Option<Walker>, AllocError>
+    requires { walker.at.taken < length heard.now }
+    ensures turns { IfOk result (λ r. (before : ℕ) → walker.at.taken < before →
+        Ever heard.now before (λ us later. Turns us later (the_remark (word (said_by unit.now)) octets before) next.old.items next.new.items walker r)) }
+    ensures moved { IfOk result (λ r. IfSome r (λ w. w.at.taken ≡ walker.at.taken + 1)) }
+{
+    let said = say_it(unit, octets, walker, next)?;
+    if !walker.at.standing.listens() {
+        return Ok(None);
+    }
+    let taken = walker.at.taken;
+    let tsdu = tsdu_at(heard, taken);
+    let taking = walker.at.standing.take(alloc, tsdu)?;
+    let at = Member {
+        taken: taken + 1,
+        standing: taking.next,
+    };
+    if let Some(reply) = taking.reply {
+        answer(unit, reply, at, next)?;
+        return Ok(None);
+    }
+    let said_before = follow(alloc, said.said_before, tsdu)?;
+    Ok(Some(Walker { at, said_before }))
+}
+
+/// The members behind a unit, of what one member explains: it says the unit where it stands, or takes TSDUs
+/// first, as many as had passed. A session that said the unit and then took what another took before
+/// it, and that stands as the other, stands for both.
+pub(crate) fn walk(
+    alloc: Global,
+    heard: &[Octets],
+    unit: &Spdu,
+    octets: usize,
+    before: usize,
+    member: Member,
+    next: &mut Vec<Member>,
+) -> Result<(), AllocError>
+    requires { before ≤ length heard.now }
+    ensures { OnOk result (Ever heard.now before (λ us later.
+        (SomeExplains us next.old.items later ⊎ Explains us (the_remark (word (said_by unit.now)) octets before ∷ later) member.taken member.standing) ↔ SomeExplains us next.new.items later)) }
+{
+    let mut walker = Walker {
+        at: member,
+        said_before: None,
+    };
+    'takes: while walker.at.taken < before {
+        match turn(alloc, heard, unit, octets, walker, next)? {
+            Some(on) => walker = on,
+            None => return Ok(()),
+        }
+    }
+    let _last = say_it(unit, octets, walker, next)?;
+    Ok(())
+}
