@@ -87,7 +87,8 @@ class EndProtocol(asyncio.Protocol):
         # Tasks that wait, the oldest first; and how many of them wait for room.
         self._waiters: Dict[_Waiter, None] = {}
         self._draining = self._turn = 0
-        self._reading, self._paused, self._feeding, self._was_live = True, False, False, False
+        self._reading = True
+        self._paused = self._feeding = self._telling = self._was_live = False
         # How far closing is: asked for; the peer's or our direction is closed; the transport is gone.
         self._closing = self._came_to_end = self._half_closed = self._closed = self._aborted = False
         self._lingering: Optional[asyncio.TimerHandle] = None
@@ -390,7 +391,14 @@ class EndProtocol(asyncio.Protocol):
             self._go_on()
 
     def _tell(self) -> None:
+        """Something has happened: tasks that wait are asked once for all that happens in this turn of the event loop."""
         self._turn += 1
+        if self._waiters and not self._telling:
+            self._telling = True
+            asyncio.get_running_loop().call_soon(self._tell_now)
+
+    def _tell_now(self) -> None:
+        self._telling = False
         for waiter in tuple(self._waiters):
             waiter.tell()
 
