@@ -51,6 +51,9 @@
  * while the first is 0: a program takes none but a library that it was compiled for. */
 #define OSI_VERSION "0.1.0"
 
+/* The same as a number, for #if: 10,000 times the first, 100 times the second, and the third. */
+#define OSI_VERSION_NUM 100
+
 #ifdef __cplusplus
 extern "C" {
 #endif
