@@ -1,4 +1,4 @@
-# make: proves the program and builds it; every half minute it says how far it is (scripts/proving).
+# make: proves the program and builds it, several crates at once; it says when each begins and ends (scripts/proving).
 # make test: proves and tests everything, as the gate does (bash .ci/run), and then runs the tests of what is not Rattle: the
 # ladders, the programs and bindings, the packages, the pages (scripts/test_all). What needs something that isn't here is
 # named and counted as skipped.
