@@ -2,6 +2,7 @@
 use Rattle.std.specs.Prelude.{ℕ, ◌≤◌, List, length, Option}
 use Rattle.std.specs.Io.KnownBytes.{Appends}
 use Rattle.osi_script.specs.Scripts.{lines_of}
+use Rattle.osi_tool.specs.Show.{BeginsToAppend}
 use Rattle.osi_transcript.specs.Numbered.{numbered}
 use Rattle.osi_transcript.specs.Playing.{Transcribes}
 
@@ -15,3 +16,10 @@ pub record Pairs (text : List ℕ) (old new : Option (List ℕ)) (status : ℕ) 
   pub lines : List ℕ
   pub tells : Tells text lines status
   pub written : Appends old new lines
+
+-- the text has a transcript, of which a prefix is written, and nothing else
+pub record PairsPart (text : List ℕ) (old new : Option (List ℕ)) : Type 0 where
+  pub lines : List ℕ
+  pub status : ℕ
+  pub tells : Tells text lines status
+  pub begun : BeginsToAppend old new lines

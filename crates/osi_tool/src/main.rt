@@ -15,6 +15,7 @@ mod showing;
 #[cfg(test)]
 mod tests;
 mod texts;
+mod watched;
 mod words;
 
 use clap::Error;
@@ -26,6 +27,7 @@ use showing::show;
 use std::process::ExitCode;
 use std::rt::Env;
 use std::{env, io};
+use watched::{WatchedReader, WatchedWriter};
 
 fn main(rt: HostRuntime) -> ExitCode {
     let status = match run(&rt) {
@@ -54,9 +56,11 @@ fn answer<R: Input + Print + AllocGlobal>(rt: &R, words: &[String]) -> Result<u8
 
 /// Does a job, and answers the status.
 fn done<R: Input + Print + AllocGlobal>(rt: &R, job: Job) -> Result<u8, ProgramFault> {
+    let mut reader = WatchedReader::new(rt.reader());
+    let mut writer = WatchedWriter::new(io::writer(rt));
     let answer = match job {
-        Job::Show => show(rt.alloc(), &mut rt.reader(), &mut io::writer(rt)),
-        Job::Pair => pair(rt.alloc(), &mut rt.reader(), &mut io::writer(rt)),
+        Job::Show => show(rt.alloc(), &mut reader, &mut writer),
+        Job::Pair => pair(rt.alloc(), &mut reader, &mut writer),
     };
     match answer {
         Ok(status) => Ok(status),

@@ -5,6 +5,7 @@ use crate::jobs::Job;
 use crate::pairing::pair;
 use crate::showing::show;
 use crate::texts::LONGEST_INPUT;
+use crate::watched::{WatchedReader, WatchedWriter};
 use crate::words::job;
 use clap::error::ErrorKind;
 use std::alloc::Global;
@@ -101,7 +102,11 @@ fn ends_with(written: &[u8], lines: &str) -> Result<(), Fail> {
 
 /// What `show` answers.
 fn shown(alloc: Global, source: &mut Source<'_>, out: &mut Vec<u8>) -> Result<u8, ToolFault> {
-    show(alloc, source, out)
+    show(
+        alloc,
+        &mut WatchedReader::new(source),
+        &mut WatchedWriter::new(out),
+    )
 }
 
 /// `show` writes these lines.
@@ -194,7 +199,11 @@ fn a_reader_gives_octet_by_octet_or_fails(rt: HostRuntime) -> Result<(), Fail> {
 }
 
 fn shown_to(alloc: Global, writer: &mut Broken) -> Result<u8, ToolFault> {
-    show(alloc, &mut at_once(DATA.as_bytes()), writer)
+    show(
+        alloc,
+        &mut WatchedReader::new(at_once(DATA.as_bytes())),
+        &mut WatchedWriter::new(writer),
+    )
 }
 
 #[test]
@@ -361,7 +370,11 @@ line 4 NotBroken
 
 /// What `pair` answers.
 fn told(alloc: Global, source: &mut Source<'_>, out: &mut Vec<u8>) -> Result<u8, ToolFault> {
-    pair(alloc, source, out)
+    pair(
+        alloc,
+        &mut WatchedReader::new(source),
+        &mut WatchedWriter::new(out),
+    )
 }
 
 fn is_told(alloc: Global, out: &mut Vec<u8>) -> Result<(), Fail> {
@@ -375,7 +388,11 @@ fn a_script_is_run(rt: HostRuntime) -> Result<(), Fail> {
 }
 
 fn told_to(alloc: Global, writer: &mut Broken) -> Result<u8, ToolFault> {
-    pair(alloc, &mut at_once(SCRIPT.as_bytes()), writer)
+    pair(
+        alloc,
+        &mut WatchedReader::new(at_once(SCRIPT.as_bytes())),
+        &mut WatchedWriter::new(writer),
+    )
 }
 
 fn is_not_told(alloc: Global, out: &mut Vec<u8>) -> Result<(), Fail> {

@@ -63,7 +63,9 @@ fn has_starved(pair: &Pair) -> bool
 
 /// Whether an end has ended for want of memory.
 fn is_starved(stack: &Stack) -> bool
-    ensures { MatchBool result (stack.now.end.carrier.ended ≡ Some EndReason.NoMemory) (stack.now.end.carrier.ended ≢ Some EndReason.NoMemory) }
+    ensures { MatchBool result
+        (stack.now.end.carrier.ended ≡ Some EndReason.NoMemory)
+        (stack.now.end.carrier.ended ≢ Some EndReason.NoMemory) }
 {
     matches!(stack.ended(), Some(EndReason::NoMemory))
 }
