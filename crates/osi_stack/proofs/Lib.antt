@@ -32,6 +32,7 @@ pub mod Knowing
 pub mod DisconnectKeeps
 pub mod DisconnectSettles
 pub mod DisconnectLeaves
+pub mod EndedSilent
 pub mod Settling
 pub mod Empties
 pub mod Opened

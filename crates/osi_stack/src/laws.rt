@@ -293,7 +293,8 @@ pub fn parts_are_one_data()
 /// carried is what was, and behind it a DR with reason 128; what the connection had still to send is gone with its
 /// link (`asks`). In class 0 the end ends as by a close, and what is to be carried stays (`zero`). Where the
 /// transport connection is not open the carrier is left as it is (`rests`). Nothing of the connection waits to be
-/// shown (`hushed`), and its session, if it has one still, has ended (`over`).
+/// shown (`hushed`), its session, if it has one still, has ended (`over`), and what has ended shows nothing, whatever
+/// happens to it (`silent`).
 pub fn what_a_disconnect_leaves()
     ensures others { (r : ℕ) (e : End) → (disconnects r e).carrier.ended ≡ None → LeavesOthers r e (disconnects r e) }
     ensures lasts { (r : ℕ) (e : End) → e.carrier.ended ≡ None → e.carrier.class ≢ Some Zero → (disconnects r e).carrier.ended ≡ None }
@@ -304,6 +305,8 @@ pub fn what_a_disconnect_leaves()
     ensures rests { (r : ℕ) (e : End) → open_link r e.carrier ≡ None → (disconnects r e).carrier ≡ e.carrier }
     ensures hushed { (r : ℕ) (e : End) → waiting_at r (disconnects r e).lines ≡ [] }
     ensures over { (r : ℕ) (s : Listener) (e : End) → kept_at r (disconnects r e).lines ≡ Some s → is_ended s.state.phase ≡ true }
+    ensures silent { (r : ℕ) (input : Input) (s : Listener) (e : End) → kept_at r e.lines ≡ Some s → is_ended s.state.phase ≡ true →
+        waiting_at r (to_session r input e).lines ≡ waiting_at r e.lines }
 {}
 
 /// While the carrier of an end lasts, the sessions have heard all that it told, between any two calls.

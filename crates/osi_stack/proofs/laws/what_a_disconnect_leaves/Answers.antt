@@ -1,4 +1,5 @@
 use Rattle.osi_stack.proofs.DisconnectLeaves.{leaves_others, goes_on, asks_peer, ends_in_zero, rests_unlinked, hushes, is_over_then}
+use Rattle.osi_stack.proofs.EndedSilent.{session_silent}
 use Rattle.osi_stack.proofs.laws.what_a_disconnect_leaves.Goals as goal
 
 pub returns : goal.returns
@@ -10,4 +11,5 @@ returns c = record {
   rests = rests_unlinked;
   hushed = hushes;
   over = is_over_then;
+  silent = session_silent;
 }
