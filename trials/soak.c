@@ -62,7 +62,8 @@ static struct {
 
 static void stop(const char *why, uint32_t code)
 {
-    printf("FAILED: %s (%s) after %llu messages\n", why, osi_code_name(code), (unsigned long long)s.received);
+    printf("FAILED: %s%s%s after %llu messages\n", why, code == OSI_OK ? "" : ": ", code == OSI_OK ? "" : osi_code_name(code),
+           (unsigned long long)s.received);
     exit(1);
 }
 
