@@ -24,7 +24,7 @@ def _octets(value: bytes) -> bytes:
 
 def _address(octets: bytes) -> int:
     """Where octets lie, as long as they are kept."""
-    return ctypes.cast(octets, ctypes.c_void_p).value or 0
+    return ctypes.cast(ctypes.c_char_p(octets), ctypes.c_void_p).value or 0
 
 
 def _lent(octets: bytes) -> Octets:
@@ -294,7 +294,7 @@ class End:
         octets = Octets()
         with self._lock:
             self._osi.osi_outgoing(byref(self._slot), byref(octets))
-        return octets.length
+        return int(octets.length)
 
     def taken(self, octets: int) -> None:
         """So many of them, the first, have been carried. SLOT_EMPTY, BAD_ARGUMENT (more than there are)."""

@@ -6,7 +6,7 @@ import os
 import shutil
 import subprocess
 from ctypes import POINTER, c_bool, c_char_p, c_size_t, c_uint8, c_uint16, c_uint32, c_uint64, c_void_p
-from typing import Iterator, Optional
+from typing import Any, Dict, Iterator, List, Optional, Tuple
 
 VERSION = "0.1.0"
 # The shared library by the name that it has for programs of this version: that of its soname.
@@ -115,7 +115,7 @@ STRUCTS = {
 
 _DATA = [c_void_p, c_size_t]
 # What each function takes behind the slot, and what it answers.
-FUNCTIONS = {
+FUNCTIONS: Dict[str, Tuple[List[Any], Any]] = {
     "osi_caller": ([POINTER(TermsOfC)], c_uint32),
     "osi_called": ([POINTER(TermsOfC)], c_uint32),
     "osi_free": ([], None),
@@ -158,7 +158,7 @@ FUNCTIONS = {
     "osi_addresses": ([c_uint16, POINTER(AddressingOfC)], c_uint32),
 }
 # What those take that need no slot, and answer a text.
-TEXTS = {
+TEXTS: Dict[str, List[Any]] = {
     "osi_version": [],
     "osi_code_name": [c_uint32],
     "osi_indication_name": [c_uint32],

@@ -1,0 +1,122 @@
+#!/usr/bin/env python3
+"""The called side of a gateway over asyncio: it takes one byte connection, accepts what is asked for, confirms each
+point, answers when it is given the tokens, and releases the connection.
+
+    server.py [--port 4000] [--classes 0|2|20] [--window 1..15] [--tsdu OCTETS] [--wait SECONDS] [--log FILE]
+
+It prints the port that it listens on (0 takes a free one), and at the end how much data it took. A peer that sends
+nothing for --wait seconds is given up.
+"""
+import argparse
+import asyncio
+import sys
+
+from client import words
+from osi_session import Classes, Data, Given, Minor, SessionError, Sizes, Terms, Units, aio
+
+UNITS = Units.HALF_DUPLEX | Units.MINOR_SYNC | Units.NEGOTIATED_RELEASE
+
+
+class Watched(aio.EndProtocol):
+    """A line that is closed at once when its peer has sent nothing for a while."""
+
+    patience = 10.0
+
+    def connection_made(self, transport):
+        super().connection_made(transport)
+        self.came = False
+        self.watching = asyncio.get_running_loop().call_later(self.patience, self.look)
+
+    def data_received(self, data):
+        self.came = True
+        super().data_received(data)
+
+    def connection_lost(self, error):
+        self.watching.cancel()
+        super().connection_lost(error)
+
+    def look(self):
+        if not self.came:
+            self.silent()
+            self.abort()
+            return
+        self.came = False
+        self.watching = asyncio.get_running_loop().call_later(self.patience, self.look)
+
+
+class Server:
+    def __init__(self, sizes, log):
+        self.sizes, self.log = sizes, log
+        self.messages = self.octets = 0
+        self.shown, self.done = set(), asyncio.Event()
+
+    def tell(self, text):
+        print(f"right {text}", file=self.log, flush=True)
+
+    def silent(self, line):
+        self.tell("gives up: the peer is silent")
+        for reference in range(1, line.end.live() + 1):
+            if reference not in self.shown:
+                self.tell(f"{reference} was never shown, OSI_PHASE_{line.end.phase(reference).name}")
+
+    async def did(self, session, verb, call):
+        """Awaits a call, and writes its line."""
+        try:
+            await call
+            self.tell(f"{session.reference} {verb} ok")
+        except SessionError as error:
+            self.tell(f"{session.reference} {verb} refused: {error}")
+            raise
+
+    async def serve(self, line):
+        line.silent = lambda: self.silent(line)
+        try:
+            await line.answer_sessions(self.answer)
+        finally:
+            self.done.set()
+
+    async def answer(self, session):
+        self.shown.add(session.reference)
+        self.tell(f"{session.reference} {words(session.asked)}")
+        accepted = session.accept(session.asked.requirements & UNITS, 0, sizes=self.sizes)
+        await self.did(session, "accept", accepted)
+        try:
+            async for shown in session:
+                self.tell(f"{session.reference} {words(shown)}")
+                await self.react(session, shown)
+        except aio.SessionOver as over:
+            self.tell(f"{session.reference} {words(over.indication)}")
+
+    async def react(self, session, shown):
+        if isinstance(shown, Data):
+            self.messages += 1
+            self.octets += len(shown.user_data)
+        elif isinstance(shown, Minor) and shown.confirm:
+            await self.did(session, "minorconfirm", session.minor_confirm(shown.number))
+        elif isinstance(shown, Given):
+            await self.did(session, "data", session.data(f"{self.messages} messages".encode()))
+            await self.did(session, "release", session.release())
+
+
+async def main():
+    options = argparse.ArgumentParser(description=__doc__.splitlines()[0])
+    options.add_argument("--port", type=int, default=4000)
+    options.add_argument("--classes", default="20")
+    options.add_argument("--window", type=int, default=15)
+    options.add_argument("--tsdu", type=int, default=0)
+    options.add_argument("--wait", type=float, default=10)
+    options.add_argument("--log", type=argparse.FileType("w"), default=sys.stdout)
+    options = options.parse_args()
+    classes = Classes(("0" in options.classes) | ("2" in options.classes) << 1)
+    Watched.patience = options.wait
+    server = Server(Sizes(options.tsdu, options.tsdu), options.log)
+    terms = Terms(classes, window=options.window)
+    listener = await aio.serve(server.serve, "127.0.0.1", options.port, terms, Watched)
+    print(f"port {listener.sockets[0].getsockname()[1]}", flush=True)
+    await server.done.wait()
+    listener.close()
+    print(f"took {server.messages} messages, {server.octets} octets")
+
+
+if __name__ == "__main__":
+    asyncio.run(main())

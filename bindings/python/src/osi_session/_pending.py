@@ -1,0 +1,153 @@
+"""What a line keeps: the indications that nobody has fetched, and the octets that answer its peer."""
+from __future__ import annotations
+
+from collections import deque
+from typing import Deque, Dict, Iterator, List, Optional, Set, Tuple
+
+from ._end import End
+from ._values import Indication
+
+MOST_INDICATIONS = 64
+"""A connection is full if so many of its indications are pending."""
+MOST_OCTETS = 262_144
+"""It is also full if its pending indications have so many octets."""
+_EACH = 512
+"""What an indication counts beside its user data, in octets."""
+
+
+def _weight(indication: Indication) -> int:
+    return _EACH + len(getattr(indication, "user_data", b""))
+
+
+class _Share:
+    """What is pending of one connection."""
+
+    __slots__ = ("count", "octets", "unpaid")
+
+    def __init__(self) -> None:
+        self.count = self.octets = self.unpaid = 0
+
+    @property
+    def is_full(self) -> bool:
+        return self.count >= MOST_INDICATIONS or self.octets >= MOST_OCTETS
+
+
+class Pending:
+    """How many indications of each connection are pending, and their octets. Unpaid are those that came while this side
+    waited for credit of their connection and got none."""
+
+    def __init__(self) -> None:
+        self.octets = self.unpaid = 0
+        self._shares: Dict[int, _Share] = {}
+        self._full: Set[int] = set()
+        self._owing: Set[int] = set()
+
+    @property
+    def is_full(self) -> bool:
+        """Whether some connection has so many that no more should be read."""
+        return bool(self._full)
+
+    @property
+    def owing(self) -> Tuple[int, ...]:
+        """The connections of which unpaid indications are pending."""
+        return tuple(self._owing)
+
+    def has(self, reference: int) -> bool:
+        """Whether something of this connection is pending."""
+        return reference in self._shares
+
+    def most_octets(self) -> Optional[int]:
+        """The connection of which most octets are pending."""
+        return max(self._shares, key=lambda of: self._shares[of].octets) if self._shares else None
+
+    def most_unpaid(self) -> Optional[int]:
+        """The connection of which most are unpaid."""
+        return max(self._owing, key=lambda of: self._shares[of].unpaid) if self._owing else None
+
+    def add(self, indication: Indication, is_unpaid: bool) -> None:
+        share = self._shares.setdefault(indication.reference, _Share())
+        weight = _weight(indication)
+        self._set(indication.reference, share.count + 1, share.octets + weight, share.unpaid + weight * is_unpaid)
+
+    def fetched(self, indication: Indication) -> None:
+        share = self._shares.get(indication.reference)
+        if share is not None:
+            octets = share.octets - _weight(indication)
+            self._set(indication.reference, share.count - 1, octets, min(share.unpaid, octets))
+
+    def paid(self, reference: int) -> None:
+        """The connection has given credit."""
+        share = self._shares[reference]
+        self._set(reference, share.count, share.octets, 0)
+
+    def forget(self, reference: int) -> None:
+        """The pending indications of this connection were dropped."""
+        if reference in self._shares:
+            self._set(reference, 0, 0, 0)
+
+    def _set(self, reference: int, count: int, octets: int, unpaid: int) -> None:
+        share = self._shares[reference]
+        self.octets += octets - share.octets
+        self.unpaid += unpaid - share.unpaid
+        share.count, share.octets, share.unpaid = count, octets, unpaid
+        for references, holds in ((self._full, share.is_full), (self._owing, unpaid > 0)):
+            (references.add if holds else references.discard)(reference)
+        if count == 0:
+            del self._shares[reference]
+
+
+class Answers:
+    """How many of the outgoing octets the end wrote by itself while it was fed (acknowledgements, refusals), and
+    that were not taken yet. A peer that sends and does not read makes these grow, and nothing else of them."""
+
+    def __init__(self) -> None:
+        self.octets = 0
+        self.taken = 0
+        """How many outgoing octets were taken since the end was made."""
+        self._runs: Deque[List[int]] = deque()
+
+    def came(self, grown: int, outgoing: int) -> None:
+        """So many octets came to the end of what is outgoing now."""
+        if grown <= 0:
+            return
+        end = self.taken + outgoing
+        if self._runs and self._runs[-1][0] == end - grown:
+            self._runs[-1][0] = end
+            self._runs[-1][1] += grown
+        else:
+            self._runs.append([end, grown])
+        self.octets += grown
+
+    def went(self, octets: int) -> None:
+        """So many outgoing octets, the first, were taken."""
+        self.taken += octets
+        while self._runs and self._runs[0][0] <= self.taken:
+            self.octets -= self._runs.popleft()[1]
+
+
+class Feed:
+    """What came from the peer and was not fed yet, in order."""
+
+    def __init__(self, end: End) -> None:
+        self._end = end
+        self._pieces: Deque[bytes] = deque()
+        self._current: Optional[Iterator[Indication]] = None
+
+    @property
+    def is_empty(self) -> bool:
+        return self._current is None and not self._pieces
+
+    def add(self, piece: bytes) -> None:
+        self._pieces.append(piece)
+
+    def next(self) -> Optional[Indication]:
+        """Feeds up to the next indication; None if all is fed."""
+        while True:
+            if self._current is None:
+                if not self._pieces:
+                    return None
+                self._current = iter(self._end.feed_all(self._pieces.popleft()))
+            indication = next(self._current, None)
+            if indication is not None:
+                return indication
+            self._current = None
