@@ -300,15 +300,15 @@ class Sessions(Case):
                 made.append((self, indication))
                 super().indication_received(indication)
 
-        for serve, handler in ((aio.serve_sessions, self.answer), (aio.serve, lambda line: line.answer_sessions(self.answer))):
+        wanted = [(False, Connect), (True, Connected), (False, Data), (False, Release), (True, Released)]
+        by_lines = lambda line: line.answer_sessions(self.answer)
+        for serve, handler in ((aio.serve_sessions, self.answer), (aio.serve, by_lines)):
             made.clear()
             listener = await serve(handler, "127.0.0.1", 0, BOTH, protocol=Mine)
             async with aio.dial("127.0.0.1", port_of(listener), protocol=Mine) as line:
                 async with line.session(self.opening(b"")) as session:
                     await session.data(b"hello")
-            kinds = [(one is line, type(indication)) for one, indication in made]
-            self.assertEqual(sorted(map(str, kinds)), sorted(map(str, [
-                (False, Connect), (True, Connected), (False, Data), (False, Release), (True, Released)])))
+            self.assertCountEqual([(one is line, type(indication)) for one, indication in made], wanted)
             listener.close()
 
     async def test_extra_info(self):

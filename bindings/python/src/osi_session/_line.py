@@ -4,7 +4,21 @@ from __future__ import annotations
 import asyncio
 from collections import deque
 from contextlib import asynccontextmanager, suppress
-from typing import Any, AsyncIterator, Awaitable, Callable, Deque, Dict, Optional, Set, Type, TypeVar, Union, cast, overload
+from typing import (
+    Any,
+    AsyncIterator,
+    Awaitable,
+    Callable,
+    Deque,
+    Dict,
+    Optional,
+    Set,
+    Type,
+    TypeVar,
+    Union,
+    cast,
+    overload,
+)
 
 from ._codes import Code, Phase, SessionError
 from ._end import End
@@ -52,7 +66,6 @@ class EndProtocol(asyncio.Protocol):
     indications as they come overrides ``indication_received``. One line is used in one event loop, by its thread alone.
 
     Memory stays bounded. If a connection has 64 pending indications, or 256 KiB of them, the line reads no more until
-    Memory stays bounded. If a connection has 64 pending indications, or 256 KiB of them, the line reads no more until
     some are fetched, so TCP slows the peer down. It does read on while somebody waits for room (``drain``, or a call
     of a session), because the peer's acknowledgements come in the same octets. Then a connection is given up (see
     ``give_up``) if ``most`` octets are pending, or ``most_unpaid`` that came while their connections gave no credit: it
@@ -99,7 +112,7 @@ class EndProtocol(asyncio.Protocol):
     @asynccontextmanager
     async def session(self, asked: Opening = Opening()) -> AsyncIterator[CallingSession]:
         """Asks for a connection and waits for the answer: ``async with line.session(..) as session``. SessionOver if it
-        is refused, SessionError as of ``End.connect``; while the first connection of the line is not answered, it waits.
+        is refused, SessionError as of ``End.connect``; while the line's first connection is not answered, it waits.
 
         After the block the session is closed (``Session.close``), or given up if an exception comes out of it."""
         self.stays = True
@@ -226,9 +239,9 @@ class EndProtocol(asyncio.Protocol):
         await self.until(lambda: self._closed)
 
     def close(self) -> None:
-        """Closes the byte connection once all is written, also what waits for the peer's credit. Over plain TCP it then
-        waits until the peer has closed too, so that nothing on its way is lost. If the peer takes nothing for ``linger``
-        seconds, it closes at once."""
+        """Closes the byte connection once all is written, also what waits for the peer's credit. Over plain TCP it
+        then waits until the peer has closed too, so that nothing on its way is lost. If the peer takes nothing for
+        ``linger`` seconds, it closes at once."""
         if self._lingering is None:
             self._linger()
         self._closing = True
@@ -391,7 +404,7 @@ class EndProtocol(asyncio.Protocol):
             self._go_on()
 
     def _tell(self) -> None:
-        """Something has happened: tasks that wait are asked once for all that happens in this turn of the event loop."""
+        """Something has happened: tasks that wait are told once for all that happens in a turn of the event loop."""
         self._turn += 1
         if self._waiters and not self._telling:
             self._telling = True

@@ -4,7 +4,7 @@ from __future__ import annotations
 from collections import deque
 from typing import TYPE_CHECKING, Any, Callable, Deque, Optional, Type, TypeVar, Union, overload
 
-from ._codes import Code, Phase, SessionError, Tokens, Units
+from ._codes import Phase, SessionError, Tokens, Units
 from ._end import End
 from ._over import SessionOver, UnexpectedIndication
 from ._values import (
