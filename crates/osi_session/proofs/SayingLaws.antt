@@ -1,6 +1,7 @@
 -- What a side may say: calls that a phase refuses, and that its state stays sound.
 use Rattle.std.proofs.Common.{◌≡◌, ◌∙◌, refl, sym, ap, subst, ℕ, ◌+◌, zero, suc, Bool, true, false, not, ◌&&◌, ◌||◌, ◌==◌, is_none, if◌then◌else◌, nat_le, List, [], ◌∷◌, length, Option, Some, None, Ok, Err, option_map, arith}
 use Rattle.osi_session.specs.Counting.{taker_with, CountsCame}
+use Rattle.osi_session.specs.Calls.{refusal_with}
 use Rattle.osi_session.specs.Standing.{Seen, goes, said_within, Count, left_by, calling, fits_user_data, connecting, accepting_in, where_is, said_message, seen_calling}
 use Rattle.osi_session.proofs.Vocabulary.{says, has_no_effect, begins_anew, and_parts, Phase, Releasing, is_over, is_wait_transport, is_answering, is_ready, may_hold, State, FunctionalUnits, TokenSetting, TsduMaximumSize, are_sizes, functional_units, both_units, has_points, has_data, IsSound, Call, Refuse, Data, Give, Please, Minor, MinorConfirm, Major, MajorConfirm, Restart, RestartConfirm, ReleaseAccept, ReleaseRefuse, Abort, HasSerial, Answer, Step, needs, may_call, met, after, most_of, octets_of, each, has_right, names, Meaning, CN, AC, RF, DT, GT, PT, MIP, MIA, MAP, MAA, RS, RA, FN, DN, NF, AB, AA, IsNumbered, IsSmall, said_at, meant_by, meant_numbered}
 use Rattle.osi_message.specs.declared.messages.Message.{Message}
@@ -80,7 +81,7 @@ pub said_sound : (s : State) (m : Meaning) (n : State) → IsNumbered m → said
 said_sound s (CN version_2 requirements serial wishes from to sizes octets) n small e h = connecting_left s requirements serial wishes sizes octets n small e h
 said_sound s (AC version_2 requirements serial sides sizes octets) n small e h =
     accepting_left (both_units s.units (functional_units requirements)) s version_2 serial sides sizes octets n small e h
-said_sound s (RF reason octets) n small e h = calling_left s (Refuse octets) n tt e h
+said_sound s (RF reason octets) n small e h = calling_left s (Refuse (refusal_with octets)) n tt e h
 said_sound s (DT octets) n small e h = calling_left s (Data octets) n tt e h
 said_sound s (GT tokens) n small e h = calling_left s (Give tokens) n tt e h
 said_sound s (PT tokens octets) n small e h = calling_left s (Please tokens octets) n tt e h

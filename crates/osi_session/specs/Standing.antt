@@ -16,7 +16,7 @@ use Rattle.osi_message.specs.Tokens.{each}
 use Rattle.osi_message.specs.Tokens as token
 use Rattle.osi_message.specs.Words.{Word, says, part}
 use Rattle.osi_session.specs.Allowed.{Answer, may_call, met, octets_of, most_of, most_data, most_user_data, has_right, opened_with}
-use Rattle.osi_session.specs.Calls.{Call, Refuse, Data, Give, Please, Minor, MinorConfirm, Major, MajorConfirm, Restart, RestartConfirm, ReleaseAccept, ReleaseRefuse, Abort}
+use Rattle.osi_session.specs.Calls.{refusal_with, Call, Refuse, Data, Give, Please, Minor, MinorConfirm, Major, MajorConfirm, Restart, RestartConfirm, ReleaseAccept, ReleaseRefuse, Abort}
 use Rattle.osi_session.specs.Joining.{Hearing, begins_anew, drops_parts, is_last, respond_came}
 use Rattle.osi_session.specs.Phases.{is_wait_transport, is_answering, is_ready}
 use Rattle.osi_session.specs.Respond.{agreed_base, has_no_effect, is_restart}
@@ -136,7 +136,7 @@ said_message s (CN version_2 requirements serial wishes from to sizes octets) = 
 said_message s (AC version_2 requirements serial sides sizes octets) =
     accepting_in (both_units s.units (functional_units requirements)) s version_2 serial sides sizes octets
 -- any reason: 129 to 131 are those of providers (section 8.3.5)
-said_message s (RF reason octets) = calling s (Refuse octets)
+said_message s (RF reason octets) = calling s (Refuse (refusal_with octets))
 said_message s (DT octets) = calling s (Data octets)
 said_message s (GT tokens) = calling s (Give tokens)
 said_message s (PT tokens octets) = calling s (Please tokens octets)

@@ -15,7 +15,7 @@ use crate::calling::{MOST_DATA, MOST_USER_DATA, decide_row, fits, may_call};
 use crate::faults::CallError;
 use crate::numbers::Numbers;
 use crate::phases::Phase;
-use crate::requests::Request;
+use crate::requests::{Refusal, Request};
 use crate::selected::FunctionalUnits;
 use crate::sides::{Sides, answers_wishes};
 use crate::sizes::{are_sizes, limit_of, smaller_sizes};
@@ -282,7 +282,12 @@ pub(crate) fn said_message(state: &State, message: &Message) -> Result<State, Br
     let next = state.numbers.next;
     match *message {
         Message::Connect { .. } | Message::Accept { .. } => said_opening(state, message),
-        Message::Refuse { user_data, .. } => calling(state, &Request::Refuse { user_data }),
+        Message::Refuse { user_data, .. } => calling(
+            state,
+            &Request::Refuse {
+                refusal: Refusal::with(user_data),
+            },
+        ),
         Message::Data { user_data } => calling(state, &Request::Data { user_data }),
         Message::Give { tokens } => calling(
             state,
