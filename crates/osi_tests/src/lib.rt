@@ -12,7 +12,7 @@
 //! - `carriers`: an end of neither class, all references, what is sent where nothing is open;
 //! - `sessions`: plans, the greatest lengths of what is sent, a first part that is too long;
 //! - `stacks`: a selector that is too long, a called end that asks for a connection, two connections that
-//!   are told apart by whom they ask for;
+//!   are told apart by whom they ask for, and of which one is given up;
 //! - `listings`: TSDUs of 1,048,576 octets and more.
 //!
 //! A public function that takes memory is called here, or in a file of `osi_runs`.

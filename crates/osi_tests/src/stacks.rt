@@ -5,7 +5,7 @@ use crate::sessions::{ALL_UNITS, ASKER_WISHES};
 use bitflags::Flags;
 use osi_carrier::{EndReason, OpenError, Ref};
 use osi_class::Local;
-use osi_session::Request;
+use osi_session::{CallError, Phase, Request};
 use osi_spdu::{Requirements, Serial, TsduSizes};
 use osi_stack::{Addresses, Connect, ConnectError, SessionSelector, Stack};
 use osi_tpdu::{SizeCode, Tsap, Window};
@@ -223,4 +223,90 @@ fn are_told_apart(ends: &mut Ends) -> Result<(), Fail> {
 #[test]
 fn connections_are_told_apart_by_whom_they_ask_for(rt: HostRuntime) -> Result<(), Fail> {
     are_told_apart(&mut two_ends(&rt)?)
+}
+
+/// One connection is given up, or that is refused.
+fn gives_up(stack: &mut Stack, connection: u16, refused: Option<CallError>) -> Result<(), Fail> {
+    match (stack.disconnect(Ref(connection)), refused) {
+        (Ok(()), None) => Ok(()),
+        (Err(found), Some(wanted)) if found == wanted => Ok(()),
+        (Err(found), None) => Err(Fail::from(found)),
+        _ => Err(Fail::from("another answer")),
+    }
+}
+
+/// What an end has to send is this and nothing else.
+fn has_to_send(stack: &Stack, octets: &[u8]) -> Result<(), Fail> {
+    if stack.outgoing() == octets {
+        return Ok(());
+    }
+    Err(Fail::from("other octets"))
+}
+
+/// So many connections are live, and this one stands there.
+fn stands(stack: &Stack, live: usize, connection: u16, phase: Phase) -> Result<(), Fail> {
+    if stack.live() == live && stack.phase(Ref(connection)) == Some(phase) {
+        return Ok(());
+    }
+    Err(Fail::from("another phase"))
+}
+
+fn is_over(stack: &Stack) -> bool {
+    stack.is_over()
+}
+
+/// Before its CC a connection is not given up, nor one that was never asked for.
+fn none_is_given_up(ends: &mut Ends) -> Result<(), Fail> {
+    asks(&mut ends.left, &asking(&ONE)?, None)?;
+    gives_up(&mut ends.left, 1, Some(CallError::BadState))?;
+    gives_up(&mut ends.left, 2, Some(CallError::NoSuchConnection))?;
+    carry(&mut ends.left, &mut ends.right)?;
+    comes(ends)
+}
+
+/// The DR by which the first connection is closed, with reason 128.
+const GIVEN_UP: [u8; 11] = [
+    0x03, 0x00, 0x00, 0x0B, 0x06, 0x80, 0x00, 0x01, 0x00, 0x01, 0x80,
+];
+
+/// The first of two connections is given up: a DR goes, the other user is shown the loss, and the DC that
+/// answers shows nothing. The second connection goes on.
+fn one_is_given_up(ends: &mut Ends) -> Result<(), Fail> {
+    gives_up(&mut ends.left, 1, None)?;
+    has_to_send(&ends.left, &GIVEN_UP)?;
+    stands(&ends.left, 2, 1, Phase::Ended)?;
+    if !carry(&mut ends.left, &mut ends.right)? {
+        return Err(Fail::from("the loss is not shown"));
+    }
+    if carry(&mut ends.right, &mut ends.left)? {
+        return Err(Fail::from("more is shown"));
+    }
+    stands(&ends.left, 1, 2, Phase::Connecting)?;
+    stands(&ends.right, 1, 2, Phase::Answering)
+}
+
+/// Where both are given up, the byte connection may be closed.
+fn all_are_given_up(ends: &mut Ends) -> Result<(), Fail> {
+    gives_up(&mut ends.right, 2, None)?;
+    if is_over(&ends.right) || !carry(&mut ends.right, &mut ends.left)? {
+        return Err(Fail::from("the loss is not shown"));
+    }
+    carry(&mut ends.left, &mut ends.right)?;
+    gives_up(&mut ends.left, 2, None)?;
+    if is_over(&ends.left) && is_over(&ends.right) {
+        return Ok(());
+    }
+    Err(Fail::from("it is not over"))
+}
+
+fn are_given_up(ends: &mut Ends) -> Result<(), Fail> {
+    none_is_given_up(ends)?;
+    one_comes(ends, 2, &TWO)?;
+    one_is_given_up(ends)?;
+    all_are_given_up(ends)
+}
+
+#[test]
+fn a_connection_is_given_up_alone(rt: HostRuntime) -> Result<(), Fail> {
+    are_given_up(&mut two_ends(&rt)?)
 }
