@@ -54,8 +54,13 @@
 //! 2. Octets come in: give them to [`End::feed_next`] until it answers `None`.
 //! 3. The peer is gone: [`End::broken`], and then fetch the indications by [`End::next_indication`].
 //!
-//! After each turn look at [`End::ended`]: where the end has ended, send what is still outgoing, and
-//! close the socket. The example `client` is such a loop over [`std::net::TcpStream`].
+//! After each turn ask [`End::is_over`], which says when to close the socket. The examples `client` and
+//! `server` are such loops over non-blocking sockets of [`std::net`]; the server has many peers in one thread.
+//!
+//! The end keeps what it has to send until it was taken, so the bounds are its holder's: call no more while
+//! [`End::outgoing`] and [`End::backlog`] have much, read no more while `outgoing` has much more, and answer a
+//! connection no more, but [`End::disconnect`] it, where [`End::unsent`] says that its peer gives no credit for
+//! the answers.
 //!
 //! # What is lent
 //!

@@ -164,7 +164,6 @@ pub struct Line {
     moved: Instant,
     was_heard: bool,
     was_shown: bool,
-    closed: bool,
 }
 
 impl Line {
@@ -174,8 +173,7 @@ impl Line {
         stream.set_nonblocking(true)?;
         let patience = Duration::from_secs(option("--wait", "10").parse().unwrap_or(10));
         let began = Instant::now();
-        let (was_heard, was_shown, closed) = (false, false, false);
-        Ok(Line { end, stream, side, log, patience, began, moved: began, was_heard, was_shown, closed })
+        Ok(Line { end, stream, side, log, patience, began, moved: began, was_heard: false, was_shown: false })
     }
 
     pub fn say(&self, text: impl Display) {
