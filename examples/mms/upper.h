@@ -14,7 +14,7 @@ struct selector {
     uint8_t length;
 };
 
-/* How many abstract syntaxes of a peer are answered; others of the same list are not. */
+/* How many contexts a peer may ask for: a longer list is not read. */
 #define MOST_CONTEXTS 16
 
 enum upper_problem {
