@@ -382,8 +382,11 @@ class Bounds(Case):
             for number in range(500):
                 peer.end.data(of, b"x" * size)
                 peer.flush()
-            await asyncio.sleep(0.5)
-            self.assertEqual(len(lines[0]._sessions[1]._shown), most)
+            shown = lines[0]._sessions[of]._shown
+            while len(shown) < most:
+                await asyncio.sleep(0.01)
+            await asyncio.sleep(0.3)
+            self.assertEqual(len(shown), most)
             release.set()
             peer.end.release(of)
             await peer.expect(Released)
@@ -461,6 +464,34 @@ class Bounds(Case):
             line = lines[0]
             most = max(most, line._pending.octets + line.end.backlog() + line.end.outgoing_length())
         self.assertLess(most, 64 * 70_000 + 2_000_000)
+        await peer.close()
+
+    async def test_what_waits_for_credit_is_disconnected(self):
+        """Where an end can disconnect: behind an abort that waits for credit, and not behind one that goes at once."""
+        told, aborted = [], []
+
+        class Disconnecting(End):
+            def disconnect(self, reference):
+                told.append((reference, self.phase(reference)))
+
+        async def answer(session):
+            await session.accept()
+            if session.asked.user_data == b"much":
+                session.end.data(session.reference, bytes(200_000))
+            raise KeyError
+
+        asyncio.get_running_loop().set_exception_handler(lambda loop, context: aborted.append(context["exception"]))
+        own = lambda end: aio.EndProtocol(Disconnecting.called(CLASS_2))
+        self.listener = await aio.serve_sessions(answer, "127.0.0.1", 0, CLASS_2, own)
+        peer = await Peer.dial(port_of(self.listener))
+        peer.holds_back = is_ack
+        for number, wanted in ((1, b"little"), (2, b"much")):
+            peer.end.connect(Opening(Units.DUPLEX, user_data=wanted))
+            await peer.expect(Connected, number)
+        await peer.expect(Aborted)
+        while len(aborted) < 2:
+            await asyncio.sleep(0.01)
+        self.assertEqual(told, [(2, Phase.ABORTING)])
         await peer.close()
 
     async def test_a_connection_is_given_up_by_hand(self):

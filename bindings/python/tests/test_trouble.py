@@ -11,6 +11,7 @@ from osi_session import (
     Connect,
     Connected,
     Data,
+    End,
     Minor,
     MinorConfirmed,
     Opening,
@@ -212,6 +213,30 @@ class Closing(Case):
                     for _ in range(20):
                         line.end.data(of, bytes(1_000_000))
             listener.close()
+
+    async def test_a_peer_that_takes_nothing_is_awaited_for_a_while(self):
+        """It gives no credit: the block ends, and says what was lost."""
+
+        class Brief(aio.EndProtocol):
+            linger = 0.2
+
+        peers = []
+
+        async def hold(reader, writer):
+            peers.append(Peer(End.called(CLASS_2), reader, writer))
+            peers[0].holds_back = is_ack
+            asked = await peers[0].expect(Connect)
+            peers[0].end.accept(asked.reference, asked.requirements)
+            peers[0].flush()
+
+        listener = await asyncio.start_server(hold, "127.0.0.1", 0)
+        with self.assertRaises(ConnectionResetError):
+            async with aio.dial("127.0.0.1", port_of(listener), CLASS_2, Brief) as line:
+                of = line.end.connect(Opening())
+                await within(line.expect(Connected))
+                line.end.data(of, bytes(1_000_000))
+        await peers[0].close()
+        listener.close()
 
     async def test_a_peer_that_never_closes_is_awaited_for_a_while(self):
         class Brief(aio.EndProtocol):
