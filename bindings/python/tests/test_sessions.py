@@ -394,6 +394,33 @@ class Bounds(Case):
             await peer.close()
             self.listener.close()
 
+    async def test_a_session_may_wait_for_another_whose_answers_come_behind(self):
+        """For each message of one session the handler asks in another. The peer sends all messages ahead."""
+        sessions, over = [], asyncio.Event()
+
+        async def answer(session):
+            await session.accept()
+            sessions.append(session)
+            if len(sessions) == 2:
+                await over.wait()
+                return
+            async for shown in session:
+                await sessions[1].data(shown.user_data)
+                await session.data((await sessions[1].expect(Data)).user_data)
+
+        lines, peer = await self.serving(answer)
+        peer.on_shown = lambda shown: shown.reference == 2 and isinstance(shown, Data) and peer.end.data(2, shown.user_data)
+        for number in (1, 2):
+            peer.end.connect(Opening(Units.DUPLEX))
+            await peer.expect(Connected, number)
+        for number in range(500):
+            peer.end.data(1, b"%d" % number)
+        answers = lambda: [shown.user_data for shown in peer.of(Data) if shown.reference == 1]
+        await peer.until(lambda: len(answers()) == 500)
+        self.assertEqual(answers(), [b"%d" % number for number in range(500)])
+        over.set()
+        await peer.close()
+
     async def test_a_session_that_asks_and_takes_no_answer_is_given_up_alone(self):
         """The peer gives no credit for one session and sends requests in it for ever; another goes on."""
 

@@ -66,10 +66,11 @@ class EndProtocol(asyncio.Protocol):
     indications as they come overrides ``indication_received``. One line is used in one event loop, by its thread alone.
 
     Memory stays bounded. If a connection has 64 pending indications, or 256 KiB of them, the line reads no more until
-    some are fetched, so TCP slows the peer down. It does read on while somebody waits for room (``drain``, or a call
-    of a session), because the peer's acknowledgements come in the same octets. Then a connection is given up (see
-    ``give_up``) if ``most`` octets are pending, or ``most_unpaid`` that came while their connections gave no credit: it
-    is the one that has most of them, and the others go on.
+    some are fetched, so TCP slows the peer down. While somebody waits for an indication of another connection, it reads
+    on until ``most_ahead`` octets are pending in all. While somebody waits for room (``drain``, or a call of a session),
+    it reads on in any case, because the peer's acknowledgements come in the same octets. Then a connection is given up
+    (see ``give_up``) if ``most`` octets are pending, or ``most_unpaid`` that came while their connections gave no
+    credit: it is the one that has most of them, and the others go on.
 
     The line closes the byte connection if the end has ended, and, unless ``stays`` is true, after its last connection.
     A line of ``serve`` stays, since its peer may ask for more; so does one on which ``session`` was called.
@@ -78,6 +79,8 @@ class EndProtocol(asyncio.Protocol):
     stays: bool = False
     most: int = 67_108_864
     """How many octets of indications may be pending: those of their user data, and 512 for each."""
+    most_ahead: int = 8_388_608
+    """How many of these may be pending while somebody waits for an indication of another connection."""
     most_unpaid: int = 8_388_608
     """How many of these may be unpaid: they came on connections for whose credit this side waits, and that gave none."""
     linger: float = 30.0
@@ -97,9 +100,9 @@ class EndProtocol(asyncio.Protocol):
         self._left: Set[int] = set()
         self._cut: Set[int] = set()
         self._cut_octets = 0
-        # Tasks that wait, the oldest first; and how many of them wait for room.
+        # Tasks that wait, the oldest first; and how many of them wait for room, and for an indication.
         self._waiters: Dict[_Waiter, None] = {}
-        self._draining = self._turn = 0
+        self._draining = self._awaiting = self._turn = 0
         self._reading = True
         self._paused = self._feeding = self._telling = self._was_live = False
         # How far closing is: asked for; the peer's or our direction is closed; the transport is gone.
@@ -138,10 +141,13 @@ class EndProtocol(asyncio.Protocol):
     async def next_session(self) -> Optional[CalledSession]:
         """The next session that the peer asks for, which is to be accepted or refused; None once the line is closed.
         Indications of connections that have no session are dropped."""
-        async for indication in self:
+        while True:
+            await self.until(lambda: bool(self._shown) or self.is_done)
+            indication = self._fetch()
+            if indication is None:
+                return None
             if isinstance(indication, Connect):
                 return CalledSession(self, indication)
-        return None
 
     async def answer_sessions(self, handler: Callable[[CalledSession], Awaitable[None]]) -> None:
         """Calls the handler for each session that the peer asks for, in a task of its own, until the line is closed.
@@ -179,7 +185,10 @@ class EndProtocol(asyncio.Protocol):
 
     async def next(self) -> Optional[Indication]:
         """The next indication; None once the line is closed and all was fetched."""
-        await self.until(lambda: bool(self._shown) or self.is_done)
+        await self.indication_or(lambda: bool(self._shown) or self.is_done)
+        return self._fetch()
+
+    def _fetch(self) -> Optional[Indication]:
         if not self._shown:
             return None
         indication = self._shown.popleft()
@@ -376,6 +385,18 @@ class EndProtocol(asyncio.Protocol):
             lambda: or_else() or (self.end.outgoing_length() <= _PIECE and self._unsent(reference) <= _PIECE)
         )
 
+    async def indication_or(self, holds: Callable[[], bool]) -> None:
+        """Waits until this holds because an indication came, which may come behind those of other connections."""
+        if holds():
+            return
+        self._awaiting += 1
+        try:
+            if not self._reading or not self._feed.is_empty:
+                self._go_on()
+            await self.until(holds)
+        finally:
+            self._awaiting -= 1
+
     async def until(self, holds: Callable[[], bool]) -> None:
         """Waits until this holds, which is asked again whenever something happens. Of several tasks the one that has
         waited longest goes on first."""
@@ -511,7 +532,9 @@ class EndProtocol(asyncio.Protocol):
             return True
         if self._waits_for_room():
             return False
-        return self._pending.is_full or max(self._pending.octets, self.end.outgoing_length()) > self.most
+        if max(self._pending.octets, self.end.outgoing_length()) > self.most:
+            return True
+        return self._pending.is_full and (self._awaiting == 0 or self._pending.octets > self.most_ahead)
 
     def _make_room(self) -> None:
         """If too much is pending and the line has to read on, gives up the connections to blame."""

@@ -82,7 +82,7 @@ class Session:
 
     async def next(self) -> Optional[Indication]:
         """The next indication; None once the session is released or this side has ended it. SessionOver."""
-        await self.line.until(lambda: bool(self._shown) or self._is_done or self._over is not None or self.line.is_done)
+        await self.line.indication_or(self._has_news)
         if self._shown:
             indication = self._shown.popleft()
             self.line.fetched(indication)
@@ -232,6 +232,10 @@ class Session:
                 return
             if isinstance(indication, Release):
                 await self.release_accept()
+
+    def _has_news(self) -> bool:
+        """Whether there is an indication to fetch, or none to wait for."""
+        return bool(self._shown) or self._is_done or self._over is not None or self.line.is_done
 
     # ---- what its line calls
 
