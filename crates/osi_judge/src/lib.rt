@@ -1,5 +1,5 @@
-//! Which side of a session connection first said what no session could have said there: looking on, without
-//! a key, a clock or an end of its own.
+//! Where a side of a session connection first said what no session could have said there: found by looking
+//! on, without a key, a clock or an end of its own.
 #![tactic(auto)]
 
 mod findings;

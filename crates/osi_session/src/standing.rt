@@ -161,9 +161,9 @@ impl Standing {
 }
 
 impl Standing {
-    /// A TSDU of the peer that is taken: what the session does that stands so, whatever octets are joined. It
-    /// is no matter where the CN was not yet said, or behind a close by itself: nothing is taken there.
-    /// `Err` changes nothing.
+    /// A TSDU of the peer that is taken: what a session does that stands so, whatever octets it has joined,
+    /// as long as they are so many. Memory is wanted for what its user would be shown. `Err` changes
+    /// nothing.
     pub fn take(&self, alloc: Global, tsdu: &[u8]) -> Result<Taking, AllocError>
         requires { listens self.now ≡ true }
         ensures counted { IfOk result (λ t. Takes self.now tsdu.now (count_taken t)) }
