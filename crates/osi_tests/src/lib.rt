@@ -11,6 +11,7 @@
 //! - `links`: credit, numbers that go round, the longest TSDU;
 //! - `carriers`: an end of neither class, all references, what is sent where nothing is open;
 //! - `sessions`: plans, the greatest lengths of what is sent, a first part that is too long;
+//! - `sides`: which side first said what no session could have said there;
 //! - `stacks`: a selector that is too long, a called end that asks for a connection, two connections that
 //!   are told apart by whom they ask for, and of which one is given up;
 //! - `listings`: TSDUs of 1,048,576 octets and more.
@@ -30,6 +31,8 @@ mod packets;
 mod session_units;
 #[cfg(test)]
 mod sessions;
+#[cfg(test)]
+mod sides;
 #[cfg(test)]
 mod stacks;
 #[cfg(test)]
