@@ -48,7 +48,8 @@ def functions():
 
 
 def numbers():
-    return set(re.findall(r"^#define (OSI_\w+) (?:\d|0x)", header(), re.MULTILINE))
+    """All numbers of the header but its own version, which is another with each."""
+    return set(re.findall(r"^#define (OSI_\w+) (?:\d|0x)", header(), re.MULTILINE)) - {"OSI_VERSION_NUM"}
 
 
 def sections():
