@@ -15,6 +15,7 @@ uint64_t osi_bench_stacks(const uint8_t *data, size_t length, size_t rounds, uin
 
 static osi_end caller = OSI_END, called = OSI_END;
 static uint64_t messages, octets_shown;
+static uint32_t refused;
 
 static bool carry_some(osi_end *from, osi_end *to)
 {
@@ -55,22 +56,22 @@ static void open_one(void)
     osi_opening asked = OSI_OPENING;
     osi_sides sides = {OSI_ASKER, OSI_ASKER, OSI_ASKER, OSI_ASKER};
     asked.requirements = OSI_HALF_DUPLEX | OSI_MINOR_SYNC;
-    osi_connect(&caller, &asked, &reference);
+    refused |= osi_connect(&caller, &asked, &reference);
     exchange();
-    osi_accept(&called, reference, asked.requirements, 0, &sides, OSI_NO_DATA);
+    refused |= osi_accept(&called, reference, asked.requirements, 0, &sides, OSI_NO_DATA);
     exchange();
 }
 
 static void one_round(uint16_t reference, const uint8_t *data, size_t length, bool points)
 {
-    osi_data(&caller, reference, data, length);
+    refused |= osi_data(&caller, reference, data, length);
     exchange();
     if (!points)
         return;
     uint32_t number = osi_next_serial(&caller, reference);
-    osi_minor(&caller, reference, 1, OSI_NO_DATA);
+    refused |= osi_minor(&caller, reference, 1, OSI_NO_DATA);
     exchange();
-    osi_minor_confirm(&called, reference, number, OSI_NO_DATA);
+    refused |= osi_minor_confirm(&called, reference, number, OSI_NO_DATA);
     exchange();
 }
 
@@ -79,8 +80,7 @@ static uint64_t over_c(const uint8_t *data, size_t length, size_t rounds, uint16
 {
     osi_terms terms = {class_two ? OSI_CLASS_2 : OSI_CLASS_0, 13, 15};
     uint16_t reference = 0;
-    osi_caller(&caller, &terms);
-    osi_called(&called, &terms);
+    refused |= osi_caller(&caller, &terms) | osi_called(&called, &terms);
     for (uint16_t i = 0; i < connections; i++)
         open_one();
     for (size_t i = 0; i < rounds; i++) {
@@ -105,5 +105,5 @@ int main(int count, char **words)
         ? over_c(data, length, rounds, connections, class_two, points)
         : osi_bench_stacks(data, length, rounds, connections, class_two, points, 0);
     printf("%zu operations\n", rounds);
-    return seen == 0;
+    return seen == 0 || refused != 0;
 }

@@ -15,7 +15,8 @@ static void show(osi_end *end, const osi_indication *shown)
     case OSI_CONNECT:
         printf("a connection is asked for: %.*s\n", length, text);
         const osi_sides sides = {OSI_ASKER, OSI_ASKER, OSI_ASKER, OSI_ASKER};
-        osi_accept(end, shown->reference, OSI_HALF_DUPLEX, 0, &sides, (const uint8_t *)"a gateway", 9);
+        if (osi_accept(end, shown->reference, OSI_HALF_DUPLEX, 0, &sides, (const uint8_t *)"a gateway", 9) != OSI_OK)
+            printf("not accepted\n");
         break;
     case OSI_CONNECTED:
         printf("connected: %.*s\n", length, text);

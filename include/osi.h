@@ -13,14 +13,14 @@
  *     osi_opening asked = OSI_OPENING;
  *     uint16_t connection;
  *     osi_indication shown;
- *     osi_caller(&end, &terms);
- *     osi_connect(&end, &asked, &connection);
+ *     if (osi_caller(&end, &terms) || osi_connect(&end, &asked, &connection))
+ *         return 1;                             // a code that is not OSI_OK, which is 0
  *     for (;;) {
  *         carry(&end);                          // osi_outgoing to the socket, then osi_taken
  *         feed(&end);                           // the socket's octets to osi_feed
  *         while (osi_next(&end, &shown))
- *             if (shown.tag == OSI_CONNECTED)
- *                 osi_data(&end, shown.reference, (const uint8_t *)"hello", 5);
+ *             if (shown.tag == OSI_CONNECTED && osi_data(&end, shown.reference, (const uint8_t *)"hello", 5))
+ *                 return 1;
  *     }                                         // until osi_ended, and then osi_free(&end)
  *
  * Of the structs below osi_opening and osi_indication may grow, at their ends. The functions that take
@@ -53,6 +53,14 @@
 
 /* The same as a number, for #if: 10,000 times the first, 100 times the second, and the third. */
 #define OSI_VERSION_NUM 100
+
+/* Behind a function whose answer has to be looked at, since a call of a correct program may be refused, or
+ * have nothing to show: compilers that know the attribute (GCC, Clang) warn about a call that does not. */
+#if defined(__GNUC__) && !defined(OSI_LOOK)
+#define OSI_LOOK __attribute__((warn_unused_result))
+#elif !defined(OSI_LOOK)
+#define OSI_LOOK
+#endif
 
 #ifdef __cplusplus
 extern "C" {
@@ -236,8 +244,8 @@ typedef struct osi_indication {
 
 /* Makes the calling end of a byte connection, or the called one. Nothing is written yet.
  * OSI_OK, OSI_BAD_ARGUMENT (terms), OSI_IN_USE, OSI_NO_MEMORY. */
-uint32_t osi_caller(osi_end *end, const osi_terms *terms);
-uint32_t osi_called(osi_end *end, const osi_terms *terms);
+uint32_t osi_caller(osi_end *end, const osi_terms *terms) OSI_LOOK;
+uint32_t osi_called(osi_end *end, const osi_terms *terms) OSI_LOOK;
 
 /* Frees the end, if there is a slot and it holds one, with all that it has lent. The slot can be used
  * again. */
@@ -251,8 +259,8 @@ void osi_free(osi_end *end);
  * library of an older header does not know), OSI_SLOT_EMPTY, OSI_NOT_CALLER, OSI_ENDED,
  * OSI_NEGOTIATING, OSI_ONE_CONNECTION, OSI_TOO_MANY, OSI_REFERENCES_USED_UP, OSI_NOT_SELECTED,
  * OSI_TOO_LONG, OSI_NO_MEMORY: the first that applies. */
-uint32_t osi_connect_with_size(osi_end *end, const osi_opening *asked, size_t size, uint16_t *reference);
-static inline uint32_t osi_connect(osi_end *end, const osi_opening *asked, uint16_t *reference)
+uint32_t osi_connect_with_size(osi_end *end, const osi_opening *asked, size_t size, uint16_t *reference) OSI_LOOK;
+static inline OSI_LOOK uint32_t osi_connect(osi_end *end, const osi_opening *asked, uint16_t *reference)
 {
     return osi_connect_with_size(end, asked, sizeof *asked, reference);
 }
@@ -274,45 +282,45 @@ static inline uint32_t osi_connect(osi_end *end, const osi_opening *asked, uint1
  * exceptions: what answers OSI_CONNECT has any length, and data that is longer leaves in parts, of which
  * the peer's user is shown one indication. */
 uint32_t osi_accept(osi_end *end, uint16_t reference, uint16_t requirements, uint32_t number,
-                    const osi_sides *sides, const uint8_t *data, size_t length);
+                    const osi_sides *sides, const uint8_t *data, size_t length) OSI_LOOK;
 uint32_t osi_accept_sized(osi_end *end, uint16_t reference, uint16_t requirements, uint32_t number,
                           const osi_sides *sides, uint16_t size_from_asker, uint16_t size_from_answerer,
-                          const uint8_t *data, size_t length);
+                          const uint8_t *data, size_t length) OSI_LOOK;
 
 /* Answers OSI_CONNECT by a refusal: with user data, or without a reason where there is none. osi_refuse_with
  * takes the reason; user data goes with OSI_REFUSAL_WITH_DATA alone, and may be empty there. */
-uint32_t osi_refuse(osi_end *end, uint16_t reference, const uint8_t *data, size_t length);
-uint32_t osi_refuse_with(osi_end *end, uint16_t reference, uint8_t reason, const uint8_t *data, size_t length);
+uint32_t osi_refuse(osi_end *end, uint16_t reference, const uint8_t *data, size_t length) OSI_LOOK;
+uint32_t osi_refuse_with(osi_end *end, uint16_t reference, uint8_t reason, const uint8_t *data, size_t length) OSI_LOOK;
 
 /* Sends data, 1 to 1,048,572 octets. */
-uint32_t osi_data(osi_end *end, uint16_t reference, const uint8_t *data, size_t length);
+uint32_t osi_data(osi_end *end, uint16_t reference, const uint8_t *data, size_t length) OSI_LOOK;
 
 /* Gives tokens that are held, or asks for tokens that are not, one at least. */
-uint32_t osi_give(osi_end *end, uint16_t reference, uint8_t tokens);
-uint32_t osi_please(osi_end *end, uint16_t reference, uint8_t tokens, const uint8_t *data, size_t length);
+uint32_t osi_give(osi_end *end, uint16_t reference, uint8_t tokens) OSI_LOOK;
+uint32_t osi_please(osi_end *end, uint16_t reference, uint8_t tokens, const uint8_t *data, size_t length) OSI_LOOK;
 
 /* Sets a minor point, whose number is osi_next_serial before the call; its confirmation is asked for
  * unless confirm is 0. Confirms all minor points up to this number. */
-uint32_t osi_minor(osi_end *end, uint16_t reference, uint8_t confirm, const uint8_t *data, size_t length);
-uint32_t osi_minor_confirm(osi_end *end, uint16_t reference, uint32_t number, const uint8_t *data, size_t length);
+uint32_t osi_minor(osi_end *end, uint16_t reference, uint8_t confirm, const uint8_t *data, size_t length) OSI_LOOK;
+uint32_t osi_minor_confirm(osi_end *end, uint16_t reference, uint32_t number, const uint8_t *data, size_t length) OSI_LOOK;
 
 /* Sets a major point; answers OSI_MAJOR. */
-uint32_t osi_major(osi_end *end, uint16_t reference, const uint8_t *data, size_t length);
-uint32_t osi_major_confirm(osi_end *end, uint16_t reference, const uint8_t *data, size_t length);
+uint32_t osi_major(osi_end *end, uint16_t reference, const uint8_t *data, size_t length) OSI_LOOK;
+uint32_t osi_major_confirm(osi_end *end, uint16_t reference, const uint8_t *data, size_t length) OSI_LOOK;
 
 /* Restarts at a point, whose number the next one then has; answers OSI_RESTART. */
 uint32_t osi_restart(osi_end *end, uint16_t reference, uint32_t number, const osi_sides *wishes,
-                     const uint8_t *data, size_t length);
+                     const uint8_t *data, size_t length) OSI_LOOK;
 uint32_t osi_restart_confirm(osi_end *end, uint16_t reference, const osi_sides *sides,
-                             const uint8_t *data, size_t length);
+                             const uint8_t *data, size_t length) OSI_LOOK;
 
 /* Asks for the release; answers OSI_RELEASE. */
-uint32_t osi_release(osi_end *end, uint16_t reference, const uint8_t *data, size_t length);
-uint32_t osi_release_accept(osi_end *end, uint16_t reference, const uint8_t *data, size_t length);
-uint32_t osi_release_refuse(osi_end *end, uint16_t reference, const uint8_t *data, size_t length);
+uint32_t osi_release(osi_end *end, uint16_t reference, const uint8_t *data, size_t length) OSI_LOOK;
+uint32_t osi_release_accept(osi_end *end, uint16_t reference, const uint8_t *data, size_t length) OSI_LOOK;
+uint32_t osi_release_refuse(osi_end *end, uint16_t reference, const uint8_t *data, size_t length) OSI_LOOK;
 
 /* Aborts the connection. */
-uint32_t osi_abort(osi_end *end, uint16_t reference, const uint8_t *data, size_t length);
+uint32_t osi_abort(osi_end *end, uint16_t reference, const uint8_t *data, size_t length) OSI_LOOK;
 
 /* Gives up one connection at once, whatever it waits for (X.224 section 6.7). What the peer's credit
  * holds back is dropped, which osi_abort has to wait behind, and nothing of this connection is shown any
@@ -322,7 +330,7 @@ uint32_t osi_abort(osi_end *end, uint16_t reference, const uint8_t *data, size_t
  * already loses its pending indications. OSI_OK, OSI_SLOT_EMPTY, OSI_NO_SUCH_CONNECTION, OSI_BAD_STATE
  * (OSI_PHASE_WAIT_TRANSPORT: the peer has not answered the CR, and X.224 sends no DR before that; call
  * again in a later phase), OSI_NO_MEMORY (for the DR). */
-uint32_t osi_disconnect(osi_end *end, uint16_t reference);
+uint32_t osi_disconnect(osi_end *end, uint16_t reference) OSI_LOOK;
 
 /* ---- octets ------------------------------------------------------------------------------------- */
 
@@ -405,7 +413,7 @@ size_t osi_live(osi_end *end);
 
 /* Fetches the oldest indication of the connection with the lowest reference that has one. It takes no
  * memory. OSI_OK, OSI_NOTHING (none waits, and the last one is forgotten), OSI_SLOT_EMPTY. */
-uint32_t osi_fetch(osi_end *end);
+uint32_t osi_fetch(osi_end *end) OSI_LOOK;
 
 /* Shows the indication that was fetched last; OSI_NONE where there is none. The end stays as it is. */
 void osi_last_with_size(osi_end *end, osi_indication *shown, size_t size);
@@ -415,7 +423,7 @@ static inline void osi_last(osi_end *end, osi_indication *shown)
 }
 
 /* Both: whether there was one. */
-static inline bool osi_next(osi_end *end, osi_indication *shown)
+static inline OSI_LOOK bool osi_next(osi_end *end, osi_indication *shown)
 {
     uint32_t code = osi_fetch(end);
     osi_last(end, shown);

@@ -277,9 +277,9 @@ static void live_once(void)
     text_clear(&history);
     text_put(&history, "%s, classes %u size %u window %u\n", calls ? "caller" : "called", terms.classes, terms.size,
              terms.window);
-    (calls ? osi_caller : osi_called)(&one, &terms);
-    (calls ? osi_caller : osi_called)(&other, &terms);
-    (calls ? osi_called : osi_caller)(&peer, &of_peer);
+    if ((calls ? osi_caller : osi_called)(&one, &terms) || (calls ? osi_caller : osi_called)(&other, &terms) ||
+        (calls ? osi_called : osi_caller)(&peer, &of_peer))
+        abort();
     connect_from(calls ? &one : &peer, calls ? &other : NULL);
     for (int i = 0; i < STEPS && failures == 0; i++) {
         step(calls, hostile);

@@ -98,8 +98,9 @@ static void send_bulk(struct gateway *g)
         if (osi_data(&g->end, r, plan->data, plan->size) != OSI_OK)
             return;
         plan->last = osi_next_serial(&g->end, r);
-        if (++plan->said == plan->bulk || (plan->points > 0 && plan->said % plan->points == 0))
-            osi_minor(&g->end, r, 1, OSI_NO_DATA);
+        const bool is_point = ++plan->said == plan->bulk || (plan->points > 0 && plan->said % plan->points == 0);
+        if (is_point && osi_minor(&g->end, r, 1, OSI_NO_DATA) != OSI_OK)
+            return;
     }
     g->has_more = plan->ready && plan->said < plan->bulk;
     if (plan->said == plan->bulk)

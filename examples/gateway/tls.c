@@ -58,9 +58,9 @@ static void shown_to_client(struct secure *s, const osi_indication *i)
     if (i->tag == OSI_CONNECTED) {
         uint8_t *data = calloc(s->octets, 1);
         print("connected: ", i->user_data);
-        if (data == NULL || osi_data(&s->end, i->reference, data, s->octets) != OSI_OK)
-            osi_abort(&s->end, i->reference, OSI_NO_DATA);
-        osi_release(&s->end, i->reference, OSI_NO_DATA);
+        if (data == NULL || osi_data(&s->end, i->reference, data, s->octets) != OSI_OK ||
+            osi_release(&s->end, i->reference, OSI_NO_DATA) != OSI_OK)
+            osi_broken(&s->end);
         free(data);
     } else if (i->tag == OSI_RELEASED) {
         print("released", i->user_data);
@@ -74,7 +74,8 @@ static void shown_to_server(struct secure *s, const osi_indication *i)
     static const uint8_t answer[] = "a gateway";
     if (i->tag == OSI_CONNECT) {
         print("a connection is asked for: ", i->user_data);
-        osi_accept(&s->end, i->reference, OSI_HALF_DUPLEX, 0, &asker, answer, sizeof answer - 1);
+        if (osi_accept(&s->end, i->reference, OSI_HALF_DUPLEX, 0, &asker, answer, sizeof answer - 1) != OSI_OK)
+            osi_broken(&s->end);
     } else if (i->tag == OSI_DATA) {
         printf("data: %zu octets\n", i->user_data.length);
     } else if (i->tag == OSI_RELEASE) {

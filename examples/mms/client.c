@@ -48,12 +48,14 @@ static void fails(struct asking *a, enum outcome outcome, const char *why)
     fprintf(stderr, "client: %s, after %zu answers\n", why, a->answered);
 }
 
+/* Aborts. What can't be aborted, as for want of memory, is broken. */
 static void abort_it(struct asking *a)
 {
     struct room room;
     const uint8_t *at;
     const size_t length = upper_abort(&a->upper, &room, &at);
-    osi_abort(&a->link.end, a->reference, at, length);
+    if (osi_abort(&a->link.end, a->reference, at, length) != OSI_OK)
+        link_break(&a->link);
 }
 
 static void send_mms(struct asking *a, const struct ber_writer *w)
@@ -119,7 +121,11 @@ static void data_came(struct asking *a, const osi_indication *i)
         abort_it(a);
     } else if (pdu.kind == MMS_CONCLUDE_RESPONSE && a->concludes) {
         const size_t length = upper_ask_release(&a->upper, &room, &at);
-        osi_release(&a->link.end, a->reference, at, length);
+        const uint32_t code = osi_release(&a->link.end, a->reference, at, length);
+        if (code != OSI_OK) {
+            fails(a, LOST, osi_code_name(code));
+            abort_it(a);
+        }
     } else if (pdu.kind == MMS_UNCONFIRMED) {
         puts("a report, which is not read");
     } else if (pdu.has_invoke && pdu.invoke == a->answered + 1 && a->answered < a->asked) {
@@ -165,8 +171,9 @@ static void shown(struct link *l, const osi_indication *i)
         a->outcome = CONCLUDED;
         break;
     case OSI_RELEASE:
-        osi_release_accept(&l->end, i->reference, OSI_NO_DATA);
         fails(a, LOST, "the server releases the association");
+        if (osi_release_accept(&l->end, i->reference, OSI_NO_DATA) != OSI_OK)
+            link_break(l);
         break;
     case OSI_REFUSED_BY_TRANSPORT:
     case OSI_REFUSED_BY_SESSION:

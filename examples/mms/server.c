@@ -93,8 +93,9 @@ static void refuse(struct client *c, enum upper_problem why)
     struct room room;
     const uint8_t *at;
     const size_t length = upper_refuse(&c->upper, why, &room, &at);
-    osi_refuse(&c->link.end, c->reference, at, length);
     tell(c, "refused: %s", names[why]);
+    if (osi_refuse(&c->link.end, c->reference, at, length) != OSI_OK)
+        link_break(&c->link);
 }
 
 static void associate(struct client *c, const osi_indication *i)
@@ -126,14 +127,16 @@ static void associate(struct client *c, const osi_indication *i)
     tell(c, "associated");
 }
 
+/* Aborts. What can't be aborted, as for want of memory, is broken. */
 static void abort_client(struct client *c, const char *why)
 {
     struct room room;
     const uint8_t *at;
     const size_t length = upper_abort(&c->upper, &room, &at);
-    osi_abort(&c->link.end, c->reference, at, length);
     c->is_associated = false;
     tell(c, "aborted: %s", why);
+    if (osi_abort(&c->link.end, c->reference, at, length) != OSI_OK)
+        link_break(&c->link);
 }
 
 static const char *service_name(uint32_t service)
@@ -192,9 +195,10 @@ static void shown(struct link *l, const osi_indication *i)
         break;
     case OSI_RELEASE:
         length = upper_accept_release(&c->upper, &room, &at);
-        osi_release_accept(&l->end, c->reference, at, length);
         tell(c, "released");
         c->is_associated = false;
+        if (osi_release_accept(&l->end, c->reference, at, length) != OSI_OK)
+            link_break(l);
         break;
     case OSI_ABORTED:
     case OSI_PEER_ABORT:

@@ -49,6 +49,15 @@ static osi_octets read_ppdu(const char *name, uint8_t octets[LONGEST])
     return (osi_octets){octets, digits / 2};
 }
 
+/* A call that has to succeed here: it is one that the tables allow in this state. */
+static void done(uint32_t code)
+{
+    if (code == OSI_OK)
+        return;
+    fprintf(stderr, "refused: %s\n", osi_code_name(code));
+    exit(1);
+}
+
 /* The answer of the called user to a CN: it looks at the session selector that was asked for. */
 static void answer(osi_end *end, uint16_t reference)
 {
@@ -59,9 +68,9 @@ static void answer(osi_end *end, uint16_t reference)
     osi_addresses(end, reference, &addresses);
     const osi_selector *asked = &addresses.called_selector;
     if (asked->length == 2 && memcmp(asked->octets, "\x00\x01", 2) == 0)
-        osi_accept(end, reference, OSI_DUPLEX, 0, &sides, cpa.at, cpa.length);
+        done(osi_accept(end, reference, OSI_DUPLEX, 0, &sides, cpa.at, cpa.length));
     else
-        osi_refuse(end, reference, OSI_NO_DATA);
+        done(osi_refuse(end, reference, OSI_NO_DATA));
 }
 
 /* What a user does when it is shown something. */
@@ -81,23 +90,23 @@ static void show(const char *side, osi_end *end, const osi_indication *shown)
         break;
     case OSI_CONNECTED:
         ppdu = read_ppdu("request", octets);
-        osi_data(end, shown->reference, ppdu.at, ppdu.length);
+        done(osi_data(end, shown->reference, ppdu.at, ppdu.length));
         break;
     case OSI_DATA:
         if (strcmp(side, "left") == 0) {
             ppdu = read_ppdu("rlrq", octets);
-            osi_release(end, shown->reference, ppdu.at, ppdu.length);
+            done(osi_release(end, shown->reference, ppdu.at, ppdu.length));
         } else if (strcmp(happens, "abort") == 0) {
             ppdu = read_ppdu("abrt", octets);
-            osi_abort(end, shown->reference, ppdu.at, ppdu.length);
+            done(osi_abort(end, shown->reference, ppdu.at, ppdu.length));
         } else {
             ppdu = read_ppdu("answer", octets);
-            osi_data(end, shown->reference, ppdu.at, ppdu.length);
+            done(osi_data(end, shown->reference, ppdu.at, ppdu.length));
         }
         break;
     case OSI_RELEASE:
         ppdu = read_ppdu("rlre", octets);
-        osi_release_accept(end, shown->reference, ppdu.at, ppdu.length);
+        done(osi_release_accept(end, shown->reference, ppdu.at, ppdu.length));
         break;
     }
 }
