@@ -9,6 +9,8 @@
 # and says where; make uninstall takes it away (scripts/install). Neither proves or builds anything.
 # make dist: builds the program and the library, and makes an archive and packages of them in dist/ (scripts/dist; over what
 # was built). make check-dist: the same, and installs them into empty roots and runs them there (scripts/check_dist).
+# make release: what make dist makes, and releases/VERSION/SHA256SUMS, which says what each file is (scripts/release). make
+# check-release: builds the sources of a release anew, and compares octet for octet (scripts/check_release).
 # make gateways: builds the program and the library, and builds and runs the programs of examples/gateway, and the tests and
 # clients of bindings/ (scripts/gateways does so with what was built before).
 # make trials: builds the same and runs what is proved against hostile octets, want of memory and breaks
@@ -21,8 +23,8 @@
 # make pages: checks the links, limits and commands of the pages; it proves and builds nothing (scripts/pages).
 # make ledger: builds the same and the benchmarks, counts the instructions of each operation that a benchmark times, and
 # fails where one takes more than bench/ledger.txt says; some minutes where all is proved.
-.PHONY: all test edits bench ledger lib install uninstall dist check-dist gateways trials fuzz ladders ladders-check pages
-.PHONY: mms interop slow-peers scaling soak
+.PHONY: all test edits bench ledger lib install uninstall dist check-dist release check-release gateways trials fuzz ladders
+.PHONY: ladders-check pages mms interop slow-peers scaling soak
 PREFIX ?= /usr/local
 LIBDIR ?= $(PREFIX)/lib
 SECONDS ?= 60
@@ -63,6 +65,12 @@ dist: all lib
 
 check-dist: all lib
 	scripts/check_dist
+
+release: all lib
+	scripts/release
+
+check-release:
+	scripts/check_release
 
 gateways: all lib
 	scripts/gateways

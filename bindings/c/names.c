@@ -5,9 +5,12 @@
 
 static const char unknown[] = "unknown";
 
+/* The version behind a name by which it is found in the file of the library, as bindings/rust/build.rs does. */
+static const char version[] = "libosi-session " OSI_VERSION;
+
 const char *osi_version(void)
 {
-    return OSI_VERSION;
+    return version + sizeof "libosi-session " - 1;
 }
 
 const char *osi_code_name(uint32_t code)

@@ -1,69 +1,155 @@
-"""Builds the wheel of osi_session, with the standard library alone (PEP 517): so it installs where no
-index of packages is at hand."""
+"""Builds the packages of osi_session, with the standard library alone (PEP 517): so it installs where no index of packages is
+at hand. The same files give the same octets; their time is SOURCE_DATE_EPOCH, or the first that a wheel can tell.
+
+A wheel has no library, and fits each platform. With two settings it has the shared library in it, and fits one:
+
+    pip wheel --config-settings library=PATH --config-settings platform=linux_x86_64 .
+
+`packaging/platform_of LIBRARY` at the top of the repository says which platforms a library fits.
+"""
 import base64
+import gzip
 import hashlib
+import io
 import os
 import re
 import tarfile
+import time
 import zipfile
 
 HERE = os.path.dirname(os.path.abspath(__file__))
+# Where the licences are: beside this file in a source distribution, and at the top of the repository.
+PLACES = (HERE, os.path.dirname(os.path.dirname(HERE)))
+FIRST_OF_ZIP = 315532800
+
+
+def _project():
+    with open(os.path.join(HERE, "pyproject.toml"), encoding="utf-8") as file:
+        return file.read().partition("[project]\n")[2]
 
 
 def _field(name):
-    with open(os.path.join(HERE, "pyproject.toml"), encoding="utf-8") as file:
-        return re.search(rf'^{name} = "(.*)"$', file.read(), re.MULTILINE).group(1)
+    return re.search(rf'^{name} = "(.*)"$', _project(), re.MULTILINE).group(1)
+
+
+def _list(name):
+    return re.findall(r'"(.*?)"', re.search(rf"^{name} = \[(.*?)\]", _project(), re.MULTILINE | re.DOTALL).group(1))
 
 
 VERSION = _field("version")
 INFO = f"osi_session-{VERSION}.dist-info"
 
 
+def _octets(path):
+    with open(path, "rb") as file:
+        return file.read()
+
+
+def _licences():
+    """Each file of licences that is here, by its name."""
+    for name in _list("license-files"):
+        path = next((os.path.join(place, name) for place in PLACES if os.path.isfile(os.path.join(place, name))), None)
+        if path:
+            yield name, _octets(path)
+
+
 def _metadata():
-    return (
-        f"Metadata-Version: 2.1\nName: osi-session\nVersion: {VERSION}\nSummary: {_field('description')}\n"
-        f"Requires-Python: {_field('requires-python')}\n"
-    )
+    lines = [
+        "Metadata-Version: 2.4",
+        "Name: osi-session",
+        f"Version: {VERSION}",
+        f"Summary: {_field('description')}",
+        f"Author: {', '.join(_list('authors'))}",
+        f"License-Expression: {_field('license')}",
+        *(f"License-File: {name}" for name, _ in _licences()),
+        f"Keywords: {','.join(_list('keywords'))}",
+        *(f"Classifier: {each}" for each in _list("classifiers")),
+        f"Requires-Python: {_field('requires-python')}",
+        "Description-Content-Type: text/markdown",
+    ]
+    return ("\n".join(lines) + "\n\n").encode() + _octets(os.path.join(HERE, "README.md"))
 
 
-def _files(editable):
+def _tags(settings):
+    """The tags of a wheel, which also stand in its name."""
+    return [f"py3-none-{each}" for each in settings.get("platform", "linux_x86_64" if "library" in settings else "any").split(".")]
+
+
+def _soname():
+    text = _octets(os.path.join(HERE, "src", "osi_session", "_library.py")).decode()
+    parts = re.search(r'^VERSION = "(.*)"$', text, re.MULTILINE).group(1).split(".")
+    return "libosi-session.so." + ".".join(parts[: 2 if parts[0] == "0" else 1])
+
+
+def _files(settings, editable):
     """What the wheel has: names, and octets."""
     folder = os.path.join(HERE, "src", "osi_session")
     if editable:
         yield "osi_session.pth", os.path.join(HERE, "src").encode()
     for name in sorted(os.listdir(folder)) if not editable else ():
         if name.endswith((".py", ".typed")):
-            with open(os.path.join(folder, name), "rb") as file:
-                yield f"osi_session/{name}", file.read()
-    yield f"{INFO}/METADATA", _metadata().encode()
-    yield f"{INFO}/WHEEL", b"Wheel-Version: 1.0\nGenerator: wheels\nRoot-Is-Purelib: true\nTag: py3-none-any\n"
+            yield f"osi_session/{name}", _octets(os.path.join(folder, name))
+    if "library" in settings:
+        yield f"osi_session/{_soname()}", _octets(settings["library"])
+    yield f"{INFO}/METADATA", _metadata()
+    is_pure = "false" if "library" in settings else "true"
+    tags = "".join(f"Tag: {tag}\n" for tag in _tags(settings))
+    yield f"{INFO}/WHEEL", f"Wheel-Version: 1.0\nGenerator: wheels\nRoot-Is-Purelib: {is_pure}\n{tags}".encode()
+    for name, octets in _licences():
+        yield f"{INFO}/licenses/{name}", octets
 
 
-def _wheel(folder, editable=False):
-    name = f"osi_session-{VERSION}-py3-none-any.whl"
+def _time():
+    return max(int(os.environ.get("SOURCE_DATE_EPOCH", 0)), FIRST_OF_ZIP)
+
+
+def _put(wheel, path, octets):
+    entry = zipfile.ZipInfo(path, time.gmtime(_time())[:6])
+    entry.create_system, entry.external_attr, entry.compress_type = 3, 0o100644 << 16, zipfile.ZIP_DEFLATED
+    wheel.writestr(entry, octets)
+
+
+def _wheel(folder, settings, editable=False):
+    platforms = ".".join(tag.removeprefix("py3-none-") for tag in _tags(settings))
+    name = f"osi_session-{VERSION}-py3-none-{platforms}.whl"
     record = ""
-    with zipfile.ZipFile(os.path.join(folder, name), "w", zipfile.ZIP_DEFLATED) as wheel:
-        for path, octets in _files(editable):
-            wheel.writestr(path, octets)
+    with zipfile.ZipFile(os.path.join(folder, name), "w") as wheel:
+        for path, octets in _files(settings, editable):
+            _put(wheel, path, octets)
             digest = base64.urlsafe_b64encode(hashlib.sha256(octets).digest()).rstrip(b"=").decode()
             record += f"{path},sha256={digest},{len(octets)}\n"
-        wheel.writestr(f"{INFO}/RECORD", record + f"{INFO}/RECORD,,\n")
+        _put(wheel, f"{INFO}/RECORD", (record + f"{INFO}/RECORD,,\n").encode())
     return name
 
 
 def build_wheel(wheel_directory, config_settings=None, metadata_directory=None):
-    return _wheel(wheel_directory)
+    return _wheel(wheel_directory, config_settings or {})
 
 
 def build_editable(wheel_directory, config_settings=None, metadata_directory=None):
-    return _wheel(wheel_directory, editable=True)
+    return _wheel(wheel_directory, {}, editable=True)
+
+
+def _sources():
+    """What a source distribution has: names, and octets."""
+    for name in ("pyproject.toml", "wheels.py", "README.md"):
+        yield name, _octets(os.path.join(HERE, name))
+    yield from _licences()
+    yield "PKG-INFO", _metadata()
+    for top in ("src/osi_session", "tests", "examples"):
+        for name in sorted(os.listdir(os.path.join(HERE, top))):
+            if name.endswith((".py", ".typed")):
+                yield f"{top}/{name}", _octets(os.path.join(HERE, top, name))
 
 
 def build_sdist(sdist_directory, config_settings=None):
     name = f"osi_session-{VERSION}"
-    with tarfile.open(os.path.join(sdist_directory, f"{name}.tar.gz"), "w:gz") as archive:
-        for path in ("pyproject.toml", "wheels.py", "README.md", "src/osi_session", "tests", "examples"):
-            archive.add(
-                os.path.join(HERE, path), f"{name}/{path}", filter=lambda f: None if "__pycache__" in f.name else f
-            )
+    packed = io.BytesIO()
+    with tarfile.open(fileobj=packed, mode="w", format=tarfile.PAX_FORMAT) as archive:
+        for path, octets in _sources():
+            entry = tarfile.TarInfo(f"{name}/{path}")
+            entry.size, entry.mtime, entry.mode = len(octets), _time(), 0o644
+            archive.addfile(entry, io.BytesIO(octets))
+    with open(os.path.join(sdist_directory, f"{name}.tar.gz"), "wb") as file:
+        file.write(gzip.compress(packed.getvalue(), 9, mtime=_time()))
     return f"{name}.tar.gz"

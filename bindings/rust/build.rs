@@ -1,9 +1,11 @@
 //! Finds the library for C: in the folder `OSI_SESSION_DIR` (one that `make lib` made, or one that
-//! `make install` was given as `PREFIX`), or else by `pkg-config`.
+//! `make install` was given as `PREFIX`), or else by `pkg-config`; and looks at its version.
 //!
 //! It is linked statically where `libosi-session.a` is there, unless `OSI_SESSION_SHARED` is set.
+//! With the shared library, what `cargo run` and `cargo test` start finds it too.
 
 use std::env;
+use std::fs;
 use std::path::{Path, PathBuf};
 use std::process::{exit, Command};
 
@@ -12,12 +14,16 @@ osi-session does not find the library for C. Set OSI_SESSION_DIR to the folder t
 `make lib` makes is build/, with all of its path), or to the PREFIX of `make install`; or let pkg-config
 find osi-session.pc, by PKG_CONFIG_PATH=PREFIX/lib/pkgconfig.";
 
+const STATIC: &str = "libosi-session.a";
+const SHARED: &str = "libosi-session.so";
+
+/// The version stands behind these octets in the file of the library (`bindings/c/names.c`), and a zero behind it.
+const MARK: &[u8] = b"libosi-session ";
+
 /// Where a folder has the library: in itself, or in its `lib`.
 fn within(folder: &Path) -> Option<PathBuf> {
     let places = [folder.to_path_buf(), folder.join("lib")];
-    places
-        .into_iter()
-        .find(|place| ["libosi-session.a", "libosi-session.so", "libosi-session.dylib"].iter().any(|name| place.join(name).is_file()))
+    places.into_iter().find(|place| [STATIC, SHARED].iter().any(|name| place.join(name).is_file()))
 }
 
 fn by_pkg_config() -> Option<PathBuf> {
@@ -26,6 +32,59 @@ fn by_pkg_config() -> Option<PathBuf> {
     let output = Command::new(program).args(words).output().ok()?;
     let folder = String::from_utf8(output.stdout).ok()?;
     within(Path::new(folder.trim()))
+}
+
+/// A version as its three numbers.
+fn numbers(text: &str) -> Option<Vec<u32>> {
+    let found: Option<Vec<u32>> = text.split('.').map(|part| part.parse().ok()).collect();
+    found.filter(|numbers| numbers.len() == 3)
+}
+
+/// The version that the file of a library names.
+fn version_of(library: &Path) -> Option<Vec<u32>> {
+    let octets = fs::read(library).ok()?;
+    let at = octets.windows(MARK.len()).position(|window| window == MARK)? + MARK.len();
+    let length = octets[at..].iter().position(|&octet| octet == 0)?;
+    numbers(std::str::from_utf8(&octets[at..at + length]).ok()?)
+}
+
+/// Whether a library has what this crate calls: the number of its soname is that of this version, which
+/// is the first, and with it the second while the first is 0; and it is no older.
+fn fits(library: &[u32], own: &[u32]) -> bool {
+    let same = if own[0] == 0 { 2 } else { 1 };
+    library[..same] == own[..same] && library >= own
+}
+
+/// Ends where the library is not one that this crate is for.
+fn check_version(library: &Path) {
+    let own = env::var("CARGO_PKG_VERSION").expect("cargo tells the version");
+    let found = version_of(library);
+    if found.iter().zip(numbers(&own)).any(|(found, own)| fits(found, &own)) {
+        return;
+    }
+    let said = found.map(|numbers| numbers.iter().map(u32::to_string).collect::<Vec<_>>().join("."));
+    let said = said.unwrap_or_else(|| "no version".into());
+    eprintln!(
+        "osi-session {own} is for a library of this version or a later one of the same soname: {} has {said}",
+        library.display()
+    );
+    exit(1);
+}
+
+/// Puts the shared library where cargo lets what it starts look for libraries: into `OUT_DIR`.
+fn bring(library: &Path) {
+    let own = env::var("CARGO_PKG_VERSION").expect("cargo tells the version");
+    let parts: Vec<&str> = own.split('.').collect();
+    let abi = parts[..if parts[0] == "0" { 2 } else { 1 }].join(".");
+    let folder = PathBuf::from(env::var_os("OUT_DIR").expect("cargo names a folder"));
+    for name in [SHARED.to_string(), format!("{SHARED}.{abi}")] {
+        if let Err(error) = fs::copy(library, folder.join(&name)) {
+            eprintln!("{name} can't be copied: {error}");
+            exit(1);
+        }
+    }
+    println!("cargo:rustc-link-search=native={}", folder.display());
+    println!("cargo:rustc-link-lib=dylib=osi-session");
 }
 
 fn main() {
@@ -46,8 +105,14 @@ fn main() {
         exit(1);
     };
     let place = place.canonicalize().unwrap_or(place);
-    let shared = env::var_os("OSI_SESSION_SHARED").is_some() || !place.join("libosi-session.a").is_file();
-    println!("cargo:rustc-link-search=native={}", place.display());
-    println!("cargo:rustc-link-lib={}=osi-session", if shared { "dylib" } else { "static" });
-    println!("cargo:rerun-if-changed={}", place.join("libosi-session.a").display());
+    let shared = env::var_os("OSI_SESSION_SHARED").is_some() || !place.join(STATIC).is_file();
+    let library = place.join(if shared { SHARED } else { STATIC });
+    check_version(&library);
+    println!("cargo:rerun-if-changed={}", library.display());
+    if shared {
+        bring(&library);
+    } else {
+        println!("cargo:rustc-link-search=native={}", place.display());
+        println!("cargo:rustc-link-lib=static=osi-session");
+    }
 }

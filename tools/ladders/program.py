@@ -1,4 +1,4 @@
-"""The program `ladder`: reads its words and its input, and writes one picture or nothing."""
+"""The program `osi-ladders`: reads its words and its input, and writes one picture or nothing."""
 import argparse
 import os
 import sys
@@ -20,7 +20,7 @@ class Words(argparse.ArgumentParser):
 
 def words():
     """What the program takes."""
-    parser = Words(prog="ladder", description=ABOUT)
+    parser = Words(prog="osi-ladders", description=ABOUT)
     parser.add_argument("file", nargs="?", help="a transcript or a script; standard input where none is named or -")
     parser.add_argument("--script", help="the script that the transcript is of: then all octets are known")
     parser.add_argument("--left", help="a capture of what the left end, which calls, sent; or its listing")
@@ -46,12 +46,12 @@ class Progress:
 
     def __call__(self, done, of):
         if self.is_terminal and of >= 5000 and done % 1000 == 0:
-            self.say(f"ladder: {done:,} of {of:,} lines")
+            self.say(f"osi-ladders: {done:,} of {of:,} lines")
 
     def running(self, what):
         """What is told each second that a program runs."""
-        self.say(f"ladder: running {what}")
-        return lambda seconds: self.say(f"ladder: running {what}, {seconds} s")
+        self.say(f"osi-ladders: running {what}")
+        return lambda seconds: self.say(f"osi-ladders: running {what}, {seconds} s")
 
     def say(self, text):
         """Shows a text in the place of the one before."""
@@ -183,7 +183,7 @@ def main(arguments=None):
     except (BadInput, OSError) as error:
         progress.end()
         said = error if isinstance(error, BadInput) else f"{error.filename or 'standard output'}: {error.strerror}"
-        print(f"ladder: {' '.join(str(said).split())}", file=sys.stderr)
+        print(f"osi-ladders: {' '.join(str(said).split())}", file=sys.stderr)
         if isinstance(error, BrokenPipeError):
             os.dup2(os.open(os.devnull, os.O_WRONLY), sys.stdout.fileno())
         return 2

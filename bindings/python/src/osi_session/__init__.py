@@ -10,7 +10,8 @@ Octets of ``end.outgoing()`` go to the peer, and ``end.taken(count)`` says how m
 go to ``end.feed_all(piece)``, which gives the indications. ``osi_session.aio`` does this over asyncio.
 
 It calls the shared library libosi-session.so of the same project over ctypes: from the folder that
-OSI_SESSION_DIR names (or the file OSI_SESSION_LIBRARY), else where the loader or pkg-config finds it.
+OSI_SESSION_DIR names (or the file OSI_SESSION_LIBRARY), else the one in this package, if it was built with
+one, else where the loader or pkg-config finds it.
 """
 from ._codes import (
     Classes,

@@ -195,12 +195,14 @@ def _by_pkg_config() -> Iterator[str]:
 
 
 def _places() -> Iterator[str]:
-    """Where the library may be: as the environment says, else as the loader and pkg-config find it."""
+    """Where the library may be: as the environment says, else in this package, as a wheel may have it, else as the loader and
+    pkg-config find it."""
     named = _named()
     if named is not None:
         yield from named
         return
-    yield NAME
+    inside = os.path.join(os.path.dirname(os.path.abspath(__file__)), NAME)
+    yield inside if os.path.exists(inside) else NAME
     yield from _by_pkg_config()
 
 

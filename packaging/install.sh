@@ -1,0 +1,43 @@
+#!/bin/sh
+# Puts what is in this folder where a system looks for it; it needs nothing but a shell.
+#
+#   PREFIX=$HOME/osi ./install.sh     program, library, headers, manual and bindings, below PREFIX (/usr/local)
+#   PREFIX=.. ./install.sh --remove   takes them away
+#
+# DESTDIR goes in front of PREFIX, as for `make install`.
+set -eu
+prefix=${PREFIX:-/usr/local}
+case $prefix in /*) ;; *) prefix=$PWD/$prefix ;; esac
+root=${DESTDIR:-}$prefix
+cd "$(dirname "$0")"
+
+# All files and links of the four folders.
+files() { find bin include lib share \( -type f -o -type l \) -print; }
+
+case ${1-} in
+    "")
+        files | while IFS= read -r file; do
+            mkdir -p "$root/$(dirname "$file")"
+            rm -f "$root/$file"
+            cp -P "$file" "$root/$file"
+        done
+        cat <<END
+installed below $root
+  the program:      PATH=$root/bin:\$PATH
+  the library:      export PKG_CONFIG_PATH=$root/lib/pkgconfig
+  a first program:  cc -std=c99 examples/hello.c \$(pkg-config --cflags osi-session) $root/lib/libosi-session.a -o hello
+END
+        ;;
+    --remove)
+        files | while IFS= read -r file; do
+            rm -f "$root/$file"
+        done
+        # What pip left beside the package that it read goes too.
+        rm -rf "$root/share/osi-session" "$root/share/osi"
+        rmdir "$root/lib/cmake/osi-session" 2>/dev/null || true
+        ;;
+    *)
+        sed -n '2,/^set/s/^# \{0,1\}//p' "$0" >&2
+        exit 2
+        ;;
+esac
