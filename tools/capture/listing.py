@@ -1,4 +1,4 @@
-"""Lists a stream by `osi show`, both directions in the order in which they passed, with times."""
+"""Lists a stream or a text by `osi show`, both directions in the order in which they passed, with times."""
 import os
 import re
 import subprocess
@@ -10,6 +10,8 @@ TOP = os.path.dirname(os.path.dirname(os.path.dirname(os.path.abspath(__file__))
 PACKET = re.compile(r"packet (\d+) length (\d+) code ([0-9a-f]{2})")
 DATA_UNIT = re.compile(r"  DT (?:dst ([0-9a-f]{4}) )?number \d+ eot ([01]) octets (\d+)")
 DATA = re.compile(r"    DT .*?octets (\d+)")
+# User data of another session unit, or extended user data (X.225 section 8).
+USER_DATA = re.compile(r"    [A-Z]+ (?:.* )?19[34]=([0-9a-f]*)(?: .*)?")
 
 
 class Line:
@@ -68,8 +70,10 @@ class Joining:
                 self.tsdu = joined
             else:
                 self.parts[reference] = joined
-        data = DATA.fullmatch(text)
-        return self.tsdu[len(self.tsdu) - int(data.group(1)):] if data else None
+        data, other = DATA.fullmatch(text), USER_DATA.fullmatch(text)
+        if data:
+            return self.tsdu[len(self.tsdu) - int(data.group(1)):]
+        return bytes.fromhex(other.group(1)) if other else None
 
 
 def lines_of(side, pieces, osi):
@@ -81,9 +85,8 @@ def lines_of(side, pieces, osi):
         if begun:
             start, length = int(begun.group(1)), int(begun.group(2))
             packet, piece = octets[start:start + length], passing.at(start + length - 1)
-        piece = piece or (pieces[-1] if pieces else None)
-        if piece:
-            found.append(Line(side, piece.frame, piece.time, text.startswith(" ") or begun, text, joining.take(packet, text)))
+        piece = piece or pieces[-1]
+        found.append(Line(side, piece.frame, piece.time, text.startswith(" ") or begun, text, joining.take(packet, text)))
     return found
 
 
@@ -92,8 +95,8 @@ def lines(stream, osi):
     sides = {side: [] for side in SIDES}
     for side, piece in stream.by_side():
         sides[side].append(piece)
-    groups = [group for side in SIDES for group in by_packet(lines_of(side, sides[side], osi))]
-    groups.sort(key=lambda group: group[0].frame)
+    groups = [group for side in SIDES if sides[side] for group in by_packet(lines_of(side, sides[side], osi))]
+    groups.sort(key=lambda group: group[0].frame or 0)
     return [line for group in groups for line in group]
 
 

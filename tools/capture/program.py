@@ -2,18 +2,19 @@
 import argparse
 import json
 import os
-import re
+import shutil
 import sys
 import tempfile
 
-from . import listing, pcap, streams, tshark
+from . import columns, listing, pcap, streams, texts, tshark
 from .streams import SIDES
 from .tshark import BadInput
 
 PORT = 102
 TEXT = """\
   osi-capture list FILE                 the TCP streams of a pcap or pcapng that carry TPKT
-  osi-capture show FILE [--stream N]    both directions as `osi show` lists them, in their order, with times
+  osi-capture show FILE [--stream N]    both directions as `osi show` lists them, in their order, with times; also of a
+                                        file of hexadecimal digits, or of NAME, of which split wrote files
   osi-capture split FILE -o NAME        NAME.left and NAME.right, what each side sent, and NAME.follow, both in their order
   osi-capture join NAME -o FILE         the way back: a pcap with a TCP segment for each TPKT packet
 """
@@ -37,8 +38,11 @@ def words():
         if job != "list":
             one.add_argument("--stream", type=int, help="the number of the stream, as list has it; none: the only one")
         if job == "show":
-            one.add_argument("--json", action="store_true", help="an object for each line of the listing")
-            one.add_argument("--data", action="store_true", help="the octets of each data unit, too")
+            form = one.add_mutually_exclusive_group()
+            form.add_argument("--json", action="store_true", help="an object for each line of the listing")
+            form.add_argument("--columns", action="store_true", help="the sides beside each other, what left sent on the left")
+            one.add_argument("--width", type=int, help="so many columns in all (those of the terminal)")
+            one.add_argument("--data", action="store_true", help="the user data of each session unit, too")
             one.add_argument("--osi", help="the program osi")
         if job == "split":
             one.add_argument("-o", "--output", required=True, metavar="NAME")
@@ -87,20 +91,39 @@ def chosen(asked):
 
 def show(asked):
     """Lists both directions in their order."""
-    stream = chosen(asked)
+    stream = texts.read(asked.file) or chosen(asked)
     found = listing.lines(stream, listing.program(asked.osi))
-    begin = found[0].time if found else 0
-    for line in found:
-        if asked.json:
-            told = {"stream": stream.number, "side": line.side, "frame": line.frame, "time": round(line.time, 6), "line": line.text}
-            if asked.data and line.data is not None:
-                told["data"] = line.data.hex()
-            print(json.dumps(told))
-            continue
-        when = f"{line.time - begin:11.6f}" if not line.text.startswith(" ") else " " * 11
-        print(f"{when} {line.side:5} {line.text}")
-        if asked.data and line.data is not None:
-            print(f"{'':11} {line.side:5}       {line.data.hex()}")
+    if not asked.data:
+        found = [listing.Line(line.side, line.frame, line.time, line.packet, line.text) for line in found]
+    begin = next((line.time for line in found if line.time is not None), 0)
+
+    def when(line):
+        """The seconds since the first line, at a packet."""
+        return f"{line.time - begin:11.6f}" if line.time is not None and not line.text.startswith(" ") else " " * 11
+
+    if asked.json:
+        for line in found:
+            print(json.dumps(told(stream.number, line)))
+    elif asked.columns:
+        with_data = [each for line in found for each in (line, *data_line(line))]
+        for row in columns.rows(with_data, asked.width or shutil.get_terminal_size((160, 0)).columns, when):
+            print(row)
+    else:
+        for line in found:
+            for each in (line, *data_line(line)):
+                print(f"{when(each)} {each.side:5} {each.text}")
+
+
+def told(number, line):
+    """A line as an object of docs/capture.schema.json."""
+    time = None if line.time is None else round(line.time, 6)
+    found = {"stream": number, "side": line.side, "frame": line.frame, "time": time, "line": line.text}
+    return found if line.data is None else {**found, "data": line.data.hex()}
+
+
+def data_line(line):
+    """A line with the data that another tells, where it tells any."""
+    return () if line.data is None else (listing.Line(line.side, line.frame, line.time, line.packet, f"      {line.data.hex()}"),)
 
 
 def in_lines(octets):
@@ -140,38 +163,9 @@ def write_all(files):
         raise BadInput(f"{error.filename or name}: {error.strerror}") from None
 
 
-def text_of(name):
-    try:
-        with open(name, encoding="ascii") as file:
-            return file.read()
-    except (OSError, UnicodeDecodeError) as error:
-        raise BadInput(f"{name}: {getattr(error, 'strerror', None) or 'it is no text'}") from None
-
-
-def pieces_of(text, name):
-    """The pieces of a text as `split` writes it: for each its time, its side and its octets."""
-    time, found = 0.0, []
-    for row in text.split("\n"):
-        noted = re.match(r"# (\d+\.\d+) frame \d+", row)
-        time = float(noted.group(1)) if noted else time
-        digits = row.partition("#")[0]
-        side = SIDES[digits.startswith("\t")]
-        digits = re.sub(r"\s", "", digits)
-        if not re.fullmatch(r"([0-9a-fA-F]{2})*", digits):
-            raise BadInput(f"{name}: a line has something other than pairs of hexadecimal digits")
-        if digits:
-            found.append((time, side, bytes.fromhex(digits)))
-    return found
-
-
 def join(asked):
     """Writes a pcap of NAME.follow, or of NAME.left and NAME.right where there is none."""
-    follow = f"{asked.file}.follow"
-    if os.path.exists(follow):
-        pieces = pieces_of(text_of(follow), follow)
-    else:
-        pieces = [(0.0, side, octets) for side in SIDES
-                  for _, _, octets in pieces_of(text_of(f"{asked.file}.{side}"), f"{asked.file}.{side}")]
+    pieces = [(time or 0.0, side, octets) for _, time, side, octets in texts.of_sides(asked.file)]
     if not any(streams.is_packet(octets) for _, _, octets in pieces):
         raise BadInput(f"{asked.file}: there is no TPKT packet in it")
     write_all({asked.output: pcap.written(pieces)})

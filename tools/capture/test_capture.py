@@ -4,17 +4,23 @@ import glob
 import io
 import json
 import os
+import re
 import shutil
 import subprocess
 import tempfile
 import unittest
 
-from . import program, streams
+from . import columns, listing, program, streams, texts
 
 TOP = os.path.dirname(os.path.dirname(os.path.dirname(os.path.abspath(__file__))))
 TUTORIAL = os.path.join(TOP, "examples", "tutorial")
 TOOLS = ("tshark", "text2pcap", "editcap", "mergecap")
 OSI = os.path.join(TOP, "crates", "osi_tool", "out", "osi_tool")
+# The user data of the units of that association, in their order.
+PPDUS = ("cp", "cpa", "request", "answer", "rlrq", "rlre")
+KINDS = {"integer": int, "number": (int, float), "string": str, "null": type(None)}
+with open(os.path.join(TOP, "docs", "capture.schema.json"), encoding="utf-8") as schema_file:
+    SCHEMA = json.load(schema_file)
 
 
 def call(*words):
@@ -28,6 +34,21 @@ def call(*words):
 def octets_of(name):
     with open(name, encoding="ascii") as file:
         return bytes.fromhex("".join(line.partition("#")[0] for line in file))
+
+
+def wrongs(told):
+    """What docs/capture.schema.json refuses of an object, as far as that schema says anything."""
+    found = [name for name in SCHEMA["required"] if name not in told]
+    for name, value in told.items():
+        rule = SCHEMA["properties"].get(name)
+        kinds = [rule["type"]] if rule and isinstance(rule.get("type"), str) else (rule or {}).get("type", [])
+        if rule is None or (kinds and not any(isinstance(value, KINDS[kind]) for kind in kinds)):
+            found.append(name)
+        elif value not in rule.get("enum", [value]) or not re.search(rule.get("pattern", ""), str(value)):
+            found.append(name)
+        elif value is not None and "minimum" in rule and value < rule["minimum"]:
+            found.append(name)
+    return found
 
 
 def packets_of(octets):
@@ -168,8 +189,86 @@ class Captures(unittest.TestCase):
         status, out, _ = call("show", self.capture(), "--osi", OSI, "--json", "--data")
         told = [json.loads(line) for line in out.splitlines()]
         data = [bytes.fromhex(each["data"]) for each in told if "data" in each]
-        self.assertEqual((status, data), (0, [octets_of(os.path.join(TUTORIAL, f"{name}.hex")) for name in ("request", "answer")]))
+        self.assertEqual((status, data), (0, [octets_of(os.path.join(TUTORIAL, f"{name}.hex")) for name in PPDUS]))
         self.assertEqual({tuple(sorted(each)) for each in told if "data" not in each}, {("frame", "line", "side", "stream", "time")})
+        self.assertEqual(list(map(wrongs, told)), [[]] * len(told))
+
+
+class Texts(unittest.TestCase):
+    """Captures as files of hexadecimal digits: no tshark is asked."""
+
+    LEFT, RIGHT = (os.path.join(TUTORIAL, f"whole.{side}.hex") for side in streams.SIDES)
+
+    def setUp(self):
+        self.room = tempfile.TemporaryDirectory()
+        self.addCleanup(self.room.cleanup)
+
+    def path(self, name):
+        return os.path.join(self.room.name, name)
+
+    def write(self, name, text):
+        with open(self.path(name), "w", encoding="ascii") as file:
+            file.write(text)
+        return self.path(name)
+
+    def both(self):
+        """Files of both sides, as split writes them: two packets at one second, two at the next."""
+        sides = zip(packets_of(octets_of(self.LEFT)), packets_of(octets_of(self.RIGHT)))
+        text = "".join(f"# {at}.500000 frame {at + 1}\n{left.hex()}\n\t{right.hex()}\n" for at, (left, right) in enumerate(sides))
+        return self.write("run.follow", text).removesuffix(".follow")
+
+    def test_a_text_has_the_side_of_its_first_packet(self):
+        self.assertEqual({side for side, _ in texts.read(self.LEFT).by_side()}, {"left"})
+        self.assertEqual({side for side, _ in texts.read(self.RIGHT).by_side()}, {"right"})
+        self.assertEqual(b"".join(piece.octets for _, piece in texts.read(self.RIGHT).by_side()), octets_of(self.RIGHT))
+
+    def test_both_sides_and_their_times_are_read(self):
+        found = [(side, piece.frame, piece.time) for side, piece in texts.read(self.both()).by_side()]
+        self.assertEqual(found[:3], [("left", 1, 0.5), ("right", 1, 0.5), ("left", 2, 1.5)])
+        self.assertEqual(len(found), 8)
+
+    def test_what_is_no_text_is_left_to_tshark(self):
+        with open(self.path("a.pcap"), "wb") as file:
+            file.write(bytes.fromhex("d4c3b2a102000400"))
+        self.assertIsNone(texts.read(self.path("a.pcap")))
+        self.assertIsNone(texts.read(self.path("nothing")))
+
+    def test_a_text_with_something_else_is_refused(self):
+        status, out, err = call("show", self.write("bad.left", "# a capture\n03 00 zz\n"), "--osi", OSI)
+        self.assertEqual((status, out, err.count("\n")), (2, "", 1))
+
+    def test_user_data_is_found_in_each_unit(self):
+        for line, wanted in (("    FN 193=0a0b", "0a0b"), ("    CN 5(19=01 22=02) 20=0002 193=3160", "3160"), ("    AB 17=01", None),
+                             ("    CN 20=0002 194=00ff", "00ff"), ("    DN 193=", "")):
+            found = listing.Joining().take(b"", line)
+            self.assertEqual(found, None if wanted is None else bytes.fromhex(wanted), line)
+
+    def test_columns_have_the_sides_beside_each_other(self):
+        lines = [listing.Line("left", 1, 0.0, True, "packet 0"), listing.Line("right", 2, 1.0, True, 40 * "x")]
+        found = list(columns.rows(lines, 60, lambda line: f"{line.time:11.6f}"))
+        self.assertEqual(found[1:], ["   0.000000 | packet 0              |",
+                                     "   1.000000 |                       | " + 20 * "x" + "\u2026"])
+
+    @unittest.skipUnless(os.path.exists(OSI), "`make` has not built the program")
+    def test_a_file_by_its_name_is_listed(self):
+        status, out, err = call("show", self.LEFT, "--osi", OSI)
+        with open(os.path.join(TUTORIAL, "whole.left.listing"), encoding="ascii") as file:
+            wanted = file.read()
+        self.assertEqual((status, err, "".join(row[18:] + "\n" for row in out.splitlines())), (0, "", wanted))
+
+    @unittest.skipUnless(os.path.exists(OSI), "`make` has not built the program")
+    def test_both_sides_are_told_in_json_and_in_columns(self):
+        run = self.both()
+        status, out, _ = call("show", run, "--osi", OSI, "--json", "--data")
+        told = [json.loads(line) for line in out.splitlines()]
+        self.assertEqual([bytes.fromhex(each["data"]) for each in told if "data" in each],
+                         [octets_of(os.path.join(TUTORIAL, f"{name}.hex")) for name in PPDUS])
+        self.assertEqual(list(map(wrongs, told)), [[]] * len(told))
+        times = [each["time"] for each in told]
+        self.assertEqual((status, times), (0, sorted(times)))
+        rows = call("show", run, "--osi", OSI, "--columns", "--width", "100")[1].splitlines()
+        self.assertEqual((max(map(len, rows)) <= 100, len(rows)), (True, len(told) + 1))
+        self.assertRegex(rows[1], r"^ +0\.000000 \| packet 0 length 18 code e0 +\|$")
 
 
 class Joining(unittest.TestCase):

@@ -1,0 +1,86 @@
+"""Captures as text: octets as hexadecimal digits, as `osi show` reads them and `osi-capture split` writes them.
+
+A comment `# TIME frame N` says when the octets that follow had passed; a line of the right side begins with a tab in a file that
+has both sides.
+"""
+import os
+import re
+
+from .streams import SIDES, Piece
+from .tshark import BadInput
+
+NOTE = re.compile(r"# (\d+\.\d+) frame (\d+)")
+CONNECT_CONFIRM = 0xD0
+
+
+class Text:
+    """What was read of texts: `by_side` gives it as a stream of a network does. Where nothing tells times they are None."""
+
+    number = 0
+
+    def __init__(self, parts):
+        self.parts = parts
+
+    def by_side(self):
+        counts = dict.fromkeys(SIDES, 0)
+        for frame, time, side, octets in self.parts:
+            yield side, Piece(frame, time, counts[side], octets)
+            counts[side] += len(octets)
+
+
+def text_of(name):
+    try:
+        with open(name, encoding="ascii") as file:
+            return file.read()
+    except (OSError, UnicodeDecodeError) as error:
+        raise BadInput(f"{name}: {getattr(error, 'strerror', None) or 'it is no text'}") from None
+
+
+def parts_of(text, name):
+    """The pieces of a text: for each its frame, its time, its side and its octets."""
+    frame, time, found = None, None, []
+    for row in text.split("\n"):
+        noted = NOTE.match(row)
+        frame, time = (int(noted.group(2)), float(noted.group(1))) if noted else (frame, time)
+        digits = row.partition("#")[0]
+        side = SIDES[digits.startswith("\t")]
+        digits = re.sub(r"\s", "", digits)
+        if not re.fullmatch(r"([0-9a-fA-F]{2})*", digits):
+            raise BadInput(f"{name}: a line has something other than pairs of hexadecimal digits")
+        if digits:
+            found.append((frame, time, side, bytes.fromhex(digits)))
+    return found
+
+
+def of_sides(name):
+    """Both sides of NAME: of NAME.follow, or of NAME.left and NAME.right where there is none."""
+    follow = f"{name}.follow"
+    if os.path.exists(follow):
+        return parts_of(text_of(follow), follow)
+    return [(frame, time, side, octets) for side in SIDES
+            for frame, time, _, octets in parts_of(text_of(f"{name}.{side}"), f"{name}.{side}")]
+
+
+def side_of(name, parts):
+    """The side of a text that has one: the right one if its name says so, or if it begins with a CC."""
+    octets = b"".join(octets for _, _, _, octets in parts)[:6]
+    return SIDES[name.endswith((".right", ".right.hex")) or (len(octets) == 6 and octets[5] & 0xF0 == CONNECT_CONFIRM)]
+
+
+def is_text(path):
+    """Whether a file is such a text, and no capture of a network."""
+    with open(path, "rb") as file:
+        return re.fullmatch(rb"[\t\n\r 0-9a-fA-F]*(#.*)?", file.read(4096).partition(b"\n")[0].rstrip(b"\r")) is not None
+
+
+def read(name):
+    """What a name means: a text with one side or both, or NAME of which `split` wrote files. None where it is no text."""
+    if not os.path.exists(name) and any(os.path.exists(f"{name}.{end}") for end in ("follow", "left")):
+        return Text(of_sides(name))
+    if not os.path.isfile(name) or not is_text(name):
+        return None
+    parts = parts_of(text_of(name), name)
+    if not any(side == SIDES[1] for _, _, side, _ in parts):
+        side = side_of(name, parts)
+        parts = [(frame, time, side, octets) for frame, time, _, octets in parts]
+    return Text(parts)
