@@ -1,5 +1,5 @@
-//! The units of the transport protocol of X.224, classes 0 and 2, in octets: what they mean, how
-//! they are read from one packet, and the one spelling in which each is written.
+//! The units of the transport protocol of X.224, classes 0 and 2 (TPDUs), as octets: what they mean, how they are read
+//! from a packet, and the one spelling in which each is written.
 #![tactic(auto)]
 
 mod acknowledgement;
