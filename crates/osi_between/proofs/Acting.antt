@@ -1,4 +1,4 @@
--- Where an end acts, two carriers stand between as they should, whatever has become of them.
+-- If an end acts, two carriers stand between as they should, whatever has become of them.
 use Rattle.std.proofs.Common.{◌≡◌, ◌≢◌, ℕ, ◌+◌, ◌≤◌, ◌||◌, Bool, true, false, not, List, [], ◌++◌, length, Option, Some, None, is_some, IfSome, refl, sym, ap, subst, ◌∙◌, append_assoc, arith, ◌⊎◌, inl, inr}
 use Rattle.osi_between.specs.Between.{under_way}
 use Rattle.osi_between.proofs.Vocabulary.{flat_map, AllByRecursion, append-nil, append_cancel_right, Value, IsSendable, place_at, connection_in, Connection, State, packets, EndReason, units_of, AreFor, Both, side, reach_of, within_reach, arriving, Between, last_of, units_from, lost_from, IsOnTheWay, AreJoinedBy, AreBetween, is_cut, to_come, told_of, put_in, Carries, Acted, becomes, progress_of, BringsTo, under_way_for, ActsFor, Message, messages_to, messages_after, begun_at, AreLike, references_for, class_behind_all, leaves_use, Terms, by_two, accepts_in, class_of}
@@ -79,7 +79,7 @@ unreached end reach e = grind arith
 cut_alive : (broken : Bool) (ended : Option EndReason) → ended ≡ None → (broken || is_some ended) ≡ broken
 cut_alive broken ended e = grind (arith, is_some)
 
--- what is under way from the end that acts
+-- what is in flight from the end that acts
 record OutPart (o : Option Connection) (old new lost put : List Message) : Type 0 where
   stays : List Message
   gone : List Message
@@ -87,7 +87,7 @@ record OutPart (o : Option Connection) (old new lost put : List Message) : Type 
   before : AreLike o old (stays ++ gone)
   after : AreLike o new (stays ++ put)
 
--- messages of units and of what is to come behind them
+-- messages of units and of what is to come after them
 abbrev sum_of : Option Connection → ℕ → List Value → Bool → Option Connection → List Message
 sum_of o n units cut c = messages_after (begun_at o) (units_of n units ++ to_come cut c)
 

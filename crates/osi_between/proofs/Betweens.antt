@@ -230,7 +230,7 @@ over_at terms end each p both b k a less =
       class = λ e. by_end end (λ x. (last_of x now).class ≡ (last_of x b).class) refl refl e;
     }
 
--- events are told
+-- events are reported
 tells_at : (terms : Terms) (end : Bool) → Each → (p : Provides terms) (both : Both) (b : Between) (events : List Happening) → AreBetween terms both b → Same terms both (still_to_tell end events both) b
 tells_at terms true (inl none) p both b events a = absurd none
 tells_at terms end each p both b events a =

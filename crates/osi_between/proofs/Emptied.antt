@@ -1,4 +1,4 @@
--- Where nothing is on the way, nothing is under way for a connection that is open at both ends.
+-- If nothing is on the way, nothing is in flight for a connection that is open at both ends.
 use Rattle.std.proofs.Common.{◌≡◌, ℕ, Bool, true, false, List, [], ◌∷◌, ◌++◌, Option, Some, None, is_some, ◌||◌, refl, sym, ap, subst, ◌∙◌, arith}
 use Rattle.osi_between.specs.Zero.{unasked, talking, at_end, from_end, Holds}
 use Rattle.osi_between.proofs.Vocabulary.{append-nil, Value, LinkPair, Standing, quiet_unsent, nothing_begun, was_given, place_at, connection_in, value_at, Connection, linked, State, packets, EndReason, units_of, Both, reach_of, within_reach, Between, IsOnTheWay, AreJoinedBy, AreBetween, IsStill, IsAllThere, is_cut, to_come, IsEmpty, under_way_for, messages_to, messages_after, begun_at, AreOpen, Terms, by_two, by_zero, refusing, ZeroCourse, HasOne}

@@ -62,7 +62,7 @@ ahead_at by_two n s r going coming j above = ahead_two n s r going coming j abov
 ahead_at by_zero n s r going coming j above = ahead_by n s r going coming j.course j.one j.one_called j.going j.coming j.holds above
 ahead_at (refusing reason) n s r going coming j above = ahead_refusing n reason s r going coming j above
 
--- nothing is under way
+-- nothing is in flight
 sum_none : (o c : Option Connection) (us : List Value) (cut : Bool) → o ≡ None → c ≡ None → us ≡ [] → messages_after (begun_at o) (us ++ to_come cut c) ≡ []
 sum_none o c us cut a b e = grind arith
 

@@ -1,5 +1,4 @@
--- The caller asks for a connection; two new carriers are joined; and where nothing is on the way
--- nothing is under way.
+-- The caller asks for a connection; two new carriers are joined; and if nothing is on the way nothing is in flight.
 use Rattle.std.proofs.Common.{◌≡◌, ℕ, ◌+◌, ◌<◌, Bool, true, false, List, [], ◌∷◌, ◌++◌, length, Option, Some, None, refl, sym, ap, subst, ◌∙◌, inr, arith, if◌then◌else◌}
 use Rattle.osi_between.proofs.Vocabulary.{lt-ltb, Value, LinkPair, swapped, IsQuiet, Standing, Given, Local, quiet_unsent, nothing_begun, references, fresh_state, may_connect, asks, Place, never, was_given, place_at, value_at, linked, State, free_of, orderly_asks, orderly_fresh, live_after, Course, unasked, met, at_end, from_end, IsTsap, Holds, StandsBetween, AreJoined, Did, under_way_for, IsEmpty, talking, addressed, ask, AreOpen}
 use Rattle.osi_between.proofs.CourseOpening.{asks_moves}
@@ -87,7 +86,7 @@ still s r n x y j at at_there =
     still_by n s r r.local st.course x y (sym st.place ∙ given_live n s (linked n x) j.orderly at) (sym st.place_there ∙ given_live n r (linked n y) j.orderly_called at_there)
     (sym st.out) (sym st.back) st.holds
 
--- then nothing is under way either
+-- then nothing is in flight either
 pub still_messages : (s r : State) (n : ℕ) (x y : Standing) → AreJoined s r [] [] → value_at n s.live ≡ Some (linked n x) → value_at n r.live ≡ Some (linked n y) →
     (under_way_for n s r [] ≡ []) × (under_way_for n r s [] ≡ [])
 still_messages s r n x y j at at_there = grind (arith, still, given_live)

@@ -114,7 +114,7 @@ agree_turned true old new i o t a = search (
   agree_turns (map opposite t.turns) (swapped old) (swapped new) a.back a.agree_back (other_way old new t.turns t.along),
 )
 
--- what is under way from links that may have parts without their ends
+-- what is in flight from links that may have parts without their ends
 pub turned_any : (old new : LinkPair) (i o : List (List ℕ)) → Turned old new i o → under_way_before old i ≡ under_way new
 turned_any old new i o t =
     ap (λ (l : List (List ℕ)). under_way_before old l) (sym (append-nil (flat_map left_in t.turns) ∙ t.sent))
@@ -126,7 +126,7 @@ turned_any_back old new i o t =
     ∙ turns_keep (swapped old) (swapped new) (map opposite t.turns) [] (other_way old new t.turns t.along)
     ∙ ap (λ (l : List (List ℕ)). l ++ under_way (swapped new)) t.got
 
--- what is under way, to the right and to the left
+-- what is in flight, to the right and to the left
 pub turned_right : (old new : LinkPair) (i o : List (List ℕ)) → Turned old new i o → HasWholeTsdus old → under_way old ++ i ≡ under_way new
 turned_right old new i o t whole = grind (arith, whole_kept)
 

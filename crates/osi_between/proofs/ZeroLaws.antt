@@ -117,7 +117,7 @@ not_here s n y one h = let no : None ≡ Some y = sym (ap (value_at n) one.live)
 pub not_asked : (s : State) (n peer : ℕ) (link : Standing) → HasOne s (was_given (Some asked)) → value_at n s.live ≡ Some (linked peer link) → ⊥
 not_asked s n peer link one h = let no = (at_one s n asked (linked peer link) one h).is in cc
 
--- behind the CC
+-- after the CC
 accept_sends : (s r : State) (going coming : List Value) (c : Connect) (p : LinkPair) (octets : List ℕ) → AreJoinedZero s r going coming → HasOne s (was_given (Some asked)) → HasOne r (was_given (Some (linked 1 p.right))) →
     going ≡ [] → coming ≡ confirm 1 (answer_of r.local c) ∷ addressed 1 p.leftward → IsAccepted s.local r.local c p → IsShortTsdu octets → IsOctets octets →
     Does by_zero false 1 r s (sent 1 octets r) coming going going [] (message octets ∷ [])

@@ -29,7 +29,7 @@ zero_for (x ∷ gs) = grind (arith, zero_for gs)
 pub one_of : (g : Given) → reference_of (unit_of 1 g) ≡ 1
 one_of g = grind arith
 
--- what is under way, by places
+-- what is in flight, by places
 pub under_is : (s r : State) (p q : Place) (going us : List Value) → place_at 1 s ≡ p → place_at 1 r ≡ q → going ≡ us → AreFor 1 us → under_way_for 1 s r going ≡ messages_to (connection_in p) us (connection_in q)
 under_is s r p q going us a b c all = grind (arith, units_same)
 

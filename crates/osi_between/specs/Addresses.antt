@@ -25,7 +25,7 @@ AreFor n units = AllByRecursion (λ unit. reference_of unit ≡ n) units
 
 -- ---- the references that are live at an end
 
--- the references that are live behind a unit, at an end that accepts each CR
+-- the references that are live after a unit, at an end that accepts each CR
 abbrev pub live_behind : List ℕ → Value → List ℕ
 live_behind refs (request c) = refs ++ c.source ∷ []
 live_behind refs (confirm destination c) = refs
@@ -65,7 +65,7 @@ asked_by (error destination cause) = []
 abbrev pub requests : List Value → List ℕ
 requests units = flat_map asked_by units
 
--- so many numbers behind this one
+-- this many numbers after this one
 abbrev pub behind : ℕ → ℕ → List ℕ
 behind n zero = []
 behind n (suc k) = (n + 1) ∷ behind (n + 1) k

@@ -62,8 +62,8 @@ arriving end both = within_reach (reach_of end both.reach) (side end both).state
 
 -- ---- what is between them
 
--- Each end as it was when it last had not ended; and the units that are on the way from it, and those
--- behind them that it wrote and that a break took away.
+-- Each end as it was when it last had not ended; and the units that are on the way from it, and those after them that
+-- it wrote and that a break took away.
 pub record Between : Type 0 where
   pub caller : State
   pub called : State
@@ -114,7 +114,7 @@ pub record AreBetween (terms : Terms) (both : Both) (b : Between) : Type 0 where
   pub unbroken : both.reach ≡ None → (end : Bool) → lost_from end b ≡ []
   pub bound : (end : Bool) → IfSome (reach_of end both.reach) (λ k. k ≤ length (side end both).state.outgoing)
 
--- ---- what is under way
+-- ---- what is in flight
 
 -- nothing more of an end will arrive than what it wrote: it has ended, or the byte connection broke
 abbrev pub is_cut : Bool → Both → Bool
@@ -124,7 +124,7 @@ is_cut end both = is_some both.reach || is_some (side end both).state.ended
 abbrev pub to_come : Bool → Option Connection → List Value
 to_come cut connection = if cut then [] else uncut_units (unsent_at connection)
 
--- the messages under way from an end to the other, for the connection of this reference
+-- the messages in flight from an end to the other, for the connection of this reference
 abbrev pub under_way : Bool → ℕ → Both → Between → List Message
 under_way end n both b =
     messages_after (begun_at (connection_in (place_at n (last_of (not end) b))))
@@ -132,7 +132,7 @@ under_way end n both b =
 
 -- ---- what a step did
 
--- what the user of an end is told of a message that arrives: a CR that is refused is not told
+-- what the user of an end is informed of a message that arrives: a CR that is refused is not told
 abbrev pub told_of : Terms → ℕ → Place → Message → List Happening
 told_of by_two n place m = told_opening n place m
 told_of by_zero n place m = told_opening n place m
@@ -147,21 +147,21 @@ answers_in by_zero place unit = answers_at place unit
 answers_in (refusing reason) never unit = deny reason ∷ []
 answers_in (refusing reason) (was_given connection) unit = []
 
--- what is put behind what is under way, unless a break has come before
+-- what is put after what is in flight, unless a break has come before
 abbrev pub put_in : Both → List Message → List Message
 put_in both put = if is_some both.reach then [] else put
 
--- An end acted for a connection. These messages arrived there, of which its user was told; what was
--- under way from it stays, but for what was `gone`, and `put` comes behind it. What is under way for
--- all other connections is the same, each way, and their places are.
+-- An end acted for a connection. These messages arrived there, of which its user was told; what was in flight from it
+-- stays, but for what was `gone`, and `put` comes after it. What is in flight for all other connections is the same,
+-- each way, and their places are.
 pub record Carries (terms : Terms) (end : Bool) (n : ℕ) (old new : Both) (b c : Between) (taken : List Value) (put : List Message) : Type 0 where
   pub arrived : List Message
   pub stays : List Message
   pub gone : List Message
-  -- what its user is told, and what was under way to it: what arrived, and then what still is
+  -- what its user is told, and what was in flight to it: what arrived, and then what still is
   pub told : (last_of end c).events ≡ (last_of end b).events ++ flat_map (told_of terms n (place_at n (last_of end b))) arrived
   pub came : AreLike (connection_in (place_at n (last_of end c))) (under_way (not end) n old b) (arrived ++ under_way (not end) n new c)
-  -- what was under way from it, and what is
+  -- what was in flight from it, and what is
   pub before : AreLike (connection_in (place_at n (last_of (not end) b))) (under_way end n old b) (stays ++ gone)
   pub after : AreLike (connection_in (place_at n (last_of (not end) b))) (under_way end n new c) (stays ++ put_in old put)
   -- what the units that it took brought to the connection
@@ -173,9 +173,9 @@ pub record Carries (terms : Terms) (end : Bool) (n : ℕ) (old new : Both) (b c 
   pub given : (last_of end c).given ≡ (last_of end b).given + references_for (accepts_in terms) arrived put
   pub class : (last_of end c).class ≡ class_behind_all (class_of terms) (last_of end b).class arrived
   pub local : (last_of end c).local ≡ (last_of end b).local
-  -- of what is under way from it some is lost only where the connection is open no more
+  -- of what is in flight from it some is lost only if the connection is open no more
   pub keeps : leaves_use (progress_of (place_at n (last_of end b))) (progress_of (place_at n (last_of end c))) ≡ false → gone ≡ []
-  -- the other end is as it was; the units that are on the way to it are those behind what it took
+  -- the other end is as it was; the units that are on the way to it are those after what it took
   pub there : last_of (not end) c ≡ last_of (not end) b
   pub cut : units_from (not end) b ≡ taken ++ units_from (not end) c
   pub lost_still : lost_from (not end) c ≡ lost_from (not end) b
@@ -202,7 +202,7 @@ pub record Took (terms : Terms) (end : Bool) (packet behind : List ℕ) (both : 
 
 -- ---- nothing is carried
 
--- What is under way is the same, and all places are.
+-- What is in flight is the same, and all places are.
 pub record Same (terms : Terms) (old new : Both) (b : Between) : Type 0 where
   pub now : Between
   pub between : AreBetween terms new now
@@ -224,7 +224,7 @@ without_front k s = record s { state = record s.state { outgoing = drop k s.stat
 abbrev pub with_behind : List ℕ → Side → Side
 with_behind octets s = record s { held = s.held ++ octets }
 
--- so many octets from this end are handed over to the other
+-- this many octets from this end are handed over to the other
 abbrev pub handed_over : Bool → ℕ → Both → Both
 handed_over end k both =
     with_side end (without_front k (side end both))
@@ -245,12 +245,12 @@ ended_at false reason both = record both { called = record both.called { state =
 abbrev pub broken_at : ℕ → ℕ → Both → Both
 broken_at k l both = record both { reach = Some (k, l) }
 
--- What is under way from an end is what was, but for its last.
+-- What is in flight from an end is what was, but for its last.
 pub record Loses (end : Bool) (n : ℕ) (old new : Both) (b c : Between) : Type 0 where
   pub gone : List Message
   pub all : under_way end n old b ≡ under_way end n new c ++ gone
 
--- Something of what is under way was lost, and all places are the same.
+-- Something of what is in flight was lost, and all places are the same.
 pub record Lost (terms : Terms) (old new : Both) (b : Between) : Type 0 where
   pub now : Between
   pub between : AreBetween terms new now
@@ -275,8 +275,8 @@ pub record IsStill (both : Both) : Type 0 where
   pub held : both.caller.held ≡ []
   pub held_called : both.called.held ≡ []
 
--- All of a connection that is open at both ends has arrived: nothing is under way, nothing is still to
--- be sent, and no TSDU is unfinished.
+-- All of a connection that is open at both ends has arrived: nothing is in flight, nothing is still to be sent, and no
+-- TSDU is unfinished.
 pub record IsAllThere (n : ℕ) (both : Both) (b : Between) (link peer : Standing) : Type 0 where
   pub links : IsEmpty link peer
   pub there : under_way true n both b ≡ []

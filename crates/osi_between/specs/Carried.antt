@@ -1,4 +1,4 @@
--- Which TSDUs of a connection were handed in, and which were told, over a list of what happened.
+-- Which TSDUs of a connection were handed in, and which were reported, over a list of what happened.
 use Rattle.std.specs.Prelude.{◌≡◌, ℕ, ◌==◌, Bool, true, false, List, [], ◌∷◌, ◌++◌, length, drop, if◌then◌else◌}
 use Rattle.osi_carrier.specs.Happenings.{Happening, opened, refused, tsdu, closed, faulted}
 use Rattle.osi_carrier.specs.Packets.{after_packet}
@@ -30,7 +30,7 @@ tsdus_in (over ∷ ms) = tsdus_in ms
 abbrev pub told_by_packet : ℕ → State → List ℕ → List (List ℕ)
 told_by_packet n s packet = tsdus_told n (drop (length s.events) (after_packet s packet).events)
 
--- those that are told at an end in a move
+-- those that are reported at an end in a move
 abbrev pub told_in : Bool → ℕ → Move → Both → List (List ℕ)
 told_in true n (takes true packet octets behind) both = told_by_packet n both.caller.state packet
 told_in false n (takes false packet octets behind) both = told_by_packet n both.called.state packet

@@ -57,14 +57,14 @@ pub record AreJoined (caller called : State) (going coming : List Value) : Type 
   pub named : AllByRecursion (λ unit. 0 < reference_of unit) going
   pub named_back : AllByRecursion (λ unit. 0 < reference_of unit) coming
   pub stands : (n : ℕ) → 0 < n → StandsBetween true n caller called going coming
-  -- the caller has given so many references more than the called end: they are those of the CRs that are
-  -- on the way, and for each there is a place
+  -- the caller has given this many references more than the called end: they are those of the CRs that are on the way,
+  -- and for each there is a place
   pub ahead : ℕ
   pub given : caller.given ≡ called.given + ahead
   pub numbers : requests going ≡ behind called.given ahead
   pub places : HasPlaces (references called.live) going
 
--- what is under way for a connection from one end to the other, with these units between them
+-- what is in flight for a connection from one end to the other, with these units between them
 abbrev pub under_way_for : ℕ → State → State → List Value → List Message
 under_way_for n sender taker units = messages_to (connection_in (place_at n sender)) (units_of n units) (connection_in (place_at n taker))
 
@@ -75,8 +75,8 @@ JoinedFrom false this other going coming = AreJoined other this coming going
 
 -- ---- an end, which was `this` and is `next`, acted for a connection
 
--- Some of the units on the way to it were taken. What was under way to it arrived, of which its user
--- was told, or still is.
+-- Some of the units on the way to it were taken. What was in flight to it arrived, of which its user was told, or still
+-- is.
 pub record TakenFor (n : ℕ) (this other next : State) (coming rest : List Value) (put : List Message) : Type 0 where
   -- the units, all for this connection, and the messages that they brought
   pub units : List Value
@@ -87,23 +87,23 @@ pub record TakenFor (n : ℕ) (this other next : State) (coming rest : List Valu
   pub came : AreLike (connection_in (place_at n next)) (under_way_for n other this coming) (arrived ++ under_way_for n other next rest)
   pub brings : BringsTo true (place_at n this) (place_at n next) units arrived put
 
--- It wrote units. What was under way from it stays, but for what was `lost` where the connection is
--- open no more, and `put` comes behind.
+-- It wrote units. What was in flight from it stays, but for what was `lost` if the connection is open no more, and
+-- `put` comes after.
 pub record WrittenFor (n : ℕ) (this other next : State) (going behind : List Value) (put : List Message) : Type 0 where
-  -- the units, all for this connection, behind those on the way from it
+  -- the units, all for this connection, after those on the way from it
   pub units : List Value
   pub written : behind ≡ going ++ units
   pub outgoing : next.outgoing ≡ this.outgoing ++ packets units
   pub sendable : AllByRecursion IsSendable units
   pub all_for : AreFor n units
-  -- the messages that were under way: those that stay, and those that were lost
+  -- the messages that were in flight: those that stay, and those that were lost
   pub stays : List Message
   pub lost : List Message
   pub before : AreLike (connection_in (place_at n other)) (under_way_for n this other going) (stays ++ lost)
   pub after : AreLike (connection_in (place_at n other)) (under_way_for n next other behind) (stays ++ put)
   pub keeps : leaves_use (progress_of (place_at n this)) (progress_of (place_at n next)) ≡ false → lost ≡ []
 
--- What is under way for all other connections is the same, from it and to it, and where they stand.
+-- What is in flight for all other connections is the same, from it and to it, and where they stand.
 pub record OthersStay (n : ℕ) (this other next : State) (going coming behind rest : List Value) : Type 0 where
   pub out : (q : ℕ) → q ≢ n → under_way_for q this other going ≡ under_way_for q next other behind
   pub back : (q : ℕ) → q ≢ n → under_way_for q other this coming ≡ under_way_for q other next rest
@@ -127,7 +127,7 @@ pub record Did (end : Bool) (n : ℕ) (this other next : State) (going coming re
 
 -- ---- nothing is on the way
 
--- nothing of a connection that is open at both ends is left behind at either
+-- nothing of a connection that is open at both ends is left after at either
 pub record IsEmpty (here there : Standing) : Type 0 where
   pub unsent : here.ends.unsent ≡ []
   pub unsent_there : there.ends.unsent ≡ []

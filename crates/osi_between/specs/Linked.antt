@@ -19,7 +19,7 @@ pub record AreLinked (end : Bool) (this other : Carrying) (going coming : List V
   pub going_octets : AreComing other.held.octets this.state.outgoing going
   pub coming_octets : AreComing this.held.octets other.state.outgoing coming
 
--- so many of the octets were handed over
+-- this many of the octets were handed over
 abbrev pub handed_over : List ℕ → Carrying → Carrying
 handed_over left carrier = record carrier { state = record carrier.state { outgoing = left } }
 
@@ -39,8 +39,8 @@ TakesFor this other going coming (unit ∷ units) next behind rest =
     × ActsFor (reference_of unit) this other (react unit this) going coming after left (answers_at (place_at (reference_of unit) this) unit)
     × TakesFor (react unit this) other after left units next behind rest
 
--- An end was fed some of the octets that the other has to hand over, and used so many of them: it took
--- units, one after the other, and then the two are linked, or there was no memory.
+-- An end was fed some of the octets that the other has to hand over, and used this many of them: it took units, one
+-- after the other, and then the two are linked, or there was no memory.
 pub record WasFed (end : Bool) (this other next : Carrying) (going coming : List Value) (used : ℕ) : Type 0 where
   pub done : List Value
   pub left : List Value

@@ -1,5 +1,5 @@
--- How one connection of class 2 stands at two carriers since both have had it open, and which units
--- are under way for it. Both gave it the same reference. `here` is one of the two, `there` the other.
+-- How one connection of class 2 stands at two carriers since both have had it open, and which units are in flight for
+-- it. Both gave it the same reference. `here` is one of the two, `there` the other.
 use Rattle.std.specs.Prelude.{◌≡◌, ◌≢◌, ℕ, ◌<◌, Bool, true, false, List, [], ◌∷◌, ◌++◌, map, Option, Some, None, is_none, if◌then◌else◌}
 use Rattle.std.specs.List.{flat_map, list_any, AllByRecursion}
 use Rattle.osi_tpdu.specs.Value.{Value, request, confirm, disconnect, disconnected, data0, data2, acknowledge, error}
@@ -16,18 +16,18 @@ use Rattle.osi_between.specs.Messages.{Message, ask, agree, deny, message, bye, 
 use Rattle.osi_between.specs.OpenLinks.{AreOpen}
 use Rattle.osi_between.specs.Progress.{Brings, progress_in, leaves_use}
 
--- A side that has closed keeps nothing of its link: `LinkPair` then has it as it was at that time, as
--- if it took nothing any more, and the units that are still under way to it stand beside.
+-- A side that has closed keeps nothing of its link: `LinkPair` then has it as it was at that time, as if it took
+-- nothing any more, and the units that are still in flight to it stand beside.
 pub data Meeting : Type 0 where
   -- open at both
   talking : LinkPair → Meeting
-  -- a DR with this reason is under way from here, which ignores these units
+  -- a DR with this reason is in flight from here, which ignores these units
   left_here : LinkPair → List Given → ℕ → Meeting
-  -- a DR with this reason is under way to here, and these units before it are ignored there
+  -- a DR with this reason is in flight to here, and these units before it are ignored there
   left_there : LinkPair → List Given → ℕ → Meeting
-  -- DRs under way from here and to here: units before it and reason
+  -- DRs in flight from here and to here: units before it and reason
   left_both : List Given → ℕ → List Given → ℕ → Meeting
-  -- gone there; behind units that are ignored a DC comes, or the DR that crossed the one from here
+  -- gone there; after units that are ignored a DC comes, or the DR that crossed the one from here
   waiting_here : List Given → Option ℕ → Meeting
   -- gone here
   waiting_there : List Given → Option ℕ → Meeting
@@ -70,7 +70,7 @@ abbrev pub farewell : ℕ → Option ℕ → Value
 farewell n None = disconnected n n
 farewell n (Some reason) = leaving n reason
 
--- the units under way from here, the oldest first
+-- the units in flight from here, the oldest first
 abbrev pub out : ℕ → Meeting → List Value
 out n (talking p) = addressed n p.rightward
 out n (left_here p units reason) = addressed n p.rightward ++ leaving n reason ∷ []
@@ -80,7 +80,7 @@ out n (waiting_here units last) = []
 out n (waiting_there units last) = addressed n units ++ farewell n last ∷ []
 out n parted = []
 
--- the units under way to here
+-- the units in flight to here
 abbrev pub back : ℕ → Meeting → List Value
 back n m = out n (mirror m)
 
@@ -123,7 +123,7 @@ pub record Changes (n : ℕ) (old new : State) (after : Option Connection) (unit
   pub local : new.local ≡ old.local
   pub is_caller : new.is_caller ≡ old.is_caller
 
--- what the user of an open connection is told of a message that arrives, and of a closing one: nothing
+-- what the user of an open connection is informed of a message that arrives, and of a closing one: nothing
 abbrev pub told_open : ℕ → Message → List Happening
 told_open n ask = []
 told_open n agree = []
@@ -138,16 +138,15 @@ told_at n (Some asked) m = []
 told_at n (Some (linked peer link)) m = told_open n m
 told_at n (Some (closing peer)) m = []
 
--- the messages under way to here, and from here
+-- the messages in flight to here, and from here
 abbrev pub messages_back : ℕ → Meeting → List Message
 messages_back n m = messages_to (there n m) (back n m) (here n m)
 
 abbrev pub messages_out : ℕ → Meeting → List Message
 messages_out n m = messages_to (here n m) (out n m) (there n m)
 
--- What is under way each way, where one side acted: some of what was under way to it arrived, of
--- which its user was told; and what was under way from it stays, but for what was `lost`, and `put`
--- comes behind it.
+-- What is in flight each way, where one side acted: some of what was in flight to it arrived, of which its user was
+-- told; and what was in flight from it stays, but for what was `lost`, and `put` comes after it.
 pub record Carries (n : ℕ) (old new : Meeting) (events : List Happening) (put : List Message) : Type 0 where
   pub arrived : List Message
   pub stays : List Message
@@ -175,8 +174,8 @@ answers_of (Some asked) unit = []
 answers_of (Some (linked peer link)) unit = if is_leaving unit then over ∷ [] else []
 answers_of (Some (closing peer)) unit = []
 
--- One side acted: these units to it were taken (one, or none), `put` was put behind what is under way
--- from it, and the connection stands so.
+-- One side acted: these units to it were taken (one, or none), `put` was put after what is in flight from it, and the
+-- connection stands so.
 pub record Moves (n : ℕ) (old : Meeting) (s t : State) (taken : List Value) (put : List Message) : Type 0 where
   pub new : Meeting
   pub units : List Value

@@ -1,4 +1,4 @@
--- What is under way from one carrier to the other for a connection, read as whole messages.
+-- What is in flight from one carrier to the other for a connection, read as whole messages.
 use Rattle.std.specs.Prelude.{◌≡◌, ℕ, zero, suc, true, false, List, [], ◌∷◌, ◌++◌, map, Option, Some, None}
 use Rattle.osi_tpdu.specs.Value.{Value, request, confirm, disconnect, disconnected, data0, data2, acknowledge, error}
 use Rattle.osi_carrier.specs.State.{Connection, asked, linked, closing}
@@ -50,8 +50,8 @@ begun_at (Some asked) = []
 begun_at (Some (linked peer link)) = link.ends.joining.begun
 begun_at (Some (closing peer)) = []
 
--- what is under way, by the connection at the end that sends, its units on the way, and the
--- connection at the end that takes
+-- what is in flight, by the connection at the end that sends, its units on the way, and the connection at the end that
+-- takes
 abbrev pub messages_to : Option Connection → List Value → Option Connection → List Message
 messages_to sender units taker = messages_after (begun_at taker) (units ++ uncut_units (unsent_at sender))
 

@@ -55,16 +55,16 @@ pub record AreOpen (two : Bool) (p : LinkPair) : Type 0 where
   pub left : IsSettled p.left
   pub right : IsSettled p.right
 
--- links with these units under way, the oldest first
+-- links with these units in flight, the oldest first
 abbrev pub links : Standing → List Given → Standing → List Given → LinkPair
 links left rightward right leftward = record { left = left; rightward = rightward; right = right; leftward = leftward }
 
 -- What was done at the left between `old` and `new`: the TSDUs `ins` were handed in there, and
 -- `outs` handed out.
 pub record Passes (two : Bool) (old new : LinkPair) (ins outs : List (List ℕ)) : Type 0 where
-  -- what is under way to the right
+  -- what is in flight to the right
   pub rightward : under_way old ++ ins ≡ under_way new
-  -- what is under way to the left
+  -- what is in flight to the left
   pub leftward : under_way (swapped old) ≡ outs ++ under_way (swapped new)
   pub stay_open : AreOpen two new
 
@@ -72,12 +72,12 @@ pub record Passes (two : Bool) (old new : LinkPair) (ins outs : List (List ℕ))
 abbrev pub after_send : LinkPair → List ℕ → LinkPair
 after_send p tsdu = links (pumped (with_tsdu p.left tsdu)) (p.rightward ++ all_given (with_tsdu p.left tsdu)) p.right p.leftward
 
--- the left link is now this one, behind the oldest unit to it: its first whole TSDU is handed out,
--- and all that may be sent now is given
+-- the left link is now this one, after the oldest unit to it: its first whole TSDU is handed out, and all that may be
+-- sent now is given
 abbrev pub after_take : LinkPair → Standing → List Given → LinkPair
 after_take p link rest = links (pumped (handed_out link)) (p.rightward ++ all_given (handed_out link)) p.right rest
 
--- the left link takes this unit, and these are then under way to it
+-- the left link takes this unit, and these are then in flight to it
 pub record LeftTakes (two : Bool) (p : LinkPair) (unit : Value) (rest : List Given) : Type 0 where
   pub link : Standing
   pub taken : taken p.left unit ≡ Ok link

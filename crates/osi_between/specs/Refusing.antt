@@ -6,7 +6,7 @@ use Rattle.osi_carrier.specs.Rows.{Rows}
 use Rattle.osi_carrier.specs.State.{Connection, asked, State}
 use Rattle.osi_between.specs.Terms.{terms_of, refusing, IsProposed}
 
--- none is asked for; a CR is under way; the DR that refuses it is
+-- none is asked for; a CR is in flight; the DR that refuses it is
 pub data Refusal : Type 0 where
   unasked : Refusal
   asking : Connect → Refusal
@@ -22,7 +22,7 @@ rows_in n denied = (n, asked) ∷ []
 abbrev pub denying : ℕ → ℕ → Value
 denying n reason = disconnect n 0 reason []
 
--- the units under way from the caller, and from the called end
+-- the units in flight from the caller, and from the called end
 abbrev pub from_end : Bool → ℕ → ℕ → Refusal → List Value
 from_end end reason n unasked = []
 from_end true reason n (asking c) = request c ∷ []

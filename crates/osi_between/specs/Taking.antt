@@ -12,8 +12,8 @@ abbrev pub TakesUnits : State → List Value → State → Type 0
 TakesUnits old [] new = new ≡ old
 TakesUnits old (unit ∷ units) new = (stops old ≡ false) × TakesUnits (react unit old) units new
 
--- Some of the units that come were taken one after the other, and then, perhaps, memory was wanted.
--- But after a fault or want of memory the others are those that still come.
+-- Some of the units that come were taken one after the other, and then, perhaps, memory was wanted. But after a fault
+-- or an allocation failure the others are those that still come.
 pub record TakesSome (old : Carrying) (outgoing : List ℕ) (coming : List Value) (used : ℕ) (new : Carrying) : Type 0 where
   pub done : List Value
   pub left : List Value

@@ -13,8 +13,8 @@ pub data Terms : Type 0 where
   by_zero : Terms
   refusing : ℕ → Terms
 
--- Class 2 where both support it; else class 0 where the caller proposes it and the called end supports
--- it. A CR that proposes class 0 alone is refused with reason 0, and another with 130.
+-- Class 2 if both support it; else class 0 where the caller proposes it and the called end supports it. A CR that
+-- proposes class 0 alone is refused with reason 0, and another with 130.
 abbrev pub terms_of : Local → Local → Terms
 terms_of caller called =
     if caller.class2 && called.class2 then by_two

@@ -15,8 +15,8 @@ use Rattle.osi_between.specs.Meeting.{addressed}
 use Rattle.osi_between.specs.OpenLinks.{AreOpen}
 use Rattle.osi_between.specs.Terms.{terms_of, by_zero, IsProposed}
 
--- How the connection stands: not asked for; its CR is under way; open at the called end, with links as
--- if it were open at both; open at both. A close ends the carrier.
+-- How the connection stands: not asked for; its CR is in flight; open at the called end, with links as if it were open
+-- at both; open at both. A close ends the carrier.
 pub data ZeroCourse : Type 0 where
   unasked : ZeroCourse
   asking : Connect → ZeroCourse
@@ -37,7 +37,7 @@ at_end false (accepting c p) = was_given (Some (linked 1 p.right))
 at_end true (talking p) = was_given (Some (linked 1 p.left))
 at_end false (talking p) = was_given (Some (linked 1 p.right))
 
--- the units under way from the caller, and from the called end, which would have this
+-- the units in flight from the caller, and from the called end, which would have this
 abbrev pub from_end : Bool → Local → ZeroCourse → List Value
 from_end end called unasked = []
 from_end true called (asking c) = request c ∷ []

@@ -43,7 +43,7 @@ accepter x u n a z o = record {
 abbrev connected : Core → ℕ → ℕ → Sides → TsduMaximumSize → List ℕ → State
 connected w u n a z o = becomes (flushed w.peer w.own) (acceptance w.own.session u n a z o)
 
--- ---- nothing is under way
+-- ---- nothing is in flight
 
 none_under_way : (w : Core) (u : ℕ) → Accepts w u → AllEmpty w.peer.sent
 none_under_way w u q =

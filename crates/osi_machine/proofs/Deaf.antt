@@ -1,4 +1,4 @@
--- What is under way to a side that has asked for a restart, or that expects nothing.
+-- What is in flight to a side that has asked for a restart, or that expects nothing.
 use Rattle.std.proofs.Common.{◌≡◌, refl, sym, ◌∙◌, ap, subst, ℕ, Bool, true, false, not, ◌&&◌, ◌||◌, if◌then◌else◌, List, [], ◌∷◌, ◌++◌, ◌⊎◌, inl, inr, arith}
 use Rattle.osi_machine.proofs.Vocabulary.{TokenSetting, ResyncType, State, RestartDue, Meaning, RS, is_restarting, is_restart_due, is_expected, has_no_effect, passes_restarting, without_tokens, restarted_at, stands, drops, next, Item, seen, is_plain, Fits, AllFit, flush, stops, heard, hears, view_next, heard_view, or_left}
 use Rattle.osi_machine.proofs.PhaseLaws.{excluded, if_first, by_test}

@@ -1,5 +1,4 @@
--- A side that gives tokens away: what is under way to it goes on fitting, and leaves it the same but for
--- those tokens.
+-- A side that gives tokens away: what is in flight to it goes on fitting, and leaves it the same but for those tokens.
 use Rattle.std.proofs.Common.{◌≡◌, refl, sym, ◌∙◌, ap, subst, Bool, true, false, not, ◌&&◌, ◌||◌, List, ◌⊎◌, inl, inr, arith}
 use Rattle.osi_machine.proofs.Vocabulary.{and_parts, or_left, and_from, not-true, State, Tokens, Meaning, DT, GT, MIP, MAP, FN, Token, data_token, minor, major, release, has, some, is_empty, is_within, is_disjoint, without, united, available, lacks, may_ask, is_restart_due, becomes, stands, Good, Item, Fits, stops, view_next}
 use Rattle.osi_machine.proofs.PhaseLaws.{excluded, cut_or}
@@ -60,7 +59,7 @@ fewer_good k s (MAP n o) g = search (two_lack, still_lacks)
 fewer_good k s (FN o) g = record { expected = g.expected; met = (still_empty k s g.met.0, tt) }
 fewer_good k s _ g = record { expected = g.expected; met = g.met }
 
--- ---- what is under way to it
+-- ---- what is in flight to it
 
 -- a side that holds all of these tokens, one at least, and asks for nothing but the answer to a major point
 pub record Gives (k : Tokens) (s : State) : Type 0 where

@@ -21,7 +21,7 @@ upto_twice (suc k) (suc n) [] le = refl
 upto_twice (suc k) (suc n) (Octets octets ∷ h) le = ap (λ (r : List Item). Octets octets ∷ r) (upto_twice (suc k) (suc n) h le)
 upto_twice (suc k) (suc n) (Point m kind octets ∷ h) le = ap (λ (r : List Item). Point m kind octets ∷ r) (upto_twice k n h (omega arith))
 
--- what is cut off lies behind as many points
+-- what is cut off lies after as many points
 pub upto_append : (k : ℕ) (h more : List Item) → k ≤ points h → upto k (h ++ more) ≡ upto k h
 upto_append zero h more le = refl
 upto_append (suc k) [] more le = absurd (omega arith)
@@ -46,7 +46,7 @@ points_below (suc k) [] = omega arith
 points_below (suc k) (Octets octets ∷ h) = points_below (suc k) h
 points_below (suc k) (Point m kind octets ∷ h) = let e = points_below k h in omega arith
 
--- where what a restart leaves was seen, more at the end changes it nothing
+-- if what a restart leaves was seen, more at the end changes it nothing
 pub cut_append : (base n : ℕ) (h more v : List Item) → v ≡ cutat base h n → n ≡ base + points v → cutat base (h ++ more) n ≡ cutat base h n
 cut_append base n h more v e c = grind (arith, points_below, upto_append)
 

@@ -23,7 +23,7 @@ unit_keeps s u = search (arith, good_keeps)
 
 -- ---- a message
 
--- a close comes only where the session is over
+-- a close comes only if the session is over
 close_quiet : (b : Bool) (w : World) (t u : Told) (r : ℕ) (ms : List Message) → Stage b w t u → w.peer.channel ≡ bye r ∷ ms → shows_loss w.own.kept.phase ≡ false
 close_quiet b w t u r ms (inl h) e = absurd (none h.way (sym e ∙ h.peer_channel))
   where

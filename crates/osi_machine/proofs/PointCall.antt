@@ -168,7 +168,7 @@ heard_number w a h = search (arith, heard_counted, heard_open, excluded, heeds)
 nothing_needed : (w : Core) → Points w → Stands w → list_any (needs_token data_token) w.peer.sent ≡ false
 nothing_needed w a h = none_needs data_token w.own.session w.peer.sent (holding w a h) h.own.fits
 
--- where points were taken last here, none is under way there
+-- if points were taken last here, none is under way there
 both_answer : (w : Core) → Points w → Stands w → (hearing w.own w.peer).numbers.answers ≡ true → (flushed w.peer w.own).numbers.answers ≡ false
 both_answer w a h t = search (arith, ends_same, heard_sends, nothing_needed)
 

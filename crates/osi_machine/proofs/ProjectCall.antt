@@ -14,7 +14,7 @@ pub any_append : (p : Message → Bool) (ms : List Message) (m : Message) → p 
 any_append p [] m h = rw h refl
 any_append p (x ∷ ms) m h = ap (λ (b : Bool). p x || b) (any_append p ms m h)
 
--- where the sender is not over, no last unit is under way
+-- if the sender is not over, no last unit is in flight
 pub none_last : (s : State) (lost tail : List Meaning) → IsTail false s lost tail → tail ≡ []
 none_last s lost tail h = grind arith
 

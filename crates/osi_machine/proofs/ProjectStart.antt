@@ -45,7 +45,7 @@ caller_zero x (inr h) = h.zero_now
 pub called_zero : (x : End) → Idle not_yet x ⊎ (Idle linked x ⊎ Left_it x) → AreZero x.kept.confirmed x.kept.base x.mark
 called_zero x h1 = search arith
 
--- what is under way
+-- what is in flight
 pub data Way : Type 0 where
   nothing_sent : Way
   asked : Way
@@ -130,7 +130,7 @@ absent_left s o k e = by_test (is_over s.phase) (λ q. rw q (ap own_to_pool e)) 
 pub absent_back : (p : Owner) → turned_owner p ≡ Absent → p ≡ Absent
 absent_back p e = grind arith
 
--- what is left of what is under way
+-- what is left of what is in flight
 abbrev cut_asks : ℕ → Way → Way
 cut_asks zero asked = nothing_sent
 cut_asks k way = way

@@ -161,7 +161,7 @@ take_projects broken w c u us ms p all then_all lives e rest =
       peer = giver_side broken w c u us ms k;
     }
 
--- ---- the first unit under way is that of the core's channel, or the last of a side that is over
+-- ---- the first unit in flight is that of the core's channel, or the last of a side that is over
 
 pub record First (broken over_now : Bool) (u : Meaning) (ms : List Message) (sent : List Meaning) (s : State) : Type 0 where
   pub rest : List Meaning

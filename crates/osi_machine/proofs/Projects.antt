@@ -49,8 +49,8 @@ IsTail over_now s lost [] = Unit {0}
 IsTail over_now s lost (u ∷ []) = (over_now ≡ true) × (lost ≡ []) × IsLast s u
 IsTail over_now s lost (u ∷ v ∷ us) = ⊥
 
--- What is under way to a side is the first units of the core's channel, all of them unless the sender is
--- over or the connection broken; and behind them perhaps the last unit of a sender that is over.
+-- What is in flight to a side is the first units of the core's channel, all of them unless the sender is over or the
+-- connection broken; and after them perhaps the last unit of a sender that is over.
 pub record Carried (broken over_now : Bool) (channel : List Message) (sent : List Meaning) (s : State) : Type 0 where
   pub there : List Meaning
   pub lost : List Meaning
@@ -81,7 +81,7 @@ pub record Projects (broken : Bool) (w : World) (c : Core) : Type 0 where
   pub own : OneSide broken w c
   pub peer : OneSide broken (turned_world w) (turned c)
 
--- ---- where both sides are over, nothing is said but that
+-- ---- if both sides are over, nothing is said but that
 
 pub not_both : {A : Type 0} (b : Bool) → b ≡ true → b ≡ false → A
 not_both b p q = absurd (cc)

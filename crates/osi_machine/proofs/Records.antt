@@ -1,5 +1,5 @@
--- What is true of two sides and what is under way between them. Each line is stated for the side x that
--- takes what y sends, and holds for both.
+-- What is true of two sides and what is in flight between them. Each line is stated for the side x that takes what y
+-- sends, and holds for both.
 use Rattle.std.specs.Prelude.{◌≡◌, ℕ, ◌≤◌, ◌<◌, Bool, true, false, not, ◌&&◌, ◌||◌, List, [], ◌++◌}
 use Rattle.osi_machine.proofs.Vocabulary.{list_any, State, Phase, FunctionalUnits, Connecting, Answering, Ready, MajorAsked, MajorDue, Releasing, ReleaseDue, Restarting, RestartDue, Token, data_token, has, available, lower, is_restarting, is_restart_due, is_connecting, is_release_due, is_releasing, may_hold, Item, cutat, AreNumberedFrom, Owners, is_own, is_to_own, is_absent, turned_owners, AllFit, flush, heard, hears, heard_view, data_of, needs_token, Party, Core, AreConsistent}
 
@@ -41,7 +41,7 @@ pub record Meeting (o : Owners) (now end other_end heard : State) (other : State
   pub released : is_release_due heard.phase ≡ true → is_releasing other.phase ≡ true
 
 pub record Half (o : Owners) (x y : Party) : Type 0 where
-  -- no unit under way will be a fault
+  -- no unit in flight will be a fault
   pub fits : AllFit x.session y.sent
   pub meeting : Meeting o x.session (flushed x y) (flushed y x) (hearing x y) y.session
 

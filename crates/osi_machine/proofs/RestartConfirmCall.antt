@@ -28,7 +28,7 @@ answerer x a o = record { session = confirmed x.session a; view = x.view ++ []; 
 abbrev restarted : Core → Sides → List ℕ → State
 restarted w a o = becomes (flushed w.peer w.own) (answer w.own.session a o)
 
--- ---- what is under way: nothing to this side, and nothing that the other heeds
+-- ---- what is in flight: nothing to this side, and nothing that the other heeds
 
 none_under_way : (w : Core) → is_restart_due w.own.session.phase ≡ true → Stands w → AllEmpty w.peer.sent
 none_under_way w due s =

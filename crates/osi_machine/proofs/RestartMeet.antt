@@ -93,7 +93,7 @@ other_units w n q s = sym s.own.meeting.units ∙ end_units w.owner w.own w.peer
 pub other_base : (w : Core) (n : ℕ) → Restarts w n → Stands w → (flushed w.peer w.own).base ≡ w.own.session.base
 other_base w n q s = sym s.own.meeting.base ∙ (flush_open w.own.session w.peer.sent (begun w n q) s.own.fits).base
 
--- where no restart comes to this side the other takes one, and where one comes the other has asked
+-- if no restart comes to this side the other takes one, and where one comes the other has asked
 pub other_takes : (w : Core) → Stands w → Lively (flushed w.own w.peer)
     → (takes_restart (flushed w.peer w.own).phase ≡ true) × (is_restarting (flushed w.peer w.own).phase ≡ false)
 other_takes w s l = search (arith, and_from, implied_two, not-true)

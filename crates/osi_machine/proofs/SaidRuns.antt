@@ -10,7 +10,7 @@ use Rattle.osi_machine.proofs.PhaseLaws.{by_test}
 
 -- ---- one reference
 
--- what its two sides said and heard; nothing where there is no connection
+-- what its two sides said and heard; nothing if there is no connection
 abbrev Holds : Bool → Words → Words → Option Line → Type 0
 Holds b x y None = (x ≡ silent) × (y ≡ silent)
 Holds b x y (Some l) = Told b l x y

@@ -10,7 +10,7 @@ use Rattle.osi_machine.proofs.TableSeats.{state_from, owned_as}
 use Rattle.osi_machine.proofs.TableLines.{line_of, AreSeated, Tabled, TurnTabled, begun_seated, gone_seated, gone_state, theirs_stay}
 use Rattle.osi_machine.proofs.PhaseLaws.{if_yes, by_test}
 
--- ---- what changes nothing but the transport and what is under way
+-- ---- what changes nothing but the transport and what is in flight
 
 -- the own side, at the same session
 still_seated : (w : World) (ms : List Message) (a b : Option Meaning) → AreSeated w a b → AreSeated (record w { own = record w.own { channel = ms } }) a b

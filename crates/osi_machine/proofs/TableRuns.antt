@@ -192,7 +192,7 @@ turn_follows m ls side r keep x k h t =
     (closes_follows (noted (map (shown_at side r) k.shown) m) ls side r keep k t.first t.second m.known h t.seated)
     (stays_follows m ls side r (line_of k.world t.first t.second) k.world (map (shown_at side r) k.shown) h (record { first = t.first; second = t.second; same = refl; seated = t.seated })))
 
--- before a connection is agreed to no unit is under way
+-- before a connection is agreed to no unit is in flight
 pub no_unit_back : (way : Way) (m : Meaning) (ms : List Message) → unit m ∷ ms ≡ replies way → ⊥
 no_unit_back way m ms e = grind arith
 

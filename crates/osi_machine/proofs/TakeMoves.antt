@@ -13,7 +13,7 @@ use Rattle.osi_machine.proofs.CoreLaws.{SessionLaws, taking_kept}
 use Rattle.osi_machine.proofs.Deaf.{not_both}
 use Rattle.osi_machine.proofs.PhaseLaws.{if_second, if_first}
 
--- the connection, where these units are all that is under way to this side
+-- the connection, where these units are all that is in flight to this side
 abbrev pub at : Core → List Meaning → Core
 at w us = record { history = w.history; owner = w.owner; own = w.own; peer = rest_of w.peer us }
 
@@ -114,7 +114,7 @@ moves_stands laws w u us r v got o e s k =
 
 -- ---- a unit that moves no token, at a side that listens
 
--- where the owners stay, so do the lines on tokens
+-- if the owners stay, so do the lines on tokens
 pub same_tokens : (o : Owners) (now end other heard peer r : State) → Meeting o now end other heard peer → r.held ≡ now.held → Tokens_of o r end heard
 same_tokens o now end other heard peer r m e = search arith
 

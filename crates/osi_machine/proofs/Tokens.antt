@@ -61,7 +61,7 @@ seen_nothing s u v h st = grind arith
 same_view : (s : State) (u : Meaning) (v : List Item) → Fits s u → stops s u ≡ false → has s.held data_token ≡ true → view_next s u v ≡ v
 same_view s u v f st h = by_test (drops s u) (λ d. rw d) (λ d. rw d (seen_nothing s u v (held_needs s data_token u h (f.good d)) st))
 
--- where this side holds the data token, nothing that is under way to it before a restart shows anything
+-- if this side holds the data token, nothing that is in flight to it before a restart shows anything
 pub nothing_to_see : (s : State) (us : List Meaning) (v : List Item) → Holds data_token s → AllFit s us → heard_view s us v ≡ v
 nothing_to_see s [] v h f = refl
 nothing_to_see s (u ∷ us) v h f =

@@ -38,14 +38,14 @@ pub record IsAsTables (m : Machine) (t : Tables) : Type 0 where
   pub journal : t.journal ≡ m.journal
   pub lines : AreLines m.worlds t.lines
 
--- a break takes what is behind so many messages of each channel
+-- a break takes what is after this many messages of each channel
 abbrev pub cut_line : ℕ → ℕ → Line → Line
 cut_line left right l = record {
   own = record l.own { channel = take left l.own.channel };
   peer = record l.peer { channel = take right l.peer.channel };
 }
 
--- ---- what is under way
+-- ---- what is in flight
 
 -- each unit can be sent, so that it is read as it was meant
 abbrev pub AreSendable : List Message → Type 0
@@ -66,11 +66,11 @@ pub record IsSoundLine (l : Line) : Type 0 where
 abbrev pub AreSoundLines : Tables → Type 0
 AreSoundLines t = (r : ℕ) (l : Line) → connection_at r t.lines ≡ Some l → IsSoundLine l
 
--- said of the session of each side of each connection, and of what is under way to it
+-- said of the session of each side of each connection, and of what is in flight to it
 abbrev pub AtEachSide : (State → List Message → Type 0) → Tables → Type 0
 AtEachSide P t = (side : Side) (r : ℕ) (l : Line) → connection_at r t.lines ≡ Some l → P (seen_from side l).own.session.state (seen_from side l).peer.channel
 
--- data that is first under way to a side is no fault there
+-- data that is first in flight to a side is no fault there
 abbrev pub IsNoFaultNext : State → List Message → Type 0
 IsNoFaultNext s messages = (octets : List ℕ) (ms : List Message) → messages ≡ unit (DT octets) ∷ ms → is_faulty (verdict s (DT octets)) ≡ false
 
@@ -124,13 +124,13 @@ AreNoFaults s p left right = (left.faulted ≡ false) × (right.faulted ≡ fals
 abbrev pub AreAgreed : State → State → Told → Told → Type 0
 AreAgreed s p left right = left.duplex ≡ false → right.duplex ≡ false → Agree left.view right.view
 
--- where either record tells that duplex is selected, the data that each side is shown is how the data that
--- the other asked to send begins
+-- if either record tells that duplex is selected, the data that each side is shown is how the data that the other asked
+-- to send begins
 abbrev pub IsShownAsAsked : State → State → Told → Told → Type 0
 IsShownAsAsked s p left right = (left.duplex || right.duplex) ≡ true → Begins left.indicated right.requested × Begins right.indicated left.requested
 
--- each point in the view of a side with a number below its V(A) is in the view of the other, behind the
--- same items; unless the other has asked for a restart and has seen no answer
+-- each point in the view of a side with a number below its V(A) is in the view of the other, after the same items;
+-- unless the other has asked for a restart and has seen no answer
 abbrev pub IsSeenThere : State → Told → Told → Type 0
 IsSeenThere s own other =
     (before : List Item) (n : ℕ) (kind : PointKind) (octets : List ℕ) → Begins (before ++ Point n kind octets ∷ []) own.view →
@@ -143,6 +143,6 @@ IsSeenInBoth s p left right = IsSeenThere s left right × IsSeenThere p right le
 abbrev pub TellsNoFault : Tables → Type 0
 TellsNoFault t = list_any is_fault t.journal ≡ false
 
--- a side is shown a loss only where it was told of a break or found no memory
+-- a side is shown a loss only if it was informed of a break or found no memory
 abbrev pub LosesAsItEnds : Tables → Type 0
 LosesAsItEnds t = (side : Side) → list_any (is_loss side) t.journal ≡ true → loses (end_of side t) ≡ true

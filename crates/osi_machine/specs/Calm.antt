@@ -28,11 +28,11 @@ after_message s over = s
 abbrev pub IsCalm : State → Type 0
 IsCalm s = (octets : List ℕ) → is_faulty (verdict s (DT octets)) ≡ false
 
--- nor is it behind these messages, whatever calls the user makes before each of them and behind the last
+-- nor is it after these messages, whatever calls the user makes before each of them and after the last
 abbrev pub StaysCalm : State → List Message → Type 0
 StaysCalm s [] = (calls : List Call) → AllByRecursion HasSerial calls → IsCalm (after_calls s calls)
 StaysCalm s (m ∷ ms) = (calls : List Call) → AllByRecursion HasSerial calls → StaysCalm (after_message (after_calls s calls) m) ms
 
--- data that is anywhere under way to a side is no fault behind what is ahead of it
+-- data that is anywhere in flight to a side is no fault after what is ahead of it
 abbrev pub IsNoFaultBehind : State → List Message → Type 0
 IsNoFaultBehind s messages = (ms : List Message) (octets : List ℕ) (rest : List Message) → messages ≡ ms ++ unit (DT octets) ∷ rest → StaysCalm s ms

@@ -1,4 +1,4 @@
--- The units that are under way to a side, run through the table of that side.
+-- The units that are in flight to a side, run through the table of that side.
 use Rattle.std.specs.Prelude.{◌≡◌, ℕ, Bool, true, false, not, if◌then◌else◌, List, [], ◌∷◌, ◌++◌}
 use Rattle.osi_machine.specs.Floor.{State, Phase, Meaning, RF, DT, MIP, MAP, RS, FN, DN, AB, AA, Token, data_token, minor, release, is_restarting, stands, drops, Good, next}
 use Rattle.osi_machine.specs.Histories.{Item}
@@ -16,7 +16,7 @@ pub record Fits (s : State) (u : Meaning) : Type 0 where
   pub plain : is_plain u ≡ true
   pub good : drops s u ≡ false → Good s u
 
--- no unit under way will be a fault
+-- no unit in flight will be a fault
 abbrev pub AllFit : State → List Meaning → Type 0
 AllFit s [] = Unit {0}
 AllFit s (u ∷ us) = Fits s u × AllFit (next s u) us

@@ -90,7 +90,7 @@ party_taking x u = record {
   sent = x.sent;
 }
 
--- this side takes the first of these units, which are all that is under way to it
+-- this side takes the first of these units, which are all that is in flight to it
 abbrev pub taking : Core → List Meaning → Core
 taking w [] = w
 taking w (u ∷ us) = record {
@@ -162,7 +162,7 @@ offer_sent o = CN true o.requirements (serial_for (functional_units o.requiremen
 abbrev pub party_of : State → List Meaning → Party
 party_of s sent = record { session = s; view = []; said = []; got = []; sent = sent }
 
--- the CN is under way
+-- the CN is in flight
 abbrev pub core_start : Offer → Core
 core_start o = record {
   history = [];

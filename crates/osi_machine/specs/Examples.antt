@@ -21,7 +21,7 @@ only_data = record { data_token = true; minor = false; major = false; release = 
 abbrev pub all_tokens : Tokens
 all_tokens = set_of (λ t. true)
 
--- all that is under way stays
+-- all that is in flight stays
 abbrev pub keep_all : ℕ → ℕ
 keep_all r = 99
 

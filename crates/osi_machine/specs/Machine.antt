@@ -8,7 +8,7 @@ use Rattle.osi_machine.specs.Floor.{CallError, Answer, Call, HasSerial, allowed,
 use Rattle.osi_machine.specs.Core.{Offer, CanBeOffered, Side, Left, Right}
 use Rattle.osi_machine.specs.Worlds.{Class, class_0, class_2, Message, agree, Transport, not_yet, waiting, gone, World, turned, session_of, asked_with, after_answer, Taking, Terms, accepts, message_taken, closed, ended_at, shown_at_end}
 
--- why a side ends: it is told of a break, it has closed a connection of class 0, or it finds no memory
+-- why a side ends: it is informed of a break, it has closed a connection of class 0, or it finds no memory
 pub data Ending : Type 0 where
   told_of_break : Ending
   closed_here : Ending
@@ -24,8 +24,8 @@ pub data Refusal : Type 0 where
   not_selected : Refusal
   too_long : Refusal
 
--- What happens. A delivery into a side takes the first message of the other's channel; where a close, an
--- end or a break loses messages, the step says how many of each channel stay.
+-- What happens. A delivery into a side takes the first message of the other's channel; if a close, an end or a break
+-- loses messages, the step says how many of each channel stay.
 pub data Step : Type 0 where
   connects : Offer → Step
   calls : Side → (reference : ℕ) → Call → Step

@@ -22,9 +22,9 @@ pub record IsConsistent (x : Party) : Type 0 where
   pub sound : IsSound x.session
   -- V(M) is the base and the points that were seen
   pub count : x.session.numbers.next ≡ x.session.base + points x.view
-  -- a major point is to be confirmed only where points were taken last
+  -- a major point is to be confirmed only if points were taken last
   pub major : is_major_due x.session.phase ≡ true → x.session.numbers.answers ≡ true
-  -- a restart was asked for only where it is selected
+  -- a restart was asked for only if it is selected
   pub asked : is_restarting x.session.phase ≡ true → x.session.units.resynchronize ≡ true
   -- with duplex only the caller asks for release
   pub asker : is_releasing x.session.phase ≡ true → x.session.units.duplex ≡ true → x.session.is_caller ≡ true

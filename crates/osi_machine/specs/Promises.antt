@@ -58,8 +58,8 @@ abbrev pub TakesTheNextItem : Core → Type 0
 TakesTheNextItem w = (u : Meaning) (us : List Meaning) → w.peer.sent ≡ u ∷ us → is_acted_on w.own.session u ≡ true →
     Begins (w.own.view ++ brings w.own.session u) w.history
 
--- A point that a side has seen, and whose number is below its V(A), was seen by the other too, behind the
--- same items; unless the other awaits the answer to a restart.
+-- A point that a side has seen, and whose number is below its V(A), was seen by the other too, after the same items;
+-- unless the other awaits the answer to a restart.
 abbrev pub ConfirmedIsSeen : Core → Type 0
 ConfirmedIsSeen w = (before : List Item) (n : ℕ) (kind : PointKind) (octets : List ℕ) → Begins (before ++ Point n kind octets ∷ []) w.own.view →
     n < w.own.session.numbers.confirmed → is_restarting w.peer.session.phase ≡ false → Begins (before ++ Point n kind octets ∷ []) w.peer.view

@@ -34,13 +34,13 @@ ShowNoFault w left right = (left.faulted ≡ false) × (right.faulted ≡ false)
 abbrev pub RecordsAgree : World → Told → Told → Type 0
 RecordsAgree w left right = left.duplex ≡ false → right.duplex ≡ false → Agree left.view right.view
 
--- where either record tells that duplex is selected, the data that each side is shown is how the data that
--- the other asked to send begins
+-- if either record tells that duplex is selected, the data that each side is shown is how the data that the other asked
+-- to send begins
 abbrev pub ShownAsAsked : World → Told → Told → Type 0
 ShownAsAsked w left right = (left.duplex || right.duplex) ≡ true → Begins left.indicated right.requested × Begins right.indicated left.requested
 
--- each point in the view of a side with a number below its V(A) is in the view of the other, behind the
--- same items; unless the other has asked for a restart and has seen no answer
+-- each point in the view of a side with a number below its V(A) is in the view of the other, after the same items;
+-- unless the other has asked for a restart and has seen no answer
 abbrev pub ConfirmedThere : World → Told → Told → Type 0
 ConfirmedThere w own other =
     (before : List Item) (n : ℕ) (kind : PointKind) (octets : List ℕ) → Begins (before ++ Point n kind octets ∷ []) own.view →
@@ -86,12 +86,12 @@ abbrev pub is_loss : Side → Entry → Bool
 is_loss side (shown_at d r Lost) = is_side side d
 is_loss side e = false
 
--- a side is told of a break, or finds no memory
+-- a side is informed of a break, or finds no memory
 abbrev pub loses : Option Ending → Bool
 loses (Some told_of_break) = true
 loses (Some no_memory) = true
 loses e = false
 
--- a side is shown a loss only where it ended so
+-- a side is shown a loss only if it ended so
 abbrev pub LosesByItsEnd : Machine → Type 0
 LosesByItsEnd m = (side : Side) → list_any (is_loss side) m.journal ≡ true → loses (end_of side m) ≡ true

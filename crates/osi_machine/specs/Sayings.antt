@@ -23,12 +23,12 @@ said_to waiting s agree = one_or_none (react s opened).reply
 said_to linked s (unit u) = one_or_none (react s (taken (said_of u))).reply
 said_to transport s m = []
 
--- where there is a transport connection, a unit is heard
+-- if there is a transport connection, a unit is heard
 abbrev pub heard_of : Transport → Message → List Meaning
 heard_of linked (unit u) = u ∷ []
 heard_of transport m = []
 
--- the first message that is under way to a side
+-- the first message that is in flight to a side
 abbrev pub said_to_first : Line → List Message → List Meaning
 said_to_first l [] = []
 said_to_first l (m ∷ ms) = said_to l.own.transport l.own.session m
@@ -95,10 +95,9 @@ is_parting closing = true
 is_parting gone = true
 is_parting transport = false
 
--- What a side has heard of a connection is how what the other has said of it begins. While its transport
--- connection is not closing or gone, what it has heard and then what is under way to it is how that begins;
--- and is all of that where the transport connection of the other is not closing or gone either, and
--- nothing is broken.
+-- What a side has heard of a connection is how what the other has said of it begins. While its transport connection is
+-- not closing or gone, what it has heard and then what is in flight to it is how that begins; and is all of that where
+-- the transport connection of the other is not closing or gone either, and nothing is broken.
 pub record IsHeardAsSaid (side : Side) (r : ℕ) (terms : Terms) (steps : List Step) : Type 0 where
   pub begins : Begins (heard_in side r (start terms) steps) (said_in (other_side side) r (start terms) steps)
   pub under_way : (l : Line) → side_of side (connection_at r (run (start terms) steps).lines) ≡ Some l → is_parting l.own.transport ≡ false →

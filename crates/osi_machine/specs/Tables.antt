@@ -1,6 +1,6 @@
--- The machine where each side of a connection keeps the state of its session, as the tables of sessions
--- have it, and the two share nothing but what is under way: no history, no owner, no mark. Whatever
--- happens to a side is an input of its session, and what the session sends goes to the end of its channel.
+-- The machine where each side of a connection keeps the state of its session, as the tables of sessions have it, and
+-- the two share nothing but what is in flight: no history, no owner, no mark. Whatever happens to a side is an input of
+-- its session, and what the session sends goes to the end of its channel.
 use Rattle.std.specs.Prelude.{ℕ, ◌+◌, Bool, true, false, not, ◌||◌, if◌then◌else◌, List, [], ◌∷◌, ◌++◌, take, map, Option, Some, None, is_some}
 use Rattle.osi_session.specs.declared.faults.CallError.TheVariants as error
 use Rattle.osi_session.specs.Moves.{Input, called, taken, opened, refused, broken as broken_off, Standing, Move, react}

@@ -9,8 +9,8 @@ abbrev pub is_acted_on : State → Meaning → Bool
 is_acted_on s u = not (is_over s.phase)
     && (not (drops s u) && (is_expected s.phase u && is_none (first_fault (si u) (conditions s u))))
 
--- Of a unit that is acted on: what its taker has seen after it. Data and points are added, and a
--- restart that stands cuts off what is behind it.
+-- Of a unit that is acted on: what its taker has seen after it. Data and points are added, and a restart that stands
+-- cuts off what is after it.
 abbrev pub seen : State → Meaning → List Item → List Item
 seen s (DT octets) v = if s.units.duplex then v else v ++ Octets octets ∷ []
 seen s (MIP confirm n octets) v = v ++ Point n (minor_kind confirm) octets ∷ []

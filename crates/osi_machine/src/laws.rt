@@ -20,10 +20,10 @@ ghost use Rattle.osi_machine.specs.Worlds.{Message, Terms, accepts, class_2};
 
 use osi_session::laws as session;
 
-/// Over every list of calls and units taken, in any order, from a CN that is under way, and whatever
-/// the other side does: V(A) and V(R) are between the base and V(M), which is at most 1,000,000 and
-/// counts the points that this side has seen; points that are to be confirmed were taken last; a
-/// restart is asked for only where it is selected, and with duplex a release by the caller alone.
+/// Over every list of calls and units taken, in any order, from a CN that is in flight, and whatever the other side
+/// does: V(A) and V(R) are between the base and V(M), which is at most 1,000,000 and counts the points that this side
+/// has seen; points that are to be confirmed were taken last; a restart is asked for only if it is selected, and with
+/// duplex a release by the caller alone.
 pub fn what_is_true_of_each_side()
     ensures begins { (o : Offer) → CanBeOffered o → AreConsistent (core_start o) }
     ensures kept { (w : Core) (steps : List CoreStep) → AllByRecursion IsNumberedStep steps → AreConsistent w →
@@ -72,8 +72,7 @@ pub fn agreement()
     session::what_an_accepted_call_passed();
 }
 
-/// Data or a point that is taken is the item of the history that comes behind all that its taker has
-/// seen.
+/// Data or a point that is taken is the item of the history that comes after all that its taker has seen.
 pub fn next_item()
     ensures { (w : Core) → IsReached w → OfBoth TakesTheNextItem w }
 {
@@ -83,8 +82,8 @@ pub fn next_item()
     session::what_an_accepted_call_passed();
 }
 
-/// A point that a side has seen, and whose number is below its V(A), was seen by the other too, behind
-/// the same items; unless the other has asked for a restart and awaits the answer.
+/// A point that a side has seen, and whose number is below its V(A), was seen by the other too, after the same items;
+/// unless the other has asked for a restart and awaits the answer.
 pub fn confirmed_is_seen()
     ensures { (w : Core) → IsReached w → OfBoth ConfirmedIsSeen w }
 {
@@ -110,16 +109,15 @@ pub fn what_a_record_tells()
     session::what_an_accepted_call_passed();
 }
 
-/// After every list of steps of the machine, with any number of connections, with closes, breaks and
-/// ends, and whatever is lost: of each connection no token is held by both sides; neither user is shown
-/// a fault of its own side or of the other; unless duplex is selected, one of both views begins with the
-/// other, and with duplex, as soon as one of the two has sent or seen the answer that selects it, the data
-/// that a side is shown is how the data that the other asked to send begins; and each point in the view of
-/// a side with a number below its V(A) is in the view of the other, behind the same items, unless the other
-/// awaits the answer to a restart. All this is read from the journal alone, but for V(A). Data or a point
-/// that is taken is the item of the history at the mark of the side that takes it. No entry of the journal
-/// is a fault that is shown, whatever its reference. And a side is shown that a connection was lost only
-/// where it was told of a break or found no memory.
+/// After every list of steps of the machine, with any number of connections, with closes, breaks and ends, and whatever
+/// is lost: of each connection no token is held by both sides; neither user is shown a fault of its own side or of the
+/// other; unless duplex is selected, one of both views begins with the other, and with duplex, as soon as one of the
+/// two has sent or seen the answer that selects it, the data that a side is shown is how the data that the other asked
+/// to send begins; and each point in the view of a side with a number below its V(A) is in the view of the other, after
+/// the same items, unless the other awaits the answer to a restart. All this is read from the journal alone, but for
+/// V(A). Data or a point that is taken is the item of the history at the mark of the side that takes it. No entry of
+/// the journal is a fault that is shown, whatever its reference. And a side is shown that a connection was lost only if
+/// it was informed of a break or found no memory.
 pub fn what_two_records_tell()
     ensures holder { (m : Machine) → IsRun m → OfEach HasOneHolder m }
     ensures fault { (m : Machine) → IsRun m → OfEach ShowNoFault m }
@@ -141,10 +139,10 @@ pub fn connections_are_apart()
     ensures { (m : Machine) → AreApart m }
 {}
 
-/// After every list of steps two tables that share nothing but what is under way, one for each side, do
-/// what the machine does: the journal is the same, and so are the ends and the class; and each side has
-/// the same state, which the machine reads from one history and one owner for each token, and the same
-/// messages under way. So the journal is one of what two users may do and see.
+/// After every list of steps two tables that share nothing but what is in flight, one for each side, do what the
+/// machine does: the journal is the same, and so are the ends and the class; and each side has the same state, which
+/// the machine reads from one history and one owner for each token, and the same messages under way. So the journal is
+/// one of what two users may do and see.
 pub fn the_tables_are_the_machine()
     ensures same { (terms : Terms) (steps : List Step) → AllByRecursion HasNumber steps → IsAsTables (run (start terms) steps) (tables.run (tables.start terms) steps) }
     ensures legal { (t : Tables) (h : IsTableRun t) → IsLegal h.agreed t.journal }
@@ -156,9 +154,9 @@ pub fn the_tables_are_the_machine()
     session::an_empty_token_item_changes_nothing();
 }
 
-/// What stands at a reference of the tables: after the connection of one reference is another, that one
-/// there and what stood elsewhere; behind all others a new one; after the end of a side, and after a break,
-/// what these leave of each connection.
+/// What stands at a reference of the tables: after the connection of one reference is another, that one there and what
+/// stood elsewhere; after all others a new one; after the end of a side, and after a break, what these leave of each
+/// connection.
 pub fn what_stands_at_a_reference()
     ensures same { (r : ℕ) (lines : List Line) (old new : Line) → connection_at r lines ≡ Some old → connection_at r (with_connection r new lines) ≡ Some new }
     ensures other { (q r : ℕ) (lines : List Line) (new : Line) → (q ≡ r → ⊥) → connection_at q (with_connection r new lines) ≡ connection_at q lines }
@@ -175,9 +173,9 @@ pub fn what_stands_at_a_reference()
     ensures broken_count { (left right : ℕ → ℕ) (lines : List Line) → length (tables.cut_channels left right 1 lines) ≡ length lines }
 {}
 
-/// Over every list of steps, whatever is lost: each unit that is under way can be sent, so that it is read
-/// as it was meant, and so can the CN that waits for the transport connection; V(A) and V(R) of each session
-/// are between the base and V(M), which is at most 1,000,000, and tokens are held in few phases.
+/// Over every list of steps, whatever is lost: each unit that is in flight can be sent, so that it is read as it was
+/// meant, and so can the CN that waits for the transport connection; V(A) and V(R) of each session are between the base
+/// and V(M), which is at most 1,000,000, and tokens are held in few phases.
 pub fn what_is_under_way_can_be_sent()
     ensures { (t : Tables) → IsTableRun t → AreSoundLines t }
 {
@@ -185,8 +183,8 @@ pub fn what_is_under_way_can_be_sent()
     session::what_is_sent_can_be_sent();
 }
 
-/// Over every list of steps, whatever is lost: data that is first under way to a side is no fault there, in
-/// whatever phase its session is; where that is over, data is discarded.
+/// Over every list of steps, whatever is lost: data that is first in flight to a side is no fault there, in whatever
+/// phase its session is; if that is over, data is discarded.
 pub fn the_next_is_no_fault()
     ensures { (t : Tables) → IsTableRun t → AtEachSide IsNoFaultNext t }
 {
@@ -197,9 +195,9 @@ pub fn the_next_is_no_fault()
     session::an_empty_token_item_changes_nothing();
 }
 
-/// Over every list of steps, whatever is lost: data that is anywhere under way to a side is no fault there
-/// once what is ahead of it was taken, whatever calls the user of that side makes before. To a session that
-/// is over data is no fault, whatever comes before it.
+/// Over every list of steps, whatever is lost: data that is anywhere in flight to a side is no fault there once what is
+/// ahead of it was taken, whatever calls the user of that side makes before. To a session that is over data is no
+/// fault, whatever comes before it.
 pub fn data_is_no_fault_behind()
     ensures under_way { (t : Tables) → IsTableRun t → AtEachSide IsNoFaultBehind t }
     ensures over_now { (s : State) (ms : List Message) → is_over s.phase ≡ true → StaysCalm s ms }
@@ -211,8 +209,8 @@ pub fn data_is_no_fault_behind()
     session::an_empty_token_item_changes_nothing();
 }
 
-/// Over every list of steps, whatever is lost: where the close of a transport connection, or the answer to
-/// one, is under way to a side, the session of that side is over.
+/// Over every list of steps, whatever is lost: if the close of a transport connection, or the answer to one, is in
+/// flight to a side, the session of that side is over.
 pub fn who_is_left_is_over()
     ensures { (t : Tables) → IsTableRun t → AtEachSide IsOverWhenLeft t }
 {
@@ -223,14 +221,14 @@ pub fn who_is_left_is_over()
     session::an_empty_token_item_changes_nothing();
 }
 
-/// What two records tell, read from the tables and the journal alone: of each connection no token is held
-/// by both sessions; neither user is shown a fault of its own side or of the other; unless duplex is
-/// selected, one of both views begins with the other, and with duplex, as soon as one of the two has sent
-/// or seen the answer that selects it, the data that a side is shown is how the data that the other asked
-/// to send begins; and each point in the view of a side with a number below its V(A) is in the view of the
-/// other, behind the same items, unless the other awaits the answer to a restart. No entry of the journal
-/// is a fault that is shown, whatever its reference. A side is shown that a connection was lost only where
-/// it was told of a break or found no memory. The journal has what was asked for with each connection.
+/// What two records tell, read from the tables and the journal alone: of each connection no token is held by both
+/// sessions; neither user is shown a fault of its own side or of the other; unless duplex is selected, one of both
+/// views begins with the other, and with duplex, as soon as one of the two has sent or seen the answer that selects it,
+/// the data that a side is shown is how the data that the other asked to send begins; and each point in the view of a
+/// side with a number below its V(A) is in the view of the other, after the same items, unless the other awaits the
+/// answer to a restart. No entry of the journal is a fault that is shown, whatever its reference. A side is shown that
+/// a connection was lost only if it was informed of a break or found no memory. The journal has what was asked for with
+/// each connection.
 pub fn what_two_tables_tell()
     ensures holder { (t : Tables) → IsTableRun t → OfEachLine HoldNoneTwice t }
     ensures fault { (t : Tables) → IsTableRun t → OfEachLine AreNoFaults t }
@@ -248,10 +246,10 @@ pub fn what_two_tables_tell()
     session::an_empty_token_item_changes_nothing();
 }
 
-/// After every list of steps, whatever is lost: what a side has heard of a connection is how what the other
-/// side has said of it begins, whole and in order, unit by unit. Until its transport connection closes, what
-/// it has heard and then what is under way to it is how that begins; and that is all that the other has
-/// said, where nothing is broken and the transport connection of the other does not close either.
+/// After every list of steps, whatever is lost: what a side has heard of a connection is how what the other side has
+/// said of it begins, whole and in order, unit by unit. Until its transport connection closes, what it has heard and
+/// then what is in flight to it is how that begins; and that is all that the other has said, if nothing is broken and
+/// the transport connection of the other does not close either.
 pub fn what_is_heard_was_said()
     ensures { (side : Side) (r : ℕ) (terms : Terms) (steps : List Step) → IsHeardAsSaid side r terms steps }
 {

@@ -9,7 +9,7 @@ use Rattle.osi_pair.proofs.StandingWays.{as_now, out_puts, like_alike}
 use Rattle.osi_pair.proofs.StandingTurned.{GoesTo}
 use Rattle.osi_pair.proofs.WordLaws.{AreWords}
 
--- ---- what is under way from the end that acted
+-- ---- what is in flight from the end that acted
 
 reach_in : (p : TwoEnds) (broken : Bool) → broken ≡ is_some p.reach → is_some (carriers_of p).reach ≡ broken
 reach_in p broken e = grind arith
@@ -36,7 +36,7 @@ out_way terms Right r p new b c words more channel broken seat to are k reach no
     (under_way false r (carriers_of new) c) k.stays k.gone (put_in (carriers_of p) (map word_in words)) was (are_put broken words more are) (put_spare broken (is_cut false (carriers_of p)) words (cut_none Right p broken reach alive))
     (cut_out Right p new same alive) k.before k.after none (put_same broken (is_some (carriers_of p).reach) words (sym (reach_in p broken reach))))))
 
--- ---- what is under way to it
+-- ---- what is in flight to it
 
 -- nothing arrived
 came_same : (g h : Progress) (ch old now arrived : List carrier.Message) → g ≡ h → arrived ≡ [] → AreAlike g ch old → AreAlike h old (arrived ++ now) → AreAlike h ch now

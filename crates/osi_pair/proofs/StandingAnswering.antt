@@ -1,5 +1,5 @@
--- A packet with which a session moves: what is known of the move and of the end behind it, where the session
--- answers, or closes its connection of class 2.
+-- A packet with which a session moves: what is known of the move and of the end after it, where the session answers, or
+-- closes its connection of class 2.
 use Rattle.std.proofs.Common.{◌≡◌, ℕ, Bool, true, false, if◌then◌else◌, List, Option, Some, None, option_map, refl, sym, ap, subst, ◌∙◌, ◌⊎◌, inl, inr, arith}
 use Rattle.osi_carrier.specs.Packets as carriers
 use Rattle.osi_machine.specs.Worlds as worlds
@@ -21,7 +21,7 @@ pub record AnswerLaws : Type 0 where
   pub alone : (s : State) (u : Meaning) → (respond_unit s u).closes ≡ true → (respond_unit s u).reply ≡ None
   pub ended : (s : Standing) (input : Input) → (react s input).closes ≡ true → is_ended (after_input s input).state.phase ≡ true
 
--- ---- the end behind the packet
+-- ---- the end after the packet
 
 pub sound_behind : PacketLaws → (s : Side) (p : TwoEnds) (b : Between) (t : Tables) (packet : List ℕ) (h : Held) → Stands p b t → (end_at s p).end.carrier.ended ≡ None →
     PacketActs (terms_at p) (is_caller s) (carriers_of p) b packet h.octets → IsSound (after_packet (end_at s p).end packet)

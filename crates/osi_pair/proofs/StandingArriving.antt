@@ -30,7 +30,7 @@ abbrev pub comes_new : Value → Bool
 comes_new (request c) = true
 comes_new unit = false
 
--- where CRs are accepted, or refused
+-- if CRs are accepted, or refused
 abbrev pub comes : Bool → Place → Value → Bool
 comes accepts never unit = comes_new unit
 comes accepts (was_given None) unit = false

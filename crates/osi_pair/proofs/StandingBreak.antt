@@ -70,7 +70,7 @@ break_line n k l p b lost t rightward leftward h =
       };
     }
 
--- what becomes of each reference, also where none was given
+-- what becomes of each reference, also if none was given
 breaks_at : (n k l : ℕ) (p : TwoEnds) (b : Between) (lost : Lost (terms_of p.left.end.carrier.local p.right.end.carrier.local) (carriers_of p) (carriers_of (after_break k l p)) b) (t : Tables) → Stands p b t → TakesFrom Left t → TakesFrom Right t →
     IsWithin n (length t.lines) → Breaks n k l p b (length t.lines) lost.now t.lines
 breaks_at n k l p b lost t s rightward leftward (inl out) = record { left = 0; right = 0; is = λ some few. absurd (outside_not n (length t.lines) out some few) }

@@ -33,7 +33,7 @@ pub record EndingLine (s : Side) (p : TwoEnds) (u : Tables) (e : End) (h : Held)
   pub found : connection_at n u.lines ≡ Some (seen_from (side_in s) line)
   pub here : IsPlaced n e.carrier line.own
   pub there : IsSeated n (end_at (other s) p) line.peer
-  -- what is under way from it, and what is put behind, which its end takes away
+  -- what is in flight from it, and what is put after, which its end takes away
   pub kept : List Message
   pub more : List Message
   pub parts : line.own.channel ≡ kept ++ more
@@ -70,7 +70,7 @@ record HasEnds (s : Side) (p : TwoEnds) (u : Tables) (c : Between) (keep n : ℕ
   found : connection_at n u.lines ≡ Some (seen_from (side_in s) line)
   is : IsLine n p c (seen_from (side_in s) (ended_line keep line))
 
--- so much is left of what is under way from it
+-- so much is left of what is in flight from it
 record Ends (s : Side) (p : TwoEnds) (u : Tables) (c : Between) (most : ℕ) (n : ℕ) : Type 0 where
   keep : ℕ
   is : 0 < n → n ≤ most → HasEnds s p u c keep n
@@ -123,7 +123,7 @@ right_line p u e h c reason lines held journal most n last none takes l =
       };
     }
 
--- what becomes of each reference, also where none was given
+-- what becomes of each reference, also if none was given
 left_at : (p : TwoEnds) (u : Tables) (e : End) (h : Held) (c : Between) (reason : EndReason) (lines : Rows stack.Line) (held : Held) (journal : List Entry) (most n : ℕ) →
     e.carrier ≡ last_of true c → ((q : ℕ) → kept_at q lines ≡ None) → TakesFrom Left u → ((m : ℕ) → 0 < m → m ≤ most → EndingLine Left p u e h c m) → IsWithin n most →
     Ends Left (ended_pair Left reason e.carrier lines held journal p) u c most n
@@ -136,7 +136,7 @@ right_at : (p : TwoEnds) (u : Tables) (e : End) (h : Held) (c : Between) (reason
 right_at p u e h c reason lines held journal most n last none takes all (inl out) = record { keep = 0; is = λ some few. absurd (outside_not n most out some few) }
 right_at p u e h c reason lines held journal most n last none takes all (inr given) = right_line p u e h c reason lines held journal most n last none takes (all n given.0 given.1)
 
--- they stand to the tables in which the side ends, where so much is kept of what was under way from it
+-- they stand to the tables in which the side ends, where so much is kept of what was in flight from it
 pub record EndsOn (s : Side) (p : TwoEnds) (c : Between) (ending : Ending) (u : Tables) : Type 0 where
   pub keep : ℕ → ℕ
   pub stands : Stands p c (after_end (side_in s) ending keep u)

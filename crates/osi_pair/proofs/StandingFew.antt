@@ -244,7 +244,7 @@ told_few laws s p b t packet h old alive pa false e =
     let none : length (waiting_in (after_packet (end_at s p).end packet).lines) ≡ 0 = ap (λ (y : End). length (waiting_in y.lines)) x.same ∙ ap length x.waits in
     omega arith
 
--- ---- want of memory
+-- ---- an allocation failure
 
 -- what is proved of packets, and of what an end holds
 pub record FewLaws : Type 0 where

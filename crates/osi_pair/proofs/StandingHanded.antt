@@ -58,7 +58,7 @@ held_between terms false both b octets a same = record {
 
 -- ---- octets are handed over
 
--- so many of a side, and the other end holds this then
+-- this many of a side, and the other end holds this then
 abbrev pub handed : Side → ℕ → Held → TwoEnds → TwoEnds
 handed Left k h p = record p { left = record p.left { end = carried k p.left.end }; right = record p.right { held = h }; reach = reach_after Left k p.reach }
 handed Right k h p = record p { left = record p.left { held = h }; right = record p.right { end = carried k p.right.end }; reach = reach_after Right k p.reach }

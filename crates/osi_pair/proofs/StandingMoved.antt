@@ -31,8 +31,8 @@ use Rattle.osi_pair.proofs.StandingLost.{is_over as is_lost}
 
 -- ---- a move
 
--- The connection; the line of the tables as the side sees it, the message that arrived and those behind it; the
--- line of the end, and what happens to its session.
+-- The connection; the line of the tables as the side sees it, the message that arrived and those after it; the line of
+-- the end, and what happens to its session.
 pub record Moving : Type 0 where
   pub n : ℕ
   pub row : Row
@@ -161,7 +161,7 @@ pub record Arriving (s : Side) (p : TwoEnds) (b : Between) (t : Tables) (n : ℕ
 abbrev pub PacketAt : Side → TwoEnds → Between → List ℕ → Held → Type 0
 PacketAt s p b packet h = PacketActs (terms_at p) (is_caller s) (carriers_of p) b packet h.octets
 
--- what comes to it, and what is under way behind it
+-- what comes to it, and what is in flight after it
 abbrev pub Behind : (s : Side) (p : TwoEnds) (b : Between) (packet : List ℕ) (h : Held) (pa : PacketActs (terms_at p) (is_caller s) (carriers_of p) b packet h.octets) → Option (List ℕ) → SessionState → List Message → Type 0
 Behind s p b packet h pa begun x ms =
     BehindFirst (after pa.did.row) (is_cut (is_caller (other s)) (carriers_of (with_holding s (acted_end pa.unit (end_at s p).end.lines (end_at s p).end) h p))) begun x ms
@@ -226,7 +226,7 @@ alone_is x y e = let same : x ≡ y = cc in sym same
 part_tells : (row : Row) (place : PartPlace) (octets : List ℕ) → is_heard row ≡ true → AreAlike (before row) (carrier.message (part_octets place octets) ∷ []) (got_in row ∷ []) → row ≡ tells (part_octets place octets)
 part_tells row place octets heard is = grind arith
 
--- a message arrives, of which a session hears, and what is under way behind it
+-- a message arrives, of which a session hears, and what is in flight after it
 pub record ArrivesAt (s : Side) (p : TwoEnds) (b : Between) (t : Tables) (packet : List ℕ) (h : Held) (pa : PacketActs (terms_at p) (is_caller s) (carriers_of p) b packet h.octets) : Type 0 where
   pub a : Arriving s p b t (reference_of pa.unit) pa.did.row
   pub stays : Behind s p b packet h pa None (after_message a.seen.own.session.state a.first) a.rest
@@ -440,7 +440,7 @@ hears_calm (tells octets) x m ms e k calm = subst (λ (s : SessionState). StaysC
 hears_calm (leaves reason) x m ms e k calm = over_stays (react x broken_off).next ms (is_lost x)
 hears_calm row x m ms e k calm = cc
 
--- what is still under way to it
+-- what is still in flight to it
 pub rest_then : (s : Side) (p : TwoEnds) (b : Between) (t : Tables) (packet : List ℕ) (h : Held) → (pa : PacketActs (terms_at p) (is_caller s) (carriers_of p) b packet h.octets) → (v : ArrivesAt s p b t packet h pa) →
     is_heard pa.did.row ≡ true →
     Goes (other s) s (reference_of pa.unit) (with_holding s (EndOf s p b t packet h pa v.a) h p)

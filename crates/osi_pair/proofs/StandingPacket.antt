@@ -28,7 +28,7 @@ pub record PacketLaws : Type 0 where
   pub sound : (e : End) (unit : Value) → IsSendable unit → e.carrier.ended ≡ None → IsAttended e → IsSound e → IsSound (after_unit e unit)
   pub came : (e : End) (unit : Value) → IsSendable unit → AllCameAbout e.lines → AllCameAbout (after_unit e unit).lines
 
--- Behind a packet that showed nothing the two ends stand at these deliveries more.
+-- After a packet that showed nothing the two ends stand at these deliveries more.
 pub record StandsBehind (s : Side) (p : TwoEnds) (t : Tables) (packet : List ℕ) (h : Held) : Type 0 where
   pub more : List Step
   pub are : AreDeliveries (side_in s) more
@@ -56,7 +56,7 @@ same_role laws Left p b t e h n old alive d lasts =
 same_role laws Right p b t e h n old alive d lasts =
     ap (λ (c : State). c.is_caller) (sym (last_is Right p b e h n d lasts)) ∙ (laws.roles _ _ d.now d.between).1 ∙ sym (laws.roles _ _ b old.between).1 ∙ ap (λ (c : State). c.is_caller) (was_at Right p b t old alive)
 
--- it is in order behind the packet
+-- it is in order after the packet
 order_then : PacketLaws → (s : Side) (p : TwoEnds) (b : Between) (t : Tables) (u : Value) (e : End) → Stands p b t → (end_at s p).end.carrier.ended ≡ None → IsSendable u → attends (carries_out u (end_at s p).end) ≡ e → e.carrier.ended ≡ None →
     e.carrier.events ≡ [] → RiseFrom 0 e.lines → IsInOrder e
 order_then laws s p b t u e old alive sendable is lasts heard rising = grind arith
@@ -147,7 +147,7 @@ quiet_packet laws s p b t packet h old alive pa q =
       stands = turned_stands s p b t e h d.now t n [] old alive x;
     }
 
--- the message that came is the first of those that the tables have under way
+-- the message that came is the first of those that the tables have in flight
 abbrev BackThen : (s : Side) (p : TwoEnds) (b : Between) (packet : List ℕ) (h : Held) → (pa : PacketActs (terms_at p) (is_caller s) (carriers_of p) b packet h.octets) → SessionState → List Message → Type 0
 BackThen s p b packet h pa x ms =
     Goes (other s) s (reference_of pa.unit) (with_holding s (acted_end pa.unit (end_at s p).end.lines (end_at s p).end) h p) (did_at s p b packet h (end_at s p).end.lines pa).now

@@ -11,7 +11,7 @@ use Rattle.osi_pair.proofs.StandingActs.{place_given}
 at_row : (q p : ℕ) (y : Connection) (rows : Rows Connection) (b : Bool) → (p == q) ≡ b → value_at q ((p, y) ∷ rows) ≡ (if b then Some y else value_at q rows)
 at_row q p y rows b e = ap (λ (c : Bool). if◌then◌else◌ {A = Option Connection} c (Some y) (value_at q rows)) e
 
--- the transport connections of so many references behind this one
+-- the transport connections of this many references after this one
 transports : ℕ → ℕ → Rows Connection → List Transport
 transports k zero live = []
 transports k (suc m) live = transport_in (was_given (value_at (k + 1) live)) ∷ transports (k + 1) m live

@@ -18,7 +18,7 @@ pub record ReplyLaws : Type 0 where
   pub enacted : (s : State) (u : Meaning) → respond_unit s u ≡ enacted s u (verdict s u)
   pub says : (s : State) (u : Meaning) → respond s (said_of u) ≡ respond_unit s u
 
--- ---- it goes into octets, and no data comes behind it
+-- ---- it goes into octets, and no data comes after it
 
 record IsAnswer (m : Meaning) : Type 0 where
   none : (unit_of m).information ≡ []

@@ -71,7 +71,7 @@ unless_same broken whole ms ys e h = grind arith
 pub answers_same : (broken whole : Bool) (row : Row) → broken ≡ whole → map message_in (unless_broken broken (answer_for row)) ≡ (if whole then [] else put_for row)
 answers_same broken whole row e = grind arith
 
--- nothing is put where something of what is under way was cut
+-- nothing is put where something of what is in flight was cut
 pub spare_by : (broken cut : Bool) (ms : List Message) → (broken ≡ false → cut ≡ false) → (cut ≡ false) ⊎ (unless_broken broken ms ≡ [])
 spare_by broken cut ms free = grind arith
 

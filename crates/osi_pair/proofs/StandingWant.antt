@@ -40,7 +40,7 @@ alone_shown s p b t e h c lines held old m says none =
       stands = subst (λ (v : Tables). Stands (shown_pair s (lost_end NoMemory e.carrier lines) held p) c v) (sym (end_step (side_in s) t keep none)) done.stands;
     }
 
--- behind a delivery
+-- after a delivery
 pub behind_shown : (s : Side) (p : TwoEnds) (b : Between) (t u : Tables) (e : End) (h : Held) (c : Between) (lines : Rows stack.Line) (held : Held) (n : ℕ) (cut : ℕ → ℕ) → Stands p b t → MayEnd s p t u e h c →
     SaysAll s (quieted (all_lost lines)) (waiting_in (all_lost lines)) u → end_of (side_in s) t ≡ None → step t (delivers (side_in s) n cut) ≡ u → StandsShown s p t (lost_end NoMemory e.carrier lines) held
 behind_shown s p b t u e h c lines held n cut old m says none is =

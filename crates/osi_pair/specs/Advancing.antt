@@ -17,8 +17,8 @@ CanHappen (Connect asked) = CanBeAsked asked
 CanHappen (Call side reference request) = HasSerial (called_by request) × IsOctets (octets_of (called_by request))
 CanHappen event = Unit {0}
 
--- Where the old ones stood at these steps, the new ones stand at these and those of the event: of octets that are
--- carried, the deliveries of what arrives with them at the other side, and perhaps its end for want of memory.
+-- If the old ones stood at these steps, the new ones stand at these and those of the event: of octets that are carried,
+-- the deliveries of what arrives with them at the other side, and perhaps its end because memory runs out.
 abbrev pub StandsAfter : Event → TwoEnds → TwoEnds → List Step → Type 0
 StandsAfter (Connect asked) old new steps = StandsAt new (steps ++ connects (offer_in (asked_of asked)) ∷ [])
 StandsAfter (Call side reference request) old new steps = StandsAt new (steps ++ calls (side_in side) reference.0 (called_by request) ∷ [])

@@ -12,7 +12,7 @@ use Rattle.osi_pair.specs.Sides.{other}
 use Rattle.osi_pair.specs.Telling.{ShowsFirst, told_entries}
 use Rattle.osi_pair.specs.declared.sides.Side.{Side}
 
--- an end is fed what the other has sent, at most so many octets, and uses so many of them
+-- an end is fed what the other has sent, at most this many octets, and uses this many of them
 pub record FeedsFirst (most : ℕ) (from old : Holding) (used : ℕ) (new : Holding) : Type 0 where
   pub fed : Fed
   pub uses : fed.used ≡ used
@@ -24,8 +24,8 @@ pub record Crossing : Type 0 where
   pub to : Holding
   pub journal : List Entry
 
--- The end of a side is fed what the other has sent, at most so many octets. What it uses is taken
--- from the other; and its users are shown what came of it.
+-- The end of a side is fed what the other has sent, at most this many octets. What it uses is taken from the other; and
+-- its users are shown what came of it.
 pub record CarriesPiece (side : Side) (most : ℕ) (old : Crossing) (used : ℕ) (new : Crossing) : Type 0 where
   pub between : Holding
   pub first : List (ℕ × Shown)
@@ -56,7 +56,7 @@ pub record Carries (side : Side) (most : ℕ) (old : Crossing) (octets : ℕ) (n
 abbrev pub crossing : Side → TwoEnds → Crossing
 crossing side p = record { from = end_at side p; to = end_at (other side) p; journal = p.journal }
 
--- at most so many octets of a side are carried, of those that still reach the other
+-- at most this many octets of a side are carried, of those that still reach the other
 pub record CarriesFrom (side : Side) (octets : ℕ) (old : TwoEnds) (carried : ℕ) (new : TwoEnds) : Type 0 where
   pub way : Carries (other side) (min octets (reachable side old)) (crossing side old) carried (crossing side new)
   pub reach : new.reach ≡ reach_after side carried old.reach

@@ -17,7 +17,7 @@ use Rattle.osi_pair.specs.declared.faults.PairError.TheVariants.{NotBroken, Alre
 use Rattle.osi_pair.specs.declared.reach.Reach.{Reach}
 use Rattle.osi_pair.specs.declared.sides.Side.{Side}
 
--- a connection breaks once, and nobody is told of a break before it
+-- a connection breaks once, and nobody is informed of a break before it
 abbrev pub misfit_break : Option Reach → Option PairError
 misfit_break None = None
 misfit_break (Some reach) = Some AlreadyBroken
@@ -26,19 +26,19 @@ abbrev pub misfit_told : Option Reach → Option PairError
 misfit_told None = Some NotBroken
 misfit_told (Some reach) = None
 
--- why an event does not fit behind the earlier ones
+-- why an event does not fit after the earlier ones
 abbrev pub misfit : Event → TwoEnds → Option PairError
 misfit (Break left right) p = misfit_break p.reach
 misfit (Told side) p = misfit_told p.reach
 misfit event p = None
 
--- an error as the rules give it: want of memory comes where they give none
+-- an error as the rules give it: an allocation fails if they give none
 abbrev pub error_by_rule : PairError → Option PairError
 error_by_rule OutOfMemory = None
 error_by_rule error = Some error
 
--- Want of memory comes only where something is to be noted in the journal, or to be carried: not at a break, nor where
--- there is nothing to carry, nor where the side that is told of a break has ended.
+-- An allocation fails only if something is to be noted in the journal, or to be carried: not at a break, nor if there
+-- is nothing to carry, nor where the side that is informed of a break has ended.
 abbrev pub WantsMemory : Event → TwoEnds → Type 0
 WantsMemory (Connect asked) p = Unit {0}
 WantsMemory (Call side reference request) p = Unit {0}
@@ -52,12 +52,12 @@ pub record HearsOfBreak (side : Side) (old : Holding) (before : List Entry) (new
   pub shows : ShowsFirst (record old { end = breaks old.end }) first new
   pub says : after ≡ before ++ told_entries side old.end.carrier.ended new.end.carrier.ended first
 
--- an end is told of the break: nothing happens where it has ended
+-- an end is informed of the break: nothing happens where it has ended
 pub record IsToldOfBreak (side : Side) (old : Holding) (before : List Entry) (new : Holding) (after : List Entry) : Type 0 where
   pub over : IsSome old.end.carrier.ended → (new ≡ old) × (after ≡ before)
   pub hears : old.end.carrier.ended ≡ None → HearsOfBreak side old before new after
 
--- a side is told of the break
+-- a side is informed of the break
 pub record TellsBreak (side : Side) (old new : TwoEnds) : Type 0 where
   pub told : IsToldOfBreak side (end_at side old) old.journal (end_at side new) new.journal
   pub other : end_at (other side) new ≡ end_at (other side) old
@@ -71,8 +71,8 @@ Does (Carry side most) old octets new = CarriesFrom side most old octets new
 Does (Break left right) old octets new = (new ≡ after_break left right old) × (octets ≡ 0)
 Does (Told side) old octets new = TellsBreak side old new × (octets ≡ 0)
 
--- So much is carried, of this at most: all of it, unless the carry is cut short; and something where there is
--- something and no indication waits.
+-- So much is carried, of this at most: all of it, unless the carry is cut short; and something if there is something
+-- and no indication waits.
 pub record Moves (is_quiet : Bool) (most : ℕ) (applied : Applied) : Type 0 where
   pub at_most : applied.carried ≤ most
   pub whole : applied.is_cut_short ≡ false → applied.carried ≡ most
@@ -84,7 +84,7 @@ pub record CarriesNothing (applied : Applied) : Type 0 where
   pub nothing : applied.carried ≡ 0
   pub all : applied.is_cut_short ≡ false
 
--- A carry carries what it was asked to, or all where there is less, and is cut short only behind some of it. All else
+-- A carry carries what it was asked to, or all if there is less, and is cut short only after some of it. All else
 -- carries nothing.
 abbrev pub CarriesAsMuch : Event → TwoEnds → Applied → Type 0
 CarriesAsMuch (Carry side most) p applied = Moves true (min most (reachable side p)) applied

@@ -74,13 +74,13 @@ HaveOneHolder p = (r : ℕ) (t : Token) → (has (held_by (session_at r p.left.e
 abbrev pub AgreeUnlessDuplex : ℕ → Told → Told → Type 0
 AgreeUnlessDuplex r left right = left.duplex ≡ false → right.duplex ≡ false → Agree left.view right.view
 
--- where either side tells that duplex is selected, the data that each is shown is how the data that the other
--- asked to send begins
+-- if either side tells that duplex is selected, the data that each is shown is how the data that the other asked to
+-- send begins
 abbrev pub IsShownAsAsked : ℕ → Told → Told → Type 0
 IsShownAsAsked r left right = (left.duplex || right.duplex) ≡ true → Begins left.indicated right.requested × Begins right.indicated left.requested
 
--- each point in the view of a side with a number below this is in the view of the other, behind the same
--- items; unless the other has asked for a restart and has seen no answer
+-- each point in the view of a side with a number below this is in the view of the other, after the same items; unless
+-- the other has asked for a restart and has seen no answer
 abbrev pub IsSeenThere : ℕ → Told → Told → Type 0
 IsSeenThere confirmed own other =
     (before : List Item) (n : ℕ) (kind : PointKind) (octets : List ℕ) → Begins (before ++ Point n kind octets ∷ []) own.view →
@@ -104,7 +104,7 @@ is_fault entry = false
 abbrev pub HasNoFault : TwoEnds → Type 0
 HasNoFault p = list_any is_fault p.journal ≡ false
 
--- an end that has ended was told of the break, had no memory, or has closed
+-- an end that has ended was informed of the break, had no memory, or has closed
 abbrev pub EndsForFewReasons : TwoEnds → Type 0
 EndsForFewReasons p = (side : Side) (why : EndReason) → (end_at side p).end.carrier.ended ≡ Some why → is_some (ending_in why) ≡ true
 
@@ -112,7 +112,7 @@ abbrev pub ending_of : Option EndReason → Option Ending
 ending_of None = None
 ending_of (Some why) = ending_in why
 
--- a user is shown a loss only where his end was told of the break or had no memory
+-- a user is shown a loss only if his end was informed of the break or had no memory
 abbrev pub LoseAsTheyEnd : TwoEnds → Type 0
 LoseAsTheyEnd p = (side : Side) → list_any (is_loss (side_in side)) (journal_in p.journal) ≡ true → loses (ending_of (end_at side p).end.carrier.ended) ≡ true
 
@@ -163,8 +163,8 @@ pub record IsAllTaken (r : ℕ) (p : TwoEnds) (steps : List Step) : Type 0 where
   pub leftward : taken_by Left r p steps ≡ sent_by Right r p steps
   pub kept : (side : Side) → kept_of r (end_at side p).end ≡ 0
 
--- Steps of the machine at which the two ends stand: over them the units that one session took are how those that
--- the other's sent begin, and all of them where nothing is under way; then nothing of what came is kept.
+-- Steps of the machine at which the two ends stand: over them the units that one session took are how those that the
+-- other's sent begin, and all of them if nothing is in flight; then nothing of what came is kept.
 pub record TakeWhatWasSent (p : TwoEnds) : Type 0 where
   pub steps : List Step
   pub stands : StandsAt p steps

@@ -16,9 +16,8 @@ use Rattle.osi_pair.specs.declared.events.Event.TheVariants.{Connect, Call, Carr
 use Rattle.osi_pair.specs.declared.faults.PairError.TheVariants.{OutOfMemory}
 use Rattle.osi_pair.specs.declared.faults.RunError.{RunError}
 
--- An event that fits is applied: a carry carries as much as there is, up to what it was asked to. Where the
--- two ends stood at a list of steps of the machine, they stand at that list and the steps of the event; and
--- they are safe.
+-- An event that fits is applied: a carry carries as much as there is, up to what it was asked to. If the two ends stood
+-- at a list of steps of the machine, they stand at that list and the steps of the event; and they are safe.
 pub record Happens (event : Event) (old new : TwoEnds) : Type 0 where
   pub applied : Applied
   pub fits : misfit event old ≡ None
@@ -75,7 +74,7 @@ pub record RunsThrough (events : List Event) (old new : TwoEnds) : Type 0 where
   pub all : HappenAll events old new
   pub stands : (steps : List Step) → StandsAt old steps → StandsBehind events new steps
 
--- all events before one happen, and that one is refused, for want of memory only where it wants some
+-- all events before one happen, and that one is refused, only if memory runs out where it wants some
 pub record StopsAt (events : List Event) (old : TwoEnds) (error : RunError) (new : TwoEnds) : Type 0 where
   pub within : error.place < length events
   pub before : RunsThrough (take error.place events) old new

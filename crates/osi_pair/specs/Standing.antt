@@ -1,5 +1,5 @@
--- How two ends stand to the tables of the machine: what each end has is what the tables have of it, and what
--- is under way between the two is what the tables have under way.
+-- How two ends stand to the tables of the machine: what each end has is what the tables have of it, and what is in
+-- flight between the two is what the tables have in flight.
 use Rattle.std.specs.Prelude.{◌≡◌, ℕ, ◌<◌, ◌≤◌, Bool, true, false, List, [], ◌∷◌, ◌++◌, map, length, Option, Some, None, option_map, is_some, IsSome, IfSome, Result, Ok, Err}
 use Rattle.std.specs.List.{AllByRecursion}
 use Rattle.osi_tpkt.specs.Held.{Held}
@@ -81,7 +81,7 @@ offer_in a = record {
   octets = a.octets;
 }
 
--- want of memory is no entry, and the left end is a caller
+-- an allocation failure is no entry, and the left end is a caller
 abbrev pub refusal_in : ConnectError → Option Refusal
 refusal_in (Open opening.NotCaller) = None
 refusal_in (Open opening.Ended) = Some has_ended
@@ -173,10 +173,10 @@ AreAlike shutting some others = map kind_of some ≡ map kind_of others
 AreAlike progress.gone some others = map kind_of some ≡ map kind_of others
 AreAlike taker some others = some ≡ others
 
--- What is under way to a taker, which may have ended: the messages of the tables, and those between two
--- carriers, by the words in which they go. The tables have a Data as long as all of it that is still to come is
--- under way. Where the rest of it was cut off, by a break or by the end of its sender, they do not have it any
--- more: what there is of it may still arrive, and is no fault to the session of the taker.
+-- What is in flight to a taker, which may have ended: the messages of the tables, and those between two carriers, by
+-- the words in which they go. The tables have a Data as long as all of it that is still to come is under way. If the
+-- rest of it was cut off, by a break or by the end of its sender, they do not have it any more: what there is of it may
+-- still arrive, and is no fault to the session of the taker.
 pub record AreUnderWay (reason : Option EndReason) (taker : Progress) (cut : Bool) (Holds : Option (List ℕ) → Type 0) (session : State) (channel : List Message) (sent : List carrier.Message) : Type 0 where
   pub words : List Word
   -- of an unfinished Data, what is not under way any more
@@ -192,12 +192,12 @@ pub record AreUnderWay (reason : Option EndReason) (taker : Progress) (cut : Boo
 abbrev pub HasJoined : ℕ → Holding → Option (List ℕ) → Type 0
 HasJoined n h begun = (l : Listener) → kept_at n h.end.lines ≡ Some l → IsJoinedAs l.state l.joined begun
 
--- what is under way from a side to the other, whose connection is this far
+-- what is in flight from a side to the other, whose connection is this far
 abbrev pub Goes : Side → Side → ℕ → TwoEnds → Between → Progress → State → List Message → Type 0
 Goes side other n p b taker session channel =
     AreUnderWay (end_at other p).end.carrier.ended taker (is_cut (is_caller side) (carriers_of p)) (HasJoined n (end_at other p)) session channel (under_way (is_caller side) n (carriers_of p) b)
 
--- what is under way from a side to the other
+-- what is in flight from a side to the other
 abbrev pub IsUnderWay : Side → Side → ℕ → TwoEnds → Between → (from to : Seat) → Type 0
 IsUnderWay side other n p b from to = Goes side other n p b (progress_of (place_at n (last_of (is_caller other) b))) to.session.state from.channel
 
@@ -225,7 +225,7 @@ pub record IsInOrder (e : End) : Type 0 where
 
 -- ---- all of it
 
--- `b`: what is between the two carriers, from which what is under way is read
+-- `b`: what is between the two carriers, from which what is in flight is read
 pub record Stands (p : TwoEnds) (b : Between) (t : Tables) : Type 0 where
   -- so the two carriers stand
   pub between : AreBetween (terms_of p.left.end.carrier.local p.right.end.carrier.local) (carriers_of p) b
@@ -270,17 +270,17 @@ pub record StandsAt (p : TwoEnds) (steps : List Step) : Type 0 where
   pub now : Between
   pub stands : Stands p now (run (start (terms_in (terms_of p.left.end.carrier.local p.right.end.carrier.local))) steps)
 
--- they stand at that list followed by the end of a side that is told of the break
+-- they stand at that list followed by the end of a side that is informed of the break
 pub record StandsAtEnd (side : Side) (p : TwoEnds) (steps : List Step) : Type 0 where
   pub keep : ℕ → ℕ
   pub stands : StandsAt p (steps ++ entries.ends (side_in side) told_of_break keep ∷ [])
 
--- a side is told of the break: no step where it had ended before, and else its end
+-- a side is informed of the break: no step where it had ended before, and else its end
 abbrev pub StandsAtTold : (before : Option EndReason) → Side → TwoEnds → List Step → Type 0
 StandsAtTold (Some reason) side p steps = StandsAt p steps
 StandsAtTold None side p steps = StandsAtEnd side p steps
 
--- they stand at that list followed by a break, which leaves so much of what was under way
+-- they stand at that list followed by a break, which leaves so much of what was in flight
 pub record StandsAtBreak (p : TwoEnds) (steps : List Step) : Type 0 where
   pub keep_left : ℕ → ℕ
   pub keep_right : ℕ → ℕ
@@ -288,7 +288,7 @@ pub record StandsAtBreak (p : TwoEnds) (steps : List Step) : Type 0 where
 
 -- ---- a packet that an end holds first is taken
 
--- what it holds then is behind it
+-- what it holds then is after it
 abbrev pub packet_taken : Side → List ℕ → Held → TwoEnds → TwoEnds
 packet_taken side packet held p = with_end side (record { end = after_packet (end_at side p).end packet; held = held }) p
 
@@ -298,7 +298,7 @@ AreDeliveries side [] = Unit {0}
 AreDeliveries side (delivers taker r keep ∷ steps) = (taker ≡ side) × AreDeliveries side steps
 AreDeliveries side (step ∷ steps) = ⊥
 
--- deliveries to a side, and then perhaps its end for want of memory
+-- deliveries to a side, and then perhaps its end because memory runs out
 abbrev pub AreArrivals : machine.Side → List Step → Type 0
 AreArrivals side [] = Unit {0}
 AreArrivals side (delivers taker r keep ∷ steps) = (taker ≡ side) × AreArrivals side steps

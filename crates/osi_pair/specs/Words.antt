@@ -22,7 +22,7 @@ joins begun (part First octets ∷ words) = joins (Some octets) words
 joins begun (part Middle octets ∷ words) = joins (Some (begun_octets begun ++ octets)) words
 joins begun (part Last octets ∷ words) = unit (DT (begun_octets begun ++ octets)) ∷ joins None words
 
--- what is unfinished behind them
+-- what is unfinished after them
 abbrev pub left_of : Option (List ℕ) → List Word → Option (List ℕ)
 left_of begun [] = begun
 left_of begun (whole m ∷ words) = left_of None words

@@ -14,7 +14,7 @@ use crate::sides::Side;
 use crate::telling::{ROOM, note_end, show};
 use osi_stack::Stack;
 
-/// Feeds an end what the other has sent, at most so many octets. What it uses is taken from the other.
+/// Feeds an end what the other has sent, at most this many octets. What it uses is taken from the other.
 fn feed(from: &mut Stack, to: &mut Stack, most: usize) -> usize
     requires { most ≤ length from.old.end.carrier.outgoing }
     ensures feeds { FeedsFirst most from.old to.old result to.new }
@@ -51,8 +51,8 @@ fn carry_piece(
     used
 }
 
-/// Carries octets to the end of a side: so many, unless there is no room in the journal for what may
-/// come of more of them. Where there is none from the first, nothing has changed.
+/// Carries octets to the end of a side: this many, unless there is no room in the journal for what may come of more of
+/// them. If there is none from the first, nothing has changed.
 pub(crate) fn carry(
     side: Side,
     from: &mut Stack,

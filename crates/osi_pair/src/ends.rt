@@ -48,7 +48,7 @@ impl Ends {
         }
     }
 
-    /// Makes room in the journal for so many entries more.
+    /// Makes room in the journal for this many entries more.
     pub(crate) fn reserve(&mut self, entries: usize) -> Result<(), PairError>
         ensures memory { IfErr result (λ error. error ≡ PairError.OutOfMemory) }
         ensures same { ends_in self.new ≡ ends_in self.old }

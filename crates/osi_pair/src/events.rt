@@ -12,13 +12,12 @@ pub enum Event<'a> {
     Connect(Connect<'a>),
     /// A call of the user of one connection.
     Call(Side, Ref, Request<'a>),
-    /// The first octets that a side has sent are carried to the other side: so many, or all where
-    /// there are fewer.
+    /// The first octets that a side has sent are carried to the other side: this many, or all if there are fewer.
     Carry(Side, usize),
-    /// The byte connection breaks: of the octets that the left side has sent, and of those of the
-    /// right side, so many can still be carried, or all where there are fewer.
+    /// The byte connection breaks: of the octets that the left side has sent, and of those of the right side, this many
+    /// can still be carried, or all if there are fewer.
     Break(usize, usize),
-    /// A side is told of the break.
+    /// A side is informed of the break.
     Told(Side),
 }
 

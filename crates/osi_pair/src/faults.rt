@@ -5,7 +5,7 @@ use thiserror::Error;
 /// Why an event was not applied. Nothing has changed.
 #[derive(Clone, Copy, PartialEq, Eq, Debug, Error)]
 pub enum PairError {
-    /// A side is told of a break, and the byte connection is not broken.
+    /// A side is informed of a break, and the byte connection is not broken.
     #[error("not broken")]
     NotBroken,
     /// The byte connection is broken, and breaks again.

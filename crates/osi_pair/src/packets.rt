@@ -15,10 +15,10 @@ use osi_stack::laws::{
     a_session_is_what_its_inputs_made_it, a_session_that_is_called_has_a_connection,
 };
 
-/// Where two ends stand at a list of steps of the machine, and an end that has not ended takes the packet
-/// that it holds first, of which its carrier tells it nothing, they stand at that list followed by deliveries
-/// to that end: a part of a TSDU, an AK, and a part of one Data but its last bring no message; what comes to a
-/// connection that is closing, and a CR that is refused, are each taken as one.
+/// If two ends stand at a list of steps of the machine, and an end that has not ended takes the packet that it holds
+/// first, of which its carrier tells it nothing, they stand at that list followed by deliveries to that end: a part of
+/// a TSDU, an AK, and a part of one Data but its last bring no message; what comes to a connection that is closing, and
+/// a CR that is refused, are each taken as one.
 pub fn what_an_untold_packet_does()
     ensures { (p : TwoEnds) (steps : List Step) (side : Side) (packet octets : List ℕ) (held : Held) → StandsAt p steps →
         (end_at side p).end.carrier.ended ≡ None → IsPacket packet octets → (end_at side p).held.octets ≡ octets ++ held.octets →

@@ -58,8 +58,8 @@ impl Pair {
         }
     }
 
-    /// Makes room in the journal for so many entries more; for none no memory is needed. Neither this nor an
-    /// error changes anything.
+    /// Makes room in the journal for this many entries more; for none no memory is needed. Neither this nor an error
+    /// changes anything.
     ///
     /// An event makes what room it needs. Who knows how many events come spares the journal to grow with them.
     pub fn reserve(&mut self, entries: usize) -> Result<(), PairError>
@@ -76,23 +76,22 @@ impl Pair {
         ensures safe { IsSafe self.now }
     {
         what_two_ends_tell();
-        // For the proof: what the type of the ends keeps is known behind a look at them.
+        // For the proof: what the type of the ends keeps is known after a look at them.
         let _ends = &self.ends;
     }
 
-    /// Applies an event. An error changes nothing. Want of memory comes only where the journal is to say
-    /// something, or octets are carried.
+    /// Applies an event. An error changes nothing. An allocation fails only if the journal is to say something, or
+    /// octets are carried.
     ///
-    /// The octets that a side has sent and the other has not been fed are under way. A
-    /// [`Event::Carry`] carries the first of them, and the users of the other end are shown what
-    /// comes of it; where there is no memory for what the journal may have to say of more, it is cut
-    /// short, as [`Applied`] says. After an [`Event::Break`] only those can be carried that it
-    /// leaves, and an [`Event::Told`] ends an end that has not ended.
+    /// The octets that a side has sent and the other has not been fed are under way. A [`Event::Carry`] carries the
+    /// first of them, and the users of the other end are shown what comes of it; if there is no memory for what the
+    /// journal may have to say of more, it is cut short, as [`Applied`] says. After an [`Event::Break`] only those can
+    /// be carried that it leaves, and an [`Event::Told`] ends an end that has not ended.
     ///
-    /// For each list of steps of the machine at which the two ends stood, they stand at that list
-    /// followed by the steps of this event: of a carry the deliveries of what arrived, and the end of
-    /// the other side where it found no memory. So whatever happens to two ends, their journal is one
-    /// of the machine, and what [`IsSafe`] says is true of them.
+    /// For each list of steps of the machine at which the two ends stood, they stand at that list followed by the steps
+    /// of this event: of a carry the deliveries of what arrived, and the end of the other side where it found no
+    /// memory. So whatever happens to two ends, their journal is one of the machine, and what [`IsSafe`] says is true
+    /// of them.
     ///
     /// [`IsSafe`]: ../specs/Promises.antt
     #[tactic(auto, using(crate::proofs::Growing::does_add))]

@@ -12,7 +12,7 @@ pub(crate) struct Reach {
     pub(crate) right: usize,
 }
 
-/// How many of so many octets of a side can be carried.
+/// How many of this many octets of a side can be carried.
 pub(crate) fn within(reach: Option<Reach>, side: Side, octets: usize) -> usize
     ensures { result ≡ within reach side octets }
 {
@@ -25,7 +25,7 @@ pub(crate) fn within(reach: Option<Reach>, side: Side, octets: usize) -> usize
     }
 }
 
-/// How far octets reach when so many of a side were carried.
+/// How far octets reach when this many of a side were carried.
 pub(crate) fn reach_after(side: Side, octets: usize, reach: Option<Reach>) -> Option<Reach>
     ensures { result ≡ reach_after side octets reach }
 {

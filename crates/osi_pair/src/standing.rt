@@ -41,10 +41,10 @@ use osi_stack::laws::{
     what_a_call_says,
 };
 
-/// Two ends on which nothing has happened stand at the empty list of steps of the machine. Where two ends
-/// stand at a list of steps, and the byte connection breaks, they stand at that list followed by one break;
-/// and where it has broken, and a side is told of that, they stand at that list followed by the end of that
-/// side, or at the same list where it had ended.
+/// Two ends on which nothing has happened stand at the empty list of steps of the machine. If two ends stand at a list
+/// of steps, and the byte connection breaks, they stand at that list followed by one break; and where it has broken,
+/// and a side is informed of that, they stand at that list followed by the end of that side, or at the same list where
+/// it had ended.
 pub fn how_two_ends_stand()
     ensures begins { (caller called : Local) → StandsAt (fresh_ends caller called) [] }
     ensures broken { (p : TwoEnds) (steps : List Step) (k l : ℕ) → StandsAt p steps → p.reach ≡ None → StandsAtBreak (after_break k l p) steps }
@@ -57,7 +57,7 @@ pub fn how_two_ends_stand()
     who_is_left_is_over();
 }
 
-/// Where two ends stand at a list of steps, and the user of the left end asks for a connection, or the user of a
+/// If two ends stand at a list of steps, and the user of the left end asks for a connection, or the user of a
 /// connection calls, they stand at that list followed by what was asked, accepted or refused.
 pub fn how_two_ends_are_called()
     ensures connects { (p : TwoEnds) (steps : List Step) (c : Connect) → CanBeAsked c → StandsAt p steps →
@@ -80,11 +80,11 @@ pub fn how_two_ends_are_called()
     what_two_carriers_have();
 }
 
-/// Where two ends stand at a list of steps, and octets of a side are carried, however many and wherever they are
-/// cut, they stand at that list followed by deliveries to the other side: one for each message that arrives, and none
-/// for a part of one. Where that side finds no memory its end follows.
+/// If two ends stand at a list of steps, and octets of a side are carried, however many and wherever they are cut, they
+/// stand at that list followed by deliveries to the other side: one for each message that arrives, and none for a part
+/// of one. Where that side finds no memory its end follows.
 ///
-/// What as many octets do is the same, wherever they are cut into pieces, unless a side ends for want of memory.
+/// What as many octets do is the same, wherever they are cut into pieces, unless a side ends because memory runs out.
 pub fn how_two_ends_carry()
     ensures carries { (side : Side) (most : ℕ) (old new : TwoEnds) (octets : ℕ) (steps : List Step) → StandsAt old steps →
         CarriesFrom side most old octets new → StandsAtArrivals (other side) new steps }
@@ -115,10 +115,10 @@ pub fn how_two_ends_carry()
     what_two_tables_tell();
 }
 
-/// An event does one thing. Where nobody can tell two pairs of ends apart, and the same event happens to both and
-/// carries as many octets, nobody can tell them apart afterwards, unless a side has ended for want of memory: their
-/// connections, their octets and their journals are the same. Only the room that a side keeps ready for the octets of
-/// a packet may differ.
+/// An event does one thing. If nobody can tell two pairs of ends apart, and the same event happens to both and carries
+/// as many octets, nobody can tell them apart afterwards, unless a side has ended because memory ran out: their
+/// connections, their octets and their journals are the same. Only the room that a side keeps ready for the octets of a
+/// packet may differ.
 pub fn an_event_does_one_thing()
     ensures { (event : Event) (p q a b : TwoEnds) (octets : ℕ) → IsReached p → IsReached q → IsReached a → IsReached b → AreSameEnds p q →
         Does event p octets a → Does event q octets b → FoundMemory a → FoundMemory b → AreSameEnds a b }

@@ -227,7 +227,7 @@ last_of_call : (a b c next : List ℕ) (words : List (List ℕ)) → last_of (a 
 last_of_call a b c next words =
     last_behind a b (c ∷ next ∷ words) ∙ last_behind b c (next ∷ words) ∙ last_behind c next words
 
--- no call has no word behind its verb
+-- no call has no word after its verb
 no_words : (v : Verb) (a b : Option (List ℕ)) → call_of v [] a ≡ call_of v [] b
 unfolding call_of accept_of plain_of plain_data give_of please_of minor_of minor_confirm_of restart_of restart_confirm_of only_word first_of_two
 no_words Accept a b = refl
@@ -246,7 +246,7 @@ no_words ReleaseAccept a b = refl
 no_words ReleaseRefuse a b = refl
 no_words Abort a b = refl
 
--- the word in the place of user data stands behind the verb
+-- the word in the place of user data stands after the verb
 word_behind : (v : Verb) (other : Option (List ℕ)) (connection next : List ℕ) (words : List (List ℕ)) → other ≡ last_of (next ∷ words) →
     fourth_or other (behind_accept (connection ∷ verb_name v ∷ next ∷ words)) ≡ data_behind v (next ∷ words)
 unfolding verb_name
@@ -294,7 +294,7 @@ called_so Right connection v words n user h =
     ap (λ (o : Option Verb). o >>= (λ (w : Verb). calling Right n (call_of w words user))) (sym (verb_read v))
     ∙ ap (λ (k : Option ℕ). k >>= (λ (m : ℕ). verb_of (verb_name v) >>= (λ (w : Verb). calling Right m (call_of w words user)))) h
 
--- what the word behind the verb spells does as well as that of the line
+-- what the word after the verb spells does as well as that of the line
 same_call : (side : Side) (connection : List ℕ) (v : Verb) (words : List (List ℕ)) →
     call_of v words (spelled (data_behind v words)) ≡ call_of v words (user_data_of (side_name side ∷ connection ∷ verb_name v ∷ words))
 same_call side connection v [] = no_words v _ _
@@ -319,6 +319,6 @@ call_read line connection all behind words side n v first second third number =
 
 -- ---- the verb
 
--- a word that names a verb, and what stands behind it
+-- a word that names a verb, and what stands after it
 pub verb_read_first : (all words : List (List ℕ)) (name : List ℕ) (v : Verb) → all ≡ name ∷ words → Some v ≡ verb_of name → all ≡ verb_name v ∷ words
 verb_read_first all words name v first named = first ∙ ap (λ (w : List ℕ). w ∷ words) (verb_is_name name v named)

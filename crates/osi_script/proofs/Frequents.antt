@@ -1,4 +1,4 @@
--- A frequent call: what stands behind its last word but the user data spells octets just where it is one word that does.
+-- A frequent call: what stands after its last word but the user data spells octets just where it is one word that does.
 use Rattle.std.proofs.Common.{◌≡◌, ◌∙◌, ℕ, List, [], ◌∷◌, get_or, Option, Some, None, Bool, true, false, Result, Ok, Err, refl, sym, ap, subst, arith}
 use Rattle.std.specs.Prelude.{codes, option_map, if◌then◌else◌}
 use Rattle.std.specs.Result.{result_ok}

@@ -1,4 +1,4 @@
--- The calls of a user in a script: the words behind the verb, of which one is user data in most.
+-- The calls of a user in a script: the words after the verb, of which one is user data in most.
 use Rattle.std.specs.Prelude.{ℕ, List, [], ◌∷◌, Option, Some, None}
 use Rattle.osi_session.specs.Calls.{Call}
 use Rattle.osi_session.specs.Calls as call
@@ -8,7 +8,7 @@ use Rattle.osi_script.specs.declared.verbs.Verb.TheVariants as verb
 use Rattle.osi_script.specs.Words.{◌>>=◌, only_word, first_of_two, number_to, units_of, serial_of, tokens_of, wishes_of, sides_of, answer_of, sizes_of}
 
 -- In each of these, the second argument is what the word in the place of user data spells: the last, but in an accept,
--- behind whose user data sizes may stand.
+-- after whose user data sizes may stand.
 unfoldable pub accepted : (units serial sides : List ℕ) → List (List ℕ) → Option (List ℕ) → Option Call
 accepted units serial sides sizes user = do
   u ← units_of units

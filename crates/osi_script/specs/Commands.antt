@@ -43,7 +43,7 @@ command_by (memory.Carry side octets) = Carry side octets
 command_by (memory.Break left right) = Break left right
 command_by (memory.Told side) = Told side
 
--- ---- the words behind the first; user is what the word in the place of user data spells
+-- ---- the words after the first; user is what the word in the place of user data spells
 
 unfoldable pub two_ends : (caller called size window : List ℕ) → Option Command
 two_ends caller called size window = do
@@ -94,7 +94,7 @@ told_of words = do
   s ← side_of side
   Some (Told s)
 
--- a call: its side, the connection, the verb, and the words behind it
+-- a call: its side, the connection, the verb, and the words after it
 unfoldable pub named_call : (side reference verb : List ℕ) → List (List ℕ) → Option (List ℕ) → Option Command
 named_call side reference verb words user = do
   s ← side_of side
@@ -128,7 +128,7 @@ fourth other = None
 abbrev pub last_of : List (List ℕ) → Option (List ℕ)
 last_of words = slice_get words (length words - 1)
 
--- the words behind an accept, of a line of which these stand behind the first word
+-- the words after an accept, of a line of which these stand after the first word
 abbrev pub behind_accept : List (List ℕ) → Option (List (List ℕ))
 behind_accept (reference ∷ verb ∷ words) = if is verb (codes "accept") then Some words else None
 behind_accept other = None
@@ -137,7 +137,7 @@ abbrev pub fourth_or : Option (List ℕ) → Option (List (List ℕ)) → Option
 fourth_or other None = other
 fourth_or other (Some words) = fourth words
 
--- the word in the place of user data: the last, but in a connect and an accept, behind whose user data sizes may stand
+-- the word in the place of user data: the last, but in a connect and an accept, after whose user data sizes may stand
 unfoldable pub data_word : List (List ℕ) → Option (List ℕ)
 data_word [] = None
 data_word (first ∷ words) =

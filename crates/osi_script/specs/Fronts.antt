@@ -14,12 +14,12 @@ use Rattle.osi_script.specs.Splitting.{words_in}
 use Rattle.osi_script.specs.Calls.{call_of}
 use Rattle.osi_script.specs.Commands.{Command, OfUser, Carry, command_in, data_word, fourth, last_of}
 
--- the word in the place of user data, of those behind a verb
+-- the word in the place of user data, of those after a verb
 abbrev pub data_behind : Verb → List (List ℕ) → Option (List ℕ)
 data_behind verb.Accept words = fourth words
 data_behind other words = last_of words
 
--- the word of a line in the place of user data; of a frequent call all that stands behind what was read
+-- the word of a line in the place of user data; of a frequent call all that stands after what was read
 abbrev pub front_data : Front → Option (List ℕ)
 front_data (front.Carry side octets) = None
 front_data (front.Frequent side reference call text) = Some text.now
@@ -42,7 +42,7 @@ frequent_command side reference call user = do
   octets ← user
   Some (OfUser side reference (made call octets))
 
--- a call by its verb and the words behind it
+-- a call by its verb and the words after it
 abbrev pub call_command : Side → ℕ → Verb → List (List ℕ) → Option (List ℕ) → Option Command
 call_command side reference verb words user = do
   call ← call_of verb words user

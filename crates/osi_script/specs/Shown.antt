@@ -54,7 +54,7 @@ restart_fields number letters = number_field number ++ sides_field letters
 abbrev pub units_field : ℕ → List ℕ
 units_field units = codes " units " ++ encode_lower (two units)
 
--- a dash where no serial number is named
+-- a dash if no serial number is named
 unfoldable pub serial_field : Option ℕ → List ℕ
 serial_field None = codes " serial -"
 serial_field (Some n) = codes " serial " ++ decimal n
@@ -135,7 +135,7 @@ shown_sizes (Connect units serial wishes sizes octets) = sizes_field sizes
 shown_sizes (Connected units serial sides sizes octets) = sizes_field sizes
 shown_sizes other = []
 
--- the user data, and what stands behind it
+-- the user data, and what stands after it
 abbrev pub shown_end : Shown → List ℕ
 shown_end shown = data_field (data_word shown) (shown_octets shown) ++ shown_sizes shown
 

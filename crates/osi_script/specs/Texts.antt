@@ -1,4 +1,4 @@
--- Values as words: user data in hexadecimal, or a dash where there is none; the side of each token as a letter.
+-- Values as words: user data in hexadecimal, or a dash if there is none; the side of each token as a letter.
 use Rattle.std.specs.Prelude.{ℕ, ◌*◌, List, [], ◌∷◌, length, codes, Option, Some, None}
 use Rattle.hex.specs.Hex.{encode_lower}
 use Rattle.osi_spdu.specs.declared.settings.TokenSetting.{TokenSetting}

@@ -21,7 +21,7 @@ use Rattle.osi_script.specs.declared.sides.Side.TheVariants.{Left, Right}
 use Rattle.osi_script.specs.declared.verbs.Verb.{Verb}
 use Rattle.osi_script.specs.Names.{verb_name, all_verbs}
 
--- a word, and then another, where both are what they should be
+-- a word, and then another, if both are what they should be
 infixl 10 ◌>>=◌
 abbrev pub ◌>>=◌ : {A B : Type 0} → Option A → (A → Option B) → Option B
 None >>= f = None
@@ -31,12 +31,12 @@ Some x >>= f = f x
 abbrev pub words_of : List ℕ → List (List ℕ)
 words_of line = slice_split (λ octet. octet == 32) line
 
--- the one word of some, where there is just one
+-- the one word of some, if there is just one
 unfoldable pub only_word : List (List ℕ) → Option (List ℕ)
 only_word (word ∷ []) = Some word
 only_word other = None
 
--- the first of some words, where there are just two
+-- the first of some words, if there are just two
 unfoldable pub first_of_two : List (List ℕ) → Option (List ℕ)
 first_of_two (word ∷ last ∷ []) = Some word
 first_of_two other = None
@@ -48,7 +48,7 @@ is word name = pointwise nat_eq word name
 abbrev pub is_digit : ℕ → Bool
 is_digit octet = nat_le 48 octet && nat_le octet 57
 
--- the number that decimal digits spell, the most significant first, behind those of a number
+-- the number that decimal digits spell, the most significant first, after those of a number
 abbrev pub numeral : ℕ → List ℕ → ℕ
 numeral n [] = n
 numeral n (digit ∷ digits) = numeral (n * 10 + (digit - 48)) digits

@@ -25,10 +25,10 @@ pub enum ConnectRefusal {
     TooLong,
 }
 
-/// Why an event that can be read does not fit behind the earlier ones.
+/// Why an event that can be read does not fit after the earlier ones.
 #[derive(Clone, Copy)]
 pub enum LineFault {
-    /// A side is told of a break that was not there.
+    /// A side is informed of a break that was not there.
     NotBroken,
     /// The connection was broken before.
     AlreadyBroken,
@@ -61,7 +61,7 @@ pub enum Answer {
         /// Why it was refused.
         error: CallError,
     },
-    /// So many octets of a side were carried.
+    /// This many octets of a side were carried.
     Carried {
         /// The side that had sent them.
         side: Side,
@@ -70,7 +70,7 @@ pub enum Answer {
     },
     /// The connection is broken.
     Broken,
-    /// A side was told of the break.
+    /// A side was informed of the break.
     Told(Side),
     /// The line of this number, of 1 or more, can not be read.
     LineRefused(u64),
@@ -200,7 +200,7 @@ fn put_carried(text: Vec<u8>, side: Side, octets: u64) -> Vec<u8>
     put(text, "\n")
 }
 
-/// Adds the line of a side that was told of the break, for which there is room.
+/// Adds the line of a side that was informed of the break, for which there is room.
 #[tactic(auto, unfolding(crate::specs::Answers::answer_line, crate::specs::Answers::answer_text))]
 fn put_told(text: Vec<u8>, side: Side) -> Vec<u8>
     requires { vec_len text + 64 ≤ vec_capacity text }
@@ -282,7 +282,7 @@ fn push_carried(alloc: Global, out: &mut Vec<u8>, side: Side, octets: u64)
     *out = put_carried(text, side, octets);
 }
 
-/// Adds the line of an answer to a transcript, which is left as it is where there is no memory.
+/// Adds the line of an answer to a transcript, which is left as it is if there is no memory.
 #[inline(always)]
 pub fn push_answer(alloc: Global, out: &mut Vec<u8>, answer: &Answer) -> Result<(), AllocError>
     ensures ok { OnOk result (out.new.items ≡ out.old.items ++ answer_line answer.now) }

@@ -179,7 +179,7 @@ fn restart<'a>(mut words: Words, octets: Option<&'a [u8]>) -> Option<Request<'a>
     restarting(point, wished, octets)
 }
 
-/// What a call asks for, by its verb and the words behind it, of which the one in the place of user data spells this.
+/// What a call asks for, by its verb and the words after it, of which the one in the place of user data spells this.
 #[tactic(auto, unfolding(crate::specs::Calls::call_of))]
 pub(crate) fn request<'a>(verb: Verb, words: Words, octets: Option<&'a [u8]>) -> Option<Request<'a>>
     ensures { option_map called_by result

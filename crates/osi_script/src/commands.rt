@@ -77,7 +77,7 @@ pub enum Command<'a> {
     Carry {
         /// The side that has sent them.
         side: Side,
-        /// How many octets, or all where there are fewer.
+        /// How many octets, or all if there are fewer.
         octets: u32,
     },
     /// Breaks the connection of the two ends.

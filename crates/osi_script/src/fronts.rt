@@ -36,7 +36,7 @@ pub(crate) enum Front<'l> {
     Carry {
         /// The side that has sent them.
         side: Side,
-        /// How many octets, or all where there are fewer.
+        /// How many octets, or all if there are fewer.
         octets: u32,
     },
     /// A call of the user of one connection.
@@ -47,7 +47,7 @@ pub(crate) enum Front<'l> {
         reference: u16,
         /// What is asked for.
         verb: Verb,
-        /// The words behind the verb.
+        /// The words after the verb.
         words: Words<'l>,
     },
     /// A call that scripts have often, of which all but the user data was read.
@@ -65,7 +65,7 @@ pub(crate) enum Front<'l> {
     Unread(&'l [u8]),
 }
 
-/// What stands behind the word that asks for octets to be carried, where a line begins with it.
+/// What stands after the word that asks for octets to be carried, where a line begins with it.
 #[inline(always)]
 #[tactic(auto, using(crate::proofs::Beginnings::carry_first))]
 fn behind_carry(line: &[u8]) -> Option<&[u8]>
@@ -77,7 +77,7 @@ fn behind_carry(line: &[u8]) -> Option<&[u8]>
     }
 }
 
-/// The side that a text begins with, and what stands behind it.
+/// The side that a text begins with, and what stands after it.
 #[inline(always)]
 #[tactic(auto, using(crate::proofs::Beginnings::left_first, crate::proofs::Beginnings::right_first))]
 fn behind_side(text: &[u8]) -> Option<(Side, &[u8])>
@@ -90,7 +90,7 @@ fn behind_side(text: &[u8]) -> Option<(Side, &[u8])>
     }
 }
 
-/// The verb that a text begins with, where it is one that scripts have often, and what stands behind it.
+/// The verb that a text begins with, where it is one that scripts have often, and what stands after it.
 #[inline(always)]
 #[tactic(auto, using(crate::proofs::Beginnings::data_first, crate::proofs::Beginnings::minor_first, crate::proofs::Beginnings::minorconfirm_first), unfolding(crate::specs::Names::verb_name))]
 fn behind_frequent_verb(text: &[u8]) -> Option<(Verb, &[u8])>
@@ -119,7 +119,7 @@ fn behind_frequent_verb(text: &[u8]) -> Option<(Verb, &[u8])>
     }
 }
 
-/// A minor point: whether it is to be confirmed, and what stands behind that.
+/// A minor point: whether it is to be confirmed, and what stands after that.
 #[inline(always)]
 #[tactic(auto, using(crate::proofs::Frequents::minor_read))]
 fn minor(text: &[u8]) -> Option<(Frequent, &[u8])>
@@ -131,7 +131,7 @@ fn minor(text: &[u8]) -> Option<(Frequent, &[u8])>
     Some((Frequent::Minor(confirm), rest))
 }
 
-/// A confirmation of minor points: its number, and what stands behind that.
+/// A confirmation of minor points: its number, and what stands after that.
 #[inline(always)]
 #[tactic(auto, using(crate::proofs::Frequents::minor_confirm_read))]
 fn minor_confirm(text: &[u8]) -> Option<(Frequent, &[u8])>
@@ -143,7 +143,7 @@ fn minor_confirm(text: &[u8]) -> Option<(Frequent, &[u8])>
     Some((Frequent::MinorConfirm(point), rest))
 }
 
-/// A call that scripts have often, and what stands in the place of its user data, of the text behind its verb. A text
+/// A call that scripts have often, and what stands in the place of its user data, of the text after its verb. A text
 /// with a blank spells no octets, as a call with a word too many asks for nothing.
 #[inline(always)]
 #[tactic(auto, using(crate::proofs::Frequents::data_read))]
@@ -171,7 +171,7 @@ fn asked<'a>(call: Frequent, user_data: &'a [u8]) -> Request<'a>
     }
 }
 
-/// The side and the connection that a line begins with, and what stands behind them.
+/// The side and the connection that a line begins with, and what stands after them.
 #[inline(always)]
 fn behind_connection(line: &[u8]) -> Option<(Side, &[u8], &[u8])>
     ensures { IfSome result (λ first. words_of line.now ≡ side_name first.0 ∷ first.1.now ∷ words_of first.2.now) }
@@ -198,7 +198,7 @@ fn frequent_call(line: &[u8]) -> Option<Front<'_>>
     })
 }
 
-/// The verb that a text begins with, and the words behind it.
+/// The verb that a text begins with, and the words after it.
 fn behind_verb(text: &[u8]) -> Option<(Verb, Words<'_>)>
     ensures { IfSome result (λ first. words_of text.now ≡ verb_name first.0 ∷ words_in first.1) }
 {
@@ -208,8 +208,8 @@ fn behind_verb(text: &[u8]) -> Option<(Verb, Words<'_>)>
     Some((verb, words))
 }
 
-/// The side whose octets a line carries, and how many, or all where there are fewer: what most lines ask for that are no
-/// calls. `None` where a line does not begin so; it may ask for something all the same.
+/// The side whose octets a line carries, and how many, or all if there are fewer: what most lines ask for that are no
+/// calls. `None` if a line does not begin so; it may ask for something all the same.
 #[inline(always)]
 #[tactic(auto, using(crate::proofs::Beginnings::carry_read))]
 pub fn read_carry(line: &[u8]) -> Option<(Side, u32)>
@@ -267,7 +267,7 @@ fn fourth<'l>(mut words: Words<'l>) -> Option<&'l [u8]>
     words.next_word()
 }
 
-/// The words behind an accept, of those that stand behind the first of a line.
+/// The words after an accept, of those that stand after the first of a line.
 fn behind_accept<'l>(mut words: Words<'l>) -> Option<Words<'l>>
     ensures { option_map words_in result ≡ behind_accept (words_in words.entry) }
 {
@@ -279,8 +279,8 @@ fn behind_accept<'l>(mut words: Words<'l>) -> Option<Words<'l>>
     None
 }
 
-/// The word of a line in the place of user data: the last, but in a connect and an accept, behind whose
-/// user data sizes may stand.
+/// The word of a line in the place of user data: the last, but in a connect and an accept, after whose user data sizes
+/// may stand.
 #[tactic(auto, unfolding(crate::specs::Commands::data_word))]
 fn data_word(line: &[u8]) -> Option<&[u8]>
     ensures { option_copied result ≡ data_word (words_of line.now) }
@@ -296,7 +296,7 @@ fn data_word(line: &[u8]) -> Option<&[u8]>
     fourth(words)
 }
 
-/// The word in the place of user data, of those behind a verb.
+/// The word in the place of user data, of those after a verb.
 fn data_behind<'l>(verb: Verb, words: Words<'l>) -> Option<&'l [u8]>
     ensures { option_copied result ≡ data_behind verb (words_in words.entry) }
 {

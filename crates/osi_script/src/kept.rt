@@ -38,7 +38,7 @@ impl Short {
     }
 }
 
-/// The octets that a word spells: where they are few they are kept here, and take no block of memory.
+/// The octets that a word spells: if they are few they are kept here, and take no block of memory.
 #[derive(Drop)]
 pub(crate) enum Kept {
     /// None.

@@ -109,7 +109,7 @@ fn told<'a>(words: Words) -> Option<Command<'a>>
     Some(Command::Told { side })
 }
 
-/// A call of this side on this connection, by the name of its verb and the words behind it.
+/// A call of this side on this connection, by the name of its verb and the words after it.
 #[tactic(auto, unfolding(crate::specs::Commands::named_call))]
 fn named_call<'a>(
     first: &[u8],

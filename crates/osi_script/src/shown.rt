@@ -339,7 +339,7 @@ fn put_data_word(text: Vec<u8>, indication: &Indication) -> Vec<u8>
     }
 }
 
-/// Room for a line with this user data; none where so many octets cannot be counted.
+/// Room for a line with this user data; none where this many octets cannot be counted.
 #[inline(always)]
 fn room(user_data: Option<&Octets>) -> Option<usize>
     ensures { IfSome result (λ octets. octets ≡ digits_of (option_copied user_data.entry) + 192) }
@@ -350,7 +350,7 @@ fn room(user_data: Option<&Octets>) -> Option<usize>
     }
 }
 
-/// Adds octets in hexadecimal or a dash where there is none, for which there is room.
+/// Adds octets in hexadecimal or a dash if there is none, for which there is room.
 #[inline(always)]
 #[tactic(auto, unfolding(crate::specs::Texts::data_text))]
 fn put_data(text: Vec<u8>, octets: &[u8]) -> Vec<u8>
@@ -382,7 +382,7 @@ fn put_sizes(text: Vec<u8>, sizes: TsduMaximumSize) -> Vec<u8>
     put_number(text, u64::from(sizes.from_answerer))
 }
 
-/// Adds what stands behind the user data of a connection that is asked for or accepted, for which there is room.
+/// Adds what stands after the user data of a connection that is asked for or accepted, for which there is room.
 #[inline(always)]
 #[tactic(auto, unfolding(crate::specs::Shown::shown_sizes))]
 fn put_shown_sizes(text: Vec<u8>, indication: &Indication) -> Vec<u8>
@@ -416,7 +416,7 @@ fn put_user_data(text: Vec<u8>, indication: &Indication, user_data: Option<&Octe
     }
 }
 
-/// Adds the user data of an indication, where it has some, what stands behind it, and the end of its line, for which
+/// Adds the user data of an indication, where it has some, what stands after it, and the end of its line, for which
 /// there is room.
 #[inline(always)]
 fn put_end(text: Vec<u8>, indication: &Indication, user_data: Option<&Octets>) -> Vec<u8>
@@ -444,8 +444,8 @@ fn put_head(text: Vec<u8>, side: Side, reference: u16, indication: &Indication) 
     put_name(text, indication)
 }
 
-/// Adds the line of what the user of a side is shown of a connection to a transcript, which is left as
-/// it is where there is no memory.
+/// Adds the line of what the user of a side is shown of a connection to a transcript, which is left as it is if there
+/// is no memory.
 #[tactic(auto, using(crate::proofs::Pieces::line_joined), unfolding(crate::specs::Shown::shown_line, crate::specs::Shown::shown_text))]
 pub fn push_indication(
     alloc: Global,

@@ -24,7 +24,7 @@ fn first_blank(line: &[u8]) -> Option<usize>
     None
 }
 
-/// The first word of a line, and what stands behind the blank that ends it, where there is one.
+/// The first word of a line, and what stands after the blank that ends it, if there is one.
 #[tactic(auto, using(crate::proofs::Blanks::no_blank, crate::proofs::Blanks::first_blank, crate::proofs::Blanks::blank_within))]
 pub(crate) fn first_word(line: &[u8]) -> (&[u8], Option<&[u8]>)
     ensures { words_of line.now
@@ -40,7 +40,7 @@ pub(crate) fn first_word(line: &[u8]) -> (&[u8], Option<&[u8]>)
     }
 }
 
-/// The first word of a line and what stands behind it, where the line has a second word.
+/// The first word of a line and what stands after it, where the line has a second word.
 pub(crate) fn parted(line: &[u8]) -> Option<(&[u8], &[u8])>
     ensures { IfSome result (λ parts. words_of line.now ≡ parts.0.now ∷ words_of parts.1.now) }
 {
@@ -51,7 +51,7 @@ pub(crate) fn parted(line: &[u8]) -> Option<(&[u8], &[u8])>
     }
 }
 
-/// The last word of a line: what stands behind its last blank.
+/// The last word of a line: what stands after its last blank.
 #[tactic(auto, using(crate::proofs::Blanks::no_last_blank, crate::proofs::Blanks::last_blank, crate::proofs::Blanks::last_blank_within))]
 pub(crate) fn last_word(line: &[u8]) -> &[u8]
     ensures { slice_get (words_of line.now) (length (words_of line.now) - 1) ≡ Some result.now }
@@ -79,7 +79,7 @@ impl<'l> Words<'l> {
         Words { rest: Some(line) }
     }
 
-    /// Reads the next word, where there is one.
+    /// Reads the next word, if there is one.
     pub(crate) fn next_word(&mut self) -> Option<&'l [u8]>
         ensures some { IfSome result (λ word. words_in self.old ≡ word.now ∷ words_in self.new) }
         ensures none { IfNone result (words_in self.old ≡ []) }
@@ -116,7 +116,7 @@ impl<'l> Words<'l> {
         }
     }
 
-    /// The last word, where there is one.
+    /// The last word, if there is one.
     pub(crate) fn last(self) -> Option<&'l [u8]>
         ensures { option_copied result ≡ last_of (words_in self.entry) }
     {

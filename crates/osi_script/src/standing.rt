@@ -61,8 +61,7 @@ fn put_numbers(text: Vec<u8>, standing: &Standing) -> Vec<u8>
     put_decimal(text, u64::from(standing.lowest_restart))
 }
 
-/// Adds the line of where a connection stands to a transcript, which is left as it is where there is
-/// no memory.
+/// Adds the line of where a connection stands to a transcript, which is left as it is if there is no memory.
 #[tactic(auto, unfolding(crate::specs::Standing::standing_line))]
 pub fn push_standing(
     alloc: Global,

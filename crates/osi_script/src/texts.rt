@@ -14,8 +14,8 @@ use osi_spdu::{Side, TokenSetting, Wish};
 /// More octets than a line has besides its user data.
 pub(crate) const LINE: usize = 192;
 
-/// Adds octets, for which there is room, one by one: where their number is known, as that of a word that stands in
-/// the code, they are one store or two.
+/// Adds octets, for which there is room, one by one: if their number is known, as that of a word that stands in the
+/// code, they are one store or two.
 #[inline(always)]
 fn put_octets(text: Vec<u8>, octets: &[u8]) -> Vec<u8>
     requires { vec_len text + length octets.now ≤ vec_capacity text }

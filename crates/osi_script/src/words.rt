@@ -39,7 +39,7 @@ pub(crate) fn is(word: &[u8], name: &str) -> bool
     true
 }
 
-/// The number that digits spell behind others, if it is not above a bound.
+/// The number that digits spell after others, if it is not above a bound.
 #[tactic(auto, using(crate::proofs::Numerals::no_digit, crate::proofs::Numerals::no_digit_above, crate::proofs::Numerals::too_great, crate::proofs::Numerals::one_digit))]
 fn next_number(number: u64, digit: u8, most: u32) -> Option<u64>
     requires { number ≤ most }
@@ -124,7 +124,7 @@ fn tsdu_size(word: &[u8]) -> Option<TsduSize>
     TsduSize::new(octets as u16)
 }
 
-/// The sizes that the words behind user data say: two, or none where no word is there.
+/// The sizes that the words after user data say: two, or none if no word is there.
 #[tactic(auto, unfolding(crate::specs::Words::sizes_of))]
 pub(crate) fn sizes(mut words: Words) -> Option<TsduSizes>
     ensures { option_map named_by result ≡ sizes_of (words_in words.entry) }

@@ -1,4 +1,4 @@
-//! Runs a script on two ends, and tells what they answered and what their users were shown.
+//! Runs a script on two ends, and writes a transcript: what the ends answered and what their users received.
 #![tactic(auto)]
 
 pub mod asking;
