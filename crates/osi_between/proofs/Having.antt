@@ -1,4 +1,4 @@
--- What two carriers have of a reference that the caller did not give, and before a class holds.
+-- What two carriers have for a reference that the caller did not give, and before a class is agreed.
 use Rattle.std.proofs.Common.{◌≡◌, ℕ, ◌<◌, ◌≤◌, Bool, true, false, List, [], ◌++◌, ◌==◌, Option, Some, None, refl, sym, ap, ◌∙◌, arith, if◌then◌else◌}
 use Rattle.osi_between.specs.Between.{under_way}
 use Rattle.osi_between.specs.Refusing as refusal

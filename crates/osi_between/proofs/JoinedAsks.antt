@@ -1,4 +1,4 @@
--- A caller that may ask for a connection finds a place at the called end: after the units that are in flight no more
+-- A caller that may request a connection finds a place at the called end: once the units in flight are taken, no more
 -- connections are live there than at the caller.
 use Rattle.std.proofs.Common.{◌≡◌, ◌≢◌, ℕ, ◌+◌, ◌<◌, ◌≤◌, ◌==◌, Bool, true, false, List, [], ◌∷◌, ◌++◌, length, map, Option, Some, None, refl, sym, ap, subst, ◌∙◌, arith, nat_lt, is_some}
 use Rattle.osi_between.proofs.Vocabulary.{eq-eqb, eqb-true, ne_eqb, ltb-true, ltb-false, map-append, Value, request, disconnect, disconnected, Local, dropped, references, never, was_given, place_at, RiseFrom, AreUpTo, IsOrderly, Rows, value_at, without, Connection, State, absent, beyond, push_here, without_here, push_other, without_other, push_rise, push_up, without_rise, without_up, reference_of, units_of, asked_by, requests, behind, live_behind, live_after, is_last, Course, at_end, from_end, AreJoined, farewell, found}

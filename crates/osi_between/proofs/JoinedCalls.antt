@@ -1,4 +1,4 @@
--- The caller asks for a connection; two new carriers are joined; and if nothing is on the way nothing is in flight.
+-- The caller requests a connection; two new carriers are joined; and if no unit is in flight, no message is.
 use Rattle.std.proofs.Common.{◌≡◌, ℕ, ◌+◌, ◌<◌, Bool, true, false, List, [], ◌∷◌, ◌++◌, length, Option, Some, None, refl, sym, ap, subst, ◌∙◌, inr, arith, if◌then◌else◌}
 use Rattle.osi_between.proofs.Vocabulary.{lt-ltb, Value, LinkPair, swapped, IsQuiet, Standing, Given, Local, quiet_unsent, nothing_begun, references, fresh_state, may_connect, asks, Place, never, was_given, place_at, value_at, linked, State, free_of, orderly_asks, orderly_fresh, live_after, Course, unasked, met, at_end, from_end, IsTsap, Holds, StandsBetween, AreJoined, Did, under_way_for, IsEmpty, talking, addressed, ask, AreOpen}
 use Rattle.osi_between.proofs.CourseOpening.{asks_moves}
@@ -7,7 +7,7 @@ use Rattle.osi_between.proofs.JoinedMoves.{joined_caller, within_given, given_li
 use Rattle.osi_between.proofs.Meetings.{open_mirror}
 use Rattle.osi_between.proofs.JoinedSteps.{acts_for}
 
--- ---- a connection is asked for
+-- ---- a connection is requested
 
 pub not_asked : (n : ℕ) (g : Course) → at_end true n g ≡ never → g ≡ unasked
 not_asked n g e = grind arith
@@ -52,7 +52,7 @@ fresh_stands caller called n some = grind (arith, next_never)
 pub fresh_joined : (caller called : Local) → caller.class2 ≡ true → called.class2 ≡ true → AreJoined (fresh_state true caller) (fresh_state false called) [] []
 fresh_joined caller called a b = grind (arith, orderly_fresh, fresh_stands)
 
--- ---- nothing is on the way
+-- ---- nothing is in flight
 
 pub none_addressed : (n : ℕ) (gs : List Given) → addressed n gs ≡ [] → gs ≡ []
 none_addressed n [] e = refl

@@ -6,7 +6,7 @@ use Rattle.osi_between.proofs.Taking.{feeds_some, more_coming}
 use Rattle.osi_between.proofs.JoinedCalls.{fresh_joined}
 use Rattle.osi_between.proofs.JoinedMoves.{seen, takes_one}
 
--- ---- what is to be handed over and told does not matter
+-- ---- what is to be handed over and reported does not matter
 
 abbrev pub with_queues : List ℕ → List Happening → State → State
 with_queues outgoing events s = record s { outgoing = outgoing; events = events }

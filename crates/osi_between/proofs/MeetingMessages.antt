@@ -1,4 +1,4 @@
--- What is in flight of a connection, after each unit that one of its two carriers takes and after each call.
+-- What is in flight for a connection, after each unit that one of its two carriers takes and after each call.
 use Rattle.std.proofs.Common.{◌≡◌, ℕ, ◌<◌, true, List, [], ◌∷◌, ◌++◌, map, take, Some, None, refl, sym, ap, ◌∙◌, arith, append_assoc}
 use Rattle.osi_between.specs.Meeting.{Carries}
 use Rattle.osi_between.proofs.Vocabulary.{flat_map, append-nil, map-append, Value, data0, disconnected, LinkPair, swapped, parts_under_way, under_way, under_way_before, fresh_ends, all_given, Joining, Standing, Given, unit_of, with_tsdu, zero_standing, tsdus_after, uncut, drained_leaves, Happening, tsdu, closed, pumped, handed_out, Meeting, talking, left_here, left_there, left_both, waiting_here, waiting_there, parted, here, there, addressed, leaving, told_open, told_at, messages_back, messages_out, Message, message, bye, over, parting, messages_after, uncut_units, kind_of, AreLike, AreOpen, links, LeftTakes, after_take, after_send}
@@ -62,7 +62,7 @@ talking_takes n p unit rest a t =
       after = sym same ∙ sym (append-nil (messages_out n (talking p)));
     }
 
--- the first part of what is in flight to a link that is closing, by kind
+-- the prefix of what is in flight to a closing link, by kind
 pub kinds_of_tsdu : (us : List Value) (octets : List ℕ) → map kind_of (messages_after [] (us ++ data0 true octets ∷ [])) ≡ map kind_of (messages_after [] us ++ message octets ∷ [])
 kinds_of_tsdu us octets =
     kinds_join us (data0 true octets ∷ []) [] ∙ sym (map-append kind_of (messages_after [] us) (message octets ∷ []))

@@ -66,6 +66,6 @@ messages_part (acknowledge credit destination number ∷ us) begun vs = messages
 messages_part (error destination cause ∷ us) begun vs = messages_part us begun vs
 messages_part (u ∷ us) begun vs = behind_one _ _ _ (messages_part us [] vs)
 
--- the messages of units are the first of those of more units
+-- the messages of units are a prefix of those of more units
 pub messages_front : (us : List Value) (begun : List ℕ) (vs : List Value) → (lost : List Message) × (messages_after begun (us ++ vs) ≡ messages_after begun us ++ lost)
 messages_front us begun vs = (messages_after (begun_after begun us) vs, messages_part us begun vs)

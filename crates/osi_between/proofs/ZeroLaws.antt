@@ -1,4 +1,4 @@
--- Two carriers that come to class 0: each unit that is taken, and each call.
+-- Two carriers that agree on class 0: each unit that is taken, and each call.
 use Rattle.std.proofs.Common.{◌≡◌, ℕ, ◌==◌, Bool, true, false, List, [], ◌∷◌, ◌++◌, map, Option, Some, None, is_some, refl, sym, ap, subst, ◌∙◌, arith, if◌then◌else◌}
 use Rattle.osi_between.specs.Zero.{unasked, asking, accepting, talking, answer_of, at_end, from_end, IsAccepted, Holds}
 use Rattle.osi_between.proofs.Vocabulary.{eqb-true, append-nil, append_cancel_left, map-append, IsOctets, Value, Connect, request, confirm, LinkPair, swapped, under_way, IsShortTsdu, all_given, Standing, Given, unit_of, with_tsdu, Zero, Local, sent, sent_on, closed_with, Place, never, was_given, place_at, connection_in, Happening, pumped, react, pumps, value_at, Connection, asked, linked, State, ends, Closed, reference_of, answers_in, answers_at, under_way_for, addressed, Message, agree, message, messages_after, uncut_units, AreOpen, after_send, by_zero, terms_of, ZeroCourse, HasOne, AreJoinedZero}

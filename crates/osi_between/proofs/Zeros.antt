@@ -1,4 +1,4 @@
--- What a caller's and a called end's carrier do that come to class 0.
+-- The carriers of a caller and a called end that agree on class 0.
 use Rattle.std.proofs.Common.{◌≡◌, ◌≢◌, ℕ, ◌+◌, Bool, true, false, not, List, [], ◌∷◌, ◌++◌, length, map, take, Option, Some, None, is_some, Ok, refl, sym, ap, subst, ◌∙◌, arith, nat_lt, if◌then◌else◌}
 use Rattle.osi_carrier.specs.declared.faults.OpenError.{OpenError}
 use Rattle.osi_carrier.specs.declared.faults.OpenError.TheVariants.{NotCaller, Ended}

@@ -1,5 +1,5 @@
--- Data that is anywhere in flight to a side is no fault there, once what is ahead of it is taken: of whatever its user
--- calls in between, the connection of which nothing is lost makes the same.
+-- Data anywhere in flight to a side is no fault there, once what is ahead of it was taken. The connection on which
+-- nothing is lost makes the same calls in between.
 use Rattle.std.proofs.Common.{◌≡◌, refl, sym, ◌∙◌, ap, subst, ℕ, Bool, true, false, if◌then◌else◌, List, [], ◌∷◌, ◌++◌, map, Some, None, Ok, Err, ◌⊎◌, inl, inr, append_assoc, arith}
 use Rattle.osi_session.specs.declared.faults.CallError.TheVariants as error
 use Rattle.osi_session.specs.Moves.{answered as answered_move}

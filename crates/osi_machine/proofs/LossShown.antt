@@ -1,4 +1,4 @@
--- No message that is taken shows a loss, and no agreement is under way where a called end denies.
+-- No message that is taken indicates a loss, and no agreement is in flight if a called end denies.
 use Rattle.std.proofs.Common.{◌≡◌, refl, sym, ◌∙◌, ap, ℕ, Bool, true, false, List, ◌∷◌, inl, inr, arith}
 use Rattle.osi_machine.proofs.Vocabulary.{list_any, Shown, Lost, State, Meaning, take_expected, respond_unit, shown_for, shows_loss, Message, unit, ask, agree, deny, bye, over, Transport, not_yet, waiting, linked, closing, gone, World, session_of, Terms, accepts, denies, message_taken, without_first, Told}
 use Rattle.osi_machine.proofs.Projects.{stopped}

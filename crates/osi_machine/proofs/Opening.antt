@@ -1,4 +1,4 @@
--- What is in flight while a connection is being opened: nothing that acts.
+-- While a connection is being opened, nothing in flight is acted on.
 use Rattle.std.proofs.Common.{◌≡◌, refl, subst, true, false, List, [], ◌∷◌, arith}
 use Rattle.osi_machine.proofs.Vocabulary.{State, Phase, Meaning, is_connecting, is_answering, is_restarting, is_expected, has_no_effect, passes_restarting, becomes, drops, Good, next, is_plain, Fits, AllFit, flush, both_ways}
 use Rattle.osi_machine.proofs.PhaseLaws.{excluded}

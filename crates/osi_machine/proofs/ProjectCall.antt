@@ -1,4 +1,4 @@
--- A call at a whole connection, and in the core.
+-- A call on a whole connection, and on its core.
 use Rattle.std.proofs.Common.{◌≡◌, refl, sym, ◌∙◌, ap, subst, ℕ, Bool, true, false, ◌||◌, if◌then◌else◌, List, [], ◌∷◌, ◌++◌, append_assoc, map, length, inl, inr, Ok, arith}
 use Rattle.osi_machine.proofs.Vocabulary.{append-nil, length-append, map-append, list_any, Passed, State, Meaning, Token, is_over, Call, Granted, allowed, after, sends, may_call, Numbers, Item, Owner, Owners, is_own, turned_owner, given_up, own_to_pool, left_by, is_plain, Core, stays_in_core, says, view_called, owners_called, answered, Message, unit, Kept, World, put, mark_called, after_call}
 use Rattle.osi_machine.proofs.CoreLaws.{SessionLaws, granted}

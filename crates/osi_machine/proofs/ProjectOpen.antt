@@ -1,4 +1,4 @@
--- A message is taken where a connection was asked for and not yet agreed to; the first that a caller takes
+-- A message is taken on a connection that was requested and not yet agreed to. The first message that a caller takes
 -- agrees to it, and the core begins.
 use Rattle.std.proofs.Common.{◌≡◌, refl, sym, ◌∙◌, ap, subst, ℕ, Bool, true, false, List, [], ◌∷◌, ◌++◌, ◌⊎◌, inl, inr, arith}
 use Rattle.osi_machine.specs.Core.{turned}

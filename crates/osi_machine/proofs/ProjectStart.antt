@@ -1,4 +1,4 @@
--- A whole connection that was asked for and not yet agreed to: nobody owns, sees or sends anything.
+-- A whole connection that was requested and not yet agreed to: nobody owns, sees or sends anything.
 use Rattle.std.proofs.Common.{◌≡◌, refl, sym, ◌∙◌, ap, ℕ, zero, Bool, true, false, not, ◌||◌, List, [], ◌∷◌, take, ◌⊎◌, inl, inr, Err, arith}
 use Rattle.osi_session.specs.declared.faults.CallError.TheVariants as error
 use Rattle.osi_machine.proofs.Vocabulary.{take-nil, State, Phase, Token, Call, CallError, allowed, may_call, is_over, is_wait_transport, is_wait_cn, is_profile, awaiting, Owner, Absent, Owners, own_to_pool, turned_owner, left_by, Offer, CanBeOffered, Left, Right, Message, ask, agree, deny, Transport, not_yet, waiting, linked, gone, Kept, kept_of, End, World, session_of, asked_with, ended_at, shown_at_end, turned as turned_world, Told, untold, or_left, or_right}

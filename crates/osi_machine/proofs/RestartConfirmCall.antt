@@ -1,4 +1,4 @@
--- The call of RestartConfirm keeps what is true of both sides.
+-- The call of RestartConfirm keeps the invariant of both sides.
 use Rattle.std.proofs.Common.{◌≡◌, refl, sym, ◌∙◌, ap, subst, ℕ, Bool, true, false, not, ◌&&◌, if◌then◌else◌, List, [], ◌∷◌, ◌++◌, Ok, arith}
 use Rattle.osi_machine.proofs.Vocabulary.{append-nil, eq-eqb, and_from, TokenSetting, State, FunctionalUnits, Sides, Ready, Meaning, RA, Tokens, Token, has, available, settle, setting_of, of_answerer, is_restarting, is_restart_due, may_hold, RestartConfirm, becomes, next, turned_owners, settled_by, Fits, flush, heard, heard_view, data_of, Party, Core, answered, AreConsistent}
 use Rattle.osi_machine.proofs.PhaseLaws.{excluded, implied_two}

@@ -1,4 +1,4 @@
--- What each side of a connection said, and what the other heard of it, over all that may happen to a line.
+-- What each side of a connection sent, and what the other received of it, over all that may happen to the connection.
 use Rattle.std.proofs.Common.{◌≡◌, refl, sym, ◌∙◌, ap, subst, ℕ, Bool, true, false, ◌||◌, List, [], ◌∷◌, take, Option, Some, None, Ok, Err, arith}
 use Rattle.osi_session.specs.Moves.{answered as answered_move}
 use Rattle.osi_session.specs.Phases.{is_over, is_ended, is_wait_transport}
@@ -21,9 +21,9 @@ ended_over p e = implied is_ended is_over refl p e
 
 -- ---- a side beside the other
 
--- Its session awaits the transport connection as long as there is none, and is over once that closes; before there is
--- one no unit is in flight from it. As long as there is none at the other side, its own user can call nothing and no
--- unit is in flight from it, and not both sides await it.
+-- While a side has no transport connection, its session awaits it, and no unit is in flight from it; once the transport
+-- connection closes, the session is over. While the other side has none, this side's user can call nothing and no unit
+-- is in flight from it; and not both sides await it.
 pub record Fits (own peer : Seat) : Type 0 where
   pub waits : own.transport ≡ waiting → is_wait_transport own.session.state.phase ≡ true
   pub over_now : is_parting own.transport ≡ true → is_over own.session.state.phase ≡ true
@@ -33,7 +33,7 @@ pub record Fits (own peer : Seat) : Type 0 where
   pub unsaid : is_early peer.transport ≡ true → units_in own.channel ≡ []
   pub first : own.transport ≡ waiting → peer.transport ≡ waiting → ⊥
 
--- what one side said, and what the other heard of it
+-- what one side sent, and what the other received of it
 pub record Way (broken : Bool) (own peer : Seat) (said heard : List Meaning) : Type 0 where
   pub begins : Begins heard said
   pub carried : is_parting peer.transport ≡ false → Carried (broken || is_parting own.transport) own.channel said heard

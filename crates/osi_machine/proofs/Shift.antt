@@ -1,5 +1,5 @@
--- A call that changes no more of a side than its phase and its numbers: what is in flight to it goes on fitting, and
--- leaves it the same but for that change, until a restart stands.
+-- A call that changes only the phase and the numbers of a side: what is in flight to it still fits, and has the same
+-- effect except for that change, until a restart takes effect.
 use Rattle.std.proofs.Common.{◌≡◌, refl, sym, ◌∙◌, ap, subst, ℕ, Bool, true, false, not, ◌&&◌, ◌||◌, if◌then◌else◌, List, [], ◌∷◌, ◌⊎◌, inl, inr, arith}
 use Rattle.osi_machine.proofs.Vocabulary.{list_any, State, TokenSetting, Meaning, RS, RestartDue, may_hold, is_restarting, is_restart_due, has_no_effect, passes_restarting, restarted_at, without_tokens, becomes, stands, drops, next, Good, Item, seen, is_plain, Fits, AllFit, flush, stops, heard, view_next, heard_view, or_parts}
 use Rattle.osi_machine.proofs.PhaseLaws.{excluded, by_test}
@@ -18,8 +18,8 @@ pub record Still (s r : State) : Type 0 where
 pub still : (s : State) → Still s s
 still s = record { units = refl; wishes = refl; held = refl; proposed = refl; base = refl; is_caller = refl }
 
--- What such a change does (to), what is true before it (inv), and the units that never come (never). A good unit stays
--- good, and comes to the same before the change and after it.
+-- The effect of such a change (to), what is true before it (inv), and the units that never arrive (never). A good unit
+-- stays good, and leads to the same state before the change and after it.
 pub record Shift : Type 1 where
   pub never : Meaning → Bool
   pub to : State → State
@@ -80,7 +80,7 @@ pub shifted_still : (k : Shift) (s r : State) → Shifted k s r → Still s r
 shifted_still k s r (inl (e, i)) = subst (Still s) (sym e) (k.same s i)
 shifted_still k s r (inr d) = d.same
 
--- a restart that stands leaves both the same but for V(A), V(R) and the flag
+-- a restart that takes effect leaves both the same except for V(A), V(R) and the flag
 abbrev restarted : State → ℕ → TokenSetting → State
 restarted s n w = record (without_tokens RestartDue s) { wishes = w; numbers = restarted_at n s.numbers }
 

@@ -74,7 +74,7 @@ stays_follows : (m : Machine) (ls : List Line) (side : Side) (r : ℕ) (l : Line
     → Follows (tables.noted es (tables.stays (tables_of m ls) side r l)) (noted es (stays m side r w))
 stays_follows m ls side r l w es k h = grind (arith, with_tabled, side_tabled)
 
--- ---- a connection is asked for
+-- ---- a connection is requested
 
 transports_as : (ls : List Line) (ws : List World) → AllTabled ls ws → map tables.transport_of ls ≡ map transport_of ws
 transports_as [] [] h = refl

@@ -1,5 +1,4 @@
--- A unit is taken that cuts nothing off: what has to be known of it, so that all that is true of both sides
--- stays.
+-- Taking a unit that cuts nothing off: the conditions under which it keeps the invariant of both sides.
 use Rattle.std.proofs.Common.{◌≡◌, refl, sym, ◌∙◌, ap, subst, ℕ, ◌≤◌, ◌<◌, Bool, true, false, not, if◌then◌else◌, List, [], ◌∷◌, ◌++◌, arith}
 use Rattle.osi_machine.proofs.Vocabulary.{append-nil, list_any, State, data_token, Meaning, lower, is_restarting, is_restart_due, is_release_due, is_releasing, drops, next, Item, cutat, AreNumberedFrom, Owners, turned_owners, is_acted_on, seen, got_in, cut_by, owners_after, AllFit, flush, stops, heard, hears, view_next, heard_view, data_in, data_of, needs_token, Party, Core, taking, AreConsistent}
 use Rattle.osi_machine.proofs.Records.{Meeting, Half, Counting, IsOfProfile, Stands}
@@ -60,7 +59,7 @@ view_is : (s r : State) (u : Meaning) (us : List Meaning) (v v' : List Item) →
     → heard_view s (u ∷ us) v ≡ heard_view r us v'
 view_is s r u us v v' st e k = cc
 
--- all that is true of both sides stays
+-- the invariant of both sides is kept
 pub moves_stands : SessionLaws → (w : Core) (u : Meaning) (us : List Meaning) (r : State) (v : List Item) (got : List (List ℕ)) (o : Owners)
     → w.peer.sent ≡ u ∷ us → Stands w → Moves w u us r v got o → Stands (taking w (u ∷ us))
 moves_stands laws w u us r v got o e s k =
@@ -148,7 +147,7 @@ pub record MovesNothing (w : Core) (u : Meaning) (r : State) : Type 0 where
   pub held : r.held ≡ w.own.session.held
   pub caller : r.is_caller ≡ w.own.session.is_caller
 
--- what has to be known of it then
+-- the conditions on it then
 pub record Calm (w : Core) (u : Meaning) (us : List Meaning) (r : State) : Type 0 where
   pub acts : drops w.own.session u ≡ false
   pub plain : MovesNothing w u r

@@ -1,4 +1,4 @@
--- Tokens: a side that holds one, and what that keeps out of its channel.
+-- Tokens: what a side that holds one keeps out of its channel.
 use Rattle.std.proofs.Common.{◌≡◌, refl, ◌∙◌, Bool, true, false, not, ◌&&◌, ◌||◌, List, [], ◌∷◌, arith}
 use Rattle.osi_machine.proofs.Vocabulary.{and_parts, or_left, State, Tokens, Meaning, Token, data_token, minor, major, has, set_of, each, some, no_token, is_empty, without, united, lacks, may_hold, becomes, drops, Good, next, Item, seen, is_plain, Fits, AllFit, stops, heard, is_data_or_minor, is_no_release, needs_token, view_next, heard_view}
 use Rattle.osi_machine.proofs.PhaseLaws.{excluded, by_test}
@@ -47,7 +47,7 @@ pub record Holds (t : Token) (s : State) : Type 0 where
   pub held : has s.held t ≡ true
   pub phase : may_hold s.phase ≡ true
 
--- it goes on holding it, until a restart stands
+-- it still holds it, until a restart takes effect
 pub becomes_holds : (t : Token) (s : State) (u : Meaning) → is_plain u ≡ true → Good s u → stops s u ≡ false → Holds t s → Holds t (becomes s u)
 becomes_holds t s u p g st h = search (arith, excluded, united_has, or_left)
 

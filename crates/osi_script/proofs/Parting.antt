@@ -1,4 +1,4 @@
--- A list is parted at the elements that pass a test.
+-- Splitting a list at the elements that pass a test.
 use Rattle.std.proofs.Common.{◌≡◌, ◌∙◌, ℕ, zero, suc, ◌+◌, ◌-◌, ◌<◌, ◌≤◌, Bool, true, false, List, [], ◌∷◌, ◌++◌, Option, None, Some, length, get_or, take, drop, refl, sym, ap, subst, arith}
 use Rattle.std.specs.List.{slice_split, onto_first, slice_get, All}
 use Rattle.std.proofs.lemmas.List.{get_or-take, get_or-drop, length-take, length-drop, length-append}
@@ -61,7 +61,7 @@ parted_by p y a x b h false e =
     ∙ onto_front y (slice_split p a) (slice_split p b) (some_part p a)
     ∙ sym (ap (λ (l : List (List ℕ)). l ++ slice_split p b) (slice_split-cons_no p y a e))
 
--- an element that passes parts what stands before it from what stands after it
+-- an element that passes separates the text before it from the text after it
 parted : (p : ℕ → Bool) (a : List ℕ) (x : ℕ) (b : List ℕ) → p x ≡ true → slice_split p (a ++ x ∷ b) ≡ slice_split p a ++ slice_split p b
 parted p [] x b h = slice_split-cons_yes p x b h
 parted p (y ∷ a) x b h = parted_by p y a x b (parted p a x b h) (p y) refl

@@ -12,7 +12,7 @@ unfoldable pub data_text : List ℕ → List ℕ
 data_text [] = codes "-"
 data_text (octet ∷ octets) = encode_lower (octet ∷ octets)
 
--- how many digits user data has
+-- the number of digits of user data
 abbrev pub digits_of : Option (List ℕ) → ℕ
 digits_of None = 0
 digits_of (Some octets) = 2 * length octets

@@ -1,5 +1,5 @@
-//! The text of scripts and transcripts: a script tells two ends what to do, a line for each event, and
-//! a transcript tells what they answered and what their users were shown.
+//! The text of scripts and transcripts. A script tells two ends what to do, one event a line; a transcript tells what
+//! the ends answered and what their users received.
 #![tactic(auto)]
 
 mod answers;

@@ -1,4 +1,4 @@
-//! A text, cut into lines.
+//! Cutting a text into lines.
 
 ghost use Rattle.std.specs.Prelude.{◌≡◌, ◌∷◌, []};
 ghost use Rattle.std.specs.Option.{option_map_or};
