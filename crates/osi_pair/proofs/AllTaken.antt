@@ -1,4 +1,4 @@
--- What one session took is how what the other sent begins; and it is all of it if nothing is in flight.
+-- What one session took is a prefix of what the other sent, and all of it if nothing is in flight.
 use Rattle.std.proofs.Common.{◌≡◌, refl, sym, ◌∙◌, ap, subst, ℕ, ◌<◌, ◌≤◌, Bool, true, false, List, [], ◌∷◌, ◌++◌, length, map, Option, Some, None, option_map, is_some, inl, inr, ◌⊎◌, arith, if◌then◌else◌}
 use Rattle.osi_tpdu.specs.Writing.{written}
 use Rattle.osi_carrier.proofs.Coming.{unit_packet}

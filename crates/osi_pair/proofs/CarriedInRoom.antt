@@ -1,5 +1,5 @@
--- What octets that are carried do where memory suffices: the calls that the end is fed and told by, whatever
--- the pieces, and what the journal says of them.
+-- The effect of octets that are carried if memory suffices: the calls by which the end is fed and indications are
+-- fetched, whatever the pieces, and the entries of the journal.
 use Rattle.std.proofs.Common.{◌≡◌, ◌≢◌, ℕ, ◌+◌, ◌-◌, ◌≤◌, List, [], ◌∷◌, ◌++◌, map, take, sum, Option, Some, None, is_some, refl, sym, ap, ap₂, subst, ◌∙◌, ◌⊎◌, inl, inr, arith}
 use Rattle.std.proofs.Math.Seq.{take-add}
 use Rattle.std.proofs.lemmas.List.{drop-drop}

@@ -1,5 +1,5 @@
--- The carrier of an end acts for a connection that is open there: nothing is taken, and its session makes no
--- move. How two ends stand then.
+-- The carrier of an end acts for a connection that is open there: nothing is taken, and its session makes no move. The
+-- state of two ends then.
 use Rattle.std.proofs.Common.{◌≡◌, ◌≢◌, ℕ, ◌<◌, ◌≤◌, Bool, true, false, nat_lt, if◌then◌else◌, List, [], ◌++◌, Option, Some, None, option_map, refl, sym, ap, subst, ◌∙◌, arith, not}
 use Rattle.osi_between.specs.Messages as carrier
 use Rattle.osi_pair.proofs.Vocabulary.{append-nil, Place, never, was_given, place_at, connection_in, value_at, Connection, State, put_here, put_other, Between, AreBetween, Carries, last_of, under_way, put_in, is_cut, Acted, becomes, side, progress_of, AreLike, Progress, in_use, progress_in, leaves_use, connection_at, Line, Tables, seen_from, stays, Message, with_same, with_other, with_count, none_there, with_carrier, End, Holding, TwoEnds, end_at, Entry, other, side_in, is_caller, class_in, carriers_of, IsSeated, IsInOrder, Stands, Goes, HasJoined, Side, Left, Right, given_live, Held, Terms, waiting_in, put_row as put, SessionState}

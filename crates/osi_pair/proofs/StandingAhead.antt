@@ -1,4 +1,4 @@
--- What the tables say of the sessions to which something is in flight from a side.
+-- What the tables say of the sessions that will receive what is in flight from a side.
 use Rattle.std.proofs.Common.{◌≡◌, ◌≢◌, ℕ, ◌==◌, Bool, true, false, Some, refl, sym, ap, subst, ◌∙◌}
 use Rattle.osi_machine.specs.Core as machine
 use Rattle.osi_pair.proofs.Vocabulary.{eqb-true, eq-eqb, IsTableRun, AtEachSide, IsOverWhenLeft, IsNoFaultBehind, connection_at, Line, Tables, turned, seen_from, side_in, Side, Left, Right}

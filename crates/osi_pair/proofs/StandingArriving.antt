@@ -1,4 +1,4 @@
--- Which unit can come first to an end, by where its connection stands there.
+-- Which unit can arrive first at an end, by the state of its connection there.
 use Rattle.std.proofs.Common.{◌≡◌, ℕ, zero, suc, ◌<◌, ◌≤◌, Bool, true, false, not, ◌&&◌, List, [], ◌∷◌, ◌++◌, nat_lt, Option, Some, None, refl, sym, ap, subst, ◌∙◌, arith, if◌then◌else◌}
 use Rattle.osi_tpdu.specs.Value.{Connect}
 use Rattle.osi_between.specs.Joined.{AreJoined}

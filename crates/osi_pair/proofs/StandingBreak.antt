@@ -81,7 +81,7 @@ breaks_at n k l p b lost t s rightward leftward (inr given) = break_line n k l p
 one_step : (t : Tables) (left right : ℕ → ℕ) → t.broken ≡ false → run t (breaks left right ∷ []) ≡ record t { broken = true; lines = cut_channels left right 1 t.lines }
 one_step t left right e = ap (λ (b : Bool). if b then t else record t { broken = true; lines = cut_channels left right 1 t.lines }) e
 
--- two ends stand to the tables after a break of the machine
+-- two ends match the tables after a break of the machine
 record StandBroken (p : TwoEnds) (t : Tables) : Type 0 where
   keep_left : ℕ → ℕ
   keep_right : ℕ → ℕ

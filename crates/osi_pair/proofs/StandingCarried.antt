@@ -1,5 +1,5 @@
--- Octets that are carried leave two ends where they stand: what arrives with them are deliveries, and perhaps an end
--- because memory runs out.
+-- Two ends still match the machine after octets are carried: what arrives are deliveries, and perhaps an end because
+-- memory runs out.
 use Rattle.std.proofs.Common.{◌≡◌, ℕ, ◌+◌, ◌-◌, ◌≤◌, Bool, List, [], ◌∷◌, ◌++◌, length, sum, min, Option, Some, None, refl, sym, ap, subst, ◌∙◌, arith}
 use Rattle.osi_pair.proofs.Vocabulary.{length-drop, sum_by-cons, IsFaultOf, TpktFault, EndReason, Both, Between, AreBetween, side, Terms, Step, carried, Holding, Crossing, CarriesPiece, CarriesPieces, CarriesFrom, crossing, TwoEnds, end_at, reachable, within, reach_after, other, StandsAt, StandsAtArrivals, Reach, Side, Left, Right}
 use Rattle.osi_pair.proofs.StandingFew.{FewLaws, few_wait}

@@ -1,5 +1,5 @@
--- An end closes an open connection of class 2: the tables put that, and of what was in flight from it they keep what
--- was written.
+-- An end closes an open connection of class 2: the tables put the same message, and keep of what was in flight from it
+-- what was written.
 use Rattle.std.proofs.Common.{◌≡◌, ℕ, Bool, true, List, [], ◌∷◌, take, Some, None, is_some, refl, sym, subst, arith, ap, ◌∙◌}
 use Rattle.osi_between.specs.Messages as carrier
 use Rattle.osi_machine.specs.Tables.{closed}

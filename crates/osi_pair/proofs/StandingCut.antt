@@ -1,4 +1,4 @@
--- Where something of what is in flight was cut off.
+-- Whether something of what is in flight was cut off.
 use Rattle.std.proofs.Common.{◌≡◌, sym, ap, ◌∙◌, ℕ, ◌<◌, ◌≤◌, ◌⊎◌, Bool, true, false, ◌||◌, None, is_some, arith}
 use Rattle.osi_pair.proofs.Vocabulary.{is_cut, Holding, TwoEnds, end_at, with_end, other, is_caller, carriers_of, Side}
 

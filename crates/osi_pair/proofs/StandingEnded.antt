@@ -1,4 +1,4 @@
--- An end that comes is an end of the machine, whatever its reason.
+-- The end of an end is an end of the machine, whatever its reason.
 use Rattle.std.proofs.Common.{◌≡◌, refl, sym, ◌∙◌, ap, subst, ℕ, ◌<◌, ◌≤◌, Bool, true, false, List, [], ◌∷◌, ◌++◌, length, map, Some, None, option_map, inl, arith, inr}
 use Rattle.osi_carrier.specs.State as carriers
 use Rattle.osi_machine.specs.Core as machine
@@ -40,8 +40,8 @@ pub record EndingLine (s : Side) (p : TwoEnds) (u : Tables) (e : End) (h : Held)
   pub whole : is_given line.own.transport ≡ false → more ≡ []
   pub out : IsUnderWay s (other s) n (with_holding s e h p) c (record line.own { channel = kept }) line.peer
 
--- What is said of an end that is going to end: its carrier may have acted for what arrived, of which no session
--- of it has heard.
+-- What is said of an end that is going to end: its carrier may have acted for what arrived, that none of its sessions
+-- has received.
 pub record MayEnd (s : Side) (p : TwoEnds) (t u : Tables) (e : End) (h : Held) (c : Between) : Type 0 where
   pub between : AreBetween (terms_at p) (carriers_of (with_holding s e h p)) c
   pub lasts : e.carrier.ended ≡ None
@@ -136,12 +136,12 @@ right_at : (p : TwoEnds) (u : Tables) (e : End) (h : Held) (c : Between) (reason
 right_at p u e h c reason lines held journal most n last none takes all (inl out) = record { keep = 0; is = λ some few. absurd (outside_not n most out some few) }
 right_at p u e h c reason lines held journal most n last none takes all (inr given) = right_line p u e h c reason lines held journal most n last none takes (all n given.0 given.1)
 
--- they stand to the tables in which the side ends, where so much is kept of what was in flight from it
+-- they match the tables in which the side ends, where so much is kept of what was in flight from it
 pub record EndsOn (s : Side) (p : TwoEnds) (c : Between) (ending : Ending) (u : Tables) : Type 0 where
   pub keep : ℕ → ℕ
   pub stands : Stands p c (after_end (side_in s) ending keep u)
 
--- An end comes: its users are shown what they have lost, and the journal says so.
+-- An end comes: its users receive what they have lost, and the journal says so.
 pub ended_stands : (s : Side) (p : TwoEnds) (b : Between) (t u : Tables) (e : End) (h : Held) (c : Between) (reason : EndReason) (ending : Ending) (lines : Rows stack.Line) (held : Held)
     (first : List (ℕ × Shown)) (journal : List Entry) → Stands p b t → MayEnd s p t u e h c → ending_in reason ≡ Some ending → ((n : ℕ) → kept_at n lines ≡ None) → SaysAll s lines first u →
     journal ≡ p.journal ++ (shown_entries s first ++ ends s reason ∷ []) →

@@ -1,4 +1,4 @@
--- What becomes of a connection whose end comes: its seat, its line, and what is in flight from it.
+-- What happens to a connection whose end ends: its seat, its line, and what is in flight from it.
 use Rattle.std.proofs.Common.{◌≡◌, refl, sym, ◌∙◌, ap, subst, ℕ, zero, suc, ◌+◌, ◌≤◌, Bool, true, false, if◌then◌else◌, ◌||◌, not, List, [], ◌∷◌, ◌++◌, length, map, take, nat_lt, Option, Some, None, is_some, arith}
 use Rattle.osi_between.specs.Messages as between
 use Rattle.osi_between.proofs.MessageLaws.{messages_front}

@@ -1,4 +1,4 @@
--- A message arrives of which a session hears: what the carrier tells, and what happens to the session, row by row.
+-- A message arrives that a session receives: the events of the carrier, and what happens to the session, row by row.
 use Rattle.std.proofs.Common.{◌≡◌, ℕ, true, false, List, [], ◌∷◌, Option, Some, None, IfSome, refl, sym, ap, subst, ◌∙◌, ◌⊎◌, inl, inr, ◌++◌, arith}
 use Rattle.osi_between.specs.Messages as carrier
 use Rattle.osi_machine.specs.Worlds as worlds

@@ -1,4 +1,4 @@
--- The class of a connection at a message of which a session hears.
+-- The class of a connection at a message that a session receives.
 use Rattle.std.proofs.Common.{◌≡◌, ℕ, ◌≤◌, true, false, [], ◌∷◌, None, option_map, sym, ap, subst, ◌∙◌, inl, inr, arith}
 use Rattle.osi_between.specs.Messages as carrier
 use Rattle.osi_between.specs.Progress as progress

@@ -1,4 +1,4 @@
--- A DR arrives at an open connection, which is answered by a DC: its session is lost, and the last of what was in
+-- A DR arrives at an open connection and is answered by a DC: its session is lost, and the last part of what was in
 -- flight from it may be.
 use Rattle.std.proofs.Common.{◌≡◌, ℕ, Bool, true, false, List, [], ◌∷◌, map, take, Option, None, is_some, refl, sym, ap, subst, ◌∙◌, arith}
 use Rattle.osi_between.specs.Messages as carrier

@@ -1,5 +1,4 @@
--- What the users of a side are shown that loses all its connections: no more than the machine says, and in
--- its order.
+-- The indications of a side that loses all its connections: those of the machine, in its order.
 use Rattle.std.proofs.Common.{◌≡◌, ◌≢◌, refl, sym, ◌∙◌, ap, subst, ℕ, zero, suc, ◌+◌, ◌<◌, ◌≤◌, ◌==◌, Bool, true, false, if◌then◌else◌, List, [], ◌∷◌, ◌++◌, length, map, nat_lt, nat_le, Option, Some, None, is_some, IsSome, inl, inr, ◌⊎◌, arith}
 use Rattle.osi_machine.specs.Machine as entries
 use Rattle.osi_session.specs.Listening as words

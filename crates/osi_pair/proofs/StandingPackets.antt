@@ -1,4 +1,4 @@
--- Packets that an end takes one after the other, of which none stops but perhaps the last.
+-- Packets that an end takes one after the other, only the last of which may stop it.
 use Rattle.std.proofs.Common.{◌≡◌, ℕ, ◌≤◌, ◌==◌, ◌||◌, false, not, List, [], ◌∷◌, ◌++◌, length, Option, None, is_some, refl, sym, ap, subst, ◌∙◌, if◌then◌else◌, arith}
 use Rattle.osi_machine.specs.Core as machine
 use Rattle.osi_stack.proofs.FirstShown.{quiet_none}
@@ -13,8 +13,8 @@ use Rattle.osi_pair.proofs.StandingShown.{shown_pair}
 use Rattle.osi_pair.proofs.StandingTurned.{with_holding, holding_here}
 use Rattle.osi_pair.proofs.Waiting.{none_waits}
 
--- THE LAWS OF ONE PACKET. If two ends stand at a list of steps, and a side that lasts takes the packet that it holds
--- first, or finds no memory for it, or ends because memory runs out, they stand at that list followed by what arrives
+-- THE LAWS OF ONE PACKET. If two ends match a list of steps, and a side that lasts takes the packet that it holds
+-- first, or runs out of memory for it, or ends because memory runs out, they match that list followed by what arrives
 -- at the side, when its users were shown what came of it.
 pub record PacketStands : Type 0 where
   pub told : (p : TwoEnds) (steps : List Step) (s : Side) (packet octets : List ℕ) (h : Held) → StandsAt p steps → (end_at s p).end.carrier.ended ≡ None →
@@ -33,7 +33,7 @@ pub record FewWait : Type 0 where
   pub ended : (p : TwoEnds) (steps : List Step) (s : Side) → StandsAt p steps → (end_at s p).end.carrier.ended ≡ None →
       length (waiting_in (ends NoMemory (end_at s p).end).lines) ≤ 81
 
--- an end is this, and its users are shown all that waits at once
+-- an end is this, and its users are shown all pending indications at once
 pub record StandsFew (s : Side) (p : TwoEnds) (steps : List Step) (e : End) (h : Held) : Type 0 where
   pub stands : StandsAtArrivals s (shown_pair s e h p) steps
   pub few : length (waiting_in e.lines) ≤ 81

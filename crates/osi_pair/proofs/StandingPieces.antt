@@ -1,4 +1,4 @@
--- Pieces of the stream that are fed to an end one after the other, and what comes of them is shown.
+-- Pieces of the stream are fed to an end one after the other, and its users receive the indications.
 use Rattle.std.proofs.Common.{◌≡◌, ℕ, zero, suc, ◌+◌, ◌-◌, ◌≤◌, ◌⊎◌, inl, inr, Bool, true, false, List, [], ◌∷◌, ◌++◌, length, take, drop, Option, Some, None, is_some, refl, sym, ap, subst, ◌∙◌, if◌then◌else◌, arith}
 use Rattle.osi_carrier.specs.Packets as carriers
 use Rattle.osi_carrier.specs.State as states
@@ -107,7 +107,7 @@ finished laws f p steps k j used e rest h g is le all x =
       few = x.few;
     }
 
--- ---- what the end of a side is where it finds no memory
+-- ---- what the end of a side is where it runs out of memory
 
 unit_starved : (e new : End) (c : State) → e.carrier.events ≡ [] → c ≡ states.ends NoMemory e.carrier → new ≡ attends (with_carrier c e) → is_some new.carrier.ended ≡ true
 unit_starved e new c none is same = grind arith
@@ -234,7 +234,7 @@ goes_stands laws f p steps most used new at alive le (inl (inr d)) = behind_stan
 goes_stands laws f p steps most used new at alive le (inr (inl d)) = absurd (refused_not laws f p steps most used new at alive le d)
 goes_stands laws f p steps most used new at alive le (inr (inr d)) = memory_stands laws f p steps most used new at alive le d
 
--- ---- all that waits is shown
+-- ---- all pending indications is shown
 
 -- all at once, if no more waits than that
 record AllShown (old : Holding) (first : List (ℕ × Shown)) (new : Holding) : Type 0 where

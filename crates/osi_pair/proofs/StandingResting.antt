@@ -1,4 +1,4 @@
--- Two ends stand as they should after a unit with which no session acts.
+-- Two ends match the tables after a unit with which no session acts.
 use Rattle.std.proofs.Common.{◌≡◌, ℕ, ◌<◌, ◌≤◌, Bool, true, false, List, [], ◌∷◌, ◌++◌, Option, Some, None, is_some, refl, sym, ap, subst, ◌∙◌, arith, inr}
 use Rattle.osi_between.specs.Messages as carrier
 use Rattle.osi_pair.proofs.Vocabulary.{append-nil, Held, Value, Place, place_at, connection_in, Rows, State, reference_of, Between, last_of, under_way, put_in, is_cut, progress_of, AreLike, kind_of, Progress, leaves_use, connection_at, delivers, learns, Line as TableLine, Tables, seen_from, end_of, step, unseen, Message, Standing, Shown, told_all, kept_at, End, TwoEnds, end_at, other, side_in, is_caller, carriers_of, IsInOrder, Stands, Goes, HasJoined, is_parting, message_in, waiting_in, Side, Left, Right, Listener, discards, is_ended, is_over, implied, gone_is, StaysCalm, over_calm, EndLine as Line, SessionState}
@@ -219,7 +219,7 @@ quiet_unit s p b t packet h old alive pa d at back same rest agree stays sends b
     (subst (λ (m : TableLine). TablesAfter s n t t [] m) (sym (line_same d.row l tr)) (tables_rest s n l t at.found))
     (known_then s p b t e h n old alive d new.lasts pa.first.given agree)
 
--- one arrived, and no session heard of it
+-- one arrived, and no session received it
 pub rest_unit : (s : Side) (p : TwoEnds) (b : Between) (t : Tables) (packet : List ℕ) (h : Held) (got : carrier.Message) → Stands p b t → (end_at s p).end.carrier.ended ≡ None → end_of (side_in s) t ≡ None →
     (pa : PacketActs (terms_at p) (is_caller s) (carriers_of p) b packet h.octets) → (d : DidAt s p b (acted_end pa.unit (end_at s p).end.lines (end_at s p).end) h (reference_of pa.unit)) →
     (at : FoundLine s (reference_of pa.unit) p b t) (first : Message) (rest : List Message) → at.line.peer.channel ≡ first ∷ rest → kind_of (message_in first) ≡ kind_of got →

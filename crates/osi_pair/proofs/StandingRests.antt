@@ -1,5 +1,5 @@
--- A unit with which no session acts: one that brings no message, one that an end which is closing drops, and
--- a CR that is refused.
+-- A unit with which no session acts: one that brings no message, one that a closing end drops, and a CR that is
+-- refused.
 use Rattle.std.proofs.Common.{◌≡◌, ℕ, Bool, true, false, if◌then◌else◌, List, [], ◌∷◌, ◌++◌, length, map, Option, Some, None, refl, sym, ◌∙◌, ◌⊎◌, arith}
 use Rattle.osi_between.specs.Messages as carrier
 use Rattle.osi_machine.specs.Core as machine

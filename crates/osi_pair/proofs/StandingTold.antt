@@ -1,4 +1,4 @@
--- A side that is informed of the break ends as the machine says.
+-- A side that is told of the break ends as the machine says.
 use Rattle.std.proofs.Common.{◌≡◌, refl, sym, ◌∙◌, ap, subst, ℕ, true, if◌then◌else◌, ◌||◌, List, [], ◌∷◌, ◌++◌, Option, Some, None, is_some, arith}
 use Rattle.osi_machine.specs.Core as machine
 use Rattle.osi_machine.specs.Machine as entries
@@ -58,7 +58,7 @@ ended_at laws s p steps lines first journal at broken none told said =
       };
     }
 
--- ---- what a side that is informed of a break does
+-- ---- what a side that is told of a break does
 
 -- an end that has not ended
 record Heard (who : Side) (old new : Holding) (before after : List Entry) : Type 0 where

@@ -1,4 +1,4 @@
--- If one end acts for one connection, two ends stand as they should.
+-- If one end acts for one connection, two ends still match the tables.
 use Rattle.std.proofs.Common.{◌≡◌, ◌≢◌, ℕ, ◌≤◌, ◌==◌, Bool, true, false, if◌then◌else◌, List, [], ◌∷◌, ◌++◌, length, map, Some, None, is_some, option_map, refl, sym, ap, subst, ◌∙◌, not, ◌<◌, arith}
 use Rattle.osi_machine.specs.Core as machine
 use Rattle.osi_machine.specs.Machine as entries

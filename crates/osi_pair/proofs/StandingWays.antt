@@ -1,4 +1,4 @@
--- What is in flight, as the messages of the tables and as those between two carriers, where one end acts.
+-- What is in flight, as messages of the tables and as those between two carriers, when one end acts.
 use Rattle.std.proofs.Common.{◌≡◌, ℕ, suc, Bool, true, false, ◌||◌, ◌≤◌, ◌⊎◌, inl, inr, List, [], ◌∷◌, ◌++◌, length, map, take, drop, Option, Some, None, refl, sym, ap, subst, ◌∙◌, append_assoc, arith}
 use Rattle.osi_between.specs.Messages as carrier
 use Rattle.osi_between.specs.Progress as progress

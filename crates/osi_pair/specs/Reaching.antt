@@ -1,4 +1,4 @@
--- How far octets still reach once the byte connection is broken.
+-- How many octets still arrive once the byte connection is broken.
 use Rattle.std.specs.Prelude.{ℕ, ◌-◌, min, Option, Some, None}
 use Rattle.osi_pair.specs.declared.reach.Reach.{Reach}
 use Rattle.osi_pair.specs.declared.sides.Side.{Side}
@@ -8,7 +8,7 @@ abbrev pub reach_of : Side → Reach → ℕ
 reach_of Left r = r.left
 reach_of Right r = r.right
 
--- how many of this many octets of a side can be carried
+-- how many of these octets of a side can be carried
 abbrev pub within : Option Reach → Side → ℕ → ℕ
 within None side octets = octets
 within (Some r) side octets = min octets (reach_of side r)
