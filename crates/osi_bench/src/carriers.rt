@@ -1,5 +1,5 @@
-//! TSDUs that go over a pair of carriers, of which the caller sends and the called end receives. Every
-//! octet between them goes out of one and into the other in pieces.
+//! TSDUs over a pair of carriers: the caller sends, the called end receives. All octets between them are taken from one
+//! and fed to the other in pieces.
 
 use crate::moved::Moved;
 use osi_carrier::{Carrier, Event, Ref};
@@ -7,8 +7,8 @@ use osi_class::Local;
 use osi_tpdu::{SizeCode, Window};
 use std::alloc::Global;
 
-/// Hands over the first octets that are to be carried, at most so many: whether an event comes by them; `None` where
-/// there was none to carry.
+/// Hands over the next octets of the backlog, at most this many, and returns whether this caused an event; `None` if
+/// the backlog was empty.
 fn hand_over(from: &mut Carrier, to: &mut Carrier, piece: usize) -> Option<bool> {
     let octets = from.outgoing();
     let count = octets.len().min(piece);
@@ -20,15 +20,15 @@ fn hand_over(from: &mut Carrier, to: &mut Carrier, piece: usize) -> Option<bool>
     Some(fed.whole)
 }
 
-/// Takes the next event, and counts the TSDU that it is.
+/// Takes the next event, and counts its TSDU.
 fn count(end: &mut Carrier, moved: &mut Moved) {
     if let Some(Event::Tsdu(_, tsdu)) = end.next_event() {
         *moved = moved.with(tsdu.as_slice());
     }
 }
 
-/// Carries the first octets that are to be carried, at most so many, and counts the TSDU that comes
-/// by them. False where there was none to carry.
+/// Carries the next octets of the backlog, at most this many, and counts a TSDU that arrives. False if the backlog was
+/// empty.
 fn carry_piece(from: &mut Carrier, to: &mut Carrier, piece: usize, moved: &mut Moved) -> bool {
     let Some(whole) = hand_over(from, to, piece) else {
         return false;
@@ -39,7 +39,7 @@ fn carry_piece(from: &mut Carrier, to: &mut Carrier, piece: usize, moved: &mut M
     true
 }
 
-/// Carries all that is to be carried. Each piece has at least one octet.
+/// Carries the whole backlog. Each piece has at least one octet.
 fn carry(from: &mut Carrier, to: &mut Carrier, piece: usize, moved: &mut Moved) {
     for _ in 0..=from.outgoing().len() {
         if !carry_piece(from, to, piece, moved) {
@@ -48,7 +48,7 @@ fn carry(from: &mut Carrier, to: &mut Carrier, piece: usize, moved: &mut Moved) 
     }
 }
 
-/// Carries both ways until the caller has nothing more to be carried, at most so many times.
+/// Carries both ways until the caller's backlog is empty, at most this many times.
 fn exchange(
     caller: &mut Carrier,
     called: &mut Carrier,
@@ -82,7 +82,7 @@ fn open_one(caller: &mut Carrier, called: &mut Carrier, moved: &mut Moved) -> Op
     Some(())
 }
 
-/// Opens so many connections.
+/// Opens this many connections.
 fn open_all(
     caller: &mut Carrier,
     called: &mut Carrier,
@@ -95,7 +95,7 @@ fn open_all(
     Some(())
 }
 
-/// Moves a TSDU so many times over so many connections, which take turns.
+/// Moves a TSDU this many times over this many connections, in turn.
 fn take_turns(
     caller: &mut Carrier,
     called: &mut Carrier,
@@ -118,7 +118,7 @@ fn take_turns(
     Some(())
 }
 
-/// Moves a TSDU so many times over two ends with no connection.
+/// Moves a TSDU this many times over two fresh ends.
 fn over_ends(
     caller: &mut Carrier,
     called: &mut Carrier,
@@ -133,8 +133,8 @@ fn over_ends(
     Some(moved)
 }
 
-/// Moves a TSDU so many times over a pair of carriers with so many connections, at most 64, which take
-/// turns. Octets are carried in pieces of at most so many.
+/// Moves a TSDU this many times over a pair of carriers with this many connections, at most 64, in turn. Octets are
+/// carried in pieces of at most this many.
 pub(crate) fn over_carriers(
     alloc: Global,
     tsdu: &[u8],

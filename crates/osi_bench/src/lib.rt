@@ -1,4 +1,5 @@
-//! The work that the benchmarks time, as C functions over octets and numbers.
+//! The work that the benchmarks measure, as C functions over octets and numbers. Each returns a checksum of what it
+//! saw, so that no work can be optimised away.
 #![tactic(auto)]
 
 mod carriers;
@@ -14,14 +15,14 @@ use osi_tpkt::Cutter;
 use std::alloc::Global;
 use units::Sum;
 
-/// What a run saw: the packets and the octets of their transport units, each modulo 2^64.
+/// What a run saw: packets, and octets of their transport units, each modulo 2^64.
 #[derive(Clone, Copy)]
 struct Seen {
     packets: u64,
     octets: u64,
 }
 
-/// Feeds one piece of a stream, and takes each packet that it makes whole.
+/// Feeds one piece of a stream, and takes each packet that it completes.
 fn feed_piece(cutter: &mut Cutter, piece: &[u8], seen: &mut Seen) {
     let mut rest = piece;
     for _ in 0..=piece.len() {
@@ -40,8 +41,8 @@ fn feed_piece(cutter: &mut Cutter, piece: &[u8], seen: &mut Seen) {
     }
 }
 
-/// Cuts a stream that comes in pieces of so many octets (the last may be shorter; 0 counts as 1),
-/// and answers a number of what was seen.
+/// Cuts a stream fed in pieces of this many octets, and returns a checksum of what was seen. The last piece may be
+/// shorter; 0 counts as 1.
 #[unsafe(no_mangle)]
 pub extern "C" fn osi_bench_cut(alloc: Global, stream: &[u8], piece: usize) -> u64 {
     let mut cutter = Cutter::new(alloc);
@@ -57,8 +58,8 @@ pub extern "C" fn osi_bench_cut(alloc: Global, stream: &[u8], piece: usize) -> u
         .wrapping_add(seen.octets)
 }
 
-/// Reads the units of packets that stand one behind the other and have these lengths, up to the
-/// first that passes the end of the octets, and answers a number of what was seen.
+/// Reads the units of consecutive packets with these lengths, up to the first that exceeds the octets, and returns a
+/// checksum of what was seen.
 #[unsafe(no_mangle)]
 pub extern "C" fn osi_bench_units(packets: &[u8], lengths: &[usize]) -> u64 {
     let mut sum = Sum::zero();
@@ -73,8 +74,8 @@ pub extern "C" fn osi_bench_units(packets: &[u8], lengths: &[usize]) -> u64 {
     sum.number()
 }
 
-/// Reads a TSDU so many times, and answers a number of what was seen. Where the number is 0 so far,
-/// a round reads no octet in place of the TSDU: so each round needs the one before it.
+/// Reads a TSDU this many times, and returns a checksum of what was seen. If the checksum is 0 so far, a round reads no
+/// octets instead of the TSDU: so each round depends on the one before.
 #[unsafe(no_mangle)]
 pub extern "C" fn osi_bench_tsdus(tsdu: &[u8], rounds: usize) -> u64 {
     let mut sum = Sum::zero().with(1, 1);
@@ -85,8 +86,7 @@ pub extern "C" fn osi_bench_tsdus(tsdu: &[u8], rounds: usize) -> u64 {
     sum.number()
 }
 
-/// Reads a TSDU, writes its units so many times, and answers a number of the octets; 0 where it holds
-/// no units.
+/// Reads a TSDU, writes its units this many times, and returns a checksum of the octets; 0 if the TSDU holds no units.
 #[unsafe(no_mangle)]
 pub extern "C" fn osi_bench_writes(alloc: Global, tsdu: &[u8], rounds: usize) -> u64 {
     match writes::written(alloc, tsdu, rounds) {
@@ -95,8 +95,8 @@ pub extern "C" fn osi_bench_writes(alloc: Global, tsdu: &[u8], rounds: usize) ->
     }
 }
 
-/// Moves a TSDU so many times over a pair of links of class 2, or of class 0, and answers a number
-/// of what was handed out.
+/// Moves a TSDU this many times over a pair of links of class 2 or class 0, and returns a checksum of what was
+/// received.
 #[unsafe(no_mangle)]
 pub extern "C" fn osi_bench_links(
     alloc: Global,
@@ -113,7 +113,7 @@ pub extern "C" fn osi_bench_links(
     }
 }
 
-/// Does a part of a round so many times over a pair of sessions, and answers the octets of the TSDUs.
+/// Does a part of a round this many times over a pair of sessions, and returns the number of octets of the TSDUs.
 #[unsafe(no_mangle)]
 pub extern "C" fn osi_bench_sessions(
     alloc: Global,
@@ -124,8 +124,8 @@ pub extern "C" fn osi_bench_sessions(
     sessions::over_a_connection(alloc, data, rounds, part)
 }
 
-/// Moves a TSDU so many times over a pair of carriers with so many connections, whose octets go in
-/// pieces of at most so many, in class 2 or in class 0, and answers a number of what was handed out.
+/// Moves a TSDU this many times over a pair of carriers with this many connections, in class 2 or class 0, in pieces of
+/// at most this many octets, and returns a checksum of what was received.
 #[unsafe(no_mangle)]
 pub extern "C" fn osi_bench_carriers(
     alloc: Global,
@@ -141,9 +141,9 @@ pub extern "C" fn osi_bench_carriers(
     }
 }
 
-/// Does so many rounds of data, and where points are made of a point and its confirmation, over a pair
-/// of stacks with so many connections, in class 2 or in class 0, and answers a number of what their
-/// users were shown. A TSDU has at most so many octets, 0 for no limit: longer data leaves in parts.
+/// Does this many rounds over a pair of stacks with this many connections, in class 2 or class 0, and returns a
+/// checksum of what their users received. A round sends data and, if points are made, a point and its confirmation. A
+/// TSDU has at most `size` octets, 0 for no limit: longer data is sent in parts.
 #[unsafe(no_mangle)]
 pub extern "C" fn osi_bench_stacks(
     alloc: Global,

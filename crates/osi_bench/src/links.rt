@@ -1,4 +1,4 @@
-//! TSDUs that go over a pair of links, of which one sends and one receives.
+//! TSDUs over a pair of links: one sends, the other receives.
 
 ghost use Rattle.osi_class.specs.Link.{FitsAUnit};
 
@@ -7,10 +7,10 @@ use osi_class::{Class0, Class2, Credit, Link, Out};
 use osi_tpdu::{DataAcknowledgement, DataClass0, DataClass2, SizeCode, Tpdu, Window};
 use std::alloc::Global;
 
-/// The reference that each unit of class 2 is for.
+/// The reference of all units of class 2.
 const REFERENCE: u16 = 1;
 
-/// The unit that a link gives, for the reference of its peer.
+/// The unit that a link gives, for its peer's reference.
 fn unit_of(out: Out<'_>) -> Tpdu<'_>
     requires { FitsAUnit out }
 {
@@ -34,7 +34,7 @@ fn unit_of(out: Out<'_>) -> Tpdu<'_>
     }
 }
 
-/// Hands the next unit of one end to the other; false where there is none, or it is refused.
+/// Hands the next unit of one end to the other; false if there is none, or it is refused.
 fn pass(from: &mut impl Link, to: &mut impl Link) -> bool {
     match from.next_out() {
         None => false,
@@ -42,7 +42,7 @@ fn pass(from: &mut impl Link, to: &mut impl Link) -> bool {
     }
 }
 
-/// Moves a TSDU over two ends of class 0. A unit has at least one octet, or it is the only one.
+/// Moves a TSDU over two ends of class 0. A unit has at least one octet, unless it is the only one.
 fn move_class0(from: &mut Class0, to: &mut Class0, tsdu: &[u8]) -> Option<Vec<u8>> {
     from.send_tsdu(tsdu).ok()?;
     for _ in 0..=tsdu.len() {
@@ -53,7 +53,7 @@ fn move_class0(from: &mut Class0, to: &mut Class0, tsdu: &[u8]) -> Option<Vec<u8
     to.next_tsdu()
 }
 
-/// Moves a TSDU over two ends of class 2. For each unit an Ack goes back.
+/// Moves a TSDU over two ends of class 2. Each unit is acknowledged.
 fn move_class2(from: &mut Class2, to: &mut Class2, tsdu: &[u8]) -> Option<Vec<u8>> {
     from.send_tsdu(tsdu).ok()?;
     for _ in 0..=tsdu.len() {
@@ -64,7 +64,7 @@ fn move_class2(from: &mut Class2, to: &mut Class2, tsdu: &[u8]) -> Option<Vec<u8
     to.next_tsdu()
 }
 
-/// Moves a TSDU so many times over two ends of class 0.
+/// Moves a TSDU this many times over two ends of class 0.
 fn repeat_class0(from: &mut Class0, to: &mut Class0, tsdu: &[u8], rounds: usize) -> Moved {
     let mut moved = Moved::nothing();
     for _ in 0..rounds {
@@ -75,14 +75,14 @@ fn repeat_class0(from: &mut Class0, to: &mut Class0, tsdu: &[u8], rounds: usize)
     moved
 }
 
-/// Moves a TSDU so many times over a pair of links of class 0.
+/// Moves a TSDU this many times over a pair of links of class 0.
 pub(crate) fn over_class0(alloc: Global, tsdu: &[u8], rounds: usize) -> Moved {
     let mut from = Class0::new(alloc, SizeCode::new(13));
     let mut to = Class0::new(alloc, SizeCode::new(13));
     repeat_class0(&mut from, &mut to, tsdu, rounds)
 }
 
-/// Moves a TSDU so many times over two ends of class 2.
+/// Moves a TSDU this many times over two ends of class 2.
 fn repeat_class2(from: &mut Class2, to: &mut Class2, tsdu: &[u8], rounds: usize) -> Moved {
     let mut moved = Moved::nothing();
     for _ in 0..rounds {
@@ -98,7 +98,7 @@ fn class2(alloc: Global, window: Window, credit: Credit) -> Class2 {
     Class2::new(alloc, SizeCode::new(13), window, credit)
 }
 
-/// Moves a TSDU so many times over a pair of links of class 2 with the largest window and first credit.
+/// Moves a TSDU this many times over a pair of links of class 2 with the largest window and first credit.
 pub(crate) fn over_class2(alloc: Global, tsdu: &[u8], rounds: usize) -> Option<Moved> {
     let window = Window::new(15)?;
     let credit = Credit::new(15)?;

@@ -1,6 +1,6 @@
 //! What was moved from one end to the other.
 
-/// What was handed out: TSDUs and their octets, each modulo 2^64.
+/// What was received: TSDUs and their octets, each modulo 2^64.
 #[derive(Clone, Copy)]
 pub(crate) struct Moved {
     tsdus: u64,
@@ -8,7 +8,7 @@ pub(crate) struct Moved {
 }
 
 impl Moved {
-    /// Nothing was handed out.
+    /// Nothing was received.
     pub(crate) fn nothing() -> Self {
         Moved {
             tsdus: 0,
@@ -16,7 +16,7 @@ impl Moved {
         }
     }
 
-    /// The number of what was handed out.
+    /// The checksum of what was received.
     pub(crate) fn number(self) -> u64 {
         self.tsdus.wrapping_mul(1_000_003).wrapping_add(self.octets)
     }

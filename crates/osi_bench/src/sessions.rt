@@ -1,5 +1,4 @@
-//! Data, a minor synchronization point and its confirmation, over a pair of sessions, by the calls that an
-//! end makes of them.
+//! Data, a minor synchronization point and its confirmation over a pair of sessions, by the calls that an end makes.
 
 ghost use Rattle.std.specs.Prelude.{◌≡◌, true};
 ghost use Rattle.osi_session.specs.Points.{may_advance};
@@ -36,7 +35,7 @@ struct Ends {
     called: Session,
 }
 
-/// Hands a TSDU to a side; false where it is answered, or has no indication.
+/// Hands a TSDU to a side; false if the side answers it, or indicates nothing.
 fn pass(tsdu: &[u8], to: &mut Session) -> bool {
     match to.take_tsdu(tsdu) {
         Ok(taken) => taken.first.is_some() && taken.reply.is_none(),
@@ -44,7 +43,7 @@ fn pass(tsdu: &[u8], to: &mut Session) -> bool {
     }
 }
 
-/// Hands what is sent to the other side: the octets of the TSDU.
+/// Hands what was sent to the other side, and returns the length of the TSDU.
 fn hand(sent: &Sent, to: &mut Session) -> Option<usize> {
     match sent.tsdus() {
         [tsdu] if pass(tsdu.as_slice(), to) => Some(tsdu.len()),
@@ -52,13 +51,13 @@ fn hand(sent: &Sent, to: &mut Session) -> Option<usize> {
     }
 }
 
-/// Makes a call at one side, and hands what it sends to the other: the octets of the TSDU.
+/// Makes a call at one side, hands what it sends to the other, and returns the length of the TSDU.
 fn tell(from: &mut Session, request: Request, to: &mut Session) -> Option<usize> {
     let sent = from.call(request).ok()?;
     hand(&sent, to)
 }
 
-/// The octets of the TSDU, which is handed to nobody.
+/// The length of the TSDU, which is handed to nobody.
 fn length_of(sent: &Sent) -> Option<usize> {
     match sent.tsdus() {
         [tsdu] => Some(tsdu.len()),
@@ -66,12 +65,12 @@ fn length_of(sent: &Sent) -> Option<usize> {
     }
 }
 
-/// Calls for data as an end does.
+/// The call for data, as an end makes it.
 fn data(from: &Session, user_data: &[u8]) -> Option<Sent> {
     from.call_data(user_data).ok()
 }
 
-/// Goes on after a planned point, as an end does that has sent it.
+/// Continues after a planned point, as an end does once it has sent it.
 fn go_on(from: &mut Session, plan: PlannedPoint) -> Sent
     requires { may_advance from.old.state plan.point ≡ true }
 {
@@ -82,13 +81,13 @@ fn go_on(from: &mut Session, plan: PlannedPoint) -> Sent
     sent
 }
 
-/// Calls as an end does for a point that asks for its confirmation.
+/// The call for a point that asks for its confirmation, as an end makes it.
 fn point(from: &mut Session) -> Option<Sent> {
     let plan = from.plan_minor(true, &[]).ok()?;
     Some(go_on(from, plan))
 }
 
-/// Calls as an end does for the confirmation of this point.
+/// The call that confirms this point, as an end makes it.
 fn confirmation(from: &mut Session, number: u32) -> Option<Sent> {
     let plan = from.plan_minor_confirm(number, &[]).ok()?;
     Some(go_on(from, plan))
@@ -133,7 +132,7 @@ fn connected(alloc: Global) -> Option<Ends> {
     }
 }
 
-/// A point, and its confirmation, which is handed over or not: the octets of both TSDUs.
+/// A point and its confirmation, which is handed over or not; the octets of both TSDUs.
 fn confirmed(ends: &mut Ends, handed: bool) -> Option<usize> {
     let number = ends.caller.next_serial();
     let first = hand(&point(&mut ends.caller)?, &mut ends.called)?;
@@ -146,9 +145,8 @@ fn confirmed(ends: &mut Ends, handed: bool) -> Option<usize> {
     first.checked_add(second)
 }
 
-/// A part of a round: the octets of its TSDUs. 0 sends data, 1 hands it over too; 2 and 3 do the
-/// same with a point; 4 hands a point over and sends its confirmation, 5 hands both over; any other
-/// number does 1 and 5.
+/// A part of a round, and the octets of its TSDUs. 0 sends data, and 1 hands it over too; 2 and 3 do the same with a
+/// point; 4 hands a point over and sends its confirmation, and 5 hands both over; any other number does 1 and 5.
 fn part(ends: &mut Ends, user_data: &[u8], number: usize) -> Option<usize> {
     match number {
         0 => length_of(&data(&ends.caller, user_data)?),
@@ -164,8 +162,8 @@ fn part(ends: &mut Ends, user_data: &[u8], number: usize) -> Option<usize> {
     }
 }
 
-/// So many rounds of this part over a new connection: the octets of their TSDUs modulo 2^64, up to
-/// the first round that fails.
+/// This many rounds of this part over a new connection; the octets of their TSDUs modulo 2^64, up to the first round
+/// that fails.
 pub(crate) fn over_a_connection(alloc: Global, data: &[u8], rounds: usize, number: usize) -> u64 {
     match connected(alloc) {
         Some(mut ends) => repeated(&mut ends, data, rounds, number),

@@ -1,6 +1,5 @@
-//! Data, minor synchronization points and their confirmations over a pair of stacks, of which the
-//! caller sends data and points and the called end confirms. All octets between them go out of one and
-//! into the other.
+//! Data, minor synchronization points and their confirmations over a pair of stacks: the caller sends data and points,
+//! the called end confirms. All octets between them are taken from one and fed to the other.
 
 use bitflags::Flags;
 use osi_carrier::Ref;
@@ -36,15 +35,14 @@ const MINOR: Request = Request::Minor {
     user_data: &[],
 };
 
-/// What users were shown: indications of data, of points and of confirmations, and the octets of data,
-/// each modulo 2^64.
+/// What users received: indications of data, of points and of confirmations, and the octets of data, each modulo 2^64.
 #[derive(Clone, Copy)]
 struct Shown {
     messages: u64,
     octets: u64,
 }
 
-/// The two ends, and what their users were shown.
+/// The two ends, and what their users received.
 #[derive(Drop)]
 struct Ends {
     caller: Stack,
@@ -52,7 +50,7 @@ struct Ends {
     shown: Shown,
 }
 
-/// With one indication more.
+/// With one more indication.
 fn with(shown: Shown, indication: &Indication) -> Shown {
     let octets = match indication {
         Indication::Data { user_data } => user_data.as_slice().len() as u64,
@@ -65,7 +63,8 @@ fn with(shown: Shown, indication: &Indication) -> Shown {
     }
 }
 
-/// Hands over what is to be carried, up to what shows an indication: whether it shows one; `None` where nothing was.
+/// Hands over octets of the backlog until an indication is pending, and returns whether one is; `None` if the backlog
+/// was empty.
 fn hand_over(from: &mut Stack, to: &mut Stack) -> Option<bool> {
     let octets = from.outgoing();
     if octets.is_empty() {
@@ -76,14 +75,14 @@ fn hand_over(from: &mut Stack, to: &mut Stack) -> Option<bool> {
     Some(fed.whole)
 }
 
-/// Takes the next indication, where there is one.
+/// Takes the next indication, if one is pending.
 fn show(end: &mut Stack, shown: &mut Shown) {
     if let Some((_, indication)) = end.next_indication() {
         *shown = with(*shown, &indication);
     }
 }
 
-/// Carries what is to be carried, up to what shows an indication; false where nothing was.
+/// Carries octets of the backlog until an indication is pending; false if the backlog was empty.
 fn carry_some(from: &mut Stack, to: &mut Stack, shown: &mut Shown) -> bool {
     let Some(whole) = hand_over(from, to) else {
         return false;
@@ -94,7 +93,7 @@ fn carry_some(from: &mut Stack, to: &mut Stack, shown: &mut Shown) -> bool {
     true
 }
 
-/// Carries all that is to be carried.
+/// Carries the whole backlog.
 fn carry(from: &mut Stack, to: &mut Stack, shown: &mut Shown) {
     for _ in 0..=from.outgoing().len() {
         if !carry_some(from, to, shown) {
@@ -103,7 +102,7 @@ fn carry(from: &mut Stack, to: &mut Stack, shown: &mut Shown) {
     }
 }
 
-/// Carries both ways until the caller has nothing more to be carried, at most so many times.
+/// Carries both ways until the caller's backlog is empty, at most this many times.
 fn exchange(ends: &mut Ends, times: usize) {
     for _ in 0..=times {
         carry(&mut ends.caller, &mut ends.called, &mut ends.shown);
@@ -198,7 +197,7 @@ fn confirmed(ends: &mut Ends, reference: Ref) -> Option<()> {
     answer(ends, reference, confirm)
 }
 
-/// Data, and where points are made a point and its confirmation.
+/// Data and, if points are made, a point and its confirmation.
 fn round(ends: &mut Ends, reference: Ref, user_data: &[u8], points: bool) -> Option<()> {
     data(ends, reference, user_data)?;
     if points {
@@ -207,7 +206,7 @@ fn round(ends: &mut Ends, reference: Ref, user_data: &[u8], points: bool) -> Opt
     Some(())
 }
 
-/// Two ends with no connection.
+/// Two fresh ends.
 fn fresh(alloc: Global, local: Local) -> Ends {
     Ends {
         caller: Stack::caller(alloc, local),
@@ -219,7 +218,7 @@ fn fresh(alloc: Global, local: Local) -> Ends {
     }
 }
 
-/// Opens so many connections, of which a TSDU has at most so many octets, 0 for no limit.
+/// Opens this many connections. A TSDU has at most `size` octets, 0 for no limit.
 fn open_all(ends: &mut Ends, connections: u16, size: u16) -> Option<()> {
     let size = TsduSize::new(size)?;
     let sizes = TsduSizes {
@@ -233,7 +232,7 @@ fn open_all(ends: &mut Ends, connections: u16, size: u16) -> Option<()> {
     Some(())
 }
 
-/// So many rounds over so many connections, which take turns.
+/// This many rounds over this many connections, in turn.
 fn take_turns(
     ends: &mut Ends,
     user_data: &[u8],
@@ -253,7 +252,7 @@ fn take_turns(
     Some(())
 }
 
-/// So many rounds over two ends with no connection: a number of what their users were shown.
+/// This many rounds over two fresh ends; a checksum of what their users received.
 fn over_ends(
     ends: &mut Ends,
     user_data: &[u8],
@@ -268,8 +267,8 @@ fn over_ends(
     Some(messages.wrapping_mul(1_000_003).wrapping_add(octets))
 }
 
-/// So many rounds over a pair of stacks with so many connections, at most 64, which take turns, and of
-/// which a TSDU has at most so many octets, 0 for no limit: a number of what their users were shown.
+/// This many rounds over a pair of stacks with this many connections, at most 64, in turn; a checksum of what their
+/// users received. A TSDU has at most `size` octets, 0 for no limit.
 pub(crate) fn over_stacks(
     alloc: Global,
     user_data: &[u8],

@@ -1,4 +1,4 @@
-//! What is seen of the session units of a TSDU, added to the same number.
+//! A checksum of the session units of a TSDU.
 
 use crate::units::Sum;
 use osi_spdu::{Serial, Spdu, SpduFault, read_tsdu};
@@ -11,7 +11,7 @@ impl Sum {
         }
     }
 
-    // With one more unit, whose place among the others counts too.
+    // With one more unit. The order of units counts too.
     fn with_spdu(self, unit: &Spdu<'_>) -> Self {
         let params = unit.params();
         self.later()
@@ -21,7 +21,7 @@ impl Sum {
             .with_serial(7, params.initial_number())
     }
 
-    // With a TSDU that holds no units, for this reason.
+    // With a TSDU that holds no units because of this fault.
     fn with_spdu_fault(self, fault: SpduFault) -> Self {
         let (kind, at) = match fault {
             SpduFault::UnknownSi(at) => (101, at),

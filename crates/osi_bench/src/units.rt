@@ -1,4 +1,4 @@
-//! What is seen of the units of packets, as one number.
+//! A checksum of the units of packets.
 
 use osi_tpdu::{
     ConnectConfirm, ConnectFields, ConnectParameters, ConnectRequest, DataAcknowledgement,
@@ -6,22 +6,22 @@ use osi_tpdu::{
     TpduFault, read_units,
 };
 
-/// A number of what was seen, modulo 2^64: fields, each times a weight that tells it from others.
+/// A checksum modulo 2^64: the sum of fields, each with a weight of its own.
 #[derive(Clone, Copy)]
 pub(crate) struct Sum(u64);
 
 impl Sum {
-    /// Where nothing was seen.
+    /// Nothing was seen.
     pub(crate) fn zero() -> Self {
         Sum(0)
     }
 
-    /// The number.
+    /// The checksum.
     pub(crate) fn number(self) -> u64 {
         self.0
     }
 
-    /// Before one more unit: what was seen earlier weighs more, so that the order counts.
+    /// Before one more unit: earlier units get another weight, so that the order counts.
     pub(crate) fn later(self) -> Self {
         Sum(self.0.wrapping_mul(31))
     }
@@ -121,7 +121,7 @@ impl Sum {
             .with(19, u64::from(e.cause()))
     }
 
-    // With one more unit, whose place among the others counts too.
+    // With one more unit. The order of units counts too.
     fn with_unit(self, unit: &Tpdu<'_>) -> Self {
         let before = self.later();
         match unit {
@@ -136,7 +136,7 @@ impl Sum {
         }
     }
 
-    // With a packet that holds no units, for this reason.
+    // With a packet that holds no units because of this fault.
     fn with_fault(self, fault: TpduFault) -> Self {
         let (kind, at) = match fault {
             TpduFault::BadLi(at) => (101, at),

@@ -1,10 +1,10 @@
-//! The units of a TSDU, written over and over.
+//! Writing the units of a TSDU repeatedly.
 
 use bytes::BytesMut;
 use osi_spdu::{read_tsdu, write_tsdu};
 use std::alloc::Global;
 
-/// Reads a TSDU, and writes its units so many times into the same room: a number of the octets.
+/// Reads a TSDU, and writes its units this many times into the same buffer; a checksum of the octets.
 pub(crate) fn written(alloc: Global, tsdu: &[u8], rounds: usize) -> Option<u64> {
     let group = read_tsdu(tsdu).ok()?;
     let mut out = BytesMut::new(alloc);

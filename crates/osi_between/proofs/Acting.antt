@@ -1,4 +1,4 @@
--- Where an end acts, two carriers stand between as they should, whatever has become of them.
+-- The invariant of two carriers is kept when an end acts.
 use Rattle.std.proofs.Common.{◌≡◌, ◌≢◌, ℕ, ◌+◌, ◌≤◌, ◌||◌, Bool, true, false, not, List, [], ◌++◌, length, Option, Some, None, is_some, IfSome, refl, sym, ap, subst, ◌∙◌, append_assoc, arith, ◌⊎◌, inl, inr}
 use Rattle.osi_between.specs.Between.{under_way}
 use Rattle.osi_between.proofs.Vocabulary.{flat_map, AllByRecursion, append-nil, append_cancel_right, Value, IsSendable, place_at, connection_in, Connection, State, packets, EndReason, units_of, AreFor, Both, side, reach_of, within_reach, arriving, Between, last_of, units_from, lost_from, IsOnTheWay, AreJoinedBy, AreBetween, is_cut, to_come, told_of, put_in, Carries, Acted, becomes, progress_of, BringsTo, under_way_for, ActsFor, Message, messages_to, messages_after, begun_at, AreLike, references_for, class_behind_all, leaves_use, Terms, by_two, accepts_in, class_of}
@@ -8,8 +8,8 @@ use Rattle.osi_between.proofs.OnTheWay.{going_then, lost_then, all_then, way_out
 
 -- ---- with all units
 
--- What an end (`this`, and then `next`) did for a connection, where `going` are the units on the way
--- from it and `coming` those to it.
+-- What an end (`this`, then `next`) did for a connection; `going` are the units in flight from it and `coming` those to
+-- it.
 pub record Steps (terms : Terms) (n : ℕ) (this other next : State) (going coming rest taken : List Value) (put : List Message) : Type 0 where
   pub units : List Value
   pub arrived : List Message
@@ -79,7 +79,7 @@ unreached end reach e = grind arith
 cut_alive : (broken : Bool) (ended : Option EndReason) → ended ≡ None → (broken || is_some ended) ≡ broken
 cut_alive broken ended e = grind (arith, is_some)
 
--- what is under way from the end that acts
+-- what is in flight from the acting end
 record OutPart (o : Option Connection) (old new lost put : List Message) : Type 0 where
   stays : List Message
   gone : List Message
@@ -87,7 +87,7 @@ record OutPart (o : Option Connection) (old new lost put : List Message) : Type 
   before : AreLike o old (stays ++ gone)
   after : AreLike o new (stays ++ put)
 
--- messages of units and of what is to come behind them
+-- messages of units and of what is still to be sent after them
 abbrev sum_of : Option Connection → ℕ → List Value → Bool → Option Connection → List Message
 sum_of o n units cut c = messages_after (begun_at o) (units_of n units ++ to_come cut c)
 
@@ -111,7 +111,7 @@ out_part end reach o c d n going lost units stays gone put none before after = g
 put_is : (both : Both) (put : List Message) (reach : Option (ℕ × ℕ)) → both.reach ≡ reach → if_whole reach put ≡ put_in both put
 put_is both put reach e = grind arith
 
--- what came to it
+-- what arrived at it
 came_part : (n : ℕ) (old new there : Option Connection) (cut : Bool) (coming taken left : List Value) (arrived : List Message) → coming ≡ taken ++ left → AreFor n taken →
     ((units : List Value) → AreLike new (messages_after (begun_at old) (taken ++ units)) (arrived ++ messages_after (begun_at new) units)) →
     AreLike new (sum_of old n coming cut there) (arrived ++ sum_of new n left cut there)
@@ -129,8 +129,8 @@ same_sum o p c d q us vs a b x y z w = grind arith
 
 -- ---- an end acts
 
--- A lemma with one proof for both ends takes this, which is always there: its first clause, which nothing
--- meets, parts the ends, so that the second is a proof for each.
+-- A lemma with one proof for both ends takes this argument, which is always available. Its first clause never applies
+-- and only splits on the end, so that the second clause is a proof for each end.
 abbrev pub Each : Type 0
 Each = ⊥ ⊎ Unit {0}
 

@@ -1,4 +1,4 @@
--- What becomes of two carriers: packets are taken, octets handed over, an end comes, and the byte
+-- The invariant of two carriers is kept when packets are taken, octets handed over, an end ends, and the byte
 -- connection breaks.
 use Rattle.std.proofs.Common.{◌≡◌, ℕ, ◌+◌, ◌<◌, ◌≤◌, ◌||◌, Bool, true, false, not, List, [], ◌∷◌, ◌++◌, length, take, drop, Option, Some, None, is_some, IfSome, refl, sym, ap, subst, ◌∙◌, append_assoc, arith, inl, inr}
 use Rattle.osi_between.specs.Between.{under_way}
@@ -53,7 +53,7 @@ front_parts o n units done left tail parts =
 or_true : (b : Bool) → true ≡ (b || true)
 or_true b = grind arith
 
--- what is still to be cut is lost
+-- what is still to be cut into units is lost
 front_cut : (o : Option Connection) (n : ℕ) (units : List Value) (cut after : Bool) (c : Option Connection) → true ≡ after → Front (sum_of o n units cut c) (sum_of o n units after c)
 front_cut o n units cut after c e =
     subst (λ (t : Bool). Front (sum_of o n units cut c) (sum_of o n units t c)) e
@@ -230,7 +230,7 @@ over_at terms end each p both b k a less =
       class = λ e. by_end end (λ x. (last_of x now).class ≡ (last_of x b).class) refl refl e;
     }
 
--- events are told
+-- events are reported
 tells_at : (terms : Terms) (end : Bool) → Each → (p : Provides terms) (both : Both) (b : Between) (events : List Happening) → AreBetween terms both b → Same terms both (still_to_tell end events both) b
 tells_at terms true (inl none) p both b events a = absurd none
 tells_at terms end each p both b events a =
@@ -281,7 +281,7 @@ tells terms p end both b events a = tells_at terms end (inr tt) p both b events 
 pub ends_at : (terms : Terms) (end : Bool) (both : Both) (b : Between) (reason : EndReason) → AreBetween terms both b → Lost terms both (ended_at end reason both) b
 ends_at terms end both b reason a = ends_by terms end (inr tt) both b reason a
 
--- where CRs are refused none is open
+-- if CRs are refused, no connection is open
 pub no_open : (reason : ℕ) (end : Bool) (both : Both) (b : Between) (n peer : ℕ) (link : Standing) → AreBetween (refusing reason) both b → (side end both).state.ended ≡ None →
     value_at n (side end both).state.live ≡ Some (linked peer link) → ⊥
 no_open reason end both b n peer link a alive at = grind (arith, none_open)

@@ -1,4 +1,4 @@
--- What units bring that an end takes.
+-- What the units mean that an end takes.
 use Rattle.std.proofs.Common.{◌≡◌, ℕ, Bool, true, List, [], ◌∷◌, ◌++◌, length, map, take, Option, Some, None, Result, Ok, Err, refl, sym, ap, ◌∙◌, nat_lt, if◌then◌else◌, IfOk, arith}
 use Rattle.osi_between.proofs.Vocabulary.{AllByRecursion, map-append, Value, data0, data2, acknowledge, disconnect, Ends, Flow, Sender, Joining, with_part, Standing, Given, taken, taken_by, unit_of, with_tsdu, with_joined, with_sender, LinkFault, TsduTooLong, drained_leaves, choose_ok, at_ok, pumped, handed_out, Connection, linked, closing, Message, message, bye, over, messages_after, begun_at, kind_of, AreLike, Progress, in_use, shutting, gone, may_arrive, behind_arrivals, behind_puts, Brings}
 use Rattle.osi_between.proofs.MessageLaws.{begun_after, messages_part, kinds_begun, kinds_join}

@@ -1,4 +1,4 @@
--- How the course of a connection goes on at each end.
+-- How the state of a connection changes at each end.
 use Rattle.std.proofs.Common.{◌≡◌, ℕ, ◌+◌, ◌≤◌, is_none, Bool, true, false, List, [], ◌∷◌, ◌++◌, map, Option, Some, refl, sym, ap, subst, ◌∙◌, arith, nat_lt, if◌then◌else◌}
 use Rattle.osi_between.specs.Meeting.{Carries}
 use Rattle.osi_between.proofs.Vocabulary.{flat_map, list_any, AllByRecursion, le-ltb, ltb-false, Value, AreOfClass, Given, Class, Two, Local, dropped, references, Place, never, was_given, place_at, Happening, Rows, value_at, put, Connection, State, AreFor, reference_of, asked_by, is_last, live_behind, live_after, requests, met, HaveMet, told_opening, CourseCarries, Acts, CourseMoves, Meeting, talking, left_here, left_there, left_both, waiting_there, mirror, here, addressed, leaving, farewell, rows_with, out, back, Stands, Changes, told_at, messages_back, messages_out, answers_of, Moves, Message, ask, agree, deny, message, bye, over, messages_to, AreLike, Progress, not_yet, awaiting, in_use, shutting, gone, progress_in, may_arrive, asks_in, class_behind_all, leaves_use, Brings}

@@ -1,4 +1,4 @@
--- Where nothing is on the way, nothing is under way for a connection that is open at both ends.
+-- If no unit is in flight, nothing is in flight for a connection that is open at both ends.
 use Rattle.std.proofs.Common.{◌≡◌, ℕ, Bool, true, false, List, [], ◌∷◌, ◌++◌, Option, Some, None, is_some, ◌||◌, refl, sym, ap, subst, ◌∙◌, arith}
 use Rattle.osi_between.specs.Zero.{unasked, talking, at_end, from_end, Holds}
 use Rattle.osi_between.proofs.Vocabulary.{append-nil, Value, LinkPair, Standing, quiet_unsent, nothing_begun, was_given, place_at, connection_in, value_at, Connection, linked, State, packets, EndReason, units_of, Both, reach_of, within_reach, Between, IsOnTheWay, AreJoinedBy, AreBetween, IsStill, IsAllThere, is_cut, to_come, IsEmpty, under_way_for, messages_to, messages_after, begun_at, AreOpen, Terms, by_two, by_zero, refusing, ZeroCourse, HasOne}
@@ -35,7 +35,7 @@ done_by s r n p q x y (talking l) one other is back h at at_there =
     (done_links s r l one other h (none_addressed 1 l.rightward (sym is)) (none_addressed 1 l.leftward (sym back)))))
 done_by s r n p q x y g one other is back h at at_there = absurd (not_asked s n p x one at)
 
--- ---- whatever they come to
+-- ---- whatever the two agree on
 
 done_at : (terms : Terms) (s r : State) (n p q : ℕ) (x y : Standing) → AreJoinedBy terms s r [] [] → value_at n s.live ≡ Some (linked p x) → value_at n r.live ≡ Some (linked q y) → IsDone n s r x y
 done_at by_two s r n p q x y j at at_there =

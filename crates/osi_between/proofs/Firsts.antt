@@ -1,4 +1,4 @@
--- What is told at one end of two carriers are the first of what was handed in at the other.
+-- What is reported at one end of two carriers is a prefix of what was handed in at the other.
 use Rattle.std.proofs.Common.{◌≡◌, ◌≢◌, ℕ, ◌==◌, ◌||◌, Bool, true, false, not, List, [], ◌∷◌, ◌++◌, Some, None, is_some, refl, sym, ap, subst, ◌∙◌, append_assoc, nat_lt, if◌then◌else◌, arith}
 use Rattle.osi_between.specs.Between.{under_way}
 use Rattle.osi_between.proofs.Vocabulary.{flat_map, AllByRecursion, eq-eqb, eqb-true, append-nil, Value, Standing, Place, was_given, place_at, connection_in, Happening, tsdu, value_at, linked, State, AreFor, units_of, Both, side, Between, last_of, units_from, told_of, answers_in, put_in, is_cut, to_come, Carries, AreBetween, tsdus_told, tsdus_in, AreFirstOf, progress_of, told_asked, told_answer, told_opening, Message, message, over, messages_after, begun_at, AreLike, Progress, not_yet, awaiting, in_use, shutting, gone, may_arrive, behind_arrival, behind_arrivals, behind_put, behind_puts, leaves_use, Terms, by_two, by_zero, refusing, accepts_in}
@@ -51,7 +51,7 @@ stays_over_puts : (p : Progress) (ms : List Message) → is_over p ≡ true → 
 stays_over_puts p [] e = e
 stays_over_puts p (m ∷ ms) e = stays_over_puts (behind_put p m) ms (stays_over_put p m e)
 
--- ---- what is told
+-- ---- what is reported
 
 told_join_by : (n q : ℕ) (octets : List ℕ) (xs ys : List (List ℕ)) (b : Bool) → (if b then octets ∷ (xs ++ ys) else xs ++ ys) ≡ (if b then octets ∷ xs else xs) ++ ys
 told_join_by n q octets xs ys b = grind arith
@@ -92,9 +92,9 @@ told_all : (terms : Terms) (n q : ℕ) (p : Place) (ms : List Message) → OneTo
 told_all terms n q p [] = record { shut = λ h. refl; other = λ h. refl }
 told_all terms n q p (m ∷ ms) = grind (arith, told_one, told_join, told_all terms n q p ms)
 
--- ---- each TSDU that arrives is told, unless the connection takes nothing more
+-- ---- each TSDU that arrives is reported, unless the connection takes nothing more
 
--- where CRs are refused none is open
+-- if CRs are refused, no connection is open
 abbrev pub MayBeOpen : Terms → Place → Type 0
 MayBeOpen by_two p = Unit {0}
 MayBeOpen by_zero p = Unit {0}
@@ -128,13 +128,13 @@ answers_none terms p u = grind (arith, leaving_none)
 abbrev pub is_sealed : Bool → ℕ → Both → Between → Bool
 is_sealed from n both b = is_cut from both || is_over (progress_of (place_at n (last_of from b)))
 
--- the TSDUs that are under way
+-- the TSDUs that are in flight
 abbrev pub tsdus_under : Bool → ℕ → Both → Between → List (List ℕ)
 tsdus_under from n both b = tsdus_in (under_way from n both b)
 
--- A step from one end to the other (`x`), where these TSDUs were told and those put. What is told and what
--- is under way then are what was under way and what was put; their first, where something was lost; and of
--- what was put none, where nothing arrives any more.
+-- A step from one end to the other (`x`), in which these TSDUs were reported and those put. Afterwards, what was
+-- reported, followed by what is in flight, is what was in flight, followed by what was put; a prefix of it, if
+-- something was lost; and without what was put, if nothing arrives any more.
 pub record Fact (from x : Bool) (n : ℕ) (old new : Both) (b c : Between) (told put : List (List ℕ)) : Type 0 where
   pub shut : is_over (progress_of (place_at n (last_of x b))) ≡ true → (told ≡ []) × (is_over (progress_of (place_at n (last_of x c))) ≡ true)
   pub last : is_over (progress_of (place_at n (last_of x b))) ≡ false → AreFirstOf told (tsdus_under from n old b)
@@ -148,12 +148,12 @@ pub record Fact (from x : Bool) (n : ℕ) (old new : Both) (b c : Between) (told
 pub sealed_same : (from : Bool) (n : ℕ) (old new : Both) (b c : Between) → is_cut from old ≡ is_cut from new → place_at n (last_of from c) ≡ place_at n (last_of from b) → is_sealed from n old b ≡ is_sealed from n new c
 sealed_same from n old new b c cut place = grind arith
 
--- where nothing arrives and nothing is put
+-- if nothing arrives and nothing is put
 pub fact_lost : (from x : Bool) (n : ℕ) (old new : Both) (b c : Between) (lost : List Message) → under_way from n old b ≡ under_way from n new c ++ lost → place_at n (last_of x c) ≡ place_at n (last_of x b) →
     (is_sealed from n new c ≡ false → under_way from n old b ≡ under_way from n new c) → (is_sealed from n old b ≡ true → is_sealed from n new c ≡ true) → Fact from x n old new b c [] []
 fact_lost from x n old new b c lost all place kept still = grind (arith, tsdus_join, first_none, first_more, append-nil)
 
--- where nothing happens
+-- if nothing happens
 pub fact_still : (from x : Bool) (n : ℕ) (old new : Both) (b c : Between) → under_way from n old b ≡ under_way from n new c → place_at n (last_of x c) ≡ place_at n (last_of x b) → is_sealed from n old b ≡ is_sealed from n new c →
     Fact from x n old new b c [] []
 fact_still from x n old new b c same place sealed = grind (arith, fact_lost, append-nil)
@@ -185,11 +185,11 @@ or_second u v e = grind arith
 pub or_still : (s u t v : Bool) → (s || t) ≡ true → (s ≡ true → u ≡ true) → (t ≡ true → v ≡ true) → (u || v) ≡ true
 or_still s u t v e first more = grind (arith, or_second)
 
--- one that is not over has not left use
+-- a connection that is not over has not left use
 in_use_still : (from to : Progress) → is_over to ≡ false → leaves_use from to ≡ false
 in_use_still from to e = grind arith
 
--- an end that acts lasts, before and then
+-- an acting end lasts, before and after
 pub record Acts (end : Bool) (old new : Both) : Type 0 where
   pub was : is_cut end old ≡ is_some old.reach
   pub is : is_cut end new ≡ is_some old.reach
@@ -210,7 +210,7 @@ not_either s t a b h = grind arith
 or_first : (s t : Bool) → s ≡ true → (s || t) ≡ true
 or_first s t e = grind arith
 
--- what is under way then, by what stays of it
+-- what is in flight afterwards, by what stays of it
 handed_now : (both : Both) (stays put now : List Message) (h : List (List ℕ)) (broken : Bool) → is_some both.reach ≡ broken → now ≡ stays ++ put_in both put → tsdus_in put ≡ h →
     tsdus_in now ≡ tsdus_in stays ++ (if broken then [] else h)
 handed_now both stays put now h broken reach e is = grind (arith, put_broken, tsdus_join, put_whole)
@@ -264,7 +264,7 @@ pub fact_handed : (terms : Terms) (end : Bool) (q n : ℕ) (old new : Both) (b c
     Fact end (not end) n old new b c [] (if q == n then octets ∷ [] else [])
 fact_handed terms end q n old new b c taken octets k w o = fact_handed_by terms end q n old new b c taken octets (q == n) refl k w o
 
--- what arrived is the first of what was under way
+-- what arrived is a prefix of what was in flight
 arrived_is : (terms : Terms) (end : Bool) (n : ℕ) (old new : Both) (b c : Between) (taken : List Value) (put : List Message) → (k : Carries terms end n old new b c taken put) → (tail : List Value) →
     (rest : List Value) (more : List Message) → units_of n (units_from (not end) b) ++ tail ≡ taken ++ rest → messages_after (begun_at (connection_in (place_at n (last_of end b)))) (taken ++ rest) ≡ messages_after (begun_at (connection_in (place_at n (last_of end b)))) taken ++ more →
     messages_after (begun_at (connection_in (place_at n (last_of end b)))) (units_of n (units_from (not end) b) ++ tail) ≡ k.arrived ++ more
@@ -338,7 +338,7 @@ or_none s = grind arith
 pub message_put : (p : Progress) (octets : List ℕ) → behind_put p (message octets) ≡ p
 message_put p octets = grind arith
 
--- an end that lasts, before and then
+-- an end that lasts, before and after
 pub acts_at : (end : Bool) (old new : Both) → (side end old).state.ended ≡ None → (side end new).state.ended ≡ None → is_some old.reach ≡ is_some new.reach → is_cut (not end) old ≡ is_cut (not end) new → Acts end old new
 acts_at end old new was is reach there = grind (arith, is_some, or_none)
 
@@ -349,7 +349,7 @@ open_place s n peer link below e at = grind arith
 pub stays_open : (terms : Terms) (end : Bool) (q : ℕ) (old new : Both) (b c : Between) (octets : List ℕ) (peer : ℕ) (link : Standing) → Carries terms end q old new b c [] (message octets ∷ []) → value_at q (last_of end b).live ≡ Some (linked peer link) → StaysOpen end q b c
 stays_open terms end q old new b c octets peer link k at = grind (arith, open_place, nat_lt, message_put)
 
--- where CRs are refused none is open
+-- if CRs are refused, no connection is open
 in_use_is : (p : Place) → progress_of p ≡ in_use → (peer : ℕ) × (link : Standing) × (p ≡ was_given (Some (linked peer link)))
 in_use_is p e = grind arith
 

@@ -1,4 +1,4 @@
--- TSDUs that are handed in together between two carriers.
+-- TSDUs that are handed in together, between two carriers.
 use Rattle.std.proofs.Common.{◌≡◌, refl, sym, ◌∙◌, ap, subst, ℕ, ◌+◌, Bool, false, not, nat_lt, if◌then◌else◌, List, [], ◌∷◌, ◌++◌, map, Option, Some, None, is_some, arith, append_assoc}
 use Rattle.osi_between.specs.Between.{under_way}
 use Rattle.osi_between.proofs.Vocabulary.{append-nil, map-append, flat_map, AllByRecursion, IsOctets, IsShortTsdu, Standing, sent, sent_all, Place, never, was_given, place_at, connection_in, value_at, Connection, linked, State, Both, Between, AreBetween, Acted, Carries, side, becomes, last_of, put_in, told_of, progress_of, BringsTo, Message, message, AreLike, Progress, in_use, behind_puts, leaves_use, references_for, asks_in, class_behind_all, Terms, accepts_in, class_of}
@@ -30,7 +30,7 @@ linked_in p e = absurd (cc)
 linked_is : (o : Option Connection) (peer : ℕ) (link : Standing) (xs ys : List Message) → o ≡ Some (linked peer link) → AreLike o xs ys → xs ≡ ys
 linked_is o peer link xs ys e h = let k : AreLike (Some (linked peer link)) xs ys = subst (λ (c : Option Connection). AreLike c xs ys) e h in k
 
--- what stands at its reference
+-- the connection at this reference
 record IsAt (n : ℕ) (s : State) : Type 0 where
   pub peer : ℕ
   pub link : Standing
@@ -45,7 +45,7 @@ open_at n s e =
     let k = at_place (nat_lt s.given n) (value_at n s.live) e in
     record { peer = l.peer; link = l.link; at = sym k.1 ∙ l.is }
 
--- TSDUs that are put change neither how far it is nor what was given
+-- TSDUs that are put change neither how far the connection is nor which references were given
 puts_nothing : (p : Progress) (ts : List (List ℕ)) → behind_puts p (map message ts) ≡ p
 puts_nothing p [] = refl
 puts_nothing p (t ∷ ts) = ap (λ (q : Progress). behind_puts q (map message ts)) (message_put p t) ∙ puts_nothing p ts
@@ -98,7 +98,7 @@ brings_both accepts x y z t ts some others ly lz a b = grind (arith, linked_is, 
 put_both : (old mid : Both) (t : List ℕ) (ts : List (List ℕ)) → mid.reach ≡ old.reach → put_in old (message t ∷ []) ++ put_in mid (map message ts) ≡ put_in old (map message (t ∷ ts))
 put_both old mid t ts e = grind (arith, is_some, map)
 
--- it is open then too
+-- it is open afterwards too
 open_behind : (terms : Terms) (end : Bool) (n : ℕ) (old new : Both) (b c : Between) (ts : List (List ℕ)) → Carries terms end n old new b c [] (map message ts) →
     progress_of (place_at n (last_of end b)) ≡ in_use → progress_of (place_at n (last_of end c)) ≡ in_use
 open_behind terms end n old new b c ts x used = grind (arith, map, puts_nothing)

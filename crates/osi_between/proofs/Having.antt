@@ -1,4 +1,4 @@
--- What two carriers have of a reference that the caller did not give, and before a class holds.
+-- What two carriers have for a reference that the caller did not give, and before a class is agreed.
 use Rattle.std.proofs.Common.{◌≡◌, ℕ, ◌<◌, ◌≤◌, Bool, true, false, List, [], ◌++◌, ◌==◌, Option, Some, None, refl, sym, ap, ◌∙◌, arith, if◌then◌else◌}
 use Rattle.osi_between.specs.Between.{under_way}
 use Rattle.osi_between.specs.Refusing as refusal
@@ -62,7 +62,7 @@ ahead_at by_two n s r going coming j above = ahead_two n s r going coming j abov
 ahead_at by_zero n s r going coming j above = ahead_by n s r going coming j.course j.one j.one_called j.going j.coming j.holds above
 ahead_at (refusing reason) n s r going coming j above = ahead_refusing n reason s r going coming j above
 
--- nothing is under way
+-- nothing is in flight
 sum_none : (o c : Option Connection) (us : List Value) (cut : Bool) → o ≡ None → c ≡ None → us ≡ [] → messages_after (begun_at o) (us ++ to_come cut c) ≡ []
 sum_none o c us cut a b e = grind arith
 

@@ -1,5 +1,5 @@
--- A caller that may ask for a connection finds a place at the called end: behind the units that are
--- under way no more connections are live there than at the caller.
+-- A caller that may request a connection finds a place at the called end: once the units in flight are taken, no more
+-- connections are live there than at the caller.
 use Rattle.std.proofs.Common.{◌≡◌, ◌≢◌, ℕ, ◌+◌, ◌<◌, ◌≤◌, ◌==◌, Bool, true, false, List, [], ◌∷◌, ◌++◌, length, map, Option, Some, None, refl, sym, ap, subst, ◌∙◌, arith, nat_lt, is_some}
 use Rattle.osi_between.proofs.Vocabulary.{eq-eqb, eqb-true, ne_eqb, ltb-true, ltb-false, map-append, Value, request, disconnect, disconnected, Local, dropped, references, never, was_given, place_at, RiseFrom, AreUpTo, IsOrderly, Rows, value_at, without, Connection, State, absent, beyond, push_here, without_here, push_other, without_other, push_rise, push_up, without_rise, without_up, reference_of, units_of, asked_by, requests, behind, live_behind, live_after, is_last, Course, at_end, from_end, AreJoined, farewell, found}
 use Rattle.osi_between.proofs.Courses.{given_place, is_given}
@@ -38,7 +38,7 @@ marked_none q ((r, x) ∷ rows) h = marked_none_by q r x rows (r == q) refl (mar
 
 -- ---- a unit
 
--- whether a reference is live behind a unit for it
+-- whether a reference is live after a unit for it
 abbrev stays_behind : Option (Unit {0}) → Value → Option (Unit {0})
 stays_behind o (request c) = Some tt
 stays_behind o (disconnect destination source reason user) = None
@@ -153,7 +153,7 @@ sub_length [] m ((x, tt) ∷ xs) rx ry h = let there = h x (ap is_some (found x 
 sub_length ((y, c) ∷ ys) m ((x, tt) ∷ xs) rx ry h = sub_by ys y c m x xs (x == y) refl rx.1 ry.1 h (sub_length ys)
 sub_length ys m xs rx ry h = omega arith
 
--- ---- a connection that is live behind the units is live at the caller
+-- ---- a connection that is live after the units is live at the caller
 
 last_behind : (o : Option (Unit {0})) (u : Value) → is_last u ≡ true → stays_behind o u ≡ None
 last_behind o u e = grind arith

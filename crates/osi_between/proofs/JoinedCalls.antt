@@ -1,5 +1,4 @@
--- The caller asks for a connection; two new carriers are joined; and where nothing is on the way
--- nothing is under way.
+-- The caller requests a connection; two new carriers are joined; and if no unit is in flight, no message is.
 use Rattle.std.proofs.Common.{◌≡◌, ℕ, ◌+◌, ◌<◌, Bool, true, false, List, [], ◌∷◌, ◌++◌, length, Option, Some, None, refl, sym, ap, subst, ◌∙◌, inr, arith, if◌then◌else◌}
 use Rattle.osi_between.proofs.Vocabulary.{lt-ltb, Value, LinkPair, swapped, IsQuiet, Standing, Given, Local, quiet_unsent, nothing_begun, references, fresh_state, may_connect, asks, Place, never, was_given, place_at, value_at, linked, State, free_of, orderly_asks, orderly_fresh, live_after, Course, unasked, met, at_end, from_end, IsTsap, Holds, StandsBetween, AreJoined, Did, under_way_for, IsEmpty, talking, addressed, ask, AreOpen}
 use Rattle.osi_between.proofs.CourseOpening.{asks_moves}
@@ -8,7 +7,7 @@ use Rattle.osi_between.proofs.JoinedMoves.{joined_caller, within_given, given_li
 use Rattle.osi_between.proofs.Meetings.{open_mirror}
 use Rattle.osi_between.proofs.JoinedSteps.{acts_for}
 
--- ---- a connection is asked for
+-- ---- a connection is requested
 
 pub not_asked : (n : ℕ) (g : Course) → at_end true n g ≡ never → g ≡ unasked
 not_asked n g e = grind arith
@@ -53,7 +52,7 @@ fresh_stands caller called n some = grind (arith, next_never)
 pub fresh_joined : (caller called : Local) → caller.class2 ≡ true → called.class2 ≡ true → AreJoined (fresh_state true caller) (fresh_state false called) [] []
 fresh_joined caller called a b = grind (arith, orderly_fresh, fresh_stands)
 
--- ---- nothing is on the way
+-- ---- nothing is in flight
 
 pub none_addressed : (n : ℕ) (gs : List Given) → addressed n gs ≡ [] → gs ≡ []
 none_addressed n [] e = refl
@@ -87,7 +86,7 @@ still s r n x y j at at_there =
     still_by n s r r.local st.course x y (sym st.place ∙ given_live n s (linked n x) j.orderly at) (sym st.place_there ∙ given_live n r (linked n y) j.orderly_called at_there)
     (sym st.out) (sym st.back) st.holds
 
--- then nothing is under way either
+-- then nothing is in flight either
 pub still_messages : (s r : State) (n : ℕ) (x y : Standing) → AreJoined s r [] [] → value_at n s.live ≡ Some (linked n x) → value_at n r.live ≡ Some (linked n y) →
     (under_way_for n s r [] ≡ []) × (under_way_for n r s [] ≡ [])
 still_messages s r n x y j at at_there = grind (arith, still, given_live)

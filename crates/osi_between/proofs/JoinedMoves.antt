@@ -1,4 +1,4 @@
--- Two joined carriers stay joined where one of them acts.
+-- Two joined carriers stay joined when one of them acts.
 use Rattle.std.proofs.Common.{◌≡◌, ◌≢◌, ℕ, zero, suc, ◌+◌, ◌<◌, ◌≤◌, Bool, true, false, not, List, [], ◌∷◌, ◌++◌, length, Some, None, refl, sym, ap, subst, ◌∙◌, arith, length-append, nat_lt}
 use Rattle.osi_between.proofs.Vocabulary.{AllByRecursion, eq-eqb, ne_eqb, ltb-true, ltb-false, append_cancel_left, IsOctets, Value, Connect, request, confirm, IsShortTsdu, Standing, Local, references, sent, closed_with, Place, never, was_given, place_at, RiseFrom, IsOrderly, react, is_of_peer, has_peer, Rows, value_at, Connection, asked, linked, State, absent, beyond, orderly_unit, orderly_sent, orderly_closed, has_room, reference_of, units_of, AreFor, requests, behind, live_after, Course, asking, accepting, withdrawing, met, answer_of, at_end, from_end, IsAskedBy, Holds, HoldsAt, called_local, asked_in, answers_at, CourseMoves, StandsBetween, HasPlaces, AreJoined, JoinedFrom, Did, Meeting, mirror, here, out, Message, agree, message, bye, found}
 use Rattle.osi_between.proofs.Addressing.{first_of_all, requests_join, behind_join, places_join, places_rest, places_for}

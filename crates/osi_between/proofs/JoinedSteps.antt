@@ -1,10 +1,10 @@
--- Where one end of two joined carriers acts, each connection stands as it should.
+-- If one end of two joined carriers acts, each connection is in a state that both share.
 use Rattle.std.proofs.Common.{◌≡◌, ◌≢◌, ℕ, ◌+◌, ◌<◌, ◌==◌, Bool, true, false, not, List, [], ◌++◌, Option, refl, sym, ap, subst, ◌∙◌, arith}
 use Rattle.osi_between.proofs.Vocabulary.{flat_map, eqb-true, eq-eqb, append-nil, append_cancel_left, Value, LinkPair, Local, Connect, Place, place_at, connection_in, Happening, Connection, State, units_of, AreFor, at_end, messages_from, told_opening, Course, from_end, IsAskedBy, IsAccepted, HoldsAt, called_local, Acts, BringsTo, CourseMoves, progress_of, StandsBetween, under_way_for, ActsFor, Message, messages_to, AreLike, leaves_use}
 use Rattle.osi_between.proofs.Addressing.{units_join, units_same, units_other}
 use Rattle.osi_between.proofs.Openings.{caller_link}
 
--- ---- what holds stays, where another connection acts
+-- ---- what holds stays true if another connection acts
 
 asked_stays : (n : ℕ) (a b : Local) (c : Connect) → b ≡ a → IsAskedBy n a c → IsAskedBy n b c
 asked_stays n a b c same h = subst (λ (x : Local). IsAskedBy n x c) (sym same) h
@@ -70,7 +70,7 @@ stands_flip n s r going coming h = record { course = h.course; place = h.place_t
 abbrev pub stands_flip_back : (n : ℕ) (s r : State) (going coming : List Value) → StandsBetween false n r s coming going → StandsBetween true n s r going coming
 stands_flip_back n s r going coming h = record { course = h.course; place = h.place_there; place_there = h.place; out = h.back; back = h.out; holds = h.holds }
 
--- ---- what is under way
+-- ---- what is in flight
 
 same_way : (a b c d : Place) (us vs : List Value) → a ≡ b → us ≡ vs → c ≡ d → messages_to (connection_in a) us (connection_in c) ≡ messages_to (connection_in b) vs (connection_in d)
 same_way a b c d us vs x y z = grind arith

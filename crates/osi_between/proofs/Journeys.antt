@@ -1,4 +1,4 @@
--- Two carriers behind a list of moves.
+-- Two carriers after a list of moves.
 use Rattle.std.proofs.Common.{arith, ◌≡◌, ℕ, Bool, true, List, [], ◌∷◌, Option, None, refl, sym, ap, subst, ◌∙◌, inl, inr}
 use Rattle.osi_between.specs.Journey.{ends}
 use Rattle.osi_between.proofs.Vocabulary.{State, Closed, Both, side, Between, AreBetween, becomes, Took, Move, carries, takes, connects, hands_in, closes, tells, breaks, May, moved, MayAll, ended_behind, ended_by_all, StayBetween, Terms, by_two, by_zero, refusing}
@@ -7,7 +7,7 @@ use Rattle.osi_between.proofs.Betweens.{took, sends, closes_ends, hands_over, en
 use Rattle.osi_between.proofs.Betweens as all
 use Rattle.osi_between.proofs.Terms.{provides}
 
--- behind one move
+-- after one move
 record Stays (terms : Terms) (m : Move) (both : Both) : Type 0 where
   now : Between
   between : AreBetween terms (moved m both) now

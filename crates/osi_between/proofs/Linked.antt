@@ -6,7 +6,7 @@ use Rattle.osi_between.proofs.Taking.{feeds_some, more_coming}
 use Rattle.osi_between.proofs.JoinedCalls.{fresh_joined}
 use Rattle.osi_between.proofs.JoinedMoves.{seen, takes_one}
 
--- ---- what is to be handed over and told does not matter
+-- ---- what is to be handed over and reported does not matter
 
 abbrev pub with_queues : List ℕ → List Happening → State → State
 with_queues outgoing events s = record s { outgoing = outgoing; events = events }
@@ -33,14 +33,14 @@ joined_back end this other going coming j = grind arith
 
 -- ---- units one after the other
 
--- an end took units, and the octets that it wrote are those of the units behind
+-- an end took units, and the octets that it wrote are those of the units after
 record Took (end : Bool) (this other next : State) (going coming done left : List Value) (held : List ℕ) : Type 0 where
   behind : List Value
   takes : TakesFor this other going coming done next behind left
   joined : JoinedFrom end next other behind left
   octets : AreComing held next.outgoing behind
 
--- the octets behind an action are those of the units behind it
+-- the octets after an action are those of the units after it
 behind_octets : (n : ℕ) (this other next : State) (going coming behind rest : List Value) (put : List Message) (held : List ℕ) → AreComing held this.outgoing going →
     ActsFor n this other next going coming behind rest put → AreComing held next.outgoing behind
 behind_octets n this other next going coming behind rest put held c a =
@@ -99,7 +99,7 @@ was_fed end this other next going coming k fed l few h =
     let t = feeds_some this next other.state.outgoing coming k fed few l.coming_octets (seen end this.state other.state going coming l.joined).lasts h in
     fed_ends end this other next going coming fed.used t (took end t.done this.state other.state t.reached going coming t.left other.held.octets l.joined l.going_octets t.parts t.taken)
 
--- ---- calls, and events that are told
+-- ---- calls, and events that are reported
 
 pub was_called : (end : Bool) (this other : Carrying) (next : State) (n : ℕ) (going coming : List Value) (put : List Message) → AreLinked end this other going coming →
     (d : Did end n this.state other.state next going coming coming put) → AreLinked end (with_state next this) other d.behind coming

@@ -1,4 +1,4 @@
--- What is under way of a connection, after each unit that one of its two carriers takes and after each call.
+-- What is in flight for a connection, after each unit that one of its two carriers takes and after each call.
 use Rattle.std.proofs.Common.{◌≡◌, ℕ, ◌<◌, true, List, [], ◌∷◌, ◌++◌, map, take, Some, None, refl, sym, ap, ◌∙◌, arith, append_assoc}
 use Rattle.osi_between.specs.Meeting.{Carries}
 use Rattle.osi_between.proofs.Vocabulary.{flat_map, append-nil, map-append, Value, data0, disconnected, LinkPair, swapped, parts_under_way, under_way, under_way_before, fresh_ends, all_given, Joining, Standing, Given, unit_of, with_tsdu, zero_standing, tsdus_after, uncut, drained_leaves, Happening, tsdu, closed, pumped, handed_out, Meeting, talking, left_here, left_there, left_both, waiting_here, waiting_there, parted, here, there, addressed, leaving, told_open, told_at, messages_back, messages_out, Message, message, bye, over, parting, messages_after, uncut_units, kind_of, AreLike, AreOpen, links, LeftTakes, after_take, after_send}
@@ -21,7 +21,7 @@ told_nothing (m ∷ ms) f none = told_nothing ms f none ∙ ap (λ (l : List Hap
 
 -- ---- links
 
--- what is under way between two links, as messages
+-- what is in flight between two links, as messages
 pub under_way_is : (p : LinkPair) (later : List (List ℕ)) → p.right.ends.joining.whole ≡ [] →
     under_way_before p later ≡ tsdus_after p.right.ends.joining.begun (parts_under_way p.rightward ++ uncut (p.left.ends.unsent ++ later))
 under_way_is p later e = grind arith
@@ -62,7 +62,7 @@ talking_takes n p unit rest a t =
       after = sym same ∙ sym (append-nil (messages_out n (talking p)));
     }
 
--- the first part of what is under way to a link that is closing, by kind
+-- the prefix of what is in flight to a closing link, by kind
 pub kinds_of_tsdu : (us : List Value) (octets : List ℕ) → map kind_of (messages_after [] (us ++ data0 true octets ∷ [])) ≡ map kind_of (messages_after [] us ++ message octets ∷ [])
 kinds_of_tsdu us octets =
     kinds_join us (data0 true octets ∷ []) [] ∙ sym (map-append kind_of (messages_after [] us) (message octets ∷ []))
@@ -87,7 +87,7 @@ talking_sends n p octets a rightward leftward b =
 pub alone : (begun : List ℕ) (us : List Value) → messages_after begun (us ++ uncut_units []) ≡ messages_after begun us
 alone begun us = ap (messages_after begun) (append-nil us)
 
--- a DR behind units
+-- a DR after units
 pub behind_leaving : (n : ℕ) (us : List Value) (reason : ℕ) (begun : List ℕ) → 0 < n →
     messages_after begun ((us ++ leaving n reason ∷ []) ++ uncut_units []) ≡ messages_after begun us ++ bye reason ∷ []
 behind_leaving n us reason begun some =
@@ -206,7 +206,7 @@ behind_closes n p hs reason other some = record {
 pub kinds_first : (u : Value) (us : List Value) → map kind_of (messages_after [] (u ∷ us)) ≡ map kind_of (messages_after [] (u ∷ []) ++ messages_after [] us)
 kinds_first u us = kinds_join (u ∷ []) us [] ∙ sym (map-append kind_of (messages_after [] (u ∷ [])) (messages_after [] us))
 
--- what is under way from here does not change
+-- what is in flight from here does not change
 abbrev pub Still : ℕ → Meeting → Meeting → Type 0
 Still n old new = messages_out n new ≡ messages_out n old
 

@@ -1,4 +1,4 @@
--- How a connection stands after each unit that one of its two carriers takes, and after each call.
+-- The state of a connection after each unit that one of its two carriers takes, and after each call.
 use Rattle.std.proofs.Common.{is_none, ◌≡◌, ℕ, ◌<◌, ◌||◌, Bool, true, false, List, [], ◌∷◌, ◌++◌, map, take, Some, None, refl, sym, ap, subst, ◌∙◌, arith}
 use Rattle.osi_between.specs.Meeting.{Carries}
 use Rattle.osi_between.proofs.Vocabulary.{uncut_units, list_any, Changes, Brings, progress_in, leaves_use, there, append-nil, map-append, IsOctets, Value, disconnected, LinkPair, swapped, AreOfClass, IsShortTsdu, all_given, Standing, Given, unit_of, is_of_two, with_tsdu, Two, sent, closed_with, tsdu, closed, react, handed_out, IsOrderly, value_at, linked, State, reference_of, AreFor, is_last, Meeting, talking, left_here, left_there, left_both, waiting_here, waiting_there, parted, mirror, here, addressed, leaving, farewell, out, back, Stands, answers_of, Moves, AgreeIn, AreOpen, after_take, after_send, Message, message, bye, over, messages_after}
@@ -136,7 +136,7 @@ take_behind_by n s p hs reason (g ∷ gs) unit rest some few quiet class orderly
     at_head n (left_there p hs reason) s (unit_of n g) unit (addressed n gs ++ leaving n reason ∷ []) rest []
     (ap (λ (us : List Given). addressed n us ++ leaving n reason ∷ []) e) b (given_answers n p.left g) (take_behind n s p hs reason g gs some few quiet class orderly at a two e)
 
--- a unit that is answered by none and of which the user is told nothing
+-- a unit that is not answered and not reported
 takes_quietly : (n : ℕ) (old new : Meeting) (s t : State) (unit : Value) → Changes n s t (here n new) [] [] → there n new ≡ there n old → out n new ≡ out n old →
     back n old ≡ unit ∷ back n new → is_none (here n new) ≡ list_any is_last (unit ∷ []) → Stands new → (c : Carries n old new [] []) →
     Brings true (progress_in (here n old)) (progress_in (here n new)) (here n old) (here n new) (unit ∷ []) c.arrived [] →

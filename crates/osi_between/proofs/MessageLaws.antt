@@ -19,9 +19,9 @@ tsdu_messages n (part2 number false octets ∷ gs) begun ts = tsdu_messages n gs
 tsdu_messages n (ack number credit ∷ gs) begun ts = tsdu_messages n gs begun ts
 tsdu_messages n (g ∷ gs) begun ts = behind_one _ _ _ (tsdu_messages n gs [] ts)
 
--- ---- units behind units
+-- ---- units after units
 
--- those behind make the same messages whatever was begun before them
+-- those after make the same messages whatever was begun before them
 pub messages_behind : (us : List Value) (begun : List ℕ) (vs : List Value) (xs : List Message) → ((b : List ℕ) → messages_after b vs ≡ xs) →
     messages_after begun (us ++ vs) ≡ messages_after begun us ++ xs
 messages_behind [] begun vs xs same = same begun
@@ -49,7 +49,7 @@ kinds_join (acknowledge credit destination number ∷ us) vs b = kinds_join us v
 kinds_join (error destination cause ∷ us) vs b = kinds_join us vs b
 kinds_join (u ∷ us) vs b = behind_one _ _ _ (kinds_join us vs [])
 
--- what is begun behind units
+-- what is begun after units
 abbrev pub begun_after : List ℕ → List Value → List ℕ
 begun_after begun [] = begun
 begun_after begun (data0 false octets ∷ units) = begun_after (begun ++ octets) units
@@ -66,6 +66,6 @@ messages_part (acknowledge credit destination number ∷ us) begun vs = messages
 messages_part (error destination cause ∷ us) begun vs = messages_part us begun vs
 messages_part (u ∷ us) begun vs = behind_one _ _ _ (messages_part us [] vs)
 
--- the messages of units are the first of those of more units
+-- the messages of units are a prefix of those of more units
 pub messages_front : (us : List Value) (begun : List ℕ) (vs : List Value) → (lost : List Message) × (messages_after begun (us ++ vs) ≡ messages_after begun us ++ lost)
 messages_front us begun vs = (messages_after (begun_after begun us) vs, messages_part us begun vs)

@@ -1,4 +1,4 @@
--- The octets between two carriers: units are written behind them, handed over, taken, and lost.
+-- The octets between two carriers: units are written at their end, and octets are handed over, taken, and lost.
 use Rattle.std.proofs.Common.{◌≡◌, ℕ, ◌+◌, ◌-◌, ◌<◌, ◌≤◌, Bool, true, false, List, [], ◌∷◌, ◌++◌, length, take, drop, Option, Some, None, IfSome, nat_le, refl, sym, ap, subst, ◌∙◌, arith, append_assoc, length-append}
 use Rattle.osi_tpkt.proofs.PacketLaws.{one_packet}
 use Rattle.osi_between.proofs.Vocabulary.{AllByRecursion, leb-true, leb-false, append-nil, append_cancel_left, take-append-drop, take-append-le, length-take-le, length-drop, take-take, drop-take, IsPacket, IsPartial, packet_of, completed_partial, partial_not_whole, empty_partial, Value, written, IsSendable, packets, all_behind, unit_packet, packets_join, within_reach, IsOnTheWay}
@@ -6,7 +6,7 @@ use Rattle.osi_between.proofs.Addressing.{front_none, rest_none}
 
 -- ---- units are written
 
--- behind those that will arrive, or where the byte connection broke behind those that are lost
+-- after those that will arrive; if the byte connection broke, after those that are lost
 abbrev pub going_then : Option ℕ → List Value → List Value → List Value
 going_then None going units = going ++ units
 going_then (Some k) going units = going
@@ -101,7 +101,7 @@ way_unit u rest behind held arriving units lost first cut w =
 
 -- ---- the byte connection breaks
 
--- a list in front of another
+-- a list that is a prefix of another
 split_front : (p q x y : List ℕ) → x ++ y ≡ p ++ q → length p ≤ length x → (m : List ℕ) × (x ≡ p ++ m) × (m ++ y ≡ q)
 split_front [] q x y e less = (x, refl, e)
 split_front (a ∷ p) q [] y e less = absurd (omega arith)
@@ -111,7 +111,7 @@ split_front (a ∷ p) q (b ∷ x) y e less =
     let more = split_front p q x y others (omega arith) in
     (more.0, ap (λ (c : ℕ). c ∷ x) first ∙ ap (λ (l : List ℕ). a ∷ l) more.1, more.2)
 
--- the front of some packets: packets and a part of one
+-- a prefix of some packets: whole packets and a part of one
 pub record CutPackets (x y : List ℕ) (units : List Value) : Type 0 where
   pub done : List Value
   pub left : List Value
@@ -173,7 +173,7 @@ cut_packets [] x y all e = record {
 }
 cut_packets (u ∷ us) x y all e = cut_by x y u us (nat_le (length (packet_of (written u))) (length x)) all e refl (λ m is. cut_packets us m y all.1 is)
 
--- so many octets will still arrive
+-- this many octets will still arrive
 pub record Breaks (held outgoing : List ℕ) (k : ℕ) (units : List Value) : Type 0 where
   pub done : List Value
   pub left : List Value

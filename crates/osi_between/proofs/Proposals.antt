@@ -1,4 +1,4 @@
--- The CR of a caller before a class holds: that it can be written, and what it is answered.
+-- The CR of a caller before a class is agreed: that it can be written, and its answer.
 use Rattle.std.proofs.Common.{◌≡◌, ℕ, ◌<◌, ◌≤◌, ◌^◌, ◌-◌, Bool, true, false, not, ◌&&◌, ◌||◌, List, min, Option, Some, None, option_map, refl, sym, ap, subst, ◌∙◌, ◌⊎◌, arith, if◌then◌else◌}
 use Rattle.osi_between.specs.Zero.{answer_of}
 use Rattle.osi_between.proofs.Vocabulary.{pow-le-pow_right, size_code, Connect, IsConnect, request, confirm, opened_pair, under_way, fresh_ends, Standing, zero_standing, accept, refuse, selected_by, selected_size, Class, Zero, Local, begins, IsSendable, proposal_by, proposal, proposes_zero, confirmed, agreed_size, opened_link, IsTsap, AreOpen, IsSettled, by_two, by_zero, refusing, terms_of, IsProposed}
@@ -43,7 +43,7 @@ come_to_two caller called e = two_by caller.class2 caller.class0 called.class2 c
 
 -- ---- class 0
 
--- what is supported where class 0 is come to
+-- what the two support if they agree on class 0
 pub record ComeToZero (a2 a0 b2 b0 : Bool) : Type 0 where
   pub there : b0 ≡ true
   pub how : (a2 ≡ false) ⊎ ((a2 ≡ true) × (a0 ≡ true) × (b2 ≡ false))

@@ -1,4 +1,4 @@
--- What two joined carriers do in class 2, as it is put to use between them.
+-- The laws of two joined carriers in class 2, in the form in which the invariant uses them.
 use Rattle.std.proofs.Common.{◌≡◌, ℕ, ◌+◌, ◌<◌, Bool, true, List, [], ◌∷◌, ◌++◌, Option, Some, None, refl, sym, ap, subst, ◌∙◌, arith}
 use Rattle.osi_between.proofs.Vocabulary.{IsOctets, Value, IsShortTsdu, Standing, may_connect, asks, sent, closed_with, was_given, place_at, Happening, react, value_at, linked, State, reference_of, answers_in, IsTsap, Course, at_end, answers_at, JoinedFrom, Did, Meeting, here, Message, ask, message, bye, Terms, by_two}
 use Rattle.osi_between.proofs.Acting.{steps_two, JoinedAt, Does}
@@ -6,7 +6,7 @@ use Rattle.osi_between.proofs.JoinedCalls.{caller_asks}
 use Rattle.osi_between.proofs.JoinedMoves.{seen, takes_one, sends, closes, given_live, within_given}
 use Rattle.osi_between.proofs.Linked.{with_queues, queued}
 
--- what is asked of two carriers, whatever they come to
+-- what is asked of two carriers, whatever they agree on
 pub record Provides (terms : Terms) : Type 0 where
   pub takes_one : (end : Bool) (this other : State) (going coming rest : List Value) (unit : Value) → JoinedAt end terms this other going coming → coming ≡ unit ∷ rest →
       Does terms end (reference_of unit) this other (react unit this) going coming rest (unit ∷ []) (answers_in terms (place_at (reference_of unit) this) unit)
@@ -44,7 +44,7 @@ own_met n peer link m e = grind arith
 own_at : (end : Bool) (n peer : ℕ) (link : Standing) (g : Course) → at_end end n g ≡ was_given (Some (linked peer link)) → peer ≡ n
 own_at end n peer link g e = grind (arith, own_met)
 
--- so it stands as one whose peer's number is its own
+-- so its state is that of a connection whose peer's number is its own
 pub linked_own : (end : Bool) (this other : State) (going coming : List Value) (n peer : ℕ) (link : Standing) → JoinedFrom end this other going coming → value_at n this.live ≡ Some (linked peer link) → value_at n this.live ≡ Some (linked n link)
 linked_own end this other going coming n peer link j at =
     let v = seen end this other going coming j in

@@ -1,4 +1,4 @@
--- What a caller's and a called end's carrier do of which the called end refuses each CR.
+-- What the carriers of a caller and a called end do if the called end refuses each CR.
 use Rattle.std.proofs.Common.{◌≡◌, ℕ, ◌+◌, ◌<◌, ◌==◌, Bool, true, false, List, [], ◌∷◌, ◌++◌, length, Option, Some, None, refl, sym, ap, subst, ◌∙◌, arith, nat_lt, if◌then◌else◌}
 use Rattle.osi_between.specs.Refusing.{unasked, asking, from_end, Holds}
 use Rattle.osi_between.proofs.Vocabulary.{flat_map, eq-eqb, append-nil, IsOctets, Value, Connect, request, disconnect, IsShortTsdu, Standing, Class, may_connect, class_error, asks, sent, Place, never, was_given, place_at, connection_in, Happening, proposal, react, to_asked, denies, Rows, value_at, without, Connection, asked, linked, State, packets, without_other, free_of, react_quiet, has_room, reference_of, AreFor, answers_in, told_of, IsTsap, BringsTo, under_way_for, Message, ask, deny, message, messages_to, not_yet, awaiting, Refusal, denied, rows_in, denying, AreRefusing, refusing, IsProposed}
@@ -22,7 +22,7 @@ value_here n x = ap (λ (b : Bool). if◌then◌else◌ {A = Option Connection} 
 without_one : (n : ℕ) (x : Connection) → without n ((n, x) ∷ []) ≡ []
 without_one n x = ap (λ (b : Bool). if◌then◌else◌ {A = Rows Connection} b [] ((n, x) ∷ [])) (eq-eqb n n refl)
 
--- the last reference is that of the connection that is asked for
+-- the last reference is that of the requested connection
 last_place : (s : State) (x : Connection) → s.live ≡ (s.given, x) ∷ [] → place_at s.given s ≡ was_given (Some x)
 last_place s x live = given_place s.given s (omega arith) ∙ ap was_given (ap (value_at s.given) live ∙ value_here s.given x)
 

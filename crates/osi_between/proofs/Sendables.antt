@@ -1,4 +1,4 @@
--- The units that carriers write for each other go into packets.
+-- The units that carriers write for each other fit packets.
 use Rattle.std.proofs.Common.{◌≡◌, ℕ, ◌+◌, ◌<◌, ◌≤◌, List, [], ◌∷◌, ◌++◌, length, Option, IfSome, ap, ◌∙◌, arith, length-append}
 use Rattle.osi_tpdu.specs.Spelling.{Item, item_octets, single}
 use Rattle.osi_between.proofs.Vocabulary.{flat_map, AllByRecursion, flat_map-append, IsOctets, Connect, Parameters, IsConnect, request, confirm, disconnect, disconnected, items_of, written_items, Given, unit_of, HasGivenInRange, unit_fits, unit_length, IsSendable, addressed, leaving}
@@ -22,7 +22,7 @@ no_octets i = omega arith
 pub leaving_sendable : (n reason : ℕ) → n < 65536 → reason < 256 → IsSendable (leaving n reason)
 leaving_sendable n reason few small = record { fits = record { in_range = (few, few, small, no_octets); counted = omega arith }; most = omega arith }
 
--- a DR of which its sender has no connection
+-- a DR whose sender has no connection
 pub denying_sendable : (n reason : ℕ) → n < 65536 → reason < 256 → IsSendable (disconnect n 0 reason [])
 denying_sendable n reason few small = record { fits = record { in_range = (few, omega arith, small, no_octets); counted = omega arith }; most = omega arith }
 

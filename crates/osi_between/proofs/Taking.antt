@@ -1,4 +1,4 @@
--- However many octets of what was written are fed, units are taken, one after the other.
+-- However many octets of what was written are fed, units are taken one after the other.
 use Rattle.std.proofs.Common.{◌≡◌, ℕ, ◌+◌, ◌-◌, ◌≤◌, Bool, true, false, ◌||◌, is_some, List, [], ◌∷◌, ◌++◌, length, map, take, drop, Option, None, Ok, refl, sym, ap, subst, ◌∙◌, inl, inr, arith, append_assoc, if◌then◌else◌}
 use Rattle.osi_tpkt.specs.Stream.{ArePackets, offset_of}
 use Rattle.osi_tpdu.specs.Packet.{units_of}

@@ -1,4 +1,4 @@
--- Over every list of moves what is told at one end are the first of what was handed in at the other.
+-- Over every list of moves, what is reported at one end is a prefix of what was handed in at the other.
 use Rattle.std.proofs.Common.{◌≡◌, ℕ, ◌+◌, Bool, true, false, not, List, [], ◌∷◌, ◌++◌, length, drop, Option, None, is_some, refl, sym, ap, subst, ◌∙◌, append_assoc, nat_lt, if◌then◌else◌, arith, inl, inr}
 use Rattle.std.proofs.Math.Seq.{drop-append_seam}
 use Rattle.osi_between.specs.Between.{under_way}
@@ -13,13 +13,13 @@ use Rattle.osi_between.proofs.Terms.{provides, begins}
 drop_front : {A : Type 0} (xs ys : List A) → drop (length xs) (xs ++ ys) ≡ ys
 drop_front xs ys = drop-append_seam xs ys
 
--- behind one move, and what it told and took in
+-- after one move, and what it told and took in
 record Goes (terms : Terms) (m : Move) (both : Both) (b : Between) : Type 0 where
   now : Between
   between : AreBetween terms (moved m both) now
   facts : (from : Bool) (n : ℕ) → Fact from (not from) n both (moved m both) b now (told_in (not from) n m both) (handed_in from n m)
 
--- one to which something may still be put is not cut off
+-- a direction in which something may still be put is not cut off
 sealed_cut : (from : Bool) (n : ℕ) (both : Both) (b : Between) → is_sealed from n both b ≡ false → is_cut from both ≡ false
 sealed_cut from n both b s = or_left (is_cut from both) (is_over (progress_of (place_at n (last_of from b)))) s
 
@@ -134,7 +134,7 @@ lost_goes terms m both b t told put = record {
 by_from : (P : Bool → Type 0) → P true → P false → (from : Bool) → P from
 by_from P a b from = grind arith
 
--- carrying octets and telling events cut nothing off
+-- carrying octets and reporting events cut nothing off
 carried_cut : (end : Bool) (k : ℕ) (both : Both) (from : Bool) → is_cut from both ≡ is_cut from (handed_over end k both)
 carried_cut end k both from = grind (arith, is_some, less_some)
 
@@ -162,18 +162,18 @@ move_goes terms (breaks k l) both b a may =
 
 -- ---- lists of moves
 
--- what is told behind: nothing to a connection that takes nothing more; else the first of what is under way
--- and of what is handed in, of which none counts once nothing that is put arrives
+-- what is reported afterwards: nothing to a connection that takes nothing more; otherwise a prefix of what is in flight
+-- followed by what is handed in, and nothing of the latter once nothing that is put arrives
 record Told (from : Bool) (n : ℕ) (ms : List Move) (both : Both) (b : Between) : Type 0 where
   shut : is_over (progress_of (place_at n (last_of (not from) b))) ≡ true → all_told (not from) n ms both ≡ []
   sealed : is_over (progress_of (place_at n (last_of (not from) b))) ≡ false → is_sealed from n both b ≡ true → AreFirstOf (all_told (not from) n ms both) (tsdus_under from n both b)
   first : is_over (progress_of (place_at n (last_of (not from) b))) ≡ false → AreFirstOf (all_told (not from) n ms both) (tsdus_under from n both b ++ all_handed_in from n ms)
 
--- the connection takes nothing more behind this move
+-- the connection takes nothing more after this move
 ends_told : (told more under : List (List ℕ)) → more ≡ [] → AreFirstOf told under → AreFirstOf (told ++ more) under
 ends_told told more under none h = subst (λ (l : List (List ℕ)). AreFirstOf l under) (sym (ap (λ (l : List (List ℕ)). told ++ l) none ∙ append-nil told)) h
 
--- behind it what is told is of what is under way alone
+-- after it, only what is in flight is reported
 sealed_told : (told more under first : List (List ℕ)) → AreFirstOf (told ++ under) first → AreFirstOf more under → AreFirstOf (told ++ more) first
 sealed_told told more under first f h = first_through (told ++ more) (told ++ under) first (first_behind told more under h) f
 

@@ -1,4 +1,4 @@
--- Whatever two carriers come to: how they begin, and what is asked of them.
+-- Whatever two carriers agree on: how they begin, and what is asked of them.
 use Rattle.std.proofs.Common.{◌≡◌, true, false, not, [], length, refl, arith}
 use Rattle.osi_between.proofs.Vocabulary.{empty_partial, Local, fresh_state, IsOnTheWay, AreJoinedBy, AreBetween, fresh_both, fresh_between, Terms, by_two, by_zero, refusing, terms_of}
 use Rattle.osi_between.proofs.Acting.{by_end}

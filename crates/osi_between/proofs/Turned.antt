@@ -1,4 +1,4 @@
--- What a carrier does to an open link, as turns of the two links of its connection.
+-- The effect of a carrier's calls on an open link, as turns of the two links of its connection.
 use Rattle.std.proofs.Common.{◌≡◌, ℕ, ◌<◌, Bool, true, false, List, [], ◌∷◌, ◌++◌, map, take, drop, Option, Result, Ok, Err, refl, sym, ◌∙◌, ap, subst, arith, append_assoc, nat_lt, length, if◌then◌else◌, IfOk}
 use Rattle.osi_class.specs.Runs.{hand_in, give_out, take_in, hand_out, MovesAlong}
 use Rattle.osi_class.proofs.Classes.{zero_turns}
@@ -114,7 +114,7 @@ agree_turned true old new i o t a = search (
   agree_turns (map opposite t.turns) (swapped old) (swapped new) a.back a.agree_back (other_way old new t.turns t.along),
 )
 
--- what is under way from links that may have parts without their ends
+-- what is in flight from links that may have the beginning of a TSDU
 pub turned_any : (old new : LinkPair) (i o : List (List ℕ)) → Turned old new i o → under_way_before old i ≡ under_way new
 turned_any old new i o t =
     ap (λ (l : List (List ℕ)). under_way_before old l) (sym (append-nil (flat_map left_in t.turns) ∙ t.sent))
@@ -126,7 +126,7 @@ turned_any_back old new i o t =
     ∙ turns_keep (swapped old) (swapped new) (map opposite t.turns) [] (other_way old new t.turns t.along)
     ∙ ap (λ (l : List (List ℕ)). l ++ under_way (swapped new)) t.got
 
--- what is under way, to the right and to the left
+-- what is in flight, to the right and to the left
 pub turned_right : (old new : LinkPair) (i o : List (List ℕ)) → Turned old new i o → HasWholeTsdus old → under_way old ++ i ≡ under_way new
 turned_right old new i o t whole = grind (arith, whole_kept)
 
@@ -134,7 +134,7 @@ pub turned_left : (old new : LinkPair) (i o : List (List ℕ)) → Turned old ne
     under_way (swapped old) ≡ o ++ under_way (swapped new)
 turned_left old new i o t whole = grind (arith, append-nil, whole_kept, map, other_way)
 
--- links that are open stay so where the one that turned is settled again
+-- open links stay open if the one that turned is settled again
 pub turned_passes : (two : Bool) (old new : LinkPair) (i o : List (List ℕ)) → Turned old new i o → AllByRecursion IsShortTsdu i → AgreeIn two old →
     HasWholeTsdus old → HasWholeTsdus (swapped old) → AllByRecursion IsShortTsdu (under_way old) → AllByRecursion IsShortTsdu (under_way (swapped old)) →
     AllByRecursion HasGivenInRange new.rightward → AllByRecursion HasGivenInRange new.leftward → IsSettled new.left → IsSettled new.right → Passes two old new i o

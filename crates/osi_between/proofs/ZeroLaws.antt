@@ -1,4 +1,4 @@
--- Two carriers that come to class 0: each unit that is taken, and each call.
+-- Two carriers that agree on class 0: each unit that is taken, and each call.
 use Rattle.std.proofs.Common.{◌≡◌, ℕ, ◌==◌, Bool, true, false, List, [], ◌∷◌, ◌++◌, map, Option, Some, None, is_some, refl, sym, ap, subst, ◌∙◌, arith, if◌then◌else◌}
 use Rattle.osi_between.specs.Zero.{unasked, asking, accepting, talking, answer_of, at_end, from_end, IsAccepted, Holds}
 use Rattle.osi_between.proofs.Vocabulary.{eqb-true, append-nil, append_cancel_left, map-append, IsOctets, Value, Connect, request, confirm, LinkPair, swapped, under_way, IsShortTsdu, all_given, Standing, Given, unit_of, with_tsdu, Zero, Local, sent, sent_on, closed_with, Place, never, was_given, place_at, connection_in, Happening, pumped, react, pumps, value_at, Connection, asked, linked, State, ends, Closed, reference_of, answers_in, answers_at, under_way_for, addressed, Message, agree, message, messages_after, uncut_units, AreOpen, after_send, by_zero, terms_of, ZeroCourse, HasOne, AreJoinedZero}
@@ -117,7 +117,7 @@ not_here s n y one h = let no : None ≡ Some y = sym (ap (value_at n) one.live)
 pub not_asked : (s : State) (n peer : ℕ) (link : Standing) → HasOne s (was_given (Some asked)) → value_at n s.live ≡ Some (linked peer link) → ⊥
 not_asked s n peer link one h = let no = (at_one s n asked (linked peer link) one h).is in cc
 
--- behind the CC
+-- after the CC
 accept_sends : (s r : State) (going coming : List Value) (c : Connect) (p : LinkPair) (octets : List ℕ) → AreJoinedZero s r going coming → HasOne s (was_given (Some asked)) → HasOne r (was_given (Some (linked 1 p.right))) →
     going ≡ [] → coming ≡ confirm 1 (answer_of r.local c) ∷ addressed 1 p.leftward → IsAccepted s.local r.local c p → IsShortTsdu octets → IsOctets octets →
     Does by_zero false 1 r s (sent 1 octets r) coming going going [] (message octets ∷ [])

@@ -1,4 +1,4 @@
--- What a caller's and a called end's carrier do that come to class 0.
+-- The carriers of a caller and a called end that agree on class 0.
 use Rattle.std.proofs.Common.{◌≡◌, ◌≢◌, ℕ, ◌+◌, Bool, true, false, not, List, [], ◌∷◌, ◌++◌, length, map, take, Option, Some, None, is_some, Ok, refl, sym, ap, subst, ◌∙◌, arith, nat_lt, if◌then◌else◌}
 use Rattle.osi_carrier.specs.declared.faults.OpenError.{OpenError}
 use Rattle.osi_carrier.specs.declared.faults.OpenError.TheVariants.{NotCaller, Ended}
@@ -29,7 +29,7 @@ zero_for (x ∷ gs) = grind (arith, zero_for gs)
 pub one_of : (g : Given) → reference_of (unit_of 1 g) ≡ 1
 one_of g = grind arith
 
--- what is under way, by places
+-- what is in flight, by places
 pub under_is : (s r : State) (p q : Place) (going us : List Value) → place_at 1 s ≡ p → place_at 1 r ≡ q → going ≡ us → AreFor 1 us → under_way_for 1 s r going ≡ messages_to (connection_in p) us (connection_in q)
 under_is s r p q going us a b c all = grind (arith, units_same)
 

@@ -1,11 +1,11 @@
--- Which units on the way to a carrier are for which connection.
+-- Which connection each unit in flight to a carrier is for.
 use Rattle.std.specs.Prelude.{◌≡◌, ℕ, zero, suc, ◌+◌, ◌==◌, Bool, true, false, List, [], ◌∷◌, ◌++◌, if◌then◌else◌}
 use Rattle.std.specs.List.{flat_map, AllByRecursion}
 use Rattle.osi_tpdu.specs.Value.{Value, request, confirm, disconnect, disconnected, data0, data2, acknowledge, error}
 use Rattle.osi_carrier.specs.References.{dropped}
 
--- A CR is for the connection that its sender gave this reference, all others for that of their taker;
--- both give a connection the same one. A DT of class 0 names none, and is for the first.
+-- A CR is for the connection with its sender's reference, all others for that with their receiver's; both ends give a
+-- connection the same reference. A DT of class 0 names none, and is for the first connection.
 abbrev pub reference_of : Value → ℕ
 reference_of (request c) = c.source
 reference_of (confirm destination c) = destination
@@ -25,7 +25,7 @@ AreFor n units = AllByRecursion (λ unit. reference_of unit ≡ n) units
 
 -- ---- the references that are live at an end
 
--- the references that are live behind a unit, at an end that accepts each CR
+-- the references that are live after a unit, at an end that accepts every CR
 abbrev pub live_behind : List ℕ → Value → List ℕ
 live_behind refs (request c) = refs ++ c.source ∷ []
 live_behind refs (confirm destination c) = refs
@@ -65,7 +65,7 @@ asked_by (error destination cause) = []
 abbrev pub requests : List Value → List ℕ
 requests units = flat_map asked_by units
 
--- so many numbers behind this one
+-- the k numbers after n
 abbrev pub behind : ℕ → ℕ → List ℕ
 behind n zero = []
 behind n (suc k) = (n + 1) ∷ behind (n + 1) k

@@ -1,4 +1,4 @@
--- Which TSDUs of a connection were handed in, and which were told, over a list of what happened.
+-- The TSDUs of a connection that were handed in, and those that were reported, over a list of moves.
 use Rattle.std.specs.Prelude.{◌≡◌, ℕ, ◌==◌, Bool, true, false, List, [], ◌∷◌, ◌++◌, length, drop, if◌then◌else◌}
 use Rattle.osi_carrier.specs.Happenings.{Happening, opened, refused, tsdu, closed, faulted}
 use Rattle.osi_carrier.specs.Packets.{after_packet}
@@ -16,7 +16,7 @@ tsdus_told n (tsdu q octets ∷ events) = if q == n then octets ∷ tsdus_told n
 tsdus_told n (closed q reason ∷ events) = tsdus_told n events
 tsdus_told n (faulted q fault ∷ events) = tsdus_told n events
 
--- those in messages
+-- the TSDUs in messages
 abbrev pub tsdus_in : List Message → List (List ℕ)
 tsdus_in [] = []
 tsdus_in (ask ∷ ms) = tsdus_in ms
@@ -26,17 +26,17 @@ tsdus_in (message octets ∷ ms) = octets ∷ tsdus_in ms
 tsdus_in (bye reason ∷ ms) = tsdus_in ms
 tsdus_in (over ∷ ms) = tsdus_in ms
 
--- those that a packet told
+-- the TSDUs that a packet reports
 abbrev pub told_by_packet : ℕ → State → List ℕ → List (List ℕ)
 told_by_packet n s packet = tsdus_told n (drop (length s.events) (after_packet s packet).events)
 
--- those that are told at an end in a move
+-- the TSDUs that a move reports at an end
 abbrev pub told_in : Bool → ℕ → Move → Both → List (List ℕ)
 told_in true n (takes true packet octets behind) both = told_by_packet n both.caller.state packet
 told_in false n (takes false packet octets behind) both = told_by_packet n both.called.state packet
 told_in end n m both = []
 
--- those that are handed in at an end
+-- the TSDUs that a move hands in at an end
 abbrev pub handed_in : Bool → ℕ → Move → List (List ℕ)
 handed_in true n (hands_in true q octets) = if q == n then octets ∷ [] else []
 handed_in false n (hands_in false q octets) = if q == n then octets ∷ [] else []
@@ -50,7 +50,7 @@ abbrev pub all_handed_in : Bool → ℕ → List Move → List (List ℕ)
 all_handed_in end n [] = []
 all_handed_in end n (m ∷ ms) = handed_in end n m ++ all_handed_in end n ms
 
--- these are the first of those, in their order
+-- `some` is a prefix of `all`
 pub record AreFirstOf (some all : List (List ℕ)) : Type 0 where
   pub more : List (List ℕ)
   pub is : all ≡ some ++ more

@@ -1,5 +1,5 @@
--- How one connection of class 2 stands at a caller's and a called end's carrier, from before it is
--- asked for until it is gone at both, and which units are under way for it.
+-- The states of one connection of class 2 at a caller's and a called end's carrier, from before it is requested until
+-- it is gone at both, and the units in flight for it.
 use Rattle.std.specs.Prelude.{◌≡◌, ◌≢◌, ℕ, ◌+◌, Bool, true, false, not, List, [], ◌∷◌, ◌++◌, Option, Some, None, ◌⊎◌, ◌≤◌, length, IfSome}
 use Rattle.std.specs.List.{flat_map, AllByRecursion}
 use Rattle.osi_tpkt.specs.Octets.{IsOctets}
@@ -23,14 +23,14 @@ use Rattle.osi_between.specs.OpenLinks.{AreOpen}
 use Rattle.osi_between.specs.Progress.{Progress, not_yet, progress_in, asks_in, class_behind_all, leaves_use, Brings}
 
 pub data Course : Type 0 where
-  -- not asked for
+  -- not requested
   unasked : Course
-  -- its CR is under way
+  -- its CR is in flight
   asking : Connect → Course
-  -- open at the called end, for this CR, with links as if it were open at both: the CC and what was
-  -- sent since are under way
+  -- open at the called end, for this CR, with links as if it were open at both; the CC and what was sent since are in
+  -- flight
   accepting : Connect → LinkPair → Course
-  -- and closed there since, with this reason
+  -- the same, and since then closed there with this reason
   withdrawing : Connect → LinkPair → ℕ → Course
   -- the caller has had it open too
   met : Meeting → Course
@@ -51,7 +51,7 @@ at_end false n (withdrawing c p reason) = was_given (Some (closing n))
 at_end true n (met m) = was_given (here n m)
 at_end false n (met m) = was_given (here n (mirror m))
 
--- the units under way from the caller, and from the called end, which would have this
+-- the units in flight from the caller, and from the called end with this configuration
 abbrev pub from_end : Bool → ℕ → Local → Course → List Value
 from_end end n called unasked = []
 from_end true n called (asking c) = request c ∷ []
@@ -63,7 +63,7 @@ from_end false n called (withdrawing c p reason) = confirm n (answer_of n called
 from_end true n called (met m) = meeting.out n m
 from_end false n called (met m) = meeting.out n (mirror m)
 
--- no class holds yet, or class 2 does
+-- no class is agreed yet, or class 2 is
 abbrev pub MayTakeTwo : Option Class → Type 0
 MayTakeTwo class = (class ≡ None) ⊎ (class ≡ Some Two)
 
@@ -80,7 +80,7 @@ pub record IsAskedBy (n : ℕ) (caller : Local) (c : Connect) : Type 0 where
   pub calling_fits : IsTsap calling
   pub called_fits : IsTsap called
 
--- open at the called end: the caller's link is the one that the CC opens
+-- open at the called end; the caller's link is the one that the CC opens
 pub record IsAccepted (n : ℕ) (caller called : State) (c : Connect) (p : LinkPair) : Type 0 where
   pub asked : IsAskedBy n caller.local c
   pub class : called.class ≡ Some Two
@@ -93,7 +93,7 @@ pub record HaveMet (caller called : State) (m : Meeting) : Type 0 where
   pub class_called : called.class ≡ Some Two
   pub stands : Stands m
 
--- what holds of a connection that stands so
+-- what holds of a connection in this state
 abbrev pub Holds : ℕ → State → State → Course → Type 0
 Holds n caller called unasked = Unit {0}
 Holds n caller called (asking c) = IsAskedBy n caller.local c
@@ -101,7 +101,7 @@ Holds n caller called (accepting c p) = IsAccepted n caller called c p
 Holds n caller called (withdrawing c p reason) = IsAccepted n caller called c p
 Holds n caller called (met m) = HaveMet caller called m
 
--- what is under way from an end, as messages
+-- what is in flight from an end, as messages
 abbrev pub messages_from : Bool → ℕ → Local → Course → List Message
 messages_from end n called g = messages_to (connection_in (at_end end n g)) (from_end end n called g) (connection_in (at_end (not end) n g))
 
@@ -122,7 +122,7 @@ told_answer n (message octets) = []
 told_answer n (bye reason) = []
 told_answer n over = []
 
--- what the user of an end is told of a message that arrives
+-- what an arriving message reports to the user of an end
 abbrev pub told_opening : ℕ → Place → Message → List Happening
 told_opening n never m = told_asked n m
 told_opening n (was_given None) m = []
@@ -130,17 +130,17 @@ told_opening n (was_given (Some asked)) m = told_answer n m
 told_opening n (was_given (Some (linked peer link))) m = told_at n (Some (linked peer link)) m
 told_opening n (was_given (Some (closing peer))) m = []
 
--- What was under way each way, where one end acted: some of what came to it arrived, of which its
--- user was told; what was under way from it stays, but for what was `lost`, and `put` comes behind.
+-- What was in flight each way when one end acted: some of what was in flight to it arrived, and its user was told; what
+-- was in flight from it stays, except for `lost`, and `put` follows.
 pub record CourseCarries (end : Bool) (n : ℕ) (called : Local) (old new : Course) (events : List Happening) (put : List Message) : Type 0 where
   pub arrived : List Message
   pub stays : List Message
   pub lost : List Message
-  -- the events are what is told of what arrived
+  -- the events report what arrived
   pub told : events ≡ flat_map (told_opening n (at_end end n old)) arrived
-  -- what was under way to it: what arrived, and then what still is
+  -- what was in flight to it: what arrived, and then what still is in flight
   pub came : AreLike (connection_in (at_end end n new)) (messages_from (not end) n called old) (arrived ++ messages_from (not end) n called new)
-  -- what was under way from it, and what is
+  -- what was in flight from it, and what now is
   pub before : AreLike (connection_in (at_end (not end) n old)) (messages_from end n called old) (stays ++ lost)
   pub after : AreLike (connection_in (at_end (not end) n old)) (messages_from end n called new) (stays ++ put)
 
@@ -148,12 +148,12 @@ abbrev pub progress_of : Place → Progress
 progress_of never = not_yet
 progress_of (was_given connection) = progress_in connection
 
--- what units brought to a connection that was at this place and is at that one
+-- what units mean for a connection that was at this place and is now at that one
 abbrev pub BringsTo : Bool → Place → Place → List Value → List Message → List Message → Type 0
 BringsTo accepts old new taken arrived put = Brings accepts (progress_of old) (progress_of new) (connection_in old) (connection_in new) taken arrived put
 
--- What changed at an end is this connection: these units, all for it, were written, and these events
--- told. The class stays once there is one.
+-- Only this connection changed at an end: these units, all for it, were written, and these events reported. The class
+-- stays once there is one.
 pub record Acts (n : ℕ) (old new : State) (units : List Value) (told : List Happening) : Type 0 where
   pub others : (q : ℕ) → q ≢ n → place_at q new ≡ place_at q old
   pub outgoing : new.outgoing ≡ old.outgoing ++ packets units
@@ -173,45 +173,45 @@ abbrev pub called_local : Bool → State → State → Local
 called_local true this other = other.local
 called_local false this other = this.local
 
--- at the called end the references that are live are those behind the units that were taken
+-- at the called end, the live references are those after the units that were taken
 abbrev pub KeepsPlaces : Bool → State → State → List Value → Type 0
 KeepsPlaces true old new taken = Unit {0}
 KeepsPlaces false old new taken = references new.live ≡ live_after (references old.live) taken
 
--- the units in which a reference is asked for: those that the caller writes, and the called end takes
+-- the units in which a reference is requested: those that the caller writes, and those that the called end takes
 abbrev pub asked_in : Bool → List Value → List Value → List Value
 asked_in true written taken = written
 asked_in false written taken = taken
 
--- what a unit is answered: a CR with a CC
+-- the answer to a unit: a CC to a CR
 abbrev pub answers_at : Place → Value → List Message
 answers_at never unit = agree ∷ []
 answers_at (was_given connection) unit = answers_of connection unit
 
--- One end (`this` and then `next`) acted for a connection, which stood so: these units to it were taken
--- (one, or none), so many references were given, and `put` was put behind what is under way from it.
+-- One end (`this`, then `next`) acted for a connection in the state `old`: these units in flight to it were taken (one,
+-- or none), `asked` references were given, and `put` follows what is in flight from it.
 pub record CourseMoves (end : Bool) (n : ℕ) (old : Course) (this other next : State) (taken : List Value) (asked : ℕ) (put : List Message) : Type 0 where
-  -- how it stands then, and there as it did
+  -- the new state; the other end is as it was
   pub new : Course
   pub place : place_at n next ≡ at_end end n new
   pub there : at_end (not end) n new ≡ at_end (not end) n old
   pub holds : HoldsAt end n next other new
-  -- the units that were written and the events that were told
+  -- the units that were written, and the events that were reported
   pub units : List Value
   pub events : List Happening
   pub acts : Acts n this next units events
   pub sendable : AllByRecursion IsSendable units
-  -- what is under way in units, from it and to it
+  -- the units in flight, from it and to it
   pub out : from_end end n (called_local end this other) new ≡ from_end end n (called_local end this other) old ++ units
   pub back : from_end (not end) n (called_local end this other) old ≡ taken ++ from_end (not end) n (called_local end this other) new
-  -- references: so many are given, and each CR has the next one; which are live at the called end
+  -- references: `asked` are given, and each CR has the next one; which ones are live at the called end
   pub given : next.given ≡ this.given + asked
   pub numbers : requests (asked_in end units taken) ≡ behind this.given asked
   pub places : KeepsPlaces end this next taken
-  -- and in messages: what is under way; what the units brought; nothing is lost while it stays open
+  -- in messages: what is in flight, and what the units mean; nothing is lost while the connection stays open
   pub carries : CourseCarries end n (called_local end this other) old new events put
   pub brings : BringsTo true (at_end end n old) (at_end end n new) taken carries.arrived put
   pub keeps : leaves_use (progress_of (at_end end n old)) (progress_of (at_end end n new)) ≡ false → carries.lost ≡ []
-  -- so the messages say how many references are given, and which class holds
+  -- so the messages say how many references are given, and which class is agreed
   pub gives : asked ≡ asks_in carries.arrived + asks_in put
   pub settles : next.class ≡ class_behind_all (Some Two) this.class carries.arrived

@@ -1,4 +1,4 @@
--- Two carriers that both support class 2, and the units between them: a caller's and a called end's.
+-- The invariant of two carriers that both support class 2, and the units between them.
 use Rattle.std.specs.Prelude.{◌≡◌, ◌≢◌, ℕ, ◌+◌, ◌<◌, Bool, true, false, not, List, [], ◌∷◌, ◌++◌, length, Some, None}
 use Rattle.std.specs.List.{flat_map, AllByRecursion}
 use Rattle.osi_tpdu.specs.Value.{Value, request, confirm, disconnect, disconnected, data0, data2, acknowledge, error}
@@ -14,8 +14,8 @@ use Rattle.osi_between.specs.Course.{Course, at_end, from_end, MayTakeTwo, Holds
 use Rattle.osi_between.specs.Messages.{Message, messages_to, AreLike}
 use Rattle.osi_between.specs.Progress.{references_for, class_behind_all, leaves_use}
 
--- How a connection stands at an end (`this`) and the other, with these units on the way from this end
--- and to it: the called end gives it the number that the caller gave.
+-- The state of a connection at an end (`this`) and at the other, with these units in flight from this end and to it.
+-- The called end gives the connection the number that the caller gave.
 pub record StandsBetween (end : Bool) (n : ℕ) (this other : State) (going coming : List Value) : Type 0 where
   pub course : Course
   pub place : place_at n this ≡ at_end end n course
@@ -39,32 +39,32 @@ abbrev pub HasPlaces : List ℕ → List Value → Type 0
 HasPlaces refs [] = Unit {0}
 HasPlaces refs (unit ∷ units) = HasPlace refs unit × HasPlaces (live_behind refs unit) units
 
--- `going`: the units on the way to the called end; `coming`: those on the way to the caller
+-- `going`: the units in flight to the called end; `coming`: those in flight to the caller
 pub record AreJoined (caller called : State) (going coming : List Value) : Type 0 where
-  -- a caller and a called end, which have not ended and keep their rules
+  -- a caller and a called end, neither of which has ended, each with its own invariant
   pub is_caller : caller.is_caller ≡ true
   pub is_called : called.is_caller ≡ false
   pub lasts : caller.ended ≡ None
   pub lasts_called : called.ended ≡ None
   pub orderly : IsOrderly caller
   pub orderly_called : IsOrderly called
-  -- both support class 2, and no other holds
+  -- both support class 2, and no other class is agreed
   pub supports : caller.local.class2 ≡ true
   pub supports_called : called.local.class2 ≡ true
   pub class : MayTakeTwo caller.class
   pub class_called : MayTakeTwo called.class
-  -- each unit names a connection, and each connection stands between them as it may
+  -- each unit names a connection, and each connection is in a state that both share
   pub named : AllByRecursion (λ unit. 0 < reference_of unit) going
   pub named_back : AllByRecursion (λ unit. 0 < reference_of unit) coming
   pub stands : (n : ℕ) → 0 < n → StandsBetween true n caller called going coming
-  -- the caller has given so many references more than the called end: they are those of the CRs that are
-  -- on the way, and for each there is a place
+  -- the caller has given `ahead` more references than the called end: those of the CRs in flight, and there is a place
+  -- for each
   pub ahead : ℕ
   pub given : caller.given ≡ called.given + ahead
   pub numbers : requests going ≡ behind called.given ahead
   pub places : HasPlaces (references called.live) going
 
--- what is under way for a connection from one end to the other, with these units between them
+-- the messages in flight for a connection from one end to the other, with these units between them
 abbrev pub under_way_for : ℕ → State → State → List Value → List Message
 under_way_for n sender taker units = messages_to (connection_in (place_at n sender)) (units_of n units) (connection_in (place_at n taker))
 
@@ -73,12 +73,12 @@ abbrev pub JoinedFrom : Bool → State → State → List Value → List Value �
 JoinedFrom true this other going coming = AreJoined this other going coming
 JoinedFrom false this other going coming = AreJoined other this coming going
 
--- ---- an end, which was `this` and is `next`, acted for a connection
+-- ---- an end (`this`, then `next`) acted for a connection
 
--- Some of the units on the way to it were taken. What was under way to it arrived, of which its user
--- was told, or still is.
+-- Some of the units in flight to it were taken. What was in flight to it has arrived, and its user was told, or still
+-- is in flight.
 pub record TakenFor (n : ℕ) (this other next : State) (coming rest : List Value) (put : List Message) : Type 0 where
-  -- the units, all for this connection, and the messages that they brought
+  -- the units, all for this connection, and their messages
   pub units : List Value
   pub arrived : List Message
   pub cut : coming ≡ units ++ rest
@@ -87,30 +87,30 @@ pub record TakenFor (n : ℕ) (this other next : State) (coming rest : List Valu
   pub came : AreLike (connection_in (place_at n next)) (under_way_for n other this coming) (arrived ++ under_way_for n other next rest)
   pub brings : BringsTo true (place_at n this) (place_at n next) units arrived put
 
--- It wrote units. What was under way from it stays, but for what was `lost` where the connection is
--- open no more, and `put` comes behind.
+-- It wrote units. What was in flight from it stays, except for `lost` if the connection is no longer open, and `put`
+-- follows.
 pub record WrittenFor (n : ℕ) (this other next : State) (going behind : List Value) (put : List Message) : Type 0 where
-  -- the units, all for this connection, behind those on the way from it
+  -- the units, all for this connection, which follow those in flight from it
   pub units : List Value
   pub written : behind ≡ going ++ units
   pub outgoing : next.outgoing ≡ this.outgoing ++ packets units
   pub sendable : AllByRecursion IsSendable units
   pub all_for : AreFor n units
-  -- the messages that were under way: those that stay, and those that were lost
+  -- the messages that were in flight: those that stay, and those that are lost
   pub stays : List Message
   pub lost : List Message
   pub before : AreLike (connection_in (place_at n other)) (under_way_for n this other going) (stays ++ lost)
   pub after : AreLike (connection_in (place_at n other)) (under_way_for n next other behind) (stays ++ put)
   pub keeps : leaves_use (progress_of (place_at n this)) (progress_of (place_at n next)) ≡ false → lost ≡ []
 
--- What is under way for all other connections is the same, from it and to it, and where they stand.
+-- For all other connections, the state and what is in flight, both ways, are the same.
 pub record OthersStay (n : ℕ) (this other next : State) (going coming behind rest : List Value) : Type 0 where
   pub out : (q : ℕ) → q ≢ n → under_way_for q this other going ≡ under_way_for q next other behind
   pub back : (q : ℕ) → q ≢ n → under_way_for q other this coming ≡ under_way_for q other next rest
   pub places : (q : ℕ) → q ≢ n → place_at q next ≡ place_at q this
 
--- `going` are the units on the way from it and `coming` those to it, and then `behind` and `rest`. It
--- gave a reference for each connection that it asked for or accepted, and agreed the class.
+-- `going` are the units in flight from it and `coming` those to it; then `behind` and `rest`. It gave a reference for
+-- each connection that it requested or accepted, and agreed the class.
 pub record ActsFor (n : ℕ) (this other next : State) (going coming behind rest : List Value) (put : List Message) : Type 0 where
   pub takes : TakenFor n this other next coming rest put
   pub writes : WrittenFor n this other next going behind put
@@ -125,9 +125,9 @@ pub record Did (end : Bool) (n : ℕ) (this other next : State) (going coming re
   pub acts : ActsFor n this other next going coming behind rest put
   pub joined : JoinedFrom end next other behind rest
 
--- ---- nothing is on the way
+-- ---- nothing is in flight
 
--- nothing of a connection that is open at both ends is left behind at either
+-- a connection that is open at both ends has nothing unfinished at either
 pub record IsEmpty (here there : Standing) : Type 0 where
   pub unsent : here.ends.unsent ≡ []
   pub unsent_there : there.ends.unsent ≡ []

@@ -15,23 +15,23 @@ use Rattle.osi_between.specs.Between.{Both, side, arriving, Between, AreBetween,
 use Rattle.osi_between.specs.Course.{IsTsap}
 use Rattle.osi_between.specs.Terms.{Terms, by_two, by_zero, refusing}
 
--- At an end, `true` for the caller:
+-- What can happen. An end is `true` for the caller.
 pub data Move : Type 0 where
-  -- so many octets from it are handed over to the other
+  -- k octets from this end are handed over to the other
   carries : Bool → ℕ → Move
-  -- the packet that it holds first is taken: its transport unit, its octets, and those behind it
+  -- the first packet that it holds is taken: its transport unit, its octets, and those after it
   takes : Bool → List ℕ → List ℕ → List ℕ → Move
-  -- its user asks for a connection
+  -- its user requests a connection
   connects : Option (List ℕ) → Option (List ℕ) → Move
-  -- hands in a TSDU
+  -- its user hands in a TSDU
   hands_in : Bool → ℕ → List ℕ → Move
-  -- closes a connection
+  -- its user closes a connection
   closes : Bool → ℕ → ℕ → Move
-  -- is told of events: these wait then
+  -- its user is told of events, after which these are still to be reported
   tells : Bool → List Happening → Move
   -- it ends
   ends : Bool → EndReason → Move
-  -- the byte connection breaks: so many octets of each will still arrive
+  -- the byte connection breaks: this many octets of each end will still arrive
   breaks : ℕ → ℕ → Move
 
 -- the connection is open there
@@ -74,7 +74,7 @@ abbrev pub moved_by : List Move → Both → Both
 moved_by [] both = both
 moved_by (m ∷ ms) both = moved_by ms (moved m both)
 
--- why an end has ended, behind a move: its user ended it, or closed the connection of class 0
+-- why an end has ended, after a move: its user ended it, or closed the connection of class 0
 abbrev pub closed_in : Terms → Option EndReason → Option EndReason
 closed_in by_two ended = ended
 closed_in by_zero ended = Some Closed
@@ -91,8 +91,7 @@ abbrev pub ended_by_all : Terms → Bool → List Move → Option EndReason → 
 ended_by_all terms end [] ended = ended
 ended_by_all terms end (m ∷ ms) ended = ended_by_all terms end ms (ended_behind terms end m ended)
 
--- The two stand between as they should behind these moves, and an end has ended for no other reason
--- than they give.
+-- The invariant holds after these moves, and an end has ended only for a reason that they give.
 pub record StayBetween (terms : Terms) (moves : List Move) (both : Both) : Type 0 where
   pub now : Between
   pub between : AreBetween terms (moved_by moves both) now

@@ -1,5 +1,5 @@
--- How one connection of class 2 stands at two carriers since both have had it open, and which units
--- are under way for it. Both gave it the same reference. `here` is one of the two, `there` the other.
+-- The states of one connection of class 2 at two carriers once both have had it open, and the units in flight for it.
+-- Both gave it the same reference. `here` is one of the two, `there` the other.
 use Rattle.std.specs.Prelude.{◌≡◌, ◌≢◌, ℕ, ◌<◌, Bool, true, false, List, [], ◌∷◌, ◌++◌, map, Option, Some, None, is_none, if◌then◌else◌}
 use Rattle.std.specs.List.{flat_map, list_any, AllByRecursion}
 use Rattle.osi_tpdu.specs.Value.{Value, request, confirm, disconnect, disconnected, data0, data2, acknowledge, error}
@@ -16,18 +16,18 @@ use Rattle.osi_between.specs.Messages.{Message, ask, agree, deny, message, bye, 
 use Rattle.osi_between.specs.OpenLinks.{AreOpen}
 use Rattle.osi_between.specs.Progress.{Brings, progress_in, leaves_use}
 
--- A side that has closed keeps nothing of its link: `LinkPair` then has it as it was at that time, as
--- if it took nothing any more, and the units that are still under way to it stand beside.
+-- A side that has closed keeps nothing of its link. `LinkPair` then has the link as it was at that time, as if it took
+-- nothing any more, and the units still in flight to it are listed beside it.
 pub data Meeting : Type 0 where
   -- open at both
   talking : LinkPair → Meeting
-  -- a DR with this reason is under way from here, which ignores these units
+  -- a DR with this reason is in flight from here; these units are in flight to here and ignored
   left_here : LinkPair → List Given → ℕ → Meeting
-  -- a DR with this reason is under way to here, and these units before it are ignored there
+  -- a DR with this reason is in flight to here; these units before it are ignored there
   left_there : LinkPair → List Given → ℕ → Meeting
-  -- DRs under way from here and to here: units before it and reason
+  -- DRs are in flight both ways, each with the units before it and its reason
   left_both : List Given → ℕ → List Given → ℕ → Meeting
-  -- gone there; behind units that are ignored a DC comes, or the DR that crossed the one from here
+  -- gone there; after units that are ignored, a DC arrives, or the DR that crossed the one from here
   waiting_here : List Given → Option ℕ → Meeting
   -- gone here
   waiting_there : List Given → Option ℕ → Meeting
@@ -70,7 +70,7 @@ abbrev pub farewell : ℕ → Option ℕ → Value
 farewell n None = disconnected n n
 farewell n (Some reason) = leaving n reason
 
--- the units under way from here, the oldest first
+-- the units in flight from here, the oldest first
 abbrev pub out : ℕ → Meeting → List Value
 out n (talking p) = addressed n p.rightward
 out n (left_here p units reason) = addressed n p.rightward ++ leaving n reason ∷ []
@@ -80,7 +80,7 @@ out n (waiting_here units last) = []
 out n (waiting_there units last) = addressed n units ++ farewell n last ∷ []
 out n parted = []
 
--- the units under way to here
+-- the units in flight to here
 abbrev pub back : ℕ → Meeting → List Value
 back n m = out n (mirror m)
 
@@ -94,7 +94,7 @@ Stands (waiting_here units last) = AreOfClass true units
 Stands (waiting_there units last) = AreOfClass true units
 Stands parted = Unit {0}
 
--- a carrier of class 2 at which the connection stands as it does here
+-- a carrier of class 2 that has the connection in the state of `here`
 pub record IsAt (n : ℕ) (s : State) (m : Meeting) : Type 0 where
   pub some : 0 < n
   pub few : n < 65536
@@ -104,13 +104,12 @@ pub record IsAt (n : ℕ) (s : State) (m : Meeting) : Type 0 where
   pub is : value_at n s.live ≡ here n m
   pub stands : Stands m
 
--- another connection at a reference, or none
+-- with another connection at a reference, or none
 abbrev pub rows_with : ℕ → Option Connection → Rows Connection → Rows Connection
 rows_with n None live = without n live
 rows_with n (Some connection) live = put n connection live
 
--- What changed is this connection: `after` is what is left of it, these units were written and these
--- events told.
+-- Only this connection changed: `after` is what is left of it, these units were written and these events reported.
 pub record Changes (n : ℕ) (old new : State) (after : Option Connection) (units : List Value) (told : List Happening) : Type 0 where
   pub here : value_at n new.live ≡ after
   pub live : new.live ≡ rows_with n after old.live
@@ -123,7 +122,7 @@ pub record Changes (n : ℕ) (old new : State) (after : Option Connection) (unit
   pub local : new.local ≡ old.local
   pub is_caller : new.is_caller ≡ old.is_caller
 
--- what the user of an open connection is told of a message that arrives, and of a closing one: nothing
+-- what an arriving message reports to the user of an open connection; to that of a closing one, nothing
 abbrev pub told_open : ℕ → Message → List Happening
 told_open n ask = []
 told_open n agree = []
@@ -138,16 +137,15 @@ told_at n (Some asked) m = []
 told_at n (Some (linked peer link)) m = told_open n m
 told_at n (Some (closing peer)) m = []
 
--- the messages under way to here, and from here
+-- the messages in flight to here, and from here
 abbrev pub messages_back : ℕ → Meeting → List Message
 messages_back n m = messages_to (there n m) (back n m) (here n m)
 
 abbrev pub messages_out : ℕ → Meeting → List Message
 messages_out n m = messages_to (here n m) (out n m) (there n m)
 
--- What is under way each way, where one side acted: some of what was under way to it arrived, of
--- which its user was told; and what was under way from it stays, but for what was `lost`, and `put`
--- comes behind it.
+-- What is in flight each way when one side acted: some of what was in flight to it arrived, and its user was told; what
+-- was in flight from it stays, except for `lost`, and `put` follows it.
 pub record Carries (n : ℕ) (old new : Meeting) (events : List Happening) (put : List Message) : Type 0 where
   pub arrived : List Message
   pub stays : List Message
@@ -168,15 +166,15 @@ is_leaving (data2 destination number end user) = false
 is_leaving (acknowledge credit destination number) = false
 is_leaving (error destination cause) = false
 
--- what a unit is answered: a DR to an open connection with a DC
+-- the answer to a unit: a DC to a DR, if the connection is open
 abbrev pub answers_of : Option Connection → Value → List Message
 answers_of None unit = []
 answers_of (Some asked) unit = []
 answers_of (Some (linked peer link)) unit = if is_leaving unit then over ∷ [] else []
 answers_of (Some (closing peer)) unit = []
 
--- One side acted: these units to it were taken (one, or none), `put` was put behind what is under way
--- from it, and the connection stands so.
+-- One side acted: these units in flight to it were taken (one, or none), `put` follows what is in flight from it, and
+-- this is the state of the connection.
 pub record Moves (n : ℕ) (old : Meeting) (s t : State) (taken : List Value) (put : List Message) : Type 0 where
   pub new : Meeting
   pub units : List Value
@@ -187,7 +185,7 @@ pub record Moves (n : ℕ) (old : Meeting) (s t : State) (taken : List Value) (p
   pub there : there n new ≡ there n old
   pub out : out n new ≡ out n old ++ units
   pub back : back n old ≡ taken ++ back n new
-  -- a DR or a DC, and nothing else, leaves none here
+  -- exactly a DR or a DC removes the connection here
   pub goes : is_none (here n new) ≡ list_any is_last taken
   pub stands : Stands new
   pub carries : Carries n old new events put

@@ -1,4 +1,4 @@
--- What is under way from one carrier to the other for a connection, read as whole messages.
+-- What is in flight for a connection from one carrier to the other, read as whole messages.
 use Rattle.std.specs.Prelude.{◌≡◌, ℕ, zero, suc, true, false, List, [], ◌∷◌, ◌++◌, map, Option, Some, None}
 use Rattle.osi_tpdu.specs.Value.{Value, request, confirm, disconnect, disconnected, data0, data2, acknowledge, error}
 use Rattle.osi_carrier.specs.State.{Connection, asked, linked, closing}
@@ -12,13 +12,12 @@ pub data Message : Type 0 where
   bye : ℕ → Message
   over : Message
 
--- a DR: one that refuses has no reference of the end that writes it
+-- a DR: one that refuses has no reference of the sending end
 abbrev pub parting : ℕ → ℕ → Message
 parting zero reason = deny reason
 parting (suc source) reason = bye reason
 
--- the messages that units make, where the first part of a TSDU continues what was begun: a TSDU
--- whose end is not there makes none
+-- the messages that units make, if the first part of a TSDU continues what was begun; a TSDU without its end makes none
 abbrev pub messages_after : List ℕ → List Value → List Message
 messages_after begun [] = []
 messages_after begun (request c ∷ units) = ask ∷ messages_after [] units
@@ -43,15 +42,14 @@ unsent_at (Some asked) = []
 unsent_at (Some (linked peer link)) = link.ends.unsent
 unsent_at (Some (closing peer)) = []
 
--- the octets of the TSDU that a connection has taken in part
+-- the octets of the TSDU that a connection has received in part
 abbrev pub begun_at : Option Connection → List ℕ
 begun_at None = []
 begun_at (Some asked) = []
 begun_at (Some (linked peer link)) = link.ends.joining.begun
 begun_at (Some (closing peer)) = []
 
--- what is under way, by the connection at the end that sends, its units on the way, and the
--- connection at the end that takes
+-- what is in flight, by the connection at the sending end, the units in flight, and the connection at the receiving end
 abbrev pub messages_to : Option Connection → List Value → Option Connection → List Message
 messages_to sender units taker = messages_after (begun_at taker) (units ++ uncut_units (unsent_at sender))
 
@@ -64,8 +62,8 @@ kind_of (message octets) = message []
 kind_of (bye reason) = bye reason
 kind_of over = over
 
--- The same messages; of one kind where the taker is closing: it has dropped what it had taken of a
--- TSDU, and takes no more of it.
+-- The same messages. If the receiver is closing, only their kinds agree: it has dropped the beginning of a TSDU, and
+-- takes no more of it.
 abbrev pub AreLike : Option Connection → List Message → List Message → Type 0
 AreLike None some others = some ≡ others
 AreLike (Some asked) some others = some ≡ others

@@ -1,5 +1,4 @@
--- How far a connection is at an end, and what the messages that arrive there and those that are put
--- there do to that.
+-- How far a connection is at an end, and how messages that arrive there or are put there change that.
 use Rattle.std.specs.Prelude.{◌≡◌, ℕ, ◌+◌, Bool, true, false, List, [], ◌∷◌, ◌++◌, Option, Some, None}
 use Rattle.std.specs.List.{AllByRecursion}
 use Rattle.osi_tpdu.specs.Value.{Value}
@@ -33,7 +32,7 @@ may_arrive shutting (bye reason) = true
 may_arrive shutting over = true
 may_arrive progress m = false
 
--- behind a message that arrives, where CRs are accepted, or refused
+-- after a message arrives, if CRs are accepted, or refused
 abbrev pub behind_arrival : Bool → Progress → Message → Progress
 behind_arrival true not_yet ask = in_use
 behind_arrival accepts awaiting agree = in_use
@@ -47,7 +46,7 @@ abbrev pub behind_arrivals : Bool → Progress → List Message → Progress
 behind_arrivals accepts progress [] = progress
 behind_arrivals accepts progress (m ∷ ms) = behind_arrivals accepts (behind_arrival accepts progress m) ms
 
--- behind a message that is put
+-- after a message is put
 abbrev pub behind_put : Progress → Message → Progress
 behind_put not_yet ask = awaiting
 behind_put in_use (bye reason) = shutting
@@ -68,8 +67,8 @@ asks_in (message octets ∷ ms) = asks_in ms
 asks_in (bye reason ∷ ms) = asks_in ms
 asks_in (over ∷ ms) = asks_in ms
 
--- for these messages that arrived and were put an end gave so many references: one for each CR that is
--- accepted, and one for each that it writes
+-- how many references an end gives for messages that arrive and are put: one for each CR that it accepts, and one for
+-- each that it writes
 abbrev pub accepted_in : Bool → List Message → ℕ
 accepted_in true arrived = asks_in arrived
 accepted_in false arrived = 0
@@ -77,8 +76,8 @@ accepted_in false arrived = 0
 abbrev pub references_for : Bool → List Message → List Message → ℕ
 references_for accepts arrived put = accepted_in accepts arrived + asks_in put
 
--- The class that an end has agreed behind a message that arrives, where CRs come to this class or are
--- refused: a CR that is accepted settles it, and a CC does.
+-- The class that an end has agreed after a message arrives, if CRs lead to this class or are refused: a CR that is
+-- accepted settles it, and so does a CC.
 abbrev pub class_behind : Option Class → Option Class → Message → Option Class
 class_behind None held m = held
 class_behind (Some class) held ask = Some class
@@ -98,8 +97,8 @@ leaves_use in_use shutting = true
 leaves_use in_use gone = true
 leaves_use from to = false
 
--- What units brought that an end took for a connection, which was so and then so: these messages,
--- with what it had begun; and what comes behind them goes on from what it has begun then.
+-- What the units mean that an end took for a connection, before (`from`, `old`) and after (`to`, `new`): these
+-- messages, with what was begun before; and the units after them continue from what is begun then.
 pub record Brings (accepts : Bool) (from to : Progress) (old new : Option Connection) (taken : List Value) (arrived put : List Message) : Type 0 where
   pub is : arrived ≡ messages_after (begun_at old) taken
   pub more : (units : List Value) → AreLike new (messages_after (begun_at old) (taken ++ units)) (arrived ++ messages_after (begun_at new) units)

@@ -1,28 +1,28 @@
--- A caller's and a called end's carrier of which the called end refuses each CR, and the units between
--- them: one connection at a time is asked for.
+-- A caller's and a called end's carrier, if the called end refuses each CR, and the units between them. One connection
+-- at a time is requested.
 use Rattle.std.specs.Prelude.{◌≡◌, ℕ, ◌<◌, ◌≤◌, Bool, true, false, List, [], ◌∷◌, None}
 use Rattle.osi_tpdu.specs.Value.{Value, Connect, request, disconnect}
 use Rattle.osi_carrier.specs.Rows.{Rows}
 use Rattle.osi_carrier.specs.State.{Connection, asked, State}
 use Rattle.osi_between.specs.Terms.{terms_of, refusing, IsProposed}
 
--- none is asked for; a CR is under way; the DR that refuses it is
+-- none is requested; a CR is in flight; the DR that refuses it is in flight
 pub data Refusal : Type 0 where
   unasked : Refusal
   asking : Connect → Refusal
   denied : Refusal
 
--- where the last reference that the caller gave is this
+-- with this as the last reference that the caller gave
 abbrev pub rows_in : ℕ → Refusal → Rows Connection
 rows_in n unasked = []
 rows_in n (asking c) = (n, asked) ∷ []
 rows_in n denied = (n, asked) ∷ []
 
--- a DR of which its sender has no connection
+-- a DR whose sender has no connection
 abbrev pub denying : ℕ → ℕ → Value
 denying n reason = disconnect n 0 reason []
 
--- the units under way from the caller, and from the called end
+-- the units in flight from the caller, and from the called end
 abbrev pub from_end : Bool → ℕ → ℕ → Refusal → List Value
 from_end end reason n unasked = []
 from_end true reason n (asking c) = request c ∷ []

@@ -1,4 +1,4 @@
--- What feeding some of the octets that come to a carrier does.
+-- The effect of feeding a carrier some of the octets in flight to it.
 use Rattle.std.specs.Prelude.{◌≡◌, ℕ, false, List, [], ◌∷◌, ◌++◌, drop, ◌⊎◌}
 use Rattle.osi_tpdu.specs.Value.{Value}
 use Rattle.osi_carrier.specs.Coming.{AreComing}
@@ -7,13 +7,13 @@ use Rattle.osi_carrier.specs.React.{react}
 use Rattle.osi_carrier.specs.State.{State, ends}
 use Rattle.osi_carrier.specs.declared.ends.EndReason.TheVariants.{NoMemory}
 
--- units one after the other, of which none stopped but perhaps the last
+-- units one after the other, only the last of which may have stopped the carrier
 abbrev pub TakesUnits : State → List Value → State → Type 0
 TakesUnits old [] new = new ≡ old
 TakesUnits old (unit ∷ units) new = (stops old ≡ false) × TakesUnits (react unit old) units new
 
--- Some of the units that come were taken one after the other, and then, perhaps, memory was wanted.
--- But after a fault or want of memory the others are those that still come.
+-- Some of the units in flight were taken one after the other, and then memory may have run out. Unless there was a
+-- fault or an allocation failure, the other units are still in flight.
 pub record TakesSome (old : Carrying) (outgoing : List ℕ) (coming : List Value) (used : ℕ) (new : Carrying) : Type 0 where
   pub done : List Value
   pub left : List Value

@@ -1,4 +1,4 @@
--- What a caller and a called end come to, by what each supports: the answer to every CR between them.
+-- What a caller and a called end agree on, by what each supports: the answer to every CR between them.
 use Rattle.std.specs.Prelude.{◌≡◌, ℕ, Bool, true, false, ◌&&◌, List, Option, Some, None, if◌then◌else◌}
 use Rattle.osi_tpdu.specs.Value.{Connect}
 use Rattle.osi_class.specs.declared.terms.Class.{Class}
@@ -13,8 +13,8 @@ pub data Terms : Type 0 where
   by_zero : Terms
   refusing : ℕ → Terms
 
--- Class 2 where both support it; else class 0 where the caller proposes it and the called end supports
--- it. A CR that proposes class 0 alone is refused with reason 0, and another with 130.
+-- Class 2 if both support it; otherwise class 0 if the caller proposes it and the called end supports it. A CR that
+-- proposes only class 0 is refused with reason 0, any other with 130.
 abbrev pub terms_of : Local → Local → Terms
 terms_of caller called =
     if caller.class2 && called.class2 then by_two
@@ -33,7 +33,7 @@ class_of by_two = Some Two
 class_of by_zero = Some Zero
 class_of (refusing reason) = None
 
--- a CR that the caller wrote before a class held
+-- a CR that the caller wrote before a class was agreed
 pub record IsProposed (n : ℕ) (caller : Local) (c : Connect) : Type 0 where
   pub calling : Option (List ℕ)
   pub called : Option (List ℕ)

@@ -1,5 +1,5 @@
--- A caller's and a called end's carrier that come to class 0, and the units between them: there is one
--- connection, which is 1 at both.
+-- A caller's and a called end's carrier that agree on class 0, and the units between them. There is one connection,
+-- with reference 1 at both.
 use Rattle.std.specs.Prelude.{◌≡◌, ℕ, Bool, true, false, List, [], ◌∷◌, Option, Some, None}
 use Rattle.osi_tpdu.specs.Value.{Value, Connect, request, confirm}
 use Rattle.osi_class.specs.Between.{LinkPair}
@@ -15,8 +15,8 @@ use Rattle.osi_between.specs.Meeting.{addressed}
 use Rattle.osi_between.specs.OpenLinks.{AreOpen}
 use Rattle.osi_between.specs.Terms.{terms_of, by_zero, IsProposed}
 
--- How the connection stands: not asked for; its CR is under way; open at the called end, with links as
--- if it were open at both; open at both. A close ends the carrier.
+-- The state of the connection: not requested; its CR is in flight; open at the called end, with links as if it were
+-- open at both; open at both. A close ends the carrier.
 pub data ZeroCourse : Type 0 where
   unasked : ZeroCourse
   asking : Connect → ZeroCourse
@@ -37,7 +37,7 @@ at_end false (accepting c p) = was_given (Some (linked 1 p.right))
 at_end true (talking p) = was_given (Some (linked 1 p.left))
 at_end false (talking p) = was_given (Some (linked 1 p.right))
 
--- the units under way from the caller, and from the called end, which would have this
+-- the units in flight from the caller, and from the called end, which would have this
 abbrev pub from_end : Bool → Local → ZeroCourse → List Value
 from_end end called unasked = []
 from_end true called (asking c) = request c ∷ []
@@ -47,7 +47,7 @@ from_end false called (accepting c p) = confirm 1 (answer_of called c) ∷ addre
 from_end true called (talking p) = addressed 1 p.rightward
 from_end false called (talking p) = addressed 1 p.leftward
 
--- open at the called end: the caller's link is the one that the CC opens
+-- open at the called end; the caller's link is the one that the CC opens
 pub record IsAccepted (caller called : Local) (c : Connect) (p : LinkPair) : Type 0 where
   pub asked : IsProposed 1 caller c
   pub open_links : AreOpen false p
@@ -71,7 +71,7 @@ abbrev pub given_in : Place → ℕ
 given_in never = 0
 given_in (was_given connection) = 1
 
--- class 0 holds from the CC on
+-- class 0 is agreed from the CC on
 abbrev pub class_in : Place → Option Class
 class_in never = None
 class_in (was_given None) = None
@@ -86,7 +86,7 @@ pub record HasOne (s : State) (place : Place) : Type 0 where
   pub class : s.class ≡ class_in place
   pub lasts : s.ended ≡ None
 
--- with these units on the way to the called end and to the caller
+-- with these units in flight to the called end and to the caller
 pub record AreJoinedZero (caller called : State) (to_called to_caller : List Value) : Type 0 where
   pub is_caller : caller.is_caller ≡ true
   pub is_called : called.is_caller ≡ false

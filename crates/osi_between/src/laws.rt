@@ -35,12 +35,12 @@ ghost use Rattle.osi_between.specs.Meeting.{Meeting, mirror, here, there, out, b
 ghost use Rattle.osi_between.specs.Messages.{Message, ask, message, bye};
 ghost use Rattle.osi_between.specs.Progress.{in_use};
 
-/// A connection of class 2 that both carriers have had open, seen from one of them. The oldest unit
-/// that is under way to it is taken, and no fault comes of it, nor an end: it is a DT or an AK that
-/// the link awaits, one that a closing connection ignores, or the DR or DC that ends the connection
-/// here. In this and in each call what was under way arrives in order and is told, what is put comes
-/// behind what stays, and a connection that is closed loses only what it had not yet cut into units.
-/// All other connections stay as they are. Seen from the other carrier it is the same.
+/// A connection of class 2 that both carriers have had open, seen from one of them. This carrier can always take the
+/// oldest unit in flight to it, without a fault and without ending: the unit is a DT or an AK that the link expects,
+/// one that a closing connection ignores, or the DR or DC that ends the connection here. In this step and in each call,
+/// what was in flight arrives in order and is reported, and what is put follows what stays in flight. A connection that
+/// is closed loses only TSDUs that it had not yet cut into units. No other connection changes. The same holds seen from
+/// the other carrier.
 pub fn what_a_connection_carries()
     ensures taken { (n : ℕ) (s : State) (m : Meeting) (unit : Value) (rest : List Value) → IsAt n s m → back n m ≡ unit ∷ rest →
         Moves n m s (react unit s) (unit ∷ []) (answers_of (here n m) unit) }
@@ -52,10 +52,10 @@ pub fn what_a_connection_carries()
     ensures twice { (m : Meeting) → mirror (mirror m) ≡ m }
 {}
 
-/// What a carrier holds of a packet and what its peer has still to hand over are the packets of some
-/// units in one way at most, and units that the peer writes come behind them. However many octets of
-/// these are fed, what the carrier does is to take the units one after the other, up to one that
-/// stops it or finds no memory: there is no fault of the octets.
+/// The octets that a carrier holds of a packet, followed by those that its peer has still to hand over, are the packets
+/// of at most one list of units; units that the peer writes are added at its end. However many of these octets are fed,
+/// the carrier takes the units one after the other, up to one that stops it or that runs out of memory. The octets are
+/// never at fault.
 pub fn what_was_written_is_taken()
     ensures one { (held outgoing : List ℕ) (us vs : List Value) → AreComing held outgoing us → AreComing held outgoing vs → us ≡ vs }
     ensures more { (held outgoing : List ℕ) (coming units : List Value) → AreComing held outgoing coming → AllByRecursion IsSendable units →
@@ -65,13 +65,12 @@ pub fn what_was_written_is_taken()
         TakesSome old outgoing coming fed.used new }
 {}
 
-/// Two carriers that both support class 2, from the beginning on, and the units on the way between them,
-/// seen from an end (`going` from it, `coming` to it; `end` is true for the caller): whatever unit is
-/// taken, the oldest first, and whatever is called, they stay joined. So neither ends by what the other
-/// wrote: no fault of a link, no unknown reference, no bad answer, no unexpected unit; each CR is
-/// accepted, with the number that the caller gave; and what is under way for each connection is what
-/// `ActsFor` says. Where nothing is on the way, nothing of a connection that is open at both is under way
-/// or left behind.
+/// Two carriers that both support class 2, from the beginning on, and the units in flight between them, seen from an
+/// end (`going` from it, `coming` to it; `end` is true for the caller). Whatever unit is taken, the oldest first, and
+/// whatever call is made, the two stay joined. So neither end ends because of what the other wrote: there is no fault
+/// of a link, no unknown reference, no bad answer and no unexpected unit; each CR is accepted, under the number that
+/// the caller gave; and `ActsFor` says what is in flight for each connection. If no unit is in flight, a connection
+/// that is open at both has nothing unfinished either.
 pub fn two_carriers_stay_joined()
     ensures begins { (caller called : Local) → caller.class2 ≡ true → called.class2 ≡ true →
         AreJoined (fresh_state true caller) (fresh_state false called) [] [] }
@@ -96,10 +95,10 @@ pub fn two_carriers_stay_joined()
         (under_way_for n caller called [] ≡ []) × (under_way_for n called caller [] ≡ []) }
 {}
 
-/// Two carriers that both support class 2, with the octets between them, seen from an end: new ones are
-/// linked, and stay so however many of the octets that one has to hand over are fed to the other, wherever
-/// they are cut, unless that one finds no memory; in each call of [`two_carriers_stay_joined`], and where
-/// an event is told. What each feeding does is to take units, one after the other.
+/// Two carriers that both support class 2, with the octets between them, seen from an end. New ones are linked. They
+/// stay linked however many of the octets that one has to hand over are fed to the other, wherever these are cut,
+/// unless that carrier runs out of memory; and also after each call of [`two_carriers_stay_joined`], and when an event
+/// is reported. Feeding takes units, one after the other.
 pub fn two_carriers_stay_linked()
     ensures begins { (caller called : Carrying) (a b : Local) → a.class2 ≡ true → b.class2 ≡ true → caller.state ≡ fresh_state true a →
         called.state ≡ fresh_state false b → caller.held.octets ≡ [] → called.held.octets ≡ [] → AreLinked true caller called [] [] }
@@ -114,16 +113,15 @@ pub fn two_carriers_stay_linked()
         AreLinked end (with_events events this) other going coming }
 {}
 
-/// A caller's and a called end's carrier and the octets between them, whatever they
-/// come to by what each supports: class 2, class 0, or that each connection is refused. New ones stand so, and
-/// so do they after the next packet that an end holds, after each call, where octets are handed over and
-/// events are told, where an end comes, for whatever reason, want of memory among them, and where the byte
-/// connection breaks. A packet is one unit, and of what the other wrote comes neither an end nor a fault. What
-/// was under way to the end that acts arrived and was told, or still is; what is under way from it stays, and
-/// what is put comes behind, but for what a close takes away; an end and a break take the last of what is
-/// under way, and after a break nothing that is put arrives. A reference is given for each connection that
-/// is asked for or accepted, and no other, and a CC or a CR that is accepted settles the class. In class 0 a
-/// close ends the carrier.
+/// A caller's and a called end's carrier and the octets between them, whatever they agree on: class 2, class 0, or that
+/// each connection is refused. `AreBetween` holds of new ones. It still holds after the next packet that an end holds,
+/// after each call, when octets are handed over and events are reported, when an end ends for whatever reason, out of
+/// memory included, and when the byte connection breaks. A packet is one unit, and nothing that the other end wrote
+/// ends this end or is a fault. What was in flight to the acting end has arrived and was reported, or still is in
+/// flight. What is in flight from it stays, and what is put follows it, except for what a close discards. An end and a
+/// break discard the last part of what is in flight, and after a break nothing that is put arrives. A reference is
+/// given for each connection that is requested or accepted, and for no other; a CC, or a CR that is accepted, settles
+/// the class. In class 0 a close ends the carrier.
 pub fn whatever_becomes_of_two_carriers()
     ensures begins { (caller called : Local) → AreBetween (terms_of caller called) (fresh_both caller called) (fresh_between caller called) }
     ensures taken { (terms : Terms) (end : Bool) (both : Both) (b : Between) (packet octets behind : List ℕ) → AreBetween terms both b →
@@ -162,9 +160,9 @@ pub fn whatever_becomes_of_two_carriers()
         value_at n both.caller.state.live ≡ Some (linked p x) → value_at n both.called.state.live ≡ Some (linked q y) → IsAllThere n both b x y }
 {}
 
-/// What an end that has not ended holds of what the other wrote, with the octets that will still arrive and
-/// those that a break took away, is the packets of all units, and has no fault of the stream. Where there is no
-/// memory for the packet that it holds first, nothing of it was done: it is one unit, which acts or does not.
+/// If an end has not ended, the octets that it holds, those that will still arrive and those that a break discarded are
+/// the packets of all units, with no fault of the stream. If memory runs out at the first packet that it holds, nothing
+/// of this packet was done. A packet is one unit; it acts, or does not act at all.
 pub fn what_an_end_holds()
     ensures coming { (terms : Terms) (end : Bool) (both : Both) (b : Between) → AreBetween terms both b → (side (not end) both).state.ended ≡ None →
         (never : List ℕ) × AreComing (side (not end) both).held (arriving end both ++ never) (units_from end b ++ lost_from end b) }
@@ -178,12 +176,12 @@ pub fn what_an_end_holds()
         Acts (side end both).state packet new → (new ≡ after_packet (side end both).state packet) ⊎ (new ≡ ends NoMemory (side end both).state) }
 {}
 
-/// Over every list of what can happen to two new carriers: calls at both, octets that are handed over in
-/// whatever pieces, packets that are taken, events that are told, ends and a break, in any order in which they
-/// may happen. The TSDUs that are told at one end for a connection are, in their order and with their octets,
-/// the first of those that were under way to it and then of those that were handed in at the other. The two
-/// then stand between as they should; and an end has ended for no other reason than the list gives: a close of the connection of class 0,
-/// or an end of its own. So neither ends by what the other wrote.
+/// Over every list of what can happen to two new carriers: calls at both, octets handed over in whatever pieces,
+/// packets taken, events reported, ends and a break, in any possible order. For each connection, the TSDUs reported at
+/// one end are a prefix of those handed in at the other, in order and with their octets; seen from a later state, a
+/// prefix of those in flight followed by those handed in. `AreBetween` holds after it. An end has ended only for a
+/// reason that the list gives: a close of the connection of class 0, or an end of its own. So neither ends because of
+/// what the other wrote.
 pub fn what_no_list_of_calls_can_do()
     ensures stays { (caller called : Local) (moves : List Move) → MayAll moves (fresh_both caller called) →
         StayBetween (terms_of caller called) moves (fresh_both caller called) }
@@ -195,9 +193,8 @@ pub fn what_no_list_of_calls_can_do()
         StayBetween terms moves both }
 {}
 
-/// What two carriers have. For a reference that the caller did not give nothing is under way, and the called
-/// end gave none that the caller did not; before a class holds, each connection that is live at the caller
-/// awaits its answer.
+/// For a reference that the caller has not given, nothing is in flight, and the called end has given none that the
+/// caller has not. Before a class is agreed, each connection that is live at the caller awaits its answer.
 pub fn what_two_carriers_have()
     ensures ahead { (terms : Terms) (both : Both) (b : Between) (end : Bool) (n : ℕ) → AreBetween terms both b → b.caller.given < n → under_way end n both b ≡ [] }
     ensures behind { (terms : Terms) (both : Both) (b : Between) → AreBetween terms both b → b.called.given ≤ b.caller.given }

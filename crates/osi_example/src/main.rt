@@ -1,5 +1,5 @@
-//! Two ends of a byte connection, a caller and a called one, over two byte buffers: a connection is
-//! asked for and accepted, and data is sent. It prints what the users of the two ends are shown.
+//! Two ends of a byte connection, a caller and a called one, joined by two byte buffers. The caller asks for an
+//! association, the other side accepts it, and data is sent. The program prints what the two users receive.
 #![tactic(auto)]
 
 use bitflags::Flags;
@@ -22,7 +22,7 @@ struct Ends {
     called: Stack,
 }
 
-/// The program ends with this where something went wrong.
+/// The error with which the program ends if something went wrong.
 fn failed() -> io::Error {
     io::Error::from(io::ErrorKind::Other)
 }
@@ -57,7 +57,7 @@ fn asked<'a>(serial: Serial) -> Connect<'a> {
     }
 }
 
-/// Accepts it.
+/// The request that accepts it.
 fn accepted<'a>(serial: Serial) -> Request<'a> {
     Request::Accept {
         requirements: Requirements::from_bits_retain(UNITS),
@@ -73,7 +73,7 @@ fn accepted<'a>(serial: Serial) -> Request<'a> {
     }
 }
 
-/// What is said of an indication, and its user data.
+/// The name of an indication, and its user data.
 fn said(indication: &Indication) -> (&str, &[u8]) {
     match indication {
         Indication::Connect { user_data, .. } => ("asked for", user_data.as_slice()),
@@ -83,7 +83,7 @@ fn said(indication: &Indication) -> (&str, &[u8]) {
     }
 }
 
-/// Prints what the user of an end is shown of a connection.
+/// Prints an indication that the user of an end receives for a connection.
 fn show<R: Print>(rt: &R, name: &str, of: Ref, indication: &Indication) -> io::Result<()> {
     let (what, user_data) = said(indication);
     let reference = of.0;
@@ -94,12 +94,12 @@ fn show<R: Print>(rt: &R, name: &str, of: Ref, indication: &Indication) -> io::R
     println!(rt; "{name}, connection {reference}, {what}: {text}")
 }
 
-/// The next indication of an end, and whose it is.
+/// The next pending indication of an end, and its connection.
 fn next(end: &mut Stack) -> Option<(Ref, Indication)> {
     end.next_indication()
 }
 
-/// Prints what the user of an end is shown next; false where that is nothing.
+/// Prints the next indication of an end; false if there is none.
 fn show_next<R: Print>(rt: &R, end: &mut Stack, name: &str) -> io::Result<bool> {
     match next(end) {
         Some((reference, indication)) => {
@@ -110,7 +110,7 @@ fn show_next<R: Print>(rt: &R, end: &mut Stack, name: &str) -> io::Result<bool> 
     }
 }
 
-/// Feeds what comes to an end, and prints what its user is shown.
+/// Feeds octets to an end, and prints what its user receives.
 fn feed<R: Print>(rt: &R, to: &mut Stack, octets: &[u8], name: &str) -> io::Result<()> {
     let mut rest = octets;
     for _ in 0..=octets.len() {
@@ -123,8 +123,8 @@ fn feed<R: Print>(rt: &R, to: &mut Stack, octets: &[u8], name: &str) -> io::Resu
     Ok(())
 }
 
-/// Carries what one end has written to the other, and prints what the user there is shown. In a
-/// gateway the buffer is a socket: what comes out of it is fed as it comes.
+/// Carries the octets that one end has written to the other, and prints what the user there receives. In a gateway the
+/// buffer would be a socket: what is read from it is fed.
 fn carry<R: Print + AllocGlobal>(
     rt: &R,
     from: &mut Stack,
@@ -136,7 +136,7 @@ fn carry<R: Print + AllocGlobal>(
     feed(rt, to, buffer.as_slice(), name)
 }
 
-/// Carries both ways, there and back, so often that nothing is left.
+/// Carries both ways, there and back, until nothing is left.
 fn exchange<R: Print + AllocGlobal>(rt: &R, ends: &mut Ends) -> io::Result<()> {
     for _ in 0..3 {
         carry(rt, &mut ends.caller, &mut ends.called, "called end")?;
@@ -145,7 +145,7 @@ fn exchange<R: Print + AllocGlobal>(rt: &R, ends: &mut Ends) -> io::Result<()> {
     Ok(())
 }
 
-/// Two ends between which nothing has happened.
+/// Two fresh ends.
 fn two_ends(alloc: Global, local: Local) -> Ends {
     Ends {
         caller: Stack::caller(alloc, local),
@@ -161,7 +161,7 @@ fn ask(caller: &mut Stack, serial: Serial) -> io::Result<Ref> {
     }
 }
 
-/// Calls for the user of an end.
+/// Makes a call for the user of an end.
 fn call(end: &mut Stack, reference: Ref, request: Request) -> io::Result<()> {
     match end.call(reference, request) {
         Ok(()) => Ok(()),
@@ -169,7 +169,7 @@ fn call(end: &mut Stack, reference: Ref, request: Request) -> io::Result<()> {
     }
 }
 
-/// A connection is asked for and accepted, and data is sent.
+/// The whole run: ask, accept, send data.
 fn talk<R: Print + AllocGlobal>(rt: &R, ends: &mut Ends, serial: Serial) -> io::Result<()> {
     let reference = ask(&mut ends.caller, serial)?;
     exchange(rt, ends)?;

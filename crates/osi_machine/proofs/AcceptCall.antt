@@ -1,4 +1,4 @@
--- The call of Accept keeps what is true of both sides.
+-- The call of Accept keeps the invariant of both sides.
 use Rattle.std.proofs.Common.{◌≡◌, refl, sym, ◌∙◌, ap, subst, ℕ, Bool, true, false, not, ◌&&◌, List, [], ◌∷◌, ◌++◌, Ok, arith}
 use Rattle.osi_machine.proofs.Vocabulary.{append-nil, and_parts, and_from, agreed_base, TsduMaximumSize, State, FunctionalUnits, Sides, Meaning, AC, Tokens, Token, has, available, functional_units, both_units, units_within, settle, setting_of, of_answerer, base_for, serial_for, opened_with, is_answering, is_connecting, is_restarting, is_restart_due, may_hold, Accept, are_sizes, answered_sizes, becomes, drops, next, turned_owners, settled_by, Fits, flush, heard, hears, heard_view, data_of, Party, Core, answered, is_opening, IsFresh, AreConsistent}
 use Rattle.osi_machine.proofs.PhaseLaws.{implied, excluded, implied_two, if_first}
@@ -43,7 +43,7 @@ accepter x u n a z o = record {
 abbrev connected : Core → ℕ → ℕ → Sides → TsduMaximumSize → List ℕ → State
 connected w u n a z o = becomes (flushed w.peer w.own) (acceptance w.own.session u n a z o)
 
--- ---- nothing is under way
+-- ---- nothing is in flight
 
 none_under_way : (w : Core) (u : ℕ) → Accepts w u → AllEmpty w.peer.sent
 none_under_way w u q =

@@ -7,7 +7,7 @@ none_if : (b : Bool) (a : Option UnitFault) (f : UnitFault) → (if b then a els
 none_if true a f h = (refl, h)
 none_if false a f h = absurd (cc)
 
--- a unit with no fault meets each of its conditions, and the other way round
+-- a unit without a fault meets all its conditions, and conversely
 pub all_met : (n : ℕ) (cs : List Condition) → first_fault n cs ≡ None → AllMet cs
 all_met n [] h = tt
 all_met n (c ∷ cs) h = let one = none_if c.0 (first_fault n cs) (c.1 n) h in (one.0, all_met n cs one.1)
@@ -20,7 +20,7 @@ none_is : {A : Type 0} (o : Option A) → is_none o ≡ true → o ≡ None
 none_is None h = refl
 none_is (Some x) h = absurd (cc)
 
--- what it is to be acted on
+-- the conditions for acting on it
 pub record Acted (s : State) (u : Meaning) : Type 0 where
   pub lives : is_over s.phase ≡ false
   pub heeds : drops s u ≡ false
@@ -53,7 +53,7 @@ aborting_cases P s u h k = grind arith
 ended_cases : (P : State → Type 0) (s : State) (u : Meaning) → P s → P (in_ended s u).next
 ended_cases P s u h = grind arith
 
--- what a unit leaves: what was, or the end, or the abort, or what the table says of a unit that is acted on
+-- the state after a unit: the same, or the end, or the abort, or what the table says of a unit that is acted on
 pub record Leaves (P : Bool → State → Type 0) (s : State) (u : Meaning) : Type 0 where
   pub same : P false s
   pub ended : P false (without_tokens Ended s)
@@ -77,7 +77,7 @@ unit_cases P s u h = by_test (is_acted_on s u)
 
 -- ---- of a side that is not over, and a unit that fits
 
--- what is discarded changes nothing, and what is not is acted on
+-- what is discarded changes nothing, and everything else is acted on
 pub fit_acts : (s : State) (u : Meaning) → is_over s.phase ≡ false → Fits s u → is_acted_on s u ≡ not (drops s u)
 fit_acts s u o f = search (arith, is_acted)
 

@@ -1,5 +1,5 @@
--- A side of a connection where nothing is lost is never over, so that a unit that it takes is discarded, or
--- answered as the table says: no unit is a fault.
+-- If nothing is lost, a side of a connection is never over. So each unit that it takes is discarded, or answered as the
+-- table says: no unit is a fault.
 use Rattle.std.proofs.Common.{◌≡◌, refl, subst, true, false, not, if◌then◌else◌, List, ◌∷◌, ◌++◌, arith}
 use Rattle.osi_machine.proofs.Vocabulary.{State, Phase, Meaning, nothing, good, is_over, is_expected, respond_unit, drops, next, Owners, got_in, is_plain, Fits, AllFit, flush, view_next, Party, party_taking}
 use Rattle.osi_machine.proofs.PhaseLaws.{implied_two, by_test}
@@ -23,7 +23,7 @@ alive o x y h = by_test (is_over x.session.phase)
     (over_kept x.session y.sent e h.fits)))
     (λ e. e)
 
--- ---- the first unit under way
+-- ---- the first unit in flight
 
 -- it is no fault
 pub first_is_no_fault : (o : Owners) (x y : Party) (u : Meaning) (us : List Meaning) → y.sent ≡ u ∷ us → Half o x y
@@ -31,7 +31,7 @@ pub first_is_no_fault : (o : Owners) (x y : Party) (u : Meaning) (us : List Mean
 first_is_no_fault o x y u us e h =
     no_fault x.session u (alive o x y h) (subst (AllFit x.session) e h.fits).0
 
--- what its taker then is
+-- the taker after it
 abbrev pub taken_party : (x : Party) (u : Meaning) → Party
 taken_party x u = record {
   session = next x.session u;

@@ -1,5 +1,4 @@
--- What no unit changes once a connection is open, and what a side that is being asked for nothing goes
--- through.
+-- What no unit changes once a connection is open, and the phases of a side that requests nothing.
 use Rattle.std.proofs.Common.{◌≡◌, refl, sym, ◌∙◌, subst, ℕ, Bool, true, false, ◌||◌, List, [], ◌∷◌, ◌⊎◌, inl, inr, arith}
 use Rattle.osi_machine.proofs.Vocabulary.{or_left, list_any, State, Phase, FunctionalUnits, Tokens, Meaning, CN, AC, RF, DT, GT, PT, MIP, MIA, MAP, MAA, RS, RA, FN, DN, NF, AB, AA, Token, data_token, has, is_wait_cn, is_connecting, is_restarting, is_restart_due, may_ask, is_ready, is_release_due, has_no_effect, becomes, Good, next, is_plain, Fits, AllFit, flush, stops, heard, needs_token, is_opening}
 use Rattle.osi_machine.proofs.PhaseLaws.{excluded, by_test}
@@ -28,7 +27,7 @@ flush_open s us h f = kept_all (Open s.units s.base) (next_open s.units s.base) 
 pub heard_open : (s : State) (us : List Meaning) → is_opening s.phase ≡ false → AllFit s us → Open s.units s.base (heard s us)
 heard_open s us h f = kept_heard (Open s.units s.base) (next_open s.units s.base) s us (record { phase = h; units = refl; base = refl }) f
 
--- ---- a side that asks for nothing and owes nothing but an answer to a major point or a release
+-- ---- a side that requests nothing, and owes at most an answer to a major point or a release
 
 abbrev pub is_lively : Phase → Bool
 is_lively p = may_ask p || is_release_due p
@@ -36,11 +35,11 @@ is_lively p = may_ask p || is_release_due p
 abbrev pub Lively : State → Type 0
 Lively s = is_lively s.phase ≡ true
 
--- it stays so, until a restart stands
+-- it stays so, until a restart takes effect
 pub becomes_lively : (s : State) (u : Meaning) → is_plain u ≡ true → Good s u → stops s u ≡ false → Lively s → Lively (becomes s u)
 becomes_lively s u p g st h = grind arith
 
--- what holds of each state up to a restart that stands, or of all: P, or an answer is due
+-- an invariant of each state up to a restart that takes effect, or of all: P, or an answer is due
 pub until_due : (P : State → Type 0) → ((s : State) (u : Meaning) → Fits s u → stops s u ≡ false → P s → P (next s u)) →
     (s : State) (us : List Meaning) → P s → AllFit s us → P (flush s us) ⊎ (is_restart_due (flush s us).phase ≡ true)
 until_due P step s [] h f = inl h

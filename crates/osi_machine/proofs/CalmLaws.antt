@@ -1,5 +1,5 @@
--- Data that is anywhere under way to a side is no fault there, once what is ahead of it is taken: of whatever its user
--- calls in between, the connection of which nothing is lost makes the same.
+-- Data anywhere in flight to a side is no fault there, once what is ahead of it was taken. The connection on which
+-- nothing is lost makes the same calls in between.
 use Rattle.std.proofs.Common.{◌≡◌, refl, sym, ◌∙◌, ap, subst, ℕ, Bool, true, false, if◌then◌else◌, List, [], ◌∷◌, ◌++◌, map, Some, None, Ok, Err, ◌⊎◌, inl, inr, append_assoc, arith}
 use Rattle.osi_session.specs.declared.faults.CallError.TheVariants as error
 use Rattle.osi_session.specs.Moves.{answered as answered_move}
@@ -133,9 +133,9 @@ calm_behind laws says s (u ∷ us) octets rest h = λ calls small.
     calm_behind laws says (left_by (after_calls s calls) (taken (said_of u))) us octets rest
     (one_unit laws says (after_calls s calls) u (us ++ DT octets ∷ rest) (all_calls laws s calls (u ∷ (us ++ DT octets ∷ rest)) small h))
 
--- ---- what is under way
+-- ---- what is in flight
 
--- the units ahead of the data, where it is under way in the other connection too
+-- the units ahead of the data, where it is in flight in the other connection too
 record Ahead (ms : List Message) (octets : List ℕ) (there : List Meaning) : Type 0 where
   units : List Meaning
   rest : List Meaning

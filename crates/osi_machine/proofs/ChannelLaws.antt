@@ -1,4 +1,4 @@
--- Channels: one more unit at the end, and what every unit on the way keeps.
+-- Channels: adding a unit at the end, and what every unit in flight preserves.
 use Rattle.std.proofs.Common.{◌≡◌, refl, sym, ◌∙◌, ap, subst, ℕ, Bool, true, false, if◌then◌else◌, List, [], ◌∷◌, ◌++◌, append_assoc, arith}
 use Rattle.osi_machine.proofs.Vocabulary.{State, Meaning, is_restart_due, next, Fits, AllFit, flush, stops, heard, hears, view_next, heard_view, data_in, data_of, Item}
 use Rattle.osi_machine.proofs.Units.{next_hears, due_next, due_stops, due_view, restart_due, chosen}
@@ -12,7 +12,7 @@ pub flush_append : (s : State) (us : List Meaning) (m : Meaning) → flush s (us
 flush_append s [] m = refl
 flush_append s (u ∷ us) m = flush_append (next s u) us m
 
--- ---- what every unit on the way keeps
+-- ---- what every unit in flight preserves
 
 pub kept_all : (P : State → Type 0) → ((s : State) (u : Meaning) → P s → Fits s u → P (next s u)) →
     (s : State) (us : List Meaning) → P s → AllFit s us → P (flush s us)
@@ -27,7 +27,7 @@ kept_heard P step s (u ∷ us) h f = chosen P (stops s u) _ _ h (kept_heard P st
 pub hears_kept : (s : State) (us : List Meaning) → hears s.phase ≡ true → AllFit s us → hears (flush s us).phase ≡ true
 hears_kept = kept_all (λ s. hears s.phase ≡ true) (λ s u h f. next_hears s u h)
 
--- ---- nothing acts that is under way to a side that owes the answer to a restart
+-- ---- no unit in flight to a side that owes the answer to a restart is acted on
 
 pub due_end : (s : State) (us : List Meaning) → is_restart_due s.phase ≡ true → AllFit s us → flush s us ≡ s
 due_end s [] h f = refl
@@ -42,7 +42,7 @@ due_heard s (u ∷ us) h f =
     let more = due_heard (next s u) us (subst (λ (r : State). is_restart_due r.phase ≡ true) (sym e) h) f.1 ∙ e in
     rw (due_stops s u h f.0) more
 
--- ---- where no restart stands, what is heard is all
+-- ---- if no restart takes effect, all is heard
 
 no_stop : (s : State) (u : Meaning) (us : List Meaning) → AllFit s (u ∷ us) → is_restart_due (flush s (u ∷ us)).phase ≡ false → stops s u ≡ false
 no_stop s u us f n = search (arith, restart_due, due_end)
@@ -56,7 +56,7 @@ pub heard_append : (s : State) (us : List Meaning) (m : Meaning) → AllFit s us
 heard_append s [] m f n = refl
 heard_append s (u ∷ us) m f n = rw (no_stop s u us f n) (heard_append (next s u) us m f.1 n)
 
--- where one stands already, a unit more changes nothing
+-- if one takes effect already, another unit changes nothing
 pub heard_append_due : (s : State) (us : List Meaning) (m : Meaning) → AllFit s (us ++ m ∷ []) → is_restart_due (flush s us).phase ≡ true →
     heard s (us ++ m ∷ []) ≡ heard s us
 heard_append_due s [] m f n = due_heard s (m ∷ []) n f
@@ -69,7 +69,7 @@ pub view_append : (s : State) (us : List Meaning) (m : Meaning) (v : List Item) 
 view_append s [] m v f n = refl
 view_append s (u ∷ us) m v f n = rw (no_stop s u us f n) (view_append (next s u) us m (view_next s u v) f.1 n)
 
--- where one stands already, a unit more shows nothing
+-- if one takes effect already, another unit shows nothing
 pub view_append_due : (s : State) (us : List Meaning) (m : Meaning) (v : List Item) → AllFit s (us ++ m ∷ []) → is_restart_due (flush s us).phase ≡ true →
     heard_view s (us ++ m ∷ []) v ≡ heard_view s us v
 view_append_due s [] m v f n = rw (due_stops s m n f.0) (due_view s m v n f.0)

@@ -1,4 +1,4 @@
--- The calls of MinorConfirm and of MajorConfirm keep what is true of both sides.
+-- The calls of MinorConfirm and of MajorConfirm keeps the invariant of both sides.
 use Rattle.std.proofs.Common.{◌≡◌, refl, sym, ◌∙◌, ap, subst, ℕ, ◌+◌, ◌-◌, ◌==◌, ◌≤◌, ◌<◌, Bool, true, false, not, ◌&&◌, ◌||◌, nat_le, nat_lt, if◌then◌else◌, List, [], ◌⊎◌, inl, inr, Ok, arith}
 use Rattle.osi_machine.proofs.Vocabulary.{append-nil, and_parts, ltb-true, leb-true, lt-ltb, le-leb, eq-eqb, cases_lt, and_from, list_any, State, Phase, Numbers, FunctionalUnits, Ready, MajorDue, Meaning, MIA, MAA, data_token, is_ready, is_major_asked, is_major_due, is_releasing, is_release_due, is_restarting, may_hold, may_confirm_minor, takes_minor_ack, lower, point_taken, minor_confirmed, major_confirmed, becomes, drops, next, Good, MinorConfirm, MajorConfirm, Item, points, AreNumberedFrom, seen, is_plain, AllFit, heard_view, stops, needs_token, Core, answered, is_opening}
 use Rattle.osi_machine.proofs.PhaseLaws.{implied_both, implied, excluded, implied_two, by_test}
@@ -49,7 +49,7 @@ same_base w a h = by_test (is_opening w.peer.session.phase)
 heeds : (w : Core) → Answers w.own.session → Stands w → not (is_restarting (hearing w.own w.peer).phase) ≡ true
 heeds w a h = kept_heard (λ (q : State). not (is_restarting q.phase) ≡ true) (λ q u p g. next_hears q u p) w.own.session w.peer.sent (ap not (listens w a)) h.own.fits
 
--- points go one way
+-- points flow one way
 there_sends : (w : Core) → Answers w.own.session → Stands w → (flushed w.peer w.own).numbers.answers ≡ false
 there_sends w a h = ap (λ (q : State). q.numbers.answers) (sym (ends_same w a h)) ∙ h.own_counts.flag a.answers
 
@@ -137,7 +137,7 @@ confirmed_below w n k h =
     let reach : lower w.own.session.numbers.next (flushed w.peer w.own).numbers.confirmed ≤ w.own.session.numbers.confirmed = was_reach w (own_answers w n k) h in
     search (arith, cases_lt, lower_from)
 
--- a major point that is still under way is no minor one
+-- a major point that is still in flight is no minor one
 confirm_above : (w : Core) (n : ℕ) → Confirms w n → Stands w → is_restarting (flushed w.peer w.own).phase ≡ false
     → (if is_major_asked (flushed w.peer w.own).phase then nat_lt (n + 1) (flushed w.peer w.own).numbers.next else nat_lt n (flushed w.peer w.own).numbers.next) ≡ true
 confirm_above w n k h l = search (arith, lt-ltb, seen_all, own_answers, other_number, there_base, ends_same, own_count, implied_two, and_from, heard_flush, heeds, major_came)

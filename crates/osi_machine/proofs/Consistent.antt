@@ -1,4 +1,4 @@
--- Each call and each unit keeps what is true of a side by itself.
+-- Each call and each unit keeps the invariant of one side.
 use Rattle.std.proofs.Common.{◌≡◌, refl, ◌∙◌, ℕ, ◌+◌, ◌≤◌, Bool, true, false, not, ◌||◌, nat_le, nat_lt, if◌then◌else◌, List, [], ◌∷◌, ◌++◌, arith}
 use Rattle.osi_machine.proofs.Vocabulary.{append-nil, leb-true, ltb-true, eqb-true, and_parts, State, Phase, Call, Accept, Data, Give, Please, Minor, MinorConfirm, Major, Restart, Release, Meaning, CN, AC, DT, GT, PT, MIP, MIA, MAP, RS, AA, is_ready, is_answering, is_connecting, is_wait_cn, is_major_due, is_releasing, is_restarting, may_give, may_ask, may_confirm_minor, takes_data, takes_please, takes_minor_ack, may_call, needs, after, is_acceptable, becomes, stands, from_base, point_sent, point_taken, minor_confirmed, major_confirmed, restarted_at, IsSound, Good, Item, Octets, Point, minor_kind, major_point, points, cutat, seen, got_in, Party, speaks, view_called, party_taking, is_opening, IsConsistent, AllHold}
 use Rattle.osi_machine.proofs.PhaseLaws.{implied, excluded}

@@ -1,4 +1,4 @@
--- Every step of the core keeps what is true of each side by itself.
+-- Every step of the core keeps the invariant of each side.
 use Rattle.std.proofs.Common.{◌≡◌, refl, sym, subst, true, List, [], ◌∷◌, ◌++◌, None, Ok, Err, arith}
 use Rattle.osi_machine.specs.Floor.{Input, Standing, react}
 use Rattle.osi_machine.specs.Core.{turned, called}
@@ -46,7 +46,7 @@ pub answered_kept : SessionLaws → (w : Core) (c : Call) (a : Answer) → HasSe
 answered_kept laws w c (Ok g) small e h = assumption (call_kept laws w.own c g small e h.own, small_append w.own.sent g.sent h.own_small (laws.sendable w.own.session c g h.own.sound small e).numbered)
 answered_kept laws w c (Err d) small e h = h
 
--- what a call gives that is granted
+-- the effect of a call that is granted
 abbrev pub granted : State → Call → Granted
 granted s c = record { next = after s c; sent = sends s c }
 

@@ -1,4 +1,4 @@
--- The call of Data keeps what is true of both sides.
+-- The call of Data keeps the invariant of both sides.
 use Rattle.std.proofs.Common.{◌≡◌, refl, sym, ◌∙◌, ap, subst, ℕ, ◌+◌, Bool, true, false, if◌then◌else◌, List, [], ◌∷◌, ◌++◌, Ok, append_assoc, arith}
 use Rattle.osi_machine.proofs.Vocabulary.{append-nil, State, FunctionalUnits, DT, data_token, has, available, is_ready, may_hold, is_restarting, is_restart_due, has_right, Data, drops, Item, Octets, Point, cutat, AreNumberedFrom, Owners, turned_owners, seen, AllFit, flush, heard, hears, view_next, heard_view, data_of, Party, Core, answered, is_opening, IsConsistent, AreConsistent, and_from, not-true, and_right}
 use Rattle.osi_machine.proofs.PhaseLaws.{implied, excluded, implied_two, by_either}

@@ -1,4 +1,4 @@
--- A connection that its caller has left before it was agreed to: nothing comes of it any more.
+-- A connection that its caller left before it was agreed to: nothing happens on it any more.
 use Rattle.std.proofs.Common.{◌≡◌, refl, sym, subst, ℕ, zero, suc, Bool, true, false, not, ◌||◌, List, [], ◌∷◌, take, ◌⊎◌, arith}
 use Rattle.osi_machine.proofs.Vocabulary.{list_any, Lost, Phase, Call, Answer, allowed, is_over, shows_loss, Message, Transport, waiting, gone, World, turned, session_of, put, after_answer, Terms, message_taken, ended_at, shown_at_end, is_waiting, without_first, Told, or_parts, not-true}
 use Rattle.osi_machine.proofs.PhaseLaws.{implied, if_no}

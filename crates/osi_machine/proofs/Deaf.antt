@@ -1,4 +1,4 @@
--- What is under way to a side that has asked for a restart, or that expects nothing.
+-- What is in flight to a side that has requested a restart, or that expects nothing.
 use Rattle.std.proofs.Common.{◌≡◌, refl, sym, ◌∙◌, ap, subst, ℕ, Bool, true, false, not, ◌&&◌, ◌||◌, if◌then◌else◌, List, [], ◌∷◌, ◌++◌, ◌⊎◌, inl, inr, arith}
 use Rattle.osi_machine.proofs.Vocabulary.{TokenSetting, ResyncType, State, RestartDue, Meaning, RS, is_restarting, is_restart_due, is_expected, has_no_effect, passes_restarting, without_tokens, restarted_at, stands, drops, next, Item, seen, is_plain, Fits, AllFit, flush, stops, heard, hears, view_next, heard_view, or_left}
 use Rattle.osi_machine.proofs.PhaseLaws.{excluded, if_first, by_test}
@@ -78,7 +78,7 @@ pub stood : (s : State) (n : ℕ) (w : TokenSetting) → stands s n ≡ true
     → crossed s n w ≡ record (without_tokens RestartDue s) { wishes = w; numbers = restarted_at n s.numbers }
 stood s n w e = ap (λ (b : Bool). if b then record (without_tokens RestartDue s) { wishes = w; numbers = restarted_at n s.numbers } else s) e
 
--- one that does not stand shows nothing
+-- a restart that does not take effect shows nothing
 pub yielded_view : (s : State) (k : ResyncType) (n : ℕ) (w : TokenSetting) (o : List ℕ) (v : List Item) → stands s n ≡ false → view_next s (RS k n w o) v ≡ v
 yielded_view s k n w o v e = grind arith
 
@@ -91,9 +91,9 @@ pub view_restart : (s : State) (us : List Meaning) (k : ResyncType) (n : ℕ) (w
     → is_restart_due (flush s us).phase ≡ false → heard_view s (us ++ RS k n w o ∷ []) v ≡ heard_view s us v
 view_restart s us k n w o v f due = search (arith, view_append, yielded_view)
 
--- ---- a side that has asked for a restart, and will wait for the answer when all is taken
+-- ---- a side that has requested a restart, and will wait for the answer when all was taken
 
--- a unit changes nothing there and shows nothing, or is the answer or a restart that stands
+-- a unit changes nothing there and shows nothing, or is the answer or a restart that takes effect
 abbrev Passes : State → Meaning → State → Type 0
 Passes s u r = ((r ≡ s) × ((v : List Item) → view_next s u v ≡ v)) ⊎ (hears r.phase ≡ true)
 

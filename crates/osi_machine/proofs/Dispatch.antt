@@ -1,4 +1,4 @@
--- Every step of the core keeps what is true of both sides.
+-- Every step of the core keeps the invariant of both sides.
 use Rattle.std.proofs.Common.{◌≡◌, refl, sym, subst, true, false, List, [], ◌∷◌, Ok, Err, arith}
 use Rattle.osi_machine.specs.Core.{turned, called}
 use Rattle.osi_machine.proofs.Vocabulary.{AllByRecursion, Granted, Answer, Call, Accept, Data, Give, Please, Minor, MinorConfirm, Major, MajorConfirm, Restart, RestartConfirm, Release, ReleaseRefuse, HasSerial, Meaning, CN, AC, RF, DT, GT, PT, MIP, MIA, MAP, MAA, RS, RA, FN, DN, NF, AB, AA, stands, drops, allowed, is_empty, Owner, Owners, turned_owner, turned_owners, is_plain, AllFit, Core, CoreStep, call_at, take_at, Side, Left, Right, stays_in_core, answered, taking, takes, at_side, core_step, core_run, IsNumberedStep, not-true}

@@ -1,5 +1,5 @@
--- While no class is known each connection waits for its caller's first message, or is dead; and where a called
--- end denies, no agreement is under way.
+-- While no class is known, each connection waits for its caller's first message, or is dead; and if a called end
+-- denies, no agreement is in flight.
 use Rattle.std.proofs.Common.{◌≡◌, refl, sym, subst, ℕ, Bool, true, false, List, ◌∷◌, take, Ok, Err, inl, inr, arith}
 use Rattle.osi_machine.proofs.Vocabulary.{append-nil, list_any, Call, Answer, allowed, Message, unit, agree, bye, waiting, World, turned, session_of, after_answer, Terms, denies, message_taken, closed, ended_at, without_first, Told, or_parts}
 use Rattle.osi_machine.proofs.Lines.{cut_to}

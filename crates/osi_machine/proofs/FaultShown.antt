@@ -1,4 +1,4 @@
--- After every list of steps no entry of the journal is a fault that is shown, whatever its reference.
+-- After every list of steps, no entry of the journal indicates a fault, whatever its reference.
 use Rattle.std.proofs.Common.{◌≡◌, refl, sym, ◌∙◌, ap, ℕ, zero, suc, ◌<◌, Bool, true, false, ◌||◌, if◌then◌else◌, List, [], ◌∷◌, length, Option, Some, None, arith}
 use Rattle.osi_machine.specs.Examples.{for_asker}
 use Rattle.osi_machine.proofs.Vocabulary.{or_assoc, or-false, or-true, list_any, slice_get, Call, no_sizes, Offer, Side, Left, Right, World, Machine, Entry, shown_at, connection_at, Told, told_call, told_entry, told_by, is_of, record_of, untold, told_of, IsRun, is_fault, HasNoFault, or_parts}

@@ -1,5 +1,4 @@
--- A side that gives tokens away: what is under way to it goes on fitting, and leaves it the same but for
--- those tokens.
+-- A side that gives tokens away: what is in flight to it still fits, and has the same effect except on those tokens.
 use Rattle.std.proofs.Common.{◌≡◌, refl, sym, ◌∙◌, ap, subst, Bool, true, false, not, ◌&&◌, ◌||◌, List, ◌⊎◌, inl, inr, arith}
 use Rattle.osi_machine.proofs.Vocabulary.{and_parts, or_left, and_from, not-true, State, Tokens, Meaning, DT, GT, MIP, MAP, FN, Token, data_token, minor, major, release, has, some, is_empty, is_within, is_disjoint, without, united, available, lacks, may_ask, is_restart_due, becomes, stands, Good, Item, Fits, stops, view_next}
 use Rattle.osi_machine.proofs.PhaseLaws.{excluded, cut_or}
@@ -60,7 +59,7 @@ fewer_good k s (MAP n o) g = search (two_lack, still_lacks)
 fewer_good k s (FN o) g = record { expected = g.expected; met = (still_empty k s g.met.0, tt) }
 fewer_good k s _ g = record { expected = g.expected; met = g.met }
 
--- ---- what is under way to it
+-- ---- what is in flight to it
 
 -- a side that holds all of these tokens, one at least, and asks for nothing but the answer to a major point
 pub record Gives (k : Tokens) (s : State) : Type 0 where
@@ -68,7 +67,7 @@ pub record Gives (k : Tokens) (s : State) : Type 0 where
   pub all : (t : Token) → has k t ≡ true → has s.held t ≡ true
   pub one : is_empty k ≡ false
 
--- the same but for these tokens, until a restart stands
+-- the same except for these tokens, until a restart takes effect
 abbrev pub Fewer : Tokens → State → State → Type 0
 Fewer k s r = ((r ≡ less k s) × Gives k s) ⊎ ((r ≡ s) × (is_restart_due s.phase ≡ true))
 
@@ -95,7 +94,7 @@ fewer_becomes : (k : Tokens) (s : State) (u : Meaning) → Fits s u → Good s u
 unfolding stands
 fewer_becomes k s u f g st h = search (arith, excluded, and_parts, given_and_got, united_has, or_left, gives_something)
 
--- a restart that stands leaves the same
+-- a restart that takes effect leaves the same
 stands_same : (k : Tokens) (s : State) (u : Meaning) → stops s u ≡ true → becomes (less k s) u ≡ becomes s u
 unfolding stands
 stands_same k s u st = grind arith
@@ -120,7 +119,7 @@ pub fewer_shows : (k : Tokens) (s r : State) (u : Meaning) (v : List Item) → F
 fewer_shows k s r u v (inl (e, h)) = ap (λ (q : State). view_next q u v) e ∙ less_shows k s u v
 fewer_shows k s r u v (inr (e, d)) = ap (λ (q : State). view_next q u v) e
 
--- all but the tokens is the same
+-- everything except the tokens is the same
 pub but_held : (k : Tokens) (s r : State) → Fewer k s r → r ≡ record s { held = r.held }
 but_held k s r (inl (e, h)) = e ∙ ap (λ (held : Tokens). record s { held = held }) (sym (ap (λ (q : State). q.held) e))
 but_held k s r (inr (e, d)) = e ∙ ap (λ (held : Tokens). record s { held = held }) (sym (ap (λ (q : State). q.held) e))

@@ -1,4 +1,4 @@
--- The call of Give keeps what is true of both sides.
+-- The call of Give keeps the invariant of both sides.
 use Rattle.std.proofs.Common.{◌≡◌, refl, sym, ◌∙◌, ap, subst, ℕ, Bool, true, false, not, ◌&&◌, ◌||◌, if◌then◌else◌, List, [], ◌∷◌, ◌++◌, inl, inr, Ok, arith}
 use Rattle.osi_machine.proofs.Vocabulary.{append-nil, State, FunctionalUnits, GT, Tokens, Token, has, available, is_empty, is_within, may_give, may_ask, may_hold, is_restarting, is_restart_due, Give, drops, next, Item, cutat, Owner, ToThem, turned_owner, turned_owners, is_own, is_to_own, is_absent, passed_to, Fits, flush, heard, hears, heard_view, data_of, Party, Core, answered, is_opening, AreConsistent, and_from}
 use Rattle.osi_machine.proofs.PhaseLaws.{implied_both, implied, excluded, by_either}
@@ -11,7 +11,7 @@ use Rattle.osi_machine.proofs.DataCall.{none_owed}
 use Rattle.osi_machine.proofs.Fewer.{less, Gives, Fewer, fewer_step, fewer_shows, but_held, within_has, disjoint_of}
 use Rattle.osi_machine.proofs.Retoken.{Like, like, itself, Tokens_of, retoken, recount}
 
--- ---- a token that is given: held no longer, owned by neither, on its way
+-- ---- a token that is given: no longer held, owned by neither, in flight
 
 still_held : (b h : Bool) (p : Owner) → h ≡ is_own p → (h && not b) ≡ is_own (if b then ToThem else p)
 still_held b h p e = grind arith

@@ -1,4 +1,5 @@
--- What a side will have seen when it has heard all before a restart that stands, and what is confirmed then.
+-- What a side will have seen when it has heard everything before a restart that takes effect, and what is confirmed
+-- then.
 use Rattle.std.proofs.Common.{◌≡◌, refl, sym, ◌∙◌, ap, subst, ℕ, ◌+◌, ◌≤◌, true, false, List, [], ◌∷◌, ◌++◌, append_assoc, arith}
 use Rattle.osi_machine.proofs.Vocabulary.{append-nil, State, Meaning, DT, MIP, MAP, RS, point_taken, minor_confirmed, major_confirmed, becomes, drops, Good, next, Item, Octets, Point, minor_kind, major_point, points, Begins, seen, is_plain, Fits, AllFit, stops, heard, hears, view_next, heard_view, Party, is_opening, IsConsistent}
 use Rattle.osi_machine.proofs.Records.{hearing, Views}
@@ -61,6 +62,6 @@ pub listener_count : (h : List Item) (x y : Party) → IsConsistent x → AllFit
     → (hearing x y).numbers.next ≡ (hearing x y).base + points h
 listener_count h x y c f v l = search (arith, heard_counted)
 
--- what it has seen begins the history
+-- what it has seen is a prefix of the history
 pub listener_begins : (h : List Item) (x y : Party) → Views h x y → hears (hearing x y).phase ≡ true → Begins x.view h
 listener_begins h x y v l = subst (Begins x.view) (v.ends l) (heard_more x.session y.sent x.view)

@@ -21,7 +21,7 @@ upto_twice (suc k) (suc n) [] le = refl
 upto_twice (suc k) (suc n) (Octets octets ∷ h) le = ap (λ (r : List Item). Octets octets ∷ r) (upto_twice (suc k) (suc n) h le)
 upto_twice (suc k) (suc n) (Point m kind octets ∷ h) le = ap (λ (r : List Item). Point m kind octets ∷ r) (upto_twice k n h (omega arith))
 
--- what is cut off lies behind as many points
+-- the part cut off has the points after these
 pub upto_append : (k : ℕ) (h more : List Item) → k ≤ points h → upto k (h ++ more) ≡ upto k h
 upto_append zero h more le = refl
 upto_append (suc k) [] more le = absurd (omega arith)
@@ -46,7 +46,7 @@ points_below (suc k) [] = omega arith
 points_below (suc k) (Octets octets ∷ h) = points_below (suc k) h
 points_below (suc k) (Point m kind octets ∷ h) = let e = points_below k h in omega arith
 
--- where what a restart leaves was seen, more at the end changes it nothing
+-- adding at the end changes nothing of what a restart leaves, if that was seen
 pub cut_append : (base n : ℕ) (h more v : List Item) → v ≡ cutat base h n → n ≡ base + points v → cutat base (h ++ more) n ≡ cutat base h n
 cut_append base n h more v e c = grind (arith, points_below, upto_append)
 
@@ -58,7 +58,7 @@ points_upto_least (suc k) [] = omega arith
 points_upto_least (suc k) (Octets octets ∷ h) = points_upto_least (suc k) h
 points_upto_least (suc k) (Point n kind octets ∷ h) = let e = points_upto_least k h in omega arith
 
--- a restart leaves as many points of what has as many
+-- a restart leaves equally many points of two histories with equally many points
 pub cut_points : (a b n : ℕ) (g h : List Item) → a ≡ b → points g ≡ points h → points (cutat a g n) ≡ points (cutat b h n)
 cut_points a b n g h e q =
     ap (λ (x : ℕ). points (cutat x g n)) e ∙ points_upto_least (n - b) g ∙ ap (λ (x : ℕ). (n - b) - ((n - b) - x)) q ∙ sym (points_upto_least (n - b) h)

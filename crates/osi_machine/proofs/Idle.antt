@@ -141,7 +141,7 @@ please_fits o x y tokens octets h asks within = record {
 
 -- ---- what is seen after such a call
 
--- where this side holds the data token or with duplex, what it adds is seen last
+-- if this side holds the data token or with duplex, what it adds is seen last
 pub own_views : (h h' : List Item) (x y : Party) (m : Meaning) (v : List Item) (said : List (List ℕ)) → IsIdle m → AllFit x.session y.sent
     → is_restarting x.session.phase ≡ false → is_restart_due x.session.phase ≡ false
     → (hears (hearing x y).phase ≡ true → heard_view x.session y.sent v ≡ h')

@@ -1,4 +1,4 @@
--- What the moves of one connection keep is true of each connection of a machine, whatever its steps.
+-- What the moves of one connection preserve is true of each connection of a machine, whatever its steps.
 use Rattle.std.proofs.Common.{◌≡◌, refl, sym, ◌∙◌, ap, subst, ℕ, zero, suc, ◌+◌, ◌==◌, ◌≤◌, Bool, true, false, ◌&&◌, if◌then◌else◌, List, [], ◌∷◌, ◌++◌, map, take, Option, Some, None, arith}
 use Rattle.osi_machine.proofs.Vocabulary.{ne_eqb, eq-eqb, slice_get, Shown, CallError, Call, HasSerial, allowed, is_profile, Offer, CanBeOffered, Side, Left, Right, Message, World, turned, session_of, asked_with, after_answer, Taking, Terms, message_taken, closed, ended_at, shown_at_end, Entry, call_answered, shown_at, replaced, is_given, error_of, without_first, Told, told_call, told_shown, told_by, is_side, record_of, untold, told_of}
 use Rattle.osi_machine.proofs.ViewFold.{told_all}
@@ -19,8 +19,7 @@ cut_to left right w = record w {
   peer = record w.peer { channel = take right w.peer.channel };
 }
 
--- What is said of a connection with its offer and of what the records of both sides tell, and kept by each
--- of its moves.
+-- A statement about a connection, its offer, and what the records of both sides tell, that each of its moves preserves.
 pub record IsKept (terms : Terms) (P : Bool → World → Offer → Told → Told → Type 0) : Type 0 where
   pub starts : (o : Offer) → CanBeOffered o → is_profile o.requirements ≡ true → P false (asked_with o) o (untold Left o) (untold Right o)
   pub lost : (o : Offer) → CanBeOffered o → is_profile o.requirements ≡ true

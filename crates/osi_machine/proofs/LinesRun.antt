@@ -1,4 +1,4 @@
--- What the moves of one connection keep is true of each connection of a machine after every list of steps.
+-- What the moves of one connection preserve is true of each connection of a machine after every list of steps.
 use Rattle.std.proofs.Common.{◌≡◌, refl, sym, ◌∙◌, ap, subst, ℕ, zero, suc, ◌+◌, ◌==◌, ◌<◌, ◌≤◌, Bool, true, false, ◌&&◌, if◌then◌else◌, List, [], ◌∷◌, ◌++◌, map, length, length-append, Option, Some, None, is_some, append_assoc, arith}
 use Rattle.osi_session.specs.declared.faults.CallError.TheVariants as error
 use Rattle.osi_machine.specs.Machine.{ends_there}
@@ -32,11 +32,11 @@ mute_lines P b j es k (w ∷ ws) [] f h = absurd h
 pub record IsGood (terms : Terms) (P : Bool → World → Offer → Told → Told → Type 0) (m : Machine) : Type 0 where
   pub offers : List Offer
   pub lines : Lines P m.broken m.journal 1 m.worlds offers
-  -- nothing is told of a reference that was not given, nor of 0
+  -- nothing is informed of a reference that was not given, nor of 0
   pub fresh : (d : Side) (n : ℕ) (o : Offer) → length m.worlds < n → told_of d n o m.journal ≡ untold d o
   pub none : (d : Side) (o : Offer) → told_of d 0 o m.journal ≡ untold d o
   pub agreed : m.terms ≡ terms
-  -- the journal tells what was asked for
+  -- the journal has the offers
   pub asked : offers_in m.journal ≡ offers
 
 -- a note that tells nothing
@@ -91,7 +91,7 @@ move_good terms P k m side (suc r) w v es f e by tells none moves g = record {
         (sym (told_same (other side) (suc r) o m.journal es (by (other side) (suc r) (ap (λ (b : Bool). b && (suc r == suc r)) (other_side side)))))
         (moves o _ _ (to_side terms P k m.broken side w o (λ d. told_of d (suc r) o m.journal) h)))
 
--- ---- a connection is asked for
+-- ---- a connection is requested
 
 append_line : (P : Bool → World → Offer → Told → Told → Type 0) (b : Bool) (j : List Entry) (k : ℕ) (ws : List World) (os : List Offer) (w : World) (o : Offer)
     → P b w o (told_of Left (k + length ws) o j) (told_of Right (k + length ws) o j) → Lines P b j k ws os → Lines P b j k (ws ++ w ∷ []) (os ++ o ∷ [])

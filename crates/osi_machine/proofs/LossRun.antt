@@ -1,4 +1,4 @@
--- After every list of steps, a side is shown a loss only where it was told of a break or found no memory.
+-- After every list of steps, a user is told of a loss only if its end was told of a break or ran out of memory.
 use Rattle.std.proofs.Common.{◌≡◌, refl, sym, ◌∙◌, ap, subst, ℕ, zero, suc, ◌+◌, Bool, true, false, not, ◌&&◌, ◌||◌, if◌then◌else◌, List, [], ◌∷◌, ◌++◌, map, Option, Some, None, is_some, inl, inr, ◌⊎◌, arith}
 use Rattle.osi_session.specs.declared.faults.CallError.TheVariants as error
 use Rattle.osi_machine.specs.Machine.{ends_there}
@@ -253,7 +253,7 @@ call_calm terms m side r x g (Some w) e c =
 
 -- ---- the end of a side
 
--- the entries of an end, where no connection shows a loss
+-- the entries of an end, if no connection shows a loss
 marked_calm : (side : Side) (e : Ending) (m : Machine) → ((d : Side) → loses (end_of d (marked_ended side e m)) ≡ false → list_any (is_loss d) m.journal ≡ false)
     → by_terms m.terms m.known ≡ true → (is_class_2 m.terms ≡ false → OneAlive m.worlds) → (is_known m.known ≡ false → AllByRecursion IsEarly m.worlds) → (is_denial m.terms ≡ true → AllByRecursion NoAgree m.worlds)
     → IsCalm (marked_ended side e m)
@@ -265,7 +265,7 @@ end_journal : (d side : Side) (e : Ending) (m : Machine) → list_any (is_loss d
 end_journal d side e m h k =
     none_more (is_loss d) m.journal (shown_in_order side 1 m.worlds ++ ended side e ∷ []) h (none_more (is_loss d) (shown_in_order side 1 m.worlds) (ended side e ∷ []) k refl)
 
--- a side ends that is told of a break or finds no memory
+-- a side ends that is told of a break or runs out of memory
 own_loses : (d side : Side) (e : Ending) (m : Machine) → loses (Some e) ≡ true → loses (end_of d (marked_ended side e m)) ≡ false → (is_side d side ≡ false) × (loses (end_of d m) ≡ false)
 own_loses d side e m t n = grind arith
 
@@ -406,7 +406,7 @@ delivery_calm : SessionLaws → (terms : Terms) (m : Machine) (side : Side) (r :
 delivery_calm laws terms m side r keep i g c None e = c
 delivery_calm laws terms m side r keep i g c (Some w) e = taken_calm laws m side r keep w e i (stage_of terms m g r w e) c (seen_from side w).peer.channel refl
 
--- ---- a connection is asked for
+-- ---- a connection is requested
 
 dead_all : (ws : List World) → AllByRecursion IsEarly ws → list_any is_waiting (map transport_of ws) ≡ false → AllByRecursion IsDead ws
 dead_all [] h e = tt

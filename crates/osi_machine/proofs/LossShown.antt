@@ -1,4 +1,4 @@
--- No message that is taken shows a loss, and no agreement is under way where a called end denies.
+-- No message that is taken indicates a loss, and no agreement is in flight if a called end denies.
 use Rattle.std.proofs.Common.{◌≡◌, refl, sym, ◌∙◌, ap, ℕ, Bool, true, false, List, ◌∷◌, inl, inr, arith}
 use Rattle.osi_machine.proofs.Vocabulary.{list_any, Shown, Lost, State, Meaning, take_expected, respond_unit, shown_for, shows_loss, Message, unit, ask, agree, deny, bye, over, Transport, not_yet, waiting, linked, closing, gone, World, session_of, Terms, accepts, denies, message_taken, without_first, Told}
 use Rattle.osi_machine.proofs.Projects.{stopped}
@@ -23,7 +23,7 @@ unit_keeps s u = search (arith, good_keeps)
 
 -- ---- a message
 
--- a close comes only where the session is over
+-- a close comes only if the session is over
 close_quiet : (b : Bool) (w : World) (t u : Told) (r : ℕ) (ms : List Message) → Stage b w t u → w.peer.channel ≡ bye r ∷ ms → shows_loss w.own.kept.phase ≡ false
 close_quiet b w t u r ms (inl h) e = absurd (none h.way (sym e ∙ h.peer_channel))
   where

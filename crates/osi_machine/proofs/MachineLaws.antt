@@ -99,7 +99,7 @@ same_duplex : (c : Core) → Stands c → is_opening c.own.session.phase ≡ fal
 same_duplex c s e f = ap (λ (u : FunctionalUnits). u.duplex)
     (sym (flush_open c.peer.session c.own.sent f s.peer.fits).units ∙ sym s.own.meeting.units ∙ (flush_open c.own.session c.peer.sent e s.own.fits).units)
 
--- so that duplex is selected at a side that is open, where either record tells so
+-- so that duplex is selected at a side that is open, if either record tells so
 either_duplex : (a b d : Bool) → a ≡ d → (b ≡ false) ⊎ (b ≡ d) → (a || b) ≡ true → d ≡ true
 either_duplex a b d p q h = grind arith
 

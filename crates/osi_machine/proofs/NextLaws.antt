@@ -1,4 +1,4 @@
--- Data that is first under way to a side is no fault there; and a side that is left is over.
+-- Data that is first in flight to a side is no fault there; and a side whose transport connection closes is over.
 use Rattle.std.proofs.Common.{◌≡◌, refl, sym, ◌∙◌, subst, ℕ, Bool, true, false, List, [], ◌∷◌, map, Some, inl, inr, arith}
 use Rattle.osi_session.proofs.VerdictLaws.{good_is_fine}
 use Rattle.osi_machine.proofs.Vocabulary.{cases_Bool, list_any, verdict, is_faulty, State, Meaning, DT, is_over, Fits, AllFit, Message, unit, World, turned, session_of, Machine, connection_at, Told, IsRun, Tables, IsTableRun, AtEachSide, IsNoFaultNext, is_leaving, IsOverWhenLeft}

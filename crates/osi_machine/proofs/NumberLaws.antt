@@ -1,4 +1,4 @@
--- The lower of two numbers, and what the units on the way do to the direction of points.
+-- The lower of two numbers, and how units in flight change the direction of points.
 use Rattle.std.proofs.Common.{◌≡◌, ℕ, ◌≤◌, ◌<◌, true, false, nat_lt, List, [], ◌∷◌, arith}
 use Rattle.osi_machine.proofs.Vocabulary.{ltb-true, ltb-false, or_parts, list_any, State, Meaning, data_token, lower, point_taken, minor_confirmed, major_confirmed, restarted_at, becomes, next, Good, is_plain, AllFit, heard, stops, needs_token, is_opening}
 use Rattle.osi_machine.proofs.PhaseLaws.{by_test}

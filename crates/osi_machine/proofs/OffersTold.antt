@@ -1,4 +1,4 @@
--- The journal tells what was asked for with each connection.
+-- The journal has the offer of each connection.
 use Rattle.std.proofs.Common.{◌≡◌, refl, ◌∙◌, ap, ℕ, ◌+◌, List, [], ◌∷◌, ◌++◌, map, None}
 use Rattle.osi_machine.proofs.Vocabulary.{append-nil, Shown, Offer, Side, World, shown_at_end, Entry, connect_answered, shown_at, Machine, seen_from, shown_in_order, offers_in}
 

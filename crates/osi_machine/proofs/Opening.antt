@@ -1,4 +1,4 @@
--- What is under way while a connection is being opened: nothing that acts.
+-- While a connection is being opened, nothing in flight is acted on.
 use Rattle.std.proofs.Common.{◌≡◌, refl, subst, true, false, List, [], ◌∷◌, arith}
 use Rattle.osi_machine.proofs.Vocabulary.{State, Phase, Meaning, is_connecting, is_answering, is_restarting, is_expected, has_no_effect, passes_restarting, becomes, drops, Good, next, is_plain, Fits, AllFit, flush, both_ways}
 use Rattle.osi_machine.proofs.PhaseLaws.{excluded}
@@ -21,7 +21,7 @@ becomes_later s u p g = grind arith
 waiting_drops : (s : State) (u : Meaning) → Fits s u → is_connecting (next s u).phase ≡ true → drops s u ≡ true
 waiting_drops s u f c = search (arith, both_ways, becomes_later, next_acted)
 
--- it has waited all the time, and nothing was under way
+-- it has waited all the time, and nothing was in flight
 pub waiting : (s : State) (us : List Meaning) → is_connecting (flush s us).phase ≡ true → AllFit s us → AllEmpty us × (is_connecting s.phase ≡ true)
 waiting s [] c f = (tt, c)
 waiting s (u ∷ us) c f =

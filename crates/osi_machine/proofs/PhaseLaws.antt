@@ -1,4 +1,4 @@
--- What is true of each phase, by one computation over all of them.
+-- What holds in each phase, by one computation over all phases.
 use Rattle.std.proofs.Common.{◌≡◌, refl, Bool, true, false, not, ◌&&◌, ◌||◌, ◌⊎◌, if◌then◌else◌, inl, inr, arith}
 use Rattle.osi_machine.specs.Floor.{Phase, WaitTransport, WaitCn, Connecting, Answering, Ready, MajorAsked, MajorDue, Releasing, ReleaseDue, Restarting, RestartDue, Aborting, Ended}
 

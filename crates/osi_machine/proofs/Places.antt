@@ -1,4 +1,4 @@
--- What stands at a reference, after one connection is another, after one more, an end and a break.
+-- The connection at a reference, after one is replaced, after one is added, and after an end and a break.
 use Rattle.std.proofs.Common.{◌≡◌, refl, ◌∙◌, ap, subst, ℕ, zero, suc, ◌+◌, ◌<◌, ◌≤◌, true, List, [], ◌∷◌, ◌++◌, length, Option, Some, None, is_some, arith}
 use Rattle.osi_machine.specs.Tables.{seen_from, cut_channels}
 use Rattle.osi_machine.proofs.Vocabulary.{AllByRecursion, slice_get, Side, connection_at, replaced, with_connection, Line, ends_there, ended_lines, cut_line}

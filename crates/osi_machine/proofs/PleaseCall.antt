@@ -1,4 +1,4 @@
--- The call of Please keeps what is true of both sides.
+-- The call of Please keeps the invariant of both sides.
 use Rattle.std.proofs.Common.{◌≡◌, refl, sym, ◌∙◌, ap, subst, ℕ, Bool, true, ◌&&◌, List, [], ◌∷◌, ◌++◌, Ok}
 use Rattle.osi_machine.proofs.Vocabulary.{append-nil, list_any, State, Meaning, PT, Tokens, data_token, available, may_ask, is_within, is_restarting, Please, Item, cutat, AreNumberedFrom, turned_owners, AllFit, heard, hears, data_of, needs_token, Party, Core, answered, AreConsistent}
 use Rattle.osi_machine.proofs.ChannelLaws.{fit_append, data_append}

@@ -1,4 +1,4 @@
--- The calls of Minor and of Major keep what is true of both sides.
+-- The calls of Minor and of Major keeps the invariant of both sides.
 use Rattle.std.proofs.Common.{◌≡◌, refl, sym, ◌∙◌, ap, subst, ℕ, ◌+◌, ◌≤◌, ◌<◌, Bool, true, false, not, ◌&&◌, ◌||◌, nat_le, nat_lt, if◌then◌else◌, List, [], ◌∷◌, ◌++◌, ◌⊎◌, inl, inr, Ok, arith}
 use Rattle.osi_machine.proofs.Vocabulary.{and_parts, ltb-true, leb-true, lt-ltb, le-leb, eq-eqb, or_left, and_from, not-true, not-false, and_right, list_any, State, Phase, Numbers, FunctionalUnits, Ready, MajorAsked, Meaning, DT, GT, PT, MIP, MIA, MAP, RS, FN, Token, data_token, minor, major, has, available, has_right, is_ready, is_major_asked, is_restarting, is_restart_due, may_ask, may_hold, takes_please, takes_minor_ack, takes_restart, lower, point_sent, point_taken, minor_confirmed, becomes, drops, next, Good, has_no_effect, passes_restarting, Minor, Major, after, Item, PointKind, Point, points, minor_kind, major_point, AreNumberedFrom, is_plain, heard_view, stops, needs_token, Core, answered, is_opening, AreConsistent}
 use Rattle.osi_machine.proofs.PhaseLaws.{implied_both, implied, excluded, by_test}
@@ -161,14 +161,14 @@ same_base w a h = by_test (is_opening w.peer.session.phase)
     (λ e. inr e)
     (λ e. inl (sym (flush_open w.peer.session w.own.sent e h.peer.fits).base ∙ there_base w a h))
 
--- the number of this side, just before a restart that stands
+-- the number of this side, just before a restart that takes effect
 heard_number : (w : Core) → Points w → Stands w → (hearing w.own w.peer).numbers.next ≡ w.own.session.base + points w.history
 heard_number w a h = search (arith, heard_counted, heard_open, excluded, heeds)
 
 nothing_needed : (w : Core) → Points w → Stands w → list_any (needs_token data_token) w.peer.sent ≡ false
 nothing_needed w a h = none_needs data_token w.own.session w.peer.sent (holding w a h) h.own.fits
 
--- where points were taken last here, none is under way there
+-- if points were taken last here, none is under way there
 both_answer : (w : Core) → Points w → Stands w → (hearing w.own w.peer).numbers.answers ≡ true → (flushed w.peer w.own).numbers.answers ≡ false
 both_answer w a h t = search (arith, ends_same, heard_sends, nothing_needed)
 

@@ -1,4 +1,4 @@
--- A call at a whole connection, and in the core.
+-- A call on a whole connection, and on its core.
 use Rattle.std.proofs.Common.{◌≡◌, refl, sym, ◌∙◌, ap, subst, ℕ, Bool, true, false, ◌||◌, if◌then◌else◌, List, [], ◌∷◌, ◌++◌, append_assoc, map, length, inl, inr, Ok, arith}
 use Rattle.osi_machine.proofs.Vocabulary.{append-nil, length-append, map-append, list_any, Passed, State, Meaning, Token, is_over, Call, Granted, allowed, after, sends, may_call, Numbers, Item, Owner, Owners, is_own, turned_owner, given_up, own_to_pool, left_by, is_plain, Core, stays_in_core, says, view_called, owners_called, answered, Message, unit, Kept, World, put, mark_called, after_call}
 use Rattle.osi_machine.proofs.CoreLaws.{SessionLaws, granted}
@@ -14,7 +14,7 @@ pub any_append : (p : Message → Bool) (ms : List Message) (m : Message) → p 
 any_append p [] m h = rw h refl
 any_append p (x ∷ ms) m h = ap (λ (b : Bool). p x || b) (any_append p ms m h)
 
--- where the sender is not over, no last unit is under way
+-- if the sender is not over, no last unit is in flight
 pub none_last : (s : State) (lost tail : List Meaning) → IsTail false s lost tail → tail ≡ []
 none_last s lost tail h = grind arith
 

@@ -1,4 +1,4 @@
--- A close, a break and the end of a side at a whole connection: to the core nothing has happened.
+-- A close, a break and the end of a side on a whole connection: for the core nothing has happened.
 use Rattle.std.proofs.Common.{◌≡◌, refl, sym, ◌∙◌, ap, ℕ, zero, suc, Bool, true, false, ◌||◌, List, [], ◌∷◌, ◌++◌, map, take, arith}
 use Rattle.osi_machine.specs.Core.{turned}
 use Rattle.osi_machine.proofs.Vocabulary.{list_any, State, Meaning, lost, Core, Message, unit, bye, over, Transport, linked, gone, World, session_of, moved, shortened, closed, ended_at, turned as turned_world, without_first, or_parts}

@@ -1,4 +1,4 @@
--- A message is taken where a connection was asked for and not yet agreed to; the first that a caller takes
+-- A message is taken on a connection that was requested and not yet agreed to. The first message that a caller takes
 -- agrees to it, and the core begins.
 use Rattle.std.proofs.Common.{◌≡◌, refl, sym, ◌∙◌, ap, subst, ℕ, Bool, true, false, List, [], ◌∷◌, ◌++◌, ◌⊎◌, inl, inr, arith}
 use Rattle.osi_machine.specs.Core.{turned}
@@ -58,7 +58,7 @@ pub record OpenTaken (broken : Bool) (t u : Told) (k : Taking) : Type 0 where
   pub stays_open : k.closes ≡ false
   pub leads : Opens k.world (told_all t k.shown) u ⊎ Repeats broken k.world (told_all t k.shown) u
 
--- what was under way is gone
+-- what was in flight is gone
 answered : (w : World) (t u : Told) → Opens w t u → w.own.channel ≡ [] → Opens (without_first w []) t u
 answered w t u h e = search arith
 

@@ -1,4 +1,4 @@
--- A whole connection that was asked for and not yet agreed to: nobody owns, sees or sends anything.
+-- A whole connection that was requested and not yet agreed to: nobody owns, sees or sends anything.
 use Rattle.std.proofs.Common.{◌≡◌, refl, sym, ◌∙◌, ap, ℕ, zero, Bool, true, false, not, ◌||◌, List, [], ◌∷◌, take, ◌⊎◌, inl, inr, Err, arith}
 use Rattle.osi_session.specs.declared.faults.CallError.TheVariants as error
 use Rattle.osi_machine.proofs.Vocabulary.{take-nil, State, Phase, Token, Call, CallError, allowed, may_call, is_over, is_wait_transport, is_wait_cn, is_profile, awaiting, Owner, Absent, Owners, own_to_pool, turned_owner, left_by, Offer, CanBeOffered, Left, Right, Message, ask, agree, deny, Transport, not_yet, waiting, linked, gone, Kept, kept_of, End, World, session_of, asked_with, ended_at, shown_at_end, turned as turned_world, Told, untold, or_left, or_right}
@@ -45,7 +45,7 @@ caller_zero x (inr h) = h.zero_now
 pub called_zero : (x : End) → Idle not_yet x ⊎ (Idle linked x ⊎ Left_it x) → AreZero x.kept.confirmed x.kept.base x.mark
 called_zero x h1 = search arith
 
--- what is under way
+-- what is in flight
 pub data Way : Type 0 where
   nothing_sent : Way
   asked : Way
@@ -130,7 +130,7 @@ absent_left s o k e = by_test (is_over s.phase) (λ q. rw q (ap own_to_pool e)) 
 pub absent_back : (p : Owner) → turned_owner p ≡ Absent → p ≡ Absent
 absent_back p e = grind arith
 
--- what is left of what is under way
+-- what is left of what is in flight
 abbrev cut_asks : ℕ → Way → Way
 cut_asks zero asked = nothing_sent
 cut_asks k way = way

@@ -1,4 +1,4 @@
--- A message that is taken, a close, a break and an end at a whole connection that was agreed to.
+-- A message that is taken, a close, a break and an end on a whole connection that was agreed to.
 use Rattle.std.proofs.Common.{◌≡◌, refl, sym, ◌∙◌, ap, subst, ℕ, Bool, true, false, List, [], ◌∷◌, take, arith}
 use Rattle.osi_machine.proofs.Vocabulary.{State, shows_loss, lost, Message, unit, ask, agree, deny, bye, over, Transport, not_yet, waiting, linked, closing, gone, World, session_of, moved, moves, put, shortened, unchanged, Terms, message_taken, closed, ended_at, shown_at_end, without_first, Told}
 use Rattle.osi_machine.proofs.CoreLaws.{SessionLaws}

@@ -1,4 +1,4 @@
--- A unit is taken at a whole connection, and in the core.
+-- A unit is taken on a whole connection, and on its core.
 use Rattle.std.proofs.Common.{◌≡◌, refl, sym, ◌∙◌, ap, subst, ℕ, ◌+◌, Bool, true, false, not, ◌&&◌, ◌||◌, if◌then◌else◌, List, [], ◌∷◌, ◌++◌, map, length, Option, Some, None, ◌⊎◌, inl, inr, arith}
 use Rattle.osi_machine.specs.Core.{turned}
 use Rattle.osi_machine.proofs.Vocabulary.{or_parts, append-nil, length-append, list_any, TokenSetting, TsduMaximumSize, State, Meaning, CN, AC, RF, GT, RS, RA, AB, Token, has, is_over, is_acceptable, are_sizes, has_data, functional_units, respond_unit, becomes, stands, reply_for, Item, cutat, Owners, is_own, turned_owner, left_by, is_acted_on, seen, got_in, cut_by, owners_after, is_plain, Fits, Core, taking, Message, unit, World, put, mark_after, replied, after_unit, turned as turned_world, without_first}
@@ -12,7 +12,7 @@ use Rattle.osi_machine.proofs.Projects.{stopped, parts, Alike, IsLast, IsTail, C
 use Rattle.osi_machine.proofs.ProjectCall.{left_lives, left_theirs, none_last}
 use Rattle.osi_machine.proofs.PhaseLaws.{by_test}
 
--- a restart that stands leaves of the history what it leaves of what was seen
+-- a restart that takes effect leaves of the history what it leaves of what was seen
 abbrev CutsAlike : State → Meaning → List Item → List Item → Type 0
 CutsAlike s (RS k n x o) h v = stands s n ≡ true → cutat s.base v n ≡ cutat s.base h n
 CutsAlike s u h v = Unit {0}
@@ -161,7 +161,7 @@ take_projects broken w c u us ms p all then_all lives e rest =
       peer = giver_side broken w c u us ms k;
     }
 
--- ---- the first unit under way is that of the core's channel, or the last of a side that is over
+-- ---- the first unit in flight is that of the core's channel, or the last of a side that is over
 
 pub record First (broken over_now : Bool) (u : Meaning) (ms : List Message) (sent : List Meaning) (s : State) : Type 0 where
   pub rest : List Meaning

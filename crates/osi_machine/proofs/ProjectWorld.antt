@@ -1,4 +1,4 @@
--- A whole connection at every step: one of which nothing is lost repeats it, and the records of both sides
+-- A whole connection at every step: a connection on which nothing is lost simulates it, and the records of both sides
 -- tell what that one has seen.
 use Rattle.std.proofs.Common.{◌≡◌, refl, sym, ◌∙◌, ap, subst, Bool, true, false, if◌then◌else◌, List, [], ◌∷◌, inl, inr, Ok, Err, arith}
 use Rattle.osi_session.specs.declared.faults.CallError.TheVariants as error

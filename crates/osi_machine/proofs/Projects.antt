@@ -1,5 +1,5 @@
--- How a whole connection is repeated by one of which nothing is lost. A side that is over is left as it was;
--- to the other, an abort, an end, a break or a loss is a side that has gone silent.
+-- How a connection on which nothing is lost simulates a whole connection. A side that is over stays as it was; for the
+-- other side, an abort, an end, a break or a loss is a side that has gone silent.
 use Rattle.std.proofs.Common.{◌≡◌, sym, ◌∙◌, ap, ℕ, ◌+◌, Bool, true, false, not, ◌||◌, List, [], ◌∷◌, ◌++◌, map, length, take, ◌⊎◌, arith}
 use Rattle.osi_machine.specs.Core.{turned}
 use Rattle.osi_machine.proofs.Vocabulary.{take-append_seam, list_any, State, Meaning, RF, DN, AB, Token, is_over, is_answering, is_release_due, Item, points, Begins, is_own, owned, is_plain, Party, Core, Message, unit, bye, over, Transport, not_yet, waiting, linked, kept_of, End, World, session_of, turned as turned_world}
@@ -49,8 +49,8 @@ IsTail over_now s lost [] = Unit {0}
 IsTail over_now s lost (u ∷ []) = (over_now ≡ true) × (lost ≡ []) × IsLast s u
 IsTail over_now s lost (u ∷ v ∷ us) = ⊥
 
--- What is under way to a side is the first units of the core's channel, all of them unless the sender is
--- over or the connection broken; and behind them perhaps the last unit of a sender that is over.
+-- What is in flight to a side is a prefix of the core's channel, all of it unless the sender is over or the connection
+-- broken; and after it perhaps the last unit of a sender that is over.
 pub record Carried (broken over_now : Bool) (channel : List Message) (sent : List Meaning) (s : State) : Type 0 where
   pub there : List Meaning
   pub lost : List Meaning
@@ -81,7 +81,7 @@ pub record Projects (broken : Bool) (w : World) (c : Core) : Type 0 where
   pub own : OneSide broken w c
   pub peer : OneSide broken (turned_world w) (turned c)
 
--- ---- where both sides are over, nothing is said but that
+-- ---- if both sides are over, only that is said
 
 pub not_both : {A : Type 0} (b : Bool) → b ≡ true → b ≡ false → A
 not_both b p q = absurd (cc)

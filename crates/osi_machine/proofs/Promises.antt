@@ -1,4 +1,4 @@
--- What follows for two users from what is true of both sides.
+-- What two users may rely on, from the invariant of both sides.
 use Rattle.std.proofs.Common.{◌≡◌, refl, sym, ◌∙◌, ap, subst, ℕ, zero, suc, ◌+◌, ◌-◌, ◌≤◌, ◌<◌, Bool, true, false, not, if◌then◌else◌, List, [], ◌∷◌, ◌++◌, length, length-append, inl, inr, append_assoc, arith}
 use Rattle.osi_machine.proofs.Vocabulary.{append-nil, is_profile, State, Numbers, Meaning, DT, MIP, MAP, FunctionalUnits, is_restarting, Item, Octets, Point, PointKind, points, upto, AreNumberedFrom, Begins, Agree, is_acted_on, seen, cut_by, data_of, Offer, CanBeOffered, Party, Core, taking, core_start, is_opening, IsReached, OneHolder, HoldsItsOwn, TakesNoFault, SeesTheHistory, ViewsAgree, GotWhatWasSaid, TakesTheNextItem, ConfirmedIsSeen}
 use Rattle.osi_machine.proofs.Records.{hearing, Views, Stands}
@@ -14,7 +14,7 @@ use Rattle.osi_machine.proofs.Dispatch.{taking_stands, run_stands}
 use Rattle.osi_machine.proofs.DataCall.{said_seen}
 use Rattle.osi_machine.proofs.PhaseLaws.{by_test}
 
--- ---- it is true of each connection that came about
+-- ---- the invariant holds of each connection that is reached
 
 pub offer_stands : (o : Offer) → CanBeOffered o → is_profile o.requirements ≡ true → Stands (core_start o)
 offer_stands o serial profile = search (arith, profile_of, starts_stand, profile_data)
@@ -51,7 +51,7 @@ view_begins h x y v = by_test (is_restarting (hearing x y).phase)
 pub sees_the_history : (w : Core) → Stands w → SeesTheHistory w
 sees_the_history w s = view_begins w.history w.own w.peer s.own_views
 
--- two lists with which a third begins
+-- two prefixes of one list
 abbrev tail_of : {A : Type 0} → List A → List A
 tail_of [] = []
 tail_of (x ∷ xs) = xs

@@ -1,9 +1,9 @@
--- What is true of two sides and what is under way between them. Each line is stated for the side x that
--- takes what y sends, and holds for both.
+-- The invariant of two sides and what is in flight between them. Each clause is stated for the side x that takes what y
+-- sends, and holds for both.
 use Rattle.std.specs.Prelude.{◌≡◌, ℕ, ◌≤◌, ◌<◌, Bool, true, false, not, ◌&&◌, ◌||◌, List, [], ◌++◌}
 use Rattle.osi_machine.proofs.Vocabulary.{list_any, State, Phase, FunctionalUnits, Connecting, Answering, Ready, MajorAsked, MajorDue, Releasing, ReleaseDue, Restarting, RestartDue, Token, data_token, has, available, lower, is_restarting, is_restart_due, is_connecting, is_release_due, is_releasing, may_hold, Item, cutat, AreNumberedFrom, Owners, is_own, is_to_own, is_absent, turned_owners, AllFit, flush, heard, hears, heard_view, data_of, needs_token, Party, Core, AreConsistent}
 
--- the state of x when it has taken all that y has sent, and just before a restart that stands
+-- the state of x when it has taken all that y has sent, and just before a restart that takes effect
 abbrev pub flushed : Party → Party → State
 flushed x y = flush x.session y.sent
 
@@ -30,10 +30,10 @@ pub record Meeting (o : Owners) (now end other_end heard : State) (other : State
   pub meets : matched end.phase other_end.phase ≡ true
   pub units : end.units ≡ other_end.units
   pub base : end.base ≡ other_end.base
-  -- the asker and the answerer mean the same
+  -- the asker and the answerer mean the same restart
   pub restart : is_restarting end.phase ≡ true → (end.numbers.next ≡ other_end.numbers.next) × (end.wishes ≡ other_end.wishes)
   pub connect : is_connecting end.phase ≡ true → (end.wishes ≡ other_end.wishes) × (end.proposed ≡ other_end.proposed)
-  -- what is held is owned, and what is on its way will be held
+  -- what is held is owned, and what is in flight will be held
   pub holds : (t : Token) → has now.held t ≡ is_own (o t)
   pub wants : may_hold heard.phase ≡ true → (t : Token) → has heard.held t ≡ (is_own (o t) || is_to_own (o t))
   pub absent : (t : Token) → has (available end.units) t ≡ false → is_absent (o t) ≡ true
@@ -41,7 +41,7 @@ pub record Meeting (o : Owners) (now end other_end heard : State) (other : State
   pub released : is_release_due heard.phase ≡ true → is_releasing other.phase ≡ true
 
 pub record Half (o : Owners) (x y : Party) : Type 0 where
-  -- no unit under way will be a fault
+  -- no unit in flight will be a fault
   pub fits : AllFit x.session y.sent
   pub meeting : Meeting o x.session (flushed x y) (flushed y x) (hearing x y) y.session
 
@@ -49,7 +49,7 @@ pub record Half (o : Owners) (x y : Party) : Type 0 where
 pub record Views (h : List Item) (x y : Party) : Type 0 where
   -- a listener will have seen all
   pub ends : hears (hearing x y).phase ≡ true → heard_view x.session y.sent x.view ≡ h
-  -- a side that has asked for a restart has seen what it leaves
+  -- a side that has requested a restart has seen what the restart leaves
   pub cut : is_restarting (hearing x y).phase ≡ true → x.view ≡ cutat x.session.base h x.session.numbers.next
   -- while an answer is due its asker has seen all
   pub due : is_restart_due x.session.phase ≡ true → y.view ≡ h
@@ -57,7 +57,7 @@ pub record Views (h : List Item) (x y : Party) : Type 0 where
 
 -- The numbers: of a side, as they are and just before a restart; and of the other.
 pub record Counting (now heard : State) (other_heard other : State) : Type 0 where
-  -- points go one way
+  -- points flow one way
   pub flag : now.numbers.answers ≡ true → other_heard.numbers.answers ≡ false
   -- what is confirmed was seen
   pub below : hears other_heard.phase ≡ true → (n : ℕ) → heard.base ≤ n → n < heard.numbers.confirmed → n < other.numbers.next

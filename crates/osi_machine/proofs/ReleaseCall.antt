@@ -1,4 +1,4 @@
--- The calls of Release and of ReleaseRefuse keep what is true of both sides.
+-- The calls of Release and of ReleaseRefuse keeps the invariant of both sides.
 use Rattle.std.proofs.Common.{◌≡◌, refl, sym, ◌∙◌, ap, subst, ℕ, ◌≤◌, ◌<◌, Bool, true, false, not, ◌&&◌, ◌||◌, List, [], ◌∷◌, ◌++◌, Ok, arith}
 use Rattle.osi_machine.proofs.Vocabulary.{append-nil, and_parts, not-true, or_parts, and_right, list_any, State, Phase, Numbers, FunctionalUnits, Ready, Releasing, ReleaseDue, Tokens, Meaning, DT, GT, PT, MIP, MIA, MAP, RS, FN, NF, Token, data_token, minor, major, has, available, each, has_right, is_empty, is_within, is_disjoint, is_ready, is_releasing, is_release_due, is_restarting, is_restart_due, lower, passes_restarting, has_no_effect, may_hold, becomes, next, Good, Release, ReleaseRefuse, AreNumberedFrom, turned_owners, is_plain, Fits, AllFit, flush, stops, heard_view, needs_token, Core, answered, is_opening}
 use Rattle.osi_machine.proofs.PhaseLaws.{implied_both, implied, excluded, by_either, by_test}

@@ -1,4 +1,4 @@
--- The call of Restart keeps what is true of both sides.
+-- The call of Restart keeps the invariant of both sides.
 use Rattle.std.proofs.Common.{◌≡◌, refl, sym, ◌∙◌, ap, subst, ℕ, ◌+◌, ◌-◌, ◌≤◌, true, false, ◌||◌, List, [], ◌∷◌, ◌++◌, Ok, arith}
 use Rattle.osi_spdu.specs.declared.fields.ResyncType.TheVariants as resync
 use Rattle.osi_machine.proofs.Vocabulary.{append-nil, leb-true, and_parts, TokenSetting, State, FunctionalUnits, RS, has, available, is_restarting, is_restart_due, is_release_due, restarted_at, is_restartable, offered, Restart, IsSound, Item, points, cutat, Begins, Owner, turned_owner, turned_owners, is_own, is_to_own, is_absent, own_to_pool, given_up, flush, heard, hears, data_of, Party, Core, answered, AreConsistent}

@@ -1,4 +1,4 @@
--- The call of RestartConfirm keeps what is true of both sides.
+-- The call of RestartConfirm keeps the invariant of both sides.
 use Rattle.std.proofs.Common.{◌≡◌, refl, sym, ◌∙◌, ap, subst, ℕ, Bool, true, false, not, ◌&&◌, if◌then◌else◌, List, [], ◌∷◌, ◌++◌, Ok, arith}
 use Rattle.osi_machine.proofs.Vocabulary.{append-nil, eq-eqb, and_from, TokenSetting, State, FunctionalUnits, Sides, Ready, Meaning, RA, Tokens, Token, has, available, settle, setting_of, of_answerer, is_restarting, is_restart_due, may_hold, RestartConfirm, becomes, next, turned_owners, settled_by, Fits, flush, heard, heard_view, data_of, Party, Core, answered, AreConsistent}
 use Rattle.osi_machine.proofs.PhaseLaws.{excluded, implied_two}
@@ -28,7 +28,7 @@ answerer x a o = record { session = confirmed x.session a; view = x.view ++ []; 
 abbrev restarted : Core → Sides → List ℕ → State
 restarted w a o = becomes (flushed w.peer w.own) (answer w.own.session a o)
 
--- ---- what is under way: nothing to this side, and nothing that the other heeds
+-- ---- what is in flight: nothing to this side, and nothing that the other heeds
 
 none_under_way : (w : Core) → is_restart_due w.own.session.phase ≡ true → Stands w → AllEmpty w.peer.sent
 none_under_way w due s =

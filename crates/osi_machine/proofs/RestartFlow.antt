@@ -1,4 +1,4 @@
--- What is under way to a side when it asks for a restart: all of it is discarded, but for one restart.
+-- What is in flight to a side when it requests a restart: all of it is discarded, except for a restart.
 use Rattle.std.proofs.Common.{◌≡◌, refl, ℕ, Bool, true, false, ◌||◌, List, [], ◌∷◌, ◌⊎◌, inl, arith}
 use Rattle.osi_machine.proofs.Vocabulary.{and_parts, TokenSetting, ResyncType, State, Meaning, RS, is_restarting, is_restart_due, passes_restarting, restarted_at, stands, next, Item, Fits, AllFit, flush, stops, heard, heard_view}
 use Rattle.osi_machine.proofs.PhaseLaws.{excluded, if_first, by_test}
@@ -7,14 +7,14 @@ use Rattle.osi_machine.proofs.Begun.{becomes_open, is_lively, Lively, becomes_li
 use Rattle.osi_machine.proofs.Deaf.{AllEmpty, all_empty, empty_fits, empty_end, empty_heard, empty_view, crossed, restart_kept, restart_next, yielded, stood}
 use Rattle.osi_machine.proofs.ShiftCall.{drops_waiting}
 
--- The one side asks for nothing, the other asks for a restart; their units and base are the same.
+-- One side requests nothing, the other requests a restart; their units and base are the same.
 pub record Asks (s r : State) : Type 0 where
   pub lives : Lively s
   pub asked : is_restarting r.phase ≡ true
   pub units : r.units ≡ s.units
   pub base : r.base ≡ s.base
 
--- what is under way to the one, and what it is to the other
+-- what is in flight to the one, and what it is to the other
 pub record Flow (s r : State) (us : List Meaning) : Type 0 where
   pub fits : AllFit r us
   pub heard : heard r us ≡ r

@@ -1,4 +1,4 @@
--- How two sides meet after one of them has asked for a restart.
+-- The states of two sides after one of them has requested a restart.
 use Rattle.std.proofs.Common.{◌≡◌, refl, sym, ◌∙◌, ap, subst, ℕ, ◌+◌, ◌==◌, ◌≤◌, Bool, true, false, not, ◌&&◌, ◌||◌, nat_le, nat_lt, List, inl, inr, arith}
 use Rattle.osi_spdu.specs.declared.fields.ResyncType.TheVariants as resync
 use Rattle.osi_machine.proofs.Vocabulary.{lt-ltb, le-ltb, le-leb, eq-eqb, ne_eqb, cases_order, and_from, not-true, TokenSetting, State, FunctionalUnits, Restarting, RS, may_restart, takes_restart, is_restarting, is_restart_due, is_connecting, without_tokens, restarted_at, stands, points, Fits, flush, hears, Core, is_opening}
@@ -14,13 +14,13 @@ use Rattle.osi_machine.proofs.Heard.{begins_points, listener_count, listener_beg
 use Rattle.osi_machine.proofs.RestartFlow.{Flow, restart_flow}
 use Rattle.osi_machine.proofs.Shift.{listening_stands}
 
--- ---- which of two restarts stands
+-- ---- which of two restarts takes effect
 
 asked_stands : (s : State) (n : ℕ) → is_restarting s.phase ≡ true → stands s n ≡ (nat_lt n s.numbers.next || ((n == s.numbers.next) && not s.is_caller))
 unfolding stands
 asked_stands s n r = rw r refl
 
--- of two that cross the one stands where the other does not
+-- of two restarts that cross, exactly one takes effect
 of_two : (n m : ℕ) (c : Bool) → (nat_lt m n || ((m == n) && not c)) ≡ not (nat_lt n m || ((n == m) && not (not c)))
 of_two n m c = search (arith, cases_order, le-ltb, eq-eqb, lt-ltb, ne_eqb)
 
@@ -93,7 +93,7 @@ other_units w n q s = sym s.own.meeting.units ∙ end_units w.owner w.own w.peer
 pub other_base : (w : Core) (n : ℕ) → Restarts w n → Stands w → (flushed w.peer w.own).base ≡ w.own.session.base
 other_base w n q s = sym s.own.meeting.base ∙ (flush_open w.own.session w.peer.sent (begun w n q) s.own.fits).base
 
--- where no restart comes to this side the other takes one, and where one comes the other has asked
+-- if no restart arrives at this side, the other takes one; if one arrives, the other has requested it
 pub other_takes : (w : Core) → Stands w → Lively (flushed w.own w.peer)
     → (takes_restart (flushed w.peer w.own).phase ≡ true) × (is_restarting (flushed w.peer w.own).phase ≡ false)
 other_takes w s l = search (arith, and_from, implied_two, not-true)

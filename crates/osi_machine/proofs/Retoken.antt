@@ -1,4 +1,4 @@
--- The lines of a half, and of the numbers, where only tokens move.
+-- The clauses on one side and on numbers, if only tokens change.
 use Rattle.std.proofs.Common.{◌≡◌, refl, ap, true, false, ◌||◌, arith}
 use Rattle.osi_machine.proofs.Vocabulary.{State, Token, has, available, may_hold, Owners, is_own, is_to_own, is_absent}
 use Rattle.osi_machine.proofs.Records.{matched, Meeting, Counting}

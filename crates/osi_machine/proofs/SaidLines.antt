@@ -1,4 +1,4 @@
--- What each side of a connection said, what the other heard of it, and what is under way: at one line.
+-- On one connection: what each side sent, what the other received of it, and what is in flight.
 use Rattle.std.proofs.Common.{◌≡◌, refl, sym, ◌∙◌, ap, ℕ, zero, suc, Bool, true, false, ◌||◌, List, [], ◌∷◌, ◌++◌, append_assoc, take, drop, Option, Ok, inl, inr, ◌⊎◌, arith}
 use Rattle.osi_session.specs.Phases.{is_ended}
 use Rattle.osi_machine.proofs.Vocabulary.{append-nil, list_any, Input, broken as broken_off, Standing, react, after_input, may_abort, State, Meaning, Call, Granted, allowed, Begins, Message, unit, agree, deny, Transport, not_yet, waiting, put, replied, one_or_none, units_in}
@@ -73,8 +73,8 @@ no_agree_put false reason [] e = refl
 no_agree_put false reason (agree ∷ ch) e = absurd (cc)
 no_agree_put false reason (x ∷ ch) e = no_agree_put false reason ch e
 
--- ---- what is carried: what was heard, what is under way, and what was lost, are what was said; nothing
--- was lost where the speaker has not stopped
+-- ---- what was received, followed by what is in flight and what was lost, is what was sent; nothing was lost unless
+-- the sender has stopped
 
 pub record Carried (stopped : Bool) (ch : List Message) (said heard : List Meaning) : Type 0 where
   pub lost : List Meaning
@@ -85,7 +85,7 @@ pub record Carried (stopped : Bool) (ch : List Message) (said heard : List Meani
 pub same_units : (a b : Bool) (xs ys : List Message) (said heard : List Meaning) → units_in ys ≡ units_in xs → (a ≡ true → b ≡ true) → Carried a xs said heard → Carried b ys said heard
 same_units a b xs ys said heard e f h = search arith
 
--- what stood behind so many messages is lost
+-- what followed after this many messages is lost
 pub fewer_units : (a b : Bool) (k : ℕ) (ch : List Message) (said heard : List Meaning) → b ≡ true → Carried a ch said heard → Carried b (take k ch) said heard
 fewer_units a b k ch said heard stop h = record {
   lost = units_in (drop k ch) ++ h.lost;
@@ -103,7 +103,7 @@ first_heard a u ms said heard h = record {
   whole = h.whole;
 }
 
--- a unit is said: after a break it is lost, and else it is put
+-- a unit is sent: after a break it is lost, otherwise it is put into the channel
 one_said : (b parts : Bool) (ch : List Message) (said heard : List Meaning) (u : Meaning) → (parts ≡ true → ⊥) → Carried (b || parts) ch said heard
     → Carried (b || parts) (put b (unit u ∷ []) ch) (said ++ u ∷ []) heard
 one_said true parts ch said heard u n h = record {

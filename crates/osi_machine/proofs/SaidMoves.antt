@@ -1,4 +1,4 @@
--- What each side of a connection said, and what the other heard of it, over all that may happen to a line.
+-- What each side of a connection sent, and what the other received of it, over all that may happen to the connection.
 use Rattle.std.proofs.Common.{◌≡◌, refl, sym, ◌∙◌, ap, subst, ℕ, Bool, true, false, ◌||◌, List, [], ◌∷◌, take, Option, Some, None, Ok, Err, arith}
 use Rattle.osi_session.specs.Moves.{answered as answered_move}
 use Rattle.osi_session.specs.Phases.{is_over, is_ended, is_wait_transport}
@@ -21,9 +21,9 @@ ended_over p e = implied is_ended is_over refl p e
 
 -- ---- a side beside the other
 
--- Its session awaits the transport connection as long as there is none, and is over once that closes; before
--- there is one no unit is under way from it. As long as there is none at the other side, its own user can call
--- nothing and no unit is under way from it, and not both sides await it.
+-- While a side has no transport connection, its session awaits it, and no unit is in flight from it; once the transport
+-- connection closes, the session is over. While the other side has none, this side's user can call nothing and no unit
+-- is in flight from it; and not both sides await it.
 pub record Fits (own peer : Seat) : Type 0 where
   pub waits : own.transport ≡ waiting → is_wait_transport own.session.state.phase ≡ true
   pub over_now : is_parting own.transport ≡ true → is_over own.session.state.phase ≡ true
@@ -33,7 +33,7 @@ pub record Fits (own peer : Seat) : Type 0 where
   pub unsaid : is_early peer.transport ≡ true → units_in own.channel ≡ []
   pub first : own.transport ≡ waiting → peer.transport ≡ waiting → ⊥
 
--- what one side said, and what the other heard of it
+-- what one side sent, and what the other received of it
 pub record Way (broken : Bool) (own peer : Seat) (said heard : List Meaning) : Type 0 where
   pub begins : Begins heard said
   pub carried : is_parting peer.transport ≡ false → Carried (broken || is_parting own.transport) own.channel said heard
@@ -47,7 +47,7 @@ pub record Told (broken : Bool) (l : Line) (own peer : Words) : Type 0 where
 pub turned_told : (b : Bool) (l : Line) (x y : Words) → Told b l x y → Told b (turned l) y x
 turned_told b l x y h = record { own_fits = h.peer_fits; peer_fits = h.own_fits; out = h.back; back = h.out }
 
--- ---- how a side may change, with what is then under way from it
+-- ---- how a side may change, with what is then in flight from it
 
 -- seen from the side that stays: the other's transport connection is there, or closes
 past : (own peer peer' : Seat) → is_early peer'.transport ≡ false → Fits own peer → Fits own peer'
@@ -62,7 +62,7 @@ opened_fits : (own' peer : Seat) → is_early own'.transport ≡ false → (is_p
     → (is_early peer.transport ≡ true → may_abort own'.session.state.phase ≡ false) → (is_early peer.transport ≡ true → units_in own'.channel ≡ []) → Fits own' peer
 opened_fits own' peer e o m u = grind (arith, is_early)
 
--- a side parts: its session is over, and of what is under way from it units may be lost
+-- a side parts: its session is over, and of what is in flight from it units may be lost
 parts_told : (b : Bool) (l : Line) (own' : Seat) (x y : Words) → is_parting own'.transport ≡ true → is_early own'.transport ≡ false → is_over own'.session.state.phase ≡ true
     → (is_early l.peer.transport ≡ true → units_in own'.channel ≡ []) → (is_parting l.peer.transport ≡ false → Carried true own'.channel x.said y.heard)
     → Told b l x y → Told b (record l { own = own' }) x y
@@ -110,7 +110,7 @@ none_heard b l x y h = subst (λ (us : List Meaning). Told b l (record { said = 
 nothing_put : (b : Bool) (l : Line) (x y : Words) → Told b l x y → Told b (record l { own = record l.own { channel = put b [] l.own.channel } }) x y
 nothing_put b l x y h = search (arith, append-nil)
 
--- where a call is accepted the transport connection is there at both sides, or closes at the other
+-- if a call is accepted the transport connection is there at both sides, or closes at the other
 linked_there : (tr : Transport) (p : Phase) → is_given tr ≡ true → may_abort p ≡ true → (tr ≡ waiting → is_wait_transport p ≡ true) → (is_parting tr ≡ true → is_over p ≡ true) → tr ≡ linked
 linked_there tr p g m w o = grind (arith, waits_mute, over_mute)
 

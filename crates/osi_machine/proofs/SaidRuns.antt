@@ -1,4 +1,4 @@
--- What each side of a connection said, and what the other heard of it, over lists of steps.
+-- What each side of a connection sent, and what the other received of it, over lists of steps.
 use Rattle.std.proofs.Common.{◌≡◌, refl, sym, ◌∙◌, ap, subst, ℕ, zero, suc, ◌+◌, Bool, true, false, not, ◌&&◌, ◌||◌, ◌==◌, if◌then◌else◌, List, [], ◌∷◌, ◌++◌, append_assoc, map, Option, Some, None, is_some, inl, inr, ◌⊎◌, arith}
 use Rattle.osi_session.specs.Phases.{is_ended}
 use Rattle.osi_machine.specs.Tables.{after_call, message_taken, closed, start, seen_from, side_of, end_of, stays, noted, refusal, asked_in, call_in, marked_ended, after_end, closes_by, without_first, taken_in, delivered_to, cut_channels, step, run}
@@ -10,7 +10,7 @@ use Rattle.osi_machine.proofs.PhaseLaws.{by_test}
 
 -- ---- one reference
 
--- what its two sides said and heard; nothing where there is no connection
+-- what its two sides sent and received; nothing if there is no connection
 abbrev Holds : Bool → Words → Words → Option Line → Type 0
 Holds b x y None = (x ≡ silent) × (y ≡ silent)
 Holds b x y (Some l) = Told b l x y

@@ -20,7 +20,7 @@ settle_side u w a t = side_by (λ t. settled (has (available u) t) (wish_for w t
 setting_wish : (s : Sides) (t : Token) → wish_for (setting_of s) t ≡ wish_of (side_for s t)
 setting_wish s t = grind arith
 
--- what is settled is stated as it is
+-- what is settled is stated unchanged
 named : (b : Bool) (w : Wish) (s : Side) → stated_side b (wish_of (settled b w s)) ≡ settled b w s
 named b w s = grind arith
 

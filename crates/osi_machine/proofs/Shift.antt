@@ -1,5 +1,5 @@
--- A call that changes no more of a side than its phase and its numbers: what is under way to it goes on
--- fitting, and leaves it the same but for that change, until a restart stands.
+-- A call that changes only the phase and the numbers of a side: what is in flight to it still fits, and has the same
+-- effect except for that change, until a restart takes effect.
 use Rattle.std.proofs.Common.{◌≡◌, refl, sym, ◌∙◌, ap, subst, ℕ, Bool, true, false, not, ◌&&◌, ◌||◌, if◌then◌else◌, List, [], ◌∷◌, ◌⊎◌, inl, inr, arith}
 use Rattle.osi_machine.proofs.Vocabulary.{list_any, State, TokenSetting, Meaning, RS, RestartDue, may_hold, is_restarting, is_restart_due, has_no_effect, passes_restarting, restarted_at, without_tokens, becomes, stands, drops, next, Good, Item, seen, is_plain, Fits, AllFit, flush, stops, heard, view_next, heard_view, or_parts}
 use Rattle.osi_machine.proofs.PhaseLaws.{excluded, by_test}
@@ -18,8 +18,8 @@ pub record Still (s r : State) : Type 0 where
 pub still : (s : State) → Still s s
 still s = record { units = refl; wishes = refl; held = refl; proposed = refl; base = refl; is_caller = refl }
 
--- What such a change does (to), what is true before it (inv), and the units that never come (never). A
--- good unit stays good, and comes to the same before the change and behind it.
+-- The effect of such a change (to), what is true before it (inv), and the units that never arrive (never). A good unit
+-- stays good, and leads to the same state before the change and after it.
 pub record Shift : Type 1 where
   pub never : Meaning → Bool
   pub to : State → State
@@ -80,7 +80,7 @@ pub shifted_still : (k : Shift) (s r : State) → Shifted k s r → Still s r
 shifted_still k s r (inl (e, i)) = subst (Still s) (sym e) (k.same s i)
 shifted_still k s r (inr d) = d.same
 
--- a restart that stands leaves both the same but for V(A), V(R) and the flag
+-- a restart that takes effect leaves both the same except for V(A), V(R) and the flag
 abbrev restarted : State → ℕ → TokenSetting → State
 restarted s n w = record (without_tokens RestartDue s) { wishes = w; numbers = restarted_at n s.numbers }
 
@@ -114,7 +114,7 @@ stood_next k s u i st =
     (subst (Due (becomes s u)) (sym (next_acted (k.to s) u (restart_acted (k.to s) u there)))
     (stood_due s (k.to s) u st there (k.same s i)))
 
--- where both owe the answer, only what is discarded fits
+-- if both owe the answer, only what is discarded fits
 due_drops : (s : State) (u : Meaning) → is_restart_due s.phase ≡ true → Fits s u → drops s u ≡ true
 due_drops s u h f = by_test (drops s u) (λ d. d) (λ d. absurd (let n = none_due s.phase u h f.plain in let e = (f.good d).expected in cc))
 
@@ -129,7 +129,7 @@ due_fits s r (u ∷ us) d f =
       due_fits (next s u) (next r u) us (subst (λ (x : State). Due x (next r u)) (sym p) (subst (Due s) (sym q) d)) f.1,
     )
 
--- ---- all that is under way
+-- ---- all that is in flight
 
 pub record Shifts (k : Shift) (s : State) (us : List Meaning) : Type 0 where
   pub fits : AllFit (k.to s) us
@@ -195,7 +195,7 @@ shift_view k s (u ∷ us) v i n f =
     by true e more = first true e ∙ sym (last true e)
     by false e more = first false e ∙ ap (heard_view (next (k.to s) u) us) seen_there ∙ more e ∙ sym (last false e)
 
--- where nothing is excluded
+-- if nothing is excluded
 pub none_never : (us : List Meaning) → list_any (λ u. false) us ≡ false
 none_never [] = refl
 none_never (u ∷ us) = none_never us

@@ -1,5 +1,5 @@
--- A call that changes no more of a side than its phase and its numbers: what has to be known of it, so that
--- all that is true of both sides stays.
+-- A call that changes only the phase and the numbers of a side: the conditions under which it keeps the invariant of
+-- both sides.
 use Rattle.std.proofs.Common.{◌≡◌, refl, sym, ◌∙◌, ap, subst, ℕ, ◌≤◌, ◌<◌, Bool, true, false, not, ◌&&◌, ◌||◌, if◌then◌else◌, List, [], ◌∷◌, ◌++◌, ◌⊎◌, inl, inr, arith}
 use Rattle.osi_machine.proofs.Vocabulary.{append-nil, list_any, State, FunctionalUnits, Tokens, Meaning, Token, has, available, data_token, lower, is_answering, is_connecting, is_release_due, is_releasing, is_restarting, is_restart_due, may_hold, has_no_effect, passes_restarting, becomes, drops, next, Good, Item, cutat, AreNumberedFrom, turned_owners, is_own, is_to_own, seen, is_plain, Fits, flush, stops, heard, hears, view_next, heard_view, data_in, data_of, needs_token, Party, Core, AreConsistent, and_from, not-true}
 use Rattle.osi_machine.proofs.PhaseLaws.{implied_both, excluded, implied_two, by_either, by_test}
@@ -19,7 +19,7 @@ sender x r m more = record { session = r; view = x.view ++ more; said = x.said +
 abbrev pub after_sending : Core → State → Meaning → List Item → Core
 after_sending w r m more = record { history = w.history ++ more; owner = w.owner; own = sender w.own r m more; peer = w.peer }
 
--- what has to be known of the unit by itself
+-- the conditions on the unit by itself
 pub record IsUnit (m : Meaning) : Type 0 where
   pub plain : is_plain m ≡ true
   pub effect : has_no_effect m ≡ false
@@ -28,7 +28,7 @@ pub record IsUnit (m : Meaning) : Type 0 where
   pub keeps : (s : State) → Still s (becomes s m)
   pub empty : data_in m ≡ []
 
--- what has to be known: the change, the unit, and what it adds to the history
+-- the conditions: the change, the unit, and what it adds to the history
 pub record Sending (w : Core) (k : Shift) (m : Meaning) (more : List Item) : Type 0 where
   pub now : k.inv w.own.session
   pub none : list_any k.never w.peer.sent ≡ false

@@ -1,4 +1,4 @@
--- What is true of both sides is true where the CN of a caller is under way.
+-- The invariant of both sides holds while the CN of a caller is in flight.
 use Rattle.std.proofs.Common.{◌≡◌, sym, ap, Bool, true, if◌then◌else◌, unwrap_or, arith}
 use Rattle.osi_machine.proofs.Vocabulary.{State, Answering, Ended, are_sizes, has_data, functional_units, serial_for, offered, is_restarting, without_tokens, awaiting, next, no_owner, turned_owners, Offer, CanBeOffered, offering, offer_sent, core_start, and_from}
 use Rattle.osi_machine.proofs.Tokens.{has_set}

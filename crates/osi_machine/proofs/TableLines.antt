@@ -1,4 +1,4 @@
--- A connection of the machine as its two sides keep it, and that every move of it is the same in tables.
+-- A connection of the machine as its two sides keep it; every move of it is the same in the tables.
 use Rattle.std.proofs.Common.{◌≡◌, refl, sym, ◌∙◌, ap, subst, ◌+◌, Bool, true, false, List, ◌∷◌, take, Option, Some, Ok, Err, arith}
 use Rattle.osi_machine.specs.Tables as tables
 use Rattle.osi_machine.proofs.Vocabulary.{called, taken, react, said_of, State, WaitTransport, Ended, Meaning, Token, Call, HasSerial, Answer, Granted, CallError, without_tokens, allowed, respond, respond_unit, awaiting, points, is_own, given_up, left_by, offering, offer_sent, Message, unit, Transport, not_yet, waiting, linked, kept_of, World, turned, session_of, after_call, after_answer, Taking, unit_taken, error_of, without_first, Seat, Line, Turn, Told}
@@ -20,7 +20,7 @@ seat_of w a = record { transport = w.own.transport; session = record { state = s
 abbrev pub line_of : World → Option Meaning → Option Meaning → Line
 line_of w a b = record { own = seat_of w a; peer = seat_of (turned w) b }
 
--- what is true of a side besides: before the connection is agreed to it is as it was made, and owns nothing
+-- what is also true of a side: before the connection is agreed to it is as it was made, and owns nothing
 pub record IsSeated (w : World) (a : Option Meaning) : Type 0 where
   pub calls : w.own.transport ≡ waiting → a ≡ Some (offer_sent w.offer)
   pub called : w.own.transport ≡ waiting → w.own.kept ≡ kept_of (without_tokens WaitTransport (offering w.offer))

@@ -1,4 +1,5 @@
--- Every message but a session unit does the same in tables; so do a close, an end, a break and a new connection.
+-- Every message except a session unit has the same effect in the tables; so have a close, an end, a break and a new
+-- connection.
 use Rattle.std.proofs.Common.{◌≡◌, refl, sym, ◌∙◌, ap, ℕ, ◌+◌, Bool, true, false, if◌then◌else◌, List, [], ◌∷◌, take, Option, Some, None, arith}
 use Rattle.osi_machine.specs.Tables as tables
 use Rattle.osi_machine.proofs.Vocabulary.{opened, refused, broken as broken_off, react, denied, rests, RefusedByTransport, WaitTransport, Ended, Meaning, is_wait_transport, without_tokens, lost, points, owned, left_by, Offer, offering, offer_sent, Message, unit, ask, agree, deny, bye, over, Transport, not_yet, waiting, linked, closing, gone, Kept, kept_of, World, session_of, asked_with, put, unchanged, moves, moved, Terms, accepts, denies, asked_at, message_taken, shortened, closed, ended_at, shown_at_end}
@@ -10,7 +11,7 @@ use Rattle.osi_machine.proofs.TableSeats.{state_from, owned_as}
 use Rattle.osi_machine.proofs.TableLines.{line_of, AreSeated, Tabled, TurnTabled, begun_seated, gone_seated, gone_state, theirs_stay}
 use Rattle.osi_machine.proofs.PhaseLaws.{if_yes, by_test}
 
--- ---- what changes nothing but the transport and what is under way
+-- ---- what changes nothing but the transport and what is in flight
 
 -- the own side, at the same session
 still_seated : (w : World) (ms : List Message) (a b : Option Meaning) → AreSeated w a b → AreSeated (record w { own = record w.own { channel = ms } }) a b

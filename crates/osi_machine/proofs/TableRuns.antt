@@ -74,7 +74,7 @@ stays_follows : (m : Machine) (ls : List Line) (side : Side) (r : ℕ) (l : Line
     → Follows (tables.noted es (tables.stays (tables_of m ls) side r l)) (noted es (stays m side r w))
 stays_follows m ls side r l w es k h = grind (arith, with_tabled, side_tabled)
 
--- ---- a connection is asked for
+-- ---- a connection is requested
 
 transports_as : (ls : List Line) (ws : List World) → AllTabled ls ws → map tables.transport_of ls ≡ map transport_of ws
 transports_as [] [] h = refl
@@ -192,7 +192,7 @@ turn_follows m ls side r keep x k h t =
     (closes_follows (noted (map (shown_at side r) k.shown) m) ls side r keep k t.first t.second m.known h t.seated)
     (stays_follows m ls side r (line_of k.world t.first t.second) k.world (map (shown_at side r) k.shown) h (record { first = t.first; second = t.second; same = refl; seated = t.seated })))
 
--- before a connection is agreed to no unit is under way
+-- before a connection is agreed to no unit is in flight
 pub no_unit_back : (way : Way) (m : Meaning) (ms : List Message) → unit m ∷ ms ≡ replies way → ⊥
 no_unit_back way m ms e = grind arith
 

@@ -1,5 +1,5 @@
--- The session of each side after a call and after a unit that is taken: it is the one that the tables leave,
--- and that of the other side stays.
+-- The session of each side after a call and after a unit that is taken: for the acting side the one of the tables; the
+-- other side's stays.
 use Rattle.std.proofs.Common.{◌≡◌, refl, sym, ◌∙◌, ap, subst, ℕ, Bool, true, false, if◌then◌else◌, List, ◌∷◌, inl, inr, Ok, arith}
 use Rattle.osi_machine.specs.Core.{turned}
 use Rattle.osi_machine.proofs.Vocabulary.{State, Ended, Meaning, Token, Tokens, no_token, without_tokens, Call, Granted, Answer, HasSerial, Outcome, allowed, after, is_over, respond_unit, becomes, Own, ToThem, Absent, Owners, is_own, turned_owner, owned, given_up, left_by, is_acted_on, owners_after, Core, stays_in_core, owners_called, answered, taking, Message, unit, Kept, kept_of, World, session_of, after_call, after_unit, turned as turned_world, without_first, Told}

@@ -1,4 +1,4 @@
--- Every unit that is under way can be sent, and the numbers of each session are in order.
+-- Every unit in flight can be written, and the numbers of each session are in order.
 use Rattle.std.proofs.Common.{◌≡◌, refl, sym, subst, ℕ, zero, suc, ◌+◌, Bool, true, false, if◌then◌else◌, List, [], ◌∷◌, ◌++◌, map, length, take, Option, Some, None, is_some, Ok, Err, arith}
 use Rattle.osi_session.specs.declared.faults.CallError.TheVariants as error
 use Rattle.osi_session.specs.Moves.{answered as answered_move, after_inputs}

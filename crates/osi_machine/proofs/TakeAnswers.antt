@@ -1,4 +1,4 @@
--- The answer to a restart, a CN and an AC are taken. Each keeps what is true of both sides.
+-- Taking the answer to a restart, a CN and an AC keeps the invariant of both sides.
 use Rattle.std.proofs.Common.{◌≡◌, refl, sym, ◌∙◌, ap, ℕ, Bool, true, false, not, if◌then◌else◌, List, ◌∷◌, Option, unwrap_or, arith}
 use Rattle.osi_machine.proofs.Vocabulary.{TokenSetting, TsduMaximumSize, State, FunctionalUnits, Answering, Ended, Meaning, CN, AC, RA, Tokens, Token, no_token, has, both_units, functional_units, stated, of_asker, is_connecting, is_releasing, is_over, is_acceptable, may_hold, without_tokens, becomes, drops, next, AllFit, flush, Core, taking, is_opening}
 use Rattle.osi_machine.proofs.PhaseLaws.{implied, excluded, implied_two, by_test}
@@ -72,7 +72,7 @@ accept_taken laws w v u n sides z o us e d s =
 abbrev called : State → ℕ → Option ℕ → TokenSetting → TsduMaximumSize → State
 called s u n x z = record s { phase = Answering; units = functional_units u; wishes = x; proposed = unwrap_or n 0; sizes = z }
 
--- one that cannot be accepted would end the called side, and no two sides meet so
+-- a CN that can't be accepted would end the called side, and two sides in this invariant do not meet so
 pub acceptable : (w : Core) (v : Bool) (u : ℕ) (n : Option ℕ) (x : TokenSetting) (from to : Option (List ℕ)) (z : TsduMaximumSize) (o : List ℕ) (us : List Meaning)
     → drops w.own.session (CN v u n x from to z o) ≡ false → Stands (at w (CN v u n x from to z o ∷ us)) → is_acceptable v u z ≡ true
 acceptable w v u n x from to z o us d h = by_test (is_acceptable v u z)

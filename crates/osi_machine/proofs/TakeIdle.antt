@@ -1,5 +1,5 @@
--- A unit is taken that changes nothing of its taker's state: data, a request for tokens, and all that is
--- discarded. It keeps what is true of both sides.
+-- Taking a unit that does not change its taker's state (data, a request for tokens, and everything that is discarded)
+-- keeps the invariant of both sides.
 use Rattle.std.proofs.Common.{◌≡◌, refl, sym, ◌∙◌, ap, subst, ℕ, Bool, true, false, not, ◌&&◌, ◌||◌, if◌then◌else◌, List, [], ◌∷◌, ◌++◌, append_assoc, arith}
 use Rattle.osi_machine.proofs.Vocabulary.{append-nil, list_any, State, FunctionalUnits, Meaning, DT, PT, Tokens, is_empty, takes_data, has_no_effect, is_restarting, is_restart_due, drops, next, Item, Owners, turned_owners, is_acted_on, got_in, cut_by, owners_after, AllFit, flush, stops, heard, hears, view_next, heard_view, data_in, data_of, Party, Core, taking, is_opening, IsConsistent, AreConsistent}
 use Rattle.osi_machine.proofs.PhaseLaws.{excluded, if_first, by_test}
@@ -95,7 +95,7 @@ please_got x k octets us = ap (λ (r : List (List ℕ)). r ++ data_of us) (by_te
 abbrev after_take : Core → Meaning → List Meaning → Core
 after_take w u us = record { history = w.history; owner = w.owner; own = taken_party w.own u; peer = rest_of w.peer us }
 
--- what has to be known of such a unit
+-- the conditions on such a unit
 record Idles (w : Core) (u : Meaning) (us : List Meaning) : Type 0 where
   stays : stops w.own.session u ≡ false
   same : next w.own.session u ≡ w.own.session

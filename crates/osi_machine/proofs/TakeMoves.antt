@@ -1,5 +1,4 @@
--- A unit is taken that cuts nothing off: what has to be known of it, so that all that is true of both sides
--- stays.
+-- Taking a unit that cuts nothing off: the conditions under which it keeps the invariant of both sides.
 use Rattle.std.proofs.Common.{◌≡◌, refl, sym, ◌∙◌, ap, subst, ℕ, ◌≤◌, ◌<◌, Bool, true, false, not, if◌then◌else◌, List, [], ◌∷◌, ◌++◌, arith}
 use Rattle.osi_machine.proofs.Vocabulary.{append-nil, list_any, State, data_token, Meaning, lower, is_restarting, is_restart_due, is_release_due, is_releasing, drops, next, Item, cutat, AreNumberedFrom, Owners, turned_owners, is_acted_on, seen, got_in, cut_by, owners_after, AllFit, flush, stops, heard, hears, view_next, heard_view, data_in, data_of, needs_token, Party, Core, taking, AreConsistent}
 use Rattle.osi_machine.proofs.Records.{Meeting, Half, Counting, IsOfProfile, Stands}
@@ -13,7 +12,7 @@ use Rattle.osi_machine.proofs.CoreLaws.{SessionLaws, taking_kept}
 use Rattle.osi_machine.proofs.Deaf.{not_both}
 use Rattle.osi_machine.proofs.PhaseLaws.{if_second, if_first}
 
--- the connection, where these units are all that is under way to this side
+-- the connection, where these units are all that is in flight to this side
 abbrev pub at : Core → List Meaning → Core
 at w us = record { history = w.history; owner = w.owner; own = w.own; peer = rest_of w.peer us }
 
@@ -60,7 +59,7 @@ view_is : (s r : State) (u : Meaning) (us : List Meaning) (v v' : List Item) →
     → heard_view s (u ∷ us) v ≡ heard_view r us v'
 view_is s r u us v v' st e k = cc
 
--- all that is true of both sides stays
+-- the invariant of both sides is kept
 pub moves_stands : SessionLaws → (w : Core) (u : Meaning) (us : List Meaning) (r : State) (v : List Item) (got : List (List ℕ)) (o : Owners)
     → w.peer.sent ≡ u ∷ us → Stands w → Moves w u us r v got o → Stands (taking w (u ∷ us))
 moves_stands laws w u us r v got o e s k =
@@ -114,7 +113,7 @@ moves_stands laws w u us r v got o e s k =
 
 -- ---- a unit that moves no token, at a side that listens
 
--- where the owners stay, so do the lines on tokens
+-- if the owners stay, so do the lines on tokens
 pub same_tokens : (o : Owners) (now end other heard peer r : State) → Meeting o now end other heard peer → r.held ≡ now.held → Tokens_of o r end heard
 same_tokens o now end other heard peer r m e = search arith
 
@@ -148,7 +147,7 @@ pub record MovesNothing (w : Core) (u : Meaning) (r : State) : Type 0 where
   pub held : r.held ≡ w.own.session.held
   pub caller : r.is_caller ≡ w.own.session.is_caller
 
--- what has to be known of it then
+-- the conditions on it then
 pub record Calm (w : Core) (u : Meaning) (us : List Meaning) (r : State) : Type 0 where
   pub acts : drops w.own.session u ≡ false
   pub plain : MovesNothing w u r

@@ -1,4 +1,4 @@
--- A synchronization point is taken. It keeps what is true of both sides.
+-- Taking a synchronization point keeps the invariant of both sides.
 use Rattle.std.proofs.Common.{◌≡◌, refl, sym, ◌∙◌, ap, subst, ℕ, ◌+◌, ◌≤◌, ◌<◌, Bool, true, false, not, ◌&&◌, ◌||◌, nat_lt, if◌then◌else◌, List, ◌∷◌, ◌⊎◌, arith}
 use Rattle.osi_machine.proofs.Vocabulary.{ltb-true, ltb-false, false_from_ne_true, list_any, State, Numbers, FunctionalUnits, Meaning, MIP, MAP, data_token, lower, MajorDue, is_ready, is_releasing, is_restarting, is_restart_due, point_taken, drops, next, AllFit, flush, stops, heard, hears, needs_token, Core, is_opening}
 use Rattle.osi_machine.proofs.PhaseLaws.{excluded}

@@ -1,4 +1,4 @@
--- A request for release, its refusal, and a confirmation are taken. Each keeps what is true of both sides.
+-- Taking a request for release, its refusal, or a confirmation keeps the invariant of both sides.
 use Rattle.std.proofs.Common.{◌≡◌, refl, sym, subst, ℕ, true, false, ◌&&◌, List, ◌∷◌, ◌⊎◌, inl, inr, arith}
 use Rattle.osi_machine.proofs.Vocabulary.{both_ways, and_from, State, Meaning, FN, NF, MIA, MAA, is_releasing, is_release_due, is_restarting, is_restart_due, minor_confirmed, major_confirmed, Ready, ReleaseDue, drops, next, becomes, flush, heard, Core}
 use Rattle.osi_machine.proofs.PhaseLaws.{excluded, implied_two}

@@ -1,5 +1,5 @@
--- A restart is taken. It keeps what is true of both sides: where it stands it cuts what was seen and the
--- history, and where it does not it changes nothing.
+-- Taking a restart keeps the invariant of both sides: if it takes effect it cuts what was seen and the history,
+-- otherwise it changes nothing.
 use Rattle.std.proofs.Common.{◌≡◌, refl, sym, ◌∙◌, ap, subst, ℕ, ◌-◌, ◌≤◌, ◌<◌, Bool, true, false, not, if◌then◌else◌, List, [], ◌∷◌, arith}
 use Rattle.osi_machine.proofs.Vocabulary.{and_parts, and_from, TokenSetting, ResyncType, State, RestartDue, Meaning, RS, is_restarting, without_tokens, restarted_at, stands, next, Item, upto, cutat, Owner, turned_owner, turned_owners, is_own, all_to_pool, pooled, is_acted_on, seen, cut_by, owners_after, Fits, flush, heard, view_next, Party, Core, taking, AreConsistent}
 use Rattle.osi_machine.proofs.PhaseLaws.{excluded, implied_two}
@@ -21,7 +21,7 @@ use Rattle.osi_machine.proofs.Consistent.{stood_below}
 abbrev answering : State → ℕ → TokenSetting → State
 answering s n t = record (without_tokens RestartDue s) { wishes = t; numbers = restarted_at n s.numbers }
 
--- a restart that stands is the first under way
+-- a restart that takes effect is the first in flight
 record Comes (w : Core) (k : ResyncType) (n : ℕ) (t : TokenSetting) (o : List ℕ) (us : List Meaning) : Type 0 where
   all : Stands (at w (RS k n t o ∷ us))
   wins : stands w.own.session n ≡ true
@@ -29,7 +29,7 @@ record Comes (w : Core) (k : ResyncType) (n : ℕ) (t : TokenSetting) (o : List 
 fit_first : (w : Core) (k : ResyncType) (n : ℕ) (t : TokenSetting) (o : List ℕ) (us : List Meaning) → Comes w k n t o us → Fits w.own.session (RS k n t o)
 fit_first w k n t o us c = search arith
 
--- nothing comes behind it
+-- nothing comes after it
 none_behind : (w : Core) (k : ResyncType) (n : ℕ) (t : TokenSetting) (o : List ℕ) (us : List Meaning) → Comes w k n t o us → AllEmpty us
 none_behind w k n t o us c = grind (arith, restart_due, all_empty, none_due)
 

@@ -1,4 +1,4 @@
--- A unit is taken that brings tokens. It keeps what is true of both sides.
+-- Taking a unit that brings tokens keeps the invariant of both sides.
 use Rattle.std.proofs.Common.{◌≡◌, ℕ, ◌≤◌, ◌<◌, true, false, List, [], ◌∷◌, arith}
 use Rattle.osi_machine.proofs.Vocabulary.{and_parts, or_right, State, Meaning, GT, Tokens, Token, has, available, united, lower, may_hold, is_release_due, is_releasing, drops, next, Owner, Own, ToOwn, turned_owners, is_to_own, passed_to, seen, got_in, cut_by, owners_after, AllFit, flush, stops, heard, hears, data_in, Core, taking}
 use Rattle.osi_machine.proofs.PhaseLaws.{implied, excluded, if_second}
@@ -13,7 +13,7 @@ use Rattle.osi_machine.proofs.Acting.{fit_acts}
 use Rattle.osi_machine.proofs.Alive.{alive}
 use Rattle.osi_machine.proofs.TakeMoves.{at, heard_is, flush_is, stands_at, none_got, same_stream, no_cut, Moves, moves_stands}
 
--- what has to be known of it: these tokens were not held before, and are after
+-- the conditions on it: these tokens were not held before, and are held after
 pub record Gains (w : Core) (u : Meaning) (us : List Meaning) (r : State) (k : Tokens) : Type 0 where
   pub acts : drops w.own.session u ≡ false
   pub stays : stops w.own.session u ≡ false
@@ -46,7 +46,7 @@ will_hold : (w : Core) (u : Meaning) (us : List Meaning) (r : State) (k : Tokens
     → Holds t (heard w.own.session (u ∷ us))
 will_hold w u us r k t h g e = search (arith, heard_is, heard_holds, rest)
 
--- it was on its way
+-- it was in flight
 was_to_own : (w : Core) (u : Meaning) (us : List Meaning) (r : State) (k : Tokens) (t : Token) → Stands (at w (u ∷ us)) → Gains w u us r k → has k t ≡ true
     → w.owner t ≡ ToOwn
 was_to_own w u us r k t h g e = search (arith, will_hold, to_own_is)

@@ -1,4 +1,4 @@
--- A restart is taken that does not stand: its taker has asked for one that does. Nothing changes.
+-- Taking a restart that does not take effect, since its taker has requested one that does, changes nothing.
 use Rattle.std.proofs.Common.{◌≡◌, refl, ◌∙◌, ap, ℕ, Bool, false, if◌then◌else◌, List, ◌∷◌}
 use Rattle.osi_machine.proofs.Vocabulary.{TokenSetting, ResyncType, Meaning, RS, stands, cutat, pooled, turned_owners, is_acted_on, cut_by, owners_after, flush, heard, Core, taking}
 use Rattle.osi_machine.proofs.CoreLaws.{SessionLaws}

@@ -1,4 +1,4 @@
--- Tokens: a side that holds one, and what that keeps out of its channel.
+-- Tokens: what a side that holds one keeps out of its channel.
 use Rattle.std.proofs.Common.{◌≡◌, refl, ◌∙◌, Bool, true, false, not, ◌&&◌, ◌||◌, List, [], ◌∷◌, arith}
 use Rattle.osi_machine.proofs.Vocabulary.{and_parts, or_left, State, Tokens, Meaning, Token, data_token, minor, major, has, set_of, each, some, no_token, is_empty, without, united, lacks, may_hold, becomes, drops, Good, next, Item, seen, is_plain, Fits, AllFit, stops, heard, is_data_or_minor, is_no_release, needs_token, view_next, heard_view}
 use Rattle.osi_machine.proofs.PhaseLaws.{excluded, by_test}
@@ -47,7 +47,7 @@ pub record Holds (t : Token) (s : State) : Type 0 where
   pub held : has s.held t ≡ true
   pub phase : may_hold s.phase ≡ true
 
--- it goes on holding it, until a restart stands
+-- it still holds it, until a restart takes effect
 pub becomes_holds : (t : Token) (s : State) (u : Meaning) → is_plain u ≡ true → Good s u → stops s u ≡ false → Holds t s → Holds t (becomes s u)
 becomes_holds t s u p g st h = search (arith, excluded, united_has, or_left)
 
@@ -61,7 +61,7 @@ seen_nothing s u v h st = grind arith
 same_view : (s : State) (u : Meaning) (v : List Item) → Fits s u → stops s u ≡ false → has s.held data_token ≡ true → view_next s u v ≡ v
 same_view s u v f st h = by_test (drops s u) (λ d. rw d) (λ d. rw d (seen_nothing s u v (held_needs s data_token u h (f.good d)) st))
 
--- where this side holds the data token, nothing that is under way to it before a restart shows anything
+-- if this side holds the data token, nothing that is in flight to it before a restart shows anything
 pub nothing_to_see : (s : State) (us : List Meaning) (v : List Item) → Holds data_token s → AllFit s us → heard_view s us v ≡ v
 nothing_to_see s [] v h f = refl
 nothing_to_see s (u ∷ us) v h f =

@@ -1,4 +1,4 @@
--- What a unit does to the state of its taker, case by case.
+-- The effect of a unit on the state of its taker, case by case.
 use Rattle.std.proofs.Common.{◌≡◌, refl, ap, Bool, true, false, ◌&&◌, if◌then◌else◌, List, arith}
 use Rattle.osi_machine.proofs.Vocabulary.{State, Phase, Meaning, RS, is_restarting, is_restart_due, is_expected, becomes, drops, next, Good, Item, is_plain, Fits, stops, hears, view_next}
 use Rattle.osi_machine.proofs.PhaseLaws.{by_test}
@@ -27,7 +27,7 @@ pub restart_acted : (s : State) (u : Meaning) → stops s u ≡ true → drops s
 restart_acted s (RS k n w o) h = and_false (is_restarting s.phase)
 restart_acted s _ h = absurd (cc)
 
--- after a restart that stands an answer is due
+-- after a restart that takes effect an answer is due
 pub restart_due : (s : State) (u : Meaning) → stops s u ≡ true → is_restart_due (next s u).phase ≡ true
 restart_due s u h = grind arith
 

@@ -1,5 +1,5 @@
--- What will have been seen before a restart that stands: its points are counted by V(M), and there are no
--- fewer of them than now.
+-- What will have been seen before a restart that takes effect: V(M) counts its points, and there are no fewer of them
+-- than now.
 use Rattle.std.proofs.Common.{◌≡◌, refl, sym, ◌∙◌, ap, subst, ℕ, ◌+◌, ◌≤◌, Bool, true, false, if◌then◌else◌, List, [], ◌∷◌, ◌++◌, arith}
 use Rattle.osi_machine.proofs.Vocabulary.{State, Meaning, CN, AC, DT, GT, PT, MIP, MIA, MAP, MAA, RS, RA, FN, NF, is_wait_cn, is_connecting, is_ready, takes_data, is_major_due, is_acceptable, point_taken, minor_confirmed, major_confirmed, becomes, drops, next, Good, Item, Octets, Point, points, minor_kind, major_point, cutat, AreNumberedFrom, seen, is_plain, Fits, AllFit, stops, heard, view_next, heard_view, is_opening}
 use Rattle.osi_machine.proofs.PhaseLaws.{implied, excluded, by_test}
@@ -8,7 +8,7 @@ use Rattle.osi_machine.proofs.NumberLaws.{Turned, heard_turned}
 use Rattle.osi_machine.proofs.HistoryLaws.{points_append}
 use Rattle.osi_machine.proofs.Consistent.{one_taken, opened_count}
 
--- what holds of each state and view up to a restart that stands, or of all
+-- what holds of each state and view up to a restart that takes effect, or of all
 pub until_heard : (P : State → List Item → Type 0) → ((s : State) (u : Meaning) (v : List Item) → Fits s u → stops s u ≡ false → P s v → P (next s u) (view_next s u v)) →
     (s : State) (us : List Meaning) (v : List Item) → P s v → AllFit s us → P (heard s us) (heard_view s us v)
 until_heard P step s [] v h f = h
@@ -56,7 +56,7 @@ becomes_counted s _ v p g st h = absurd (cc)
 pub heard_counted : (s : State) (us : List Meaning) (v : List Item) → Counted s v → AllFit s us → Counted (heard s us) (heard_view s us v)
 heard_counted = until_heard Counted (λ s u v f st h. view_cases Counted s u v f h (λ g. becomes_counted s u v f.plain g st h))
 
--- ---- points are added alone
+-- ---- only points are added
 
 more_or_same : (b : Bool) (v w : List Item) (k : ℕ) → k ≤ points v → k ≤ points (if b then v else v ++ w)
 more_or_same true v w k h = h
@@ -73,7 +73,7 @@ pub view_grows : (s : State) (us : List Meaning) (v : List Item) → AllFit s us
 view_grows s us v f = until_heard (λ q w. points v ≤ points w)
     (λ q u w g st h. view_cases (λ r x. points v ≤ points x) q u w g h (λ a. seen_more q u w (points v) st h)) s us v (omega arith) f
 
--- where an answer to a major point comes to be due, there is one point more
+-- if an answer to a major point comes to be due, there is one point more
 abbrev DueAbove : ℕ → State → List Item → Type 0
 DueAbove k s v = (k ≤ points v) × (is_major_due s.phase ≡ true → k + 1 ≤ points v)
 

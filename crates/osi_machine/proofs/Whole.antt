@@ -1,5 +1,5 @@
--- A connection of the machine, at every step: it was asked for and not yet agreed to, or one of which nothing
--- is lost repeats it; and what the records of both sides tell.
+-- A connection of the machine, at every step: it was requested and not yet agreed to, or one on which nothing is lost
+-- simulates it; and what the records of both sides tell.
 use Rattle.std.proofs.Common.{◌≡◌, refl, sym, ◌∙◌, subst, ℕ, Bool, true, false, List, [], ◌∷◌, ◌⊎◌, inl, inr, arith}
 use Rattle.osi_machine.proofs.Vocabulary.{Call, HasSerial, Answer, allowed, is_profile, Offer, CanBeOffered, Left, Right, Message, Transport, World, session_of, asked_with, after_answer, Terms, message_taken, closed, ended_at, shown_at_end, turned, error_of, without_first, Told, untold}
 use Rattle.osi_machine.proofs.CoreLaws.{SessionLaws}

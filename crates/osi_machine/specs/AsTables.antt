@@ -1,4 +1,5 @@
--- The machine beside its tables, and what two users may rely on, read from the tables and the journal alone.
+-- The relation between the machine and its tables, and what two users may rely on, read from the tables and the journal
+-- alone.
 use Rattle.std.specs.Prelude.{◌≡◌, ℕ, ◌<◌, Bool, true, false, ◌&&◌, ◌||◌, List, [], ◌∷◌, ◌++◌, take, Some, None}
 use Rattle.std.specs.List.{AllByRecursion, list_any}
 use Rattle.osi_session.specs.Respond.{verdict, is_faulty}
@@ -12,7 +13,7 @@ use Rattle.osi_machine.specs.Tables.{Seat, Line, Tables, start, run, seen_from, 
 use Rattle.osi_machine.specs.Runs.{is_fault, is_loss, loses}
 use Rattle.osi_machine.specs.Views.{Told, told_of}
 
--- a side as the tables have it is the first side of a connection of the machine
+-- a side of the tables is the first side of a connection of the machine
 pub record IsSeat (w : World) (x : Seat) : Type 0 where
   pub transport : x.transport ≡ w.own.transport
   pub state : x.session.state ≡ session_of w
@@ -38,16 +39,16 @@ pub record IsAsTables (m : Machine) (t : Tables) : Type 0 where
   pub journal : t.journal ≡ m.journal
   pub lines : AreLines m.worlds t.lines
 
--- a break takes what is behind so many messages of each channel
+-- a break discards what follows after this many messages of each channel
 abbrev pub cut_line : ℕ → ℕ → Line → Line
 cut_line left right l = record {
   own = record l.own { channel = take left l.own.channel };
   peer = record l.peer { channel = take right l.peer.channel };
 }
 
--- ---- what is under way
+-- ---- what is in flight
 
--- each unit can be sent, so that it is read as it was meant
+-- each unit can be written, so that it is read back as it was meant
 abbrev pub AreSendable : List Message → Type 0
 AreSendable [] = Unit {0}
 AreSendable (unit m ∷ ms) = IsSendable m × AreSendable ms
@@ -66,11 +67,11 @@ pub record IsSoundLine (l : Line) : Type 0 where
 abbrev pub AreSoundLines : Tables → Type 0
 AreSoundLines t = (r : ℕ) (l : Line) → connection_at r t.lines ≡ Some l → IsSoundLine l
 
--- said of the session of each side of each connection, and of what is under way to it
+-- a statement about the session of each side of each connection, and about what is in flight to it
 abbrev pub AtEachSide : (State → List Message → Type 0) → Tables → Type 0
 AtEachSide P t = (side : Side) (r : ℕ) (l : Line) → connection_at r t.lines ≡ Some l → P (seen_from side l).own.session.state (seen_from side l).peer.channel
 
--- data that is first under way to a side is no fault there
+-- data that is first in flight to a side is no fault there
 abbrev pub IsNoFaultNext : State → List Message → Type 0
 IsNoFaultNext s messages = (octets : List ℕ) (ms : List Message) → messages ≡ unit (DT octets) ∷ ms → is_faulty (verdict s (DT octets)) ≡ false
 
@@ -80,13 +81,13 @@ is_leaving (bye reason) = true
 is_leaving over = true
 is_leaving m = false
 
--- a side to which such a message is under way is over
+-- if such a message is in flight to a side, the side is over
 abbrev pub IsOverWhenLeft : State → List Message → Type 0
 IsOverWhenLeft s messages = list_any is_leaving messages ≡ true → is_over s.phase ≡ true
 
 -- ---- what is read from the journal
 
--- what was asked for with each connection, by rising reference
+-- the offer of each connection, by rising reference
 abbrev pub offers_in : List Entry → List Offer
 offers_in [] = []
 offers_in (connect_answered o None ∷ es) = o ∷ offers_in es
@@ -99,12 +100,12 @@ pub record IsTableRun (t : Tables) : Type 0 where
   pub numbered : AllByRecursion HasNumber steps
   pub reached : run (start agreed) steps ≡ t
 
--- said of the sessions of both sides of each connection, and of what the records of both tell
+-- a statement about the sessions of both sides of each connection, and about what the records of both tell
 abbrev pub OfEachLine : (State → State → Told → Told → Type 0) → Tables → Type 0
 OfEachLine P t = (r : ℕ) (l : Line) (o : Offer) → connection_at r t.lines ≡ Some l → connection_at r (offers_in t.journal) ≡ Some o
     → P l.own.session.state l.peer.session.state (told_of Left r o t.journal) (told_of Right r o t.journal)
 
--- the journal has what was asked for with each connection
+-- the journal has the offer of each connection
 pub record IsOffered (t : Tables) (r : ℕ) : Type 0 where
   pub offer : Offer
   pub found : connection_at r (offers_in t.journal) ≡ Some offer
@@ -116,21 +117,21 @@ AreOffered t = (r : ℕ) (l : Line) → connection_at r t.lines ≡ Some l → I
 abbrev pub HoldNoneTwice : State → State → Told → Told → Type 0
 HoldNoneTwice s p left right = (t : Token) → (has s.held t && has p.held t) ≡ false
 
--- neither user is shown a fault, of this side or of the other
+-- neither user receives a fault, of this side or of the other
 abbrev pub AreNoFaults : State → State → Told → Told → Type 0
 AreNoFaults s p left right = (left.faulted ≡ false) × (right.faulted ≡ false)
 
--- one of the two views begins with the other, unless duplex is selected
+-- one of the two views is a prefix of the other, unless duplex is selected
 abbrev pub AreAgreed : State → State → Told → Told → Type 0
 AreAgreed s p left right = left.duplex ≡ false → right.duplex ≡ false → Agree left.view right.view
 
--- where either record tells that duplex is selected, the data that each side is shown is how the data that
--- the other asked to send begins
+-- if either record tells that duplex is selected, the data that each user receives is a prefix of the data that the
+-- other asked to send
 abbrev pub IsShownAsAsked : State → State → Told → Told → Type 0
 IsShownAsAsked s p left right = (left.duplex || right.duplex) ≡ true → Begins left.indicated right.requested × Begins right.indicated left.requested
 
--- each point in the view of a side with a number below its V(A) is in the view of the other, behind the
--- same items; unless the other has asked for a restart and has seen no answer
+-- each point in the view of a side with a number below its V(A) is in the view of the other, after the same items;
+-- unless the other has requested a restart and has seen no answer
 abbrev pub IsSeenThere : State → Told → Told → Type 0
 IsSeenThere s own other =
     (before : List Item) (n : ℕ) (kind : PointKind) (octets : List ℕ) → Begins (before ++ Point n kind octets ∷ []) own.view →
@@ -139,10 +140,10 @@ IsSeenThere s own other =
 abbrev pub IsSeenInBoth : State → State → Told → Told → Type 0
 IsSeenInBoth s p left right = IsSeenThere s left right × IsSeenThere p right left
 
--- no entry of the journal is a fault that is shown, whatever its reference
+-- no entry of the journal indicates a fault, whatever its reference
 abbrev pub TellsNoFault : Tables → Type 0
 TellsNoFault t = list_any is_fault t.journal ≡ false
 
--- a side is shown a loss only where it was told of a break or found no memory
+-- a user is told of a loss only if it was told of a break or ran out of memory
 abbrev pub LosesAsItEnds : Tables → Type 0
 LosesAsItEnds t = (side : Side) → list_any (is_loss side) t.journal ≡ true → loses (end_of side t) ≡ true

@@ -1,4 +1,4 @@
--- What data meets that is not the next to come: the session that takes what is ahead of it, while its user calls.
+-- Data that is in flight but not next: the session first takes what is ahead of it, while its user makes calls.
 use Rattle.std.specs.Prelude.{◌≡◌, ℕ, false, List, [], ◌∷◌, ◌++◌, None}
 use Rattle.std.specs.List.{AllByRecursion}
 use Rattle.osi_session.specs.Moves.{Input, called, taken, opened, refused, broken, react}
@@ -7,7 +7,7 @@ use Rattle.osi_message.specs.Sendable.{said_of}
 use Rattle.osi_machine.specs.Floor.{State, Call, HasSerial, DT}
 use Rattle.osi_machine.specs.Worlds.{Message, unit, ask, agree, deny, bye, over}
 
--- the state that one thing leaves, and that calls leave
+-- the state that one event leaves, and the state that calls leave
 abbrev pub left_by : State → Input → State
 left_by s input = (react (record { state = s; waiting = None }) input).next.state
 
@@ -28,11 +28,11 @@ after_message s over = s
 abbrev pub IsCalm : State → Type 0
 IsCalm s = (octets : List ℕ) → is_faulty (verdict s (DT octets)) ≡ false
 
--- nor is it behind these messages, whatever calls the user makes before each of them and behind the last
+-- nor is it a fault after these messages, whatever calls the user makes before each of them and after the last
 abbrev pub StaysCalm : State → List Message → Type 0
 StaysCalm s [] = (calls : List Call) → AllByRecursion HasSerial calls → IsCalm (after_calls s calls)
 StaysCalm s (m ∷ ms) = (calls : List Call) → AllByRecursion HasSerial calls → StaysCalm (after_message (after_calls s calls) m) ms
 
--- data that is anywhere under way to a side is no fault behind what is ahead of it
+-- data anywhere in flight to a side is no fault once what is ahead of it was taken
 abbrev pub IsNoFaultBehind : State → List Message → Type 0
 IsNoFaultBehind s messages = (ms : List Message) (octets : List ℕ) (rest : List Message) → messages ≡ ms ++ unit (DT octets) ∷ rest → StaysCalm s ms

@@ -1,4 +1,4 @@
--- The units that are under way to a side, run through the table of that side.
+-- The units in flight to a side, run through the table of that side.
 use Rattle.std.specs.Prelude.{◌≡◌, ℕ, Bool, true, false, not, if◌then◌else◌, List, [], ◌∷◌, ◌++◌}
 use Rattle.osi_machine.specs.Floor.{State, Phase, Meaning, RF, DT, MIP, MAP, RS, FN, DN, AB, AA, Token, data_token, minor, release, is_restarting, stands, drops, Good, next}
 use Rattle.osi_machine.specs.Histories.{Item}
@@ -16,22 +16,22 @@ pub record Fits (s : State) (u : Meaning) : Type 0 where
   pub plain : is_plain u ≡ true
   pub good : drops s u ≡ false → Good s u
 
--- no unit under way will be a fault
+-- no unit in flight will be a fault
 abbrev pub AllFit : State → List Meaning → Type 0
 AllFit s [] = Unit {0}
 AllFit s (u ∷ us) = Fits s u × AllFit (next s u) us
 
--- the state when all is taken
+-- the state when all were taken
 abbrev pub flush : State → List Meaning → State
 flush s [] = s
 flush s (u ∷ us) = flush (next s u) us
 
--- a restart that stands erases what came before it
+-- a restart that takes effect erases what came before it
 abbrev pub stops : State → Meaning → Bool
 stops s (RS kind n wishes octets) = stands s n
 stops s u = false
 
--- the state just before such a restart is taken, or when all is taken
+-- the state just before such a restart is taken, or when all were taken
 abbrev pub heard : State → List Meaning → State
 heard s [] = s
 heard s (u ∷ us) = if stops s u then s else heard (next s u) us
@@ -42,7 +42,7 @@ hears p = not (is_restarting p)
 abbrev pub view_next : State → Meaning → List Item → List Item
 view_next s u v = if drops s u then v else seen s u v
 
--- what will have been seen just before a restart that stands, or when all is taken
+-- what will have been seen just before such a restart is taken, or when all were taken
 abbrev pub heard_view : State → List Meaning → List Item → List Item
 heard_view s [] v = v
 heard_view s (u ∷ us) v = if stops s u then v else heard_view (next s u) us (view_next s u v)
@@ -56,7 +56,7 @@ abbrev pub data_of : List Meaning → List (List ℕ)
 data_of [] = []
 data_of (u ∷ us) = data_in u ++ data_of us
 
--- a token that the sender of a unit needs, where it is available
+-- a token that the sender of a unit needs, if it is available
 abbrev pub is_data : Token → Bool
 is_data data_token = true
 is_data _ = false

@@ -1,13 +1,13 @@
--- One connection of which nothing is lost, and which neither side refuses, releases or aborts: each
--- side with the state of its session and with what it has seen.
+-- One connection on which nothing is lost, and which neither side refuses, releases or aborts. Each side has the state
+-- of its session and what it has seen.
 use Rattle.std.specs.Prelude.{◌≡◌, ℕ, ◌<◌, Bool, true, false, if◌then◌else◌, List, [], ◌∷◌, ◌++◌, Option, Ok, Err}
 use Rattle.osi_machine.specs.Floor.{TokenSetting, TsduMaximumSize, State, Connecting, Granted, Answer, Call, Accept, Refuse, Data, Give, Minor, Major, Restart, RestartConfirm, ReleaseAccept, Abort, Meaning, CN, allowed, respond_unit, functional_units, offered, no_token, base_for, serial_for, from_base, awaiting, are_sizes}
 use Rattle.osi_machine.specs.Histories.{Item, Octets, Point, minor_kind, major_point, cutat}
 use Rattle.osi_machine.specs.Owners.{Owners, ToThem, turned_owners, no_owner, passed_to, settled_by, given_up}
 use Rattle.osi_machine.specs.Taking.{is_acted_on, seen, got_in, cut_by, owners_after}
 
--- one of the two sides: with duplex, what it said and what it got of what the other said; and what it
--- has sent, and the other has not taken
+-- one of the two sides: with duplex, what it sent and what it received of what the other sent; and what it has sent and
+-- the other has not taken
 pub record Party : Type 0 where
   pub session : State
   pub view : List Item
@@ -34,7 +34,7 @@ stays_in_core (ReleaseAccept octets) = false
 stays_in_core (Abort octets) = false
 stays_in_core _ = true
 
--- what a call adds to the history; with duplex each side has a history of data alone
+-- what a call adds to the history; with duplex each side has a history of data only
 abbrev pub says : State → Call → List Item
 says s (Data octets) = if s.units.duplex then [] else Octets octets ∷ []
 says s (Minor confirm octets) = Point s.numbers.next (minor_kind confirm) octets ∷ []
@@ -90,7 +90,7 @@ party_taking x u = record {
   sent = x.sent;
 }
 
--- this side takes the first of these units, which are all that is under way to it
+-- this side takes the first of these units, which are all that are in flight to it
 abbrev pub taking : Core → List Meaning → Core
 taking w [] = w
 taking w (u ∷ us) = record {
@@ -128,7 +128,7 @@ core_run w (step ∷ steps) = core_run (core_step w step) steps
 
 -- ---- how it begins
 
--- what a caller asks for
+-- what a caller offers
 pub record Offer : Type 0 where
   pub requirements : ℕ
   pub serial : ℕ
@@ -162,7 +162,7 @@ offer_sent o = CN true o.requirements (serial_for (functional_units o.requiremen
 abbrev pub party_of : State → List Meaning → Party
 party_of s sent = record { session = s; view = []; said = []; got = []; sent = sent }
 
--- the CN is under way
+-- the CN is in flight
 abbrev pub core_start : Offer → Core
 core_start o = record {
   history = [];

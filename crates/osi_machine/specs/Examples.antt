@@ -1,4 +1,4 @@
--- Worked examples: what happens, and what the users do and see of it.
+-- Worked examples: what happens, and what the users do and see.
 use Rattle.std.specs.Prelude.{ℕ, true, false, List, [], ◌∷◌, ◌++◌, Option, Some, None}
 use Rattle.osi_spdu.specs.declared.settings.Side.TheVariants as token_side
 use Rattle.osi_session.specs.declared.faults.CallError.TheVariants as error
@@ -21,11 +21,11 @@ only_data = record { data_token = true; minor = false; major = false; release = 
 abbrev pub all_tokens : Tokens
 all_tokens = set_of (λ t. true)
 
--- all that is under way stays
+-- everything in flight stays
 abbrev pub keep_all : ℕ → ℕ
 keep_all r = 99
 
--- the next message is taken by this side
+-- this side takes the next message
 abbrev pub to_left : Step
 to_left = delivers Left 1 keep_all
 
@@ -61,7 +61,7 @@ next_at side m = (numbers_in (stands_at side m)).next
 abbrev pub lowest_at : Side → Machine → ℕ
 lowest_at side m = (numbers_in (stands_at side m)).lowest
 
--- ---- a connection is opened: all four tokens for the side that asks
+-- ---- a connection is opened; the side that asks gets all four tokens
 
 abbrev pub offer_from : ℕ → ℕ → Offer
 offer_from requirements serial = record { requirements = requirements; serial = serial; wishes = for_asker; calling_selector = None; called_selector = None; sizes = no_sizes; octets = [] }
@@ -76,8 +76,8 @@ opening_seen requirements serial named = connect_answered (offer_from requiremen
     ∷ call_answered Right 1 (Accept requirements serial asker_sides no_sizes []) None
     ∷ shown_at Left 1 (Connected requirements named asker_sides no_sizes []) ∷ []
 
--- ---- a token that is given while the other side asks for a restart is lost with the restart: Left
--- gives the data token, Right asks for a restart at 1 before that comes, and takes all four by the answer
+-- ---- a token that is given while the other side requests a restart is lost with the restart: Left gives the data
+-- token; before it arrives Right requests a restart at 1, and gets all four tokens by the answer
 
 abbrev pub lost_give : List Step
 lost_give = opening 185 1 ++ calls Left 1 (Give only_data) ∷ calls Right 1 (Restart 1 for_asker []) ∷ to_right ∷ to_left
@@ -91,8 +91,8 @@ lost_give_seen = opening_seen 185 1 (Some 1) ++ call_answered Left 1 (Give only_
 abbrev pub after_lost_give : Machine
 after_lost_give = run (start (accepts class_2)) lost_give
 
--- ---- two restarts cross: Left has sent points 1 and 2, and asks for a restart at 2 while Right asks
--- for one at a higher number or at the same
+-- ---- two restarts cross: Left has sent points 1 and 2, and requests a restart at 2, while Right requests one at a
+-- higher number or at the same
 
 abbrev pub two_points : List Step
 two_points = opening 185 1 ++ calls Left 1 (Data (65 ∷ [])) ∷ calls Left 1 (Minor false []) ∷ calls Left 1 (Data (66 ∷ []))
@@ -119,8 +119,8 @@ after_crossing n = run (start (accepts class_2)) (crossing n)
 abbrev pub up_to_first_point : List Item
 up_to_first_point = Octets (65 ∷ []) ∷ Point 1 minor_alone [] ∷ []
 
--- ---- a restart below a major point that the other side has confirmed: Left restarts before the
--- confirmation comes, below the lowest number at which Right could restart
+-- ---- a restart below a major point that the other side has confirmed: Left restarts before the confirmation arrives,
+-- below the lowest number at which Right could restart
 
 abbrev pub restart_below : List Step
 restart_below = opening 185 1 ++ calls Left 1 (Major []) ∷ to_right ∷ calls Right 1 (MajorConfirm [])

@@ -1,4 +1,4 @@
--- What this crate takes from the tables of one session.
+-- What this crate uses of the tables of one session.
 pub use Rattle.osi_spdu.specs.declared.settings.TokenSetting.{TokenSetting}
 pub use Rattle.osi_spdu.specs.declared.settings.Wish.{Wish}
 pub use Rattle.osi_spdu.specs.declared.settings.Wish.TheVariants.{Asker, Answerer, Choice}

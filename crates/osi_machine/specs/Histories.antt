@@ -1,7 +1,7 @@
 -- The history of a connection: what its two users see, in order.
 use Rattle.std.specs.Prelude.{◌≡◌, ℕ, zero, suc, ◌+◌, ◌-◌, Bool, true, false, List, [], ◌∷◌, ◌++◌, ◌⊎◌}
 
--- a minor point of which confirmation is wanted, one of which it is not, and a major point
+-- a minor point that asks for its confirmation, one that does not, and a major point
 pub data PointKind : Type 0 where
   minor_to_confirm : PointKind
   minor_alone : PointKind
@@ -15,13 +15,13 @@ abbrev pub minor_kind : Bool → PointKind
 minor_kind true = minor_to_confirm
 minor_kind false = minor_alone
 
--- how many points there are
+-- the number of points
 abbrev pub points : List Item → ℕ
 points [] = 0
 points (Octets octets ∷ h) = points h
 points (Point n kind octets ∷ h) = points h + 1
 
--- up to and including the k-th point; nothing where k is 0
+-- up to and including the k-th point; nothing if k is 0
 abbrev pub upto : ℕ → List Item → List Item
 upto zero h = []
 upto (suc k) [] = []
@@ -38,10 +38,10 @@ AreNumberedFrom n [] = Unit {0}
 AreNumberedFrom n (Octets octets ∷ h) = AreNumberedFrom n h
 AreNumberedFrom n (Point k kind octets ∷ h) = (k ≡ n) × AreNumberedFrom (n + 1) h
 
--- the second begins with the first
+-- the first list is a prefix of the second
 abbrev pub Begins : {A : Type 0} → List A → List A → Type 0
 Begins {A = A} xs ys = (more : List A) × (xs ++ more ≡ ys)
 
--- one of the two begins with the other
+-- one of the two lists is a prefix of the other
 abbrev pub Agree : {A : Type 0} → List A → List A → Type 0
 Agree xs ys = Begins xs ys ⊎ Begins ys xs

@@ -8,13 +8,13 @@ use Rattle.osi_machine.specs.Floor.{CallError, Answer, Call, HasSerial, allowed,
 use Rattle.osi_machine.specs.Core.{Offer, CanBeOffered, Side, Left, Right}
 use Rattle.osi_machine.specs.Worlds.{Class, class_0, class_2, Message, agree, Transport, not_yet, waiting, gone, World, turned, session_of, asked_with, after_answer, Taking, Terms, accepts, message_taken, closed, ended_at, shown_at_end}
 
--- why a side ends: it is told of a break, it has closed a connection of class 0, or it finds no memory
+-- why a side ends: it is told of a break, it has closed a connection of class 0, or it runs out of memory
 pub data Ending : Type 0 where
   told_of_break : Ending
   closed_here : Ending
   no_memory : Ending
 
--- why a caller may not ask for a connection, in the order in which it is tested
+-- why a caller may not request a connection, in the order of the tests
 pub data Refusal : Type 0 where
   has_ended : Refusal
   negotiating : Refusal
@@ -24,8 +24,8 @@ pub data Refusal : Type 0 where
   not_selected : Refusal
   too_long : Refusal
 
--- What happens. A delivery into a side takes the first message of the other's channel; where a close, an
--- end or a break loses messages, the step says how many of each channel stay.
+-- What happens. A delivery to a side takes the first message of the other's channel. If a close, an end or a break
+-- loses messages, the step says how many of each channel stay.
 pub data Step : Type 0 where
   connects : Offer → Step
   calls : Side → (reference : ℕ) → Call → Step
@@ -33,7 +33,7 @@ pub data Step : Type 0 where
   breaks : (keep_left keep_right : ℕ → ℕ) → Step
   ends : Side → Ending → (keep : ℕ → ℕ) → Step
 
--- what is seen of it
+-- what the journal has of it
 pub data Entry : Type 0 where
   connect_answered : Offer → Option Refusal → Entry
   call_answered : Side → (reference : ℕ) → Call → Option CallError → Entry
@@ -45,9 +45,9 @@ pub record Machine : Type 0 where
   pub broken : Bool
   pub left_end : Option Ending
   pub right_end : Option Ending
-  -- the class, once the first connection is there at the caller
+  -- the class, once the caller has its first connection
   pub known : Option Class
-  -- by rising reference, from 1 on; as the left side sees them
+  -- by rising reference, from 1 on, as the left side sees them
   pub worlds : List World
   pub journal : List Entry
 
@@ -60,7 +60,7 @@ abbrev pub connection_at : {C : Type 0} → ℕ → List C → Option C
 connection_at zero ws = None
 connection_at (suc r) ws = slice_get ws r
 
--- the connection with that place is another, counted from 0
+-- the connection at a place, counted from 0, is replaced
 abbrev pub replaced : {C : Type 0} → ℕ → C → List C → List C
 replaced r w [] = []
 replaced zero w (v ∷ vs) = w ∷ vs
@@ -84,7 +84,7 @@ stays m side r w = record m { worlds = with_connection r (seen_from side w) m.wo
 abbrev pub noted : List Entry → Machine → Machine
 noted entries m = record m { journal = m.journal ++ entries }
 
--- ---- a caller asks for a connection
+-- ---- a caller requests a connection
 
 abbrev pub is_waiting : Transport → Bool
 is_waiting waiting = true
@@ -113,8 +113,7 @@ is_long_selector (Some octets) = nat_lt 16 (length octets)
 abbrev pub is_long : Offer → Bool
 is_long o = is_long_selector o.calling_selector || (is_long_selector o.called_selector || not (nat_le (length o.octets) 10240))
 
--- by whether the caller has ended, the class, and what the transport connection is of each connection
--- that he asked for
+-- by whether the caller has ended, the class, and the transport connection of each connection that it requested
 abbrev pub refusal_by : Bool → Option Class → List Transport → Offer → Option Refusal
 refusal_by over_now known asked o =
     if over_now then Some has_ended
@@ -165,7 +164,7 @@ side_of side (Some w) = Some (seen_from side w)
 abbrev pub ends_there : ℕ → World → World
 ends_there keep w = if is_given w.own.transport then ended_at keep w else w
 
--- each connection of the side, and what its user is shown, by rising reference
+-- each connection of the side, and what its user is told, by rising reference
 abbrev pub ended_worlds : Side → (ℕ → ℕ) → ℕ → List World → List World
 ended_worlds side keep r [] = []
 ended_worlds side keep r (w ∷ ws) = seen_from side (ends_there (keep r) (seen_from side w)) ∷ ended_worlds side keep (r + 1) ws
@@ -188,7 +187,7 @@ abbrev pub closes_by : Option Class → Machine → Side → ℕ → (ℕ → �
 closes_by (Some class_2) m side r keep t = stays m side r (closed m.broken (keep r) t.world)
 closes_by _ m side r keep t = after_end side closed_here keep (stays m side r t.world)
 
--- what a user is shown comes before the end that it may bring
+-- the user receives an indication before the end that it may cause
 abbrev pub after_taking : Machine → Side → ℕ → (ℕ → ℕ) → Taking → Machine
 after_taking m side r keep t = if t.closes
     then closes_by m.known (noted (map (shown_at side r) t.shown) m) side r keep t
@@ -197,7 +196,7 @@ after_taking m side r keep t = if t.closes
 abbrev pub without_first : World → List Message → World
 without_first w ms = record w { peer = record w.peer { channel = ms } }
 
--- the class is known once a caller takes an agree
+-- the class is known once a caller takes the agreement
 abbrev pub learns : Terms → Transport → Message → Option Class → Option Class
 learns (accepts class) waiting agree known = Some class
 learns terms transport m known = known
@@ -222,8 +221,8 @@ cut_channels left right r (w ∷ ws) = record w {
 
 -- ---- a step
 
--- A side that has ended takes nothing and does not end again. It can be told of a break only once there
--- is one, and there is at most one.
+-- A side that has ended takes nothing and does not end again. It can be told of a break only after there is one, and
+-- there is at most one.
 abbrev pub is_told : Ending → Bool → Bool
 is_told told_of_break broken = broken
 is_told closed_here broken = false

@@ -2,8 +2,8 @@
 use Rattle.std.specs.Prelude.{Bool, true, false, if◌then◌else◌}
 use Rattle.osi_machine.specs.Floor.{Token, has, set_of, Tokens, available, State, is_over}
 
--- this side or the other; on its way to either; nobody, until a restart is answered or for good; and
--- nobody, since the token is not available
+-- this side or the other; in flight to either; nobody, until a restart is answered or for good; and nobody, since the
+-- token is not available
 pub data Owner : Type 0 where
   Own : Owner
   Theirs : Owner
@@ -50,8 +50,8 @@ owned owner = set_of (λ t. is_own (owner t))
 abbrev pub passed_to : Owner → Tokens → Owners → Owners
 passed_to new tokens owner t = if has tokens t then new else owner t
 
--- after an Accept or a RestartConfirm: of the available tokens this side owns what it then holds, and
--- the others are on their way
+-- after an Accept or a RestartConfirm: of the available tokens this side owns those that it then holds, and the others
+-- are in flight
 abbrev pub settled_by : State → Owners
 settled_by s t = if has s.held t then Own else if has (available s.units) t then ToThem else Absent
 
@@ -63,7 +63,7 @@ abbrev pub all_to_pool : Owner → Owner
 all_to_pool Absent = Absent
 all_to_pool o = Pool
 
--- what this side owned is nobody's
+-- what this side owned is now nobody's
 abbrev pub given_up : Owners → Owners
 given_up owner t = own_to_pool (owner t)
 

@@ -1,4 +1,4 @@
--- What is true of one side of a connection by itself, whatever the other does.
+-- The invariant of one side of a connection by itself, whatever the other does.
 use Rattle.std.specs.Prelude.{◌≡◌, ◌+◌, Bool, true, ◌||◌, []}
 use Rattle.std.specs.List.{AllByRecursion}
 use Rattle.osi_machine.specs.Floor.{Phase, is_wait_cn, is_connecting, is_answering, is_major_due, is_releasing, is_restarting, from_base, IsSound, IsNumbered, HasSerial}
@@ -9,7 +9,7 @@ use Rattle.osi_machine.specs.Core.{Party, Core, CoreStep, call_at, take_at}
 abbrev pub is_opening : Phase → Bool
 is_opening p = is_wait_cn p || (is_connecting p || is_answering p)
 
--- nothing was seen and no number given
+-- nothing was seen, and no number was given
 pub record IsFresh (x : Party) : Type 0 where
   pub base : x.session.base ≡ 0
   pub numbers : x.session.numbers ≡ from_base 0
@@ -22,15 +22,15 @@ pub record IsConsistent (x : Party) : Type 0 where
   pub sound : IsSound x.session
   -- V(M) is the base and the points that were seen
   pub count : x.session.numbers.next ≡ x.session.base + points x.view
-  -- a major point is to be confirmed only where points were taken last
+  -- a major point is to be confirmed only if points were taken last
   pub major : is_major_due x.session.phase ≡ true → x.session.numbers.answers ≡ true
-  -- a restart was asked for only where it is selected
+  -- a restart was requested only if it is selected
   pub asked : is_restarting x.session.phase ≡ true → x.session.units.resynchronize ≡ true
-  -- with duplex only the caller asks for release
+  -- with duplex only the caller requests release
   pub asker : is_releasing x.session.phase ≡ true → x.session.units.duplex ≡ true → x.session.is_caller ≡ true
   pub fresh : is_opening x.session.phase ≡ true → IsFresh x
 
--- both sides, and the numbers under way are those that a point may have
+-- both sides, and the numbers in flight are those that a point may have
 pub record AreConsistent (w : Core) : Type 0 where
   pub own : IsConsistent w.own
   pub peer : IsConsistent w.peer

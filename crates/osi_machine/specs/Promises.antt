@@ -8,7 +8,7 @@ use Rattle.osi_machine.specs.Taking.{is_acted_on}
 use Rattle.osi_machine.specs.Core.{Core, CoreStep, Offer, CanBeOffered, turned, core_run, core_start}
 use Rattle.osi_machine.specs.Parties.{IsNumberedStep}
 
--- a connection that came about from a CN by calls and units taken, in any order
+-- a connection reached from a CN by calls and units taken, in any order
 pub record IsReached (w : Core) : Type 0 where
   pub offer : Offer
   pub steps : List CoreStep
@@ -17,7 +17,7 @@ pub record IsReached (w : Core) : Type 0 where
   pub numbered : AllByRecursion IsNumberedStep steps
   pub reached : core_run (core_start offer) steps ≡ w
 
--- said of each of the two sides
+-- a statement about each of the two sides
 abbrev pub OfBoth : (Core → Type 0) → Core → Type 0
 OfBoth P w = P w × P (turned w)
 
@@ -25,16 +25,16 @@ OfBoth P w = P w × P (turned w)
 abbrev pub OneHolder : Core → Type 0
 OneHolder w = (t : Token) → (has w.own.session.held t && has w.peer.session.held t) ≡ false
 
--- a side holds what it owns
+-- a side holds the tokens that it owns
 abbrev pub HoldsItsOwn : Core → Type 0
 HoldsItsOwn w = (t : Token) → has w.own.session.held t ≡ is_own (w.owner t)
 
--- what is taken next is no fault: it is discarded, or answered as the table says
+-- the unit that is taken next is no fault: it is discarded, or answered as the table says
 abbrev pub TakesNoFault : Core → Type 0
 TakesNoFault w = (u : Meaning) (us : List Meaning) → w.peer.sent ≡ u ∷ us →
     respond_unit w.own.session u ≡ (if drops w.own.session u then nothing w.own.session else good w.own.session u)
 
--- what a side has seen is how the history begins
+-- what a side has seen is a prefix of the history
 abbrev pub SeesTheHistory : Core → Type 0
 SeesTheHistory w = Begins w.own.view w.history
 
@@ -42,11 +42,11 @@ SeesTheHistory w = Begins w.own.view w.history
 abbrev pub ViewsAgree : Core → Type 0
 ViewsAgree w = Agree w.own.view w.peer.view
 
--- with duplex, what a side got is how what the other said begins
+-- with duplex, what a side received is a prefix of what the other sent
 abbrev pub GotWhatWasSaid : Core → Type 0
 GotWhatWasSaid w = w.own.session.units.duplex ≡ true → Begins w.own.got w.peer.said
 
--- the item that a unit brings, where it brings one
+-- the item that a unit brings, if it brings one
 abbrev pub brings : State → Meaning → List Item
 brings s (DT octets) = if s.units.duplex then [] else Octets octets ∷ []
 brings s (MIP confirm n octets) = Point n (minor_kind confirm) octets ∷ []
@@ -58,8 +58,8 @@ abbrev pub TakesTheNextItem : Core → Type 0
 TakesTheNextItem w = (u : Meaning) (us : List Meaning) → w.peer.sent ≡ u ∷ us → is_acted_on w.own.session u ≡ true →
     Begins (w.own.view ++ brings w.own.session u) w.history
 
--- A point that a side has seen, and whose number is below its V(A), was seen by the other too, behind the
--- same items; unless the other awaits the answer to a restart.
+-- If a side has seen a point, and its number is below the side's V(A), the other has seen it too, after the same items;
+-- unless the other awaits the answer to a restart.
 abbrev pub ConfirmedIsSeen : Core → Type 0
 ConfirmedIsSeen w = (before : List Item) (n : ℕ) (kind : PointKind) (octets : List ℕ) → Begins (before ++ Point n kind octets ∷ []) w.own.view →
     n < w.own.session.numbers.confirmed → is_restarting w.peer.session.phase ≡ false → Begins (before ++ Point n kind octets ∷ []) w.peer.view

@@ -1,4 +1,4 @@
--- What the session of a side says of a connection, and what it hears of it, unit by unit.
+-- What the session of a side sends on a connection, and what it receives, unit by unit.
 use Rattle.std.specs.Prelude.{◌≡◌, ℕ, Bool, true, false, not, ◌&&◌, ◌==◌, if◌then◌else◌, List, [], ◌∷◌, ◌++◌, Option, Some, None, is_some}
 use Rattle.osi_session.specs.Moves.{called, taken, opened, Standing, react}
 use Rattle.osi_message.specs.Sendable.{said_of}
@@ -16,19 +16,19 @@ one_or_none (Some u) = u ∷ []
 
 -- ---- one message, or one call
 
--- What a session says to a message, by what its transport connection is: once there is one, its CN, and
--- then what it answers to a unit. Of all else that happens it says nothing.
+-- What a session sends in answer to a message, by its transport connection: once there is one, its CN, and then its
+-- answer to a unit. Nothing else makes it send.
 abbrev pub said_to : Transport → Standing → Message → List Meaning
 said_to waiting s agree = one_or_none (react s opened).reply
 said_to linked s (unit u) = one_or_none (react s (taken (said_of u))).reply
 said_to transport s m = []
 
--- where there is a transport connection, a unit is heard
+-- a unit is received if there is a transport connection
 abbrev pub heard_of : Transport → Message → List Meaning
 heard_of linked (unit u) = u ∷ []
 heard_of transport m = []
 
--- the first message that is under way to a side
+-- the answer to the first message in flight to a side
 abbrev pub said_to_first : Line → List Message → List Meaning
 said_to_first l [] = []
 said_to_first l (m ∷ ms) = said_to l.own.transport l.own.session m
@@ -45,7 +45,7 @@ abbrev pub heard_at_delivery : Option Line → List Meaning
 heard_at_delivery None = []
 heard_at_delivery (Some l) = heard_of_first l l.peer.channel
 
--- a call that is accepted says its unit
+-- a call that is accepted sends its unit
 abbrev pub said_at_call : Call → Option Line → List Meaning
 said_at_call c None = []
 said_at_call c (Some l) = if is_given l.own.transport then one_or_none (react l.own.session (called c)).reply else []
@@ -55,8 +55,8 @@ said_at_call c (Some l) = if is_given l.own.transport then one_or_none (react l.
 abbrev pub is_at : Side → ℕ → Side → ℕ → Bool
 is_at side r s q = is_side side s && (q == r)
 
--- what the session of a side says of the connection of a reference, and what it hears of it; a side that
--- has ended takes nothing
+-- what the session of a side sends on the connection with a reference, and what it receives; a side that has ended
+-- takes nothing
 abbrev pub said_at : Side → ℕ → Tables → Step → List Meaning
 said_at side r t (calls s q c) = if is_at side r s q then said_at_call c (side_of side (connection_at r t.lines)) else []
 said_at side r t (delivers s q keep) =
@@ -77,7 +77,7 @@ abbrev pub heard_in : Side → ℕ → Tables → List Step → List Meaning
 heard_in side r t [] = []
 heard_in side r t (s ∷ steps) = heard_at side r t s ++ heard_in side r (step t s) steps
 
--- ---- what was said, and what of it was heard
+-- ---- what was sent, and what of it was received
 
 abbrev pub other_side : Side → Side
 other_side Left = Right
@@ -89,16 +89,15 @@ units_in [] = []
 units_in (unit u ∷ ms) = u ∷ units_in ms
 units_in (m ∷ ms) = units_in ms
 
--- it is closing, or gone
+-- the transport connection is closing, or gone
 abbrev pub is_parting : Transport → Bool
 is_parting closing = true
 is_parting gone = true
 is_parting transport = false
 
--- What a side has heard of a connection is how what the other has said of it begins. While its transport
--- connection is not closing or gone, what it has heard and then what is under way to it is how that begins;
--- and is all of that where the transport connection of the other is not closing or gone either, and
--- nothing is broken.
+-- What a side has received on a connection is a prefix of what the other has sent. While its transport connection is
+-- not closing or gone, what it has received followed by what is in flight to it is a prefix too; and it is all of that
+-- if the other's transport connection is not closing or gone either, and nothing is broken.
 pub record IsHeardAsSaid (side : Side) (r : ℕ) (terms : Terms) (steps : List Step) : Type 0 where
   pub begins : Begins (heard_in side r (start terms) steps) (said_in (other_side side) r (start terms) steps)
   pub under_way : (l : Line) → side_of side (connection_at r (run (start terms) steps).lines) ≡ Some l → is_parting l.own.transport ≡ false →

@@ -1,6 +1,6 @@
--- The machine where each side of a connection keeps the state of its session, as the tables of sessions
--- have it, and the two share nothing but what is under way: no history, no owner, no mark. Whatever
--- happens to a side is an input of its session, and what the session sends goes to the end of its channel.
+-- The machine in which each side of a connection keeps the state of its session, as the tables of sessions have it. The
+-- two share only what is in flight: no history, no owner, no mark. Whatever happens to a side is an input of its
+-- session, and what the session sends is added to the end of its channel.
 use Rattle.std.specs.Prelude.{ℕ, ◌+◌, Bool, true, false, not, ◌||◌, if◌then◌else◌, List, [], ◌∷◌, ◌++◌, take, map, Option, Some, None, is_some}
 use Rattle.osi_session.specs.declared.faults.CallError.TheVariants as error
 use Rattle.osi_session.specs.Moves.{Input, called, taken, opened, refused, broken as broken_off, Standing, Move, react}
@@ -33,7 +33,7 @@ calling o = record { state = without_tokens WaitTransport (offering o); waiting 
 abbrev pub awaits : Standing
 awaits = record { state = awaiting; waiting = None }
 
--- a caller asks for a transport connection
+-- a caller requests a transport connection
 abbrev pub asked_with : Bool → Offer → Line
 asked_with broken o = record {
   own = record { transport = waiting; session = calling o; channel = put broken (ask ∷ []) [] };
@@ -48,16 +48,16 @@ in_transport transport l = record l { own = record l.own { transport = transport
 abbrev pub puts : Bool → List Message → Line → Line
 puts broken messages l = record l { own = record l.own { channel = put broken messages l.own.channel } }
 
--- the suffix of a channel that a close takes away
+-- a suffix of a channel, which a close discards
 abbrev pub shortened : ℕ → Line → Line
 shortened keep l = record l { own = record l.own { channel = take keep l.own.channel } }
 
--- the session makes a move: what it sends is put
+-- the session makes a move, and what it sends is put into its channel
 abbrev pub made : Bool → Move → Line → Line
 made broken move l = puts broken (replied move.reply) (record l { own = record l.own { session = move.next } })
 
--- what happens to a side, or what it takes: the connection after it, what the user is shown, whether the
--- side closes the transport connection
+-- the effect of something that happens to a side, or that it takes: the connection after it, what the user receives,
+-- whether the side closes the transport connection
 pub record Turn : Type 0 where
   pub line : Line
   pub shown : List Shown
@@ -66,7 +66,7 @@ pub record Turn : Type 0 where
 abbrev pub unseen : Line → Turn
 unseen l = record { line = l; shown = []; closes = false }
 
--- something happens to the session, whose transport connection is then this
+-- something happens to the session, whose transport connection is then in this state
 abbrev pub hears : Bool → Transport → Input → Line → Turn
 hears broken transport input l = record {
   line = in_transport transport (made broken (react l.own.session input) l);
@@ -74,7 +74,7 @@ hears broken transport input l = record {
   closes = (react l.own.session input).closes;
 }
 
--- a call: a call that is refused moves nothing
+-- a call; a call that is refused changes nothing
 abbrev pub after_call : Bool → Call → Line → Line
 after_call broken c l = made broken (react l.own.session (called c)) l
 
@@ -103,7 +103,7 @@ message_taken broken terms keep transport l m = unseen l
 abbrev pub closed : Bool → ℕ → Line → Line
 closed broken keep l = puts broken (bye 128 ∷ []) (in_transport closing (shortened keep l))
 
--- the end of a side: of what it had put any suffix may be lost
+-- the end of a side: any suffix of what it had put may be lost
 abbrev pub ended_at : ℕ → Line → Turn
 ended_at keep l = hears true gone broken_off (shortened keep l)
 
@@ -115,7 +115,7 @@ pub record Tables : Type 0 where
   pub left_end : Option Ending
   pub right_end : Option Ending
   pub known : Option Class
-  -- by rising reference, from 1 on; as the left side sees them
+  -- by rising reference, from 1 on, as the left side sees them
   pub lines : List Line
   pub journal : List Entry
 
@@ -140,7 +140,7 @@ stays t side r l = record t { lines = with_connection r (seen_from side l) t.lin
 abbrev pub noted : List Entry → Tables → Tables
 noted entries t = record t { journal = t.journal ++ entries }
 
--- ---- a caller asks for a connection
+-- ---- a caller requests a connection
 
 abbrev pub transport_of : Line → Transport
 transport_of l = l.own.transport
@@ -189,7 +189,7 @@ abbrev pub closes_by : Option Class → Tables → Side → ℕ → (ℕ → ℕ
 closes_by (Some class_2) t side r keep l = stays t side r (closed t.broken (keep r) l)
 closes_by _ t side r keep l = after_end side closed_here keep (stays t side r l)
 
--- what a user is shown comes before the end that it may bring
+-- the user receives an indication before the end that it may cause
 abbrev pub after_turn : Tables → Side → ℕ → (ℕ → ℕ) → Turn → Tables
 after_turn t side r keep turn = if turn.closes
     then closes_by t.known (noted (map (shown_at side r) turn.shown) t) side r keep turn.line

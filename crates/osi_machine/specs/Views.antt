@@ -1,4 +1,4 @@
--- The record of one side of a connection, which is what its user asked and was shown, and what it tells.
+-- The record of one side of a connection, which is what its user asked for and received, and what can be read from it.
 use Rattle.std.specs.Prelude.{◌≡◌, ℕ, ◌+◌, ◌==◌, Bool, true, false, ◌&&◌, if◌then◌else◌, List, [], ◌∷◌, ◌++◌, map, None}
 use Rattle.osi_session.specs.Shown.{Shown, Connected, Data as data_shown, Minor as minor_shown, Major as major_shown, Restart as restart_shown, Restarted, PeerAbort, BadUnit}
 use Rattle.osi_machine.specs.Floor.{FunctionalUnits, State, Call, Accept, Data, Minor, Major, Restart, Meaning, allowed, respond_unit, functional_units, no_units, both_units, base_for, agreed_base, is_restarting}
@@ -6,10 +6,10 @@ use Rattle.osi_machine.specs.Histories.{Item, Octets, Point, PointKind, minor_ki
 use Rattle.osi_machine.specs.Core.{Core, CoreStep, call_at, take_at, Side, Left, Right, Offer, stays_in_core, core_step, core_run, core_start}
 use Rattle.osi_machine.specs.Machine.{Entry, call_answered, shown_at, error_of}
 
--- What a record has told so far: the units that were asked for and the number that was proposed, where
--- its side asked for the connection; whether duplex is selected; the first number; what of the history
--- was seen; the data that was asked to be sent, and that was shown; whether the answer to a restart is
--- awaited; and whether a fault was shown, of this side or of the other.
+-- What a record has told so far: the units and the first number that its side proposed, if it requested the connection;
+-- whether duplex is selected; the first number; what was seen of the history; the data that was to be sent, and the
+-- data that was received; whether the answer to a restart is awaited; and whether a fault was indicated, of this side
+-- or of the other.
 pub record Told : Type 0 where
   pub asked_for : FunctionalUnits
   pub proposed : ℕ
@@ -28,7 +28,7 @@ with_data t octets = record t { view = t.view ++ Octets octets ∷ [] }
 abbrev pub with_point : Told → ℕ → PointKind → List ℕ → Told
 with_point t n kind octets = record t { view = t.view ++ Point n kind octets ∷ [] }
 
--- an accepted call: a point that is asked for has the base and the number of points before it
+-- an accepted call; a point gets the base plus the number of points before it
 abbrev pub told_call : Told → Call → Told
 told_call t (Accept requirements serial sides sizes octets) =
     record t { duplex = (functional_units requirements).duplex; base = base_for (functional_units requirements) serial }
@@ -38,7 +38,7 @@ told_call t (Major octets) = with_point t (t.base + points t.view) major_point o
 told_call t (Restart n wishes octets) = record t { view = cutat t.base t.view n; asking = true }
 told_call t c = t
 
--- what is shown: a point has the number that is shown
+-- an indication; a point has the number that is indicated
 abbrev pub told_shown : Told → Shown → Told
 told_shown t (Connected requirements serial sides sizes octets) = record t {
   duplex = (both_units t.asked_for (functional_units requirements)).duplex;
@@ -78,7 +78,7 @@ abbrev pub record_of : Side → ℕ → List Entry → List Entry
 record_of side r [] = []
 record_of side r (e ∷ es) = if is_of side r e then e ∷ record_of side r es else record_of side r es
 
--- before the first entry; a caller has asked with an offer
+-- before the first entry, for a caller with this offer
 abbrev pub untold : Side → Offer → Told
 untold Left o = record {
   asked_for = functional_units o.requirements;
@@ -93,11 +93,11 @@ untold Left o = record {
 }
 untold Right o = record { asked_for = no_units; proposed = 0; duplex = false; base = 0; view = []; requested = []; indicated = []; asking = false; faulted = false }
 
--- the view of a side, and whether it has asked for a restart of which it has seen no answer, by the journal
+-- the view of a side, and whether it has requested a restart and has seen no answer, by the journal
 abbrev pub told_of : Side → ℕ → Offer → List Entry → Told
 told_of side r o journal = told_by (untold side o) (record_of side r journal)
 
--- ---- the journal of a connection of which nothing is lost
+-- ---- the journal of a connection on which nothing is lost
 
 abbrev pub call_entries : Side → State → Call → List Entry
 call_entries side s c = if stays_in_core c then call_answered side 1 c (error_of (allowed s c)) ∷ [] else []
@@ -124,8 +124,8 @@ left_told o steps = told_of Left 1 o (core_journal (core_start o) steps)
 abbrev pub right_told : Offer → List CoreStep → Told
 right_told o steps = told_of Right 1 o (core_journal (core_start o) steps)
 
--- With half-duplex, each record tells what its side has seen, so that the two views agree; and it tells
--- whether the side has asked for a restart and awaits the answer.
+-- With half-duplex, each record tells what its side has seen, so the two views agree; and it tells whether the side has
+-- requested a restart and awaits the answer.
 pub record AreTold (o : Offer) (steps : List CoreStep) : Type 0 where
   pub left : (core_run (core_start o) steps).own.session.units.duplex ≡ false → (left_told o steps).view ≡ (core_run (core_start o) steps).own.view
   pub right : (core_run (core_start o) steps).peer.session.units.duplex ≡ false → (right_told o steps).view ≡ (core_run (core_start o) steps).peer.view

@@ -13,8 +13,8 @@ pub data Class : Type 0 where
   class_0 : Class
   class_2 : Class
 
--- a session unit; and of the transport connection that it is asked for, agreed to, denied, or closed,
--- and that a close is answered (CR, CC, DR and DC)
+-- a session unit; or a message about the transport connection: it is requested, agreed to, denied or closed, or a close
+-- is answered (CR, CC, DR and DC)
 pub data Message : Type 0 where
   unit : Meaning → Message
   ask : Message
@@ -30,7 +30,7 @@ pub data Transport : Type 0 where
   closing : Transport
   gone : Transport
 
--- what a side keeps for itself: all of its session but its tokens and V(M)
+-- what a side keeps for itself: all of its session except its tokens and V(M)
 pub record Kept : Type 0 where
   pub phase : Phase
   pub is_caller : Bool
@@ -57,8 +57,8 @@ kept_of s = record {
   sizes = s.sizes;
 }
 
--- one side of a connection: how many items of the history it has seen; what it has sent and the other
--- has not taken; and with duplex, what it has said and how much it has got of what the other said
+-- one side of a connection: how many items of the history it has seen; what it has sent and the other has not taken;
+-- and with duplex, what it has sent and how much it has received of what the other sent
 pub record End : Type 0 where
   pub transport : Transport
   pub kept : Kept
@@ -67,7 +67,7 @@ pub record End : Type 0 where
   pub said : List (List ℕ)
   pub got : ℕ
 
--- one history, an owner for each token, and two sides; seen from one of them
+-- one history, an owner for each token, and two sides, seen from one of them
 pub record World : Type 0 where
   pub offer : Offer
   pub history : List Item
@@ -78,8 +78,8 @@ pub record World : Type 0 where
 abbrev pub turned : World → World
 turned w = record w { owner = turned_owners w.owner; own = w.peer; peer = w.own }
 
--- the state of a side, by the tables of its session: it holds what it owns, and its next number is the
--- base and the points before its mark
+-- the state of a side in the tables of its session: it holds what it owns, and its next number is the base plus the
+-- points before its mark
 abbrev pub session_of : World → State
 session_of w = record {
   phase = w.own.kept.phase;
@@ -98,7 +98,7 @@ session_of w = record {
   sizes = w.own.kept.sizes;
 }
 
--- a caller asks for a transport connection
+-- a caller requests a transport connection
 abbrev pub asked_with : Offer → World
 asked_with o = record {
   offer = o;
@@ -138,8 +138,8 @@ after_answer broken c w (Err e) = w
 
 -- ---- a message is taken
 
--- what is taken into a side: the connection after it, what the user is shown, whether the side closes the
--- transport connection
+-- the effect of a message that a side takes: the connection after it, what the user receives, whether the side closes
+-- the transport connection
 pub record Taking : Type 0 where
   pub world : World
   pub shown : List Shown
@@ -176,7 +176,7 @@ unit_taken broken w u = record {
   closes = (respond_unit (session_of w) u).closes;
 }
 
--- a side as it stands with a new transport and session, and more in its channel
+-- a side with a new transport connection and session, and more in its channel
 abbrev pub moved : Bool → Transport → State → List Message → World → World
 moved broken transport s messages w = record w {
   owner = left_by s w.owner;
@@ -189,11 +189,11 @@ unchanged w = record { world = w; shown = []; closes = false }
 abbrev pub moves : World → List Shown → Taking
 moves w shown = record { world = w; shown = shown; closes = false }
 
--- the suffix of a channel that a close takes away
+-- a suffix of a channel, which a close discards
 abbrev pub shortened : ℕ → World → World
 shortened keep w = record w { own = record w.own { channel = take keep w.own.channel } }
 
--- a called end accepts by one class, or denies
+-- a called end accepts in one class, or denies
 pub data Terms : Type 0 where
   accepts : Class → Terms
   denies : (reason : ℕ) → Terms
@@ -202,7 +202,7 @@ abbrev pub asked_at : Bool → Terms → World → World
 asked_at broken (accepts class) w = moved broken linked awaiting (agree ∷ []) w
 asked_at broken (denies reason) w = record w { own = record w.own { channel = put broken (deny reason ∷ []) w.own.channel } }
 
--- by what the transport connection is at the side that takes the message
+-- by the state of the transport connection at the side that takes the message
 abbrev pub message_taken : Bool → Terms → ℕ → Transport → World → Message → Taking
 message_taken broken terms keep not_yet w ask = unchanged (asked_at broken terms w)
 message_taken broken terms keep waiting w agree = unchanged (moved broken linked (offering w.offer) (unit (offer_sent w.offer) ∷ []) w)
@@ -222,7 +222,7 @@ closed broken keep w = moved broken closing (session_of w) (bye 128 ∷ []) (sho
 
 -- ---- the end of a side
 
--- its session is lost; of what it had put any suffix may be
+-- its session is lost, and any suffix of what it had put may be
 abbrev pub ended_at : ℕ → World → World
 ended_at keep w = moved true gone (lost (session_of w)).next [] (shortened keep w)
 

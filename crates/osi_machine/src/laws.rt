@@ -20,10 +20,10 @@ ghost use Rattle.osi_machine.specs.Worlds.{Message, Terms, accepts, class_2};
 
 use osi_session::laws as session;
 
-/// Over every list of calls and units taken, in any order, from a CN that is under way, and whatever
-/// the other side does: V(A) and V(R) are between the base and V(M), which is at most 1,000,000 and
-/// counts the points that this side has seen; points that are to be confirmed were taken last; a
-/// restart is asked for only where it is selected, and with duplex a release by the caller alone.
+/// Over every list of calls and units taken, in any order, from a CN in flight on, and whatever the other side does:
+/// V(A) and V(R) are between the base and V(M). V(M) is at most 1,000,000 and counts the points that this side has
+/// seen. If points are to be confirmed, points were taken last. A restart is requested only if it is selected, and with
+/// duplex only the caller requests release.
 pub fn what_is_true_of_each_side()
     ensures begins { (o : Offer) → CanBeOffered o → AreConsistent (core_start o) }
     ensures kept { (w : Core) (steps : List CoreStep) → AllByRecursion IsNumberedStep steps → AreConsistent w →
@@ -35,8 +35,8 @@ pub fn what_is_true_of_each_side()
     session::what_an_accepted_call_passed();
 }
 
-/// However a connection came about by calls and units taken: no token is held by both sides, and each
-/// side holds the tokens that it owns.
+/// Whatever calls were made and units taken, no token is held by both sides, and each side holds the tokens that it
+/// owns.
 pub fn one_holder()
     ensures both { (w : Core) → IsReached w → OneHolder w }
     ensures own { (w : Core) → IsReached w → OfBoth HoldsItsOwn w }
@@ -47,8 +47,8 @@ pub fn one_holder()
     session::what_an_accepted_call_passed();
 }
 
-/// No unit that either side sends is a fault at the other: it is discarded, or answered as the table of
-/// good units says.
+/// No unit that either side sends is a fault at the other: it is discarded, or answered as the table of good units
+/// says.
 pub fn no_fault()
     ensures { (w : Core) → IsReached w → OfBoth TakesNoFault w }
 {
@@ -58,9 +58,9 @@ pub fn no_fault()
     session::what_an_accepted_call_passed();
 }
 
-/// What a side has seen is how the history begins, so that one of both views begins with the other: each
-/// point that is in both has in both the same number and kind, the same octets, and the same items
-/// before it. With duplex, what a side got is how what the other said begins.
+/// What a side has seen is a prefix of the history, so one of the two views is a prefix of the other. A point that is
+/// in both views has the same number, kind and octets in both, and the same items before it. With duplex, the data that
+/// a side has received is a prefix of what the other sent.
 pub fn agreement()
     ensures history { (w : Core) → IsReached w → OfBoth SeesTheHistory w }
     ensures views { (w : Core) → IsReached w → ViewsAgree w }
@@ -72,8 +72,7 @@ pub fn agreement()
     session::what_an_accepted_call_passed();
 }
 
-/// Data or a point that is taken is the item of the history that comes behind all that its taker has
-/// seen.
+/// Data or a point that is taken is the next item of the history: the one after everything that its taker has seen.
 pub fn next_item()
     ensures { (w : Core) → IsReached w → OfBoth TakesTheNextItem w }
 {
@@ -83,8 +82,8 @@ pub fn next_item()
     session::what_an_accepted_call_passed();
 }
 
-/// A point that a side has seen, and whose number is below its V(A), was seen by the other too, behind
-/// the same items; unless the other has asked for a restart and awaits the answer.
+/// If a side has seen a point, and the point's number is below its V(A), the other side has seen the point too, after
+/// the same items; unless the other has requested a restart and awaits the answer.
 pub fn confirmed_is_seen()
     ensures { (w : Core) → IsReached w → OfBoth ConfirmedIsSeen w }
 {
@@ -94,9 +93,9 @@ pub fn confirmed_is_seen()
     session::what_an_accepted_call_passed();
 }
 
-/// The record of a side, which is what its user asked and was shown, tells what it has seen: data and
-/// points are added, and restarts cut them. So with half-duplex the views of both records agree. It tells
-/// too whether its side has asked for a restart of which it has seen no answer.
+/// The record of a side is what its user asked for and what it received. It tells what the side has seen: data and
+/// points are added, and restarts cut them. So with half-duplex the views of both records agree. The record also tells
+/// whether its side has requested a restart and has seen no answer.
 pub fn what_a_record_tells()
     ensures told { (o : Offer) (steps : List CoreStep) → CanBeOffered o → is_profile o.requirements ≡ true →
         AllByRecursion IsNumberedStep steps → AreTold o steps }
@@ -110,16 +109,15 @@ pub fn what_a_record_tells()
     session::what_an_accepted_call_passed();
 }
 
-/// After every list of steps of the machine, with any number of connections, with closes, breaks and
-/// ends, and whatever is lost: of each connection no token is held by both sides; neither user is shown
-/// a fault of its own side or of the other; unless duplex is selected, one of both views begins with the
-/// other, and with duplex, as soon as one of the two has sent or seen the answer that selects it, the data
-/// that a side is shown is how the data that the other asked to send begins; and each point in the view of
-/// a side with a number below its V(A) is in the view of the other, behind the same items, unless the other
-/// awaits the answer to a restart. All this is read from the journal alone, but for V(A). Data or a point
-/// that is taken is the item of the history at the mark of the side that takes it. No entry of the journal
-/// is a fault that is shown, whatever its reference. And a side is shown that a connection was lost only
-/// where it was told of a break or found no memory.
+/// What the records of two users tell, after every list of steps of the machine, with any number of connections, with
+/// closes, breaks and ends, and whatever is lost. For each connection: no token is held by both sides; neither user
+/// receives a fault of its own side or of the other; unless duplex is selected, one of the two views is a prefix of the
+/// other; with duplex, as soon as one of the two has sent or seen the answer that selects it, the data that a user
+/// receives is a prefix of the data that the other asked to send; and each point in the view of a side with a number
+/// below its V(A) is in the view of the other, after the same items, unless the other awaits the answer to a restart.
+/// All of this except V(A) is read from the journal. Data or a point that is taken is the item of the history at the
+/// mark of the side that takes it. No entry of the journal is an indication of a fault, whatever its reference. A user
+/// is told that a connection was lost only if its end was told of a break or ran out of memory.
 pub fn what_two_records_tell()
     ensures holder { (m : Machine) → IsRun m → OfEach HasOneHolder m }
     ensures fault { (m : Machine) → IsRun m → OfEach ShowNoFault m }
@@ -136,15 +134,16 @@ pub fn what_two_records_tell()
     session::what_an_accepted_call_passed();
 }
 
-/// A step of one connection changes no other: a new one, a call, and a delivery that does not end its side.
+/// A step of one connection changes no other. This holds of a new connection, of a call, and of a delivery that does
+/// not end its side.
 pub fn connections_are_apart()
     ensures { (m : Machine) → AreApart m }
 {}
 
-/// After every list of steps two tables that share nothing but what is under way, one for each side, do
-/// what the machine does: the journal is the same, and so are the ends and the class; and each side has
-/// the same state, which the machine reads from one history and one owner for each token, and the same
-/// messages under way. So the journal is one of what two users may do and see.
+/// Two tables, one for each side, that share only what is in flight, do what the machine does, after every list of
+/// steps. The journal is the same, and so are the ends and the class; each side has the same state, which the machine
+/// reads from one history and one owner for each token; and the same messages are in flight. So the journal is one of
+/// what two users may do and see.
 pub fn the_tables_are_the_machine()
     ensures same { (terms : Terms) (steps : List Step) → AllByRecursion HasNumber steps → IsAsTables (run (start terms) steps) (tables.run (tables.start terms) steps) }
     ensures legal { (t : Tables) (h : IsTableRun t) → IsLegal h.agreed t.journal }
@@ -156,9 +155,9 @@ pub fn the_tables_are_the_machine()
     session::an_empty_token_item_changes_nothing();
 }
 
-/// What stands at a reference of the tables: after the connection of one reference is another, that one
-/// there and what stood elsewhere; behind all others a new one; after the end of a side, and after a break,
-/// what these leave of each connection.
+/// The connection at a reference of the tables: after one connection is replaced, the new one there, and elsewhere what
+/// was there; after a connection is added, the new one at the next reference; after the end of a side and after a
+/// break, what these leave of each connection.
 pub fn what_stands_at_a_reference()
     ensures same { (r : ℕ) (lines : List Line) (old new : Line) → connection_at r lines ≡ Some old → connection_at r (with_connection r new lines) ≡ Some new }
     ensures other { (q r : ℕ) (lines : List Line) (new : Line) → (q ≡ r → ⊥) → connection_at q (with_connection r new lines) ≡ connection_at q lines }
@@ -175,9 +174,9 @@ pub fn what_stands_at_a_reference()
     ensures broken_count { (left right : ℕ → ℕ) (lines : List Line) → length (tables.cut_channels left right 1 lines) ≡ length lines }
 {}
 
-/// Over every list of steps, whatever is lost: each unit that is under way can be sent, so that it is read
-/// as it was meant, and so can the CN that waits for the transport connection; V(A) and V(R) of each session
-/// are between the base and V(M), which is at most 1,000,000, and tokens are held in few phases.
+/// Over every list of steps, whatever is lost: each unit in flight can be written, so that it is read back as it was
+/// meant, and so can the CN that waits for the transport connection. V(A) and V(R) of each session are between the base
+/// and V(M), which is at most 1,000,000, and tokens are held only in few phases.
 pub fn what_is_under_way_can_be_sent()
     ensures { (t : Tables) → IsTableRun t → AreSoundLines t }
 {
@@ -185,8 +184,8 @@ pub fn what_is_under_way_can_be_sent()
     session::what_is_sent_can_be_sent();
 }
 
-/// Over every list of steps, whatever is lost: data that is first under way to a side is no fault there, in
-/// whatever phase its session is; where that is over, data is discarded.
+/// Over every list of steps, whatever is lost: data that is first in flight to a side is no fault there, in whatever
+/// phase its session is. A session that is over discards it.
 pub fn the_next_is_no_fault()
     ensures { (t : Tables) → IsTableRun t → AtEachSide IsNoFaultNext t }
 {
@@ -197,9 +196,9 @@ pub fn the_next_is_no_fault()
     session::an_empty_token_item_changes_nothing();
 }
 
-/// Over every list of steps, whatever is lost: data that is anywhere under way to a side is no fault there
-/// once what is ahead of it was taken, whatever calls the user of that side makes before. To a session that
-/// is over data is no fault, whatever comes before it.
+/// Over every list of steps, whatever is lost: data anywhere in flight to a side is no fault there once what is ahead
+/// of it was taken, whatever calls the user of that side makes before. Data is never a fault at a session that is over,
+/// whatever comes before it.
 pub fn data_is_no_fault_behind()
     ensures under_way { (t : Tables) → IsTableRun t → AtEachSide IsNoFaultBehind t }
     ensures over_now { (s : State) (ms : List Message) → is_over s.phase ≡ true → StaysCalm s ms }
@@ -211,8 +210,8 @@ pub fn data_is_no_fault_behind()
     session::an_empty_token_item_changes_nothing();
 }
 
-/// Over every list of steps, whatever is lost: where the close of a transport connection, or the answer to
-/// one, is under way to a side, the session of that side is over.
+/// Over every list of steps, whatever is lost: if the close of a transport connection, or the answer to one, is in
+/// flight to a side, the session of that side is over.
 pub fn who_is_left_is_over()
     ensures { (t : Tables) → IsTableRun t → AtEachSide IsOverWhenLeft t }
 {
@@ -223,14 +222,14 @@ pub fn who_is_left_is_over()
     session::an_empty_token_item_changes_nothing();
 }
 
-/// What two records tell, read from the tables and the journal alone: of each connection no token is held
-/// by both sessions; neither user is shown a fault of its own side or of the other; unless duplex is
-/// selected, one of both views begins with the other, and with duplex, as soon as one of the two has sent
-/// or seen the answer that selects it, the data that a side is shown is how the data that the other asked
-/// to send begins; and each point in the view of a side with a number below its V(A) is in the view of the
-/// other, behind the same items, unless the other awaits the answer to a restart. No entry of the journal
-/// is a fault that is shown, whatever its reference. A side is shown that a connection was lost only where
-/// it was told of a break or found no memory. The journal has what was asked for with each connection.
+/// What the records of two users tell, read from the tables and the journal alone. For each connection: no token is
+/// held by both sessions; neither user receives a fault of its own side or of the other; unless duplex is selected, one
+/// of the two views is a prefix of the other; with duplex, as soon as one of the two has sent or seen the answer that
+/// selects it, the data that a user receives is a prefix of the data that the other asked to send; and each point in
+/// the view of a side with a number below its V(A) is in the view of the other, after the same items, unless the other
+/// awaits the answer to a restart. No entry of the journal is an indication of a fault, whatever its reference. A user
+/// is told that a connection was lost only if its end was told of a break or ran out of memory. The journal has the
+/// offer of each connection.
 pub fn what_two_tables_tell()
     ensures holder { (t : Tables) → IsTableRun t → OfEachLine HoldNoneTwice t }
     ensures fault { (t : Tables) → IsTableRun t → OfEachLine AreNoFaults t }
@@ -248,10 +247,10 @@ pub fn what_two_tables_tell()
     session::an_empty_token_item_changes_nothing();
 }
 
-/// After every list of steps, whatever is lost: what a side has heard of a connection is how what the other
-/// side has said of it begins, whole and in order, unit by unit. Until its transport connection closes, what
-/// it has heard and then what is under way to it is how that begins; and that is all that the other has
-/// said, where nothing is broken and the transport connection of the other does not close either.
+/// After every list of steps, whatever is lost: the units that a side has received on a connection are a prefix of
+/// those that the other side has sent on it, whole and in order. Until its transport connection closes, what it has
+/// received followed by what is in flight to it is a prefix too; and it is all that the other has sent, if nothing is
+/// broken and the other's transport connection does not close either.
 pub fn what_is_heard_was_said()
     ensures { (side : Side) (r : ℕ) (terms : Terms) (steps : List Step) → IsHeardAsSaid side r terms steps }
 {
@@ -259,10 +258,10 @@ pub fn what_is_heard_was_said()
     session::what_closes_sends_nothing();
 }
 
-/// Examples, computed. A token that is given and not yet taken when the other side asks for a restart
-/// is nobody's until the restart is answered. Of two restarts that cross, the lower stands, and of
-/// equal ones the caller's. A restart may stand below a major point that was confirmed. There is no
-/// number above 999,999. A release whose answer is lost ends with no holder. With duplex both send.
+/// Worked examples. A token that is given, and not yet taken when the other side requests a restart, is nobody's until
+/// the restart is answered. Of two restarts that cross, the lower one wins; if they are equal, the caller's. A restart
+/// may go below a major point that was confirmed. There is no number above 999,999. If the answer to a release is lost,
+/// nobody holds a token in the end. With duplex both sides send.
 pub fn examples()
     ensures lost_give { after_lost_give.journal ≡ lost_give_seen }
     ensures lost_give_before { (held_in (stands_at Left after_lost_give) ≡ no_token) × (held_in (stands_at Right after_lost_give) ≡ no_token) }

@@ -1,4 +1,4 @@
--- What one session took is how what the other sent begins; and it is all of it where nothing is under way.
+-- What one session took is a prefix of what the other sent, and all of it if nothing is in flight.
 use Rattle.std.proofs.Common.{◌≡◌, refl, sym, ◌∙◌, ap, subst, ℕ, ◌<◌, ◌≤◌, Bool, true, false, List, [], ◌∷◌, ◌++◌, length, map, Option, Some, None, option_map, is_some, inl, inr, ◌⊎◌, arith, if◌then◌else◌}
 use Rattle.osi_tpdu.specs.Writing.{written}
 use Rattle.osi_carrier.proofs.Coming.{unit_packet}
@@ -46,11 +46,11 @@ no_words : (words : List Word) → map word_in words ≡ [] → words ≡ []
 no_words [] e = refl
 no_words (w ∷ words) e = absurd (cc)
 
--- nothing is under way
+-- nothing is in flight
 no_messages : (o : Option EndReason) (g : Progress) (c : Bool) (H : Option (List ℕ) → Type 0) (x : Session) (ms : List Message) (sent : List carrier.Message) → (w : AreUnderWay o g c H x ms sent) → map word_in w.words ≡ [] → ms ≡ []
 no_messages o g c H x ms sent w none = sym w.joined ∙ ap (joins w.begun) (no_words w.words none)
 
--- and nothing has begun, where nothing was cut off
+-- and nothing has begun, if nothing was cut off
 none_begun_by : (o : Option EndReason) (g : Progress) (c : Bool) (H : Option (List ℕ) → Type 0) (x : Session) (ms : List Message) (sent : List carrier.Message) → (w : AreUnderWay o g c H x ms sent) → c ≡ false → map word_in w.words ≡ [] → w.begun ≡ None
 none_begun_by o g c H x ms sent w uncut none = sym (ap (left_of w.begun) (no_words w.words none)) ∙ w.finished uncut
 
@@ -65,7 +65,7 @@ open_place side r p steps h lasts o =
 last_now : (side : Side) (p : TwoEnds) (steps : List Step) (h : StandsAt p steps) → (end_at side p).end.carrier.ended ≡ None → (end_at side p).end.carrier ≡ last_of (is_caller side) h.now
 last_now side p steps h lasts = grind arith
 
--- while the taker has it open, what is under way to it is the same by the tables
+-- while the taker has it open, what is in flight to it is the same by the tables
 open_alike : (side : Side) (r : ℕ) (p : TwoEnds) (steps : List Step) (h : StandsAt p steps) → (end_at side p).end.carrier.ended ≡ None → IsOpenAt r (end_at side p).end
     → (some others : List carrier.Message) → AreAlike (progress_of (place_at r (last_of (is_caller side) h.now))) some others → some ≡ others
 open_alike side r p steps h lasts o some others alike = grind arith
@@ -122,7 +122,7 @@ open_given r p steps h o = by (within r p.left.end.carrier.given)
         let no_way : None ≡ Some (linked o.peer o.link) = sym none ∙ o.live in
         absurd (cc)
 
--- nothing is under way, so what was taken is all
+-- nothing is in flight, so what was taken is all
 none_left : (heard said : List Meaning) (ms : List Message) → ms ≡ [] → heard ++ units_in ms ≡ said → heard ≡ said
 none_left heard said ms e h = sym (append-nil heard) ∙ ap (λ (us : List Meaning). heard ++ us) (sym (ap units_in e)) ∙ h
 

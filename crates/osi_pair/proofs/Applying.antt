@@ -1,4 +1,4 @@
--- What an event that is applied or refused leaves.
+-- The state after an event that is applied or refused.
 use Rattle.std.proofs.Common.{◌≡◌, List, Result, Ok, Err, OnOk, OnErr, IfOk, None, sym, subst}
 use Rattle.osi_pair.specs.declared.faults.PairError.{PairError}
 use Rattle.osi_pair.proofs.Vocabulary.{Step, CanHappen, StandsAfter, TwoEnds, misfit, Does, CarriesAsMuch, CarriesWhereQuiet, IsReached, StandsAt, Applied, Event}

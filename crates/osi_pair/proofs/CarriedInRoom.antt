@@ -1,5 +1,5 @@
--- What octets that are carried do where memory suffices: the calls that the end is fed and told by, whatever
--- the pieces, and what the journal says of them.
+-- The effect of octets that are carried if memory suffices: the calls by which the end is fed and indications are
+-- fetched, whatever the pieces, and the entries of the journal.
 use Rattle.std.proofs.Common.{◌≡◌, ◌≢◌, ℕ, ◌+◌, ◌-◌, ◌≤◌, List, [], ◌∷◌, ◌++◌, map, take, sum, Option, Some, None, is_some, refl, sym, ap, ap₂, subst, ◌∙◌, ◌⊎◌, inl, inr, arith}
 use Rattle.std.proofs.Math.Seq.{take-add}
 use Rattle.std.proofs.lemmas.List.{drop-drop}
@@ -21,7 +21,7 @@ use Rattle.osi_pair.proofs.StandingTurned.{with_holding}
 use Rattle.osi_pair.proofs.StandingWant.{has_starved}
 use Rattle.osi_pair.proofs.Waiting.{none_waits, next_is}
 
--- ---- want of memory ends an end
+-- ---- an allocation failure ends an end
 
 -- a packet for which there is none
 starved_named : CarryLaws → (s : Side) (p : TwoEnds) (steps : List Step) (packet octets : List ℕ) (none : Held) (new : End) →
@@ -66,7 +66,7 @@ memory_named laws f q steps most used new at alive le d =
     let z = still_goes (other f) (handed f k g q) steps d.before rest d.quiet y.stands in
     memory_by laws f q steps k new.end d.before d.rest z (found_how (end_at (other f) q) (piece_of f most q) used new d)
 
--- ---- what is shown is told, one after the other
+-- ---- what is shown is reported, one after the other
 
 tellings : List (ℕ × Shown) → List Call
 tellings shown = map (λ p. telling (Some p)) shown
@@ -136,8 +136,8 @@ room_then : (xs ys : List Call) (old mid new : Holding) → CallsInRoom old xs m
 room_then [] ys old mid new h k = subst (λ (x : Holding). CallsInRoom x ys new) h k
 room_then (x ∷ xs) ys old mid new h k = (h.0, h.1, h.2, room_then xs ys h.0 mid new h.3 k)
 
--- So many octets are carried, and there is memory for what they do: what becomes of the end that is fed, of the other,
--- and of the journal.
+-- This many octets are carried, and there is memory for what they do: what becomes of the end that is fed, of the
+-- other, and of the journal.
 pub record IsCarried (s : Side) (old : Crossing) (octets : ℕ) (new : Crossing) : Type 0 where
   pub calls : List Call
   pub room : CallsInRoom old.to calls new.to
@@ -268,7 +268,7 @@ piece_carried laws f q steps most used new at le piece memory quiet =
 
 -- ---- pieces one after the other
 
--- nothing waits behind them
+-- nothing waits after them
 quiet_behind : (f : Side) (p : TwoEnds) (steps : List Step) (most octets : ℕ) (new : Crossing) → SoFar f p steps most octets new →
     waiting_in new.to.end.lines ≡ []
 quiet_behind f p steps most octets new x =

@@ -1,4 +1,4 @@
--- At two ends that stand at a list of steps no indication waits, and so nothing holds up a carry.
+-- If two ends match a list of steps, no indication is pending, and so nothing holds up a carry.
 use Rattle.std.proofs.Common.{◌≡◌, ◌∙◌, Bool, false, not, ◌||◌, ◌==◌, [], ◌∷◌, ◌++◌, min, ap, subst}
 use Rattle.osi_pair.proofs.Vocabulary.{waits, TwoEnds, end_at, reachable, Moves, CarriesAsMuch, CarriesWhereQuiet, IsReached, other, Applied, Event, Carry, Side, Left, Right}
 use Rattle.osi_pair.proofs.StandingPackets.{still_waits}

@@ -1,5 +1,5 @@
--- Where nothing is on the way between two ends, a connection that is open at one is open at the other, and
--- nothing of what came is kept.
+-- If nothing is in flight between two ends, a connection that is open at one is open at the other, and no received
+-- octet is kept.
 use Rattle.std.proofs.Common.{◌≡◌, refl, sym, ◌∙◌, ap, subst, ℕ, ◌+◌, Bool, true, false, ◌==◌, if◌then◌else◌, List, [], ◌∷◌, ◌++◌, Option, Some, None, is_some, arith}
 use Rattle.osi_between.proofs.Refusals.{none_open}
 use Rattle.osi_between.proofs.ZeroLaws.{at_one}

@@ -21,12 +21,12 @@ carries_then side most carried used old mid from to said after h more same =
     subst (λ (l : List Entry). Carries side most old (carried + used) (record { from = from; to = to; journal = map entry_by l })) (sym same)
     (carries_more side most carried used old mid (record { from = from; to = to; journal = map entry_by said }) h more)
 
--- where nothing was refused, what holds of a success holds
+-- if nothing was refused, what holds of a success holds
 pub not_refused : {T E : Type 0} (P : Type 0) (r : Result T E) (b : Bool) → b ≡ is_err r → b ≡ false → OnOk r P → P
 not_refused P (Ok x) b e f h = h
 not_refused P (Err x) b e f h = cc
 
--- where one was refused, what holds of an error holds
+-- if one was refused, what holds of an error holds
 pub was_refused : {T E : Type 0} (P : Type 0) (r : Result T E) (b : Bool) → b ≡ is_err r → b ≡ true → OnErr r P → P
 was_refused P (Ok x) b e f h = cc
 was_refused P (Err x) b e f h = h

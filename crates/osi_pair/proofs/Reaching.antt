@@ -1,4 +1,4 @@
--- Two ends at which an event has come to be.
+-- Two ends after an event.
 use Rattle.std.proofs.Common.{◌≡◌, ℕ, List, Option, Some, None}
 use Rattle.osi_pair.proofs.Vocabulary.{EndReason, Step, CanHappen, StandsAfter, TwoEnds, end_at, misfit, Does, HoldLess, IsReached, StandsAt, StandsAtTold, Event, Carry, Break, Told, Side}
 use Rattle.osi_pair.proofs.HoldingLess.{event_less}

@@ -1,5 +1,5 @@
--- Two carries of as many octets, between ends that nobody can tell apart, leave them so where memory suffices,
--- wherever the pieces are cut.
+-- Two carries of equally many octets, between pairs of ends in the same state, lead to the same state if memory
+-- suffices, wherever the pieces are cut.
 use Rattle.std.proofs.Common.{◌≡◌, ℕ, ◌<◌, ◌^◌, List, [], ◌∷◌, ◌++◌, min, take, Option, Some, None, refl, sym, ap, subst, ◌∙◌, ◌⊎◌, inl, inr, arith}
 use Rattle.osi_carrier.proofs.Lasting.{PacketLaws}
 use Rattle.osi_stack.proofs.Endings.{in_room, pieces_end}
@@ -134,7 +134,7 @@ plain_calls (call ∷ calls) old new h = (
 packet_laws : PacketLaws
 packet_laws = record { one = one_packet; front = completed_partial; proper = partial_not_whole }
 
--- alike, and where both last at the same place of the stream
+-- alike, and if both last at the same place of the stream
 record AreOne (a : Holding) (xs : List Call) (b : Holding) (ys : List Call) : Type 0 where
   alike : AreAlike a xs b ys
   offset : a.end.carrier.ended ≡ None → a.held.offset ≡ b.held.offset
@@ -157,7 +157,7 @@ one_by h a b xs ys None (Some reason) e f partial bound alive x y used =
     let over : b.end.carrier.ended ≡ a.end.carrier.ended = ap (λ (z : End). z.carrier.ended) back.end in
     absurd (cc)
 
--- where nothing waits and nothing was carried, what is alike is the same
+-- if nothing waits and nothing was carried, what is alike is the same
 hushed_same : (a b : Holding) (xs ys : List Call) → AreAlike a xs b ys → flat_map carried_in xs ≡ [] → flat_map carried_in ys ≡ [] →
     waiting_in a.end.lines ≡ [] → waiting_in b.end.lines ≡ [] → a.end ≡ b.end
 hushed_same a b xs ys h none none_too quiet still =
@@ -214,7 +214,7 @@ fed_by s p q a b n None e same from partial x y quiet still =
 
 -- ---- a carry
 
--- octets were carried, and two ends stand where nothing waits
+-- octets were carried, and two ends stand if nothing waits
 carried_at : CarryLaws → (f : Side) (most : ℕ) (p new : TwoEnds) (octets : ℕ) → IsReached p → CarriesFrom f most p octets new →
     FoundMemory new → IsCarried (other f) (crossing f p) octets (crossing f new)
 carried_at laws f most p new octets at c memory =

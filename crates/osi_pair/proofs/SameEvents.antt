@@ -1,4 +1,4 @@
--- The same event of two pairs of ends that nobody can tell apart leaves them so, where memory suffices.
+-- The same event leads two pairs of ends in the same state to the same state, if memory suffices.
 use Rattle.std.proofs.Common.{◌≡◌, ℕ, ◌+◌, ◌<◌, ◌^◌, Bool, true, false, not, List, [], ◌∷◌, ◌++◌, length, min, Option, Some, None, is_some, IsSome, refl, sym, ap, ap₂, subst, ◌∙◌, if◌then◌else◌}
 use Rattle.osi_session.specs.Listening.{called}
 use Rattle.osi_session.specs.declared.faults.CallError.TheVariants as refused
@@ -15,7 +15,7 @@ use Rattle.osi_pair.proofs.StandingPromises.{tables_at}
 same_ends : (p q a b : TwoEnds) → AreSameEnds p q → a ≡ p → b ≡ q → AreSameEnds a b
 same_ends p q a b h e f = subst (λ (x : TwoEnds). AreSameEnds x b) (sym e) (subst (λ (x : TwoEnds). AreSameEnds p x) (sym f) h)
 
--- ---- the user of the left end asks for a connection
+-- ---- the user of the left end requests a connection
 
 connect_does : Option ConnectError → Wanted → End → End
 connect_does None c e = asks_for c e

@@ -4,7 +4,7 @@ use Rattle.osi_stack.specs.Calls.{without_first}
 use Rattle.osi_pair.proofs.Vocabulary.{append_assoc, length-append, map-append, Rows, EndReason, Shown, first_shown, Holding, Entry, shows, waiting_in, quieted, shown_entries, end_entries, told_entries, Tells, Side, EndLine as Line}
 use Rattle.osi_pair.proofs.Waiting.{none_waits, none_taken, next_is}
 
--- so many were shown
+-- this many were shown
 pub record HasShown (side : Side) (old : Holding) (before : List Entry) (count : ℕ) (new : Holding) (after : List Entry) : Type 0 where
   pub first : List (ℕ × Shown)
   pub many : length first ≡ count

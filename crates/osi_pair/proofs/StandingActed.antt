@@ -1,5 +1,5 @@
--- The carrier of an end acts for a connection that is open there: nothing is taken, and its session makes no
--- move. How two ends stand then.
+-- The carrier of an end acts for a connection that is open there: nothing is taken, and its session makes no move. The
+-- state of two ends then.
 use Rattle.std.proofs.Common.{◌≡◌, ◌≢◌, ℕ, ◌<◌, ◌≤◌, Bool, true, false, nat_lt, if◌then◌else◌, List, [], ◌++◌, Option, Some, None, option_map, refl, sym, ap, subst, ◌∙◌, arith, not}
 use Rattle.osi_between.specs.Messages as carrier
 use Rattle.osi_pair.proofs.Vocabulary.{append-nil, Place, never, was_given, place_at, connection_in, value_at, Connection, State, put_here, put_other, Between, AreBetween, Carries, last_of, under_way, put_in, is_cut, Acted, becomes, side, progress_of, AreLike, Progress, in_use, progress_in, leaves_use, connection_at, Line, Tables, seen_from, stays, Message, with_same, with_other, with_count, none_there, with_carrier, End, Holding, TwoEnds, end_at, Entry, other, side_in, is_caller, class_in, carriers_of, IsSeated, IsInOrder, Stands, Goes, HasJoined, Side, Left, Right, given_live, Held, Terms, waiting_in, put_row as put, SessionState}
@@ -31,7 +31,7 @@ end_with s c p = with_carrier c (end_at s p).end
 abbrev pub pair_with : Side → State → TwoEnds → TwoEnds
 pair_with s c p = with_holding s (end_with s c p) (end_at s p).held p
 
--- what is under way for the connection, seen from the end that acted, and for all others
+-- what is in flight for the connection, seen from the end that acted, and for all others
 pub record WaysAt (s : Side) (n : ℕ) (p new : TwoEnds) (b c : Between) (put : List carrier.Message) : Type 0 where
   pub stays : List carrier.Message
   pub gone : List carrier.Message
@@ -98,14 +98,14 @@ others_stay s p b n g c ms a = grind (arith, other_place, put_other, there)
 
 -- ---- the connection
 
--- it is this far, and this is under way from it
+-- it is this far, and this is in flight from it
 abbrev pub acted_line : Progress → List Message → Line → Line
 acted_line g channel l = record {
   own = record { transport = transport_by g; session = l.own.session; channel = channel };
   peer = l.peer;
 }
 
--- what is under way from the end that acted
+-- what is in flight from the end that acted
 abbrev pub OutNow : Side → ℕ → TwoEnds → Between → TwoEnds → Between → SessionState → List Message → Type 0
 OutNow s n p b new c x channel = GoesTo s (end_at (other s) p) n new c (progress_of (place_at n (last_of (is_caller (other s)) b))) x channel
 

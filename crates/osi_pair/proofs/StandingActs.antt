@@ -1,4 +1,4 @@
--- What an end that acted for a connection leaves under way for it, and two ends whose journal says more.
+-- What an end that acted for a connection leaves in flight for it; and two ends whose journal gets more entries.
 use Rattle.std.proofs.Common.{◌≡◌, refl, sym, ◌∙◌, ap, subst, ℕ, zero, suc, ◌<◌, ◌≤◌, Bool, true, false, nat_le, if◌then◌else◌, List, [], ◌∷◌, ◌++◌, length, map, Option, Some, None, is_some, IsSome, arith}
 use Rattle.osi_between.specs.Messages as carrier
 use Rattle.osi_machine.specs.Machine as entries
@@ -9,7 +9,7 @@ use Rattle.osi_pair.proofs.StandingWays.{as_now, out_puts, like_alike}
 use Rattle.osi_pair.proofs.StandingTurned.{GoesTo}
 use Rattle.osi_pair.proofs.WordLaws.{AreWords}
 
--- ---- what is under way from the end that acted
+-- ---- what is in flight from the end that acted
 
 reach_in : (p : TwoEnds) (broken : Bool) → broken ≡ is_some p.reach → is_some (carriers_of p).reach ≡ broken
 reach_in p broken e = grind arith
@@ -36,7 +36,7 @@ out_way terms Right r p new b c words more channel broken seat to are k reach no
     (under_way false r (carriers_of new) c) k.stays k.gone (put_in (carriers_of p) (map word_in words)) was (are_put broken words more are) (put_spare broken (is_cut false (carriers_of p)) words (cut_none Right p broken reach alive))
     (cut_out Right p new same alive) k.before k.after none (put_same broken (is_some (carriers_of p).reach) words (sym (reach_in p broken reach))))))
 
--- ---- what is under way to it
+-- ---- what is in flight to it
 
 -- nothing arrived
 came_same : (g h : Progress) (ch old now arrived : List carrier.Message) → g ≡ h → arrived ≡ [] → AreAlike g ch old → AreAlike h old (arrived ++ now) → AreAlike h ch now
@@ -66,7 +66,7 @@ place_given r c h = grind arith
 pub place_ahead : (r : ℕ) (c : Carrier) → c.given < r → place_at r c ≡ never
 place_ahead r c h = ap (λ (b : Bool). if◌then◌else◌ {A = Place} b never (was_given (value_at r c.live))) (lt-ltb c.given r h)
 
--- ---- an end of two that stand
+-- ---- an end of two ends that match the tables
 
 pub record OfEnd (side : Side) (p : TwoEnds) (b : Between) (t : Tables) : Type 0 where
   pub given : (end_at side p).end.carrier.given ≤ length t.lines
@@ -78,7 +78,7 @@ pub record OfEnd (side : Side) (p : TwoEnds) (b : Between) (t : Tables) : Type 0
 pub of_end : (side : Side) (p : TwoEnds) (b : Between) (t : Tables) → Stands p b t → OfEnd side p b t
 of_end side p b t s = grind arith
 
--- ---- a line of two that stand
+-- ---- a line of two ends that match the tables
 
 pub record There (r : ℕ) (p : TwoEnds) (b : Between) (t : Tables) (l : Line) : Type 0 where
   pub some : 0 < r

@@ -1,4 +1,4 @@
--- What the tables say of the sessions to which something is under way from a side.
+-- What the tables say of the sessions that will receive what is in flight from a side.
 use Rattle.std.proofs.Common.{◌≡◌, ◌≢◌, ℕ, ◌==◌, Bool, true, false, Some, refl, sym, ap, subst, ◌∙◌}
 use Rattle.osi_machine.specs.Core as machine
 use Rattle.osi_pair.proofs.Vocabulary.{eqb-true, eq-eqb, IsTableRun, AtEachSide, IsOverWhenLeft, IsNoFaultBehind, connection_at, Line, Tables, turned, seen_from, side_in, Side, Left, Right}
@@ -10,7 +10,7 @@ pub record TakeLaws : Type 0 where
   pub behind : (t : Tables) → IsTableRun t → AtEachSide IsNoFaultBehind t
   pub left : (t : Tables) → IsTableRun t → AtEachSide IsOverWhenLeft t
 
--- of what is under way from a side
+-- of what is in flight from a side
 abbrev pub TakesFrom : Side → Tables → Type 0
 TakesFrom s t = (n : ℕ) (l : Line) → connection_at n t.lines ≡ Some (seen_from (side_in s) l) → Takes l.peer.session.state l.own.channel
 

@@ -63,7 +63,7 @@ seat_at r h seat call false some e s =
     let transport : seat.transport ≡ not_yet = s.transport ∙ ap transport_in (place_ahead r h.end.carrier above) in
     no_such r call h.end above ∙ sym (ap (λ (t : _). if◌then◌else◌ {A = Option CallError} (is_given t) (react seat.session (called call)).error (Some error.NoSuchConnection)) transport)
 
--- ---- at two ends that stand
+-- ---- at two ends that match the tables
 
 none_there : (r : ℕ) (side : Side) (p : TwoEnds) (b : Between) (t : Tables) (call : Call) → Stands p b t → connection_at r t.lines ≡ None → table_error r call (end_at side p).end ≡ Some error.NoSuchConnection
 none_there zero side p b t call s at = refl

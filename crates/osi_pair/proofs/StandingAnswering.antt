@@ -1,5 +1,5 @@
--- A packet with which a session moves: what is known of the move and of the end behind it, where the session
--- answers, or closes its connection of class 2.
+-- A packet with which a session moves: the conditions on the move and on the end after it, if the session answers, or
+-- closes its connection of class 2.
 use Rattle.std.proofs.Common.{◌≡◌, ℕ, Bool, true, false, if◌then◌else◌, List, Option, Some, None, option_map, refl, sym, ap, subst, ◌∙◌, ◌⊎◌, inl, inr, arith}
 use Rattle.osi_carrier.specs.Packets as carriers
 use Rattle.osi_machine.specs.Worlds as worlds
@@ -21,7 +21,7 @@ pub record AnswerLaws : Type 0 where
   pub alone : (s : State) (u : Meaning) → (respond_unit s u).closes ≡ true → (respond_unit s u).reply ≡ None
   pub ended : (s : Standing) (input : Input) → (react s input).closes ≡ true → is_ended (after_input s input).state.phase ≡ true
 
--- ---- the end behind the packet
+-- ---- the end after the packet
 
 pub sound_behind : PacketLaws → (s : Side) (p : TwoEnds) (b : Between) (t : Tables) (packet : List ℕ) (h : Held) → Stands p b t → (end_at s p).end.carrier.ended ≡ None →
     PacketActs (terms_at p) (is_caller s) (carriers_of p) b packet h.octets → IsSound (after_packet (end_at s p).end packet)
@@ -118,7 +118,7 @@ by_terms : PacketLaws → AnswerLaws → (s : Side) (p : TwoEnds) (b : Between) 
 by_terms laws moves s p b t packet h old alive pa v row input shut zero (inl two) = closing_packet laws moves s p b t packet h old alive pa v row input two shut
 by_terms laws moves s p b t packet h old alive pa v row input shut zero (inr e) = zero e
 
--- where it closes; how two ends of class 0 stand then is given
+-- where it closes; the state of two ends of class 0 then is given
 pub shutting_packet : PacketLaws → AnswerLaws → (s : Side) (p : TwoEnds) (b : Between) (t : Tables) (packet : List ℕ) (h : Held) → Stands p b t → (end_at s p).end.carrier.ended ≡ None →
     (pa : PacketActs (terms_at p) (is_caller s) (carriers_of p) b packet h.octets) → (v : HasMoved s p t packet h) → v.m.row ≡ pa.did.row → v.m.input ≡ heard_by v.m.row v.m.first →
     (move_of v.m).closes ≡ true → (terms_at p ≡ by_zero → StandsShown s p t (after_packet (end_at s p).end packet) h) → StandsShown s p t (after_packet (end_at s p).end packet) h
@@ -135,7 +135,7 @@ by_move laws moves s p b t packet h old alive pa v row input true reply shut e z
 by_move laws moves s p b t packet h old alive pa v row input false None stays e zero = silent_shown s p t packet h v stays e
 by_move laws moves s p b t packet h old alive pa v row input false (Some x) stays e zero = answering_packet laws s p b t packet h old alive pa v x stays e
 
--- a packet with which a session moves; how two ends of class 0 stand where it closes is given
+-- a packet with which a session moves; the state of two ends of class 0, if it closes, is given
 pub moving_packet : PacketLaws → AnswerLaws → (s : Side) (p : TwoEnds) (b : Between) (t : Tables) (packet : List ℕ) (h : Held) → Stands p b t → (end_at s p).end.carrier.ended ≡ None →
     (pa : PacketActs (terms_at p) (is_caller s) (carriers_of p) b packet h.octets) → (v : HasMoved s p t packet h) → v.m.row ≡ pa.did.row → v.m.input ≡ heard_by v.m.row v.m.first →
     ((move_of v.m).closes ≡ true → terms_at p ≡ by_zero → StandsShown s p t (after_packet (end_at s p).end packet) h) → StandsShown s p t (after_packet (end_at s p).end packet) h

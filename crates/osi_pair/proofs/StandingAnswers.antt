@@ -1,5 +1,5 @@
--- A session moved, and sends a unit, or closes its connection of class 2: how two ends stand when that was done,
--- and its user was shown what the move shows.
+-- A session moved, and sends a unit, or closes its connection of class 2: the state of two ends when that was done and
+-- its user received what the move indicates.
 use Rattle.std.proofs.Common.{◌≡◌, ℕ, ◌≤◌, zero, suc, Bool, true, false, if◌then◌else◌, List, [], ◌∷◌, ◌++◌, map, Option, Some, None, refl, sym, ap, subst, ◌∙◌, ◌⊎◌, arith}
 use Rattle.osi_machine.specs.Core as machine
 use Rattle.osi_machine.specs.Machine as entries
@@ -28,7 +28,7 @@ use Rattle.osi_pair.proofs.StandingTurned.{with_holding, turned_pair}
 pub turned_here : (s : Side) (e : End) (h : Held) (n : ℕ) (shown : List Shown) (p : TwoEnds) → end_at s (turned_pair s e h n shown p) ≡ record { end = e; held = h }
 turned_here s e h n shown p = grind arith
 
--- the end as it then stands, with the carrier as it acted, and where all that waits still waits
+-- the end as it then stands, with the carrier as it acted, and where all pending indications still waits
 abbrev pub answered_end : Carrier → Rows Line → End
 answered_end c lines = record { carrier = c; lines = lines }
 

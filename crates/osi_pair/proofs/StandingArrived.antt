@@ -1,5 +1,4 @@
--- A packet is taken at one of two carriers, and what it told is heard: which row it is, and what is under way
--- then.
+-- A packet is taken at one of two carriers, and its events are handled: which row it is, and what is in flight then.
 use Rattle.std.proofs.Common.{◌≡◌, ◌≢◌, ℕ, ◌+◌, ◌<◌, Bool, true, false, not, List, [], ◌∷◌, ◌++◌, Some, None, sym, ap, subst, ◌∙◌, arith}
 use Rattle.osi_tpdu.specs.Writing.{written}
 use Rattle.osi_carrier.specs.Coming.{IsSendable}

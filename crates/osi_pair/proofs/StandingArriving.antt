@@ -1,4 +1,4 @@
--- Which unit can come first to an end, by where its connection stands there.
+-- Which unit can arrive first at an end, by the state of its connection there.
 use Rattle.std.proofs.Common.{◌≡◌, ℕ, zero, suc, ◌<◌, ◌≤◌, Bool, true, false, not, ◌&&◌, List, [], ◌∷◌, ◌++◌, nat_lt, Option, Some, None, refl, sym, ap, subst, ◌∙◌, arith, if◌then◌else◌}
 use Rattle.osi_tpdu.specs.Value.{Connect}
 use Rattle.osi_between.specs.Joined.{AreJoined}
@@ -30,7 +30,7 @@ abbrev pub comes_new : Value → Bool
 comes_new (request c) = true
 comes_new unit = false
 
--- where CRs are accepted, or refused
+-- if CRs are accepted, or refused
 abbrev pub comes : Bool → Place → Value → Bool
 comes accepts never unit = comes_new unit
 comes accepts (was_given None) unit = false

@@ -70,7 +70,7 @@ break_line n k l p b lost t rightward leftward h =
       };
     }
 
--- what becomes of each reference, also where none was given
+-- what becomes of each reference, also if none was given
 breaks_at : (n k l : ℕ) (p : TwoEnds) (b : Between) (lost : Lost (terms_of p.left.end.carrier.local p.right.end.carrier.local) (carriers_of p) (carriers_of (after_break k l p)) b) (t : Tables) → Stands p b t → TakesFrom Left t → TakesFrom Right t →
     IsWithin n (length t.lines) → Breaks n k l p b (length t.lines) lost.now t.lines
 breaks_at n k l p b lost t s rightward leftward (inl out) = record { left = 0; right = 0; is = λ some few. absurd (outside_not n (length t.lines) out some few) }
@@ -81,7 +81,7 @@ breaks_at n k l p b lost t s rightward leftward (inr given) = break_line n k l p
 one_step : (t : Tables) (left right : ℕ → ℕ) → t.broken ≡ false → run t (breaks left right ∷ []) ≡ record t { broken = true; lines = cut_channels left right 1 t.lines }
 one_step t left right e = ap (λ (b : Bool). if b then t else record t { broken = true; lines = cut_channels left right 1 t.lines }) e
 
--- two ends stand to the tables after a break of the machine
+-- two ends match the tables after a break of the machine
 record StandBroken (p : TwoEnds) (t : Tables) : Type 0 where
   keep_left : ℕ → ℕ
   keep_right : ℕ → ℕ

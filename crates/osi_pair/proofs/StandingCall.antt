@@ -299,7 +299,7 @@ progress_now side r call p b c a within =
 none_gone : (g h : Progress) (gone : List carrier.Message) → g ≡ in_use → h ≡ in_use → (leaves_use g h ≡ false → gone ≡ []) → gone ≡ []
 none_gone g h gone a b keeps = keeps (ap (λ (x : Progress). leaves_use x h) a ∙ ap (λ (x : Progress). leaves_use in_use x) b)
 
--- what has begun is joined behind the call as it was before
+-- what has begun is joined after the call as it was before
 keeps_joined : (r : ℕ) (call : Call) (h : Holding) (c : Called r call h) (begun : Option (List ℕ)) → HasJoined r h begun → HasJoined r (now_of r call h) begun
 keeps_joined r call h c begun held y at =
     let was : kept_at r h.end.lines ≡ Some c.session = sym (live_session r h.end (ap is_some c.opened.at)) ∙ c.was in

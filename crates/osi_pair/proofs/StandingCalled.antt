@@ -1,4 +1,4 @@
--- Two ends stand after a call as the tables do after theirs.
+-- Two ends match the tables after a call, as the tables are after theirs.
 use Rattle.std.proofs.Common.{◌≡◌, refl, sym, ◌∙◌, ap, subst, ℕ, ◌≤◌, ◌==◌, ◌&&◌, if◌then◌else◌, List, [], ◌∷◌, ◌++◌, Option, Some, None, Ok, arith}
 use Rattle.osi_machine.specs.Machine as entries
 use Rattle.osi_machine.specs.Tables.{after_call}

@@ -1,5 +1,5 @@
--- Octets that are carried leave two ends where they stand: what arrives with them are deliveries, and perhaps an end
--- for want of memory.
+-- Two ends still match the machine after octets are carried: what arrives are deliveries, and perhaps an end because
+-- memory runs out.
 use Rattle.std.proofs.Common.{◌≡◌, ℕ, ◌+◌, ◌-◌, ◌≤◌, Bool, List, [], ◌∷◌, ◌++◌, length, sum, min, Option, Some, None, refl, sym, ap, subst, ◌∙◌, arith}
 use Rattle.osi_pair.proofs.Vocabulary.{length-drop, sum_by-cons, IsFaultOf, TpktFault, EndReason, Both, Between, AreBetween, side, Terms, Step, carried, Holding, Crossing, CarriesPiece, CarriesPieces, CarriesFrom, crossing, TwoEnds, end_at, reachable, within, reach_after, other, StandsAt, StandsAtArrivals, Reach, Side, Left, Right}
 use Rattle.osi_pair.proofs.StandingFew.{FewLaws, few_wait}
@@ -17,7 +17,7 @@ left_over Right c o from used is =
     ap (λ (h : Holding). within (reach_after Right used o) Right (length h.end.carrier.outgoing)) is
     ∙ ap (λ (n : ℕ). within (reach_after Right used o) Right n) (length-drop used from.end.carrier.outgoing) ∙ within_less Right o used (length from.end.carrier.outgoing)
 
--- two ends behind pieces of so many octets
+-- two ends after pieces of this many octets
 pub record SoFar (f : Side) (p : TwoEnds) (steps : List Step) (most octets : ℕ) (new : Crossing) : Type 0 where
   pub stands : StandsAtArrivals (other f) (crossed f new (reach_after f octets p.reach)) steps
   pub left : most - octets ≤ reachable f (crossed f new (reach_after f octets p.reach))

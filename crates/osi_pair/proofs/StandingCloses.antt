@@ -1,4 +1,4 @@
--- An end closes an open connection of class 2: the tables put that, and of what was under way from it they keep
+-- An end closes an open connection of class 2: the tables put the same message, and keep of what was in flight from it
 -- what was written.
 use Rattle.std.proofs.Common.{◌≡◌, ℕ, Bool, true, List, [], ◌∷◌, take, Some, None, is_some, refl, sym, subst, arith, ap, ◌∙◌}
 use Rattle.osi_between.specs.Messages as carrier
@@ -44,9 +44,9 @@ close_acts laws s p b t n peer link old alive two at =
     let ways = ways_at s n p new b a.now (carrier.bye 128 ∷ []) a.carries in
     search
 
--- ---- what is under way from it
+-- ---- what is in flight from it
 
--- so much of it is left, and the close is put behind
+-- so much of it is left, and the close is put after
 record OutCloses (s : Side) (p : TwoEnds) (b : Between) (t : Tables) (n : ℕ) (l : Line) (a : CloseActs s p b n) : Type 0 where
   keep : ℕ
   way : OutNow s n p b (pair_with s (closed_with n 128 (end_at s p).end.carrier) p) a.now l.peer.session.state (put t.broken (bye 128 ∷ []) (take keep l.own.channel))
@@ -73,7 +73,7 @@ out_closes s p b t n l old a i takes =
 session_shuts : (n : ℕ) (lines : Rows StackLine) (x : Standing) → is_ended x.state.phase ≡ true → HasSession n lines in_use x → HasSession n lines shutting x
 session_shuts n lines x ended h = record { joined = h.joined; live = λ e. h.live refl; kept = h.kept; over_now = λ e. ended; awaiting = λ e. cc; octets = h.octets }
 
--- behind a close of the end of a side, which is this, they stand, where so much is kept of what was under way
+-- after a close of the end of a side, which is this, they stand, where so much is kept of what was in flight
 pub record ClosesOn (s : Side) (p : TwoEnds) (t : Tables) (n : ℕ) (l : Line) (y : Holding) : Type 0 where
   pub keep : ℕ
   pub on : StandsOn (with_holding s (with_carrier (closed_with n 128 y.end.carrier) y.end) y.held p) (stays t (side_in s) n (closed t.broken keep l))

@@ -1,4 +1,4 @@
--- Who asks for a connection asks the machine.
+-- A request for a connection is a request of the machine.
 use Rattle.std.proofs.Common.{◌≡◌, ◌≢◌, refl, sym, ◌∙◌, ap, subst, ℕ, suc, ◌+◌, ◌<◌, ◌≤◌, ◌==◌, Bool, true, false, not, if◌then◌else◌, List, [], ◌∷◌, ◌++◌, length, length-append, map, Option, Some, None, option_map, is_some, IsSome, Ok, Err, arith, inl, nat_le}
 use Rattle.osi_carrier.specs.Calls.{asks}
 use Rattle.osi_between.specs.Messages as carrier

@@ -1,8 +1,8 @@
--- Where something of what is under way was cut off.
+-- Whether something of what is in flight was cut off.
 use Rattle.std.proofs.Common.{◌≡◌, sym, ap, ◌∙◌, ℕ, ◌<◌, ◌≤◌, ◌⊎◌, Bool, true, false, ◌||◌, None, is_some, arith}
 use Rattle.osi_pair.proofs.Vocabulary.{is_cut, Holding, TwoEnds, end_at, with_end, other, is_caller, carriers_of, Side}
 
--- where an end acts that lasts, nothing new is cut of what is under way from it
+-- if an end acts that lasts, nothing new is cut of what is in flight from it
 pub cut_out : (s : Side) (p new : TwoEnds) → new.reach ≡ p.reach → (end_at s p).end.carrier.ended ≡ None → is_cut (is_caller s) (carriers_of new) ≡ false → is_cut (is_caller s) (carriers_of p) ≡ false
 cut_out s p new reach alive h = grind arith
 
@@ -10,7 +10,7 @@ cut_out s p new reach alive h = grind arith
 pub cut_back : (s : Side) (p new : TwoEnds) → new.reach ≡ p.reach → end_at (other s) new ≡ end_at (other s) p → is_cut (is_caller (other s)) (carriers_of new) ≡ false → is_cut (is_caller (other s)) (carriers_of p) ≡ false
 cut_back s p new reach there h = grind arith
 
--- where nothing is broken nothing is cut of what is under way from an end that lasts
+-- if nothing is broken nothing is cut of what is in flight from an end that lasts
 pub cut_none : (s : Side) (p : TwoEnds) (broken : Bool) → broken ≡ is_some p.reach → (end_at s p).end.carrier.ended ≡ None → broken ≡ false → is_cut (is_caller s) (carriers_of p) ≡ false
 cut_none s p broken is alive e = grind arith
 

@@ -1,4 +1,4 @@
--- An end that comes is an end of the machine, whatever its reason.
+-- The end of an end is an end of the machine, whatever its reason.
 use Rattle.std.proofs.Common.{◌≡◌, refl, sym, ◌∙◌, ap, subst, ℕ, ◌<◌, ◌≤◌, Bool, true, false, List, [], ◌∷◌, ◌++◌, length, map, Some, None, option_map, inl, arith, inr}
 use Rattle.osi_carrier.specs.State as carriers
 use Rattle.osi_machine.specs.Core as machine
@@ -33,15 +33,15 @@ pub record EndingLine (s : Side) (p : TwoEnds) (u : Tables) (e : End) (h : Held)
   pub found : connection_at n u.lines ≡ Some (seen_from (side_in s) line)
   pub here : IsPlaced n e.carrier line.own
   pub there : IsSeated n (end_at (other s) p) line.peer
-  -- what is under way from it, and what is put behind, which its end takes away
+  -- what is in flight from it, and what is put after, which its end takes away
   pub kept : List Message
   pub more : List Message
   pub parts : line.own.channel ≡ kept ++ more
   pub whole : is_given line.own.transport ≡ false → more ≡ []
   pub out : IsUnderWay s (other s) n (with_holding s e h p) c (record line.own { channel = kept }) line.peer
 
--- What is said of an end that is going to end: its carrier may have acted for what arrived, of which no session
--- of it has heard.
+-- What is said of an end that is going to end: its carrier may have acted for what arrived, that none of its sessions
+-- has received.
 pub record MayEnd (s : Side) (p : TwoEnds) (t u : Tables) (e : End) (h : Held) (c : Between) : Type 0 where
   pub between : AreBetween (terms_at p) (carriers_of (with_holding s e h p)) c
   pub lasts : e.carrier.ended ≡ None
@@ -70,7 +70,7 @@ record HasEnds (s : Side) (p : TwoEnds) (u : Tables) (c : Between) (keep n : ℕ
   found : connection_at n u.lines ≡ Some (seen_from (side_in s) line)
   is : IsLine n p c (seen_from (side_in s) (ended_line keep line))
 
--- so much is left of what is under way from it
+-- so much is left of what is in flight from it
 record Ends (s : Side) (p : TwoEnds) (u : Tables) (c : Between) (most : ℕ) (n : ℕ) : Type 0 where
   keep : ℕ
   is : 0 < n → n ≤ most → HasEnds s p u c keep n
@@ -123,7 +123,7 @@ right_line p u e h c reason lines held journal most n last none takes l =
       };
     }
 
--- what becomes of each reference, also where none was given
+-- what becomes of each reference, also if none was given
 left_at : (p : TwoEnds) (u : Tables) (e : End) (h : Held) (c : Between) (reason : EndReason) (lines : Rows stack.Line) (held : Held) (journal : List Entry) (most n : ℕ) →
     e.carrier ≡ last_of true c → ((q : ℕ) → kept_at q lines ≡ None) → TakesFrom Left u → ((m : ℕ) → 0 < m → m ≤ most → EndingLine Left p u e h c m) → IsWithin n most →
     Ends Left (ended_pair Left reason e.carrier lines held journal p) u c most n
@@ -136,12 +136,12 @@ right_at : (p : TwoEnds) (u : Tables) (e : End) (h : Held) (c : Between) (reason
 right_at p u e h c reason lines held journal most n last none takes all (inl out) = record { keep = 0; is = λ some few. absurd (outside_not n most out some few) }
 right_at p u e h c reason lines held journal most n last none takes all (inr given) = right_line p u e h c reason lines held journal most n last none takes (all n given.0 given.1)
 
--- they stand to the tables in which the side ends, where so much is kept of what was under way from it
+-- they match the tables in which the side ends, where so much is kept of what was in flight from it
 pub record EndsOn (s : Side) (p : TwoEnds) (c : Between) (ending : Ending) (u : Tables) : Type 0 where
   pub keep : ℕ → ℕ
   pub stands : Stands p c (after_end (side_in s) ending keep u)
 
--- An end comes: its users are shown what they have lost, and the journal says so.
+-- An end comes: its users receive what they have lost, and the journal says so.
 pub ended_stands : (s : Side) (p : TwoEnds) (b : Between) (t u : Tables) (e : End) (h : Held) (c : Between) (reason : EndReason) (ending : Ending) (lines : Rows stack.Line) (held : Held)
     (first : List (ℕ × Shown)) (journal : List Entry) → Stands p b t → MayEnd s p t u e h c → ending_in reason ≡ Some ending → ((n : ℕ) → kept_at n lines ≡ None) → SaysAll s lines first u →
     journal ≡ p.journal ++ (shown_entries s first ++ ends s reason ∷ []) →

@@ -1,4 +1,4 @@
--- What becomes of a connection whose end comes: its seat, its line, and what is under way from it.
+-- What happens to a connection whose end ends: its seat, its line, and what is in flight from it.
 use Rattle.std.proofs.Common.{◌≡◌, refl, sym, ◌∙◌, ap, subst, ℕ, zero, suc, ◌+◌, ◌≤◌, Bool, true, false, if◌then◌else◌, ◌||◌, not, List, [], ◌∷◌, ◌++◌, length, map, take, nat_lt, Option, Some, None, is_some, arith}
 use Rattle.osi_between.specs.Messages as between
 use Rattle.osi_between.proofs.MessageLaws.{messages_front}
@@ -93,7 +93,7 @@ pub ended_count : (side : machine.Side) (keep : ℕ → ℕ) (k : ℕ) (ls : Lis
 ended_count side keep k [] = refl
 ended_count side keep k (l ∷ ls) = ap suc (ended_count side keep (k + 1) ls)
 
--- ---- what is under way
+-- ---- what is in flight
 
 pub record Front (all first : List between.Message) : Type 0 where
   pub gone : List between.Message
@@ -115,7 +115,7 @@ way_none end n old new b none = grind arith
 pub never_given : (n : ℕ) (c : State) → nat_lt c.given n ≡ true → connection_in (place_at n c) ≡ None
 never_given n c e = ap (λ (b : Bool). connection_in (if◌then◌else◌ {A = Place} b never (was_given (value_at n c.live)))) e
 
--- what is left of it, of whatever was put behind
+-- what is left of it, of whatever was put after
 take_front : (k : ℕ) (xs ys : List Message) → k ≤ length xs → take k (xs ++ ys) ≡ take k xs
 take_front (suc k) (x ∷ xs) ys h = ap (λ (l : List Message). x ∷ l) (take_front k xs ys (omega arith))
 take_front k xs ys h = grind arith
@@ -125,7 +125,7 @@ pub record EndsWith (o : Option EndReason) (g : Progress) (H : Option (List ℕ)
   pub keep : ℕ
   pub way : AreUnderWay o g true H x (ended_seat given keep seat).channel new
 
--- what its end takes away was put behind what was under way
+-- what its end takes away was put after what was in flight
 pub way_ended : (o : Option EndReason) (g : Progress) (c : Bool) (H : Option (List ℕ) → Type 0) (x : Session) (given : Bool) (seat : Seat) (kept more : List Message) (old new : List between.Message) → seat.channel ≡ kept ++ more → (given ≡ false → more ≡ []) →
     Takes x seat.channel → Front old new → (given ≡ false → old ≡ new) → AreUnderWay o g c H x kept old → EndsWith o g H x given seat new
 way_ended o g c H x true seat kept more old new parts none takes f same w =

@@ -1,4 +1,4 @@
--- What an event is to two ends that stand.
+-- The effect of an event on two ends that match the machine.
 use Rattle.std.proofs.Common.{◌≡◌, refl, sym, subst, ℕ, zero, suc, ◌<◌, ◌≤◌, ◌&&◌, Bool, true, false, List, [], ◌∷◌, ◌++◌, length, take, Option, Some, None, is_some, arith}
 use Rattle.osi_spdu.specs.declared.sizes.TsduSizes.{TsduSizes}
 use Rattle.osi_tpdu.specs.declared.tsaps.Tsap.{Tsap}

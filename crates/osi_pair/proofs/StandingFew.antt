@@ -1,4 +1,4 @@
--- Of what comes of one packet no more than 81 indications wait: 17 of one TSDU, and a loss for each of 64 connections.
+-- One packet leads to at most 81 pending indications: 17 of one TSDU, and a loss for each of 64 connections.
 use Rattle.std.proofs.Common.{◌≡◌, ◌≢◌, ℕ, zero, suc, ◌+◌, ◌≤◌, ◌==◌, ◌⊎◌, inl, inr, Bool, true, false, if◌then◌else◌, List, [], ◌∷◌, ◌++◌, length, map, nat_lt, Option, Some, None, is_some, IsSome, Result, Ok, Err, refl, sym, ap, subst, ◌∙◌, arith}
 use Rattle.osi_carrier.specs.Packets as carriers
 use Rattle.osi_carrier.specs.React.{react as carrier_react}
@@ -205,7 +205,7 @@ input_of n (tells octets) h = inl (record { event = tsdu n octets; told = refl; 
 input_of n (leaves reason) h = inl (record { event = closed n reason; told = refl; input = inputs.broken; hears_it = λ e. refl; shows = broken_shows; there = refl })
 input_of n row h = cc
 
--- a connection that was asked for is there
+-- a requested connection is there
 opens_few : (n : ℕ) (e : End) (live : Rows Connection) (o : Option Line) → value_at n e.lines ≡ o → e.carrier.ended ≡ None → Hearing e live n →
     length (waiting_in (concludes (opens n o e)).lines) ≤ 81
 opens_few n e live None is lasts h = grind (arith, lasting, begun_waits, quiet, length)
@@ -244,7 +244,7 @@ told_few laws s p b t packet h old alive pa false e =
     let none : length (waiting_in (after_packet (end_at s p).end packet).lines) ≡ 0 = ap (λ (y : End). length (waiting_in y.lines)) x.same ∙ ap length x.waits in
     omega arith
 
--- ---- want of memory
+-- ---- an allocation failure
 
 -- what is proved of packets, and of what an end holds
 pub record FewLaws : Type 0 where

@@ -75,7 +75,7 @@ others_then s p b t e h n old alive d lasts order o =
       there = d.there;
     }
 
--- what is under way then, each way
+-- what is in flight then, each way
 pub record WaysThen (s : Side) (p : TwoEnds) (b : Between) (e : End) (h : Held) (n : ℕ) (d : DidAt s p b e h n) (own peer : Standing) (sends comes : List Message) : Type 0 where
   pub out : Goes s (other s) n (with_holding s e h p) d.now (progress_of (place_at n (last_of (is_caller (other s)) d.now))) peer.state sends
   pub back : Goes (other s) s n (with_holding s e h p) d.now (after d.row) own.state comes
@@ -126,7 +126,7 @@ finish s p b t u e h n shown l x channel back old alive d lasts local role named
 
 -- ---- the class
 
--- where no CC came the class is known as before
+-- if no CC came the class is known as before
 pub known_then : (s : Side) (p : TwoEnds) (b : Between) (t : Tables) (e : End) (h : Held) (n : ℕ) → Stands p b t → (end_at s p).end.carrier.ended ≡ None → (d : DidAt s p b e h n) → e.carrier.ended ≡ None →
     n ≤ b.caller.given → is_agree d.row ≡ false → t.known ≡ option_map class_in (with_holding s e h p).left.end.carrier.class
 known_then Left p b t e h n old alive d lasts named row =

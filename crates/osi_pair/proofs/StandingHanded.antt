@@ -1,4 +1,4 @@
--- Octets of a side are handed over to the other: no step of the machine.
+-- Handing over octets of a side to the other is no step of the machine.
 use Rattle.std.proofs.Common.{◌≡◌, ℕ, ◌≤◌, Bool, true, false, not, List, ◌++◌, length, take, Option, Some, None, is_some, option_map, IfSome, refl, sym, ap, subst, ◌∙◌, arith, ◌||◌, ◌<◌}
 use Rattle.osi_pair.proofs.Vocabulary.{length-take, Held, Between, Both, AreBetween, IsOnTheWay, Same, side, with_side, last_of, units_from, lost_from, arriving, reach_of, within_reach, under_way, handed_over, is_cut, progress_of, Terms, Step, Seat, Tables, run, start, carried, End, Holding, TwoEnds, end_at, with_end, reachable, within, reach_after, other, is_caller, carriers_of, IsSeated, IsInOrder, terms_in, Stands, StandsAt, HasJoined, HasLine, Reach, Side, Left, Right}
 use Rattle.osi_pair.proofs.StandingFinish.{terms_at}
@@ -58,7 +58,7 @@ held_between terms false both b octets a same = record {
 
 -- ---- octets are handed over
 
--- so many of a side, and the other end holds this then
+-- this many of a side, and the other end holds this then
 abbrev pub handed : Side → ℕ → Held → TwoEnds → TwoEnds
 handed Left k h p = record p { left = record p.left { end = carried k p.left.end }; right = record p.right { held = h }; reach = reach_after Left k p.reach }
 handed Right k h p = record p { left = record p.left { held = h }; right = record p.right { end = carried k p.right.end }; reach = reach_after Right k p.reach }

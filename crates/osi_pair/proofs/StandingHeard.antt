@@ -1,4 +1,4 @@
--- A packet is taken at an end: what its carrier told is heard.
+-- An end takes a packet, and handles the events of its carrier.
 use Rattle.std.proofs.Common.{◌≡◌, ◌≢◌, ℕ, true, if◌then◌else◌, List, [], ◌∷◌, Some, None, is_some, IfSome, ap, ◌∙◌, arith}
 use Rattle.osi_carrier.specs.Packets as carriers
 use Rattle.osi_carrier.specs.React.{react as carrier_react}

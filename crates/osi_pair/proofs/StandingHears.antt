@@ -1,4 +1,4 @@
--- A message arrives of which a session hears: what the carrier tells, and what happens to the session, row by row.
+-- A message arrives that a session receives: the events of the carrier, and what happens to the session, row by row.
 use Rattle.std.proofs.Common.{◌≡◌, ℕ, true, false, List, [], ◌∷◌, Option, Some, None, IfSome, refl, sym, ap, subst, ◌∙◌, ◌⊎◌, inl, inr, ◌++◌, arith}
 use Rattle.osi_between.specs.Messages as carrier
 use Rattle.osi_machine.specs.Worlds as worlds
@@ -56,8 +56,8 @@ one_in row heard = one_by row (as_heard row heard)
 abbrev pub IsTaker : Standing → Option (List ℕ) → Type 0
 IsTaker x joined = IsKeptIn x.state.phase joined
 
--- The carrier tells one thing, which happens to the session; what the session sends goes. Where the connection is
--- gone then, the session has ended, and sends and closes nothing.
+-- The carrier tells one thing, which happens to the session; what the session sends goes. If the connection is gone
+-- then, the session has ended, and sends and closes nothing.
 pub record HearsBy (n : ℕ) (row : Row) (m : Message) (joined : Option (List ℕ)) (x : Standing) : Type 0 where
   pub event : Happening
   pub told : told_for n row ≡ event ∷ []
@@ -161,7 +161,7 @@ pub record HearLaws : Type 0 where
   pub readings : Readings
   pub units : (units : Units) → HasNumbersInWords (words.taken (said_by_units units))
 
--- a unit that is under way can be sent
+-- a unit that is in flight can be sent
 abbrev pub IsWhole : Message → Type 0
 IsWhole (unit u) = IsSendable u
 IsWhole ask = Unit {0}

@@ -1,4 +1,4 @@
--- The class of a connection at a message of which a session hears.
+-- The class of a connection at a message that a session receives.
 use Rattle.std.proofs.Common.{◌≡◌, ℕ, ◌≤◌, true, false, [], ◌∷◌, None, option_map, sym, ap, subst, ◌∙◌, inl, inr, arith}
 use Rattle.osi_between.specs.Messages as carrier
 use Rattle.osi_between.specs.Progress as progress
@@ -53,7 +53,7 @@ moved_known s p b t e h n l m u row old alive d lasts first given same (inr (inl
 moved_known s p b t e h n l m u row old alive d lasts first given same (inr (inr is)) tr alike =
     learns_row row l.own.transport t.terms m t.known tr (ap is_awaited is.1) ∙ known_then s p b t e h n old alive d lasts given (ap is_agree (same ∙ is.1))
 
--- where the connection is open then, it is the class on which the two agree
+-- if the connection is open then, it is the class on which the two agree
 pub moved_class : (s : Side) (p : TwoEnds) (b : Between) (t : Tables) (e : End) (h : Held) (n : ℕ) (l : Line) (m : Message) (u : Value) (row : Row) → Stands p b t →
     (d : DidAt s p b e h n) → IsFirstFor (terms_at p) (is_caller s) b.caller (place_at n (last_of (is_caller s) b)) u → d.row ≡ row → AsMove row →
     l.own.transport ≡ transport_by (before row) → kind_of (message_in m) ≡ kind_of (got_in row) → after row ≡ in_use →

@@ -1,5 +1,5 @@
--- A DR arrives at an open connection, which is answered by a DC: its session is lost, and the last of what was under
--- way from it may be.
+-- A DR arrives at an open connection and is answered by a DC: its session is lost, and the last part of what was in
+-- flight from it may be.
 use Rattle.std.proofs.Common.{◌≡◌, ℕ, Bool, true, false, List, [], ◌∷◌, map, take, Option, None, is_some, refl, sym, ap, subst, ◌∙◌, arith}
 use Rattle.osi_between.specs.Messages as carrier
 use Rattle.osi_machine.specs.Worlds as worlds
@@ -29,7 +29,7 @@ use Rattle.osi_pair.proofs.StandingWays.{Takes}
 
 -- ---- the turn of the tables
 
--- what is under way then: so many of the first, and the answer
+-- what is in flight then: this many of the first, and the answer
 abbrev pub left_channel : Bool → ℕ → List Message → List Message
 left_channel broken keep channel = put broken (over ∷ []) (take keep channel)
 
@@ -58,9 +58,9 @@ taken_leaves broken terms keep reason l m xs tr e =
     ∙ turn_leaves broken terms keep reason l.own.session l.own.channel (record l.peer { channel = xs }) m e
     ∙ grind (arith, silent_broken, put_nothing, take)
 
--- ---- what is under way from it
+-- ---- what is in flight from it
 
--- so much of it is left, and the answer is put behind
+-- so much of it is left, and the answer is put after
 pub record OutLeaves (s : Side) (p : TwoEnds) (b : Between) (t : Tables) (e : End) (h : Held) (n : ℕ) (l : TableLine) (d : DidAt s p b e h n) : Type 0 where
   pub keep : ℕ
   pub way : Goes s (other s) n (with_holding s e h p) d.now (progress_of (place_at n (last_of (is_caller (other s)) d.now))) l.peer.session.state (left_channel t.broken keep l.own.channel)

@@ -1,4 +1,4 @@
--- A session of an end that has joined nothing makes the moves of the session of the tables.
+-- A session of an end that has joined nothing makes the same moves as the session of the tables.
 use Rattle.std.proofs.Common.{◌≡◌, Some, ◌∙◌, ℕ, List, Option, None, Ok, Err, true, refl, sym, ◌++◌, ◌≤◌, length, [], ◌∷◌, ◌||◌, ◌⊎◌, subst, arith}
 use Rattle.osi_session.specs.Listening as words
 use Rattle.osi_session.specs.Allowed.{most_data}

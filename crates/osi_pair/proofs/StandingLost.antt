@@ -1,5 +1,4 @@
--- What the users of a side are shown that loses all its connections: no more than the machine says, and in
--- its order.
+-- The indications of a side that loses all its connections: those of the machine, in its order.
 use Rattle.std.proofs.Common.{◌≡◌, ◌≢◌, refl, sym, ◌∙◌, ap, subst, ℕ, zero, suc, ◌+◌, ◌<◌, ◌≤◌, ◌==◌, Bool, true, false, if◌then◌else◌, List, [], ◌∷◌, ◌++◌, length, map, nat_lt, nat_le, Option, Some, None, is_some, IsSome, inl, inr, ◌⊎◌, arith}
 use Rattle.osi_machine.specs.Machine as entries
 use Rattle.osi_session.specs.Listening as words
@@ -83,7 +82,7 @@ at_other q r line lines other = grind arith
 at_here : (r : ℕ) (line : stack.Line) (lines : Rows stack.Line) → kept_at r ((r, line) ∷ lines) ≡ line.session
 at_here r line lines = let e : (r == r) ≡ true = eq-eqb r r refl in rw e refl
 
--- a reference behind is another
+-- a reference after is another
 behind_other : (q r : ℕ) (lines : Rows stack.Line) (s : Listener) → RiseFrom r lines → kept_at q lines ≡ Some s → q ≢ r
 behind_other q r lines s rise kept same =
     let no : None ≡ Some s = sym (ap session_in (absent q r lines (omega arith) rise)) ∙ kept in
@@ -237,7 +236,7 @@ first_all lines first rest quiet shown none =
 
 -- ---- one side
 
--- the facts of the end that is told
+-- the facts of the end that is reported
 pub record IsTold (old : Holding) (lines : Rows stack.Line) (first : List (ℕ × Shown)) : Type 0 where
   pub shown : waiting_in (all_lost old.end.lines) ≡ first ++ waiting_in lines
   pub same : quieted lines ≡ quieted (all_lost old.end.lines)

@@ -1,5 +1,5 @@
--- A message arrived of which a session heard: how two ends stand when the session has made its move, and nothing
--- of what it sends was handed to the carrier, and nothing was closed.
+-- A session received a message and made its move; nothing that it sends was handed to the carrier yet, and nothing was
+-- closed. The state of two ends then.
 use Rattle.std.proofs.Common.{◌≡◌, ◌≢◌, ℕ, ◌<◌, ◌≤◌, Bool, true, false, nat_lt, if◌then◌else◌, List, [], ◌∷◌, length, map, Option, Some, None, option_map, refl, sym, ap, subst, ◌∙◌, arith, ◌⊎◌, inl, inr, IfSome, ◌++◌}
 use Rattle.osi_carrier.specs.React.{react as carrier_react}
 use Rattle.osi_machine.specs.Core as machine
@@ -31,8 +31,8 @@ use Rattle.osi_pair.proofs.StandingLost.{is_over as is_lost}
 
 -- ---- a move
 
--- The connection; the line of the tables as the side sees it, the message that arrived and those behind it; the
--- line of the end, and what happens to its session.
+-- The connection; the line of the tables as the side sees it, the message that arrived and those after it; the line of
+-- the end, and what happens to its session.
 pub record Moving : Type 0 where
   pub n : ℕ
   pub row : Row
@@ -140,7 +140,7 @@ pub record KeptLine (n : ℕ) (lines : Rows Line) (joined : Option (List ℕ)) (
 line_by : (n : ℕ) (lines : Rows Line) (joined : Option (List ℕ)) (x : Standing) (o : Option Line) → value_at n lines ≡ o → session_in o ≡ Some (joining joined x) → KeptLine n lines joined x
 line_by n lines joined x o e h = grind arith
 
--- a message of which a session hears comes to one that lives
+-- a message that a session receives comes to one that lives
 heard_lives : (row : Row) → is_heard row ≡ true → lives_in (before row) ≡ true
 heard_lives row e = grind arith
 
@@ -161,7 +161,7 @@ pub record Arriving (s : Side) (p : TwoEnds) (b : Between) (t : Tables) (n : ℕ
 abbrev pub PacketAt : Side → TwoEnds → Between → List ℕ → Held → Type 0
 PacketAt s p b packet h = PacketActs (terms_at p) (is_caller s) (carriers_of p) b packet h.octets
 
--- what comes to it, and what is under way behind it
+-- what comes to it, and what is in flight after it
 abbrev pub Behind : (s : Side) (p : TwoEnds) (b : Between) (packet : List ℕ) (h : Held) (pa : PacketActs (terms_at p) (is_caller s) (carriers_of p) b packet h.octets) → Option (List ℕ) → SessionState → List Message → Type 0
 Behind s p b packet h pa begun x ms =
     BehindFirst (after pa.did.row) (is_cut (is_caller (other s)) (carriers_of (with_holding s (acted_end pa.unit (end_at s p).end.lines (end_at s p).end) h p))) begun x ms
@@ -226,7 +226,7 @@ alone_is x y e = let same : x ≡ y = cc in sym same
 part_tells : (row : Row) (place : PartPlace) (octets : List ℕ) → is_heard row ≡ true → AreAlike (before row) (carrier.message (part_octets place octets) ∷ []) (got_in row ∷ []) → row ≡ tells (part_octets place octets)
 part_tells row place octets heard is = grind arith
 
--- a message arrives, of which a session hears, and what is under way behind it
+-- a message arrives, that a session receives, and what is in flight after it
 pub record ArrivesAt (s : Side) (p : TwoEnds) (b : Between) (t : Tables) (packet : List ℕ) (h : Held) (pa : PacketActs (terms_at p) (is_caller s) (carriers_of p) b packet h.octets) : Type 0 where
   pub a : Arriving s p b t (reference_of pa.unit) pa.did.row
   pub stays : Behind s p b packet h pa None (after_message a.seen.own.session.state a.first) a.rest
@@ -258,7 +258,7 @@ stays_kind m got k e = grind arith
 move_stays : (row : Row) → is_move row ≡ true → got_leaves (got_in row) ≡ false
 move_stays row e = grind arith
 
--- what a session hears of a TSDU that is a message, whole or by its last part
+-- what a session receives of a TSDU that is a message, whole or by its last part
 hears_tsdu : MovingLaws → (s : Side) (p : TwoEnds) (b : Between) (t : Tables) (n : ℕ) (row : Row) (octets : List ℕ) (l : TableLine) (joined : Option (List ℕ)) (first : Message) (rest : List Message) → IsTableRun t →
     connection_at n t.lines ≡ Some (seen_from (side_in s) l) → l.peer.channel ≡ first ∷ rest → IsWhole first → kept_at n (end_at s p).end.lines ≡ Some (joining joined l.own.session) →
     IsTaker l.own.session joined → IfSome l.own.session.waiting IsInOctets → row ≡ tells octets → kind_of (message_in first) ≡ kind_of (got_in row) →
@@ -440,7 +440,7 @@ hears_calm (tells octets) x m ms e k calm = subst (λ (s : SessionState). StaysC
 hears_calm (leaves reason) x m ms e k calm = over_stays (react x broken_off).next ms (is_lost x)
 hears_calm row x m ms e k calm = cc
 
--- what is still under way to it
+-- what is still in flight to it
 pub rest_then : (s : Side) (p : TwoEnds) (b : Between) (t : Tables) (packet : List ℕ) (h : Held) → (pa : PacketActs (terms_at p) (is_caller s) (carriers_of p) b packet h.octets) → (v : ArrivesAt s p b t packet h pa) →
     is_heard pa.did.row ≡ true →
     Goes (other s) s (reference_of pa.unit) (with_holding s (EndOf s p b t packet h pa v.a) h p)
@@ -494,7 +494,7 @@ pub record MovedBy (s : Side) (p : TwoEnds) (b : Between) (t : Tables) (packet :
   pub row : moved.m.row ≡ pa.did.row
   pub input : moved.m.input ≡ heard_by moved.m.row moved.m.first
 
--- a packet of which a session hears, at an end that has not ended
+-- a packet that a session receives, at an end that has not ended
 pub has_moved : MovingLaws → (s : Side) (p : TwoEnds) (b : Between) (t : Tables) (packet : List ℕ) (h : Held) → Stands p b t → IsTableRun t → (end_at s p).end.carrier.ended ≡ None →
     (pa : PacketActs (terms_at p) (is_caller s) (carriers_of p) b packet h.octets) → ArrivesAt s p b t packet h pa → is_move pa.did.row ≡ true → MovedBy s p b t packet h pa
 has_moved laws s p b t packet h old run alive pa v move =

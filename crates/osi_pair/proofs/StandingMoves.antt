@@ -1,4 +1,4 @@
--- A message arrives, and a session makes its move: what it sends is not handed over yet, and nothing is closed yet.
+-- A message arrives, and a session makes its move; what it sends is not handed over yet, and nothing is closed yet.
 use Rattle.std.proofs.Common.{◌≡◌, ◌≢◌, ℕ, ◌≤◌, Bool, true, false, List, [], ◌∷◌, Option, Some, None, IfSome, option_map, refl, sym, ap, subst, ◌∙◌, arith}
 use Rattle.osi_between.specs.Messages as carrier
 use Rattle.osi_machine.specs.Worlds as worlds
@@ -76,8 +76,8 @@ moved_lines s p n x row input k = quieted (lines_then n k.line x input (end_at s
 abbrev pub quiet_turn : Row → Move → List Message → TableLine → Turn
 quiet_turn row move xs l = record { line = line_then row move.next l.own.channel xs l; shown = move.shown; closes = false }
 
--- The session has moved, and nothing of what it sends was handed to the carrier, and nothing was closed: it stands
--- so to the tables, where that was not put.
+-- The session has moved, and nothing that it sends was handed to the carrier, and nothing was closed: the ends match
+-- the tables in which that was not put.
 pub move_unit : (s : Side) (p : TwoEnds) (b : Between) (t : Tables) (packet : List ℕ) (h : Held) (l : TableLine) (m : Message) (xs : List Message) (row : Row) (input : Input) → Stands p b t →
     (end_at s p).end.carrier.ended ≡ None → (pa : PacketActs (terms_at p) (is_caller s) (carriers_of p) b packet h.octets) →
     connection_at (reference_of pa.unit) t.lines ≡ Some (seen_from (side_in s) l) → IsSeen s (reference_of pa.unit) p b l →

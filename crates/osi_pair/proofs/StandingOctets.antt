@@ -1,4 +1,4 @@
--- What a call and an offer send goes into octets.
+-- What a call and an offer send can be written.
 use Rattle.std.proofs.Common.{◌≡◌, refl, sym, ◌∙◌, subst, ℕ, ◌<◌, ◌==◌, ◌&&◌, ◌||◌, Bool, true, false, [], ◌∷◌, arith}
 use Rattle.std.proofs.lemmas.Nat.{and_le_r}
 use Rattle.std.specs.Int.RustNames.{bit_and}

@@ -1,4 +1,4 @@
--- An end whose session has moved is in order before what it sends is handed over.
+-- An end whose session has moved satisfies its invariant before what it sends is handed over.
 use Rattle.std.proofs.Common.{◌≡◌, ◌≢◌, ℕ, ◌≤◌, ◌==◌, Bool, true, false, if◌then◌else◌, [], Some, None, refl, sym, ap, subst, ◌∙◌, arith}
 use Rattle.osi_session.specs.Listening as words
 use Rattle.osi_stack.specs.Moving.{noted}

@@ -1,5 +1,4 @@
--- A packet is taken at an end with which no session acts, or one begins: it is no step of the tables, or one
--- delivery.
+-- An end takes a packet with which no session acts, or one begins: no step of the tables, or one delivery.
 use Rattle.std.proofs.Common.{◌≡◌, ℕ, ◌≤◌, Bool, true, false, List, [], ◌∷◌, ◌++◌, Option, Some, None, refl, sym, ap, subst, ◌∙◌, ◌⊎◌, inl, inr, arith}
 use Rattle.osi_carrier.specs.Coming.{IsSendable}
 use Rattle.osi_carrier.specs.Packets as carriers
@@ -28,7 +27,7 @@ pub record PacketLaws : Type 0 where
   pub sound : (e : End) (unit : Value) → IsSendable unit → e.carrier.ended ≡ None → IsAttended e → IsSound e → IsSound (after_unit e unit)
   pub came : (e : End) (unit : Value) → IsSendable unit → AllCameAbout e.lines → AllCameAbout (after_unit e unit).lines
 
--- Behind a packet that showed nothing the two ends stand at these deliveries more.
+-- After a packet that showed nothing, the two ends match these further deliveries.
 pub record StandsBehind (s : Side) (p : TwoEnds) (t : Tables) (packet : List ℕ) (h : Held) : Type 0 where
   pub more : List Step
   pub are : AreDeliveries (side_in s) more
@@ -56,7 +55,7 @@ same_role laws Left p b t e h n old alive d lasts =
 same_role laws Right p b t e h n old alive d lasts =
     ap (λ (c : State). c.is_caller) (sym (last_is Right p b e h n d lasts)) ∙ (laws.roles _ _ d.now d.between).1 ∙ sym (laws.roles _ _ b old.between).1 ∙ ap (λ (c : State). c.is_caller) (was_at Right p b t old alive)
 
--- it is in order behind the packet
+-- it is in order after the packet
 order_then : PacketLaws → (s : Side) (p : TwoEnds) (b : Between) (t : Tables) (u : Value) (e : End) → Stands p b t → (end_at s p).end.carrier.ended ≡ None → IsSendable u → attends (carries_out u (end_at s p).end) ≡ e → e.carrier.ended ≡ None →
     e.carrier.events ≡ [] → RiseFrom 0 e.lines → IsInOrder e
 order_then laws s p b t u e old alive sendable is lasts heard rising = grind arith
@@ -76,7 +75,7 @@ rest_end laws s p b t packet h old alive pa same heard lasts local =
     let waits = quiet_of s p b t old in
     grind arith
 
--- what a row is, which is not answered, and of which no session hears
+-- what a row is, which is not answered, and that no session receives
 record IsQuietRow (row : Row) (n : ℕ) : Type 0 where
   none : arrived_in row ≡ []
   same : before row ≡ after row
@@ -147,7 +146,7 @@ quiet_packet laws s p b t packet h old alive pa q =
       stands = turned_stands s p b t e h d.now t n [] old alive x;
     }
 
--- the message that came is the first of those that the tables have under way
+-- the message that came is the first of those that the tables have in flight
 abbrev BackThen : (s : Side) (p : TwoEnds) (b : Between) (packet : List ℕ) (h : Held) → (pa : PacketActs (terms_at p) (is_caller s) (carriers_of p) b packet h.octets) → SessionState → List Message → Type 0
 BackThen s p b packet h pa x ms =
     Goes (other s) s (reference_of pa.unit) (with_holding s (acted_end pa.unit (end_at s p).end.lines (end_at s p).end) h p) (did_at s p b packet h (end_at s p).end.lines pa).now
@@ -286,7 +285,7 @@ begins_packet laws s p b t packet h old alive pa begun =
 
 -- ---- by row
 
--- a session hears of it
+-- a session receives it
 abbrev pub is_heard : Row → Bool
 is_heard agrees = true
 is_heard (denies reason) = true
@@ -297,7 +296,7 @@ is_heard row = false
 quiet_told : (n : ℕ) (row : Row) → told_for n row ≡ [] → is_heard row ≡ false
 quiet_told n row e = grind arith
 
--- which of the three a row is, of which no session hears
+-- which of the three a row is, that no session receives
 abbrev RestsAt : Row → ℕ → Type 0
 RestsAt row n = ((reason : ℕ) × (row ≡ refuses reason)) ⊎ (((m : carrier.Message) × (row ≡ ends m)) ⊎ ((octets : List ℕ) × (row ≡ ignores octets)))
 
@@ -362,7 +361,7 @@ by_kind laws s p b t packet h old alive pa (inl q) = quiet_packet laws s p b t p
 by_kind laws s p b t packet h old alive pa (inr (inl q)) = resting_packet laws s p b t packet h old alive pa q
 by_kind laws s p b t packet h old alive pa (inr (inr e)) = begins_packet laws s p b t packet h old alive pa e
 
--- a packet of which no session that is there hears
+-- a packet that no session receives
 pub unheard_packet : PacketLaws → (s : Side) (p : TwoEnds) (b : Between) (t : Tables) (packet : List ℕ) (h : Held) → Stands p b t → (end_at s p).end.carrier.ended ≡ None →
     (pa : PacketActs (terms_at p) (is_caller s) (carriers_of p) b packet h.octets) → is_heard pa.did.row ≡ false → StandsBehind s p t packet h
 unheard_packet laws s p b t packet h old alive pa e = by_kind laws s p b t packet h old alive pa (kind_of (reference_of pa.unit) pa.did.row e)

@@ -1,4 +1,4 @@
--- Packets that an end takes one after the other, of which none stops but perhaps the last.
+-- Packets that an end takes one after the other, only the last of which may stop it.
 use Rattle.std.proofs.Common.{◌≡◌, ℕ, ◌≤◌, ◌==◌, ◌||◌, false, not, List, [], ◌∷◌, ◌++◌, length, Option, None, is_some, refl, sym, ap, subst, ◌∙◌, if◌then◌else◌, arith}
 use Rattle.osi_machine.specs.Core as machine
 use Rattle.osi_stack.proofs.FirstShown.{quiet_none}
@@ -13,9 +13,9 @@ use Rattle.osi_pair.proofs.StandingShown.{shown_pair}
 use Rattle.osi_pair.proofs.StandingTurned.{with_holding, holding_here}
 use Rattle.osi_pair.proofs.Waiting.{none_waits}
 
--- THE LAWS OF ONE PACKET. Where two ends stand at a list of steps, and a side that lasts takes the packet that
--- it holds first, or finds no memory for it, or ends for want of memory, they stand at that list followed by
--- what arrives at the side, when its users were shown what came of it.
+-- THE LAWS OF ONE PACKET. If two ends match a list of steps, and a side that lasts takes the packet that it holds
+-- first, or runs out of memory for it, or ends because memory runs out, they match that list followed by what arrives
+-- at the side, when its users were shown what came of it.
 pub record PacketStands : Type 0 where
   pub told : (p : TwoEnds) (steps : List Step) (s : Side) (packet octets : List ℕ) (h : Held) → StandsAt p steps → (end_at s p).end.carrier.ended ≡ None →
       IsPacket packet octets → (end_at s p).held.octets ≡ octets ++ h.octets → StandsAtArrivals s (shown_pair s (after_packet (end_at s p).end packet) h p) steps
@@ -33,7 +33,7 @@ pub record FewWait : Type 0 where
   pub ended : (p : TwoEnds) (steps : List Step) (s : Side) → StandsAt p steps → (end_at s p).end.carrier.ended ≡ None →
       length (waiting_in (ends NoMemory (end_at s p).end).lines) ≤ 81
 
--- an end is this, and its users are shown all that waits at once
+-- an end is this, and its users are shown all pending indications at once
 pub record StandsFew (s : Side) (p : TwoEnds) (steps : List Step) (e : End) (h : Held) : Type 0 where
   pub stands : StandsAtArrivals s (shown_pair s e h p) steps
   pub few : length (waiting_in e.lines) ≤ 81
@@ -72,7 +72,7 @@ goes_on e lasts quiet = ap (λ (o : Option EndReason). is_some o || waits e.line
 noted_none : (p : TwoEnds) → noted [] p ≡ p
 noted_none p = ap (λ (j : List Entry). record p { journal = j }) (append-nil p.journal)
 
--- where nothing is shown and the end lasts
+-- if nothing is shown and the end lasts
 pub shown_plain : (s : Side) (e : End) (h : Held) (p : TwoEnds) → e.carrier.ended ≡ None → waiting_in e.lines ≡ [] → shown_pair s e h p ≡ with_holding s e h p
 shown_plain s e h p lasts quiet = grind (arith, with_holding, noted_none, quiet_same)
 
@@ -96,7 +96,7 @@ held_at law Right p steps h at same =
 
 -- ---- what arrives
 
--- where the side lasts, deliveries
+-- if the side lasts, deliveries
 arrivals_alive : (who : machine.Side) (t : Tables) (more : List Step) → AreArrivals who more → end_of who (run t more) ≡ None → AreDeliveries who more
 arrivals_alive who t (delivers taker r keep ∷ more) are e = (are.0, arrivals_alive who (step t (delivers taker r keep)) more are.1 e)
 arrivals_alive who t more are e = grind arith
@@ -121,7 +121,7 @@ no_more s p steps at = record { more = []; are = tt; stands = subst (StandsAt p)
 
 -- ---- packets one after the other
 
--- a packet behind which the end goes on
+-- a packet after which the end goes on
 pub record GoesOn (s : Side) (p : TwoEnds) (steps : List Step) (e : End) (h : Held) : Type 0 where
   pub more : List Step
   pub are : AreDeliveries (side_in s) more
@@ -137,7 +137,7 @@ still_goes s p steps e h quiet x =
     let are = alive_deliveries s (with_holding s e h p) steps x.more at (ap (λ (y : Holding). y.end.carrier.ended) here ∙ stops_not e quiet) x.are in
     grind arith
 
--- what comes behind it
+-- what comes after it
 pub behind : (s : Side) (p : TwoEnds) (steps : List Step) (e : End) (g : Held) (new : End) (h : Held) → (x : GoesOn s p steps e g) →
     StandsFew s (with_holding s e g p) (steps ++ x.more) new h → StandsFew s p steps new h
 behind s p steps e g new h x y = grind (arith, join_arrivals, shown_pair, shown_again)

@@ -1,5 +1,5 @@
--- A part of one Data arrives that is not the last: its session joins it to what has begun. The tables have the Data
--- under way until its last part arrives, so that they stay.
+-- A part of a Data arrives that is not the last: its session joins it to what has begun. The tables have the Data in
+-- flight until its last part arrives, so they stay as they are.
 use Rattle.std.proofs.Common.{◌≡◌, ℕ, ◌≤◌, false, true, List, [], Some, None, refl, sym, ap, subst, ◌∙◌, arith}
 use Rattle.osi_carrier.specs.React.{react as carrier_react}
 use Rattle.osi_machine.specs.Worlds as worlds

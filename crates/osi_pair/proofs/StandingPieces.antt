@@ -1,4 +1,4 @@
--- Pieces of the stream that are fed to an end one after the other, and what comes of them is shown.
+-- Pieces of the stream are fed to an end one after the other, and its users receive the indications.
 use Rattle.std.proofs.Common.{◌≡◌, ℕ, zero, suc, ◌+◌, ◌-◌, ◌≤◌, ◌⊎◌, inl, inr, Bool, true, false, List, [], ◌∷◌, ◌++◌, length, take, drop, Option, Some, None, is_some, refl, sym, ap, subst, ◌∙◌, if◌then◌else◌, arith}
 use Rattle.osi_carrier.specs.Packets as carriers
 use Rattle.osi_carrier.specs.State as states
@@ -50,7 +50,7 @@ within_less f o k n = grind arith
 pub reach_twice : (f : Side) (k j n : ℕ) (o : Option Reach) → k + j ≡ n → reach_after f j (reach_after f k o) ≡ reach_after f n o
 reach_twice f k j n o e = grind arith
 
--- behind octets that were handed over
+-- after octets that were handed over
 less_shown : (f : Side) (p : TwoEnds) (k : ℕ) (e : End) (h g : Held) → reachable f (shown_pair (other f) e h (handed f k g p)) ≡ reachable f p - k
 less_shown Left p k e h g =
     ap (λ (n : ℕ). within (reach_after Left k p.reach) Left n) (length-drop k p.left.end.carrier.outgoing) ∙ within_less Left p.reach k (length p.left.end.carrier.outgoing)
@@ -78,7 +78,7 @@ packed laws f p steps k octets units mid rest at alive le is taken packets =
     (subst (λ (b : Holding). ArePackets units b.held.octets rest.octets) (sym there)
     (subst (λ (l : List ℕ). ArePackets units ((end_at (other f) p).held.octets ++ l) rest.octets) is packets))
 
--- ---- what is handed over behind it: of that an end that lasts holds nothing
+-- ---- what is handed over after it: of that an end that lasts holds nothing
 
 holds_more : (f : Side) (p : TwoEnds) (k j : ℕ) (e : End) (rest h g : Held) → (e.carrier.ended ≡ None → (j ≡ 0) × (h.octets ≡ rest.octets)) →
     HoldsMore f j h (shown_pair (other f) e rest (handed f k g p))
@@ -107,7 +107,7 @@ finished laws f p steps k j used e rest h g is le all x =
       few = x.few;
     }
 
--- ---- what the end of a side is where it finds no memory
+-- ---- what the end of a side is where it runs out of memory
 
 unit_starved : (e new : End) (c : State) → e.carrier.events ≡ [] → c ≡ states.ends NoMemory e.carrier → new ≡ attends (with_carrier c e) → is_some new.carrier.ended ≡ true
 unit_starved e new c none is same = grind arith
@@ -132,7 +132,7 @@ no_fault laws s p steps place fault at alive is = grind arith
 
 -- ---- a piece is fed
 
--- the piece, of which so many octets were used
+-- the piece, of which this many octets were used
 abbrev pub piece_of : Side → ℕ → TwoEnds → List ℕ
 piece_of f most p = take most (end_at f p).end.carrier.outgoing
 
@@ -147,7 +147,7 @@ dry_stands laws f p steps most used new at alive le d =
     finished laws f p steps most 0 used new.end new.held new.held (more_held f most p) (omega arith) (omega arith) (λ lasts. (refl, refl))
     (packed laws f p steps most (piece_of f most p) d.units new.end new.held at alive le refl d.taken d.packets)
 
--- the end stopped behind a packet: where it lasts, no more was used
+-- the end stopped after a packet: if it lasts, no more was used
 used_by : (e : End) (k n used : ℕ) (b : Bool) → uses_all e ≡ b → k ≤ n → used ≡ (if b then n else k) → k ≤ used
 used_by e k n used b f le is = grind arith
 
@@ -182,7 +182,7 @@ refused_not laws f p steps most used new at alive le d =
     no_fault laws (other f) (with_holding (other f) d.before rest (handed f most g p)) (steps ++ z.more) place d.fault z.stands z.lasts
     (subst (λ (b : Holding). IsFaultOf place b.held.octets d.fault) (sym z.here) d.cut.2)
 
--- it ends for want of memory
+-- it ends because memory runs out
 starving : PieceLaws → (f : Side) (p : TwoEnds) (steps : List Step) (used k : ℕ) (new : Holding) (rest : Held) → k ≤ used → used ≤ reachable f p → is_some new.end.carrier.ended ≡ true →
     StandsFew (other f) (handed f k (more_held f k p) p) steps new.end rest → StandsFew (other f) (handed f used new.held p) steps new.end new.held
 starving laws f p steps used k new rest le all over x =
@@ -234,9 +234,9 @@ goes_stands laws f p steps most used new at alive le (inl (inr d)) = behind_stan
 goes_stands laws f p steps most used new at alive le (inr (inl d)) = absurd (refused_not laws f p steps most used new at alive le d)
 goes_stands laws f p steps most used new at alive le (inr (inr d)) = memory_stands laws f p steps most used new at alive le d
 
--- ---- all that waits is shown
+-- ---- all pending indications is shown
 
--- all at once, where no more waits than that
+-- all at once, if no more waits than that
 record AllShown (old : Holding) (first : List (ℕ × Shown)) (new : Holding) : Type 0 where
   all : first ≡ waiting_in old.end.lines
   is : new ≡ record old { end = record old.end { lines = quieted old.end.lines } }

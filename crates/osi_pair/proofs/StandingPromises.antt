@@ -1,4 +1,4 @@
--- Two ends that stand at a list of steps promise what the machine promises.
+-- Two ends that match a list of steps keep the promises of the machine.
 use Rattle.std.proofs.Common.{◌≡◌, refl, sym, ◌∙◌, ap, subst, ℕ, ◌<◌, ◌≤◌, Bool, true, false, ◌&&◌, List, [], ◌∷◌, map, Option, Some, None, option_map, is_some, IsSome, inl, inr, ◌⊎◌, if◌then◌else◌, arith}
 use Rattle.osi_carrier.specs.declared.ends.EndReason.TheVariants as why
 use Rattle.osi_machine.specs.AsTables as tables

@@ -1,4 +1,4 @@
--- The lines of an end, when all that waited was shown.
+-- The lines of an end when all indications were fetched.
 use Rattle.std.proofs.Common.{◌≡◌, ℕ, ◌==◌, Bool, true, false, if◌then◌else◌, List, [], ◌∷◌, ◌++◌, map, Some, refl, sym, ap, ◌∙◌, arith}
 use Rattle.osi_session.specs.Listening.{Move}
 use Rattle.osi_pair.proofs.Vocabulary.{eqb-true, append-nil, RiseFrom, Rows, value_at, Shown, AllCameAbout, line_after, End, IsInOrder, waiting_in, quieted, put_row as put, EndLine as Line, quieted_at, quieted_apart, quieted_up}

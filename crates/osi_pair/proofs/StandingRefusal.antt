@@ -1,4 +1,4 @@
--- Who asks for a connection is answered as the machine answers him.
+-- A request for a connection gets the machine's answer.
 use Rattle.std.proofs.Common.{◌≡◌, refl, sym, ◌∙◌, ap, subst, ℕ, zero, suc, ◌+◌, ◌<◌, ◌≤◌, ◌==◌, ◌&&◌, ◌||◌, Bool, true, false, not, nat_le, nat_lt, if◌then◌else◌, List, [], ◌∷◌, length, map, Option, Some, None, option_map, is_some, arith}
 use Rattle.osi_carrier.specs.declared.faults.OpenError.TheVariants as opening
 use Rattle.osi_machine.specs.Machine as machine
@@ -11,7 +11,7 @@ use Rattle.osi_pair.proofs.StandingActs.{place_given}
 at_row : (q p : ℕ) (y : Connection) (rows : Rows Connection) (b : Bool) → (p == q) ≡ b → value_at q ((p, y) ∷ rows) ≡ (if b then Some y else value_at q rows)
 at_row q p y rows b e = ap (λ (c : Bool). if◌then◌else◌ {A = Option Connection} c (Some y) (value_at q rows)) e
 
--- the transport connections of so many references behind this one
+-- the transport connections of this many references after this one
 transports : ℕ → ℕ → Rows Connection → List Transport
 transports k zero live = []
 transports k (suc m) live = transport_in (was_given (value_at (k + 1) live)) ∷ transports (k + 1) m live
@@ -116,7 +116,7 @@ refusal_is : (t : Tables) (c : Connect) (known : Option worlds.Class) (over wait
     refusal t (offer_in (asked_of c)) ≡ by_tests over (is_known known) waits (is_class_0 known) many up (is_profile (unit_bits c.requirements)) (is_long c)
 refusal_is t c known over waits many up k o w m u = cc
 
--- ---- at two ends that stand
+-- ---- at two ends that match the tables
 
 some_same : (x : Option Ending) (y : Option EndReason) → option_map Some x ≡ option_map ending_in y → is_some x ≡ is_some y
 some_same x y e = grind arith

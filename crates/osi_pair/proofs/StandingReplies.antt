@@ -1,4 +1,4 @@
--- What a session answers, as octets of a TSDU.
+-- The answer of a session, as octets of a TSDU.
 use Rattle.std.proofs.Common.{◌≡◌, ◌<◌, ◌≤◌, ℕ, ◌&&◌, Bool, true, false, not, if◌then◌else◌, [], length, Some, None, IfSome, refl, sym, ap, subst, ◌∙◌, arith}
 use Rattle.osi_message.specs.Written.{unit_of}
 use Rattle.osi_session.specs.Respond.{over}
@@ -18,7 +18,7 @@ pub record ReplyLaws : Type 0 where
   pub enacted : (s : State) (u : Meaning) → respond_unit s u ≡ enacted s u (verdict s u)
   pub says : (s : State) (u : Meaning) → respond s (said_of u) ≡ respond_unit s u
 
--- ---- it goes into octets, and no data comes behind it
+-- ---- it goes into octets, and no data comes after it
 
 record IsAnswer (m : Meaning) : Type 0 where
   none : (unit_of m).information ≡ []

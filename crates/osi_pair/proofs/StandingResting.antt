@@ -1,4 +1,4 @@
--- Two ends stand as they should behind a unit with which no session acts.
+-- Two ends match the tables after a unit with which no session acts.
 use Rattle.std.proofs.Common.{◌≡◌, ℕ, ◌<◌, ◌≤◌, Bool, true, false, List, [], ◌∷◌, ◌++◌, Option, Some, None, is_some, refl, sym, ap, subst, ◌∙◌, arith, inr}
 use Rattle.osi_between.specs.Messages as carrier
 use Rattle.osi_pair.proofs.Vocabulary.{append-nil, Held, Value, Place, place_at, connection_in, Rows, State, reference_of, Between, last_of, under_way, put_in, is_cut, progress_of, AreLike, kind_of, Progress, leaves_use, connection_at, delivers, learns, Line as TableLine, Tables, seen_from, end_of, step, unseen, Message, Standing, Shown, told_all, kept_at, End, TwoEnds, end_at, other, side_in, is_caller, carriers_of, IsInOrder, Stands, Goes, HasJoined, is_parting, message_in, waiting_in, Side, Left, Right, Listener, discards, is_ended, is_over, implied, gone_is, StaysCalm, over_calm, EndLine as Line, SessionState}
@@ -66,7 +66,7 @@ pub session_rests : (n : ℕ) (lines : Rows Line) (row : Row) (x : Standing) →
 session_rests n lines (ends m) x e h = session_gone n lines m x h
 session_rests n lines row x e h = grind arith
 
--- ---- what is under way from it
+-- ---- what is in flight from it
 
 pub broken_is : (p : TwoEnds) (b : Between) (t : Tables) → Stands p b t → t.broken ≡ is_some (carriers_of p).reach
 broken_is p b t old = grind arith
@@ -99,7 +99,7 @@ out_row s p b t e h n l old d i stays alive =
     (subst (λ (q : Place). GoesTo s (end_at (other s) p) n now d.now (progress_of q) l.peer.session.state (sends_then d.row t.broken l.own.channel)) (sym (d.there n))
     (subst (λ (ms : List Message). GoesTo s (end_at (other s) p) n now d.now (progress_of there) l.peer.session.state ms) (sym (sends_is d.row t.broken l.own.channel stays)) all))
 
--- ---- what is under way to it
+-- ---- what is in flight to it
 
 -- no message arrived
 pub back_none : (s : Side) (p : TwoEnds) (b : Between) (e : End) (h : Held) (n : ℕ) (l : TableLine) → (d : DidAt s p b e h n) → IsSeen s n p b l → (end_at s p).end.carrier.ended ≡ None → arrived_in d.row ≡ [] →
@@ -134,7 +134,7 @@ back_alone s p b e h n l got d i alive one other_kind =
     alone_of (before d.row) (after d.row) (is_cut (is_caller (other s)) (carriers_of (with_holding s e h p))) (HasJoined n (end_at s p)) l.own.session.state l.peer.channel got
     (under_way (is_caller (other s)) n (carriers_of (with_holding s e h p)) d.now) other_kind (back_one s p b e h n l got d i alive one)
 
--- what is under way to an end behind the first, where its lines are these
+-- what is in flight to an end after the first, where its lines are these
 pub back_then : (s : Side) (p : TwoEnds) (c : Between) (e : End) (h : Held) (n : ℕ) (g : Progress) (begun : Option (List ℕ)) (x y : SessionState) (ms : List Message) →
     BehindFirst g (is_cut (is_caller (other s)) (carriers_of (with_holding s e h p))) begun x ms (under_way (is_caller (other s)) n (carriers_of (with_holding s e h p)) c) → HasJoined n (record { end = e; held = h }) begun →
     (StaysCalm x ms → StaysCalm y ms) → Goes (other s) s n (with_holding s e h p) c g y ms
@@ -143,7 +143,7 @@ back_then s p c e h n g begun x y ms way held calms =
     (behind_first e.carrier.ended g (is_cut (is_caller (other s)) (carriers_of (with_holding s e h p))) (HasJoined n (record { end = e; held = h })) begun x y ms
     (under_way (is_caller (other s)) n (carriers_of (with_holding s e h p)) c) way held calms)
 
--- its lines make no difference to what is under way
+-- its lines make no difference to what is in flight
 pub other_lines : (s : Side) (p : TwoEnds) (b : Between) (packet : List ℕ) (h : Held) (n : ℕ) (lines more : Rows Line) → (pa : PacketActs (terms_at p) (is_caller s) (carriers_of p) b packet h.octets) → (g : Progress)
     (begun : Option (List ℕ)) (x : SessionState) (ms : List Message) →
     BehindFirst g (is_cut (is_caller (other s)) (carriers_of (with_holding s (acted_end pa.unit lines (end_at s p).end) h p))) begun x ms
@@ -219,7 +219,7 @@ quiet_unit s p b t packet h old alive pa d at back same rest agree stays sends b
     (subst (λ (m : TableLine). TablesAfter s n t t [] m) (sym (line_same d.row l tr)) (tables_rest s n l t at.found))
     (known_then s p b t e h n old alive d new.lasts pa.first.given agree)
 
--- one arrived, and no session heard of it
+-- one arrived, and no session received it
 pub rest_unit : (s : Side) (p : TwoEnds) (b : Between) (t : Tables) (packet : List ℕ) (h : Held) (got : carrier.Message) → Stands p b t → (end_at s p).end.carrier.ended ≡ None → end_of (side_in s) t ≡ None →
     (pa : PacketActs (terms_at p) (is_caller s) (carriers_of p) b packet h.octets) → (d : DidAt s p b (acted_end pa.unit (end_at s p).end.lines (end_at s p).end) h (reference_of pa.unit)) →
     (at : FoundLine s (reference_of pa.unit) p b t) (first : Message) (rest : List Message) → at.line.peer.channel ≡ first ∷ rest → kind_of (message_in first) ≡ kind_of got →

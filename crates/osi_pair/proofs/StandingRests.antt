@@ -1,5 +1,5 @@
--- A unit with which no session acts: one that brings no message, one that an end which is closing drops, and
--- a CR that is refused.
+-- A unit with which no session acts: one that brings no message, one that a closing end drops, and a CR that is
+-- refused.
 use Rattle.std.proofs.Common.{◌≡◌, ℕ, Bool, true, false, if◌then◌else◌, List, [], ◌∷◌, ◌++◌, length, map, Option, Some, None, refl, sym, ◌∙◌, ◌⊎◌, arith}
 use Rattle.osi_between.specs.Messages as carrier
 use Rattle.osi_machine.specs.Core as machine
@@ -71,7 +71,7 @@ unless_same broken whole ms ys e h = grind arith
 pub answers_same : (broken whole : Bool) (row : Row) → broken ≡ whole → map message_in (unless_broken broken (answer_for row)) ≡ (if whole then [] else put_for row)
 answers_same broken whole row e = grind arith
 
--- nothing is put where something of what is under way was cut
+-- nothing is put where something of what is in flight was cut
 pub spare_by : (broken cut : Bool) (ms : List Message) → (broken ≡ false → cut ≡ false) → (cut ≡ false) ⊎ (unless_broken broken ms ≡ [])
 spare_by broken cut ms free = grind arith
 

@@ -1,5 +1,5 @@
--- What may come to an end, row by row: where the connection stands there, the message with which the unit
--- arrives, if any, and what is put in answer.
+-- What may arrive at an end, row by row: the state of the connection there, the message that arrives with the unit, if
+-- any, and the answer that is put.
 use Rattle.std.proofs.Common.{◌≡◌, ℕ, zero, suc, true, false, List, [], ◌∷◌, Some, refl, arith}
 use Rattle.osi_between.specs.Messages.{Message, ask, agree, deny, bye, over}
 use Rattle.osi_between.specs.Progress as progress

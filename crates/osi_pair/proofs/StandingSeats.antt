@@ -1,4 +1,4 @@
--- A side of a connection: what it is by how far its connection is, and its session.
+-- A side of a connection, by how far its connection is, and its session.
 use Rattle.std.proofs.Common.{◌≡◌, ℕ, ◌<◌, Bool, true, false, nat_lt, if◌then◌else◌, List, Option, Some, None, is_some, IfSome, refl, sym, ap, ◌∙◌, arith}
 use Rattle.osi_between.specs.Progress as progress
 use Rattle.osi_machine.specs.Worlds as worlds

@@ -34,7 +34,7 @@ send_acts laws s p b t n peer link tsdu old alive at short octets =
     let ways = ways_at s n p (pair_with s (sent n tsdu (end_at s p).end.carrier) p) b a.now (carrier.message tsdu ∷ []) a.carries in
     search
 
--- ---- what is under way from it
+-- ---- what is in flight from it
 
 stays_open : (g h : Progress) → g ≡ in_use → h ≡ in_use → leaves_use g h ≡ false
 stays_open g h e f = ap (λ (x : Progress). leaves_use x h) e ∙ ap (λ (x : Progress). leaves_use in_use x) f

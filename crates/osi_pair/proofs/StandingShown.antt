@@ -1,12 +1,13 @@
--- An end took a packet, or ended: how two ends stand when its users were shown all that came of it.
+-- An end took a packet, or ended: the state of two ends when its users received all indications.
 use Rattle.osi_pair.proofs.Vocabulary.{◌≡◌, List, None, Held, Between, Step, Tables, run, End, TwoEnds, end_at, noted, side_in, AreArrivals, Stands, waiting_in, quieted, told_entries, Side}
 use Rattle.osi_pair.proofs.StandingTurned.{with_holding}
 
--- The end of a side, which had not ended, is this; its users were shown all that waits, and the journal says so.
+-- The end of a side, which had not ended, is this; its users were shown all pending indications, and the journal says
+-- so.
 abbrev pub shown_pair : Side → End → Held → TwoEnds → TwoEnds
 shown_pair s e h p = noted (told_entries s None e.carrier.ended (waiting_in e.lines)) (with_holding s (record e { lines = quieted e.lines }) h p)
 
--- They stand then at these steps more.
+-- They then match these further steps.
 pub record StandsShown (s : Side) (p : TwoEnds) (t : Tables) (e : End) (h : Held) : Type 0 where
   pub more : List Step
   pub are : AreArrivals (side_in s) more

@@ -1,5 +1,5 @@
--- In class 0 a session closes: the end comes. There is one connection, so that what its session shows stands in
--- the order of the tables.
+-- In class 0 a session closes, which ends its end. There is one connection, so its indications are in the order of the
+-- tables.
 use Rattle.std.proofs.Common.{◌≡◌, ℕ, ◌≤◌, Bool, true, false, List, [], ◌∷◌, ◌++◌, map, Option, Some, None, refl, sym, ap, subst, ◌∙◌, arith}
 use Rattle.osi_carrier.specs.State as carriers
 use Rattle.osi_machine.specs.Worlds as worlds

@@ -1,4 +1,4 @@
--- Memory is wanted for what the carrier of an end told: how two ends stand then, by what arrived.
+-- Memory runs out for the events of an end's carrier: the state of two ends then, by what arrived.
 use Rattle.std.proofs.Common.{◌≡◌, ℕ, Bool, true, false, ◌||◌, if◌then◌else◌, List, [], ◌∷◌, ◌++◌, map, take, Option, None, IfSome, refl, sym, ap, subst, ◌∙◌, ◌⊎◌, inl, inr, arith}
 use Rattle.osi_between.specs.Messages as carrier
 use Rattle.osi_machine.specs.Core as machine
@@ -273,8 +273,8 @@ unheard_shown laws s p b t packet h held old run alive pa (inr (inl q)) = begins
 unheard_shown laws s p b t packet h held old run alive pa (inr (inr (inl q))) = agrees_shown laws.packet laws.takes s p b t packet h held old run alive pa q
 unheard_shown laws s p b t packet h held old run alive pa (inr (inr (inr q))) = leaves_shown laws.packet laws.takes laws.late s p b t packet h held old run alive pa q.0 q.1
 
--- For what a packet does there was no memory: the tables take what arrived where it was answered, and then the
--- end of the side.
+-- Memory runs out for the effect of a packet: the tables take what arrived if it was answered, and then the end of the
+-- side.
 pub starved_shown : StarveLaws → (s : Side) (p : TwoEnds) (b : Between) (t : Tables) (packet octets : List ℕ) (h held : Held) (new : End) → Stands p b t → IsTableRun t → (end_at s p).end.carrier.ended ≡ None →
     IsPacket packet octets → (end_at s p).held.octets ≡ octets ++ h.octets → Starves (end_at s p).end packet new → StandsShown s p t new held
 starved_shown laws s p b t packet octets h held new old run alive is cut x =

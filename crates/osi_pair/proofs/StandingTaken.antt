@@ -1,4 +1,4 @@
--- A packet is taken: how two ends stand at a list of steps, when its users were shown what came of it.
+-- A packet is taken: how two ends match a list of steps when its users received the indications.
 use Rattle.std.proofs.Common.{◌≡◌, ℕ, false, List, [], ◌∷◌, ◌++◌, Option, None, sym, ap, subst, ◌∙◌, arith}
 use Rattle.osi_machine.specs.Core as machine
 use Rattle.osi_pair.proofs.Vocabulary.{AllByRecursion, Held, IsPacket, Rows, State, EndReason, Between, Terms, Step, delivers, HasNumber, ends as ends_side, Tables, run, start, Shown, after_packet, End, TwoEnds, end_at, noted, side_in, is_caller, terms_in, carriers_of, AreDeliveries, AreArrivals, StandsAtArrivals, Stands, StandsAt, waiting_in, quieted, told_entries, Side, EndLine as Line}
@@ -35,7 +35,7 @@ behind_shown s p t packet h b =
       stands = subst (λ (q : TwoEnds). Stands q b.now (run t b.more)) (sym (shown_nothing s p b.end h b.n b.lasts b.waits)) b.stands;
     })
 
--- a packet of which no session hears
+-- a packet that no session receives
 pub unheard_shown : PacketLaws → (s : Side) (p : TwoEnds) (b : Between) (t : Tables) (packet : List ℕ) (h : Held) → Stands p b t → (end_at s p).end.carrier.ended ≡ None →
     (pa : PacketActs (terms_at p) (is_caller s) (carriers_of p) b packet h.octets) → is_heard pa.did.row ≡ false → StandsShown s p t (after_packet (end_at s p).end packet) h
 unheard_shown laws s p b t packet h old alive pa e = behind_shown s p t packet h (unheard_packet laws s p b t packet h old alive pa e)

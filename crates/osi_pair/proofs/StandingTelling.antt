@@ -1,4 +1,4 @@
--- A packet is taken by an end that lasts: however it is heard, two ends stand at what arrived.
+-- An end that lasts takes a packet: however it is handled, two ends match the machine with what arrived.
 use Rattle.std.proofs.Common.{◌≡◌, ℕ, Bool, true, false, List, ◌++◌, None, refl, ◌⊎◌, inl, inr, arith}
 use Rattle.osi_pair.proofs.Vocabulary.{Held, IsPacket, NoMemory, Between, IsTableRun, Step, Tables, after_packet, Starves, End, TwoEnds, end_at, is_caller, carriers_of, StandsAtArrivals, Stands, StandsAt, Side, ends_end}
 use Rattle.osi_pair.proofs.StandingAnswering.{AnswerLaws, moving_packet}

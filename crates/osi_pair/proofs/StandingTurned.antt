@@ -1,4 +1,4 @@
--- Where one end acts for one connection, two ends stand as they should.
+-- If one end acts for one connection, two ends still match the tables.
 use Rattle.std.proofs.Common.{◌≡◌, ◌≢◌, ℕ, ◌≤◌, ◌==◌, Bool, true, false, if◌then◌else◌, List, [], ◌∷◌, ◌++◌, length, map, Some, None, is_some, option_map, refl, sym, ap, subst, ◌∙◌, not, ◌<◌, arith}
 use Rattle.osi_machine.specs.Core as machine
 use Rattle.osi_machine.specs.Machine as entries
@@ -39,7 +39,7 @@ holding_there s e h p = grind arith
 pub still_there : (s : Side) (b c : Between) → last_of (not (is_caller s)) c ≡ last_of (not (is_caller s)) b → last_of (is_caller (other s)) c ≡ last_of (is_caller (other s)) b
 still_there s b c e = grind arith
 
--- what is under way to the other end, and to this one
+-- what is in flight to the other end, and to this one
 abbrev pub GoesTo : Side → Holding → ℕ → TwoEnds → Between → Progress → SessionState → List Message → Type 0
 GoesTo s taker n p b g x ms = AreUnderWay taker.end.carrier.ended g (is_cut (is_caller s) (carriers_of p)) (HasJoined n taker) x ms (under_way (is_caller s) n (carriers_of p) b)
 

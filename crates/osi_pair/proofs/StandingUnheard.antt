@@ -1,4 +1,4 @@
--- An end whose carrier acted for a unit of which no session heard may end.
+-- An end may end when its carrier acted for a unit that no session received.
 use Rattle.std.proofs.Common.{◌≡◌, ◌≢◌, ℕ, ◌≤◌, ◌==◌, Bool, true, false, List, [], length, Some, None, IfSome, option_map, refl, sym, ap, subst, ◌∙◌, ◌<◌}
 use Rattle.osi_machine.specs.Worlds as worlds
 use Rattle.osi_pair.proofs.Vocabulary.{eqb-true, eq-eqb, append-nil, Held, place_at, State, reference_of, Between, is_cut, under_way, last_of, progress_of, not_yet, is_given, Seat, Line, Tables, awaits, seen_from, IsInOctets, End, TwoEnds, end_at, side_in, is_caller, transport_in, class_in, carriers_of, HasLine, Stands, HasJoined, Side, other}

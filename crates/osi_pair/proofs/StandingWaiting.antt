@@ -1,4 +1,4 @@
--- A side whose transport connection waits to be agreed to: its session waits too, with the CN of what was asked for.
+-- A side whose transport connection waits for agreement: its session waits too, with the CN of the request.
 use Rattle.std.proofs.Common.{◌≡◌, ℕ, true, Option, Some, None, sym, ap, subst, ◌∙◌, arith}
 use Rattle.osi_machine.specs.Core as machine
 use Rattle.osi_machine.specs.Machine.{start, run}

@@ -1,4 +1,4 @@
--- Memory is wanted at an end: the step of the tables, and what becomes of a packet.
+-- Memory runs out at an end: the step of the tables, and what happens to a packet.
 use Rattle.std.proofs.Common.{◌≡◌, ◌≢◌, ℕ, zero, suc, ◌+◌, ◌==◌, Bool, true, false, if◌then◌else◌, ◌||◌, List, [], ◌∷◌, ◌++◌, length, map, Option, Some, None, is_some, refl, sym, ap, subst, ◌∙◌, ◌⊎◌, inl, inr, arith}
 use Rattle.osi_carrier.specs.Packets as packets
 use Rattle.osi_carrier.specs.React.{react as carrier_react}
@@ -26,7 +26,7 @@ end_step who t keep none = grind arith
 same_end : (s : Side) (p : TwoEnds) (t u : Tables) (e : End) (h : Held) (c : Between) → MayEnd s p t u e h c → end_of (side_in s) u ≡ end_of (side_in s) t
 same_end s p t u e h c m = grind arith
 
--- an end that may end is shown to have found no memory
+-- an end that may end is told that memory ran out
 pub alone_shown : (s : Side) (p : TwoEnds) (b : Between) (t : Tables) (e : End) (h : Held) (c : Between) (lines : Rows stack.Line) (held : Held) → Stands p b t → MayEnd s p t t e h c →
     SaysAll s (quieted (all_lost lines)) (waiting_in (all_lost lines)) t → end_of (side_in s) t ≡ None → StandsShown s p t (lost_end NoMemory e.carrier lines) held
 alone_shown s p b t e h c lines held old m says none =
@@ -40,7 +40,7 @@ alone_shown s p b t e h c lines held old m says none =
       stands = subst (λ (v : Tables). Stands (shown_pair s (lost_end NoMemory e.carrier lines) held p) c v) (sym (end_step (side_in s) t keep none)) done.stands;
     }
 
--- behind a delivery
+-- after a delivery
 pub behind_shown : (s : Side) (p : TwoEnds) (b : Between) (t u : Tables) (e : End) (h : Held) (c : Between) (lines : Rows stack.Line) (held : Held) (n : ℕ) (cut : ℕ → ℕ) → Stands p b t → MayEnd s p t u e h c →
     SaysAll s (quieted (all_lost lines)) (waiting_in (all_lost lines)) u → end_of (side_in s) t ≡ None → step t (delivers (side_in s) n cut) ≡ u → StandsShown s p t (lost_end NoMemory e.carrier lines) held
 behind_shown s p b t u e h c lines held n cut old m says none is =

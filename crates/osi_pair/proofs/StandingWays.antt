@@ -1,4 +1,4 @@
--- What is under way, as the messages of the tables and as those between two carriers, where one end acts.
+-- What is in flight, as messages of the tables and as those between two carriers, when one end acts.
 use Rattle.std.proofs.Common.{◌≡◌, ℕ, suc, Bool, true, false, ◌||◌, ◌≤◌, ◌⊎◌, inl, inr, List, [], ◌∷◌, ◌++◌, length, map, take, drop, Option, Some, None, refl, sym, ap, subst, ◌∙◌, append_assoc, arith}
 use Rattle.osi_between.specs.Messages as carrier
 use Rattle.osi_between.specs.Progress as progress
@@ -55,12 +55,12 @@ like_alike p xs ys h = alike_like p xs xs ys (same_alike (progress_of p) xs xs r
 abbrev pub About : Type 1
 About = Option (List ℕ) → Type 0
 
--- they are under way to a taker that is this far, and whose session is this
+-- they are in flight to a taker that is this far, and whose session is this
 pub as_now : (o q : Option EndReason) (g h : Progress) (c d : Bool) (H K : About) (x y : State) (ms : List Message) (xs ys : Sent) → (w : AreUnderWay o g c H x ms xs) → (d ≡ false → c ≡ false) →
     ((b : Option (List ℕ)) → H b → K b) → (StaysCalm x ms → StaysCalm y ms) → (q ≡ None → AreAlike h (map word_in w.words) ys) → AreUnderWay q h d K y ms ys
 as_now o q g h c d H K x y ms xs ys w cut holds calms alike = grind arith
 
--- what is under way is the same, and the session is
+-- what is in flight is the same, and the session is
 pub way_same : (o q : Option EndReason) (g k : Progress) (c d : Bool) (H K : About) (x : State) (ms : List Message) (xs ys : Sent) → (q ≡ None → o ≡ None) → k ≡ g → (d ≡ false → c ≡ false) →
     ((b : Option (List ℕ)) → H b → K b) → xs ≡ ys → AreUnderWay o g c H x ms xs → AreUnderWay q k d K x ms ys
 way_same o q g k c d H K x ms xs ys lasts e cut holds f w = grind arith
@@ -92,7 +92,7 @@ words_of_puts : (puts : List Message) → map word_in (map whole puts) ≡ map m
 words_of_puts [] = refl
 words_of_puts (m ∷ puts) = ap (λ (l : Sent). message_in m ∷ l) (words_of_puts puts)
 
--- words behind words
+-- words after words
 put_alike : (p : Place) (words more : List Word) (stays put new : Sent) → AreAlike (progress_of p) (map word_in words) stays → AreLike (connection_in p) new (stays ++ put) → map word_in more ≡ put →
     AreAlike (progress_of p) (map word_in (words ++ more)) new
 put_alike p words more stays put new first after same =
@@ -106,7 +106,7 @@ keeps_whole o p c d H x ms puts more old new stays put w uncut are first after s
     let y = put_words w.begun w.words more puts w.order (w.finished uncut) are in
     grind (arith, put_alike, after, no_begun)
 
--- nothing of it is lost, and something is put behind it, but nothing where what is under way was cut
+-- nothing of it is lost, and something is put after it, but nothing where what is in flight was cut
 pub out_puts : (o : Option EndReason) (p : Place) (c d : Bool) (H : About) (x : State) (ms puts : List Message) (more : List Word) (old new stays gone put : Sent) → AreUnderWay o (progress_of p) c H x ms old → AreWords more puts → (c ≡ false) ⊎ (more ≡ []) →
     (d ≡ false → c ≡ false) → AreLike (connection_in p) old (stays ++ gone) → AreLike (connection_in p) new (stays ++ put) → gone ≡ [] → map word_in more ≡ put → AreUnderWay o (progress_of p) d H x (ms ++ puts) new
 out_puts o p c d H x ms puts more old new stays gone put w are spare cut before after none same =
@@ -125,8 +125,8 @@ out_keeps o p c d H x ms puts old new stays gone put w spare cut before after no
 
 -- ---- the last of it is lost
 
--- What the tables say of a session to which this is under way: data is no fault there behind what is ahead of it; and
--- it is over where its peer has left.
+-- What the tables say of a session to which this is in flight: data is no fault there after what is ahead of it; and it
+-- is over where its peer has left.
 pub record Takes (x : State) (ms : List Message) : Type 0 where
   pub behind : IsNoFaultBehind x ms
   pub left : IsOverWhenLeft x ms
@@ -143,7 +143,7 @@ front_calm x left ms all takes calm (inl a) = takes.behind ms a.octets a.rest a.
 front_calm x left ms all takes calm (inr (inl away)) = over_calm x ms (takes.left away)
 front_calm x left ms all takes calm (inr (inr same)) = subst (StaysCalm x) same.is (calm same.begins)
 
--- so many messages are left
+-- this many messages are left
 pub record Left (o : Option EndReason) (g : Progress) (d : Bool) (H : About) (x : State) (ms puts : List Message) (new : Sent) : Type 0 where
   pub keep : ℕ
   pub way : AreUnderWay o g d H x (take keep ms ++ puts) new
@@ -182,7 +182,7 @@ front_at o q g h c d H x ms k old new w takes cut alike =
       };
     }
 
--- its sender leaves, which is put behind
+-- its sender leaves, which is put after
 leave_at : (o : Option EndReason) (p : Place) (c d : Bool) (H : About) (x : State) (ms : List Message) (m : Message) (k : ℕ) (old new stays put : Sent) → (w : AreUnderWay o (progress_of p) c H x ms old) → MayLeave m →
     (o ≡ None → AreAlike (progress_of p) (map word_in (take k w.words)) stays) → AreLike (connection_in p) new (stays ++ put) → message_in m ∷ [] ≡ put → Left o (progress_of p) d H x ms (m ∷ []) new
 leave_at o p c d H x ms m k old new stays put w goes first now_is same =
@@ -192,7 +192,7 @@ leave_at o p c d H x ms m k old new stays put w goes first now_is same =
     let y = leave_behind w.begun kept gone m (subst (AreInOrder w.begun) (sym parts) w.order) goes in
     grind (arith, length, put_alike, take, no_begun)
 
--- what is put where the sender leaves: a message of that kind, or nothing where what is under way was cut
+-- what is put where the sender leaves: a message of that kind, or nothing where what is in flight was cut
 pub record IsLeave (puts : List Message) : Type 0 where
   pub m : Message
   pub is : puts ≡ m ∷ []
@@ -295,7 +295,7 @@ pub record GoesOn (H : About) (place : PartPlace) (octets now : List ℕ) : Type
   pub now_is : now ≡ front ++ octets
   pub held : H (Some front)
 
--- what is known of the Data of which a part comes: the rest of it is behind it; or its sender has left; or the rest was
+-- what is known of the Data of which a part comes: the rest of it is after it; or its sender has left; or the rest was
 -- cut off, and data is no fault
 abbrev pub NextOf : State → List ℕ → List Message → Type 0
 NextOf x now ms = IsRest now ms ⊎ ((list_any is_leaving ms ≡ true) ⊎ IsCalm x)

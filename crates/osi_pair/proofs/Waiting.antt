@@ -3,7 +3,7 @@ use Rattle.std.proofs.Common.{◌≡◌, ◌∙◌, ℕ, [], ◌∷◌, ◌++◌
 use Rattle.osi_stack.specs.Calls.{without_first}
 use Rattle.osi_pair.proofs.Vocabulary.{Rows, Shown, first_shown, waiting_in, quieted, EndLine as Line}
 
--- where nothing is shown first, nothing waits
+-- if nothing is shown first, nothing waits
 pub none_waits : (lines : Rows Line) → first_shown lines ≡ None → waiting_in lines ≡ []
 none_waits [] e = refl
 none_waits ((r, line) ∷ lines) e = grind (arith, none_waits lines)
@@ -18,7 +18,7 @@ pub next_is : (lines : Rows Line) (p : ℕ × Shown) → first_shown lines ≡ S
 next_is [] p e = cc
 next_is ((r, line) ∷ lines) p e = grind (arith, next_is lines p)
 
--- where nothing waits, nothing is taken away
+-- if nothing waits, nothing is taken away
 pub none_taken : (lines : Rows Line) → first_shown lines ≡ None → without_first lines ≡ lines
 none_taken [] e = refl
 none_taken ((r, line) ∷ lines) e = grind (arith, none_taken lines)

@@ -1,4 +1,4 @@
--- What is put behind words, what is cut from them, and what then is left of their messages.
+-- What is put after words, what is cut from them, and what then is left of their messages.
 use Rattle.std.proofs.Common.{◌≡◌, refl, ◌∙◌, ap, subst, sym, ℕ, ◌≤◌, List, [], ◌∷◌, ◌++◌, length, take, map, Option, Some, None, append_assoc, ◌⊎◌, inl, inr, true, arith}
 use Rattle.osi_pair.proofs.Vocabulary.{take-append_seam, append-nil, length-append, Message, unit, ask, agree, deny, bye, over, DT, First, Middle, Last, Word, whole, part, begun_octets, joins, left_of, MayFollow, IsBegun, AreInOrder, list_any, is_leaving}
 
@@ -51,9 +51,9 @@ pub whole_left : (ms : List Message) → left_of None (map whole ms) ≡ None
 whole_left [] = refl
 whole_left (m ∷ ms) = whole_left ms
 
--- ---- behind what has begun of a Data
+-- ---- after what has begun of a Data
 
--- what comes behind it: the rest of the Data; or a message by which its sender leaves; or parts of it alone, of which
+-- what comes after it: the rest of the Data; or a message by which its sender leaves; or parts of it alone, of which
 -- the last was cut off
 pub record IsRest (b : List ℕ) (ms : List Message) : Type 0 where
   pub rest : List ℕ
@@ -80,7 +80,7 @@ next_is b (part Last x ∷ words) h = inl (record { rest = x; others = joins Non
 next_is b (part Middle x ∷ words) h = next_more b x (left_of (Some (b ++ x)) words) (joins (Some (b ++ x)) words) (next_is (b ++ x) words h.2)
 next_is b _ h = let no : Some b ≡ None = h.0 in cc
 
--- ---- what is under way
+-- ---- what is in flight
 
 -- what is left of words that lose a suffix is what is left of their messages
 pub cut_behind : (b : Option (List ℕ)) (kept gone : List Word) → AreInOrder b (kept ++ gone) →
@@ -106,12 +106,12 @@ no_words = record { joined = refl; left = refl; order = tt }
 pub wholes : (ms : List Message) → AreWords (map whole ms) ms
 wholes ms = record { joined = joins_whole ms; left = whole_left ms; order = whole_order ms }
 
--- they are put behind words of which none is lost
+-- they are put after words of which none is lost
 pub put_words : (b : Option (List ℕ)) (words more : List Word) (ms : List Message) → AreInOrder b words → left_of b words ≡ None → AreWords more ms →
     (joins b (words ++ more) ≡ joins b words ++ ms) × (left_of b (words ++ more) ≡ None) × AreInOrder b (words ++ more)
 put_words b words more ms h e are = grind (arith, joins_append, left_append, order_append)
 
--- a message by which the sender leaves, behind a front of them
+-- a message by which the sender leaves, after a front of them
 abbrev pub MayLeave : Message → Type 0
 MayLeave m = (b : Option (List ℕ)) → MayFollow b m
 

@@ -18,7 +18,7 @@ carried_words (sent.part place octets ∷ words) = ap (λ l. word_in (part place
 
 -- ---- parts
 
--- the rest of the parts, behind what has begun
+-- the rest of the parts, after what has begun
 record AreRest (begun : List ℕ) (words : List Word) (all : List ℕ) : Type 0 where
   joined : joins (Some begun) words ≡ unit (DT all) ∷ []
   left : left_of (Some begun) words ≡ None
@@ -52,7 +52,7 @@ pub record PartLaws : Type 0 where
   pub parts : (limit : ℕ) (octets : List ℕ) → is_size limit ≡ true → is_parted limit (DT octets) ≡ true → AreParts (words_sent limit (DT octets))
   pub joined : (limit : ℕ) (octets : List ℕ) → joined (words_sent limit (DT octets)) ≡ octets
 
--- a Data has at most so many octets
+-- a Data has at most this many octets
 abbrev pub IsBounded : Meaning → Type 0
 IsBounded (DT octets) = length octets ≤ most_data
 IsBounded m = Unit {0}

@@ -1,4 +1,4 @@
--- What an event is to two ends that stand at a list of steps of the machine.
+-- The effect of an event on two ends that match a list of steps of the machine.
 use Rattle.std.specs.Prelude.{List, [], ◌∷◌, ◌++◌}
 use Rattle.osi_tpkt.specs.Octets.{IsOctets}
 use Rattle.osi_machine.specs.Machine.{Step, connects, calls}
@@ -11,14 +11,14 @@ use Rattle.osi_pair.specs.Standing.{side_in, offer_in, StandsAt, StandsAtArrival
 use Rattle.osi_pair.specs.declared.events.Event.{Event}
 use Rattle.osi_pair.specs.declared.events.Event.TheVariants.{Connect, Call, Carry, Break, Told}
 
--- what users ask for in memory has octets, and numbers that a point may have
+-- requests in memory consist of octets, and of numbers that a point may have
 abbrev pub CanHappen : Event → Type 0
 CanHappen (Connect asked) = CanBeAsked asked
 CanHappen (Call side reference request) = HasSerial (called_by request) × IsOctets (octets_of (called_by request))
 CanHappen event = Unit {0}
 
--- Where the old ones stood at these steps, the new ones stand at these and those of the event: of octets that are
--- carried, the deliveries of what arrives with them at the other side, and perhaps its end for want of memory.
+-- If the old ends matched these steps, the new ones match these followed by the steps of the event. For octets that are
+-- carried, these are the deliveries of what arrives at the other side, and perhaps its end because memory runs out.
 abbrev pub StandsAfter : Event → TwoEnds → TwoEnds → List Step → Type 0
 StandsAfter (Connect asked) old new steps = StandsAt new (steps ++ connects (offer_in (asked_of asked)) ∷ [])
 StandsAfter (Call side reference request) old new steps = StandsAt new (steps ++ calls (side_in side) reference.0 (called_by request) ∷ [])

@@ -1,4 +1,4 @@
--- What users ask for, and copies of it in memory.
+-- Requests of users, and copies of them in memory.
 use Rattle.std.specs.Prelude.{◌≡◌, ◌<◌, ℕ, true, List, [], Option, option_map, IfSome}
 use Rattle.osi_tpkt.specs.Octets.{IsOctets}
 use Rattle.osi_between.specs.Course.{IsTsap}
@@ -18,7 +18,7 @@ use Rattle.osi_pair.specs.declared.owned.OwnedRefusal.TheVariants as reason
 use Rattle.osi_pair.specs.declared.owned.OwnedRequest.{OwnedRequest}
 use Rattle.osi_pair.specs.declared.owned.OwnedRequest.TheVariants as owned
 
--- a connection that is asked for
+-- a requested connection
 pub record Asked : Type 0 where
   pub requirements : ℕ
   pub serial : ℕ
@@ -43,7 +43,7 @@ asked_of c = record {
   octets = c.user_data.now;
 }
 
--- what each that is asked for in memory has: a number that a point may have, sizes that a user may give, and octets
+-- what holds of every request in memory: a number that a point may have, sizes that a user may give, and octets
 pub record CanBeAsked (c : Connect) : Type 0 where
   pub serial : c.serial.number < 1000000
   pub calling : IsTsap (option_map tsap_octets c.calling_tsap)

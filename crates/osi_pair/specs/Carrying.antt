@@ -1,4 +1,4 @@
--- Octets are carried from one end to the other.
+-- Carrying octets from one end to the other.
 use Rattle.std.specs.Prelude.{◌≡◌, ℕ, ◌-◌, ◌<◌, List, [], ◌∷◌, ◌++◌, sum, take, min}
 use Rattle.osi_session.specs.Shown.{Shown}
 use Rattle.osi_stack.specs.Calls.{carried}
@@ -12,7 +12,7 @@ use Rattle.osi_pair.specs.Sides.{other}
 use Rattle.osi_pair.specs.Telling.{ShowsFirst, told_entries}
 use Rattle.osi_pair.specs.declared.sides.Side.{Side}
 
--- an end is fed what the other has sent, at most so many octets, and uses so many of them
+-- an end is fed at most `most` octets that the other has sent, and uses `used` of them
 pub record FeedsFirst (most : ℕ) (from old : Holding) (used : ℕ) (new : Holding) : Type 0 where
   pub fed : Fed
   pub uses : fed.used ≡ used
@@ -24,8 +24,8 @@ pub record Crossing : Type 0 where
   pub to : Holding
   pub journal : List Entry
 
--- The end of a side is fed what the other has sent, at most so many octets. What it uses is taken
--- from the other; and its users are shown what came of it.
+-- The end of a side is fed at most `most` octets that the other has sent. Those that it uses are taken from the other,
+-- and its users receive the indications that they cause.
 pub record CarriesPiece (side : Side) (most : ℕ) (old : Crossing) (used : ℕ) (new : Crossing) : Type 0 where
   pub between : Holding
   pub first : List (ℕ × Shown)
@@ -34,13 +34,13 @@ pub record CarriesPiece (side : Side) (most : ℕ) (old : Crossing) (used : ℕ)
   pub shows : ShowsFirst between first new.to
   pub says : new.journal ≡ old.journal ++ told_entries side old.to.end.carrier.ended new.to.end.carrier.ended first
 
--- pieces one after the other, the last of them first, of this length in all at most
+-- pieces one after the other, the last one first in the list, of at most this length together
 abbrev pub CarriesPieces : Side → ℕ → List ℕ → Crossing → Crossing → Type 0
 CarriesPieces side most [] old new = new ≡ old
 CarriesPieces side most (used ∷ before) old new =
     (between : Crossing) × CarriesPieces side most before old between × CarriesPiece side (most - sum before) between used new
 
--- an end was fed something last, and took nothing of it
+-- an end was fed last, and took nothing
 pub record TakesNothing (side : Side) (new : Crossing) : Type 0 where
   pub old : Crossing
   pub most : ℕ
@@ -56,7 +56,7 @@ pub record Carries (side : Side) (most : ℕ) (old : Crossing) (octets : ℕ) (n
 abbrev pub crossing : Side → TwoEnds → Crossing
 crossing side p = record { from = end_at side p; to = end_at (other side) p; journal = p.journal }
 
--- at most so many octets of a side are carried, of those that still reach the other
+-- at most this many octets of a side are carried, of those that can still arrive
 pub record CarriesFrom (side : Side) (octets : ℕ) (old : TwoEnds) (carried : ℕ) (new : TwoEnds) : Type 0 where
   pub way : Carries (other side) (min octets (reachable side old)) (crossing side old) carried (crossing side new)
   pub reach : new.reach ≡ reach_after side carried old.reach

@@ -1,4 +1,4 @@
--- Two ends, how far octets still reach, and the journal; and what the calls of the users do.
+-- Two ends, how many octets still arrive, and the journal; and the effect of the users' calls.
 use Rattle.std.specs.Prelude.{ℕ, ◌+◌, true, false, List, [], ◌∷◌, ◌++◌, length, min, Option, Some, None, Result, Ok, Err}
 use Rattle.osi_tpkt.specs.Held.{fresh}
 use Rattle.osi_class.specs.declared.terms.Local.{Local}
@@ -24,7 +24,7 @@ pub record TwoEnds : Type 0 where
   pub reach : Option Reach
   pub journal : List Entry
 
--- nothing has happened
+-- two fresh ends
 abbrev pub fresh_ends : Local → Local → TwoEnds
 fresh_ends left right = record {
   left = record { end = fresh_end true left; held = fresh };
@@ -41,11 +41,11 @@ abbrev pub with_end : Side → Holding → TwoEnds → TwoEnds
 with_end Left h p = record p { left = h }
 with_end Right h p = record p { right = h }
 
--- the journal says more
+-- with more entries in the journal
 abbrev pub noted : List Entry → TwoEnds → TwoEnds
 noted entries p = record p { journal = p.journal ++ entries }
 
--- ---- the user of the left end asks for a connection
+-- ---- the user of the left end requests a connection
 
 abbrev pub connected_by : Option ConnectError → Connect → Holding → Holding
 connected_by None c h = record h { end = connects c h.end }
@@ -74,7 +74,7 @@ after_call side r call p =
 
 -- ---- a break
 
--- how many octets a side has sent that were not carried
+-- how many octets that a side has sent were not carried
 abbrev pub sent_by : Side → TwoEnds → ℕ
 sent_by side p = length (end_at side p).end.carrier.outgoing
 

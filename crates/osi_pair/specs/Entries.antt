@@ -1,4 +1,4 @@
--- What the journal says.
+-- The entries of the journal.
 use Rattle.std.specs.Prelude.{ℕ, Option, Some, None, Result, Ok, Err}
 use Rattle.osi_carrier.specs.declared.ends.EndReason.{EndReason}
 use Rattle.osi_carrier.specs.declared.events.Ref.{Ref}
@@ -11,8 +11,8 @@ use Rattle.osi_pair.specs.declared.entries.Entry.{Entry as InMemory}
 use Rattle.osi_pair.specs.declared.entries.Entry.TheVariants as memory
 use Rattle.osi_pair.specs.declared.sides.Side.{Side}
 
--- the user of the left end asks for a connection; a call, and why it is refused, where it is; what a
--- user is shown; the end of an end
+-- the user of the left end requests a connection; a call, and why it is refused, if it is; an indication that a user
+-- receives; the end of an end
 pub data Entry : Type 0 where
   asks : Asked → (answer : Result ℕ ConnectError) → Entry
   calls : Side → (reference : ℕ) → Call → (error : Option CallError) → Entry

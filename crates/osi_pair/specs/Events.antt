@@ -1,4 +1,4 @@
--- What an event does to two ends, and when it does not fit.
+-- The effect of an event on two ends, and when it does not fit.
 use Rattle.std.specs.Prelude.{◌≡◌, ◌<◌, ◌≤◌, ℕ, Bool, true, false, not, List, ◌++◌, min, Option, Some, None, IsSome}
 use Rattle.osi_session.specs.Calls.{called_by}
 use Rattle.osi_session.specs.Shown.{Shown}
@@ -26,19 +26,19 @@ abbrev pub misfit_told : Option Reach → Option PairError
 misfit_told None = Some NotBroken
 misfit_told (Some reach) = None
 
--- why an event does not fit behind the earlier ones
+-- why an event does not fit after the events before it
 abbrev pub misfit : Event → TwoEnds → Option PairError
 misfit (Break left right) p = misfit_break p.reach
 misfit (Told side) p = misfit_told p.reach
 misfit event p = None
 
--- an error as the rules give it: want of memory comes where they give none
+-- an error that the rules give; if they give none, it is an allocation failure
 abbrev pub error_by_rule : PairError → Option PairError
 error_by_rule OutOfMemory = None
 error_by_rule error = Some error
 
--- Want of memory comes only where something is to be noted in the journal, or to be carried: not at a break, nor where
--- there is nothing to carry, nor where the side that is told of a break has ended.
+-- An allocation can fail only if something is to be noted in the journal, or to be carried: not at a break, nor if
+-- there is nothing to carry, nor if the side that is told of the break has ended.
 abbrev pub WantsMemory : Event → TwoEnds → Type 0
 WantsMemory (Connect asked) p = Unit {0}
 WantsMemory (Call side reference request) p = Unit {0}
@@ -46,13 +46,13 @@ WantsMemory (Carry side most) p = 0 < min most (reachable side p)
 WantsMemory (Break left right) p = ⊥
 WantsMemory (Told side) p = (end_at side p).end.carrier.ended ≡ None
 
--- an end that has not ended hears of the break: its users are shown what they have lost
+-- an end that has not ended is told of the break: its users are told what they have lost
 pub record HearsOfBreak (side : Side) (old : Holding) (before : List Entry) (new : Holding) (after : List Entry) : Type 0 where
   pub first : List (ℕ × Shown)
   pub shows : ShowsFirst (record old { end = breaks old.end }) first new
   pub says : after ≡ before ++ told_entries side old.end.carrier.ended new.end.carrier.ended first
 
--- an end is told of the break: nothing happens where it has ended
+-- an end is told of the break; nothing happens if it has ended
 pub record IsToldOfBreak (side : Side) (old : Holding) (before : List Entry) (new : Holding) (after : List Entry) : Type 0 where
   pub over : IsSome old.end.carrier.ended → (new ≡ old) × (after ≡ before)
   pub hears : old.end.carrier.ended ≡ None → HearsOfBreak side old before new after
@@ -63,7 +63,7 @@ pub record TellsBreak (side : Side) (old new : TwoEnds) : Type 0 where
   pub other : end_at (other side) new ≡ end_at (other side) old
   pub reach : new.reach ≡ old.reach
 
--- what an event does, and how many octets it carries
+-- the effect of an event, and how many octets it carries
 abbrev pub Does : Event → TwoEnds → ℕ → TwoEnds → Type 0
 Does (Connect asked) old octets new = (new ≡ after_connect asked old) × (octets ≡ 0)
 Does (Call side reference request) old octets new = (new ≡ after_call side reference.0 (called_by request) old) × (octets ≡ 0)
@@ -71,31 +71,31 @@ Does (Carry side most) old octets new = CarriesFrom side most old octets new
 Does (Break left right) old octets new = (new ≡ after_break left right old) × (octets ≡ 0)
 Does (Told side) old octets new = TellsBreak side old new × (octets ≡ 0)
 
--- So much is carried, of this at most: all of it, unless the carry is cut short; and something where there is
--- something and no indication waits.
+-- How much is carried, of at most `most`: all of it, unless the carry is cut short; and something if there is something
+-- and no indication is pending.
 pub record Moves (is_quiet : Bool) (most : ℕ) (applied : Applied) : Type 0 where
   pub at_most : applied.carried ≤ most
   pub whole : applied.is_cut_short ≡ false → applied.carried ≡ most
   pub less : applied.is_cut_short ≡ true → applied.carried < most
   pub some : is_quiet ≡ true → 0 < most → 0 < applied.carried
 
--- nothing is carried, and nothing was to be
+-- nothing is carried, and nothing was to be carried
 pub record CarriesNothing (applied : Applied) : Type 0 where
   pub nothing : applied.carried ≡ 0
   pub all : applied.is_cut_short ≡ false
 
--- A carry carries what it was asked to, or all where there is less, and is cut short only behind some of it. All else
--- carries nothing.
+-- A carry carries what it was asked to, or all if there is less, and is cut short only after some of it. Every other
+-- event carries nothing.
 abbrev pub CarriesAsMuch : Event → TwoEnds → Applied → Type 0
 CarriesAsMuch (Carry side most) p applied = Moves true (min most (reachable side p)) applied
 CarriesAsMuch event p applied = CarriesNothing applied
 
--- the same, where the end that is fed may have indications that wait
+-- the same, if the end that is fed may have pending indications
 abbrev pub CarriesWhereQuiet : Event → TwoEnds → Applied → Type 0
 CarriesWhereQuiet (Carry side most) p applied = Moves (not (waits (end_at (other side) p).end.lines)) (min most (reachable side p)) applied
 CarriesWhereQuiet event p applied = CarriesNothing applied
 
--- the journal says what it said, and perhaps more
+-- the journal keeps its entries, and may get more
 pub record Adds (old new : List Entry) : Type 0 where
   pub more : List Entry
   pub is : new ≡ old ++ more

@@ -1,4 +1,4 @@
--- What two ends are that events have made of new ones.
+-- Two ends that events have made of new ones.
 use Rattle.std.specs.Prelude.{List}
 use Rattle.osi_machine.specs.Machine.{Step}
 use Rattle.osi_tpkt.specs.Packet.{IsPartial}
@@ -10,7 +10,7 @@ use Rattle.osi_pair.specs.declared.sides.Side.{Side}
 abbrev pub HoldLess : TwoEnds → Type 0
 HoldLess p = (side : Side) → IsPartial (end_at side p).held.octets
 
--- They stand at some list of steps of the machine, and hold less than a packet.
+-- They match some list of steps of the machine, and hold less than a packet.
 pub record IsReached (p : TwoEnds) : Type 0 where
   pub steps : List Step
   pub stands : StandsAt p steps

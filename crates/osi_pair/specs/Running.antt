@@ -16,9 +16,8 @@ use Rattle.osi_pair.specs.declared.events.Event.TheVariants.{Connect, Call, Carr
 use Rattle.osi_pair.specs.declared.faults.PairError.TheVariants.{OutOfMemory}
 use Rattle.osi_pair.specs.declared.faults.RunError.{RunError}
 
--- An event that fits is applied: a carry carries as much as there is, up to what it was asked to. Where the
--- two ends stood at a list of steps of the machine, they stand at that list and the steps of the event; and
--- they are safe.
+-- An event that fits is applied; a carry carries as much as there is, up to what it was asked to. If the two ends
+-- matched a list of steps of the machine, they match that list followed by the steps of the event; and they are safe.
 pub record Happens (event : Event) (old new : TwoEnds) : Type 0 where
   pub applied : Applied
   pub fits : misfit event old ≡ None
@@ -38,7 +37,7 @@ abbrev pub IsBreak : List Step → Type 0
 IsBreak (breaks keep_left keep_right ∷ []) = Unit {0}
 IsBreak steps = ⊥
 
--- a side that has ended before hears of no break
+-- a side that has ended before is not told of a break
 abbrev pub IsTold : machine.Side → List Step → Type 0
 IsTold side [] = Unit {0}
 IsTold side (ends taker reason keep ∷ []) = (taker ≡ side) × (reason ≡ told_of_break)
@@ -61,7 +60,7 @@ AreStepsOfAll [] steps = steps ≡ []
 AreStepsOfAll (event ∷ events) steps =
     (parts : Parts) × (steps ≡ parts.first ++ parts.rest) × AreStepsOf event parts.first × AreStepsOfAll events parts.rest
 
--- they stand at that list followed by the steps of events
+-- they match that list followed by the steps of events
 pub record StandsBehind (events : List Event) (p : TwoEnds) (steps : List Step) : Type 0 where
   pub more : List Step
   pub are : AreStepsOfAll events more
@@ -69,13 +68,13 @@ pub record StandsBehind (events : List Event) (p : TwoEnds) (steps : List Step) 
 
 -- ---- a run
 
--- All events happen; and where the two ends stood at a list of steps, they stand at that list and the steps of
--- all events.
+-- All events happen; and if the two ends matched a list of steps, they match that list followed by the steps of all
+-- events.
 pub record RunsThrough (events : List Event) (old new : TwoEnds) : Type 0 where
   pub all : HappenAll events old new
   pub stands : (steps : List Step) → StandsAt old steps → StandsBehind events new steps
 
--- all events before one happen, and that one is refused, for want of memory only where it wants some
+-- all events before one happen, and that one is refused; if because memory ran out, then only if it needs some
 pub record StopsAt (events : List Event) (old : TwoEnds) (error : RunError) (new : TwoEnds) : Type 0 where
   pub within : error.place < length events
   pub before : RunsThrough (take error.place events) old new

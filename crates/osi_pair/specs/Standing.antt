@@ -1,5 +1,5 @@
--- How two ends stand to the tables of the machine: what each end has is what the tables have of it, and what
--- is under way between the two is what the tables have under way.
+-- The relation that the promises rest on: two ends match the tables of the machine if the state of each end is the
+-- tables' state of it, and what is in flight between the two is what the tables have in flight.
 use Rattle.std.specs.Prelude.{◌≡◌, ℕ, ◌<◌, ◌≤◌, Bool, true, false, List, [], ◌∷◌, ◌++◌, map, length, Option, Some, None, option_map, is_some, IsSome, IfSome, Result, Ok, Err}
 use Rattle.std.specs.List.{AllByRecursion}
 use Rattle.osi_tpkt.specs.Held.{Held}
@@ -51,7 +51,7 @@ use Rattle.osi_session.specs.Kept.{IsJoinedAs}
 use Rattle.osi_session.specs.Moves.{Standing}
 use Rattle.osi_session.specs.declared.state.State.{State}
 
--- ---- the words of the one in those of the other
+-- ---- translations of the vocabulary
 
 abbrev pub side_in : Side → machine.Side
 side_in Left = machine.Left
@@ -62,7 +62,7 @@ abbrev pub is_caller : Side → Bool
 is_caller Left = true
 is_caller Right = false
 
--- two ends of this product end for one of three reasons: the tables have no word for another
+-- two ends of this library end for one of three reasons; the tables have no word for another
 abbrev pub ending_in : EndReason → Option Ending
 ending_in why.Broken = Some told_of_break
 ending_in why.NoMemory = Some no_memory
@@ -81,7 +81,7 @@ offer_in a = record {
   octets = a.octets;
 }
 
--- want of memory is no entry, and the left end is a caller
+-- an allocation failure is no entry, and the left end is a caller
 abbrev pub refusal_in : ConnectError → Option Refusal
 refusal_in (Open opening.NotCaller) = None
 refusal_in (Open opening.Ended) = Some has_ended
@@ -97,7 +97,7 @@ abbrev pub answer_in : Result ℕ ConnectError → Option (Option Refusal)
 answer_in (Ok r) = Some None
 answer_in (Err error) = option_map Some (refusal_in error)
 
--- an entry, where the tables have one for it
+-- an entry of the tables, if they have one for it
 abbrev pub entry_in : Entry → Option entries.Entry
 entry_in (asks wanted answer) = option_map (connect_answered (offer_in wanted)) (answer_in answer)
 entry_in (calls side r call error) = Some (call_answered (side_in side) r call error)
@@ -120,7 +120,7 @@ transport_in (was_given (Some asked)) = waiting
 transport_in (was_given (Some (linked peer link))) = worlds.linked
 transport_in (was_given (Some (closing peer))) = worlds.closing
 
--- a unit goes as the octets of a TSDU
+-- a unit is sent as the octets of a TSDU
 abbrev pub message_in : Message → carrier.Message
 message_in (unit m) = carrier.message (written m)
 message_in ask = carrier.ask
@@ -129,7 +129,7 @@ message_in (deny r) = carrier.deny r
 message_in (bye r) = carrier.bye r
 message_in over = carrier.over
 
--- a part goes as the octets of a TSDU of its own
+-- a part is sent as the octets of a TSDU of its own
 abbrev pub word_in : Word → carrier.Message
 word_in (whole m) = message_in m
 word_in (part place octets) = carrier.message (part_octets place octets)
@@ -151,12 +151,13 @@ is_parting worlds.closing = true
 is_parting gone = true
 is_parting transport = false
 
--- a session that has joined this of an unfinished Data
+-- a session that has joined these octets of an unfinished Data
 abbrev pub joining : Option (List ℕ) → Standing → Listener
 joining joined s = record { state = s.state; waiting = s.waiting; joined = joined }
 
--- a side of it: its transport connection; its session, and what that has joined, while it is live, and also
--- as long as it is kept once it is gone; one that parts is over, and one that was never given awaits a CN
+-- a side of a connection: its transport connection; and its session with what that has joined, while the connection is
+-- live, and as long as the session is kept once it is gone. A side that leaves is over, and one that was never given
+-- awaits a CN
 pub record IsSeated (n : ℕ) (h : Holding) (seat : Seat) : Type 0 where
   pub joined : Option (List ℕ)
   pub transport : seat.transport ≡ transport_in (place_at n h.end.carrier)
@@ -164,22 +165,22 @@ pub record IsSeated (n : ℕ) (h : Holding) (seat : Seat) : Type 0 where
   pub kept : (l : Listener) → kept_at n h.end.lines ≡ Some l → l ≡ joining joined seat.session
   pub over_now : is_parting seat.transport ≡ true → is_ended seat.session.state.phase ≡ true
   pub awaiting : seat.transport ≡ not_yet → seat.session ≡ awaits
-  -- the CN that waits goes into octets
+  -- the CN that waits can be written
   pub octets : IfSome seat.session.waiting IsInOctets
 
--- The same messages; of one kind where the taker is closing or has closed: it takes no TSDU any more.
+-- The same messages. If the receiver is closing or has closed, only their kinds agree: it takes no TSDU any more.
 abbrev pub AreAlike : Progress → List carrier.Message → List carrier.Message → Type 0
 AreAlike shutting some others = map kind_of some ≡ map kind_of others
 AreAlike progress.gone some others = map kind_of some ≡ map kind_of others
 AreAlike taker some others = some ≡ others
 
--- What is under way to a taker, which may have ended: the messages of the tables, and those between two
--- carriers, by the words in which they go. The tables have a Data as long as all of it that is still to come is
--- under way. Where the rest of it was cut off, by a break or by the end of its sender, they do not have it any
--- more: what there is of it may still arrive, and is no fault to the session of the taker.
+-- What is in flight to a receiver, which may have ended: the messages of the tables, and those between the two
+-- carriers, by the words in which they are sent. The tables have a Data in flight as long as all the rest of it is in
+-- flight. If the rest was cut off, by a break or by the end of its sender, the tables no longer have it; what is left
+-- of it may still arrive, and is no fault to the receiving session.
 pub record AreUnderWay (reason : Option EndReason) (taker : Progress) (cut : Bool) (Holds : Option (List ℕ) → Type 0) (session : State) (channel : List Message) (sent : List carrier.Message) : Type 0 where
   pub words : List Word
-  -- of an unfinished Data, what is not under way any more
+  -- the part of an unfinished Data that is no longer in flight
   pub begun : Option (List ℕ)
   pub alike : reason ≡ None → AreAlike taker (map word_in words) sent
   pub joined : joins begun words ≡ channel
@@ -188,16 +189,16 @@ pub record AreUnderWay (reason : Option EndReason) (taker : Progress) (cut : Boo
   pub calm : IsBegun (left_of begun words) → StaysCalm session channel
   pub held : Holds begun
 
--- the session that an end keeps has joined of an unfinished Data what has begun, unless it discards data
+-- the session that an end keeps has joined the beginning of an unfinished Data, unless it discards data
 abbrev pub HasJoined : ℕ → Holding → Option (List ℕ) → Type 0
 HasJoined n h begun = (l : Listener) → kept_at n h.end.lines ≡ Some l → IsJoinedAs l.state l.joined begun
 
--- what is under way from a side to the other, whose connection is this far
+-- what is in flight from a side to the other, whose connection is this far
 abbrev pub Goes : Side → Side → ℕ → TwoEnds → Between → Progress → State → List Message → Type 0
 Goes side other n p b taker session channel =
     AreUnderWay (end_at other p).end.carrier.ended taker (is_cut (is_caller side) (carriers_of p)) (HasJoined n (end_at other p)) session channel (under_way (is_caller side) n (carriers_of p) b)
 
--- what is under way from a side to the other
+-- what is in flight from a side to the other
 abbrev pub IsUnderWay : Side → Side → ℕ → TwoEnds → Between → (from to : Seat) → Type 0
 IsUnderWay side other n p b from to = Goes side other n p b (progress_of (place_at n (last_of (is_caller other) b))) to.session.state from.channel
 
@@ -214,20 +215,20 @@ pub record HasLine (n : ℕ) (p : TwoEnds) (b : Between) (t : Tables) : Type 0 w
 
 -- ---- an end
 
--- what is true of an end while it lasts: it has heard what its carrier told; its connections and sessions
--- go together; its lines stand in the order in which their references were given; and each session is what
--- its inputs made of it
+-- the invariant of an end while it lasts: it has handled all events of its carrier; its connections and sessions go
+-- together; its lines are in the order in which their references were given; and each session is what its inputs made
+-- of it
 pub record IsInOrder (e : End) : Type 0 where
   pub heard : e.carrier.events ≡ []
   pub sound : Soundness e
   pub rising : RiseFrom 0 e.lines
   pub came : AllCameAbout e.lines
 
--- ---- all of it
+-- ---- the whole relation
 
--- `b`: what is between the two carriers, from which what is under way is read
+-- `b`: what is between the two carriers, from which what is in flight is read
 pub record Stands (p : TwoEnds) (b : Between) (t : Tables) : Type 0 where
-  -- so the two carriers stand
+  -- the invariant of the two carriers
   pub between : AreBetween (terms_of p.left.end.carrier.local p.right.end.carrier.local) (carriers_of p) b
   -- the classes that the called end accepts, and whether the byte connection broke
   pub terms : t.terms ≡ terms_in (terms_of p.left.end.carrier.local p.right.end.carrier.local)
@@ -255,40 +256,40 @@ pub record Stands (p : TwoEnds) (b : Between) (t : Tables) : Type 0 where
   pub over_right : IsSome p.right.end.carrier.ended → p.right.end.carrier.live ≡ []
   -- nor is a session of it kept
   pub lost_right : IsSome p.right.end.carrier.ended → (n : ℕ) → kept_at n p.right.end.lines ≡ None
-  -- an end that lasts is in order
+  -- an end that lasts satisfies its invariant
   pub order_left : p.left.end.carrier.ended ≡ None → IsInOrder p.left.end
   pub order_right : p.right.end.carrier.ended ≡ None → IsInOrder p.right.end
-  -- all that was shown is in the journal
+  -- all indications are in the journal
   pub quiet_left : waiting_in p.left.end.lines ≡ []
   pub quiet_right : waiting_in p.right.end.lines ≡ []
 
--- ---- at a list of steps
+-- ---- matching a list of steps
 
--- Two ends stand at a list of steps: as the tables do after these.
+-- Two ends match a list of steps if they match the tables after these steps.
 pub record StandsAt (p : TwoEnds) (steps : List Step) : Type 0 where
   pub numbered : AllByRecursion HasNumber steps
   pub now : Between
   pub stands : Stands p now (run (start (terms_in (terms_of p.left.end.carrier.local p.right.end.carrier.local))) steps)
 
--- they stand at that list followed by the end of a side that is told of the break
+-- they match that list followed by the end of a side that is told of the break
 pub record StandsAtEnd (side : Side) (p : TwoEnds) (steps : List Step) : Type 0 where
   pub keep : ℕ → ℕ
   pub stands : StandsAt p (steps ++ entries.ends (side_in side) told_of_break keep ∷ [])
 
--- a side is told of the break: no step where it had ended before, and else its end
+-- a side is told of the break: no step if it had ended before, otherwise its end
 abbrev pub StandsAtTold : (before : Option EndReason) → Side → TwoEnds → List Step → Type 0
 StandsAtTold (Some reason) side p steps = StandsAt p steps
 StandsAtTold None side p steps = StandsAtEnd side p steps
 
--- they stand at that list followed by a break, which leaves so much of what was under way
+-- they match that list followed by a break, which leaves this much of what was in flight
 pub record StandsAtBreak (p : TwoEnds) (steps : List Step) : Type 0 where
   pub keep_left : ℕ → ℕ
   pub keep_right : ℕ → ℕ
   pub stands : StandsAt p (steps ++ breaks keep_left keep_right ∷ [])
 
--- ---- a packet that an end holds first is taken
+-- ---- an end takes the first packet that it holds
 
--- what it holds then is behind it
+-- with what it holds afterwards
 abbrev pub packet_taken : Side → List ℕ → Held → TwoEnds → TwoEnds
 packet_taken side packet held p = with_end side (record { end = after_packet (end_at side p).end packet; held = held }) p
 
@@ -298,20 +299,20 @@ AreDeliveries side [] = Unit {0}
 AreDeliveries side (delivers taker r keep ∷ steps) = (taker ≡ side) × AreDeliveries side steps
 AreDeliveries side (step ∷ steps) = ⊥
 
--- deliveries to a side, and then perhaps its end for want of memory
+-- deliveries to a side, and then perhaps its end because memory runs out
 abbrev pub AreArrivals : machine.Side → List Step → Type 0
 AreArrivals side [] = Unit {0}
 AreArrivals side (delivers taker r keep ∷ steps) = (taker ≡ side) × AreArrivals side steps
 AreArrivals side (entries.ends taker reason keep ∷ steps) = (taker ≡ side) × (reason ≡ no_memory) × (steps ≡ [])
 AreArrivals side (step ∷ steps) = ⊥
 
--- they stand at that list followed by what arrives at a side
+-- they match that list followed by what arrives at a side
 pub record StandsAtArrivals (side : Side) (p : TwoEnds) (steps : List Step) : Type 0 where
   pub more : List Step
   pub are : AreArrivals (side_in side) more
   pub stands : StandsAt p (steps ++ more)
 
--- they stand at that list followed by deliveries to a side
+-- they match that list followed by deliveries to a side
 pub record StandsAtDeliveries (side : Side) (p : TwoEnds) (steps : List Step) : Type 0 where
   pub more : List Step
   pub are : AreDeliveries (side_in side) more

@@ -1,4 +1,4 @@
-//! What the user of an end asks for, and its entry in the journal.
+//! A user's requests, and their entries in the journal.
 
 ghost use Rattle.std.specs.Prelude.{◌≡◌, ◌+◌, ◌++◌, ◌∷◌, [], map, IfOk, IfErr, OnOk, OnErr};
 ghost use Rattle.osi_session.specs.Calls.{called_by};
@@ -17,7 +17,7 @@ use osi_session::{CallError, Request};
 use osi_stack::{Connect, ConnectError, Stack};
 use std::alloc::Global;
 
-/// Asks for a connection. Want of memory is no answer, and changes nothing.
+/// Requests a connection. An allocation failure is no answer, and changes nothing.
 fn connected(stack: &mut Stack, connect: &Connect) -> Result<Result<Ref, ConnectError>, PairError>
     ensures answer { IfOk result (λ answer. answer_by answer
         ≡ answer_with (stack.old.end.carrier.given + 1) (connect_error connect.now stack.old.end)) }
@@ -32,7 +32,7 @@ fn connected(stack: &mut Stack, connect: &Connect) -> Result<Result<Ref, Connect
     }
 }
 
-/// A call of the user of a connection. Want of memory is no answer, and changes nothing.
+/// A call of the user of a connection. An allocation failure is no answer, and changes nothing.
 fn called(
     stack: &mut Stack,
     reference: Ref,
@@ -51,7 +51,7 @@ fn called(
     }
 }
 
-/// Asks for a connection, and notes the answer. Want of memory changes nothing.
+/// Requests a connection, and notes the answer. An allocation failure changes nothing.
 pub(crate) fn connect(
     alloc: Global,
     stack: &mut Stack,
@@ -76,7 +76,7 @@ pub(crate) fn connect(
     Ok(())
 }
 
-/// A call of the user of a connection, and its answer is noted. Want of memory changes nothing.
+/// A call of the user of a connection, whose answer is noted. An allocation failure changes nothing.
 pub(crate) fn call(
     alloc: Global,
     side: Side,

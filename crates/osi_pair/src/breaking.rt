@@ -1,4 +1,4 @@
-//! An end is told that the byte connection is broken.
+//! Telling an end that the byte connection is broken.
 
 ghost use Rattle.std.specs.Prelude.{◌≡◌, None, map, OnOk, OnErr, IfErr};
 ghost use Rattle.osi_pair.specs.Entries.{entry_by};
@@ -10,7 +10,7 @@ use crate::sides::Side;
 use crate::telling::{ROOM, note_end, show};
 use osi_stack::Stack;
 
-/// Tells an end of the break, and notes what its users are shown. Want of memory changes nothing.
+/// Tells an end of the break, and notes what its users receive. An allocation failure changes nothing.
 pub(crate) fn tell_break(
     side: Side,
     stack: &mut Stack,

@@ -1,4 +1,4 @@
-//! Octets are carried from one end to the other.
+//! Carrying octets from one end to the other.
 
 ghost use Rattle.std.specs.Prelude.{◌≡◌, ◌+◌, ◌<◌, ◌≤◌, ◌⊎◌, true, false, not, length, map, vec_len, vec_capacity, IfOk, IfErr, OnErr};
 ghost use Rattle.osi_stack.specs.Calls.{carried};
@@ -14,7 +14,7 @@ use crate::sides::Side;
 use crate::telling::{ROOM, note_end, show};
 use osi_stack::Stack;
 
-/// Feeds an end what the other has sent, at most so many octets. What it uses is taken from the other.
+/// Feeds an end at most this many octets that the other has sent. Those that it uses are taken from the other.
 fn feed(from: &mut Stack, to: &mut Stack, most: usize) -> usize
     requires { most ≤ length from.old.end.carrier.outgoing }
     ensures feeds { FeedsFirst most from.old to.old result to.new }
@@ -27,7 +27,7 @@ fn feed(from: &mut Stack, to: &mut Stack, most: usize) -> usize
     fed.used
 }
 
-/// Carries one piece. The journal has room for what comes of it.
+/// Carries one piece. The journal has room for its entries.
 fn carry_piece(
     side: Side,
     from: &mut Stack,
@@ -51,8 +51,8 @@ fn carry_piece(
     used
 }
 
-/// Carries octets to the end of a side: so many, unless there is no room in the journal for what may
-/// come of more of them. Where there is none from the first, nothing has changed.
+/// Carries this many octets to the end of a side, or fewer if the journal has no room for what more octets may cause.
+/// If there is no room at the start, nothing has changed.
 pub(crate) fn carry(
     side: Side,
     from: &mut Stack,

@@ -1,4 +1,4 @@
-//! Two ends, and what an event does to them.
+//! Two ends, and the effect of an event on them.
 
 use crate::asking::{call, connect};
 use crate::breaking::tell_break;
@@ -14,8 +14,7 @@ use osi_session::Request;
 use osi_stack::{Connect, Stack};
 use std::alloc::Global;
 
-/// Two ends, how far octets still reach once the byte connection is broken, and the journal; without
-/// what is always true of them.
+/// Two ends, how many octets still arrive once the byte connection is broken, and the journal; without their invariant.
 #[derive(Drop)]
 pub(crate) struct Ends {
     alloc: Global,
@@ -35,7 +34,7 @@ impl Ends {
     ghost use Rattle.osi_pair.specs.Memory.{ends_in};
     ghost use Rattle.osi_pair.specs.Sides.{other};
 
-    /// Two ends on which nothing has happened.
+    /// Two fresh ends.
     pub(crate) fn new(alloc: Global, left: Local, right: Local) -> Self
         ensures { ends_in result ≡ fresh_ends left right }
     {
@@ -48,7 +47,7 @@ impl Ends {
         }
     }
 
-    /// Makes room in the journal for so many entries more.
+    /// Makes room in the journal for this many more entries.
     pub(crate) fn reserve(&mut self, entries: usize) -> Result<(), PairError>
         ensures memory { IfErr result (λ error. error ≡ PairError.OutOfMemory) }
         ensures same { ends_in self.new ≡ ends_in self.old }
@@ -164,7 +163,7 @@ impl Ends {
         }
     }
 
-    /// What happens to the two ends, and how many octets were carried.
+    /// Applies an event, and returns how many octets were carried.
     pub(crate) fn apply(&mut self, event: &Event) -> Result<Applied, PairError>
         ensures does { IfOk result (λ applied. Does event.now (ends_in self.old) applied.carried (ends_in self.new)) }
         ensures fits { OnOk result (misfit event.now (ends_in self.old) ≡ None) }

@@ -1,4 +1,4 @@
-//! What the journal keeps.
+//! The entries of the journal.
 
 use crate::owned::{OwnedConnect, OwnedRequest};
 use crate::sides::Side;
@@ -6,13 +6,12 @@ use osi_carrier::{EndReason, Ref};
 use osi_session::{CallError, Indication};
 use osi_stack::ConnectError;
 
-/// What the journal of two ends keeps.
+/// An entry in the journal of two ends.
 #[derive(Drop)]
 pub enum Entry {
-    /// The user of the left end asked for a connection.
+    /// The user of the left end requested a connection.
     Connect {
-        /// What was asked for. It has addresses, and so more octets than all else that an entry keeps:
-        /// in memory of its own, which leaves the other entries short.
+        /// The request. It has addresses, and so more octets than any other entry; a box keeps the other entries small.
         asked: Box<OwnedConnect>,
         /// The reference of the connection, or why there is none.
         answer: Result<Ref, ConnectError>,
@@ -23,18 +22,18 @@ pub enum Entry {
         side: Side,
         /// The connection.
         reference: Ref,
-        /// That it was done, or why it was refused.
+        /// Whether it was done, or why it was refused.
         answer: Result<(), CallError>,
-        /// What was asked for.
+        /// The request.
         request: OwnedRequest,
     },
-    /// What a user was shown.
+    /// An indication that a user received.
     Indication {
-        /// Whose user it was.
+        /// The side of the user.
         side: Side,
         /// The connection.
         reference: Ref,
-        /// What it was shown.
+        /// The indication.
         indication: Indication,
     },
     /// The end of an end.

@@ -5,18 +5,18 @@ use thiserror::Error;
 /// Why an event was not applied. Nothing has changed.
 #[derive(Clone, Copy, PartialEq, Eq, Debug, Error)]
 pub enum PairError {
-    /// A side is told of a break, and the byte connection is not broken.
+    /// A side is told of a break, but the byte connection is not broken.
     #[error("not broken")]
     NotBroken,
-    /// The byte connection is broken, and breaks again.
+    /// The byte connection breaks, but is already broken.
     #[error("already broken")]
     AlreadyBroken,
-    /// There was no memory for the event, or for its entry in the journal.
+    /// An allocation failed for the event, or for its entry in the journal.
     #[error("out of memory")]
     OutOfMemory,
 }
 
-/// Why a list of events was not applied whole: all events before one were.
+/// Why a list of events was not applied as a whole. All events before this one were applied.
 #[derive(Clone, Copy, PartialEq, Eq, Debug, Error)]
 #[error("event {place}: {error}")]
 pub struct RunError {

@@ -1,8 +1,8 @@
 //! Two ends of one byte connection, and the theorem about them.
 //!
-//! A [`Pair`] holds two `Stack`s, Left a caller and Right a called one, and moves octets from one to the
-//! other as it is told: any number at a time, with a break at any octet. Its journal keeps what the users
-//! asked for, what they were answered and what they were shown.
+//! A [`Pair`] holds two `Stack`s, Left a caller and Right a called one, and moves octets from one to the other as you
+//! tell it: any number at a time, with a break at any octet. Its journal keeps what the users asked for, how they were
+//! answered and what they received.
 //!
 //! ```text
 //! let mut pair = Pair::new(alloc, left, right);
@@ -12,12 +12,15 @@
 //! pair.journal();                                // what the two users did and saw
 //! ```
 //!
-//! The contracts of [`Pair::apply`], [`Pair::journal`] and [`Pair::stack`] are the promises: after each
-//! event of every list, the journal is one of the machine of whole messages (`osi_machine`), no token is
-//! held by both, points that both have seen agree, and neither end calls something of the other's a fault.
+//! The contracts of [`Pair::apply`], [`Pair::journal`] and [`Pair::stack`] are the promises. After every list of
+//! events, the journal is an execution of the machine of whole messages (`osi_machine`), no token is held by both
+//! users, points that both have seen agree, and neither end ever calls what the other sent a fault.
 //!
-//! The program `osi pair` plays scripts on it (`osi_transcript`). It is no part of a gateway: that holds a
+//! The program `osi pair` plays scripts on it (`osi_transcript`). A gateway does not need this crate: it holds a
 //! `Stack` and a socket.
+//!
+//! The proofs say that two ends *match* a list of steps of the machine: each session, and everything in flight between
+//! the two, is what these steps lead to (`specs/Standing.antt`). Each event adds its own steps to that list.
 #![tactic(auto)]
 
 mod asking;

@@ -1,4 +1,4 @@
-//! What users ask for has octets, and numbers that a point may have. Each function does nothing.
+//! Requests of users consist of octets, and of numbers that a point may have. Each function does nothing.
 
 ghost use Rattle.std.specs.Prelude.{◌≤◌, length, IfSome, option_map};
 ghost use Rattle.osi_tpkt.specs.Octets.{IsOctets};
@@ -16,7 +16,7 @@ use osi_stack::Connect;
 use osi_tpdu::Tsap;
 use osi_tpkt::laws::are_octets;
 
-/// What an address of a session holds are octets, where one is given.
+/// A session address, if one is given, consists of octets.
 fn some_are_octets(octets: Option<&[u8]>)
     ensures { IfSome (option_map (λ s. s.now) octets.entry) IsOctets }
 {
@@ -25,7 +25,7 @@ fn some_are_octets(octets: Option<&[u8]>)
     }
 }
 
-/// A transport address has at most 32.
+/// A transport address has at most 32 octets.
 fn is_short(tsap: Tsap)
     ensures short { length (tsap_octets tsap) ≤ 32 }
     ensures octets { IsOctets (tsap_octets tsap) }
@@ -33,7 +33,7 @@ fn is_short(tsap: Tsap)
     are_octets(tsap.octets());
 }
 
-/// So has one that may be given.
+/// So has a transport address that may be absent.
 fn is_address(tsap: Option<Tsap>)
     ensures { IsTsap (option_map tsap_octets tsap) }
 {
@@ -42,7 +42,7 @@ fn is_address(tsap: Option<Tsap>)
     }
 }
 
-/// A connection that is asked for.
+/// A requested connection.
 fn can_be_asked(connect: &Connect)
     ensures { CanBeAsked connect.now }
 {

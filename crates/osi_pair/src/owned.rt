@@ -1,4 +1,4 @@
-//! Copies of what a user asks for, which own their octets.
+//! Copies of requests that own their octets.
 
 ghost use Rattle.std.specs.Prelude.{◌≡◌, option_map, IfOk};
 ghost use Rattle.osi_session.specs.Calls.{called_by, refusal_by, refusal_octets};
@@ -11,41 +11,41 @@ use osi_stack::Connect;
 use osi_tpdu::Tsap;
 use std::alloc::{AllocError, Global};
 
-/// A connection that was asked for, as [`Connect`] says it.
+/// A requested connection, as in [`Connect`].
 #[derive(Drop)]
 pub struct OwnedConnect {
     /// The functional units that are offered.
     pub requirements: Requirements,
     /// The number of the first synchronization point, 0 to 999,999.
     pub serial: Serial,
-    /// The side that is to hold each token at first.
+    /// The side wished for as the first holder of each token.
     pub wishes: TokenSetting,
     /// The transport address of the left end, 0 to 32 octets.
     pub calling_tsap: Option<Tsap>,
     /// The transport address of the right end, 0 to 32 octets.
     pub called_tsap: Option<Tsap>,
-    /// The session address of the user that asks.
+    /// The session address of the requesting user.
     pub calling_selector: Option<Octets>,
-    /// The session address of the user that is asked.
+    /// The session address of the requested user.
     pub called_selector: Option<Octets>,
-    /// How many octets a TSDU may have, of those that each side sends.
+    /// The largest TSDU that each side sends, in octets.
     pub sizes: TsduSizes,
     /// User data.
     pub user_data: Octets,
 }
 
-/// Why a user refused a connection, as [`Refusal`] says it.
+/// Why a user refused a connection, as in [`Refusal`].
 #[derive(Drop)]
 pub enum OwnedRefusal {
     /// No reason is given.
     Unspecified,
-    /// There is congestion that passes.
+    /// There is temporary congestion.
     Congestion,
     /// With this user data.
     WithData(Octets),
 }
 
-/// A call of a user, as [`Request`] says it.
+/// A call of a user, as in [`Request`].
 #[derive(Drop)]
 pub enum OwnedRequest {
     /// Accepts the connection.
@@ -56,7 +56,7 @@ pub enum OwnedRequest {
         serial: Serial,
         /// The side that holds each token.
         sides: Sides,
-        /// How many octets a TSDU may have, of those that each side sends.
+        /// The largest TSDU that each side sends, in octets.
         sizes: TsduSizes,
         /// User data.
         user_data: Octets,
@@ -91,7 +91,7 @@ pub enum OwnedRequest {
     Abort(Octets),
 }
 
-/// A copy of an address, where one is given.
+/// A copy of an address, if one is given.
 fn copied(alloc: Global, octets: Option<&[u8]>) -> Result<Option<Octets>, AllocError>
     ensures { IfOk result (λ copy. copy ≡ option_map (λ o. o.now) octets.entry) }
 {
@@ -102,7 +102,7 @@ fn copied(alloc: Global, octets: Option<&[u8]>) -> Result<Option<Octets>, AllocE
 }
 
 impl OwnedConnect {
-    /// A copy of what is asked for.
+    /// A copy of a requested connection.
     pub fn copy(alloc: Global, connect: &Connect) -> Result<OwnedConnect, AllocError>
         ensures { IfOk result (λ copy. asked_by copy ≡ asked_of connect.now) }
     {

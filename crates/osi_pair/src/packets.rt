@@ -1,5 +1,5 @@
-//! How two ends stand to the machine of whole messages where an end takes a packet. Each function does
-//! nothing: its clauses are the laws.
+//! How two ends match the machine of whole messages when an end takes a packet. Each function does nothing: its clauses
+//! are the laws.
 
 ghost use Rattle.std.specs.Prelude.{◌≡◌, ℕ, List, [], ◌++◌, None};
 ghost use Rattle.osi_tpkt.specs.Held.{Held};
@@ -15,10 +15,10 @@ use osi_stack::laws::{
     a_session_is_what_its_inputs_made_it, a_session_that_is_called_has_a_connection,
 };
 
-/// Where two ends stand at a list of steps of the machine, and an end that has not ended takes the packet
-/// that it holds first, of which its carrier tells it nothing, they stand at that list followed by deliveries
-/// to that end: a part of a TSDU, an AK, and a part of one Data but its last bring no message; what comes to a
-/// connection that is closing, and a CR that is refused, are each taken as one.
+/// Two ends match a list of steps of the machine, and an end that has not ended takes the first packet that it holds,
+/// which its carrier does not report. Then the two match that list followed by deliveries to that end: none for a part
+/// of a TSDU, for an AK, and for a part of a Data that is not the last; one for what arrives at a closing connection,
+/// and for a CR that is refused.
 pub fn what_an_untold_packet_does()
     ensures { (p : TwoEnds) (steps : List Step) (side : Side) (packet octets : List ℕ) (held : Held) → StandsAt p steps →
         (end_at side p).end.carrier.ended ≡ None → IsPacket packet octets → (end_at side p).held.octets ≡ octets ++ held.octets →

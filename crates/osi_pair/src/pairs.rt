@@ -1,4 +1,4 @@
-//! Two ends of one byte connection, and what is promised of them.
+//! Two ends of one byte connection, and the promises about them.
 
 use crate::ends::Ends;
 use crate::entries::Entry;
@@ -13,8 +13,7 @@ use osi_stack::Stack;
 use std::alloc::Global;
 use std::marker::Model;
 
-/// Two ends of one byte connection, the left of which calls, and the journal of what their users
-/// asked for and were shown.
+/// Two ends of one byte connection, the left one a caller, and the journal of what their users asked for and received.
 #[derive(Drop)]
 pub struct Pair {
     ends: Ends,
@@ -45,7 +44,7 @@ impl Pair {
     ghost use Rattle.osi_pair.specs.Running.{RunsThrough, StopsAt};
     ghost use Rattle.osi_pair.specs.Standing.{StandsAt};
 
-    /// Two ends on which nothing has happened.
+    /// Two fresh ends.
     pub fn new(alloc: Global, left: Local, right: Local) -> Self
         ensures value { result ≡ fresh_ends left right }
         ensures stands { StandsAt result [] }
@@ -58,10 +57,11 @@ impl Pair {
         }
     }
 
-    /// Makes room in the journal for so many entries more; for none no memory is needed. Neither this nor an
-    /// error changes anything.
+    /// Makes room in the journal for this many more entries; for 0 nothing is allocated. Neither success nor an error
+    /// changes anything else.
     ///
-    /// An event makes what room it needs. Who knows how many events come spares the journal to grow with them.
+    /// An event makes the room that it needs. If you know how many events will come, this call saves the journal from
+    /// growing with them.
     pub fn reserve(&mut self, entries: usize) -> Result<(), PairError>
         ensures memory { IfErr result (λ error. error ≡ PairError.OutOfMemory) }
         ensures same { self.new ≡ self.old }
@@ -70,29 +70,28 @@ impl Pair {
         self.ends.reserve(entries)
     }
 
-    /// What is true of two ends between any two calls. The function does nothing.
+    /// The invariant of two ends between any two calls. The function does nothing.
     fn is_safe(&self)
         ensures reached { IsReached self.now }
         ensures safe { IsSafe self.now }
     {
         what_two_ends_tell();
-        // For the proof: what the type of the ends keeps is known behind a look at them.
+        // For the proof: looking at the ends gives the invariant of their type.
         let _ends = &self.ends;
     }
 
-    /// Applies an event. An error changes nothing. Want of memory comes only where the journal is to say
-    /// something, or octets are carried.
+    /// Applies an event. An error changes nothing. An allocation can fail only if the journal gets an entry, or octets
+    /// are carried.
     ///
-    /// The octets that a side has sent and the other has not been fed are under way. A
-    /// [`Event::Carry`] carries the first of them, and the users of the other end are shown what
-    /// comes of it; where there is no memory for what the journal may have to say of more, it is cut
-    /// short, as [`Applied`] says. After an [`Event::Break`] only those can be carried that it
-    /// leaves, and an [`Event::Told`] ends an end that has not ended.
+    /// Octets that a side has sent and the other has not been fed are in flight. An [`Event::Carry`] carries the first
+    /// of them, and the users of the other end receive the indications that these cause. If memory runs out for the
+    /// entries that more octets may cause, the carry is cut short, as [`Applied`] tells. After an [`Event::Break`] only
+    /// the octets that it leaves can be carried, and an [`Event::Told`] ends an end that has not ended.
     ///
-    /// For each list of steps of the machine at which the two ends stood, they stand at that list
-    /// followed by the steps of this event: of a carry the deliveries of what arrived, and the end of
-    /// the other side where it found no memory. So whatever happens to two ends, their journal is one
-    /// of the machine, and what [`IsSafe`] says is true of them.
+    /// If the two ends matched a list of steps of the machine, they match that list followed by the steps of this
+    /// event. The steps of a carry are the deliveries of what arrived, and the end of the other side if it ran out of
+    /// memory. So whatever happens to two ends, their journal is an execution of the machine, and [`IsSafe`] holds of
+    /// them.
     ///
     /// [`IsSafe`]: ../specs/Promises.antt
     #[tactic(auto, using(crate::proofs::Growing::does_add))]
@@ -117,9 +116,9 @@ impl Pair {
 
     /// Applies events one after the other, up to the first that is refused.
     ///
-    /// Of each event holds what [`Pair::apply`] says of one. So where the two ends stood at a list of
-    /// steps of the machine, they stand at that list and the steps of all events. An error gives the
-    /// place of the event that was refused, counted from 0, and why it was; those before it are applied.
+    /// Each event does what [`Pair::apply`] says. So if the two ends matched a list of steps of the machine, they match
+    /// that list followed by the steps of all events. An error gives the place of the refused event, counted from 0,
+    /// and the reason; the events before it have been applied.
     pub fn run(&mut self, events: &[Event]) -> Result<(), RunError>
         ensures all { OnOk result (RunsThrough events.now self.old self.new) }
         ensures stops { IfErr result (λ error. StopsAt events.now self.old error self.new) }
@@ -134,7 +133,7 @@ impl Pair {
         Ok(())
     }
 
-    /// What the users asked for, what they were answered and what they were shown, the oldest first.
+    /// What the users asked for, how they were answered and what they received, the oldest entry first.
     pub fn journal(&self) -> &[Entry]
         ensures value { map entry_by result.now ≡ self.now.journal }
         ensures legal_journal { IsLegalJournal self.now }

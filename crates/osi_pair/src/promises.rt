@@ -11,18 +11,17 @@ ghost use Rattle.osi_pair.specs.declared.sides.Side.{Side};
 use osi_between::laws::whatever_becomes_of_two_carriers;
 use osi_machine::laws::{the_tables_are_the_machine, what_is_heard_was_said, what_two_tables_tell};
 
-/// What the users of two ends that stand at a list of steps may rely on, read from the journal and from what
-/// each end says of its connections. The journal is one of what two users may do and see by the machine. Of
-/// each connection no token is held by both ends. Unless duplex is selected, one of the two views that the
-/// journal tells begins with the other, so that each synchronization point that both users have seen has the
-/// same number, kind and octets, and the same items before it; with duplex, as soon as one of the two sides
-/// has sent or seen the answer that selects it, the data that a user is shown is how the data that the other
-/// asked to send begins. Each point in the view of a side with a number below its V(A) is in the view of the
-/// other, unless the other has asked for a restart and has seen no answer. No entry of the journal, whatever
-/// its reference, shows a user a fault, of his side or of the other, or ends an end with one; an end ends only
-/// by a break, want of memory, or its own close; and a user is shown a loss only where his end was told of a
-/// break or had no memory. All of this, and that units are taken as they were sent
-/// ([`what_is_taken_was_sent`]), is true of two ends that stand at some list of steps, as those of every pair do.
+/// What the users of two ends may rely on, read from the journal and from the state that each end reports of its
+/// connections. The journal is an execution of the machine. For each connection, no token is held by both ends. Unless
+/// duplex is selected, one of the two views that the journal tells is a prefix of the other; so each synchronization
+/// point that both users have seen has the same number, kind and octets, and the same items before it. With duplex, as
+/// soon as one of the two sides has sent or seen the answer that selects it, the data that a user receives is a prefix
+/// of the data that the other asked to send. Each point in the view of a side with a number below its V(A) is in the
+/// view of the other, unless the other has requested a restart and has seen no answer. No entry of the journal,
+/// whatever its reference, indicates a fault to a user, of his side or of the other, or ends an end with one. An end
+/// ends only by a break, by an allocation failure, or by its own close. A user is told of a loss only if his end was
+/// told of a break or ran out of memory. All of this, and that units are taken as they were sent
+/// ([`what_is_taken_was_sent`]), holds of two ends that match some list of steps, as those of every pair do.
 pub fn what_two_ends_tell()
     ensures legal_journal { (p : TwoEnds) (steps : List Step) → StandsAt p steps → IsLegalJournal p }
     ensures asked { (p : TwoEnds) (steps : List Step) → StandsAt p steps → AllWereAskedFor p }
@@ -40,11 +39,11 @@ pub fn what_two_ends_tell()
     what_is_taken_was_sent();
 }
 
-/// Of each connection, each way, the units that one session took are how those that the other's session sent
-/// begin, whole and in order, whatever the cuts, the credits and the other connections. They are all of them,
-/// and no octet of it is kept at either end, where there was no break, neither end has ended or has octets to
-/// hand over, and the connection is open at both ends. Each end then keeps nothing at all of what came. For
-/// both, an end holds less than a packet, as those of every pair do between two events.
+/// For each connection and each way, the units that one session has taken are a prefix of those that the other's
+/// session has sent, whole and in order, whatever the cuts, the credit and the other connections. They are all of them,
+/// and neither end keeps an octet of the connection, if there was no break, neither end has ended or has octets to hand
+/// over, and the connection is open at both ends. Then neither end keeps any received octet at all. Both statements
+/// need that an end holds less than a packet, as those of every pair do between two events.
 pub fn what_is_taken_was_sent()
     ensures prefix { (p : TwoEnds) (steps : List Step) → StandsAt p steps → AreTakenInOrder steps p }
     ensures all_taken { (p : TwoEnds) (steps : List Step) (r : ℕ) → StandsAt p steps → HoldLess p → AreAtRest p → IsOpenAt r p.left.end → IsOpenAt r p.right.end →

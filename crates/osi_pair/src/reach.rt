@@ -1,4 +1,4 @@
-//! How far octets reach once the byte connection is broken.
+//! How many octets still arrive once the byte connection is broken.
 
 ghost use Rattle.std.specs.Prelude.{◌≡◌};
 ghost use Rattle.osi_pair.specs.Reaching.{within, reach_after};
@@ -12,7 +12,7 @@ pub(crate) struct Reach {
     pub(crate) right: usize,
 }
 
-/// How many of so many octets of a side can be carried.
+/// How many of these octets of a side can be carried.
 pub(crate) fn within(reach: Option<Reach>, side: Side, octets: usize) -> usize
     ensures { result ≡ within reach side octets }
 {
@@ -25,7 +25,7 @@ pub(crate) fn within(reach: Option<Reach>, side: Side, octets: usize) -> usize
     }
 }
 
-/// How far octets reach when so many of a side were carried.
+/// What can still be carried after this many octets of a side were.
 pub(crate) fn reach_after(side: Side, octets: usize, reach: Option<Reach>) -> Option<Reach>
     ensures { result ≡ reach_after side octets reach }
 {

@@ -1,5 +1,4 @@
-//! How two ends stand to the machine of whole messages. Each function does nothing: its clauses are the
-//! laws.
+//! How two ends match the machine of whole messages. Each function does nothing: its clauses are the laws.
 
 ghost use Rattle.std.specs.Prelude.{◌≡◌, ℕ, List, [], ◌∷◌, ◌++◌, None, true, is_some};
 ghost use Rattle.osi_tpkt.specs.Octets.{IsOctets};
@@ -41,10 +40,9 @@ use osi_stack::laws::{
     what_a_call_says,
 };
 
-/// Two ends on which nothing has happened stand at the empty list of steps of the machine. Where two ends
-/// stand at a list of steps, and the byte connection breaks, they stand at that list followed by one break;
-/// and where it has broken, and a side is told of that, they stand at that list followed by the end of that
-/// side, or at the same list where it had ended.
+/// Two fresh ends match the empty list of steps of the machine. If two ends match a list of steps and the byte
+/// connection breaks, they match that list followed by one break. If it has broken and a side is told of it, they match
+/// that list followed by the end of that side, or the same list if the side had ended.
 pub fn how_two_ends_stand()
     ensures begins { (caller called : Local) → StandsAt (fresh_ends caller called) [] }
     ensures broken { (p : TwoEnds) (steps : List Step) (k l : ℕ) → StandsAt p steps → p.reach ≡ None → StandsAtBreak (after_break k l p) steps }
@@ -57,8 +55,8 @@ pub fn how_two_ends_stand()
     who_is_left_is_over();
 }
 
-/// Where two ends stand at a list of steps, and the user of the left end asks for a connection, or the user of a
-/// connection calls, they stand at that list followed by what was asked, accepted or refused.
+/// If two ends match a list of steps and the user of the left end requests a connection, or the user of a connection
+/// makes a call, they match that list followed by the request or call, accepted or refused.
 pub fn how_two_ends_are_called()
     ensures connects { (p : TwoEnds) (steps : List Step) (c : Connect) → CanBeAsked c → StandsAt p steps →
         StandsAt (after_connect c p) (steps ++ connects (offer_in (asked_of c)) ∷ []) }
@@ -80,11 +78,12 @@ pub fn how_two_ends_are_called()
     what_two_carriers_have();
 }
 
-/// Where two ends stand at a list of steps, and octets of a side are carried, however many and wherever they are
-/// cut, they stand at that list followed by deliveries to the other side: one for each message that arrives, and none
-/// for a part of one. Where that side finds no memory its end follows.
+/// If two ends match a list of steps and octets of a side are carried, however many and wherever they are cut, they
+/// match that list followed by deliveries to the other side: one for each message that arrives, and none for a part of
+/// one. If that side runs out of memory, its end follows.
 ///
-/// What as many octets do is the same, wherever they are cut into pieces, unless a side ends for want of memory.
+/// The same number of octets has the same effect, wherever they are cut into pieces, unless a side ends because memory
+/// runs out.
 pub fn how_two_ends_carry()
     ensures carries { (side : Side) (most : ℕ) (old new : TwoEnds) (octets : ℕ) (steps : List Step) → StandsAt old steps →
         CarriesFrom side most old octets new → StandsAtArrivals (other side) new steps }
@@ -115,10 +114,10 @@ pub fn how_two_ends_carry()
     what_two_tables_tell();
 }
 
-/// An event does one thing. Where nobody can tell two pairs of ends apart, and the same event happens to both and
-/// carries as many octets, nobody can tell them apart afterwards, unless a side has ended for want of memory: their
-/// connections, their octets and their journals are the same. Only the room that a side keeps ready for the octets of
-/// a packet may differ.
+/// An event is deterministic. If two pairs of ends have the same state, and the same event happens to both and carries
+/// equally many octets, they have the same state afterwards, unless a side has ended because memory ran out: the same
+/// connections, the same octets and the same journal. Only the room that a side keeps ready for the octets of a packet
+/// may differ.
 pub fn an_event_does_one_thing()
     ensures { (event : Event) (p q a b : TwoEnds) (octets : ℕ) → IsReached p → IsReached q → IsReached a → IsReached b → AreSameEnds p q →
         Does event p octets a → Does event q octets b → FoundMemory a → FoundMemory b → AreSameEnds a b }

@@ -1,4 +1,4 @@
-//! What the users of an end are shown goes into the journal.
+//! Fetching the indications of an end, and noting them in the journal.
 
 ghost use Rattle.std.specs.Prelude.{◌≡◌, ◌+◌, ◌<◌, ◌≤◌, ◌++◌, ◌∷◌, [], map, vec_len, vec_capacity};
 ghost use Rattle.osi_session.specs.Shown.{Shown};
@@ -10,11 +10,10 @@ use crate::sides::Side;
 use osi_carrier::EndReason;
 use osi_stack::Stack;
 
-/// The greatest number of entries that one piece or a break can add: the indications, and the end.
+/// The most entries that one piece or a break can add: the indications, and the end.
 pub(crate) const ROOM: usize = 82;
 
-/// The greatest number of indications that can wait: 17 of one TSDU, and a loss for each of 64
-/// connections.
+/// The most pending indications: 17 of one TSDU, and a loss for each of 64 connections.
 const MOST: usize = 81;
 
 /// Adds an entry, for which there is room.
@@ -30,7 +29,7 @@ pub(crate) fn note(journal: &mut Vec<Entry>, entry: Entry)
     }
 }
 
-/// The users of a side are shown what waits, as far as there is room.
+/// Fetches pending indications of a side and notes them, as far as there is room.
 #[inline(always)]
 pub(crate) fn show(side: Side, stack: &mut Stack, journal: &mut Vec<Entry>)
     requires { vec_len journal.old + 81 < vec_capacity journal.old }
@@ -52,7 +51,7 @@ pub(crate) fn show(side: Side, stack: &mut Stack, journal: &mut Vec<Entry>)
     }
 }
 
-/// The end of a side is noted, where it has ended since.
+/// Notes the end of a side, if it has ended since.
 #[inline(always)]
 pub(crate) fn note_end(
     side: Side,

@@ -1,8 +1,8 @@
-//! Scripts of two ends that go on where memory is wanted.
+//! Scripts of two ends that continue when memory runs out.
 //!
-//! An event that finds no memory has changed nothing, and is applied again; where a carry stopped early,
-//! the rest is carried. So the transcript is the same whichever growth is refused, unless an end that is
-//! fed finds no memory: it is over then, and so is the script.
+//! An event that runs out of memory has changed nothing, so it is applied again; if a carry stopped early, the rest is
+//! carried. So the transcript is the same whichever allocation fails, with one exception: if an end that is fed runs
+//! out of memory, the end is over, and so is the script.
 
 use crate::asked::{asks, ends_asked, event_in, unreadable};
 use crate::calls;
@@ -17,25 +17,25 @@ use osi_transcript::asking::named;
 use std::alloc::{AllocError, Global};
 use std::io;
 
-/// One more than the greatest reference that is looked at.
+/// One more than the largest reference that is looked at.
 const ALL: u16 = 65;
 
-/// What came of a script.
+/// The result of running a script.
 #[derive(Drop)]
 pub(crate) struct Replay {
     /// Its transcript.
     pub(crate) lines: Vec<u8>,
-    /// How many events found no memory.
+    /// How many events ran out of memory.
     pub(crate) refused: u32,
     /// How many carries stopped early.
     pub(crate) stopped: u32,
-    /// Whether an end is over for want of memory.
+    /// Whether an end is over because memory ran out.
     pub(crate) is_over: bool,
-    /// Whether all was as it should be where memory was wanted.
+    /// Whether everything was as it should be whenever memory ran out.
     pub(crate) is_good: bool,
 }
 
-/// Plays a script of which each line can be read and fits.
+/// Runs a script, all lines of which can be read and fit.
 pub(crate) fn replayed(alloc: Global, script: &str) -> io::Result<Replay> {
     let (left, right) = ends_asked(alloc, script)?;
     replay_between(alloc, left, right, script)
@@ -106,8 +106,7 @@ fn play_event(
     Ok(())
 }
 
-/// Adds the lines of the entries behind the first of a journal, with the verb of the line that asked
-/// for them.
+/// Adds the lines of the new entries of a journal, each with the verb of the line that asked for it.
 fn push_since(
     alloc: Global,
     out: &mut Vec<u8>,
@@ -119,7 +118,7 @@ fn push_since(
     push_entries(alloc, out, asked, added)
 }
 
-/// Adds the lines of entries, with the verb of the line that asked for them.
+/// Adds the lines of entries, each with the verb of the line that asked for it.
 pub(crate) fn push_entries(
     alloc: Global,
     out: &mut Vec<u8>,
@@ -132,7 +131,7 @@ pub(crate) fn push_entries(
     Ok(())
 }
 
-/// Applies an event, and carries the rest where a carry stopped early.
+/// Applies an event, and carries the rest if a carry stopped early.
 fn apply_whole(
     alloc: Global,
     replay: &mut Replay,
@@ -151,7 +150,7 @@ fn apply_whole(
     Ok(carried.saturating_add(more))
 }
 
-/// Applies an event, and once more where it finds no memory.
+/// Applies an event, and applies it again if it runs out of memory.
 fn apply(alloc: Global, replay: &mut Replay, pair: &mut Pair, event: &Event) -> io::Result<usize> {
     let before = state_of(alloc, pair)?;
     apply_from(alloc, replay, pair, event, before.as_slice())
@@ -172,7 +171,7 @@ fn apply_from(
     }
 }
 
-/// Applies an event that found no memory: then nothing may have changed.
+/// Applies an event again that ran out of memory, after testing that nothing has changed.
 fn apply_again(
     alloc: Global,
     replay: &mut Replay,
@@ -190,13 +189,14 @@ fn apply_again(
     }
 }
 
-/// Two ends are in this state.
+/// Whether two ends are in this state.
 fn is_in(alloc: Global, pair: &Pair, state: &[u8]) -> Result<bool, AllocError> {
     let now = state_of(alloc, pair)?;
     Ok(now.as_slice() == state)
 }
 
-/// All that can be asked of two ends, as octets; of the journal its length and its last entry.
+/// The state of two ends as octets: everything that can be asked of them, and of the journal its length and its last
+/// entry.
 pub(crate) fn state_of(alloc: Global, pair: &Pair) -> Result<Vec<u8>, AllocError> {
     let mut out = Vec::with_capacity(alloc, 10_000)?;
     push_state(alloc, &mut out, pair)?;
@@ -221,7 +221,7 @@ fn push_side(
     out.extend_from_slice(stack.outgoing())
 }
 
-/// Adds how many entries there are, and the last one.
+/// Adds the number of entries and the last one.
 fn push_journal(alloc: Global, out: &mut Vec<u8>, journal: &[Entry]) -> Result<(), AllocError> {
     push_number(alloc, out, "entries", journal.len())?;
     push_last(alloc, out, journal)
@@ -234,7 +234,7 @@ fn push_last(alloc: Global, out: &mut Vec<u8>, journal: &[Entry]) -> Result<(), 
     }
 }
 
-/// Adds what is answered to an event where its entry in the journal does not say it.
+/// Adds the answer to an event, if the journal does not have it.
 fn push_said(
     alloc: Global,
     out: &mut Vec<u8>,
@@ -284,7 +284,7 @@ fn push_entry(
     }
 }
 
-/// What a line asks a connection for.
+/// The verb with which a line asks something of a connection.
 fn verb_of(asked: &str) -> &str {
     asked.split(' ').nth(2).unwrap_or("")
 }
@@ -302,7 +302,7 @@ fn push_call(
     push_answer(alloc, out, asked.as_str(), answer)
 }
 
-/// Adds what was asked for, and what is answered.
+/// Adds a request and its answer.
 fn push_answer(
     alloc: Global,
     out: &mut Vec<u8>,
@@ -327,7 +327,7 @@ fn push_connect(
     }
 }
 
-/// Adds where the connections of both sides stand that have not ended.
+/// Adds the state of each connection of both sides that has not ended.
 fn push_all_standings(alloc: Global, out: &mut Vec<u8>, pair: &Pair) -> Result<(), AllocError> {
     let left = calls::stack_of(pair, osi_pair::Side::Left);
     let right = calls::stack_of(pair, osi_pair::Side::Right);
@@ -349,7 +349,7 @@ fn push_standings(
     Ok(())
 }
 
-/// Notes whether an end is over for want of memory; then it holds no token.
+/// Notes whether an end is over because memory ran out. Such an end holds no token.
 fn note_end(replay: &mut Replay, stack: &Stack) {
     if matches!(stack.ended(), Some(EndReason::NoMemory)) {
         replay.is_over = true;
@@ -357,7 +357,7 @@ fn note_end(replay: &mut Replay, stack: &Stack) {
     }
 }
 
-/// An end holds no token of any connection.
+/// Whether an end holds no token of any connection.
 fn holds_nothing(stack: &Stack) -> bool {
     for reference in 1..ALL {
         if calls::holds_a_token(stack, Ref(reference)) {

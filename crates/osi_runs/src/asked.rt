@@ -12,12 +12,12 @@ pub(crate) fn asks(line: &str) -> bool {
     !line.is_empty() && !line.starts_with('#') && !line.starts_with("ends ")
 }
 
-/// What a line asks for; none for the line of the two ends, and for one that can't be read.
+/// The event that a line asks for; none for the line of the two ends, and for a line that can't be read.
 pub(crate) fn event_in<'a>(line: &'a Line<'a>) -> Option<Event<'a>> {
     event_of(line.command()?)
 }
 
-/// What the two ends of a script are.
+/// The configuration of the two ends of a script.
 pub(crate) fn ends_asked(alloc: Global, script: &str) -> io::Result<(Local, Local)> {
     for line in script.lines() {
         if line.starts_with("ends ") {
@@ -39,7 +39,7 @@ pub(crate) fn unreadable() -> io::Error {
     io::Error::from(io::ErrorKind::InvalidData)
 }
 
-/// What the two ends are that a line asks for; none for every other line.
+/// The configuration of the two ends that a line asks for; none for every other line.
 pub(crate) fn ends_in(line: &Line) -> Option<(Local, Local)> {
     ends_of(line.command()?)
 }

@@ -1,5 +1,5 @@
-//! Calls of one end and of two. Each stands in a function that promises nothing, so that where it is called
-//! no proof looks at what the call promises.
+//! Calls of one end and of two. Each is in a function without clauses, so that no proof of a caller has to look at the
+//! contract of the call.
 
 use bitflags::Flags;
 use osi_carrier::Ref;
@@ -28,17 +28,17 @@ pub(crate) fn tell_of_a_break(stack: &mut Stack) {
     stack.broken();
 }
 
-/// What a user is shown next.
+/// The next pending indication of an end.
 pub(crate) fn next(stack: &mut Stack) -> Option<(Ref, Indication)> {
     stack.next_indication()
 }
 
-/// Takes all that an end sends.
+/// Takes everything that an end has to send.
 pub(crate) fn take_all(stack: &mut Stack) {
     stack.taken(stack.outgoing().len());
 }
 
-/// Whether a side of a connection holds a token.
+/// Whether a side holds a token of a connection.
 pub(crate) fn holds_a_token(stack: &Stack, reference: Ref) -> bool {
     !stack.held(reference).is_empty()
 }
@@ -48,12 +48,12 @@ pub(crate) fn stack_of(pair: &Pair, side: Side) -> &Stack {
     pair.stack(side)
 }
 
-/// What two ends were asked, answered and shown.
+/// The journal of two ends.
 pub(crate) fn journal(pair: &Pair) -> &[Entry] {
     pair.journal()
 }
 
-/// Applies an event, and says how many octets it has carried.
+/// Applies an event, and returns how many octets it carried.
 pub(crate) fn apply(pair: &mut Pair, event: &Event) -> Result<usize, PairError> {
     match pair.apply(event) {
         Ok(applied) => Ok(applied.carried),

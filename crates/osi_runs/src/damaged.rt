@@ -1,9 +1,9 @@
-//! Packets that are damaged, and what ends and the listing make of them.
+//! Damaged packets, and what ends and the listing do with them.
 //!
-//! Each packet of a capture is cut to each length, and each of its octets is set to each value. What
-//! comes of it is listed, and fed to twelve ends, whole and octet by octet: with class 0, with class 2
-//! and with both, a caller and a called end on which nothing has happened, and a caller that has asked
-//! for a connection and a called end which have been fed the packets before it.
+//! Each packet of a capture is cut to each shorter length, and each of its octets is set to each value. The result is
+//! listed, and fed to twelve ends, in one piece and octet by octet. The ends have class 0, class 2 or both; there are
+//! fresh callers and fresh called ends, callers that have asked for a connection, and called ends, the last two fed
+//! with the packets that come before.
 
 use crate::calls;
 use bitflags::Flags;
@@ -17,22 +17,22 @@ use osi_tpdu::{SizeCode, Window};
 use std::alloc::{AllocError, Global};
 use std::io;
 
-/// The most octets that are kept of a packet that is not whole.
+/// The most octets that an end keeps of an unfinished packet.
 const OF_A_PACKET: usize = 65_535;
 
-/// The most octets that are kept of the unfinished TSDU of a connection, and of data that came in parts.
+/// The most octets that an end keeps of a connection's unfinished TSDU and unfinished data.
 const OF_A_CONNECTION: usize = 2_097_148;
 
-/// What happened to an end before it is fed a damaged packet.
+/// The past of an end before it is fed a damaged packet.
 #[derive(Clone, Copy)]
 enum Past {
-    /// Nothing happened to a caller.
+    /// A fresh caller.
     OfCaller,
-    /// Nothing happened to a called end.
+    /// A fresh called end.
     OfCalled,
-    /// A caller has asked for a connection, and was fed the packets before.
+    /// A caller that has asked for a connection, and was fed the packets before.
     OfAsking,
-    /// A called end was fed the packets before.
+    /// A called end that was fed the packets before.
     OfAnswering,
 }
 
@@ -43,10 +43,10 @@ const PASTS: [Past; 4] = [
     Past::OfAnswering,
 ];
 
-/// The classes of an end: 0, and 2.
+/// The classes of an end: whether it has class 0, and class 2.
 const CLASSES: [(bool, bool); 3] = [(true, false), (false, true), (true, true)];
 
-/// How many runs there were, and how many went as they should.
+/// How many runs there were, and how many behaved as they should.
 #[derive(Clone, Copy)]
 struct Tally {
     runs: u64,
@@ -62,7 +62,7 @@ impl Tally {
     }
 }
 
-/// A damaged packet, the packets before it, and whether it is refused as no packet.
+/// A damaged packet, the packets before it, and whether it should be refused as no packet.
 #[derive(Clone, Copy)]
 struct Case<'a> {
     before: &'a [u8],
@@ -70,7 +70,7 @@ struct Case<'a> {
     is_no_packet: bool,
 }
 
-/// Damages each packet of a capture, and says how many runs there were.
+/// Damages each packet of a capture, and reports how many runs there were.
 pub(crate) fn runs_of(alloc: Global, capture: &[u8]) -> io::Result<String> {
     let mut tally = Tally { runs: 0, good: 0 };
     let mut at = 0;
@@ -94,7 +94,7 @@ fn said_of(alloc: Global, tally: Tally) -> io::Result<String> {
     Ok(format!(in alloc; "{runs} runs, {good} as they should be")?)
 }
 
-/// The packet that begins at this octet, if one does.
+/// The packet that begins at this octet, if there is one.
 fn packet_at(capture: &[u8], at: usize) -> Option<&[u8]> {
     let rest = capture.get(at..)?;
     match length_of(rest)? {
@@ -103,7 +103,7 @@ fn packet_at(capture: &[u8], at: usize) -> Option<&[u8]> {
     }
 }
 
-/// The length that the header of a packet says.
+/// The length in the header of a packet.
 fn length_of(packet: &[u8]) -> Option<usize> {
     match packet {
         [_, _, high, low, ..] => Some(usize::from(u16::from_be_bytes([*high, *low]))),
@@ -111,7 +111,7 @@ fn length_of(packet: &[u8]) -> Option<usize> {
     }
 }
 
-/// Cuts a packet to each length; the last is the whole of it.
+/// Cuts a packet to each length; the last run has the whole packet.
 fn cut(alloc: Global, tally: &mut Tally, before: &[u8], packet: &[u8]) -> Result<(), AllocError> {
     for length in 0..packet.len() {
         run(alloc, tally, before, &packet[..length])?;
@@ -119,7 +119,7 @@ fn cut(alloc: Global, tally: &mut Tally, before: &[u8], packet: &[u8]) -> Result
     run(alloc, tally, before, packet)
 }
 
-/// Sets each octet of a packet.
+/// Sets each octet of a packet, one after the other.
 fn set(alloc: Global, tally: &mut Tally, before: &[u8], packet: &[u8]) -> Result<(), AllocError> {
     for at in 0..packet.len() {
         set_at(alloc, tally, before, packet, at)?;
@@ -191,8 +191,8 @@ fn has(lines: &[u8], word: &str) -> bool {
     }
 }
 
-/// Two ends with these classes do what they should, one fed whole and the other octet by octet, and come
-/// to the same.
+/// Whether two ends with these classes, one fed in one piece and the other octet by octet, behave as they should and
+/// end in the same state.
 fn goes_well(alloc: Global, case: Case, past: Past, classes: (bool, bool)) -> bool {
     match local(classes) {
         Some(local) => goes_well_from(alloc, case, past, local),
@@ -216,7 +216,7 @@ fn go_well(whole: &mut Stack, single: &mut Stack, case: Case, past: Past) -> boo
         && is_as_far(whole, single)
 }
 
-/// Two ends have come to the same.
+/// Whether two ends are in the same state.
 fn is_as_far(one: &Stack, other: &Stack) -> bool {
     if one.outgoing() != other.outgoing() || one.ended() != other.ended() {
         return false;
@@ -224,8 +224,7 @@ fn is_as_far(one: &Stack, other: &Stack) -> bool {
     one.ended().is_some() || one.kept() == other.kept()
 }
 
-/// Feeds an end with this past, in pieces of at most so many octets; false where it does not what it
-/// should.
+/// Feeds an end with this past, in pieces of at most this many octets; false if it does not behave as it should.
 fn does_well(stack: &mut Stack, case: Case, past: Past, piece: usize) -> bool {
     if !begins(stack, case, past) || feed(stack, case.octets, piece).is_none() {
         return false;
@@ -236,7 +235,7 @@ fn does_well(stack: &mut Stack, case: Case, past: Past, piece: usize) -> bool {
     }
 }
 
-/// What happened to an end before.
+/// Brings an end into its past.
 fn begins(stack: &mut Stack, case: Case, past: Past) -> bool {
     match past {
         Past::OfCaller | Past::OfCalled => true,
@@ -245,14 +244,14 @@ fn begins(stack: &mut Stack, case: Case, past: Past) -> bool {
     }
 }
 
-/// An end that is over uses all that it is fed, shows nothing and sends nothing more.
+/// Whether an end that is over uses all that it is fed, indicates nothing and sends nothing.
 fn is_still(stack: &mut Stack, octets: &[u8]) -> bool {
     let sent = stack.outgoing().len();
     let fed = calls::feed(stack, octets);
     fed.used == octets.len() && !fed.whole && stack.outgoing().len() == sent
 }
 
-/// An end on which nothing has happened.
+/// A fresh end.
 fn fresh(alloc: Global, past: Past, local: Local) -> Stack {
     match past {
         Past::OfCaller | Past::OfAsking => Stack::caller(alloc, local),
@@ -260,7 +259,7 @@ fn fresh(alloc: Global, past: Past, local: Local) -> Stack {
     }
 }
 
-/// What an end of these classes supports.
+/// The configuration of an end with these classes.
 fn local(classes: (bool, bool)) -> Option<Local> {
     let (class0, class2) = classes;
     Some(Local {
@@ -271,8 +270,7 @@ fn local(classes: (bool, bool)) -> Option<Local> {
     })
 }
 
-/// Asks for a connection with points, restarts and negotiated release; the other side chooses who holds
-/// the tokens.
+/// Asks for a connection with points, restarts and negotiated release; the other side chooses who holds the tokens.
 fn asks(stack: &mut Stack) -> bool {
     match Serial::new(1) {
         Some(serial) => calls::connect(stack, &connect_from(serial)).is_ok(),
@@ -299,7 +297,7 @@ fn connect_from(serial: Serial) -> Connect<'static> {
     }
 }
 
-/// Feeds octets, and fetches what is shown; none where something is not as it should be.
+/// Feeds octets, and fetches the indications; none if something is not as it should be.
 fn feed(stack: &mut Stack, octets: &[u8], piece: usize) -> Option<()> {
     let mut rest = octets;
     for _ in 0..octets.len() {
@@ -312,8 +310,8 @@ fn feed(stack: &mut Stack, octets: &[u8], piece: usize) -> Option<()> {
     if rest.is_empty() { Some(()) } else { None }
 }
 
-/// Feeds a piece that is not empty. Some of it is used, and all where nothing is shown, and where the
-/// end is over or is ended by it for a fault.
+/// Feeds a piece that is not empty. Some of it has to be used, and all of it unless an indication is pending; an end
+/// that is over, or that ends by a fault, uses all.
 fn feed_piece(stack: &mut Stack, piece: &[u8]) -> Option<usize> {
     let is_over = stack.ended().is_some();
     let fed = calls::feed(stack, piece);
@@ -330,12 +328,12 @@ fn feed_piece(stack: &mut Stack, piece: &[u8]) -> Option<usize> {
     Some(fed.used)
 }
 
-/// Fetches what is shown next; false where nothing is.
+/// Fetches the next indication; false if none is pending.
 fn shows(stack: &mut Stack) -> bool {
     calls::next(stack).is_some()
 }
 
-/// Fetches all that is shown.
+/// Fetches all pending indications.
 fn fetch(stack: &mut Stack) -> bool {
     for _ in 0..100u8 {
         if !shows(stack) {
@@ -345,7 +343,7 @@ fn fetch(stack: &mut Stack) -> bool {
     false
 }
 
-/// What is kept is within its bound, and an end that is over holds no token.
+/// Whether the octets kept are within their bound, and an end that is over holds no token.
 fn is_within_bounds(stack: &Stack) -> bool {
     let mut most = OF_A_PACKET;
     for reference in 1..65u16 {

@@ -1,4 +1,4 @@
-//! Octets that are written as hexadecimal digits.
+//! Octets in hexadecimal digits.
 
 use std::alloc::{AllocError, Global};
 use std::io;
@@ -22,7 +22,7 @@ fn push_all_digits(out: &mut Vec<u8>, text: &str) -> Result<(), AllocError> {
     Ok(())
 }
 
-/// Adds what is no blank.
+/// Adds all digits of a line, without blanks.
 fn push_digits(out: &mut Vec<u8>, line: &str) -> Result<(), AllocError> {
     for octet in line.as_bytes() {
         if !octet.is_ascii_whitespace() {

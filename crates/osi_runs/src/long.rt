@@ -1,15 +1,15 @@
-//! Scripts and transcripts that are written short.
+//! Scripts and transcripts with abbreviations.
 //!
-//! A word `41*10240` stands for the two digits so many times, and `0100+41*10240` for these behind
-//! others. A line `3 times A | B` stands for the lines `A` and `B`, three times. A comment stands for
-//! itself. So what is asked for at the greatest lengths is a file of few octets.
+//! The word `41*10240` means the two digits this many times, and `0100+41*10240` means the same after others. A line `3
+//! times A | B` means the lines `A` and `B`, three times. Comments are not expanded. So a small file can ask for the
+//! greatest lengths.
 
 use std::alloc::{AllocError, Global};
 
-/// No word or line is repeated more often.
+/// No word or line may be repeated more often than this.
 const MOST: u32 = 2_000_000;
 
-/// A text whose repetitions are written out.
+/// A text with its repetitions expanded.
 pub(crate) fn written_out(alloc: Global, text: &str) -> Result<String, AllocError> {
     let mut out = String::new(alloc);
     push_all(&mut out, text)?;
@@ -74,7 +74,7 @@ fn push_part(out: &mut String, part: &str) -> Result<(), AllocError> {
     Ok(())
 }
 
-/// How often a word or a line stands there.
+/// How often a word or a line is repeated.
 fn number(digits: &str) -> u32 {
     match digits.parse::<u32>() {
         Ok(number) => number.min(MOST),

@@ -1,14 +1,17 @@
-//! Runs what lies in the folder `data`, and says whether what comes of it is what is written there.
+//! Runs the files of the folder `data`, and says whether each result is what is written there.
 //!
-//! The program's words name what is run. Behind the word `pair` stand scripts of two ends with their
-//! transcripts; behind `each-way` those that are run in class 0 and in class 2 as well, with octets
-//! that are carried all at once and one by one: how many octets were carried is then all that may
-//! differ. Behind `again` stand those in which an event that finds no memory is applied again. Behind
-//! `octets` stand ends that are fed octets, and what they answer; behind `show` captures with their
-//! listings; behind `damaged` captures whose packets are damaged and fed to ends, of which is said how
-//! many did what they should. Behind `long` stand scripts and transcripts that are written short, as the
-//! files behind `octets` may be, behind `together` those whose events are given in one list, and behind
-//! `texts` files with the text of each fault and error.
+//! The arguments of the program are words and names of files. A word says how the files after it are run:
+//!
+//! - `pair`: scripts of two ends, compared with their transcripts;
+//! - `each-way`: such scripts that are also run in class 0 and in class 2, with octets carried all at once and one by
+//!   one; only the numbers of octets carried may then differ;
+//! - `again`: such scripts, in which an event that runs out of memory is applied again;
+//! - `octets`: ends that are fed octets, and what they answer;
+//! - `show`: captures, compared with their listings;
+//! - `damaged`: captures whose packets are damaged and fed to ends; the result is how many runs behaved as they should;
+//! - `long`: scripts and transcripts with abbreviations, which files after `octets` may have too;
+//! - `together`: scripts whose events are given in one list;
+//! - `texts`: files with the text of each fault and error.
 #![tactic(auto)]
 
 mod again;
@@ -36,10 +39,10 @@ use texts::all_texts;
 use together::{Together, run_together};
 use ways::{WAYS, Way, counts_left_out, script_in};
 
-/// No script has more octets.
+/// The largest script, in octets.
 const LONGEST: usize = 16_777_216;
 
-/// How a word of the program is to be taken.
+/// How an argument of the program is to be taken.
 #[derive(Clone, Copy)]
 enum Kind {
     Pair,
@@ -54,7 +57,7 @@ enum Kind {
 }
 
 impl Kind {
-    /// What the words behind this one name.
+    /// How the names after this word are run.
     fn behind(word: &str) -> Option<Kind> {
         match word {
             "pair" => Some(Kind::Pair),
@@ -80,7 +83,7 @@ impl Kind {
         }
     }
 
-    /// The kind of the file in which stands what is wanted; none where the file that is run says it.
+    /// The kind of the file with the wanted result; none if the file that is run has it.
     fn wanted(self) -> Option<&'static str> {
         match self {
             Kind::Pair | Kind::EachWay | Kind::Again | Kind::Long => Some("transcript"),
@@ -95,7 +98,7 @@ fn main(rt: HostRuntime) -> io::Result<()> {
     judge_all(&rt, words.as_slice())
 }
 
-/// Judges what each word behind the first names, or takes the next words as this one says.
+/// Runs each file named in the arguments, in the way of the last word before it.
 fn judge_all<R: Files + Print + AllocGlobal>(rt: &R, words: &[String]) -> io::Result<()> {
     let mut kind = Kind::Pair;
     for word in words.iter().skip(1) {
@@ -112,7 +115,7 @@ fn judge<R: Files + Print + AllocGlobal>(rt: &R, name: &str, kind: Kind) -> io::
     println!(rt; "{name} {said}")
 }
 
-/// What is said of a name: that all is as it is written, or what came in its place.
+/// The report on a name: that the result is as wanted, or the result in its place.
 fn judged<R: Files + AllocGlobal>(rt: &R, name: &str, kind: Kind) -> io::Result<String> {
     let given = text_of(rt, name, kind.given())?;
     judged_text(rt, name, kind, given.as_str())
@@ -130,7 +133,7 @@ fn judged_text<R: Files + AllocGlobal>(
     }
 }
 
-/// What is said of a file that says what is wanted.
+/// The report on a file that has the wanted result in itself.
 fn judged_alone(alloc: Global, kind: Kind, given: &str) -> io::Result<String> {
     match kind {
         Kind::Octets => judged_octets(alloc, given),
@@ -140,7 +143,7 @@ fn judged_alone(alloc: Global, kind: Kind, given: &str) -> io::Result<String> {
     }
 }
 
-/// What is said of a file, beside that of another kind in which stands what is wanted.
+/// The report on a file whose wanted result is in a file of another kind.
 fn judged_beside<R: Files + AllocGlobal>(
     rt: &R,
     name: &str,
@@ -162,7 +165,7 @@ fn judged_by(alloc: Global, kind: Kind, given: &str, wanted: &str) -> io::Result
     }
 }
 
-/// What is said of what came, beside what is wanted.
+/// The report on a result, compared with what is wanted.
 fn compared(alloc: Global, came: &[u8], wanted: &str, status: u8) -> io::Result<String> {
     if came != wanted.as_bytes() {
         return another(alloc, came, status);
@@ -308,7 +311,7 @@ fn judged_each_way(alloc: Global, script: &str, wanted: &str) -> io::Result<Stri
     judged_ways(alloc, script, wanted)
 }
 
-/// The transcript of a script is what is wanted.
+/// Whether the transcript of a script is as wanted.
 fn is_told(alloc: Global, script: &str, wanted: &str) -> io::Result<bool> {
     let came = told(alloc, script)?;
     Ok(came.lines.as_slice() == wanted.as_bytes())
@@ -338,13 +341,13 @@ fn told_in(alloc: Global, script: &str, way: Way) -> io::Result<Transcript> {
     told(alloc, script.as_str())
 }
 
-/// Transcripts differ in nothing but how many octets were carried.
+/// Whether transcripts differ only in the numbers of octets carried.
 fn is_same(alloc: Global, lines: &[u8], wanted: &str) -> io::Result<bool> {
     let lines = counts_left_out(alloc, str_of(lines)?)?;
     Ok(is_rest_of(alloc, lines.as_str(), wanted)?)
 }
 
-/// What is left of a transcript without the counts of octets is this.
+/// Whether this is a transcript without the counts of octets.
 fn is_rest_of(alloc: Global, rest: &str, transcript: &str) -> Result<bool, AllocError> {
     let transcript = counts_left_out(alloc, transcript)?;
     Ok(rest == transcript.as_str())

@@ -1,10 +1,9 @@
-//! Two ends that are fed octets, line by line, and what each line brings.
+//! Two ends that are fed octets, line by line, and the result of each line.
 //!
-//! A line that begins with `> ` asks for something; what comes of it stands below it. It is a line of a
-//! script of two ends (`ends`, `connect`, a call of a user, or `told`), or one of these:
-//! `feed left HEX` and `feed right HEX` feed octets to an end, which are not carried from the other;
-//! `where` says where the first connections of both ends stand;
-//! `tsdu HEX` reads session units, and writes them again.
+//! A line that begins with `> ` asks for something; its result is in the lines below. It is a line of a script of two
+//! ends (`ends`, `connect`, a call of a user, or `told`), or one of these: `feed left HEX` and `feed right HEX` feed
+//! octets to an end, without the other; `where` gives the state of the first connections of both ends; `tsdu HEX` reads
+//! session units and writes them again.
 
 ghost use Rattle.std.specs.Prelude.{IfOk};
 ghost use Rattle.osi_spdu.specs.Groups.{units_of};
@@ -25,7 +24,7 @@ use std::alloc::{AllocError, Global};
 use std::fmt::Debug;
 use std::io;
 
-/// Two ends, which have nothing between them.
+/// Two ends with nothing between them.
 #[derive(Drop)]
 struct Ends {
     left: Stack,
@@ -42,7 +41,7 @@ impl Ends {
     }
 }
 
-/// The lines of a text, with what comes of those that ask for something.
+/// The lines of a text, with the result of each line that asks for something.
 pub(crate) fn played(alloc: Global, text: &str) -> io::Result<Vec<u8>> {
     let mut out = Vec::new(alloc);
     play_text(alloc, &mut out, text)?;
@@ -78,7 +77,7 @@ pub(crate) fn push(out: &mut Vec<u8>, line: &str) -> Result<(), AllocError> {
     Ok(())
 }
 
-/// Adds a line of what is said, and of a number.
+/// Adds a line with a label and a number.
 pub(crate) fn push_number(
     alloc: Global,
     out: &mut Vec<u8>,
@@ -88,7 +87,7 @@ pub(crate) fn push_number(
     push_made(out, format!(in alloc; "{said} {number}")?)
 }
 
-/// Adds a line of what is said, and of a name.
+/// Adds a line with a label and a name.
 pub(crate) fn push_name<T: Debug>(
     alloc: Global,
     out: &mut Vec<u8>,
@@ -128,7 +127,7 @@ fn play_line<'a>(
     }
 }
 
-/// Two ends on which nothing has happened stand in place of the others.
+/// Replaces the ends by two fresh ones.
 fn begin(alloc: Global, ends: &mut Option<Ends>, caller: Local, called: Local) {
     *ends = Some(Ends {
         left: Stack::caller(alloc, caller),
@@ -148,7 +147,7 @@ fn play_at(
     Ok(())
 }
 
-/// Feeds an end, says where both stand, or does what a line of a script asks for.
+/// Feeds an end, reports the state of both, or does what a line of a script asks for.
 fn act(
     alloc: Global,
     out: &mut Vec<u8>,
@@ -214,7 +213,7 @@ fn call_at(
     }
 }
 
-/// Feeds octets, and says how many are used where some are left.
+/// Feeds octets, and reports how many were used if some are left.
 fn feed(alloc: Global, out: &mut Vec<u8>, stack: &mut Stack, digits: &str) -> io::Result<()> {
     let octets = octets_in(alloc, digits)?;
     feed_octets(alloc, out, stack, octets.as_slice())
@@ -233,13 +232,13 @@ fn feed_octets(
     Ok(())
 }
 
-/// Adds what the users of both ends are shown, and what the ends send.
+/// Adds what the users of both ends receive, and what the ends send.
 fn push_all_told(alloc: Global, out: &mut Vec<u8>, ends: &mut Ends) -> Result<(), AllocError> {
     push_told(alloc, out, Side::Left, &mut ends.left)?;
     push_told(alloc, out, Side::Right, &mut ends.right)
 }
 
-/// Adds what the users of an end are shown, and what the end sends.
+/// Adds what the users of an end receive, and what the end sends.
 fn push_told(
     alloc: Global,
     out: &mut Vec<u8>,
@@ -252,7 +251,7 @@ fn push_told(
     push_sent(alloc, out, side, stack)
 }
 
-/// Adds what the user of an end is shown next, if there is something.
+/// Adds the next pending indication of an end, if there is one.
 fn push_next(
     alloc: Global,
     out: &mut Vec<u8>,
@@ -267,7 +266,7 @@ fn push_next(
     }
 }
 
-/// Adds what a user is shown, and the cause of an end of the provider.
+/// Adds an indication, and the cause of a provider abort.
 fn push_shown(
     alloc: Global,
     out: &mut Vec<u8>,
@@ -303,7 +302,7 @@ fn sends(side: Side) -> &'static str {
     }
 }
 
-/// Adds octets in digits, behind what is said of them.
+/// Adds octets in digits, after a label.
 fn push_digits(
     alloc: Global,
     out: &mut Vec<u8>,
@@ -314,21 +313,21 @@ fn push_digits(
     push_behind(out, said, digits.as_str())
 }
 
-/// Adds a line of what is said, and of what stands behind it.
+/// Adds a line with a label and a text.
 pub(crate) fn push_behind(out: &mut Vec<u8>, said: &str, rest: &str) -> Result<(), AllocError> {
     out.extend_from_slice(said.as_bytes())?;
     out.push(b' ')?;
     push(out, rest)
 }
 
-/// Adds where the first three connections of both ends stand.
+/// Adds the state of the first three connections of both ends.
 fn push_both_where(alloc: Global, out: &mut Vec<u8>, ends: &Ends) -> Result<(), AllocError> {
     push_where(alloc, out, Side::Left, &ends.left, 4)?;
     push_where(alloc, out, Side::Right, &ends.right, 4)
 }
 
-/// Adds where the connections of an end with lower references than this stand, how many octets it
-/// keeps, and why it has ended.
+/// Adds the state of the connections of an end with references below this one, how many octets it keeps, and why it has
+/// ended.
 pub(crate) fn push_where(
     alloc: Global,
     out: &mut Vec<u8>,
@@ -389,7 +388,7 @@ pub(crate) fn push_phase(
     }
 }
 
-/// Where a connection stands at an end, if it has been asked for.
+/// The state of a connection, if it has been asked for.
 fn standing(side: Side, stack: &Stack, reference: Ref) -> Option<Standing> {
     Some(Standing {
         side,
@@ -425,7 +424,7 @@ fn push_written(
     }
 }
 
-/// Reads session units and writes them, where they have no fault.
+/// Reads session units and, if they have no fault, writes them.
 fn fault_of(written: &mut BytesMut, tsdu: &[u8]) -> Result<Option<SpduFault>, AllocError> {
     match group_in(tsdu) {
         Ok(group) => {

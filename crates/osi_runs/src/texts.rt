@@ -11,7 +11,7 @@ use osi_tpkt::{TpktFault, WriteError};
 use std::alloc::{AllocError, Global};
 use std::fmt::{Debug, Display};
 
-/// A line for each fault and each error: its name, and behind a colon its text.
+/// A line for each fault and each error: its name, a colon and its text.
 pub(crate) fn all_texts(alloc: Global) -> Result<String, AllocError> {
     let mut out = String::new(alloc);
     push_texts(alloc, &mut out)?;

@@ -11,35 +11,35 @@ use osi_tpdu::Tsap;
 use std::alloc::{AllocError, Global};
 use std::io;
 
-/// A transport address, and a session address, of the greatest length.
+/// A transport address and a session address of the greatest length.
 const TSAP: [u8; 32] = [0x54; 32];
 
 const SELECTOR: [u8; 16] = [0x53; 16];
 
-/// What came of a list of events.
+/// The result of a list of events.
 #[derive(Drop)]
 pub(crate) struct Together {
-    /// Whether the two ends, their journal and the error are those of the same events one by one.
+    /// Whether the two ends, their journal and the error are those of the same events applied one by one.
     pub(crate) is_same: bool,
     /// Which event was refused, and why.
     pub(crate) refused: Option<RunError>,
 }
 
-/// How events are given.
+/// How events are given: in one list, or one by one.
 #[derive(Clone, Copy)]
 enum Given {
     InOneList,
     OneByOne,
 }
 
-/// What came of a list of events: which was refused and why, and all that the two ends say behind it.
+/// The outcome of a list of events: which one was refused and why, and the final state of the two ends.
 #[derive(Drop)]
 struct Outcome {
     refused: Option<RunError>,
     said: Vec<u8>,
 }
 
-/// Runs the events of a script, of which each line can be read, and applies them one by one.
+/// Runs the events of a script, all lines of which can be read, together and one by one.
 pub(crate) fn run_together(alloc: Global, script: &str) -> io::Result<Together> {
     let lines = lines_in(alloc, script)?;
     run_lines(alloc, script, lines.as_slice())
@@ -50,7 +50,7 @@ fn run_lines<'a>(alloc: Global, script: &str, lines: &'a [Line<'a>]) -> io::Resu
     run_events(alloc, script, events.as_slice())
 }
 
-/// Both ways beside each other.
+/// Compares both ways.
 fn run_events(alloc: Global, script: &str, events: &[Event]) -> io::Result<Together> {
     let run = outcome_of(alloc, script, events, Given::InOneList)?;
     beside_one_by_one(alloc, script, events, &run)
@@ -73,7 +73,7 @@ fn compared(run: &Outcome, applied: &Outcome) -> Together {
     }
 }
 
-/// What comes of events that are given so, on the two ends that a script asks for.
+/// The outcome of events that are given in this way, on the two ends that a script asks for.
 fn outcome_of(alloc: Global, script: &str, events: &[Event], given: Given) -> io::Result<Outcome> {
     let (left, right) = ends_asked(alloc, script)?;
     outcome_between(alloc, left, right, events, given)
@@ -130,7 +130,7 @@ fn events_in<'a>(alloc: Global, lines: &'a [Line<'a>]) -> io::Result<Vec<Event<'
     Ok(events)
 }
 
-/// The event; where it asks for a connection, it does so with addresses of the greatest lengths.
+/// The event; a request for a connection gets addresses of the greatest lengths.
 fn with_addresses<'a>(event: Event<'a>) -> Event<'a> {
     match event {
         Event::Connect(connect) => Event::Connect(addressed(connect)),
@@ -138,7 +138,7 @@ fn with_addresses<'a>(event: Event<'a>) -> Event<'a> {
     }
 }
 
-/// What is asked for, with addresses of the greatest lengths.
+/// A request for a connection, with addresses of the greatest lengths.
 fn addressed<'a>(connect: Connect<'a>) -> Connect<'a> {
     Connect {
         calling_tsap: tsap(),
@@ -163,7 +163,7 @@ fn apply_each(pair: &mut Pair, events: &[Event]) -> Option<RunError> {
     None
 }
 
-/// All that can be asked of two ends, and each entry of their journal.
+/// The state of two ends as octets, with each entry of their journal.
 fn all_of(alloc: Global, pair: &Pair) -> Result<Vec<u8>, AllocError> {
     let mut out = state_of(alloc, pair)?;
     push_entries(alloc, &mut out, "", calls::journal(pair))?;

@@ -2,7 +2,7 @@
 
 use std::alloc::{AllocError, Global};
 
-/// One class at both ends, and octets that are carried all at once or one by one.
+/// One class at both ends, and octets carried all at once or one by one.
 #[derive(Clone, Copy)]
 pub(crate) struct Way {
     ends: &'static str,
@@ -28,7 +28,7 @@ pub(crate) const WAYS: [Way; 4] = [
     },
 ];
 
-/// A script that is run in another way.
+/// A script rewritten for another way.
 pub(crate) fn script_in(alloc: Global, script: &str, way: Way) -> Result<String, AllocError> {
     let mut lines = String::new(alloc);
     push_all_in(&mut lines, script, way)?;
@@ -56,7 +56,7 @@ fn push_in(out: &mut String, line: &str, way: Way) -> Result<(), AllocError> {
     }
 }
 
-/// Adds a line, so many times.
+/// Adds a line, this many times.
 fn push(out: &mut String, line: &str, times: u16) -> Result<(), AllocError> {
     for _ in 0..times {
         out.push_str(line)?;

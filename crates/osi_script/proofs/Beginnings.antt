@@ -1,4 +1,4 @@
--- What a line says in front of its user data, read word by word.
+-- The part of a line before its user data, read word by word.
 use Rattle.std.proofs.Common.{◌≡◌, ◌∙◌, ◌≤◌, ℕ, suc, ◌-◌, ◌&&◌, Bool, List, [], ◌∷◌, length, get_or, drop, Option, Some, None, refl, sym, ap, subst, arith, true, false}
 use Rattle.std.specs.Prelude.{codes, if◌then◌else◌}
 use Rattle.std.specs.Cmp.Lexicographic.{same_text}
@@ -203,7 +203,7 @@ carry_read line text digits side n first second third =
 
 -- ---- a line that calls
 
--- a word names the verb that is found by it
+-- the verb found by the test is the one that the word names
 by_test : (word : List ℕ) (verb v : Verb) (verbs : List Verb) (b : Bool) → is word (verb_name verb) ≡ b →
     Some v ≡ (if b then Some verb else first_named word verbs) → (Some v ≡ first_named word verbs → is word (verb_name v) ≡ true) →
     is word (verb_name v) ≡ true
@@ -227,7 +227,7 @@ last_of_call : (a b c next : List ℕ) (words : List (List ℕ)) → last_of (a 
 last_of_call a b c next words =
     last_behind a b (c ∷ next ∷ words) ∙ last_behind b c (next ∷ words) ∙ last_behind c next words
 
--- no call has no word behind its verb
+-- no call is without words after its verb
 no_words : (v : Verb) (a b : Option (List ℕ)) → call_of v [] a ≡ call_of v [] b
 unfolding call_of accept_of plain_of plain_data give_of please_of minor_of minor_confirm_of restart_of restart_confirm_of only_word first_of_two
 no_words Accept a b = refl
@@ -246,7 +246,7 @@ no_words ReleaseAccept a b = refl
 no_words ReleaseRefuse a b = refl
 no_words Abort a b = refl
 
--- the word in the place of user data stands behind the verb
+-- the user data word stands after the verb
 word_behind : (v : Verb) (other : Option (List ℕ)) (connection next : List ℕ) (words : List (List ℕ)) → other ≡ last_of (next ∷ words) →
     fourth_or other (behind_accept (connection ∷ verb_name v ∷ next ∷ words)) ≡ data_behind v (next ∷ words)
 unfolding verb_name
@@ -279,7 +279,7 @@ word_of_call side connection next v words =
     ∙ word_behind v (last_of (side_name side ∷ connection ∷ verb_name v ∷ next ∷ words)) connection next words
     (last_of_call (side_name side) connection (verb_name v) next words)
 
--- what is called, by what user data spells
+-- the request of a call, from what its user data spells
 abbrev calling : Side → ℕ → Option Call → Option Command
 calling side n call = call >>= (λ (c : Call). Some (OfUser side n c))
 
@@ -294,7 +294,7 @@ called_so Right connection v words n user h =
     ap (λ (o : Option Verb). o >>= (λ (w : Verb). calling Right n (call_of w words user))) (sym (verb_read v))
     ∙ ap (λ (k : Option ℕ). k >>= (λ (m : ℕ). verb_of (verb_name v) >>= (λ (w : Verb). calling Right m (call_of w words user)))) h
 
--- what the word behind the verb spells does as well as that of the line
+-- reading the user data word after the verb gives the same as reading that of the line
 same_call : (side : Side) (connection : List ℕ) (v : Verb) (words : List (List ℕ)) →
     call_of v words (spelled (data_behind v words)) ≡ call_of v words (user_data_of (side_name side ∷ connection ∷ verb_name v ∷ words))
 same_call side connection v [] = no_words v _ _
@@ -319,6 +319,6 @@ call_read line connection all behind words side n v first second third number =
 
 -- ---- the verb
 
--- a word that names a verb, and what stands behind it
+-- a word that names a verb, and the text after it
 pub verb_read_first : (all words : List (List ℕ)) (name : List ℕ) (v : Verb) → all ≡ name ∷ words → Some v ≡ verb_of name → all ≡ verb_name v ∷ words
 verb_read_first all words name v first named = first ∙ ap (λ (w : List ℕ). w ∷ words) (verb_is_name name v named)

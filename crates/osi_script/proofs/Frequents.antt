@@ -1,4 +1,5 @@
--- A frequent call: what stands behind its last word but the user data spells octets just where it is one word that does.
+-- A frequent call: the text after its last word but the user data spells octets exactly if it is a single word that
+-- does.
 use Rattle.std.proofs.Common.{◌≡◌, ◌∙◌, ℕ, List, [], ◌∷◌, get_or, Option, Some, None, Bool, true, false, Result, Ok, Err, refl, sym, ap, subst, arith}
 use Rattle.std.specs.Prelude.{codes, option_map, if◌then◌else◌}
 use Rattle.std.specs.Result.{result_ok}
@@ -42,7 +43,7 @@ dash_or_digits : (text bytes : List ℕ) (b : Bool) → is text (codes "-") ≡ 
 dash_or_digits text bytes true e h = subst (λ (t : List ℕ). words_of t ≡ t ∷ []) (sym (same_text text (codes "-") (sym e))) refl
 dash_or_digits text bytes false e h = digits_alone text bytes (decode_of text) refl h
 
--- what spells octets has no blank
+-- a text that spells octets has no blank
 alone : (text bytes : List ℕ) → data_of text ≡ Some bytes → words_of text ≡ text ∷ []
 unfolding data_of
 alone [] bytes h = refl
@@ -51,7 +52,7 @@ alone (octet ∷ octets) bytes h = dash_or_digits (octet ∷ octets) bytes (is (
 whole : (text word : List ℕ) → words_of text ≡ word ∷ [] → word ≡ text
 whole text word h = sym (ap (join_with_byte 32) h) ∙ join_with_byte-slice_split 32 text
 
--- what is read of the words of a text, where it is something of one word alone, is read of the text
+-- a reading of the words of a text that accepts only a single word is a reading of the text
 one_word : (text : List ℕ) (words : List (List ℕ)) (o : Option (List ℕ)) (read : List (List ℕ) → Option Call) (call : List ℕ → Call) →
     words_of text ≡ words → data_of text ≡ o → read [] ≡ None → ((w : List ℕ) → read (w ∷ []) ≡ option_map call (data_of w)) →
     ((w x : List ℕ) (more : List (List ℕ)) → read (w ∷ x ∷ more) ≡ None) → read words ≡ option_map call o
@@ -100,7 +101,7 @@ called_by_map : (side : Side) (n : ℕ) (call : Frequent) (o : Option (List ℕ)
 called_by_map side n call None = refl
 called_by_map side n call (Some octets) = refl
 
--- a line that calls by a verb that scripts have often
+-- a line that calls by a frequent verb
 pub frequent_read : (line connection : List ℕ) (all behind : List (List ℕ)) (rest text : List ℕ) (side : Side) (n : ℕ) (v : Verb) (call : Frequent) →
     words_of line ≡ side_name side ∷ all → all ≡ connection ∷ behind → behind ≡ verb_name v ∷ words_of rest → Some n ≡ number_to 65535 connection →
     call_of v (words_of rest) (spelled (data_behind v (words_of rest))) ≡ option_map (made call) (data_of text) →

@@ -1,4 +1,4 @@
--- Whether a word is a name, a letter at a time.
+-- Comparing a word with a name, letter by letter.
 use Rattle.std.proofs.Common.{◌≡◌, ◌≢◌, ◌∙◌, ℕ, suc, ◌+◌, ◌<◌, ◌≤◌, ◌&&◌, Bool, true, false, List, [], ◌∷◌, length, get_or, drop, refl, sym, ap, subst, arith}
 use Rattle.std.specs.Prelude.{nat_eq}
 use Rattle.std.proofs.Math.Seq.{drop-cons}
@@ -26,14 +26,14 @@ both_first word name i a b =
     ap (λ (w : List ℕ). is w (drop i name)) (first_octet word i a)
     ∙ ap (λ (n : List ℕ). is (get_or word i 0 ∷ drop (i + 1) word) n) (first_octet name i b)
 
--- a letter that both have is passed over
+-- a letter that both have is skipped
 pub same_letter : (word name : List ℕ) (i : ℕ) → i < length word → i < length name → get_or word i 0 ≡ get_or name i 0 →
     is (drop (i + 1) word) (drop (i + 1) name) ≡ is (drop i word) (drop i name)
 same_letter word name i a b same =
     sym (one_left (nat_eq (get_or word i 0) (get_or name i 0)) (is (drop (i + 1) word) (drop (i + 1) name)) (same_octet (get_or word i 0) (get_or name i 0) same))
     ∙ sym (both_first word name i a b)
 
--- at another letter they differ
+-- they differ at another letter
 pub other_letter : (word name : List ℕ) (i : ℕ) → i < length word → i < length name → get_or word i 0 ≢ get_or name i 0 →
     is (drop i word) (drop i name) ≡ false
 other_letter word name i a b other =

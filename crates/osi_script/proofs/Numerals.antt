@@ -1,4 +1,4 @@
--- The number that digits spell, a digit at a time.
+-- The number that digits spell, digit by digit.
 use Rattle.std.proofs.Common.{◌≡◌, ℕ, ◌+◌, ◌-◌, ◌*◌, ◌<◌, ◌≤◌, ◌&&◌, Bool, true, false, List, [], ◌∷◌, length, drop, Option, Some, None, refl, sym, ap, arith, ◌∙◌}
 use Rattle.std.specs.Prelude.{nat_le, if◌then◌else◌}
 use Rattle.std.specs.List.{list_all}
@@ -6,7 +6,7 @@ use Rattle.std.proofs.lemmas.Bool.Decides.{nat_tests}
 use Rattle.std.proofs.lemmas.List.{drop_all}
 use Rattle.osi_script.specs.Words.{is_digit, numeral, number_behind}
 
--- a number does not fall by more digits
+-- more digits do not make a number smaller
 numeral_grows : (n : ℕ) (digits : List ℕ) → n ≤ numeral n digits
 numeral_grows n [] = omega arith
 numeral_grows n (digit ∷ digits) = let more = numeral_grows (n * 10 + (digit - 48)) digits in omega arith

@@ -1,4 +1,4 @@
--- A list is parted at the elements that pass a test.
+-- Splitting a list at the elements that pass a test.
 use Rattle.std.proofs.Common.{◌≡◌, ◌∙◌, ℕ, zero, suc, ◌+◌, ◌-◌, ◌<◌, ◌≤◌, Bool, true, false, List, [], ◌∷◌, ◌++◌, Option, None, Some, length, get_or, take, drop, refl, sym, ap, subst, arith}
 use Rattle.std.specs.List.{slice_split, onto_first, slice_get, All}
 use Rattle.std.proofs.lemmas.List.{get_or-take, get_or-drop, length-take, length-drop, length-append}
@@ -11,7 +11,7 @@ fails : (b : Bool) → (b ≡ true → ⊥) → b ≡ false
 fails true h = absurd (h refl)
 fails false h = refl
 
--- where no element passes there is one part
+-- if no element passes there is one part
 pub one_part : (p : ℕ → Bool) (text : List ℕ) → IsFirstByte p text None → slice_split p text ≡ text ∷ []
 one_part p text h =
     slice_split_none p text (All-from_get_or (λ x. p x ≡ false) text 0 (λ i below. fails (p (get_or text i 0)) (h i (omega arith) below)))
@@ -61,7 +61,7 @@ parted_by p y a x b h false e =
     ∙ onto_front y (slice_split p a) (slice_split p b) (some_part p a)
     ∙ sym (ap (λ (l : List (List ℕ)). l ++ slice_split p b) (slice_split-cons_no p y a e))
 
--- an element that passes parts what stands before it from what stands behind it
+-- an element that passes separates the text before it from the text after it
 parted : (p : ℕ → Bool) (a : List ℕ) (x : ℕ) (b : List ℕ) → p x ≡ true → slice_split p (a ++ x ∷ b) ≡ slice_split p a ++ slice_split p b
 parted p [] x b h = slice_split-cons_yes p x b h
 parted p (y ∷ a) x b h = parted_by p y a x b (parted p a x b h) (p y) refl
@@ -81,7 +81,7 @@ last_of parts = slice_get parts (length parts - 1)
 pub all_is_last : (p : ℕ → Bool) (text : List ℕ) → IsLastByte p text None → last_of (slice_split p text) ≡ Some text
 all_is_last p text h = ap last_of (one_part p text h)
 
--- the last part stands behind the last element that passes
+-- the last part stands after the last element that passes
 pub last_part : (p : ℕ → Bool) (text : List ℕ) (i : ℕ) → IsLastByte p text (Some i) → last_of (slice_split p text) ≡ Some (drop (i + 1) text)
 last_part p text i h =
     let high : i < length text = h.0.high in

@@ -1,4 +1,4 @@
--- Pieces of text one behind the other.
+-- Pieces of text one after the other.
 use Rattle.std.proofs.Common.{◌≡◌, ◌∙◌, ℕ, List, ◌++◌, sym, ap}
 use Rattle.std.proofs.lemmas.List.{append_assoc}
 

@@ -1,4 +1,4 @@
--- The line of what is answered to an event.
+-- The line of the answer to an event.
 use Rattle.std.specs.Prelude.{ℕ, List, ◌++◌, codes}
 use Rattle.std.specs.Fmt.{decimal}
 use Rattle.osi_script.specs.declared.sides.Side.{Side}

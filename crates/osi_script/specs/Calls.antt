@@ -1,4 +1,4 @@
--- The calls of a user in a script: the words behind the verb, of which one is user data in most.
+-- The calls of a user in a script: the words after the verb. In most calls one of them is the user data.
 use Rattle.std.specs.Prelude.{ℕ, List, [], ◌∷◌, Option, Some, None}
 use Rattle.osi_session.specs.Calls.{Call}
 use Rattle.osi_session.specs.Calls as call
@@ -7,8 +7,8 @@ use Rattle.osi_script.specs.declared.verbs.Verb.{Verb}
 use Rattle.osi_script.specs.declared.verbs.Verb.TheVariants as verb
 use Rattle.osi_script.specs.Words.{◌>>=◌, only_word, first_of_two, number_to, units_of, serial_of, tokens_of, wishes_of, sides_of, answer_of, sizes_of}
 
--- In each of these, the second argument is what the word in the place of user data spells: the last, but in an accept,
--- behind whose user data sizes may stand.
+-- In each of these, the second argument is what the user data word spells. That is the last word; but in an accept,
+-- sizes may follow it.
 unfoldable pub accepted : (units serial sides : List ℕ) → List (List ℕ) → Option (List ℕ) → Option Call
 accepted units serial sides sizes user = do
   u ← units_of units
@@ -22,7 +22,7 @@ unfoldable pub accept_of : List (List ℕ) → Option (List ℕ) → Option Call
 accept_of (units ∷ serial ∷ sides ∷ word ∷ sizes) user = accepted units serial sides sizes user
 accept_of other user = None
 
--- user data alone
+-- only user data
 unfoldable pub plain_data : List (List ℕ) → Option (List ℕ) → Option (List ℕ)
 plain_data words user = do
   last ← only_word words
@@ -79,9 +79,9 @@ restart_confirm_of words user = do
   octets ← user
   Some (call.RestartConfirm s octets)
 
--- the calls that have no other word than user data
+-- the calls whose only word is user data
 unfoldable pub plain_call : Verb → List ℕ → Option Call
--- without user data a refusal gives no reason
+-- a refusal without user data gives no reason
 plain_call verb.Refuse octets = Some (call.Refuse (call.refusal_with octets))
 plain_call verb.Data octets = Some (call.Data octets)
 plain_call verb.Major octets = Some (call.Major octets)

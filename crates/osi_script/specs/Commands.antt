@@ -1,4 +1,4 @@
--- What a line of a script asks for, and the lines that spell it.
+-- The command that a line of a script gives, and the lines that spell it.
 use Rattle.std.specs.Prelude.{◌≡◌, ℕ, ◌-◌, Bool, true, false, List, [], ◌∷◌, codes, length, Option, Some, None, if◌then◌else◌}
 use Rattle.std.specs.List.{slice_get}
 use Rattle.osi_spdu.specs.declared.fields.TsduMaximumSize.{TsduMaximumSize}
@@ -43,7 +43,7 @@ command_by (memory.Carry side octets) = Carry side octets
 command_by (memory.Break left right) = Break left right
 command_by (memory.Told side) = Told side
 
--- ---- the words behind the first; user is what the word in the place of user data spells
+-- ---- the words after the first; `user` is what the user data word spells
 
 unfoldable pub two_ends : (caller called size window : List ℕ) → Option Command
 two_ends caller called size window = do
@@ -94,7 +94,7 @@ told_of words = do
   s ← side_of side
   Some (Told s)
 
--- a call: its side, the connection, the verb, and the words behind it
+-- a call: its side, the connection, the verb, and the words after it
 unfoldable pub named_call : (side reference verb : List ℕ) → List (List ℕ) → Option (List ℕ) → Option Command
 named_call side reference verb words user = do
   s ← side_of side
@@ -107,7 +107,7 @@ unfoldable pub user_call : List ℕ → List (List ℕ) → Option (List ℕ) �
 user_call side (reference ∷ verb ∷ words) user = named_call side reference verb words user
 user_call side other user = None
 
--- the line with these words, of which the one in the place of user data spells this
+-- the command of a line with these words, if the user data word spells these octets
 unfoldable pub command_in : List (List ℕ) → Option (List ℕ) → Option Command
 command_in [] user = None
 command_in (first ∷ words) user =
@@ -120,7 +120,7 @@ command_in (first ∷ words) user =
 
 -- ---- user data
 
--- what a connect and an accept say in front of their user data is functional units, a number and sides
+-- before their user data, a connect and an accept have functional units, a number and sides
 abbrev pub fourth : List (List ℕ) → Option (List ℕ)
 fourth (units ∷ serial ∷ sides ∷ word ∷ words) = Some word
 fourth other = None
@@ -128,7 +128,7 @@ fourth other = None
 abbrev pub last_of : List (List ℕ) → Option (List ℕ)
 last_of words = slice_get words (length words - 1)
 
--- the words behind an accept, of a line of which these stand behind the first word
+-- the words after an accept, from those after the first word of a line
 abbrev pub behind_accept : List (List ℕ) → Option (List (List ℕ))
 behind_accept (reference ∷ verb ∷ words) = if is verb (codes "accept") then Some words else None
 behind_accept other = None
@@ -137,19 +137,19 @@ abbrev pub fourth_or : Option (List ℕ) → Option (List (List ℕ)) → Option
 fourth_or other None = other
 fourth_or other (Some words) = fourth words
 
--- the word in the place of user data: the last, but in a connect and an accept, behind whose user data sizes may stand
+-- the user data word: the last word; but in a connect and an accept, sizes may follow it
 unfoldable pub data_word : List (List ℕ) → Option (List ℕ)
 data_word [] = None
 data_word (first ∷ words) =
     if is first (codes "connect") then fourth words else fourth_or (last_of (first ∷ words)) (behind_accept words)
 
--- what it spells
+-- the octets that it spells
 abbrev pub user_data_of : List (List ℕ) → Option (List ℕ)
 user_data_of words = do
   word ← data_word words
   data_of word
 
--- what a line asks for
+-- the command that a line gives
 unfoldable pub command_of : List ℕ → Option Command
 command_of line = command_in (words_of line) (user_data_of (words_of line))
 

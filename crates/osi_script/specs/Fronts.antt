@@ -1,4 +1,4 @@
--- What a line says in front of its user data.
+-- The part of a line before its user data.
 use Rattle.std.specs.Prelude.{ℕ, List, Option, Some, None}
 use Rattle.osi_session.specs.Calls.{Call}
 use Rattle.osi_session.specs.Calls as call
@@ -14,19 +14,19 @@ use Rattle.osi_script.specs.Splitting.{words_in}
 use Rattle.osi_script.specs.Calls.{call_of}
 use Rattle.osi_script.specs.Commands.{Command, OfUser, Carry, command_in, data_word, fourth, last_of}
 
--- the word in the place of user data, of those behind a verb
+-- the user data word, from the words after a verb
 abbrev pub data_behind : Verb → List (List ℕ) → Option (List ℕ)
 data_behind verb.Accept words = fourth words
 data_behind other words = last_of words
 
--- the word of a line in the place of user data; of a frequent call all that stands behind what was read
+-- the user data word of a line; in a frequent call all the text after what was read
 abbrev pub front_data : Front → Option (List ℕ)
 front_data (front.Carry side octets) = None
 front_data (front.Frequent side reference call text) = Some text.now
 front_data (front.Call side reference verb words) = data_behind verb (words_in words)
 front_data (front.Unread line) = data_word (words_of line.now)
 
--- what that word spells
+-- the octets that this word spells
 abbrev pub spelled : Option (List ℕ) → Option (List ℕ)
 spelled word = word >>= data_of
 
@@ -36,19 +36,19 @@ made frequent.Data octets = call.Data octets
 made (frequent.Minor confirm) octets = call.Minor confirm octets
 made (frequent.MinorConfirm number) octets = call.MinorConfirm number octets
 
--- a frequent call, of which that word spells this
+-- a frequent call, if this word spells these octets
 abbrev pub frequent_command : Side → ℕ → Frequent → Option (List ℕ) → Option Command
 frequent_command side reference call user = do
   octets ← user
   Some (OfUser side reference (made call octets))
 
--- a call by its verb and the words behind it
+-- a call by its verb and the words after it
 abbrev pub call_command : Side → ℕ → Verb → List (List ℕ) → Option (List ℕ) → Option Command
 call_command side reference verb words user = do
   call ← call_of verb words user
   Some (OfUser side reference call)
 
--- what a line asks for, of which that word spells this
+-- the command of a line, if this word spells these octets
 abbrev pub front_command : Front → Option (List ℕ) → Option Command
 front_command (front.Carry side octets) user = Some (Carry side octets)
 front_command (front.Frequent side reference call text) user = frequent_command side reference call user

@@ -1,4 +1,4 @@
--- A line of which the user data was read.
+-- A line whose user data was read.
 use Rattle.std.specs.Prelude.{ℕ, List, [], Option, option_map}
 use Rattle.osi_script.specs.declared.kept.Kept.{Kept}
 use Rattle.osi_script.specs.declared.kept.Kept.TheVariants as kept
@@ -12,6 +12,6 @@ octets_kept kept.None = []
 octets_kept (kept.Short octets) = octets
 octets_kept (kept.Long octets) = octets.items
 
--- what it asks for
+-- the command of the line
 abbrev pub line_command : Line → Option Command
 line_command line = front_command line.front (option_map octets_kept line.user_data)

@@ -1,4 +1,4 @@
--- The line of what a user is shown: its side and connection, its name, and its fields.
+-- The line of an indication: its side and connection, its name, and its fields.
 use Rattle.std.specs.Prelude.{ℕ, Bool, true, false, List, [], ◌∷◌, ◌++◌, codes, Option, Some, None}
 use Rattle.std.specs.Fmt.{decimal}
 use Rattle.hex.specs.Hex.{encode_lower}
@@ -54,7 +54,7 @@ restart_fields number letters = number_field number ++ sides_field letters
 abbrev pub units_field : ℕ → List ℕ
 units_field units = codes " units " ++ encode_lower (two units)
 
--- a dash where no serial number is named
+-- a dash if there is no serial number
 unfoldable pub serial_field : Option ℕ → List ℕ
 serial_field None = codes " serial -"
 serial_field (Some n) = codes " serial " ++ decimal n
@@ -62,7 +62,7 @@ serial_field (Some n) = codes " serial " ++ decimal n
 unfoldable pub opening_fields : ℕ → Option ℕ → List ℕ → List ℕ
 opening_fields units serial letters = units_field units ++ serial_field serial ++ sides_field letters
 
--- the fields of a connection that is asked for or accepted
+-- the fields of a connection that is requested or accepted
 unfoldable pub opened_fields : Shown → List ℕ
 opened_fields (Connect units serial wishes sizes octets) = opening_fields units serial (wishes_text wishes)
 opened_fields (Connected units serial sides sizes octets) = opening_fields units serial (sides_text sides)
@@ -90,7 +90,7 @@ shown_fields Lost = []
 shown_fields (PeerAbort bits) = octet_field bits
 shown_fields (BadUnit fault) = codes " " ++ unit_fault_name fault
 
--- the user data of what has some
+-- the user data, if there is any
 unfoldable pub shown_octets : Shown → Option (List ℕ)
 shown_octets (Connect units serial wishes sizes octets) = Some octets
 shown_octets (Connected units serial sides sizes octets) = Some octets
@@ -113,7 +113,7 @@ shown_octets Lost = None
 shown_octets (PeerAbort bits) = None
 shown_octets (BadUnit fault) = None
 
--- what stands in front of user data: a blank alone where it is all that is shown
+-- the text before user data: only a blank if there are no other fields
 abbrev pub data_word : Shown → List ℕ
 data_word (Data octets) = codes " "
 data_word other = codes " data "
@@ -122,7 +122,7 @@ abbrev pub data_field : List ℕ → Option (List ℕ) → List ℕ
 data_field word None = []
 data_field word (Some octets) = word ++ data_text octets
 
--- how many octets a TSDU of the asker and one of the answerer may have, where one of them has a limit
+-- the largest TSDU of the asker and of the answerer, if one of them has a limit
 abbrev pub limits_field : Option TsduMaximumSize → List ℕ
 limits_field None = []
 limits_field (Some sizes) = codes " tsdu" ++ number_field sizes.from_asker ++ number_field sizes.from_answerer
@@ -135,7 +135,7 @@ shown_sizes (Connect units serial wishes sizes octets) = sizes_field sizes
 shown_sizes (Connected units serial sides sizes octets) = sizes_field sizes
 shown_sizes other = []
 
--- the user data, and what stands behind it
+-- the user data, and the text after it
 abbrev pub shown_end : Shown → List ℕ
 shown_end shown = data_field (data_word shown) (shown_octets shown) ++ shown_sizes shown
 

@@ -1,4 +1,4 @@
--- The words of a line that were not read yet.
+-- The words of a line that have not been read.
 use Rattle.std.specs.Prelude.{ℕ, List, []}
 use Rattle.std.specs.Option.{option_map_or}
 use Rattle.osi_script.specs.Words.{words_of}

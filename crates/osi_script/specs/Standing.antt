@@ -1,4 +1,4 @@
--- The line of where a connection stands at the end.
+-- The line of the state of a connection at the end.
 use Rattle.std.specs.Prelude.{ℕ, List, [], ◌∷◌, ◌++◌, codes}
 use Rattle.std.specs.Fmt.{decimal}
 use Rattle.hex.specs.Hex.{encode_lower}

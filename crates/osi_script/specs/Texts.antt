@@ -1,4 +1,4 @@
--- Values as words: user data in hexadecimal, or a dash where there is none; the side of each token as a letter.
+-- Values as words: user data in hexadecimal, or a dash if there is none; the side of each token as a letter.
 use Rattle.std.specs.Prelude.{ℕ, ◌*◌, List, [], ◌∷◌, length, codes, Option, Some, None}
 use Rattle.hex.specs.Hex.{encode_lower}
 use Rattle.osi_spdu.specs.declared.settings.TokenSetting.{TokenSetting}
@@ -12,7 +12,7 @@ unfoldable pub data_text : List ℕ → List ℕ
 data_text [] = codes "-"
 data_text (octet ∷ octets) = encode_lower (octet ∷ octets)
 
--- how many digits user data has
+-- the number of digits of user data
 abbrev pub digits_of : Option (List ℕ) → ℕ
 digits_of None = 0
 digits_of (Some octets) = 2 * length octets

@@ -21,22 +21,22 @@ use Rattle.osi_script.specs.declared.sides.Side.TheVariants.{Left, Right}
 use Rattle.osi_script.specs.declared.verbs.Verb.{Verb}
 use Rattle.osi_script.specs.Names.{verb_name, all_verbs}
 
--- a word, and then another, where both are what they should be
+-- a word, and then another, if both are valid
 infixl 10 ◌>>=◌
 abbrev pub ◌>>=◌ : {A B : Type 0} → Option A → (A → Option B) → Option B
 None >>= f = None
 Some x >>= f = f x
 
--- the words of a line, parted by one blank each
+-- the words of a line, separated by one blank each
 abbrev pub words_of : List ℕ → List (List ℕ)
 words_of line = slice_split (λ octet. octet == 32) line
 
--- the one word of some, where there is just one
+-- the only word, if there is exactly one
 unfoldable pub only_word : List (List ℕ) → Option (List ℕ)
 only_word (word ∷ []) = Some word
 only_word other = None
 
--- the first of some words, where there are just two
+-- the first word, if there are exactly two
 unfoldable pub first_of_two : List (List ℕ) → Option (List ℕ)
 first_of_two (word ∷ last ∷ []) = Some word
 first_of_two other = None
@@ -48,20 +48,20 @@ is word name = pointwise nat_eq word name
 abbrev pub is_digit : ℕ → Bool
 is_digit octet = nat_le 48 octet && nat_le octet 57
 
--- the number that decimal digits spell, the most significant first, behind those of a number
+-- the number that the digits give, read after those of n
 abbrev pub numeral : ℕ → List ℕ → ℕ
 numeral n [] = n
 numeral n (digit ∷ digits) = numeral (n * 10 + (digit - 48)) digits
 
--- that number, where all are digits and it is not above a bound
+-- that number, if all are digits and it is at most a bound
 unfoldable pub number_behind : ℕ → ℕ → List ℕ → Option ℕ
 number_behind most n word = if list_all is_digit word && nat_le (numeral n word) most then Some (numeral n word) else None
 
--- a number of one digit or more, not above a bound
+-- a number of at least one digit, at most a bound
 unfoldable pub number_to : ℕ → List ℕ → Option ℕ
 number_to most word = if length word == 0 then None else number_behind most 0 word
 
--- a number of two bounds
+-- a number between two bounds
 abbrev pub number_from_to : ℕ → ℕ → List ℕ → Option ℕ
 number_from_to least most word = do
   n ← number_to most word
@@ -76,13 +76,13 @@ window_of word = number_from_to 1 15 word
 abbrev pub serial_of : List ℕ → Option ℕ
 serial_of word = number_to 999999 word
 
--- how many octets a TSDU may have: 0 for no limit, or 64 and more
+-- the largest TSDU: 0 for no limit, or at least 64 octets
 abbrev pub tsdu_size_of : List ℕ → Option ℕ
 tsdu_size_of word = do
   n ← number_to 65535 word
   if is_size n then Some n else None
 
--- the sizes of what the asker and of what the answerer sends, where words for them are there
+-- the largest TSDUs of the asker and of the answerer, if there are words for them
 unfoldable pub sizes_of : List (List ℕ) → Option TsduMaximumSize
 sizes_of [] = Some no_sizes
 sizes_of (asker ∷ words) = do
@@ -98,7 +98,7 @@ short_of octets = slice_index octets 0 * 256 + slice_index octets 1
 unfoldable pub units_of : List ℕ → Option ℕ
 units_of word = option_map short_of (result_ok (decode_sized word 2))
 
--- two hexadecimal digits, whose bits are all of tokens
+-- two hexadecimal digits, all bits of which name tokens
 abbrev pub names_tokens : ℕ → Bool
 names_tokens bits = bit_and bits 85 == bits
 

@@ -1,4 +1,4 @@
-//! The lines of a transcript for what is answered.
+//! The lines of a transcript for answers.
 
 ghost use Rattle.std.specs.Prelude.{◌≡◌, ◌+◌, ◌≤◌, ◌++◌, codes, length, vec_len, vec_capacity, OnOk, OnErr};
 ghost use Rattle.std.specs.Fmt.{decimal};
@@ -19,29 +19,29 @@ use std::mem;
 pub enum ConnectRefusal {
     /// The transport refuses it.
     Open(OpenError),
-    /// The functional units can not be selected together.
+    /// The functional units can't be selected together.
     NotSelected,
     /// A selector or the user data is too long.
     TooLong,
 }
 
-/// Why an event that can be read does not fit behind the earlier ones.
+/// Why an event that can be read does not fit after the events before it.
 #[derive(Clone, Copy)]
 pub enum LineFault {
-    /// A side is told of a break that was not there.
+    /// A side is told of a break, but the connection is not broken.
     NotBroken,
-    /// The connection was broken before.
+    /// The connection is already broken.
     AlreadyBroken,
 }
 
-/// What is answered to the event of a line.
+/// The answer to the event of a line.
 #[derive(Clone, Copy)]
 pub enum Answer {
-    /// The connection is asked for, and has this reference.
+    /// A connection is requested, and has this reference.
     Connecting(u16),
-    /// No connection is asked for.
+    /// No connection is requested.
     ConnectRefused(ConnectRefusal),
-    /// A call was done.
+    /// A call succeeded.
     Called {
         /// Whose call it is.
         side: Side,
@@ -61,7 +61,7 @@ pub enum Answer {
         /// Why it was refused.
         error: CallError,
     },
-    /// So many octets of a side were carried.
+    /// This many octets of a side were carried.
     Carried {
         /// The side that had sent them.
         side: Side,
@@ -72,11 +72,11 @@ pub enum Answer {
     Broken,
     /// A side was told of the break.
     Told(Side),
-    /// The line of this number, of 1 or more, can not be read.
+    /// The line with this number, from 1 on, can't be read.
     LineRefused(u64),
     /// The event of a line does not fit.
     LineFailed {
-        /// The number of the line, 1 or more.
+        /// The number of the line, from 1 on.
         line: u64,
         /// Why it does not fit.
         fault: LineFault,
@@ -136,7 +136,7 @@ fn put_call(text: Vec<u8>, side: Side, reference: u16, verb: Verb) -> Vec<u8>
     put_verb(text, verb)
 }
 
-/// Adds the line of what is answered to a connect, for which there is room.
+/// Adds the line of the answer to a connect, for which there is room.
 #[tactic(auto, unfolding(crate::specs::Answers::answer_line, crate::specs::Answers::answer_text))]
 fn put_connecting(text: Vec<u8>, reference: u16) -> Vec<u8>
     requires { vec_len text + 64 ≤ vec_capacity text }
@@ -200,7 +200,7 @@ fn put_carried(text: Vec<u8>, side: Side, octets: u64) -> Vec<u8>
     put(text, "\n")
 }
 
-/// Adds the line of a side that was told of the break, for which there is room.
+/// Adds the line of a side that was informed of the break, for which there is room.
 #[tactic(auto, unfolding(crate::specs::Answers::answer_line, crate::specs::Answers::answer_text))]
 fn put_told(text: Vec<u8>, side: Side) -> Vec<u8>
     requires { vec_len text + 64 ≤ vec_capacity text }
@@ -267,7 +267,8 @@ fn push_called(alloc: Global, out: &mut Vec<u8>, side: Side, reference: u16, ver
     requires { vec_len out.old + 64 ≤ vec_capacity out.old }
     ensures { out.new.items ≡ out.old.items ++ answer_line (Answer.Called side reference verb) }
 {
-    // While it is written the text is a value of this function: no octet of it can be taken for its length.
+    // While it is written, the text is owned by this function; so the compiler knows that no store to it changes its
+    // length.
     let text = mem::replace(out, Vec::new(alloc));
     *out = put_called(text, side, reference, verb);
 }
@@ -282,7 +283,7 @@ fn push_carried(alloc: Global, out: &mut Vec<u8>, side: Side, octets: u64)
     *out = put_carried(text, side, octets);
 }
 
-/// Adds the line of an answer to a transcript, which is left as it is where there is no memory.
+/// Adds the line of an answer to a transcript; if memory runs out, the transcript stays as it was.
 #[inline(always)]
 pub fn push_answer(alloc: Global, out: &mut Vec<u8>, answer: &Answer) -> Result<(), AllocError>
     ensures ok { OnOk result (out.new.items ≡ out.old.items ++ answer_line answer.now) }

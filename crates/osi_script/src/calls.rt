@@ -1,4 +1,4 @@
-//! The words of each call, read.
+//! Reading the words of each call.
 
 ghost use Rattle.std.specs.Prelude.{◌≡◌, option_map, option_copied};
 ghost use Rattle.osi_spdu.specs.Fields.{bits_of};
@@ -12,7 +12,7 @@ use crate::words::{answer, number, serial, sides, sizes, tokens, units, wishes};
 use osi_session::{Refusal, Request};
 use osi_spdu::TokenSet;
 
-/// The greatest number that a call can name.
+/// The largest number in a call.
 pub(crate) const MOST: u32 = 4_294_967_295;
 
 /// An accept of these functional units, first number, sides and sizes.
@@ -53,7 +53,7 @@ fn accept<'a>(mut words: Words, octets: Option<&'a [u8]>) -> Option<Request<'a>>
     accepted(selected, first, stated, words, octets)
 }
 
-/// The user data of a call that has no other word.
+/// The user data of a call that has no other words.
 #[tactic(auto, unfolding(crate::specs::Calls::plain_data))]
 fn plain<'a>(words: Words, octets: Option<&'a [u8]>) -> Option<&'a [u8]>
     ensures { option_copied result
@@ -63,7 +63,7 @@ fn plain<'a>(words: Words, octets: Option<&'a [u8]>) -> Option<&'a [u8]>
     octets
 }
 
-/// A call that has no other word than this user data.
+/// A call whose only word is this user data.
 #[tactic(auto, unfolding(crate::specs::Calls::plain_call))]
 fn plain_call<'a>(verb: Verb, user_data: &'a [u8]) -> Option<Request<'a>>
     ensures { option_map called_by result ≡ plain_call verb user_data.entry.now }
@@ -83,7 +83,7 @@ fn plain_call<'a>(verb: Verb, user_data: &'a [u8]) -> Option<Request<'a>>
     }
 }
 
-/// What a call asks for that has no other word than user data.
+/// The request of a call whose only word is user data.
 #[tactic(auto, unfolding(crate::specs::Calls::plain_of))]
 fn plain_request<'a>(verb: Verb, words: Words, octets: Option<&'a [u8]>) -> Option<Request<'a>>
     ensures { option_map called_by result
@@ -179,7 +179,7 @@ fn restart<'a>(mut words: Words, octets: Option<&'a [u8]>) -> Option<Request<'a>
     restarting(point, wished, octets)
 }
 
-/// What a call asks for, by its verb and the words behind it, of which the one in the place of user data spells this.
+/// The request of a call, by its verb and the words after it, if the user data word spells these octets.
 #[tactic(auto, unfolding(crate::specs::Calls::call_of))]
 pub(crate) fn request<'a>(verb: Verb, words: Words, octets: Option<&'a [u8]>) -> Option<Request<'a>>
     ensures { option_map called_by result

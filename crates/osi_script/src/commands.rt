@@ -12,11 +12,11 @@ use osi_tpdu::{SizeCode, Window};
 /// The classes of the transport protocol that an end supports (X.224 section 5.4).
 #[derive(Clone, Copy)]
 pub enum Classes {
-    /// Class 0 alone.
+    /// Only class 0.
     Zero,
-    /// Class 2 alone.
+    /// Only class 2.
     Two,
-    /// Both, of which class 2 is preferred.
+    /// Both; class 2 is preferred.
     Both,
 }
 
@@ -37,10 +37,10 @@ impl Classes {
     }
 }
 
-/// What a line of a script asks for.
+/// A line of a script, by what it asks for.
 #[derive(Clone, Copy)]
 pub enum Command<'a> {
-    /// The two ends, of which the left one calls.
+    /// Declares the two ends; the left one calls.
     Ends {
         /// The classes of the left end.
         caller: Classes,
@@ -51,15 +51,15 @@ pub enum Command<'a> {
         /// The window of both ends.
         window: Window,
     },
-    /// The left end asks for a connection.
+    /// The left end requests a connection.
     Connect {
         /// The functional units that are offered.
         requirements: Requirements,
         /// The number of the first synchronization point.
         serial: Serial,
-        /// The side that is wished for each token.
+        /// The side wished for as the holder of each token.
         wishes: TokenSetting,
-        /// How many octets a TSDU may have, of those that each side sends.
+        /// The largest TSDU that each side sends, in octets.
         sizes: TsduSizes,
         /// User data.
         user_data: &'a [u8],
@@ -77,14 +77,14 @@ pub enum Command<'a> {
     Carry {
         /// The side that has sent them.
         side: Side,
-        /// How many octets, or all where there are fewer.
+        /// The number of octets, or all if there are fewer.
         octets: u32,
     },
     /// Breaks the connection of the two ends.
     Break {
-        /// How many octets of the left side can still be carried.
+        /// How many octets of the left side still arrive.
         left: u32,
-        /// How many octets of the right side can still be carried.
+        /// How many octets of the right side still arrive.
         right: u32,
     },
     /// Tells a side of the break.

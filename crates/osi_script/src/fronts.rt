@@ -1,4 +1,4 @@
-//! What a line says in front of its user data.
+//! The part of a line before its user data.
 
 ghost use Rattle.std.specs.Prelude.{◌≡◌, ◌∷◌, Some, codes, option_copied, option_map, IfSome};
 ghost use Rattle.osi_script.specs.Names.{side_name, verb_name};
@@ -18,7 +18,7 @@ use crate::verbs::Verb;
 use crate::words::{answer, is, number, verb};
 use osi_session::Request;
 
-/// A call that scripts have often, without its user data.
+/// A frequent call, without its user data.
 #[derive(Clone, Copy)]
 pub(crate) enum Frequent {
     /// Sends data.
@@ -29,14 +29,14 @@ pub(crate) enum Frequent {
     MinorConfirm(u32),
 }
 
-/// What a line says, as far as it was read without its user data.
+/// A line as far as it was read, without its user data.
 #[derive(Clone, Copy)]
 pub(crate) enum Front<'l> {
     /// Octets of a side are carried.
     Carry {
         /// The side that has sent them.
         side: Side,
-        /// How many octets, or all where there are fewer.
+        /// How many octets, or all if there are fewer.
         octets: u32,
     },
     /// A call of the user of one connection.
@@ -47,10 +47,10 @@ pub(crate) enum Front<'l> {
         reference: u16,
         /// What is asked for.
         verb: Verb,
-        /// The words behind the verb.
+        /// The words after the verb.
         words: Words<'l>,
     },
-    /// A call that scripts have often, of which all but the user data was read.
+    /// A frequent call, all of which was read except the user data.
     Frequent {
         /// The side of the user.
         side: Side,
@@ -58,14 +58,14 @@ pub(crate) enum Front<'l> {
         reference: u16,
         /// What is asked for.
         call: Frequent,
-        /// What stands in the place of user data, up to the end of the line.
+        /// The text of the user data, up to the end of the line.
         text: &'l [u8],
     },
     /// A line of which nothing was read.
     Unread(&'l [u8]),
 }
 
-/// What stands behind the word that asks for octets to be carried, where a line begins with it.
+/// The text after the word that asks for octets to be carried, if a line begins with it.
 #[inline(always)]
 #[tactic(auto, using(crate::proofs::Beginnings::carry_first))]
 fn behind_carry(line: &[u8]) -> Option<&[u8]>
@@ -77,7 +77,7 @@ fn behind_carry(line: &[u8]) -> Option<&[u8]>
     }
 }
 
-/// The side that a text begins with, and what stands behind it.
+/// The side at the front of a text, and the text after it.
 #[inline(always)]
 #[tactic(auto, using(crate::proofs::Beginnings::left_first, crate::proofs::Beginnings::right_first))]
 fn behind_side(text: &[u8]) -> Option<(Side, &[u8])>
@@ -90,7 +90,7 @@ fn behind_side(text: &[u8]) -> Option<(Side, &[u8])>
     }
 }
 
-/// The verb that a text begins with, where it is one that scripts have often, and what stands behind it.
+/// The verb at the front of a text, if it is a frequent one, and the text after it.
 #[inline(always)]
 #[tactic(auto, using(crate::proofs::Beginnings::data_first, crate::proofs::Beginnings::minor_first, crate::proofs::Beginnings::minorconfirm_first), unfolding(crate::specs::Names::verb_name))]
 fn behind_frequent_verb(text: &[u8]) -> Option<(Verb, &[u8])>
@@ -119,7 +119,7 @@ fn behind_frequent_verb(text: &[u8]) -> Option<(Verb, &[u8])>
     }
 }
 
-/// A minor point: whether it is to be confirmed, and what stands behind that.
+/// A minor point: whether it is to be confirmed, and the text after that.
 #[inline(always)]
 #[tactic(auto, using(crate::proofs::Frequents::minor_read))]
 fn minor(text: &[u8]) -> Option<(Frequent, &[u8])>
@@ -131,7 +131,7 @@ fn minor(text: &[u8]) -> Option<(Frequent, &[u8])>
     Some((Frequent::Minor(confirm), rest))
 }
 
-/// A confirmation of minor points: its number, and what stands behind that.
+/// A confirmation of minor points: its number, and the text after that.
 #[inline(always)]
 #[tactic(auto, using(crate::proofs::Frequents::minor_confirm_read))]
 fn minor_confirm(text: &[u8]) -> Option<(Frequent, &[u8])>
@@ -143,8 +143,8 @@ fn minor_confirm(text: &[u8]) -> Option<(Frequent, &[u8])>
     Some((Frequent::MinorConfirm(point), rest))
 }
 
-/// A call that scripts have often, and what stands in the place of its user data, of the text behind its verb. A text
-/// with a blank spells no octets, as a call with a word too many asks for nothing.
+/// A frequent call and its user data word, from the text after its verb. A text with a blank spells no octets, since a
+/// call with one word too many asks for nothing.
 #[inline(always)]
 #[tactic(auto, using(crate::proofs::Frequents::data_read))]
 fn read_frequent(verb: Verb, text: &[u8]) -> Option<(Frequent, &[u8])>
@@ -159,7 +159,7 @@ fn read_frequent(verb: Verb, text: &[u8]) -> Option<(Frequent, &[u8])>
     }
 }
 
-/// What a frequent call asks for.
+/// The request of a frequent call.
 #[inline(always)]
 fn asked<'a>(call: Frequent, user_data: &'a [u8]) -> Request<'a>
     ensures { called_by result ≡ made call user_data.entry.now }
@@ -171,7 +171,7 @@ fn asked<'a>(call: Frequent, user_data: &'a [u8]) -> Request<'a>
     }
 }
 
-/// The side and the connection that a line begins with, and what stands behind them.
+/// The side and the connection at the front of a line, and the text after them.
 #[inline(always)]
 fn behind_connection(line: &[u8]) -> Option<(Side, &[u8], &[u8])>
     ensures { IfSome result (λ first. words_of line.now ≡ side_name first.0 ∷ first.1.now ∷ words_of first.2.now) }
@@ -181,7 +181,7 @@ fn behind_connection(line: &[u8]) -> Option<(Side, &[u8], &[u8])>
     Some((side, connection, rest))
 }
 
-/// A line that calls by a verb that scripts have often.
+/// A line with a call by a frequent verb.
 #[inline(always)]
 fn frequent_call(line: &[u8]) -> Option<Front<'_>>
     ensures { IfSome result (λ front. front_command front (spelled (front_data front)) ≡ command_of line.now) }
@@ -198,7 +198,7 @@ fn frequent_call(line: &[u8]) -> Option<Front<'_>>
     })
 }
 
-/// The verb that a text begins with, and the words behind it.
+/// The verb at the front of a text, and the words after it.
 fn behind_verb(text: &[u8]) -> Option<(Verb, Words<'_>)>
     ensures { IfSome result (λ first. words_of text.now ≡ verb_name first.0 ∷ words_in first.1) }
 {
@@ -208,8 +208,8 @@ fn behind_verb(text: &[u8]) -> Option<(Verb, Words<'_>)>
     Some((verb, words))
 }
 
-/// The side whose octets a line carries, and how many, or all where there are fewer: what most lines ask for that are no
-/// calls. `None` where a line does not begin so; it may ask for something all the same.
+/// The side whose octets a line carries, and how many, or all if there are fewer: most lines that are not calls ask for
+/// this. `None` if a line does not begin in this way; it may still ask for something.
 #[inline(always)]
 #[tactic(auto, using(crate::proofs::Beginnings::carry_read))]
 pub fn read_carry(line: &[u8]) -> Option<(Side, u32)>
@@ -245,7 +245,7 @@ fn call(line: &[u8]) -> Option<Front<'_>>
     })
 }
 
-/// A line that calls by any verb, or of which nothing is read.
+/// A line with a call by any verb, or one of which nothing is read.
 #[inline(never)]
 #[tactic(auto, unfolding(crate::specs::Commands::command_of))]
 fn any_call<'l>(line: &'l [u8]) -> Front<'l>
@@ -267,7 +267,7 @@ fn fourth<'l>(mut words: Words<'l>) -> Option<&'l [u8]>
     words.next_word()
 }
 
-/// The words behind an accept, of those that stand behind the first of a line.
+/// The words after an accept, from those after the first word of a line.
 fn behind_accept<'l>(mut words: Words<'l>) -> Option<Words<'l>>
     ensures { option_map words_in result ≡ behind_accept (words_in words.entry) }
 {
@@ -279,8 +279,7 @@ fn behind_accept<'l>(mut words: Words<'l>) -> Option<Words<'l>>
     None
 }
 
-/// The word of a line in the place of user data: the last, but in a connect and an accept, behind whose
-/// user data sizes may stand.
+/// The user data word of a line: the last word; but in a connect and an accept, sizes may follow it.
 #[tactic(auto, unfolding(crate::specs::Commands::data_word))]
 fn data_word(line: &[u8]) -> Option<&[u8]>
     ensures { option_copied result ≡ data_word (words_of line.now) }
@@ -296,7 +295,7 @@ fn data_word(line: &[u8]) -> Option<&[u8]>
     fourth(words)
 }
 
-/// The word in the place of user data, of those behind a verb.
+/// The user data word, from the words after a verb.
 fn data_behind<'l>(verb: Verb, words: Words<'l>) -> Option<&'l [u8]>
     ensures { option_copied result ≡ data_behind verb (words_in words.entry) }
 {
@@ -306,7 +305,7 @@ fn data_behind<'l>(verb: Verb, words: Words<'l>) -> Option<&'l [u8]>
     }
 }
 
-/// What a frequent call asks for, of which the word in the place of user data spells this.
+/// What a frequent call asks for, if the user data word spells these octets.
 #[inline(always)]
 fn frequent_call_of<'a>(
     side: Side,
@@ -325,7 +324,7 @@ fn frequent_call_of<'a>(
     })
 }
 
-/// What a call by any verb asks for, of which the word in the place of user data spells this.
+/// What a call by any verb asks for, if the user data word spells these octets.
 #[inline(never)]
 fn any_call_of<'a>(
     side: Side,
@@ -361,7 +360,7 @@ impl<'l> Front<'l> {
         any_call(line)
     }
 
-    /// The word in the place of user data.
+    /// The user data word.
     #[inline(always)]
     pub(crate) fn data_word(&self) -> Option<&'l [u8]>
         ensures { option_copied result ≡ front_data self.now }
@@ -374,7 +373,7 @@ impl<'l> Front<'l> {
         }
     }
 
-    /// What the line asks for, of which the word in the place of user data spells this.
+    /// What the line asks for, if the user data word spells these octets.
     #[inline(always)]
     pub(crate) fn command<'a>(&self, octets: Option<&'a [u8]>) -> Option<Command<'a>>
         ensures { option_map command_by result ≡ front_command self.now (option_copied octets.entry) }

@@ -6,7 +6,7 @@ ghost use Rattle.hex.specs.Hex.{decode_of};
 
 use std::marker::Model;
 
-/// The greatest number of digits whose octets are kept in the place of their line.
+/// The most digits whose octets are stored inline.
 pub(crate) const LONGEST: usize = 64;
 
 /// Octets, at most 32.
@@ -38,7 +38,7 @@ impl Short {
     }
 }
 
-/// The octets that a word spells: where they are few they are kept here, and take no block of memory.
+/// The octets that a word spells. A few octets are stored inline, without an allocation.
 #[derive(Drop)]
 pub(crate) enum Kept {
     /// None.

@@ -1,5 +1,17 @@
-//! The text of scripts and transcripts: a script tells two ends what to do, a line for each event, and
-//! a transcript tells what they answered and what their users were shown.
+//! The text of scripts and transcripts. A script tells two ends what to do, one event a line; a transcript tells what
+//! the ends answered and what their users received.
+//!
+//! ```text
+//! ends 0 0 10 4                                  (classes of both ends, TPDU size, window)
+//! connect 00b9 1 aaaa 68656c6c6f                 (functional units, first number, token wishes, user data)
+//! carry left 999                                 (octets to carry from the left end to the right one)
+//! ```
+//!
+//! [`Line::read`] reads the user data of a line, and [`Line::command`] gives its [`Command`]. [`first_line`] cuts a
+//! text into lines. [`push_answer`], [`push_indication`] and [`push_standing`] append lines of a transcript.
+//!
+//! The laws ([`mod@laws`]) say that a line asks for at most one thing, and that each call is read by its name. Running a
+//! script is left to `osi_transcript`; docs/TOOL.md describes the language.
 #![tactic(auto)]
 
 mod answers;

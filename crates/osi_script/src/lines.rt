@@ -15,7 +15,7 @@ use crate::words::is;
 use hex::FromHexError;
 use std::alloc::{AllocError, Global};
 
-/// A line of a script, and the octets that the word in the place of user data spells.
+/// A line of a script, and the octets that its user data word spells.
 #[derive(Drop)]
 pub struct Line<'l> {
     front: Front<'l>,
@@ -55,7 +55,7 @@ fn user_data_in(alloc: Global, word: &[u8]) -> Result<Option<Kept>, AllocError>
     }
 }
 
-/// The octets that a word spells, where there is one.
+/// The octets that a word spells, if there is one.
 #[inline(always)]
 fn user_data_of(alloc: Global, word: Option<&[u8]>) -> Result<Option<Kept>, AllocError>
     ensures { IfOk result (λ octets. option_map octets_kept octets ≡ spelled (option_copied word.entry)) }
@@ -66,7 +66,7 @@ fn user_data_of(alloc: Global, word: Option<&[u8]>) -> Result<Option<Kept>, Allo
     user_data_in(alloc, word)
 }
 
-/// The octets of user data, where there is some.
+/// The octets of user data, if there is any.
 #[inline(always)]
 fn octets_in(user_data: &Option<Kept>) -> Option<&[u8]>
     ensures { option_copied result ≡ option_map octets_kept user_data.now }
@@ -80,7 +80,7 @@ fn octets_in(user_data: &Option<Kept>) -> Option<&[u8]>
 }
 
 impl<'l> Line<'l> {
-    /// Reads the user data of a line, of which the end is left out.
+    /// Reads the user data of a line. The line is given without its line end.
     #[inline(always)]
     pub fn read(alloc: Global, octets: &'l [u8]) -> Result<Line<'l>, AllocError>
         ensures { IfOk result (λ line. line_command line ≡ command_of octets.entry.now) }
@@ -90,7 +90,7 @@ impl<'l> Line<'l> {
         Ok(Line { front, user_data })
     }
 
-    /// What the line asks for; `None` where it spells nothing that can be asked for.
+    /// What the line asks for; `None` if it is no command.
     #[inline(always)]
     pub fn command(&self) -> Option<Command<'_>>
         ensures { option_map command_by result ≡ line_command self.now }

@@ -6,7 +6,7 @@ ghost use Rattle.osi_script.specs.Names.{open_error_name, call_error_name, unit_
 use osi_carrier::OpenError;
 use osi_session::{CallError, Phase, UnitFault};
 
-/// Why no connection was asked for.
+/// The name of the reason why no connection was requested.
 pub(crate) fn open_error(error: OpenError) -> &'static str
     ensures value { result.now ≡ open_error_name error }
     ensures short { length result.now ≤ 16 }
@@ -22,7 +22,7 @@ pub(crate) fn open_error(error: OpenError) -> &'static str
     }
 }
 
-/// Why a call was refused.
+/// The name of the reason why a call was refused.
 #[tactic(auto, unfolding(crate::specs::Names::call_error_name))]
 pub(crate) fn call_error(error: CallError) -> &'static str
     ensures value { result.now ≡ call_error_name error }
@@ -43,7 +43,7 @@ pub(crate) fn call_error(error: CallError) -> &'static str
     }
 }
 
-/// Why a unit that came is bad.
+/// The name of a received unit's fault.
 pub(crate) fn unit_fault(fault: UnitFault) -> &'static str
     ensures value { result.now ≡ unit_fault_name fault }
     ensures short { length result.now ≤ 16 }
@@ -60,7 +60,7 @@ pub(crate) fn unit_fault(fault: UnitFault) -> &'static str
     }
 }
 
-/// Where a connection stands.
+/// The name of a phase.
 #[tactic(auto, unfolding(crate::specs::Names::phase_name))]
 pub(crate) fn phase(phase: Phase) -> &'static str
     ensures value { result.now ≡ phase_name phase }

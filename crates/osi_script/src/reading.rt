@@ -1,4 +1,4 @@
-//! The lines of a script that are no calls, read.
+//! Reading the lines of a script that are not calls.
 
 ghost use Rattle.std.specs.Prelude.{◌≡◌, option_map, option_copied};
 ghost use Rattle.osi_script.specs.Commands.{command_by, two_ends, ends_of, connecting, connect_of, carry_of, break_of, told_of, named_call, user_call, command_in};
@@ -9,7 +9,7 @@ use crate::commands::Command;
 use crate::splitting::Words;
 use crate::words::{classes, is, number, serial, side, size, sizes, units, verb, window, wishes};
 
-/// The greatest count of octets.
+/// The largest count of octets.
 pub(crate) const MOST_OCTETS: u32 = 4_294_967_295;
 
 /// Two ends of these classes, size and window.
@@ -109,7 +109,7 @@ fn told<'a>(words: Words) -> Option<Command<'a>>
     Some(Command::Told { side })
 }
 
-/// A call of this side on this connection, by the name of its verb and the words behind it.
+/// A call of this side on this connection, by the word for its verb and the words after it.
 #[tactic(auto, unfolding(crate::specs::Commands::named_call))]
 fn named_call<'a>(
     first: &[u8],
@@ -142,7 +142,7 @@ fn call<'a>(first: &[u8], mut words: Words, octets: Option<&'a [u8]>) -> Option<
     named_call(first, connection, name, words, octets)
 }
 
-/// What a line with these words asks for, of which the one in the place of user data spells this.
+/// What a line with these words asks for, if the user data word spells these octets.
 #[inline(never)]
 #[tactic(auto, unfolding(crate::specs::Commands::command_in))]
 pub(crate) fn command<'a>(mut words: Words, octets: Option<&'a [u8]>) -> Option<Command<'a>>

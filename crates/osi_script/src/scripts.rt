@@ -1,4 +1,4 @@
-//! A text, cut into lines.
+//! Cutting a text into lines.
 
 ghost use Rattle.std.specs.Prelude.{◌≡◌, ◌∷◌, []};
 ghost use Rattle.std.specs.Option.{option_map_or};
@@ -6,8 +6,7 @@ ghost use Rattle.osi_script.specs.Scripts.{lines_of, is_skipped};
 
 use memchr::memchr;
 
-/// The first line of a text without its end, the octet 0A, and the text behind that end where there is
-/// one.
+/// The first line of a text without its end, the octet 0A, and the text after that end if there is one.
 #[tactic(auto, using(crate::proofs::LineEnds::no_end, crate::proofs::LineEnds::first_end, crate::proofs::LineEnds::end_within))]
 pub fn first_line(text: &[u8]) -> (&[u8], Option<&[u8]>)
     ensures { lines_of text.now

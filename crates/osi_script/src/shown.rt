@@ -1,4 +1,4 @@
-//! The lines of a transcript for what users are shown.
+//! The lines of a transcript for indications.
 
 ghost use Rattle.std.specs.Prelude.{◌≡◌, ◌+◌, ◌*◌, ◌≤◌, ◌++◌, codes, length, vec_len, vec_capacity, IfSome, OnOk, OnErr, option_copied};
 ghost use Rattle.std.specs.Fmt.{decimal};
@@ -213,7 +213,7 @@ fn put_cause(text: Vec<u8>, cause: AbortCause) -> Vec<u8>
     }
 }
 
-/// The fields of a connection that is asked for or accepted, for which there is room; nothing of another indication.
+/// The fields of a connection that is requested or accepted, for which there is room; nothing for any other indication.
 #[tactic(auto, unfolding(crate::specs::Shown::opened_fields))]
 fn put_opened(text: Vec<u8>, indication: &Indication) -> Vec<u8>
     requires { vec_len text + 64 ≤ vec_capacity text }
@@ -297,7 +297,7 @@ fn put_fields(text: Vec<u8>, indication: &Indication) -> Vec<u8>
     }
 }
 
-/// The user data of an indication that has some.
+/// The user data of an indication, if it has any.
 #[inline(always)]
 #[tactic(auto, unfolding(crate::specs::Shown::shown_octets))]
 fn user_data(indication: &Indication) -> Option<&Octets>
@@ -325,7 +325,7 @@ fn user_data(indication: &Indication) -> Option<&Octets>
     }
 }
 
-/// What stands in front of the user data of an indication.
+/// The text before the user data of an indication.
 #[inline(always)]
 fn put_data_word(text: Vec<u8>, indication: &Indication) -> Vec<u8>
     requires { vec_len text + 6 ≤ vec_capacity text }
@@ -339,7 +339,7 @@ fn put_data_word(text: Vec<u8>, indication: &Indication) -> Vec<u8>
     }
 }
 
-/// Room for a line with this user data; none where so many octets cannot be counted.
+/// The room needed for a line with this user data; `None` if it exceeds the largest count.
 #[inline(always)]
 fn room(user_data: Option<&Octets>) -> Option<usize>
     ensures { IfSome result (λ octets. octets ≡ digits_of (option_copied user_data.entry) + 192) }
@@ -350,7 +350,7 @@ fn room(user_data: Option<&Octets>) -> Option<usize>
     }
 }
 
-/// Adds octets in hexadecimal or a dash where there is none, for which there is room.
+/// Adds octets in hexadecimal or a dash if there is none, for which there is room.
 #[inline(always)]
 #[tactic(auto, unfolding(crate::specs::Texts::data_text))]
 fn put_data(text: Vec<u8>, octets: &[u8]) -> Vec<u8>
@@ -366,7 +366,7 @@ fn put_data(text: Vec<u8>, octets: &[u8]) -> Vec<u8>
     }
 }
 
-/// Adds how many octets a TSDU of each side may have, where one of them has a limit, for which there is room.
+/// Adds the largest TSDU of each side, if one of them has a limit, for which there is room.
 #[tactic(auto, unfolding(crate::specs::Shown::sizes_field))]
 fn put_sizes(text: Vec<u8>, sizes: TsduMaximumSize) -> Vec<u8>
     requires { vec_len text + 47 ≤ vec_capacity text }
@@ -382,7 +382,7 @@ fn put_sizes(text: Vec<u8>, sizes: TsduMaximumSize) -> Vec<u8>
     put_number(text, u64::from(sizes.from_answerer))
 }
 
-/// Adds what stands behind the user data of a connection that is asked for or accepted, for which there is room.
+/// Adds the text after the user data of a connection that is requested or accepted, for which there is room.
 #[inline(always)]
 #[tactic(auto, unfolding(crate::specs::Shown::shown_sizes))]
 fn put_shown_sizes(text: Vec<u8>, indication: &Indication) -> Vec<u8>
@@ -399,7 +399,7 @@ fn put_shown_sizes(text: Vec<u8>, indication: &Indication) -> Vec<u8>
     }
 }
 
-/// Adds the user data of an indication, where it has some, for which there is room.
+/// Adds the user data of an indication, if it has any, for which there is room.
 #[inline(always)]
 fn put_user_data(text: Vec<u8>, indication: &Indication, user_data: Option<&Octets>) -> Vec<u8>
     requires { vec_len text + digits_of (option_copied user_data) + 7 ≤ vec_capacity text }
@@ -416,8 +416,7 @@ fn put_user_data(text: Vec<u8>, indication: &Indication, user_data: Option<&Octe
     }
 }
 
-/// Adds the user data of an indication, where it has some, what stands behind it, and the end of its line, for which
-/// there is room.
+/// Adds the user data of an indication, if it has any, the text after it, and the line end, for which there is room.
 #[inline(always)]
 fn put_end(text: Vec<u8>, indication: &Indication, user_data: Option<&Octets>) -> Vec<u8>
     requires value { option_copied user_data ≡ shown_octets (shown_by indication.now) }
@@ -444,8 +443,8 @@ fn put_head(text: Vec<u8>, side: Side, reference: u16, indication: &Indication) 
     put_name(text, indication)
 }
 
-/// Adds the line of what the user of a side is shown of a connection to a transcript, which is left as
-/// it is where there is no memory.
+/// Adds the line of an indication that the user of a side receives for a connection. If memory runs out, the transcript
+/// stays as it was.
 #[tactic(auto, using(crate::proofs::Pieces::line_joined), unfolding(crate::specs::Shown::shown_line, crate::specs::Shown::shown_text))]
 pub fn push_indication(
     alloc: Global,
@@ -463,7 +462,8 @@ pub fn push_indication(
         return Err(AllocError);
     };
     out.reserve(room)?;
-    // While it is written the text is a value of this function: no octet of it can be taken for its length.
+    // While it is written, the text is owned by this function; so the compiler knows that no store to it changes its
+    // length.
     let text = mem::replace(out, Vec::new(alloc));
     let text = put_head(text, side, reference, indication);
     let text = put_fields(text, indication);

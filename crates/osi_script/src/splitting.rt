@@ -1,4 +1,4 @@
-//! Where a line is parted into words: at each blank.
+//! Splitting a line into words at each blank.
 
 ghost use Rattle.std.specs.Prelude.{◌≡◌, ◌-◌, ◌∷◌, [], length, option_copied, Some, IfSome, IfNone};
 ghost use Rattle.std.specs.List.{slice_get};
@@ -10,7 +10,7 @@ ghost use Rattle.osi_script.specs.Splitting.{words_in};
 
 use memchr::memrchr;
 
-/// The index of the first blank of a line. A word has few octets: a search in groups of 16 would take longer.
+/// The index of the first blank of a line. Words are short, so a search in groups of 16 would be slower.
 fn first_blank(line: &[u8]) -> Option<usize>
     ensures { IsFirstByte (is_byte 32) line.now result }
 {
@@ -24,7 +24,7 @@ fn first_blank(line: &[u8]) -> Option<usize>
     None
 }
 
-/// The first word of a line, and what stands behind the blank that ends it, where there is one.
+/// The first word of a line, and the text after the blank that ends it, if there is one.
 #[tactic(auto, using(crate::proofs::Blanks::no_blank, crate::proofs::Blanks::first_blank, crate::proofs::Blanks::blank_within))]
 pub(crate) fn first_word(line: &[u8]) -> (&[u8], Option<&[u8]>)
     ensures { words_of line.now
@@ -40,7 +40,7 @@ pub(crate) fn first_word(line: &[u8]) -> (&[u8], Option<&[u8]>)
     }
 }
 
-/// The first word of a line and what stands behind it, where the line has a second word.
+/// The first word of a line and the text after it, if the line has a second word.
 pub(crate) fn parted(line: &[u8]) -> Option<(&[u8], &[u8])>
     ensures { IfSome result (λ parts. words_of line.now ≡ parts.0.now ∷ words_of parts.1.now) }
 {
@@ -51,7 +51,7 @@ pub(crate) fn parted(line: &[u8]) -> Option<(&[u8], &[u8])>
     }
 }
 
-/// The last word of a line: what stands behind its last blank.
+/// The last word of a line: the text after its last blank.
 #[tactic(auto, using(crate::proofs::Blanks::no_last_blank, crate::proofs::Blanks::last_blank, crate::proofs::Blanks::last_blank_within))]
 pub(crate) fn last_word(line: &[u8]) -> &[u8]
     ensures { slice_get (words_of line.now) (length (words_of line.now) - 1) ≡ Some result.now }
@@ -65,7 +65,7 @@ pub(crate) fn last_word(line: &[u8]) -> &[u8]
     }
 }
 
-/// The words of a line that were not read yet.
+/// The words of a line that have not been read.
 #[derive(Clone, Copy)]
 pub(crate) struct Words<'l> {
     rest: Option<&'l [u8]>,
@@ -79,7 +79,7 @@ impl<'l> Words<'l> {
         Words { rest: Some(line) }
     }
 
-    /// Reads the next word, where there is one.
+    /// Reads the next word, if there is one.
     pub(crate) fn next_word(&mut self) -> Option<&'l [u8]>
         ensures some { IfSome result (λ word. words_in self.old ≡ word.now ∷ words_in self.new) }
         ensures none { IfNone result (words_in self.old ≡ []) }
@@ -92,7 +92,7 @@ impl<'l> Words<'l> {
         Some(word)
     }
 
-    /// The one word that is left, where just one is.
+    /// The word that is left, if exactly one is.
     #[tactic(auto, unfolding(crate::specs::Words::only_word))]
     pub(crate) fn only(mut self) -> Option<&'l [u8]>
         ensures { option_copied result ≡ only_word (words_in self.entry) }
@@ -104,7 +104,7 @@ impl<'l> Words<'l> {
         }
     }
 
-    /// The first of the words that are left, where just two are.
+    /// The first of the words that are left, if exactly two are.
     #[tactic(auto, unfolding(crate::specs::Words::only_word, crate::specs::Words::first_of_two))]
     pub(crate) fn first_of_two(mut self) -> Option<&'l [u8]>
         ensures { option_copied result ≡ first_of_two (words_in self.entry) }
@@ -116,7 +116,7 @@ impl<'l> Words<'l> {
         }
     }
 
-    /// The last word, where there is one.
+    /// The last word, if there is one.
     pub(crate) fn last(self) -> Option<&'l [u8]>
         ensures { option_copied result ≡ last_of (words_in self.entry) }
     {

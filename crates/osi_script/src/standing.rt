@@ -1,4 +1,4 @@
-//! The lines of a transcript for where connections stand.
+//! The lines of a transcript for the states of connections.
 
 ghost use Rattle.std.specs.Prelude.{◌≡◌, ◌+◌, ◌≤◌, ◌++◌, vec_len, vec_capacity, OnOk, OnErr};
 ghost use Rattle.osi_script.specs.Standing.{standing_line, standing_numbers, standing_text};
@@ -12,7 +12,7 @@ use osi_spdu::TokenSet;
 use std::alloc::{AllocError, Global};
 use std::mem;
 
-/// Where a connection stands at one side.
+/// The state of a connection at one side.
 #[derive(Clone, Copy)]
 pub struct Standing {
     /// The side.
@@ -61,8 +61,7 @@ fn put_numbers(text: Vec<u8>, standing: &Standing) -> Vec<u8>
     put_decimal(text, u64::from(standing.lowest_restart))
 }
 
-/// Adds the line of where a connection stands to a transcript, which is left as it is where there is
-/// no memory.
+/// Adds the line of the state of a connection to a transcript; if memory runs out, the transcript stays as it was.
 #[tactic(auto, unfolding(crate::specs::Standing::standing_line))]
 pub fn push_standing(
     alloc: Global,

@@ -11,11 +11,11 @@ use crate::sides::Side as End;
 use osi_session::Sides;
 use osi_spdu::{Side, TokenSetting, Wish};
 
-/// More octets than a line has besides its user data.
+/// An upper bound on the octets of a line without its user data.
 pub(crate) const LINE: usize = 192;
 
-/// Adds octets, for which there is room, one by one: where their number is known, as that of a word that stands in
-/// the code, they are one store or two.
+/// Adds octets one by one, for which there is room. If their number is known when the code is compiled, as for a
+/// literal, this becomes one or two stores.
 #[inline(always)]
 fn put_octets(text: Vec<u8>, octets: &[u8]) -> Vec<u8>
     requires { vec_len text + length octets.now ≤ vec_capacity text }
@@ -30,7 +30,7 @@ fn put_octets(text: Vec<u8>, octets: &[u8]) -> Vec<u8>
     text
 }
 
-/// Adds one of many words, for which there is room.
+/// Adds one of several words, for which there is room.
 #[inline(always)]
 pub(crate) fn put_word(text: Vec<u8>, word: &str) -> Vec<u8>
     requires { vec_len text + length word.now ≤ vec_capacity text }
@@ -85,7 +85,7 @@ fn put_digit(text: Vec<u8>, digit: u8) -> Vec<u8>
     text
 }
 
-/// Adds a number of many digits in decimal, for which there is room.
+/// Adds a number with many digits in decimal, for which there is room.
 #[inline(always)]
 fn put_digits(text: Vec<u8>, number: u64) -> Vec<u8>
     requires { vec_len text + 20 ≤ vec_capacity text }
@@ -97,7 +97,7 @@ fn put_digits(text: Vec<u8>, number: u64) -> Vec<u8>
     put_word(text, digits.format(number))
 }
 
-/// Adds a number of one digit or two in decimal, for which there is room.
+/// Adds a number with one or two digits in decimal, for which there is room.
 #[inline(always)]
 #[tactic(auto, using(crate::proofs::Decimals::digits_joined))]
 fn put_tens(text: Vec<u8>, number: u64) -> Vec<u8>
@@ -206,7 +206,7 @@ fn letter_of_side(side: Side) -> u8
     }
 }
 
-/// The letter of the side that is wished for each token.
+/// The letters of the sides wished for as the holder of each token.
 pub(crate) fn letters_of_wishes(wishes: TokenSetting) -> [u8; 4]
     ensures { result ≡ wishes_text wishes }
 {
@@ -218,7 +218,7 @@ pub(crate) fn letters_of_wishes(wishes: TokenSetting) -> [u8; 4]
     ]
 }
 
-/// The letter of the side that holds each token.
+/// The letters of the sides that hold each token.
 pub(crate) fn letters_of_sides(sides: Sides) -> [u8; 4]
     ensures { result ≡ sides_text sides }
 {

@@ -39,7 +39,7 @@ pub(crate) fn is(word: &[u8], name: &str) -> bool
     true
 }
 
-/// The number that digits spell behind others, if it is not above a bound.
+/// The number of some digits followed by one more, if it is at most a bound.
 #[tactic(auto, using(crate::proofs::Numerals::no_digit, crate::proofs::Numerals::no_digit_above, crate::proofs::Numerals::too_great, crate::proofs::Numerals::one_digit))]
 fn next_number(number: u64, digit: u8, most: u32) -> Option<u64>
     requires { number ≤ most }
@@ -58,7 +58,7 @@ fn next_number(number: u64, digit: u8, most: u32) -> Option<u64>
     Some(next)
 }
 
-/// The number that decimal digits spell, if it is not above a bound.
+/// The number that decimal digits spell, if it is at most a bound.
 #[tactic(auto, using(crate::proofs::Numerals::number_end), unfolding(crate::specs::Words::number_to))]
 pub(crate) fn number(word: &[u8], most: u32) -> Option<u32>
     ensures value { result ≡ number_to most word.now }
@@ -116,7 +116,7 @@ pub(crate) fn serial(word: &[u8]) -> Option<Serial>
     Serial::new(number(word, 999_999)?)
 }
 
-/// How many octets a TSDU may have, 64 to 65,535; 0 for no limit.
+/// The largest TSDU in octets, 64 to 65,535; 0 for no limit.
 fn tsdu_size(word: &[u8]) -> Option<TsduSize>
     ensures { option_map octets_of_size result ≡ tsdu_size_of word.now }
 {
@@ -124,7 +124,7 @@ fn tsdu_size(word: &[u8]) -> Option<TsduSize>
     TsduSize::new(octets as u16)
 }
 
-/// The sizes that the words behind user data say: two, or none where no word is there.
+/// The sizes in the words after user data: two words, or none.
 #[tactic(auto, unfolding(crate::specs::Words::sizes_of))]
 pub(crate) fn sizes(mut words: Words) -> Option<TsduSizes>
     ensures { option_map named_by result ≡ sizes_of (words_in words.entry) }
@@ -200,7 +200,7 @@ pub(crate) fn answer(word: &[u8]) -> Option<bool>
     None
 }
 
-/// What a call asks for.
+/// The verb of a call.
 #[tactic(auto, unfolding(crate::specs::Words::verb_of))]
 pub(crate) fn verb(word: &[u8]) -> Option<Verb>
     ensures { result ≡ verb_of word.now }
@@ -237,7 +237,7 @@ fn settled_side(letter: u8) -> Option<osi_spdu::Side>
     }
 }
 
-/// The side that is wished for each token, by their letters.
+/// The side wished for as the holder of each token, by their letters.
 #[tactic(auto, unfolding(crate::specs::Words::wishes_of))]
 fn wished(data_token: u8, minor: u8, major: u8, release: u8) -> Option<TokenSetting>
     ensures { result ≡ wishes_of (data_token ∷ minor ∷ major ∷ release ∷ []) }
@@ -250,7 +250,7 @@ fn wished(data_token: u8, minor: u8, major: u8, release: u8) -> Option<TokenSett
     })
 }
 
-/// The side that is wished for each token, a letter for each.
+/// The side wished for as the holder of each token, a letter for each.
 #[tactic(auto, unfolding(crate::specs::Words::wishes_of))]
 pub(crate) fn wishes(word: &[u8]) -> Option<TokenSetting>
     ensures { result ≡ wishes_of word.now }

@@ -1,4 +1,4 @@
--- Units behind the first one, given one after the other.
+-- Units after the first one, given one after the other.
 use Rattle.std.proofs.Common.{◌≡◌, ℕ, zero, suc, ◌-◌, ◌≤◌, ◌==◌, ◌&&◌, ◌||◌, not, true, false, List, [], ◌∷◌, length, get_or, Option, Some, None, Result, Ok, Err, refl, sym, ap, subst, ◌∙◌, arith}
 use Rattle.osi_spdu.proofs.Vocabulary.{is_ok, AllByRecursion, result_unwrap_or, and_parts, or_right, eq-eqb, SpduFault, Kind, Category, Zero, One, Two, kind_named, category_of, may_stand, Units, ◌>>=◌, Next, next_at, behind_at, crowded, takes_rest, is_zero, is_joined, IsFormedUnit, left_at, AreLeft, is_behind}
 use Rattle.osi_spdu.proofs.UnitsLaws.{left_read}
@@ -52,7 +52,7 @@ left_more room at octets n one some e formed left =
     let read : behind_at room at octets ≡ Ok (n.unit ∷ units) = behind_goes room at octets n one some e ∙ ap (with_first n) (left_read (room - 1) n.end n.rest left.readable) in
     are_left room at octets (n.unit ∷ units) read (formed, left.formed)
 
--- the first of the units that are left, and those behind it
+-- the first of the units that are left, and those after it
 pub record GoesOn (room at : ℕ) (octets : List ℕ) (n : Next) : Type 0 where
   pub some : 1 ≤ room
   pub left : AreLeft (room - 1) n.end n.rest
@@ -84,7 +84,7 @@ left_never_bad room at octets f h0 h1 h2 = grind (arith, room_left, behind_bad)
 
 -- ---- reading on, as a loop does
 
--- what is said of the octets from here on goes for those from the start
+-- a result for the octets from here on is the result for those from the start
 pub record Leads (whole start : ℕ) (octets : List ℕ) (room at : ℕ) (rest : List ℕ) : Type 0 where
   pub left : AreLeft room at rest → AreLeft whole start octets
   pub refused : (f : SpduFault) → behind_at room at rest ≡ Err f → behind_at whole start octets ≡ Err f
@@ -99,7 +99,7 @@ leads_next whole start octets room at rest n leads one some e formed = record {
   refused = λ f h. leads.refused f (behind_goes room at rest n one some e ∙ ap (with_first n) h);
 }
 
--- ---- one unit and those behind it
+-- ---- one unit and those after it
 
 pub one_stands : (kind : Kind) → category_of kind ≡ Two → is_behind (Some kind) [] ≡ true
 unfolding is_behind may_stand

@@ -103,7 +103,7 @@ unit_formed u = record {
   informed = informed_from u.kind u.information.now u.informed;
 }
 
--- ---- the units behind the first
+-- ---- the units after the first
 
 follow_none : (category : Category) → may_stand false category ≡ true → MayFollow category []
 unfolding may_stand
@@ -130,7 +130,7 @@ nothing_left : (room at : ℕ) (octets : List ℕ) → octets ≡ [] → left_at
 unfolding left_at behind_at
 nothing_left room at octets e = ap (left_at room at) e
 
--- a unit that may stand behind another, with those behind it
+-- a unit that may stand after another, with those after it
 behind_stands : (kind : Kind) (room at : ℕ) (octets : List ℕ) → is_behind (Some kind) octets ≡ true → (category_of kind ≡ Two) × EndsTsdu kind (left_at room at octets)
 unfolding is_behind
 behind_stands kind room at octets e =
@@ -142,7 +142,7 @@ behind_stands kind room at octets e =
       ],
     )
 
--- the units behind the first one
+-- the units after the first one
 pub record IsFormedBehind (units : Units) : Type 0 where
   pub formed : AllByRecursion IsFormedUnit units
   pub behind : AreBehind units
@@ -188,7 +188,7 @@ first_stands first next h0 = grind (arith, and_parts)
 pub group_plain : (g : Group) → g.first.information.now ≡ []
 group_plain g = first_alone g.first.kind g.first.information.now (first_stands g.first.kind (option_map (λ s. s.kind) g.behind.next) g.joined) (unit_formed g.first).informed
 
--- what a group is written as spells it, and is read as it
+-- the written form of a group spells it and reads back as it
 pub group_spelled : (g : Group) → TsduFits (units_of g) → IsOctets (tsdu_octets (units_of g)) → SpellsTsdu (units_of g) (tsdu_octets (units_of g))
 group_spelled g fits octets = tsdu_written (units_of g) (group_formed g) fits octets
 

@@ -2,7 +2,7 @@
 use Rattle.std.proofs.Common.{◌⊎◌, inl, inr, ◌≡◌, ℕ, zero, suc, ◌+◌, ◌-◌, ◌*◌, ◌/◌, ◌%◌, ◌^◌, ◌<◌, ◌≤◌, Bool, true, false, ◌&&◌, ltb, leb, eqb, List, [], ◌∷◌, length, get_or, drop, Option, Some, None, refl, sym, ap, ◌∙◌, arith}
 use Rattle.osi_spdu.proofs.Vocabulary.{list_all, cases_Bool, and_parts, and_from, and_left, and_right, eqb-true, eq-eqb, ne_eqb, le-leb, lt-ltb, lt-leb, le-ltb, drop_more, drop_all, length-drop, common_steps, significant, six_digits, digits_of, decimal_from, decimal, is_digit, is_numeral, numeral}
 
--- a zero in front goes
+-- a leading zero is dropped
 pub significant_step : (xs : List ℕ) (i : ℕ) → i + 1 < length xs → get_or xs i 0 ≡ 48 → significant (drop (i + 1) xs) ≡ significant (drop i xs)
 unfolding significant
 significant_step xs i lt e =
@@ -13,7 +13,7 @@ significant_step xs i lt e =
     let whole : drop i xs ≡ get_or xs i 0 ∷ get_or xs (i + 1) 0 ∷ drop (i + 1 + 1) xs = one ∙ ap (λ (t : List ℕ). get_or xs i 0 ∷ t) two in
     ap significant two ∙ sym (ap significant whole ∙ rw yes refl)
 
--- another digit stays, and so does the last
+-- any other digit stays, and so does the last
 pub significant_end : (xs : List ℕ) (i : ℕ) → i < length xs → (i + 1 < length xs → get_or xs i 0 ≡ 48 → ⊥) → significant (drop i xs) ≡ drop i xs
 unfolding significant
 significant_end xs i lt h = ends (drop i xs) refl
@@ -37,7 +37,7 @@ pow_small _ h = omega arith
 abbrev all_digits : List ℕ → Bool
 all_digits xs = list_all is_digit xs
 
--- what a loop over digits keeps
+-- the invariant of the loop over digits
 pub record IsReading (digits : List ℕ) (i number : ℕ) : Type 0 where
   pub value : decimal_from number (drop i digits) ≡ decimal digits
   pub good : list_all is_digit (drop i digits) ≡ list_all is_digit digits

@@ -1,4 +1,4 @@
--- The first fault of parameters, units and TSDUs is the one that reading answers.
+-- The first fault of parameters, units and TSDUs is the one that reading returns.
 use Rattle.std.proofs.Common.{◌⊎◌, inl, inr, ◌≡◌, ℕ, zero, suc, ◌+◌, ◌*◌, ◌/◌, ◌%◌, ◌<◌, ◌≤◌, Bool, true, false, cond, ltb, eqb, List, [], ◌∷◌, ◌++◌, length, map, take, drop, Option, Some, None, Result, Ok, Err, refl, sym, ap, subst, ◌∙◌, append_assoc, add-zero, arith}
 use Rattle.osi_spdu.proofs.Vocabulary.{is_some, flat_map, AllByRecursion, length-append, drop_at, IsOctets, SpduFault, LengthPastEnd, DuplicateParameter, BadValue, MissingParameter, Code, Kind, number_of, is_group, slot_of, codes_of, members_of, canonical_in, Known, nothing, put, ◌>>=◌, Measured, counted_at, long_at, measured_at, Taking, params_at, params_of, code_among, judged, stored, member_taken, in_group, parameter_taken, in_unit, all_there, length_octets, Part, part_octets, Sole, IsPart, MeansInGroup, MeansInUnit, indicator_len, HasNoValue, IsValueFault, Failing, IsItemFault, IsLevelFault, FailsInGroup, FailsInUnit, IsFirstMissing}
 use Rattle.osi_spdu.proofs.OptionLaws.{merged, sole_one, sole_same, sole_back, sole_step, sole_joins}
@@ -42,7 +42,7 @@ measured_bad at (n ∷ octets) f e =
       | inr q ↦ counted_bad at 1 n octets f q.1
     ]
 
--- a length that cannot be read is there in no form
+-- a length that can't be read is there in no form
 pub no_value : (at : ℕ) (octets : List ℕ) (f : SpduFault) → measured_at at octets ≡ Err f → HasNoValue octets
 no_value at octets f h0 = grind (arith, indicator_len, measured_again, never)
 
@@ -83,7 +83,7 @@ stored_fails kind at c value known f h0 = grind arith
 
 -- ---- a level
 
--- how a level reads one parameter fails as its table of faults says
+-- the faults of reading one parameter at a level are those of the table of faults
 record Fails (taking : Taking) (failing : Failing) : Type 0 where
   fails : (at body code : ℕ) (value : List ℕ) (known : Known) (f : SpduFault) → IsOctets value → taking at body code value known ≡ Err f → failing at body code value known f
   back : (at body code : ℕ) (value : List ℕ) (known : Known) (f : SpduFault) → IsOctets value → failing at body code value known f → taking at body code value known ≡ Err f
@@ -102,7 +102,7 @@ fault_here means failing at before octets f bad = record {
   bad = subst (λ (k : ℕ). IsItemFault failing k octets before f) (sym (add-zero at)) bad;
 }
 
--- a fault behind a parameter
+-- a fault after a parameter
 fault_later : (means : ℕ → List ℕ → Known → Type 0) (failing : Failing) (at : ℕ) (before mid : Known) (p : Part) (octets rest : List ℕ) (f : SpduFault) → octets ≡ part_octets p ++ rest → IsPart means p → JoinsAll p.gives before mid
     → Level means failing (at + length (part_octets p)) mid rest f → Level means failing at before octets f
 fault_later means failing at before mid p octets rest f whole is joins level =
@@ -309,7 +309,7 @@ unit_level_found kind at octets f fits e = level_found (in_unit kind) (MeansInUn
 pub unit_level_only : (kind : Kind) (at : ℕ) (octets : List ℕ) (f : SpduFault) → IsOctets octets → IsLevelFault (MeansInUnit kind) (FailsInUnit kind) at nothing octets f → params_of (in_unit kind) at nothing octets ≡ Err f
 unit_level_only kind at octets f fits level = level_only (in_unit kind) (MeansInUnit kind) (FailsInUnit kind) (unit_follows kind) (unit_fails kind) at nothing octets f fits level
 
--- ---- what must be there
+-- ---- mandatory parameters
 
 pub missing_found : (at : ℕ) (codes : List Code) (known : Known) (f : SpduFault) → all_there at codes known ≡ Err f → IsFirstMissing at codes known f
 unfolding all_there

@@ -1,4 +1,4 @@
--- The first fault of a unit is the one that reading answers.
+-- The first fault of a unit is the one that reading returns.
 use Rattle.std.proofs.Common.{inl, inr, ◌≡◌, ℕ, ◌+◌, Bool, true, false, cond, List, [], ◌∷◌, ◌++◌, length, Option, Some, None, Result, Ok, Err, refl, sym, ap, subst, ◌∙◌, arith}
 use Rattle.osi_spdu.proofs.Vocabulary.{flat_map, cases_Bool, length-append, IsOctets, SpduFault, UnknownSi, LengthPastEnd, BadConcatenation, Kind, category_of, required_of, kind_named, may_stand, Known, nothing, settled, ◌>>=◌, Measured, measured_at, params_of, in_unit, all_there, Placed, placed_kind, unit_at, length_octets, part_octets, Spells, MeansInUnit, indicator_len, FailsInUnit, IsLevelFault, IsBodyFault, IsNamedFault, IsUnitFault}
 use Rattle.osi_spdu.proofs.StepLaws.{bind_ok, bind_of, ok_is}
@@ -20,7 +20,7 @@ value_in kind at m = params_of (in_unit kind) (at + (1 + m.used)) nothing m.valu
 abbrev body_in : Kind → ℕ → List ℕ → Result Placed SpduFault
 body_in kind at octets = measured_at at octets >>= λ m. value_in kind at m
 
--- ---- what is answered is the first
+-- ---- the fault returned is the first
 
 required_found : (kind : Kind) (at : ℕ) (m : Measured) (raw : Known) (f : SpduFault) (r : Result Known SpduFault) → all_there at (required_of kind) raw ≡ r → (r >>= λ whole. Ok (placed kind at m whole)) ≡ Err f
     → all_there at (required_of kind) raw ≡ Err f
@@ -53,7 +53,7 @@ unfolding unit_at
 unit_fault_found second at [] f fits e = sym (fault_is Placed (LengthPastEnd at) f e)
 unit_fault_found second at (si ∷ octets) f fits e = named_found second at (kind_named second si) octets f (octets-tail si octets fits) e
 
--- ---- and the first is answered
+-- ---- and the first fault is returned
 
 body_only : (kind : Kind) (at : ℕ) (octets : List ℕ) (f : SpduFault) → IsOctets octets → IsBodyFault kind at octets f → body_in kind at octets ≡ Err f
 body_only kind at octets f fits h =

@@ -1,4 +1,4 @@
--- The first fault of a TSDU is the one that reading answers.
+-- The first fault of a TSDU is the one that reading returns.
 use Rattle.std.proofs.Common.{◌⊎◌, inl, inr, ◌≡◌, ℕ, zero, suc, ◌+◌, ◌≤◌, Bool, true, false, List, [], ◌∷◌, ◌++◌, length, Result, Ok, Err, refl, sym, ap, subst, ◌∙◌, append_assoc, add-zero, arith}
 use Rattle.osi_spdu.proofs.Vocabulary.{AllByRecursion, cases_Bool, length-append, drop_at, IsOctets, SpduFault, TrailingOctets, Category, Zero, One, Two, category_of, kind_named, may_stand, Contents, Units, ◌>>=◌, Placed, unit_at, contents_of, takes_rest, Next, next_if, next_at, behind_at, crowded, ended, continued, tsdu_at, AreBehind, AreUnits, IsUnitFault, IsCrowded, IsFaultBehind, IsFaultAfter, IsFirstFault}
 use Rattle.osi_spdu.proofs.StepLaws.{bind_of}
@@ -21,7 +21,7 @@ ends_at second at octets p fits e front parts =
 behind_octets : (front rest : List ℕ) → IsOctets (front ++ rest) → IsOctets rest
 behind_octets front rest fits = subst IsOctets (drop_at front rest (length front) refl) (octets-drop (length front) (front ++ rest) fits)
 
--- a unit that is no DT, read behind another
+-- a unit that is no DT, read after another
 plain_next : (at : ℕ) (octets : List ℕ) (p : Placed) → unit_at true at octets ≡ Ok p → takes_rest p.kind ≡ false → next_at at octets ≡ Ok (record { unit = contents_of p []; end = p.end; rest = p.rest })
 unfolding next_at
 plain_next at octets p e plain = bind_of (unit_at true at octets) (λ u. Ok (next_if (takes_rest u.kind) u)) p _ e (ap (λ (b : Bool). Ok (next_if b p)) plain)
@@ -56,7 +56,7 @@ ended_only : (end at : ℕ) (rest : List ℕ) (unit : Contents) (f : SpduFault) 
 ended_only end at [] unit f e h = absurd (omega (arith, h.0))
 ended_only end at (b ∷ rest) unit f e h = ap (λ (g : SpduFault). failed {A = Units} g) (ap (λ (k : ℕ). TrailingOctets k) e ∙ sym h.1)
 
--- ---- what is answered is the first
+-- ---- the fault returned is the first
 
 fault_at_once : (room at : ℕ) (octets : List ℕ) (f : SpduFault) → 1 ≤ length octets → ((0 ≡ room) × IsCrowded at octets f) ⊎ ((1 ≤ room) × IsUnitFault true at octets f) → IsFaultBehind room at octets f
 fault_at_once room at octets f some bad = record {
@@ -145,7 +145,7 @@ pub first_fault_found : (octets : List ℕ) (f : SpduFault) → IsOctets octets 
 unfolding tsdu_at
 first_fault_found octets f fits e = tsdu_case octets f fits (unit_at false 0 octets) refl e
 
--- ---- and the first is answered
+-- ---- and the first fault is returned
 
 behind_now : (room at : ℕ) (rest : List ℕ) (f : SpduFault) → 1 ≤ length rest → IsOctets rest → Bad 0 room at rest f → behind_at room at rest ≡ Err f
 unfolding behind_at

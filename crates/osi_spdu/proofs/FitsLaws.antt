@@ -1,4 +1,4 @@
--- What was read fits: its written form is no longer than what was read.
+-- What was read fits: its written form is no longer than the octets that were read.
 use Rattle.std.proofs.Common.{inl, inr, ◌≡◌, ℕ, ◌+◌, ◌/◌, ◌%◌, ◌<◌, ◌≤◌, Bool, true, false, cond, List, [], ◌∷◌, ◌++◌, length, map, Option, Some, None, refl, sym, ap, subst, ◌∙◌, ltb, arith}
 use Rattle.osi_spdu.proofs.Vocabulary.{flat_map, list_any, list_all, AllByRecursion, cases_Bool, or_cases, or_left, or_right, ltb-true, le-ltb, lt-ltb, both_ways, length-append, Code, UserData, ExtendedUserData, Kind, GiveTokens, PleaseTokens, DataTransfer, NotFinished, Finish, Disconnect, Refuse, Connect, Accept, Abort, AbortAccept, ResynchronizeAck, MajorSyncPoint, MajorSyncAck, MinorSyncPoint, MinorSyncAck, Resynchronize, number_of, is_same, is_group, slot_of, every_code, codes_of, members_of, Known, nothing, some_octets, settled, Contents, Units, code_among, length_octets, HasLength, Part, part_octets, Sole, IsPart, Spells, only, MemberOf, MeansInGroup, GroupOf, ParameterOf, KnownOf, MeansInUnit, SpellsUnit, AreUnits, SpellsTsdu, written_item, among, written_code, member_octets, group_octets, value_octets, parameter_octets, body_octets, UnitFits, TsduFits}
 use Rattle.osi_spdu.proofs.OptionLaws.{Joins, first, sole_one, sole_same, sole_split}
@@ -41,7 +41,7 @@ total_zero f (c ∷ codes) h =
     let rest = total_zero f codes (λ d a. h d (or_right (is_same d c) (among codes d) a)) in
     omega arith
 
--- one code alone counts, and it stands once
+-- only one code counts, and it occurs once
 total_one : (f : Code → ℕ) (s : Code) (codes : List Code) → once (λ c e. is_same e c) codes s ≡ true → ((c : Code) → among codes c ≡ true → (c ≡ s → ⊥) → f c ≡ 0) → total f codes ≤ f s
 total_one f s [] single h = omega arith
 total_one f s (c ∷ codes) single h =
@@ -122,7 +122,7 @@ member_add : (m k o : Option (List ℕ)) → Joins m k o → member_cost o ≡ m
 member_add None k o j = (let e = ap member_cost j in omega arith)
 member_add (Some v) k o j = (let a = ap member_cost j.0 in let b = ap member_cost j.1 in omega arith)
 
--- the value of one slot alone
+-- the value of a single slot
 only_cost : (f : Option (List ℕ) → ℕ) (s : Code) (form : List ℕ) (codes : List Code) → f None ≡ 0 → once (λ c e. is_same e c) codes s ≡ true → total (λ c. f (only s form c)) codes ≤ f (Some form)
 only_cost f s form codes none single =
     let h = total_one (λ c. f (only s form c)) s codes single (λ c a n. elim (cases_Bool (is_same c s)) [
@@ -174,7 +174,7 @@ unit_len : (kind : Kind) (known : Known) (c : Code) (o : Option (List ℕ)) → 
 unit_len kind known c None = refl
 unit_len kind known c (Some v) = written_cost (number_of (written_code kind c v)) (value_octets kind known c v)
 
--- two codes of a unit that own one slot are one
+-- two codes of a unit that own the same slot are the same
 one_owner : (kind : Kind) (codes : List Code) (d a b : Code) → once (owns kind) codes d ≡ true → among codes a ≡ true → among codes b ≡ true → owns kind a d ≡ true → owns kind b d ≡ true → a ≡ b
 one_owner kind [] d a b single ha hb oa ob = absurd cc
 one_owner kind (c ∷ codes) d a b single ha hb oa ob =
@@ -192,7 +192,7 @@ one_owner kind (c ∷ codes) d a b single ha hb oa ob =
       ]
     ]
 
--- a value of a group stands only where the group does
+-- a value of a group is there only if the group is
 abbrev KeepsGroups : Kind → Known → Type 0
 KeepsGroups kind known = (g d : Code) (v : List ℕ) → among (codes_of kind) g ≡ true → among (members_of kind g) d ≡ true → known d ≡ Some v → (w : List ℕ) × (known g ≡ Some w)
 
@@ -219,7 +219,7 @@ keeps_groups kind parts raw each sole g d v hg m e =
     let s : Spells (MeansInUnit kind) raw (flat_map part_octets parts) = record { parts = parts; whole = refl; each = each; once = sole } in
     keeps_from kind raw g d hg m (owned kind raw (flat_map part_octets parts) v d s e)
 
--- the members of a group that only one of two values has are those of that one
+-- if only one of two values has a group, its members are those of that value
 members_same : (kind : Kind) (x o : Known) (c : Code) → ((d : Code) → among (members_of kind c) d ≡ true → o d ≡ x d) → length (group_octets kind o c) ≡ length (group_octets kind x c)
 members_same kind x o c h =
     group_len kind o c ∙ total_same (λ d. member_cost (o d)) (λ d. member_cost (x d)) (members_of kind c) (λ d a. ap member_cost (h d a)) ∙ sym (group_len kind x c)
@@ -335,7 +335,7 @@ body_len kind known = grind (arith, total_flat, total_same, part_cost, unit_len)
 octets_less : (o : Option (List ℕ)) → member_cost (some_octets o) ≤ member_cost o
 octets_less o = grind arith
 
--- nothing grows where empty user data goes
+-- nothing grows when empty user data is dropped
 settled_member : (raw : Known) (c : Code) → member_cost (settled raw c) ≤ member_cost (raw c)
 settled_member raw c = grind (arith, cases_Bool, octets_less)
 

@@ -1,4 +1,4 @@
--- What is read has a written form: it holds nothing that its unit does not know, and all that it must have.
+-- Units that are read have a written form: they hold only parameters that they know, and all mandatory ones.
 use Rattle.std.proofs.Common.{◌⊎◌, inl, inr, ◌≡◌, ℕ, Bool, true, false, cond, not, ◌&&◌, ◌||◌, List, [], ◌∷◌, map, Option, Some, None, Ok, refl, sym, ap, subst, ◌∙◌, ltb, arith}
 use Rattle.osi_spdu.proofs.Vocabulary.{is_some, is_none, IsSome, list_any, list_all, AllByRecursion, cases_Bool, and_parts, and_from, or_left, or_right, not-true, IsOctets, Code, ConnectionIdentifier, ConnectAcceptItem, Enclosure, UserData, ExtendedUserData, Kind, Connect, Resynchronize, ResynchronizeAck, MajorSyncPoint, MajorSyncAck, MinorSyncPoint, MinorSyncAck, number_of, is_same, is_group, slot_of, every_code, codes_of, members_of, references_of, required_of, octet_if, as_it_is, canonical, may_have_parts, is_three, may_enclose, canonical_in, Known, settled, Contents, code_among, Placed, contents_of, unit_at, Part, Sole, IsPart, Spells, only, MemberOf, MeansInGroup, GroupOf, ParameterOf, KnownOf, MeansInUnit, SpellsUnit, among, may_be_there, is_enclosed, is_formed}
 use Rattle.osi_spdu.proofs.OptionLaws.{Joins, first, sole_same, sole_split}
@@ -240,7 +240,7 @@ each_test : (p : Code → Bool) (codes : List Code) → ((c : Code) → p c ≡ 
 each_test p [] h = refl
 each_test p (c ∷ codes) h = and_from (p c) (list_all p codes) (h c) (each_test p codes h)
 
--- what must be there is no user data
+-- mandatory parameters are no user data
 required_stay : (raw : Known) (codes : List Code) → list_all (λ c. not (is_same c UserData)) codes ≡ true → AllByRecursion (λ c. IsSome (raw c)) codes → list_all (λ c. is_some (settled raw c)) codes ≡ true
 required_stay raw [] plain there = refl
 required_stay raw (c ∷ codes) plain there =
@@ -269,7 +269,7 @@ unit_formed unit octets s =
     (and_from (list_all (test (settled s.raw)) every_code && list_all (λ c. is_some (settled s.raw c)) (required_of kind)) (is_enclosed kind (settled s.raw Enclosure))
     (and_from (list_all (test (settled s.raw)) every_code) (list_all (λ c. is_some (settled s.raw c)) (required_of kind)) all required) enclosure)
 
--- what is read as a unit is formed
+-- a unit that was read is well formed
 pub placed_formed : (second : Bool) (at : ℕ) (octets : List ℕ) (p : Placed) → IsOctets octets → unit_at second at octets ≡ Ok p → is_formed p.kind p.known ≡ true
 placed_formed second at octets p fits e =
     let is = unit_found second at octets p fits e in

@@ -1,4 +1,4 @@
--- What a group of a unit holds, which is counted once.
+-- The contents of a group of a unit, which are counted once.
 use Rattle.std.proofs.Common.{inl, inr, ◌≡◌, ℕ, zero, suc, ◌<◌, ◌≤◌, true, List, [], ◌∷◌, ◌++◌, length, get_or, Option, Some, None, refl, sym, ap, subst, ltb, arith}
 use Rattle.osi_spdu.specs.declared.writing.GroupLengths.{GroupLengths}
 use Rattle.osi_spdu.proofs.Vocabulary.{is_some, option_map, flat_map, or_cases, or_left, or_right, length-append, Code, ConnectionIdentifier, ConnectAcceptItem, Kind, DataTransfer, Two, is_same, is_group, number_of, codes_of, category_of, Known, Contents, Units, length_octets, AreBehind, held, AreHeld, among, written_item, group_octets, value_octets, parameter_octets, body_octets, written_code}
@@ -65,7 +65,7 @@ no_group kind c h0 h1 h2 = grind (arith, no_references, no_agreement)
 pub none_held : (lens : GroupLengths) → category_of lens.kind ≡ Two → (known : Known) → AreHeld lens known
 none_held lens two known c knows group there = absurd (no_group lens.kind c two group knows)
 
--- a unit behind another is of category 2
+-- a unit after another is of category 2
 pub next_two : (units others : Units) (unit : Contents) → units ≡ unit ∷ others → AreBehind units → category_of unit.kind ≡ Two
 next_two units others unit e behind = (let h : AreBehind (unit ∷ others) = subst AreBehind e behind in h.0)
 

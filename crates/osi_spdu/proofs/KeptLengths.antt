@@ -1,8 +1,8 @@
--- The lengths of units are kept one after the other, as a loop does.
+-- The lengths of units are stored one after the other, by a loop.
 use Rattle.std.proofs.Common.{inl, inr, ◌≡◌, ℕ, zero, suc, ◌+◌, ◌<◌, ◌≤◌, List, [], ◌∷◌, ◌++◌, length, take, drop, get_or, set, refl, sym, ap, subst, ◌∙◌, append_assoc, ltb, arith}
 use Rattle.osi_spdu.proofs.Vocabulary.{cases_Bool, ltb-true, ltb-false, append-nil, length-set, take_more_set, drop_more, drop_all, Contents, Units, body_length, AreLengths}
 
--- the lengths of all units, once those of the units that are left stand behind those that were kept
+-- the lengths of all units are those stored, followed by those of the units that are left
 pub record IsKeeping (lens : List ℕ) (count : ℕ) (units all : Units) : Type 0 where
   pub room : count + length units ≤ 16
   pub size : length lens ≡ 16

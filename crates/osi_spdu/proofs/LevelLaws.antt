@@ -1,15 +1,15 @@
--- Parameters of one level: what is read is spelled so, and what is spelled so is read.
+-- Parameters of one level: reading is sound and complete.
 use Rattle.std.proofs.Common.{◌≡◌, ℕ, zero, suc, ◌+◌, ◌<◌, ◌≤◌, Bool, true, false, cond, List, [], ◌∷◌, ◌++◌, length, map, Option, Some, None, Ok, refl, sym, ap, subst, ◌∙◌, arith}
 use Rattle.osi_spdu.proofs.Vocabulary.{is_some, flat_map, AllByRecursion, length-append, IsOctets, DuplicateParameter, Code, Kind, ConnectionIdentifier, ConnectAcceptItem, number_of, is_same, is_group, slot_of, codes_of, members_of, canonical, may_enclose, canonical_in, Known, nothing, put, ◌>>=◌, Measured, measured_at, Taking, params_at, params_of, code_among, judged, stored, member_taken, in_group, parameter_taken, in_unit, length_octets, Part, part_octets, Sole, IsPart, Spells, only, MemberOf, MeansInGroup, GroupOf, ParameterOf, KnownOf, MeansInUnit}
 use Rattle.osi_spdu.proofs.OptionLaws.{Joins, merged, first, sole_one, sole_same, sole_step, sole_back, sole_joins, sole_split, sole_join, joins_both, joins_apart, put_joins, joins_put, joins_free, joins_merged}
 use Rattle.osi_spdu.proofs.StepLaws.{bind_ok, bind_of, ok_is, guard_ok, is_none_of, none_is, same_true, same_refl}
 use Rattle.osi_spdu.proofs.LengthLaws.{octets-tail, measured_ok, measured_again, indicator_len}
 
--- each slot is as before with what is given
+-- each slot is as before, with what is given added
 abbrev pub JoinsAll : Known → Known → Known → Type 0
 JoinsAll gives before after = (c : Code) → Joins (gives c) (before c) (after c)
 
--- how a level reads one parameter is what one means there
+-- reading one parameter at a level agrees with its meaning
 pub record Follows (taking : Taking) (means : ℕ → List ℕ → Known → Type 0) : Type 0 where
   pub takes : (at body code : ℕ) (value : List ℕ) (known more : Known) → IsOctets value → taking at body code value known ≡ Ok more
       → (gives : Known) × means code value gives × JoinsAll gives known more

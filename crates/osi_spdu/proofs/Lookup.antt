@@ -1,4 +1,4 @@
--- A code that a unit knows is looked up by its number, and then among those that the unit knows.
+-- A code is looked up by its number, and then among the codes that the unit knows.
 use Rattle.std.proofs.Common.{inl, inr, ◌≡◌, ◌≤◌, ◌<◌, ℕ, false, List, [], ◌∷◌, Option, Some, None, refl, sym, ap, ◌∙◌, eqb, if◌then◌else◌, arith}
 use Rattle.osi_spdu.proofs.Vocabulary.{cases_Bool, eqb-true, eqb-false, ne_eqb, Code, number_of, is_same, every_code, code_among, among}
 use Rattle.osi_spdu.proofs.StepLaws.{named, named_back, same_refl}

@@ -1,4 +1,4 @@
--- Reading parameters one after the other, as a loop does.
+-- Reading parameters one after the other, by a loop.
 use Rattle.std.proofs.Common.{inl, inr, ◌≡◌, ℕ, zero, suc, ◌+◌, ◌*◌, ◌<◌, ◌≤◌, true, false, ltb, eqb, List, [], ◌∷◌, length, take, drop, Option, Some, None, Result, Ok, Err, refl, sym, ap, subst, ◌∙◌, arith}
 use Rattle.osi_spdu.proofs.Vocabulary.{is_some, length-drop, SpduFault, LengthPastEnd, DuplicateParameter, BadValue, Code, Kind, Params, number_of, slot_of, canonical_in, Known, ◌>>=◌, Measured, counted_at, long_at, measured_at, parameter_at, Taking, params_at, params_of, judged, stored, place_of, cells_of, filled, slots_of}
 use Rattle.osi_spdu.proofs.StepLaws.{bind_ok, bind_of, ok_is, guard_ok}
@@ -87,7 +87,7 @@ pub params_fault : (taking : Taking) (at : ℕ) (known : Known) (octets : List �
 unfolding parameter_at params_at
 params_fault taking at known octets fault h0 h1 = grind arith
 
--- what a loop keeps: what is left gives what all gives, and ends where all ends
+-- the loop invariant: reading what is left gives the result of reading all
 pub record IsTaking (taking : Taking) (at : ℕ) (known : Known) (rest : List ℕ) (start : ℕ) (before : Known) (octets : List ℕ) : Type 0 where
   pub taken : params_of taking at known rest ≡ params_of taking start before octets
   pub room : at + length rest ≡ start + length octets

@@ -110,7 +110,7 @@ value_weight kind known c v = grind (arith, cases_Bool, cost_weight, group_len, 
 part_weight : (kind : Kind) (known : Known) (c : Code) → part_cost kind known c ≤ weight known c + total (weight known) (members_of kind c)
 part_weight kind known c = grind (arith, unit_cost, total, value_weight)
 
--- each code stands in a unit once at most
+-- each code occurs at most once in a unit
 unit_weight : (kind : Kind) (known : Known) → total (λ c. weight known c + total (weight known) (members_of kind c)) (codes_of kind) ≤ total (weight known) every_code
 unfolding codes_of members_of
 unit_weight GiveTokens known = omega arith

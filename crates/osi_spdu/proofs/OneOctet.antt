@@ -8,12 +8,12 @@ pub octet_if_one : (good : ℕ → Bool) (form : ℕ → ℕ) (v : List ℕ) →
 octet_if_one good form (b ∷ []) low high = refl
 octet_if_one good form _ low high = absurd (omega arith)
 
--- a setting that was read is written as it was
+-- a setting is written as it was read
 pub setting_read : (o : Option TokenSetting) (b : ℕ) → MatchOption o (is_setting b ≡ false) (λ s. (is_setting b ≡ true) × (setting_octets s ≡ b ∷ []))
     → cond (is_setting b) (Some (b ∷ [])) None ≡ option_map setting_octets o
 setting_read None b h = rw h refl
 setting_read (Some s) b h = rw h.0 (ap {B = Option (List ℕ)} (λ x. Some x) (sym h.1))
 
--- bits that were taken away stay away
+-- dropping bits twice is dropping them once
 pub token_bits_again : (b : ℕ) → token_bits (token_bits b) ≡ token_bits b
 token_bits_again b = and_assoc 85 b 85

@@ -1,4 +1,4 @@
--- One option put to what is there, and a list of options of which at most one is there.
+-- Adding an option to what is there, and a list of options of which at most one is there.
 use Rattle.std.proofs.Common.{◌≡◌, ℕ, Bool, true, false, cond, List, [], ◌∷◌, Option, Some, None, refl, sym, subst, arith}
 use Rattle.osi_spdu.specs.Spelling.{Sole}
 

@@ -20,7 +20,7 @@ all_pass p (d ∷ codes) c all there =
       | inr e ↦ all_pass p codes c a.1 e
     ]
 
--- what is tested of every code holds of each
+-- a test of every code holds of each code
 pub every_passes : (p : Code → Bool) (c : Code) → list_all p every_code ≡ true → p c ≡ true
 every_passes p c all = all_pass p every_code c all (each_there c)
 
@@ -109,7 +109,7 @@ pub group_apart : (kind : Kind) (g : Code) → among (members_of kind g) g ≡ f
 unfolding members_of number_of
 group_apart kind g = grind (arith, references_apart)
 
--- a parameter that is no group holds none
+-- a parameter that is not a group has no members
 pub members_none : (kind : Kind) (c : Code) → is_group c ≡ false → members_of kind c ≡ []
 unfolding is_group members_of
 members_none kind c h0 = grind arith

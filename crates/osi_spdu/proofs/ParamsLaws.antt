@@ -1,4 +1,4 @@
--- A slot that is filled, and the values that slots have.
+-- Filling a slot, and the values of slots.
 use Rattle.std.proofs.Common.{inl, inr, ◌≡◌, ◌==◌, ◌&&◌, ℕ, ◌<◌, Bool, true, false, List, [], ◌∷◌, length, get_or, set, Option, Some, None, option_map, refl, sym, ap, ◌∙◌, get_or-set_other, get_or-set_same, eqb, ltb, arith}
 use Rattle.osi_spdu.specs.declared.tokens.TokenSet.{TokenSet}
 use Rattle.osi_spdu.proofs.Vocabulary.{slice_get, cases_Bool, ltb-true, lt-ltb, eq-eqb, Code, ConnectionIdentifier, ConnectAcceptItem, CalledReference, CallingReference, CommonReference, AdditionalReference, SyncType, TokenItem, TransportDisconnect, ProtocolOptions, UserRequirements, TsduMaximumSize, Version, InitialNumber, Enclosure, TokenSetting, ResyncType, Number, Reflect, Reason, CallingSelector, CalledSelector, UserData, ExtendedUserData, Params, number_of, is_same, slot_of, every_code, nothing, put, some_octets, place_of, cells_of, filled, slots_of, known_of, no_params, present, count_of, has_octets, token_octets, tokens_alone, token_bits, is_some}
@@ -25,7 +25,7 @@ cells_len : (p : Params) → length (cells_of p) ≡ 23
 unfolding cells_of
 cells_len p = refl
 
--- a filled slot has the value, and the others are as they were
+-- the filled slot has the value, and the others are as they were
 pub slots_put : (p q : Params) (c : Code) (v : List ℕ) (o : Option (List ℕ)) → cells_of q ≡ filled (cells_of p) (place_of (slot_of c)) o → o ≡ Some v
     → slots_of q ≡ put (slot_of c) v (slots_of p)
 unfolding slots_of

@@ -1,4 +1,4 @@
--- A value is written in no more octets than it was read in.
+-- The written form of a value is no longer than the octets that were read.
 use Rattle.std.proofs.Common.{inl, inr, ◌≡◌, ℕ, zero, suc, ◌+◌, ◌*◌, ◌/◌, ◌%◌, ◌^◌, ◌<◌, ◌≤◌, Bool, true, false, cond, ◌&&◌, List, [], ◌∷◌, length, Option, Some, None, option_map, refl, ap, subst, ◌-◌, add-zero, zero-add, eqb, ltb, leb, arith}
 use Rattle.osi_spdu.proofs.Vocabulary.{common_steps, list_all, cases_Bool, and_parts, ltb-true, leb-true, Code, Kind, ConnectionIdentifier, ConnectAcceptItem, CalledReference, CallingReference, CommonReference, AdditionalReference, SyncType, TokenItem, TransportDisconnect, ProtocolOptions, UserRequirements, TsduMaximumSize, Version, InitialNumber, Enclosure, TokenSetting, ResyncType, Number, Reflect, Reason, CallingSelector, CalledSelector, UserData, ExtendedUserData, significant, six_digits, digits_of, decimal_from, decimal, is_digit, is_numeral, numeral, octet_if, kept_if, canonical, may_enclose, canonical_in, token_bits, any_octet, as_it_is, is_setting}
 
@@ -27,7 +27,7 @@ significant_len (d ∷ e ∷ xs) =
     ]
 significant_len _ = omega arith
 
--- a zero in front is not written
+-- a leading zero is not written
 drop_zero : (d e : ℕ) (xs : List ℕ) (n : ℕ) → d ≡ 48 → length (significant (e ∷ xs)) ≤ n → length (significant (d ∷ e ∷ xs)) ≤ n
 unfolding significant
 drop_zero d e xs n h l = rw h l
@@ -57,7 +57,7 @@ few_digits n (suc (suc (suc (suc (suc zero))))) low high h =
     drop_zero (n / 100000 % 10 + 48) (n / 10000 % 10 + 48) ((n / 1000 % 10 + 48) ∷ (n / 100 % 10 + 48) ∷ (n / 10 % 10 + 48) ∷ (n % 10 + 48) ∷ []) 5 (omega arith) (significant_len ((n / 10000 % 10 + 48) ∷ (n / 1000 % 10 + 48) ∷ (n / 100 % 10 + 48) ∷ (n / 10 % 10 + 48) ∷ (n % 10 + 48) ∷ []))
 few_digits n (suc (suc (suc (suc (suc (suc k)))))) low high h = (let l = significant_len (six_digits n) in omega arith)
 
--- digits stand for a number below ten to their number
+-- n digits give a number below ten to the power n
 decimal_small : (ds : List ℕ) (n k : ℕ) → list_all is_digit ds ≡ true → n < 10 ^ k → decimal_from n ds < 10 ^ (k + length ds)
 unfolding decimal_from
 decimal_small [] n k all h = rw (add-zero k) h

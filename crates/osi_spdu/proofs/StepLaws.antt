@@ -42,7 +42,7 @@ named_back _ = refl
 some_is : (c d : Code) → (let o : Option Code = Some c in o ≡ Some d) → c ≡ d
 some_is c d e = cc
 
--- two codes with one number are one
+-- two codes with the same number are the same
 pub number_one : (c d : Code) → number_of c ≡ number_of d → c ≡ d
 number_one c d e = some_is c d (sym (named_back c) ∙ ap named e ∙ named_back d)
 

@@ -1,4 +1,4 @@
--- How the reader of a TSDU goes on behind the first unit.
+-- How the reader of a TSDU continues after the first unit.
 use Rattle.std.proofs.Common.{◌≡◌, ℕ, Bool, true, false, ◌&&◌, List, [], ◌∷◌, length, Some, Result, Ok, Err, refl, sym, ◌∙◌, arith}
 use Rattle.osi_spdu.specs.declared.reading.Found.{Found}
 use Rattle.osi_spdu.proofs.Vocabulary.{IfOk, IsOkAnd, IsOctets, SpduFault, TrailingOctets, Kind, category_of, may_stand, Category, Zero, One, Two, Behind, Group, Contents, Units, Params, known_of, is_formed, is_joined, IsFormedTsdu, TsduFits, Gives, Placed, unit_at, contents_of, behind_at, ended, continued, tsdu_at, SpellsTsdu, placed_of, units_behind, units_of}
@@ -13,7 +13,7 @@ pub found_formed : (params : Params) (r : Result Found SpduFault) (second : Bool
 found_formed params (Ok f) second at octets fits e = placed_formed second at octets (placed_of params f) fits e
 found_formed params (Err d) second at octets fits e = tt
 
--- ---- behind the first unit
+-- ---- after the first unit
 
 pub tsdu_goes : (octets : List ℕ) (p : Placed) → unit_at false 0 octets ≡ Ok p → tsdu_at octets ≡ continued (category_of p.kind) p
 unfolding tsdu_at
@@ -45,7 +45,7 @@ pub all_only : (r : Result Group SpduFault) (octets : List ℕ) → Gives units_
 all_only (Ok g) octets e units s = (let h : Ok (units_of g) ≡ Ok units = sym e ∙ tsdu_only units octets s in ok_is (units_of g) units h)
 all_only (Err d) octets e units s = absurd (let h : Err d ≡ Ok units = sym e ∙ tsdu_only units octets s in cc)
 
--- ---- what stands together
+-- ---- which units may occur together
 
 pub joined_ok : (first second : Kind) → category_of first ≡ Zero → may_stand true (category_of second) ≡ true → is_joined first (Some second) ≡ true
 unfolding is_joined may_stand

@@ -1,4 +1,4 @@
--- Units and TSDUs: what is read is spelled so, and what is spelled so is read.
+-- Units and TSDUs: reading is sound and complete.
 use Rattle.std.proofs.Common.{inl, inr, ◌≡◌, ℕ, zero, suc, ◌+◌, ◌≤◌, Bool, true, false, List, [], ◌∷◌, ◌++◌, length, Option, Some, None, Result, Ok, Err, refl, sym, ap, subst, ◌∙◌, eqb, arith}
 use Rattle.osi_spdu.proofs.Vocabulary.{is_some, is_ok, IsSome, result_unwrap_or, flat_map, find, AllByRecursion, eqb-true, append-nil, IsOctets, SpduFault, MissingParameter, BadConcatenation, Code, Kind, GiveTokens, DataTransfer, Category, Zero, One, Two, number_of, si_of, category_of, required_of, kind_named, may_stand, one_kind, later_kinds, Known, nothing, settled, Contents, Units, ◌>>=◌, Measured, measured_at, params_of, in_unit, all_there, Placed, placed_kind, unit_at, contents_of, takes_rest, Next, next_if, next_at, behind_at, ended, continued, tsdu_at, length_octets, part_octets, item_octets, Spells, MeansInUnit, SpellsUnit, HasInformation, EndsTsdu, AreBehind, MayFollow, StandTogether, AreUnits, SpellsTsdu, left_at}
 use Rattle.osi_spdu.proofs.StepLaws.{bind_ok, bind_of, ok_is}
@@ -26,7 +26,7 @@ named_back second kind h0 = grind arith
 placed_ok : (second : Bool) (at : ℕ) (o : Option Kind) (kind : Kind) → placed_kind second at o ≡ Ok kind → (o ≡ Some kind) × (may_stand second (category_of kind) ≡ true)
 placed_ok second at o kind h0 = grind (arith, chosen, ok_is)
 
--- ---- what must be there
+-- ---- mandatory parameters
 
 there_ok : (at : ℕ) (codes : List Code) (known more : Known) → all_there at codes known ≡ Ok more → (more ≡ known) × AllByRecursion (λ c. IsSome (known c)) codes
 unfolding all_there
@@ -117,7 +117,7 @@ unit_only second at unit front rest s stands =
     (bind_of (all_there at (required_of kind) s.raw) (λ w. Ok (last made w)) s.raw (Ok want) (there_back at (required_of kind) s.raw s.required) finish))) in
     (end, subst (λ (f : List ℕ). unit_at second at (f ++ rest) ≡ Ok want) (sym s.whole) whole)
 
--- ---- a unit behind another
+-- ---- a unit after another
 
 pub second_stands : (category : Category) → may_stand true category ≡ true → category ≡ Two
 unfolding may_stand
@@ -200,7 +200,7 @@ next_only at unit front rest s h two ends =
     let n = next_if_only unit u.0 rest (takes_rest unit.kind) refl h ends in
     (n.0, bind_of (unit_at true at (front ++ (unit.information ++ rest))) (λ p. Ok (next_if (takes_rest p.kind) p)) made _ u.1 (ap (λ (x : Next). Ok x) n.1))
 
--- ---- the units behind the first
+-- ---- the units after the first
 
 pub behind_found : (room at : ℕ) (octets : List ℕ) (units : Units) → IsOctets octets → behind_at room at octets ≡ Ok units → AreUnits units octets
 unfolding behind_at
@@ -214,7 +214,7 @@ behind_found (suc room) at (si ∷ octets) units fits e =
     let r = behind_found room n.end n.rest b.0 is.rest_octets b.1 in
     subst (λ (us : Units). AreUnits us (si ∷ octets)) (ok_is (n.unit ∷ b.0) units b.2) (is.front, n.rest, is.parts, is.spelled, is.informed, r)
 
--- which units stand there, whatever the octets are
+-- which units may occur there, whatever the octets are
 stands_ok : (second : Bool) (at : ℕ) (octets : List ℕ) (p : Placed) → unit_at second at octets ≡ Ok p → may_stand second (category_of p.kind) ≡ true
 unfolding unit_at
 stands_ok second at [] p e = absurd cc
@@ -229,7 +229,7 @@ stands_ok second at (si ∷ octets) p e =
     let d = bind_ok (all_there at (required_of kind) c.0) (λ whole. Ok (last kind m whole)) p c.2 in
     subst (λ (x : Placed). may_stand second (category_of x.kind) ≡ true) (ok_is (last kind m d.0) p d.2) ((placed_ok second at (kind_named second si) kind a.1).1)
 
--- a unit of category 2, behind which nothing stands where it is a DT
+-- a unit of category 2; nothing follows it if it is a DT
 record IsSecond (n : Next) : Type 0 where
   two : category_of n.unit.kind ≡ Two
   ends : (units : Units) → (n.rest ≡ [] → units ≡ []) → EndsTsdu n.unit.kind units
@@ -296,7 +296,7 @@ unfolding may_stand
 not_second Zero e h = absurd cc
 not_second _ e h = absurd cc
 
--- a first unit with those behind it
+-- a first unit with those after it
 first_found : (octets : List ℕ) (p : Placed) (behind : Units) → IsOctets octets → IsUnitAt false octets p → MayFollow (category_of p.kind) behind → AreBehind behind → AreUnits behind p.rest
     → SpellsTsdu (contents_of p [] ∷ behind) octets
 unfolding SpellsTsdu StandTogether
@@ -328,7 +328,7 @@ continued_only : (category : Category) (p : Placed) (behind : Units) → MayFoll
     → continued category p ≡ Ok (contents_of p [] ∷ behind)
 continued_only category p behind h0 h1 h2 = grind (arith, bind_of, behind_only, none_spelled)
 
--- units that stand together are read, whatever numbers stand for their octets
+-- units that may occur together are read; this needs no bound on the numbers of the list
 pub tsdu_read : (units : Units) (octets : List ℕ) → StandTogether units → AreUnits units octets → tsdu_at octets ≡ Ok units
 unfolding tsdu_at StandTogether
 tsdu_read [] octets together u = absurd together
@@ -356,7 +356,7 @@ left_from : (r : Result Units SpduFault) → is_ok r ≡ true → r ≡ Ok (resu
 left_from (Ok units) e = refl
 left_from (Err f) e = absurd cc
 
--- what can be read is what is left
+-- octets that can be read are the units that are left
 pub left_read : (room at : ℕ) (octets : List ℕ) → is_ok (behind_at room at octets) ≡ true → behind_at room at octets ≡ Ok (left_at room at octets)
 unfolding left_at
 left_read room at octets e = left_from (behind_at room at octets) e

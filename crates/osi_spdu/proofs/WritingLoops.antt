@@ -1,4 +1,4 @@
--- Writing parameters one after the other, as a loop does.
+-- Writing parameters one after the other, by a loop.
 use Rattle.std.proofs.Common.{◌≡◌, ℕ, zero, suc, ◌+◌, ◌<◌, ◌≤◌, List, [], ◌∷◌, ◌++◌, length, drop, get_or, refl, sym, ap, ◌∙◌, append_assoc, arith}
 use Rattle.osi_spdu.proofs.Vocabulary.{flat_map, length-append, append-nil, drop_more, drop_all, Code}
 
@@ -18,7 +18,7 @@ pub record IsCounting (f : Code → List ℕ) (codes : List Code) (i len : ℕ) 
 pub counting_end : (f : Code → List ℕ) (codes : List Code) (i len : ℕ) → length codes ≤ i → IsCounting f codes i len → len ≡ length (flat_map f codes)
 counting_end f codes i len le so_far = (let e = ap length (pieces_end f codes i le) in let s = so_far.counted in omega arith)
 
--- what is written so far, with what is left, is what was there with all; and so is the room
+-- what is written so far, followed by what is left, is what was there followed by all; and so is the room
 pub record IsPutting (f : Code → List ℕ) (codes : List Code) (i : ℕ) (items : List ℕ) (spare : ℕ) (before : List ℕ) (room : ℕ) : Type 0 where
   pub put : items ++ flat_map f (drop i codes) ≡ before ++ flat_map f codes
   pub left : spare + length (flat_map f codes) ≡ room + length (flat_map f (drop i codes))

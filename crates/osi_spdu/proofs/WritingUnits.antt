@@ -1,4 +1,4 @@
--- Writing units one after the other, as a loop does.
+-- Writing units one after the other, by a loop.
 use Rattle.std.proofs.Common.{◌≡◌, ℕ, ◌+◌, ◌*◌, ◌<◌, ◌≤◌, List, [], ◌∷◌, ◌++◌, length, refl, sym, ap, subst, ◌∙◌, append_assoc, arith}
 use Rattle.osi_spdu.proofs.Vocabulary.{AllByRecursion, length-append, append-nil, drop_at, IsOctets, Kind, DataTransfer, Contents, Units, HasInformation, EndsTsdu, AreBehind, unit_octets, tsdu_octets, IsFormedUnit, UnitFits, TsduFits}
 use Rattle.osi_spdu.proofs.LengthLaws.{octets-drop}
@@ -83,7 +83,7 @@ counting_end units len all e so_far = (let n = ap length (octets_none units e) i
 
 -- ---- putting
 
--- what is put with what is left is what was there with all; and so is the room
+-- what is put so far, followed by what is left, is what was there followed by all; and so is the room
 pub record IsPuttingUnits (units : Units) (items : List ℕ) (spare : ℕ) (all : Units) (before : List ℕ) (room : ℕ) : Type 0 where
   pub put : items ++ tsdu_octets units ≡ before ++ tsdu_octets all
   pub fits : TsduFits units

@@ -48,7 +48,7 @@ parts_each means make known (c ∷ codes) h fits =
     each_if means make c (known c) rest (parts_of make known codes) (λ v e l. h c v (or_left (is_same c c) (among codes c) (same_refl c)) e l) fits
     (parts_each means make known codes (λ d v a e l. h d v (or_right (is_same d c) (among codes d) a) e l) shorter)
 
--- what each part gives: the values of the slots that its code owns
+-- the values that each part gives: those of the slots that its code owns
 abbrev Shares : (Code → Code → Bool) → (Code → List ℕ → Part) → Known → Type 0
 Shares owner make known = (c : Code) (v : List ℕ) (d : Code) → (make c v).gives d ≡ cond (owner c d) (known d) None
 

@@ -1,4 +1,4 @@
--- What is left of the units of category 2 of a TSDU behind some of them.
+-- The units of category 2 of a TSDU that follow after some of them.
 use Rattle.std.specs.Prelude.{◌≡◌, ◌==◌, ◌&&◌, ◌||◌, ℕ, not, Bool, true, List, [], length, Option, Some, None, is_ok}
 use Rattle.std.specs.List.{AllByRecursion}
 use Rattle.std.specs.Result.{result_unwrap_or}
@@ -11,7 +11,7 @@ use Rattle.osi_spdu.specs.Reading.{behind_at, takes_rest}
 use Rattle.osi_spdu.specs.Spelling.{HasInformation}
 use Rattle.osi_spdu.specs.Writing.{IsFormedUnit}
 
--- the units that these octets are, of which there may be so many
+-- the units that these octets are, at most `room` of them
 unfoldable pub left_at : ℕ → ℕ → List ℕ → Units
 left_at room at octets = result_unwrap_or (behind_at room at octets) []
 
@@ -30,7 +30,7 @@ formed_prop unit = hlevel (props, informed_prop)
 pub left_prop : (room at : ℕ) (octets : List ℕ) → IsProp (AreLeft room at octets)
 left_prop room at octets = hlevel (props, formed_prop)
 
--- a unit that may stand behind another, and the octets behind it: none where it is a DT
+-- a unit that may follow another, and the octets after it; there are none after a DT
 unfoldable pub is_behind : Option Kind → List ℕ → Bool
 is_behind None octets = length octets == 0
 is_behind (Some kind) octets = may_stand true (category_of kind) && (not (takes_rest kind) || (length octets == 0))

@@ -39,7 +39,7 @@ is_group ConnectionIdentifier = true
 is_group ConnectAcceptItem = true
 is_group _ = false
 
--- user data has one slot, whichever of its two codes it has
+-- user data has one slot, under either of its two codes
 unfoldable pub slot_of : Code → Code
 slot_of ExtendedUserData = UserData
 slot_of c = c

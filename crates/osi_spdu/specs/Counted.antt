@@ -1,4 +1,4 @@
--- What a reader of parameters returns, as lists.
+-- The result of a reader of parameters, as lists.
 use Rattle.std.specs.Prelude.{ℕ}
 use Rattle.osi_spdu.specs.declared.levels.Counted.{Counted}
 use Rattle.osi_spdu.specs.declared.levels.Parameter.{Parameter}

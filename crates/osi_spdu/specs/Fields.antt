@@ -31,7 +31,7 @@ bits_of t = t.0
 abbrev pub token_octets : TokenSet → List ℕ
 token_octets t = token_bits (bits_of t) ∷ []
 
--- no bit of the set names no token
+-- every bit of the set names a token
 abbrev pub tokens_alone : Option TokenSet → Bool
 tokens_alone None = true
 tokens_alone (Some t) = token_bits (bits_of t) == bits_of t

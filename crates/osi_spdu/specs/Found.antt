@@ -1,4 +1,4 @@
--- Units that were found, as reading gives them.
+-- Units that were found, as a reader returns them.
 use Rattle.osi_spdu.specs.declared.reading.Found.{Found}
 use Rattle.osi_spdu.specs.declared.reading.Later.{Later}
 use Rattle.osi_spdu.specs.declared.params.Params.{Params}

@@ -76,7 +76,7 @@ members_of kind ConnectionIdentifier = references_of kind
 members_of kind ConnectAcceptItem = ProtocolOptions ∷ TsduMaximumSize ∷ Version ∷ InitialNumber ∷ TokenSetting ∷ []
 members_of kind _ = []
 
--- what a unit must have, outside its groups
+-- the mandatory parameters of a unit, outside its groups
 unfoldable pub required_of : Kind → List Code
 required_of ResynchronizeAck = Number ∷ []
 required_of MajorSyncPoint = Number ∷ []
@@ -86,7 +86,7 @@ required_of MinorSyncAck = Number ∷ []
 required_of Resynchronize = ResyncType ∷ Number ∷ []
 required_of _ = []
 
--- the kinds that an SI can name, in the first place of a TSDU and behind another unit
+-- the kinds that an SI can name, in the first place of a TSDU and after another unit
 abbrev pub later_kinds : List Kind
 later_kinds = PleaseTokens ∷ NotFinished ∷ Finish ∷ Disconnect ∷ Refuse ∷ Connect ∷ Accept ∷ Abort ∷ AbortAccept ∷ ResynchronizeAck ∷ MajorSyncPoint ∷ MajorSyncAck ∷ MinorSyncPoint ∷ MinorSyncAck ∷ Resynchronize ∷ []
 
@@ -97,7 +97,7 @@ one_kind false = GiveTokens
 unfoldable pub kind_named : Bool → ℕ → Option Kind
 kind_named second si = find (λ k. si_of k == si) (one_kind second ∷ later_kinds)
 
--- whether a unit may stand in the first place, or behind another unit
+-- whether a unit may be the first of a TSDU, or follow another unit
 unfoldable pub may_stand : Bool → Category → Bool
 may_stand second Zero = cond second false true
 may_stand second One = cond second false true

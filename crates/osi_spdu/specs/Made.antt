@@ -1,4 +1,4 @@
--- The parameters of the units that a session makes, X.225 section 8.
+-- The parameters of the units that a session sends, X.225 section 8.
 use Rattle.std.specs.Prelude.{ℕ, true, List, [], Option, Some}
 use Rattle.std.specs.Borrow.{Bor}
 use Rattle.osi_spdu.specs.declared.kinds.Kind.{Kind}
@@ -20,7 +20,7 @@ use Rattle.osi_spdu.specs.Params.{no_params, known_of}
 abbrev pub made : Kind → Params → Contents
 made kind params = record { kind = kind; known = known_of params; information = [] }
 
--- CN: version 2, extended concatenation read, and the terms and selectors
+-- CN: version 2, extended concatenation supported, and the terms and selectors
 abbrev pub connect_params : Terms → Option Selector → Option Selector → Bor (List ℕ) → Params
 connect_params terms calling_selector called_selector user_data = record no_params {
   connect_accept_item = true;
@@ -48,11 +48,11 @@ accept_params terms user_data = record no_params {
   user_data = Some user_data;
 }
 
--- RF: the transport connection is released (17 is 01)
+-- RF: the transport connection is released (parameter 17 is 01)
 abbrev pub refuse_params : Reason → Params
 refuse_params reason = record no_params { transport_disconnect = Some 1; reason = Some reason }
 
--- FN, DN and NF: user data alone
+-- FN, DN and NF: only user data
 abbrev pub data_params : Bor (List ℕ) → Params
 data_params user_data = record no_params { user_data = Some user_data }
 
@@ -80,7 +80,7 @@ minor_point_params sync_type number user_data = record no_params {
 abbrev pub ack_params : Serial → Bor (List ℕ) → Params
 ack_params number user_data = record no_params { number = Some number; user_data = Some user_data }
 
--- MAP: 15 is 01
+-- MAP: parameter 15 is 01
 abbrev pub major_point_params : Serial → Bor (List ℕ) → Params
 major_point_params number user_data = record no_params {
   sync_type = Some Open;

@@ -1,4 +1,4 @@
--- The octets of a value that are made here, and those that are borrowed.
+-- The octets of a value: those computed here, and those borrowed.
 use Rattle.std.specs.Prelude.{ℕ, List, ◌++◌, drop}
 use Rattle.osi_spdu.specs.declared.octets.Short.{Short}
 use Rattle.osi_spdu.specs.declared.octets.Value.{Value}

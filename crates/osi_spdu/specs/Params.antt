@@ -1,4 +1,4 @@
--- What the parameters in memory say.
+-- The values of the parameters in memory.
 use Rattle.std.specs.Prelude.{ℕ, ◌+◌, length, nat_lt, ◌&&◌, Bool, true, false, List, [], ◌∷◌, Option, Some, None, option_map, get_or, set, if◌then◌else◌}
 use Rattle.osi_spdu.specs.declared.codes.Code.{Code}
 use Rattle.osi_spdu.specs.declared.codes.Code.TheVariants.{ConnectionIdentifier, ConnectAcceptItem, CalledReference, CallingReference, CommonReference, AdditionalReference, SyncType, TokenItem, TransportDisconnect, ProtocolOptions, UserRequirements, TsduMaximumSize, Version, InitialNumber, Enclosure, TokenSetting, ResyncType, Number, Reflect, Reason, CallingSelector, CalledSelector, UserData, ExtendedUserData}
@@ -7,7 +7,7 @@ use Rattle.osi_spdu.specs.Values.{digits_of}
 use Rattle.osi_spdu.specs.Fields.{octet_list, sync_octet, token_octets, tokens_alone, requirement_octets, size_octets, enclosure_octet, setting_octets, resync_octet, reason_octets}
 use Rattle.osi_spdu.specs.Known.{Known, settled}
 
--- the place of a code among all
+-- the place of a code in the order of all codes
 unfoldable pub place_of : Code → ℕ
 place_of ConnectionIdentifier = 0
 place_of ConnectAcceptItem = 1
@@ -37,7 +37,7 @@ place_of ExtendedUserData = 23
 abbrev pub present : Bool → Option (List ℕ)
 present there = if there then Some [] else None
 
--- the value of each parameter as it is written, by its place
+-- the value of each parameter in its written form, by its place
 unfoldable pub cells_of : Params → List (Option (List ℕ))
 cells_of p =
     (present p.connection_identifier) ∷
@@ -65,7 +65,7 @@ cells_of p =
     (option_map (λ s. s.now) p.user_data) ∷
     []
 
--- with one value more, if it is one
+-- the same with one more value, if there is one
 abbrev pub filled : List (Option (List ℕ)) → ℕ → Option (List ℕ) → List (Option (List ℕ))
 filled cells place None = cells
 filled cells place (Some value) = set cells place (Some value)
@@ -82,7 +82,7 @@ abbrev pub has_octets : Option (List ℕ) → Bool
 has_octets None = true
 has_octets (Some value) = nat_lt 0 (length value)
 
--- no bit that is ignored is kept, and empty user data is none
+-- no ignored bit is kept, and empty user data counts as none
 unfoldable pub is_settled : Params → Bool
 is_settled p = tokens_alone p.token_item && has_octets (option_map (λ s. s.now) p.user_data)
 
@@ -118,7 +118,7 @@ abbrev pub count_of : Option (List ℕ) → ℕ
 count_of None = 0
 count_of (Some value) = length value
 
--- how many octets those parameters have that may have any number
+-- the number of octets of the values of variable length
 abbrev pub lent_len : Params → ℕ
 lent_len p =
     count_of (option_map (λ s. s.now) p.called_reference) + count_of (option_map (λ s. s.now) p.calling_reference)

@@ -1,4 +1,4 @@
--- Reading a TSDU from left to right, with the first fault that is met and its offset.
+-- Reading a TSDU from left to right, up to the first fault and its offset.
 use Rattle.std.specs.Prelude.{◌≡◌, ℕ, zero, suc, ◌+◌, ◌*◌, ◌==◌, Bool, true, false, List, [], ◌∷◌, length, take, drop, nat_lt, Option, Some, None, Result, Ok, Err, is_some, if◌then◌else◌}
 use Rattle.std.specs.List.{find}
 use Rattle.osi_spdu.specs.declared.faults.SpduFault.{SpduFault}
@@ -18,12 +18,12 @@ abbrev pub ◌>>=◌ : {A B : Type 0} → Result A SpduFault → (A → Result B
 (Ok x) >>= f = f x
 (Err e) >>= f = Err e
 
--- what a function returned, seen by view, is what reading gives
+-- the result of a function, seen through `view`, is that of reading
 abbrev pub Gives : {X Y : Type 0} → (X → Y) → Result X SpduFault → Result Y SpduFault → Type 0
 Gives view (Ok x) read = read ≡ Ok (view x)
 Gives view (Err e) read = read ≡ Err e
 
--- the octets that a length indicator counts, those behind them, and the octets of the indicator
+-- the octets that a length indicator counts, those after them, and the octets of the indicator
 pub record Measured : Type 0 where
   pub used : ℕ
   pub value : List ℕ
@@ -34,7 +34,7 @@ counted_at at used n octets =
     if nat_lt (length octets) n then Err (LengthPastEnd at)
     else Ok (record { used = used; value = take n octets; rest = drop n octets })
 
--- two octets of length, behind FF
+-- a length of two octets, after FF
 unfoldable pub long_at : ℕ → List ℕ → Result Measured SpduFault
 long_at at [] = Err (LengthPastEnd at)
 long_at at (high ∷ []) = Err (LengthPastEnd at)
@@ -44,12 +44,12 @@ unfoldable pub measured_at : ℕ → List ℕ → Result Measured SpduFault
 measured_at at [] = Err (LengthPastEnd at)
 measured_at at (n ∷ octets) = if n == 255 then long_at at octets else counted_at at 1 n octets
 
--- the code of a parameter, and what stands behind it
+-- the code of a parameter, and the octets after it
 unfoldable pub parameter_at : ℕ → List ℕ → Result (ℕ × Measured) SpduFault
 parameter_at at [] = Err (LengthPastEnd at)
 parameter_at at (code ∷ octets) = measured_at at octets >>= λ m. Ok (code, m)
 
--- what one parameter does: the offset of its code and of its value, its code, its value, and what is known before
+-- the effect of one parameter: the offsets of its code and of its value, its code, its value, and what was known before
 abbrev pub Taking : Type 0
 Taking = ℕ → ℕ → ℕ → List ℕ → Known → Result Known SpduFault
 
@@ -65,7 +65,7 @@ params_at taking (suc n) at known (code ∷ octets) = do
 abbrev pub params_of : Taking → ℕ → Known → List ℕ → Result Known SpduFault
 params_of taking at known octets = params_at taking (length octets) at known octets
 
--- the code of this number among those known at a level
+-- the code with this number among those known at a level
 abbrev pub code_among : List Code → ℕ → Option Code
 code_among codes code = find (λ c. number_of c == code) codes
 
@@ -73,7 +73,7 @@ abbrev pub judged : ℕ → Code → Known → Option (List ℕ) → Result Know
 judged at c known None = Err (BadValue (number_of c) at)
 judged at c known (Some value) = Ok (put (slot_of c) value known)
 
--- the value goes to its slot, which must be free
+-- the value goes into its slot, which must be free
 unfoldable pub stored : Kind → ℕ → Code → List ℕ → Known → Result Known SpduFault
 stored kind at c value known =
     if is_some (known (slot_of c)) then Err (DuplicateParameter (number_of c) at)
@@ -98,12 +98,12 @@ parameter_taken kind at body value known (Some c) = stored kind at c value known
 unfoldable pub in_unit : Kind → Taking
 in_unit kind at body code value known = parameter_taken kind at body value known (code_among (codes_of kind) code)
 
--- the codes that a unit must have are there
+-- the mandatory codes of a unit are there
 unfoldable pub all_there : ℕ → List Code → Known → Result Known SpduFault
 all_there at [] known = Ok known
 all_there at (c ∷ codes) known = if is_some (known c) then all_there at codes known else Err (MissingParameter (number_of c) at)
 
--- a unit, where it ends, and the octets behind it
+-- a unit and where it ends, and the octets after it
 pub record Placed : Type 0 where
   pub kind : Kind
   pub known : Known
@@ -126,12 +126,12 @@ unit_at second at (si ∷ octets) = do
 abbrev pub contents_of : Placed → List ℕ → Contents
 contents_of unit information = record { kind = unit.kind; known = unit.known; information = information }
 
--- DT has the octets behind it as its user information
+-- the octets after a DT are its user information
 abbrev pub takes_rest : Kind → Bool
 takes_rest DataTransfer = true
 takes_rest _ = false
 
--- a unit behind another, where it ends with its user information, and the octets behind that
+-- a unit that follows another, the end of its user information, and the octets after that
 pub record Next : Type 0 where
   pub unit : Contents
   pub end : ℕ
@@ -144,12 +144,12 @@ next_if false unit = record { unit = contents_of unit []; end = unit.end; rest =
 unfoldable pub next_at : ℕ → List ℕ → Result Next SpduFault
 next_at at octets = unit_at true at octets >>= λ unit. Ok (next_if (takes_rest unit.kind) unit)
 
--- the fault of a unit for which there is no room
+-- the fault of a unit that would be one too many
 abbrev pub crowded : ℕ → Option Kind → SpduFault
 crowded at None = UnknownSi at
 crowded at (Some kind) = BadConcatenation at
 
--- the units behind the first one; the first argument says how many there may be
+-- the units after the first one; the first argument is how many there may be
 unfoldable pub behind_at : ℕ → ℕ → List ℕ → Result Units SpduFault
 behind_at room at [] = Ok []
 behind_at zero at (si ∷ octets) = Err (crowded at (kind_named true si))
@@ -158,12 +158,12 @@ behind_at (suc room) at (si ∷ octets) = do
   others ← behind_at room next.end next.rest
   Ok (next.unit ∷ others)
 
--- nothing stands behind a unit of category 1
+-- nothing follows a unit of category 1
 abbrev pub ended : ℕ → List ℕ → Contents → Result Units SpduFault
 ended at [] unit = Ok (unit ∷ [])
 ended at (b ∷ octets) unit = Err (TrailingOctets at)
 
--- behind a unit of category 0 stand at most 16 others
+-- at most 16 units follow a unit of category 0
 abbrev pub continued : Category → Placed → Result Units SpduFault
 continued Zero unit = behind_at 16 unit.end unit.rest >>= λ behind. Ok (contents_of unit [] ∷ behind)
 continued One unit = ended unit.end unit.rest (contents_of unit [])

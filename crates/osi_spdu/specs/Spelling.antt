@@ -1,4 +1,4 @@
--- Which octets spell a TSDU, X.225 section 8: by items, without order.
+-- Which octets spell a TSDU, X.225 section 8: parameters in any order.
 use Rattle.std.specs.Prelude.{◌≡◌, ◌<◌, ◌≤◌, ℕ, ◌/◌, ◌%◌, ◌++◌, Bool, true, false, List, [], ◌∷◌, length, map, Option, Some, None, IsSome}
 use Rattle.std.specs.List.{flat_map, AllByRecursion}
 use Rattle.osi_tpkt.specs.Octets.{IsOctets}
@@ -26,7 +26,7 @@ HasLength true n = n < 65536
 abbrev pub item_octets : ℕ → Bool → List ℕ → List ℕ
 item_octets code long value = code ∷ [] ++ length_octets long (length value) ++ value
 
--- a parameter as it stands, with the values that it gives
+-- a parameter as it is spelled, with the values that it gives
 pub record Part : Type 0 where
   pub code : ℕ
   pub long : Bool
@@ -45,7 +45,7 @@ Sole (Some value ∷ options) o = (o ≡ Some value) × Sole options None
 abbrev pub IsPart : (ℕ → List ℕ → Known → Type 0) → Part → Type 0
 IsPart means p = (p.code < 256) × HasLength p.long (length p.value) × means p.code p.value p.gives
 
--- The octets are parameters, each with its meaning, and no value comes from two of them.
+-- The octets are parameters, each with its meaning, and no two of them give the same value.
 pub record Spells (means : ℕ → List ℕ → Known → Type 0) (known : Known) (octets : List ℕ) : Type 0 where
   pub parts : List Part
   pub whole : octets ≡ flat_map part_octets parts
@@ -56,7 +56,7 @@ pub record Spells (means : ℕ → List ℕ → Known → Type 0) (known : Known
 abbrev pub only : Code → List ℕ → Known
 only slot value = put slot value nothing
 
--- an unknown code gives nothing, a known one the value of its slot
+-- an unknown code gives nothing, a known one gives the value of its slot
 abbrev pub MemberOf : Kind → List ℕ → Known → Option Code → Type 0
 MemberOf kind value gives None = gives ≡ nothing
 MemberOf kind value gives (Some c) = (form : List ℕ) × (canonical_in kind c value ≡ Some form) × (gives ≡ only (slot_of c) form)
@@ -64,7 +64,7 @@ MemberOf kind value gives (Some c) = (form : List ℕ) × (canonical_in kind c v
 unfoldable pub MeansInGroup : Kind → List Code → ℕ → List ℕ → Known → Type 0
 MeansInGroup kind members code value gives = MemberOf kind value gives (code_among members code)
 
--- a group gives that it is there, and what its parameters give
+-- a group gives its presence, and what its parameters give
 abbrev pub GroupOf : Kind → Code → List ℕ → Known → Type 0
 GroupOf kind c value gives =
     (inner : Known) × Spells (MeansInGroup kind (members_of kind c)) inner value
@@ -92,7 +92,7 @@ pub record SpellsUnit (unit : Contents) (octets : List ℕ) : Type 0 where
   pub required : AllByRecursion (λ c. IsSome (raw c)) (required_of unit.kind)
   pub value : unit.known ≡ settled raw
 
--- user information stands behind a DT alone
+-- only a DT has user information
 abbrev pub HasInformation : Kind → List ℕ → Type 0
 HasInformation DataTransfer information = Unit {0}
 HasInformation _ information = information ≡ []
@@ -102,24 +102,24 @@ abbrev pub EndsTsdu : Kind → Units → Type 0
 EndsTsdu DataTransfer units = units ≡ []
 EndsTsdu _ units = Unit {0}
 
--- units of category 2, of which a DT is the last
+-- units of category 2, only the last of which may be a DT
 abbrev pub AreBehind : Units → Type 0
 AreBehind [] = Unit {0}
 AreBehind (unit ∷ units) = (category_of unit.kind ≡ Two) × EndsTsdu unit.kind units × AreBehind units
 
--- behind a unit of category 0 stand at most 16 others, behind one of category 1 none
+-- at most 16 units follow a unit of category 0, and none follows a unit of category 1
 abbrev pub MayFollow : Category → Units → Type 0
 MayFollow Zero units = length units ≤ 16
 MayFollow One units = units ≡ []
 MayFollow Two units = ⊥
 
--- Units that stand together in a TSDU (section 6.3.7): one of category 0 or 1, and behind one of
--- category 0 units of category 2.
+-- Units that may occur together in a TSDU (section 6.3.7): one of category 0 or 1, and after one of category 0 units of
+-- category 2.
 unfoldable pub StandTogether : Units → Type 0
 StandTogether [] = ⊥
 StandTogether (first ∷ behind) = MayFollow (category_of first.kind) behind × AreBehind behind
 
--- the units one after the other, each with its user information behind it
+-- the units one after the other, each followed by its user information
 abbrev pub AreUnits : Units → List ℕ → Type 0
 AreUnits [] octets = octets ≡ []
 AreUnits (unit ∷ units) octets =
@@ -130,6 +130,6 @@ AreUnits (unit ∷ units) octets =
 unfoldable pub SpellsTsdu : Units → List ℕ → Type 0
 SpellsTsdu units octets = IsOctets octets × StandTogether units × AreUnits units octets
 
--- nothing stands behind a TSDU: it is all of its octets
+-- a TSDU is all of its octets
 abbrev pub IsAll : Units → List ℕ → Type 0
 IsAll units rest = rest ≡ []

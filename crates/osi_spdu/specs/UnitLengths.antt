@@ -8,11 +8,11 @@ use Rattle.osi_spdu.specs.Kinds.{codes_of}
 use Rattle.osi_spdu.specs.Known.{Known, Contents, Units}
 use Rattle.osi_spdu.specs.Writing.{among, group_octets, body_octets}
 
--- how many octets the parameters and groups of a unit are
+-- the length of the parameters and groups of a unit, in octets
 abbrev pub body_length : Contents → ℕ
 body_length unit = length (body_octets unit.kind unit.known)
 
--- how many octets a group holds, as it was counted
+-- the length of the contents of a group, as it was counted
 unfoldable pub held : GroupLengths → Code → ℕ
 held lens ConnectionIdentifier = lens.connection_identifier
 held lens _ = lens.connect_accept_item
@@ -25,7 +25,7 @@ IsHeld lens known c = is_group c ≡ true → is_some (known c) ≡ true → hel
 abbrev pub AreHeld : GroupLengths → Known → Type 0
 AreHeld lens known = (c : Code) → among (codes_of lens.kind) c ≡ true → IsHeld lens known c
 
--- the lengths of units in their order, and any other numbers behind them
+-- the lengths of units in order, followed by any other numbers
 abbrev pub AreLengths : List ℕ → Units → Type 0
 AreLengths lens [] = Unit {0}
 AreLengths [] (unit ∷ units) = ⊥

@@ -1,4 +1,4 @@
--- What a unit in memory says.
+-- The value of a unit in memory.
 use Rattle.osi_spdu.specs.declared.units.Spdu.{Spdu}
 use Rattle.osi_spdu.specs.Known.{Contents}
 use Rattle.osi_spdu.specs.Params.{known_of}

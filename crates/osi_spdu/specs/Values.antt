@@ -1,4 +1,4 @@
--- What the value of each parameter may be, and how it is written.
+-- The values that each parameter may have, and their written form.
 use Rattle.std.specs.Prelude.{ℕ, ◌+◌, ◌-◌, ◌*◌, ◌/◌, ◌%◌, ◌==◌, ◌&&◌, ◌||◌, not, Bool, true, false, List, [], ◌∷◌, length, nat_lt, nat_le, Option, Some, None, if◌then◌else◌, option_map}
 use Rattle.std.specs.List.{list_all}
 use Rattle.std.specs.Int.RustNames.{bit_and}
@@ -8,7 +8,7 @@ use Rattle.osi_spdu.specs.declared.kinds.Kind.TheVariants.{DataTransfer}
 use Rattle.osi_spdu.specs.Codes.{is_same}
 use Rattle.osi_spdu.specs.declared.codes.Code.TheVariants.{ConnectionIdentifier, ConnectAcceptItem, CalledReference, CallingReference, CommonReference, AdditionalReference, SyncType, TokenItem, TransportDisconnect, ProtocolOptions, UserRequirements, TsduMaximumSize, Version, InitialNumber, Enclosure, TokenSetting, ResyncType, Number, Reflect, Reason, CallingSelector, CalledSelector, UserData, ExtendedUserData}
 
--- octets that pass a test, as they are
+-- octets that pass a test, unchanged
 abbrev pub kept_if : Bool → List ℕ → Option (List ℕ)
 kept_if good value = if good then Some value else None
 
@@ -35,13 +35,13 @@ is_setting b = not (b % 4 == 3) && not (b / 4 % 4 == 3) && not (b / 16 % 4 == 3)
 abbrev pub is_digit : ℕ → Bool
 is_digit d = nat_le 48 d && nat_lt d 58
 
--- digits without the zeros in front
+-- digits without leading zeros
 unfoldable pub significant : List ℕ → List ℕ
 significant [] = []
 significant (d ∷ []) = d ∷ []
 significant (d ∷ e ∷ digits) = if d == 48 then significant (e ∷ digits) else d ∷ e ∷ digits
 
--- the number that digits stand for, after this one
+-- the number that the digits give, read after those of n
 unfoldable pub decimal_from : ℕ → List ℕ → ℕ
 decimal_from n [] = n
 decimal_from n (d ∷ digits) = decimal_from (10 * n + (d - 48)) digits
@@ -67,7 +67,7 @@ numeral digits = if is_numeral digits then Some (decimal digits) else None
 abbrev pub is_size : ℕ → Bool
 is_size n = (n == 0) || (nat_le 64 n && nat_le n 65535)
 
--- The value as it is written, or None where it is refused. A group's own value is that it is there.
+-- The value in its written form, or `None` if it is not allowed. The value of a group is empty.
 unfoldable pub canonical : Code → List ℕ → Option (List ℕ)
 canonical ConnectionIdentifier value = Some []
 canonical ConnectAcceptItem value = Some []
@@ -94,7 +94,7 @@ canonical CalledSelector value = kept_if (nat_le (length value) 16) value
 canonical UserData value = Some value
 canonical ExtendedUserData value = Some value
 
--- a DT alone may have a part of user data
+-- only a DT may have a part of user data
 abbrev pub may_have_parts : Kind → Bool
 may_have_parts DataTransfer = true
 may_have_parts _ = false
@@ -104,10 +104,10 @@ abbrev pub is_three : List ℕ → Bool
 is_three [] = false
 is_three (b ∷ octets) = b == 3
 
--- the enclosure of a unit that may have no part of user data says that it has the whole
+-- if a unit may not have a part of user data, its enclosure says that the data is whole
 unfoldable pub may_enclose : Kind → Code → List ℕ → Bool
 may_enclose kind c value = not (is_same c Enclosure) || (may_have_parts kind || is_three value)
 
--- the value as it is written in a unit of this kind, or None where it is refused there
+-- the value in its written form in a unit of this kind, or `None` if it is not allowed there
 unfoldable pub canonical_in : Kind → Code → List ℕ → Option (List ℕ)
 canonical_in kind c value = if may_enclose kind c value then canonical c value else None

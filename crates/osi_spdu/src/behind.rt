@@ -1,4 +1,4 @@
-//! The units of category 2 that stand behind the first unit of a TSDU.
+//! The units of category 2 that follow the first unit of a TSDU.
 
 ghost use Rattle.std.specs.Prelude.{◌≡◌, ◌≤◌, ◌<◌, ◌+◌, ◌^◌, true, length, Some, None, Err, [], ◌∷◌, option_map, OnOk, IfErr, IfSome};
 ghost use Rattle.osi_spdu.specs.declared.kinds.Category.TheVariants.{Two};
@@ -13,8 +13,8 @@ use crate::reading::next_at;
 use crate::units::Spdu;
 use std::iter::FusedIterator;
 
-/// The units behind the first one of a TSDU, in their order: at most 16 of category 2, of which a
-/// DT is the last. Each but the first of them is read again as it is given, and no memory is taken.
+/// The units after the first one of a TSDU, in order: at most 16 of category 2, and only the last may be a DT. The
+/// first is kept as a value; the others are read again when they are given. Nothing is allocated.
 #[derive(Clone, Copy)]
 pub struct Behind<'a> {
     next: Option<Spdu<'a>>,
@@ -58,7 +58,7 @@ impl<'a> Behind<'a> {
         }
     }
 
-    /// The one unit that is left, if no other stands behind it.
+    /// The only unit that is left, or `None` if there is none or more than one.
     #[inline(always)]
     pub(crate) fn only(&self) -> Option<&Spdu<'a>>
         ensures { IfSome result (λ unit. units_behind self.now ≡ said_by unit.now ∷ []) }
@@ -129,7 +129,7 @@ impl<'a> Iterator for Behind<'a> {
 
 impl FusedIterator for Behind<'_> {}
 
-/// The fault of a unit for which there is no room.
+/// The fault of a unit that would be one too many.
 fn crowded(at: usize, si: u8) -> SpduFault
     ensures { result ≡ crowded at (kind_named true si) }
 {
@@ -139,7 +139,7 @@ fn crowded(at: usize, si: u8) -> SpduFault
     }
 }
 
-/// Reads units behind others to the end of the TSDU, or to its first fault.
+/// Reads the units after the first one, to the end of the TSDU or to the first fault.
 fn read_others(room: usize, at: usize, octets: &[u8]) -> Result<(), SpduFault>
     requires { at + length octets.now < 2 ^ 64 }
     ensures left { OnOk result (AreLeft room at octets.now) }

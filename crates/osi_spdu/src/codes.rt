@@ -128,7 +128,7 @@ impl Code {
 pub(crate) fn code_numbered(number: u8) -> Option<Code>
     ensures { result ≡ code_among every_code number }
 {
-    // The two high numbers apart: the low ones stand so close that they make one table.
+    // The two high numbers are tested apart; the low ones are close enough together for one table.
     if number > 52 {
         return match number {
             193 => Some(Code::UserData),

@@ -1,4 +1,4 @@
-//! Values of parameters that have a meaning of their own.
+//! Parameter values with a type of their own.
 
 ghost use Rattle.std.specs.Prelude.{◌≡◌, ◌≤◌, ◌/◌, ◌%◌, [], ◌∷◌, length, option_map};
 ghost use Rattle.osi_spdu.specs.Values.{canonical};
@@ -11,9 +11,9 @@ use crate::octets::{Short, Value};
 /// Whether a minor synchronization point asks for its confirmation (X.225 section 8, sync type).
 #[derive(Clone, Copy, PartialEq, Eq, Debug)]
 pub enum SyncType {
-    /// It does: bit 1 is clear.
+    /// The sender asks for it: bit 1 is clear.
     Asked,
-    /// It leaves it open: bit 1 is set.
+    /// The sender leaves it open: bit 1 is set.
     Open,
 }
 
@@ -22,7 +22,7 @@ pub enum SyncType {
 pub enum ResyncType {
     /// It goes back to a synchronization point (0).
     Restart,
-    /// It leaves out what is under way (1).
+    /// It discards what is in flight (1).
     Abandon,
     /// It sets the number of the next point (2).
     Set,
@@ -41,8 +41,8 @@ pub enum Enclosure {
     Whole,
 }
 
-/// The largest TSDU in each direction, in octets, 0 for no limit (X.225 section 8, TSDU maximum
-/// size). What is read may name 1 to 63 octets too, which no user gives.
+/// The largest TSDU in each direction, in octets, 0 for no limit (X.225 section 8, TSDU maximum size). A value that was
+/// read may also be 1 to 63 octets, which no user of this library can give.
 #[derive(Clone, Copy, PartialEq, Eq, Debug)]
 pub struct TsduMaximumSize {
     /// From the side that asks for the connection.
@@ -56,7 +56,7 @@ pub struct TsduMaximumSize {
 pub struct Reason<'a> {
     /// The first octet.
     pub code: u8,
-    /// The octets behind it: the user data of a refusal by the user.
+    /// The octets after it: the user data of a refusal by the user.
     pub data_octets: &'a [u8],
 }
 
@@ -201,7 +201,7 @@ impl<'a> Reason<'a> {
     }
 }
 
-/// An octet that may be any.
+/// An octet with any value.
 #[tactic(auto, unfolding(crate::specs::Values::canonical))]
 pub(crate) fn octet_of(value: &[u8]) -> Option<u8>
     ensures disconnect { canonical Code.TransportDisconnect value.now ≡ option_map octet_list result }

@@ -1,4 +1,4 @@
-//! Session units as a grammar of units: a TSDU is read whole.
+//! Session units as a grammar of units: a TSDU is read as a whole.
 
 ghost use Rattle.std.specs.Prelude.{◌≡◌, ◌<◌, ◌++◌, ℕ, List, [], length, Err, OnOk, OnErr};
 ghost use Rattle.bytes.specs.Filled.{UsesSpare};
@@ -44,7 +44,7 @@ impl<'a> Unit<'a> for Group<'a> {
         }
     }
 
-    // Only the lengths are asked for: the rest of what fits is in the types.
+    // Only the lengths have to be checked: the types bound everything else.
     fn write(&self, out: &mut BytesMut) -> Result<(), AllocError>
         requires { TsduFits (units_of self.now) }
         ensures ok { OnOk result (out.new.items ≡ out.old.items ++ tsdu_octets (units_of self.now)) }

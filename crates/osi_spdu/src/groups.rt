@@ -11,8 +11,8 @@ use crate::behind::Behind;
 use crate::kinds::Kind;
 use crate::units::Spdu;
 
-/// The units of a TSDU: one of category 1, or one of category 0 and behind it at most 16 of
-/// category 2 (X.225 section 6.3.7, extended concatenation).
+/// The units of a TSDU: one of category 1, or one of category 0 and after it at most 16 of category 2 (X.225 section
+/// 6.3.7, extended concatenation).
 #[derive(Clone, Copy)]
 pub struct Group<'a> {
     first: Spdu<'a>,
@@ -32,7 +32,7 @@ impl<'a> Group<'a> {
         Group::with(unit, Behind::none())
     }
 
-    /// A unit of category 0, and one of category 2 behind it.
+    /// A unit of category 0, and one of category 2 after it.
     pub fn pair(first: Spdu<'a>, second: Spdu<'a>) -> Group<'a>
         requires { is_joined (said_by first).kind (Some (said_by second).kind) ≡ true }
         ensures { units_of result ≡ said_by first.entry ∷ said_by second.entry ∷ [] }
@@ -40,7 +40,7 @@ impl<'a> Group<'a> {
         Group::with(first, Behind::one(second))
     }
 
-    /// A unit of category 2, behind a GT with no token.
+    /// A unit of category 2, after a GT with no token.
     pub fn behind_give_tokens(unit: Spdu<'a>) -> Group<'a>
         requires { category_of (said_by unit).kind ≡ Two }
         ensures { units_of result
@@ -50,7 +50,7 @@ impl<'a> Group<'a> {
         Group::pair(Spdu::give_tokens(None), unit)
     }
 
-    /// A unit, and those behind it.
+    /// A unit, and those after it.
     #[inline(always)]
     pub(crate) fn with(first: Spdu<'a>, behind: Behind<'a>) -> Group<'a>
         requires { is_joined first.kind (option_map (λ s. s.kind) behind.next) ≡ true }
@@ -67,14 +67,14 @@ impl<'a> Group<'a> {
         &self.first
     }
 
-    /// The units behind the first one.
+    /// The units after the first one.
     #[inline(always)]
     pub fn behind(&self) -> Behind<'a>
         ensures { units_behind result ≡ behind_of self.now }
     {
         self.behind
     }
-    /// The units behind the first one, lent.
+    /// The units after the first one, borrowed.
     #[inline(always)]
     pub(crate) fn others(&self) -> &Behind<'a>
         ensures { units_behind result.now ≡ behind_of self.now }

@@ -1,4 +1,4 @@
-//! Which units there are, and which codes each knows.
+//! The kinds of units, and the codes that each one knows.
 
 ghost use Rattle.std.specs.Prelude.{◌≡◌};
 ghost use Rattle.osi_spdu.specs.Kinds.{si_of, category_of, codes_of, members_of, references_of, may_stand, kind_named};
@@ -47,7 +47,7 @@ pub enum Kind {
     Resynchronize,
 }
 
-/// Where a unit may stand in a TSDU (X.225 section 6.3.7, basic concatenation).
+/// Where a unit may occur in a TSDU (X.225 section 6.3.7, basic concatenation).
 #[derive(Clone, Copy, PartialEq, Eq, Debug)]
 pub enum Category {
     /// Before a unit of category 2, or alone.
@@ -151,7 +151,7 @@ impl Kind {
         }
     }
 
-    /// Where the unit may stand.
+    /// Where the unit may occur.
     pub fn category(self) -> Category
         ensures { result ≡ category_of self }
     {
@@ -168,15 +168,15 @@ impl Kind {
         }
     }
 
-    /// Whether the octets behind the unit are its user information.
+    /// Whether the octets after the unit are its user information.
     pub(crate) fn takes_rest(self) -> bool
         ensures { result ≡ takes_rest self }
     {
         matches!(self, Kind::DataTransfer)
     }
 
-    /// Whether a unit of this kind may have the value under this code: a DT alone may have a part
-    /// of user data, and the enclosure of the others says that it is whole.
+    /// Whether a unit of this kind may have the value under this code. Only a DT may have a part of user data; in other
+    /// units the enclosure has to say that the data is whole.
     #[tactic(auto, unfolding(crate::specs::Values::may_enclose))]
     pub(crate) fn may_enclose(self, code: Code, value: &[u8]) -> bool
         ensures { result ≡ may_enclose self code value.now }
@@ -360,7 +360,7 @@ impl Kind {
 }
 
 impl Category {
-    /// Whether a unit may stand in the first place, or in the second.
+    /// Whether a unit may be the first of a TSDU, or follow another.
     #[tactic(auto, unfolding(crate::specs::Kinds::may_stand))]
     pub(crate) fn may_stand(self, second: bool) -> bool
         ensures { result ≡ may_stand second self }
@@ -372,14 +372,14 @@ impl Category {
     }
 }
 
-/// User data begins and ends in its unit.
+/// The user data begins and ends in this unit.
 fn is_three(value: &[u8]) -> bool
     ensures { result ≡ is_three value.now }
 {
     matches!(value, [3, ..])
 }
 
-/// The unit that an SI names in the first place of a TSDU, or behind another unit.
+/// The unit that an SI names in the first place of a TSDU, or after another unit.
 #[tactic(auto, using(crate::proofs::Named::unnamed), unfolding(crate::specs::Kinds::kind_named, crate::specs::Kinds::si_of))]
 pub(crate) fn kind_named(second: bool, si: u8) -> Option<Kind>
     ensures { result ≡ kind_named second si }

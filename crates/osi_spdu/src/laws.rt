@@ -1,4 +1,4 @@
-//! What reading, spelling and the written form have to do with each other.
+//! How reading, spelling and the written form are related.
 
 ghost use Rattle.std.specs.Prelude.{◌≡◌, ◌≤◌, ℕ, Bool, List, Ok, Err, Some};
 ghost use Rattle.osi_tpkt.specs.Octets.{IsOctets};
@@ -13,14 +13,14 @@ ghost use Rattle.osi_spdu.specs.Writing.{tsdu_octets, free_len, IsCanonical, IsF
 
 use crate::groups::Group;
 
-/// What is read is spelled so.
+/// Reading is sound: units that are read are spelled by the octets.
 #[tactic(auto, using(crate::proofs::UnitsLaws::tsdu_found))]
 pub fn found()
     ensures { (units : Units) (octets : List ℕ) → IsOctets octets →
         tsdu_at octets ≡ Ok units → SpellsTsdu units octets }
 {}
 
-/// What is spelled so is read.
+/// Reading is complete: units that the octets spell are read.
 #[tactic(auto, using(crate::proofs::UnitsLaws::tsdu_only))]
 pub fn only()
     ensures { (units : Units) (octets : List ℕ) →
@@ -33,7 +33,7 @@ pub fn one_value()
         SpellsTsdu units octets → SpellsTsdu others octets → units ≡ others }
 {}
 
-/// The written form spells the value, and is read as it.
+/// The written form spells the value and reads back as it.
 pub fn again()
     ensures spelled { (units : Units) → IsFormedTsdu units → TsduFits units →
         IsOctets (tsdu_octets units) → SpellsTsdu units (tsdu_octets units) }
@@ -41,34 +41,35 @@ pub fn again()
         tsdu_at (tsdu_octets units) ≡ Ok units }
 {}
 
-/// What is spelled somehow has a written form that fits.
+/// Every value that has a spelling has a written form that fits.
 #[tactic(auto, using(crate::proofs::FitsLaws::tsdu_fits))]
 pub fn fits()
     ensures { (units : Units) (octets : List ℕ) → SpellsTsdu units octets → TsduFits units }
 {}
 
-/// A unit whose values of any length have at most 65,000 octets together has a written form that fits.
+/// If the values of variable length in a unit have at most 65,000 octets together, the unit has a written form that
+/// fits.
 #[tactic(auto, using(crate::proofs::MadeLaws::few_fit))]
 pub fn few_octets_fit()
     ensures { (unit : Contents) → IsCanonical unit.known → free_len unit.known ≤ 65000 → UnitFits unit }
 {}
 
-/// The units of a group have a written form.
+/// The units of every group have a written form.
 pub fn has_written_form(group: &Group)
     ensures { IsFormedTsdu (units_of group.now) }
 {
-    // Named for the proof: what every group holds.
+    // Named so that the proof sees what holds of every group.
     let _group = *group;
 }
 
-/// A serial number is read from the digits that it is written in.
+/// Reading the digits in which a serial number is written gives the number.
 #[tactic(auto, using(crate::proofs::Digits::numeral_digits))]
 pub fn serial_digits()
     ensures { (n : ℕ) → n ≤ 999999 → numeral (digits_of n) ≡ Some n }
 {}
 
-/// The fault that reading answers at a unit is the first, and the first is answered. What stands in
-/// front of it is spelled well: the SI, and parameters of distinct codes.
+/// If a unit can't be read, the fault returned is its first one. What precedes the fault is well formed: the SI, and
+/// parameters with distinct codes.
 #[tactic(auto, using(crate::proofs::FirstFault::unit_fault_found, crate::proofs::FirstFault::unit_fault_only))]
 pub fn first_fault_of_a_unit()
     ensures found { (second : Bool) (at : ℕ) (octets : List ℕ) (fault : SpduFault) → IsOctets octets →
@@ -77,8 +78,8 @@ pub fn first_fault_of_a_unit()
         IsUnitFault second at octets fault → unit_at second at octets ≡ Err fault }
 {}
 
-/// The fault that reading answers at a TSDU is the first, and the first is answered. What stands in
-/// front of it is spelled well: units that may stand there, and what a unit has in front of it.
+/// If a TSDU can't be read, the fault returned is its first one. What precedes the fault is well formed: whole units in
+/// places where they may occur, and the beginning of the faulty unit.
 pub fn first_fault()
     ensures found { (octets : List ℕ) (fault : SpduFault) → IsOctets octets →
         tsdu_at octets ≡ Err fault → IsFirstFault octets fault }

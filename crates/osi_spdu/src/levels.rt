@@ -1,4 +1,4 @@
-//! Parameters of one level: of a unit, and of a group in it.
+//! Parameters of one level: those of a unit, and those of a group within it.
 
 ghost use Rattle.std.specs.Prelude.{◌≡◌, ◌≤◌, ◌<◌, ◌+◌, ◌^◌, [], ◌∷◌, length, is_some, IfOk};
 ghost use Rattle.osi_spdu.specs.Reading.{Gives, Taking, counted_at, measured_at, parameter_at, stored, in_group, in_unit, params_of, all_there};
@@ -14,7 +14,7 @@ use crate::faults::SpduFault;
 use crate::kinds::Kind;
 use crate::params::Params;
 
-/// What a length indicator counts, and what stands behind it.
+/// The octets that a length indicator counts, and the octets after them.
 #[derive(Clone, Copy)]
 pub(crate) struct Counted<'a> {
     /// How many octets the length indicator has.
@@ -23,7 +23,7 @@ pub(crate) struct Counted<'a> {
     pub(crate) rest: &'a [u8],
 }
 
-/// A parameter as it stands, and what stands behind it.
+/// A parameter as it is spelled, and the octets after it.
 #[derive(Clone, Copy)]
 struct Parameter<'a> {
     code: u8,
@@ -47,7 +47,7 @@ fn counted_at<'a>(
     Ok(Counted { used, value, rest })
 }
 
-/// What the length indicator at the front counts.
+/// The octets that the length indicator at the front counts.
 #[tactic(auto, unfolding(crate::specs::Reading::measured_at, crate::specs::Reading::long_at))]
 pub(crate) fn measured_at<'a>(at: usize, octets: &'a [u8]) -> Result<Counted<'a>, SpduFault>
     ensures value { Gives measured_of result (measured_at at octets.now) }
@@ -83,8 +83,8 @@ fn parameter_at<'a>(at: usize, octets: &'a [u8]) -> Result<Parameter<'a>, SpduFa
     })
 }
 
-/// Puts a value into its slot, or `None` where it is no value of this code in a unit of this kind: a
-/// DT alone has a part of user data.
+/// Puts a value into its slot, or returns `None` if the value is not allowed for this code in a unit of this kind. Only
+/// a DT may have a part of user data.
 #[tactic(auto, unfolding(crate::specs::Values::canonical_in))]
 fn fill_in<'a>(params: &mut Params<'a>, kind: Kind, code: Code, value: &'a [u8]) -> Option<()>
     ensures value { is_some result ≡ is_some (canonical_in kind code value.now) }
@@ -117,11 +117,11 @@ fn store<'a>(
     }
 }
 
-/// What knows parameters: a unit, or a group in it.
+/// What knows parameters: a unit, or a group within it.
 trait Level {
     ghost taking: { Self → Taking };
 
-    /// Takes a parameter that stands at the offset; its value begins at `body`.
+    /// Takes the parameter at the offset; its value begins at `body`.
     fn take<'a>(
         &self,
         at: usize,
@@ -135,14 +135,14 @@ trait Level {
             (taking self.now at body code value.now (slots_of params.old)) };
 }
 
-/// What a group of a unit of this kind knows.
+/// The parameters that a group of a unit of this kind knows.
 #[derive(Clone, Copy)]
 struct OfGroup {
     kind: Kind,
     group: Code,
 }
 
-/// What a unit of this kind knows.
+/// The parameters that a unit of this kind knows.
 #[derive(Clone, Copy)]
 struct OfUnit {
     kind: Kind,
@@ -218,7 +218,7 @@ fn take_all<'a, L: Level>(
     Ok(())
 }
 
-/// The parameters and groups of a unit that has some.
+/// The parameters and groups of a unit that has at least one.
 #[inline(always)]
 fn some_parameters<'a>(kind: Kind, at: usize, octets: &'a [u8]) -> Result<Params<'a>, SpduFault>
     requires { at + length octets.now < 2 ^ 64 }
@@ -229,7 +229,7 @@ fn some_parameters<'a>(kind: Kind, at: usize, octets: &'a [u8]) -> Result<Params
     Ok(params)
 }
 
-/// The parameters and groups of a unit. Most units have none, and then no room is made for them.
+/// The parameters and groups of a unit. Most units have none; for these no `Params` is filled.
 #[inline(always)]
 pub(crate) fn read_parameters<'a>(
     kind: Kind,
@@ -245,7 +245,7 @@ pub(crate) fn read_parameters<'a>(
     some_parameters(kind, at, octets)
 }
 
-/// Whether a parameter that a unit must have is there.
+/// Whether a mandatory parameter is there.
 #[inline(always)]
 #[tactic(auto, unfolding(crate::specs::Reading::all_there))]
 fn is_there(at: usize, code: Code, params: &Params) -> Result<(), SpduFault>
@@ -258,7 +258,7 @@ fn is_there(at: usize, code: Code, params: &Params) -> Result<(), SpduFault>
     }
 }
 
-/// Whether the parameters that a unit must have are there, lowest code first.
+/// Whether the mandatory parameters are there, lowest code first.
 #[inline(always)]
 #[tactic(auto, unfolding(crate::specs::Reading::all_there, crate::specs::Kinds::required_of))]
 pub(crate) fn check_there(at: usize, kind: Kind, params: &Params) -> Result<(), SpduFault>

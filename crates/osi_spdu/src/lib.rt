@@ -1,9 +1,23 @@
-//! Session protocol data units (X.225 section 8), in octets: how the units of a TSDU are read, with the
-//! first fault and its place, and the one spelling in which each is written.
+//! Session protocol data units (X.225 section 8) as octets: reading the units of a TSDU, with the first fault and its
+//! place, and the one spelling in which each unit is written.
 //!
-//! [`read_tsdu`] reads a TSDU as a [`Group`]: one unit of category 1, or one of category 0 with up to 16 of
-//! category 2 after it. It borrows its input and takes no memory. [`write_tsdu`] appends a group to a
-//! buffer. What the units mean is `osi_message`, what a side does with them `osi_session`.
+//! [`read_tsdu`] reads a TSDU as a [`Group`]: one unit of category 1, or one of category 0 followed by up to 16 of
+//! category 2. It borrows its input and allocates nothing. [`write_tsdu`] appends a group to a buffer.
+//!
+//! ```text
+//! let group = read_tsdu(octets)?;                // Err: the first fault, its offset and parameter code
+//! group.first().kind()                           // Kind::Connect, for example
+//! group.first().params().initial_number()        // None if the unit has no such parameter
+//! for unit in group.behind() { .. }              // the units after the first one
+//!
+//! write_tsdu(&Group::alone(Spdu::finish(user_data)), &mut out)?;
+//! ```
+//!
+//! An [`Spdu`] has a [`Kind`] and [`Params`]: each parameter by its meaning, with an accessor. The constructors of
+//! `Spdu` make the units that a session sends.
+//!
+//! The laws ([`mod@laws`]) say that reading is sound and complete, which fault a bad TSDU has, and that what is written
+//! reads back. The crate `osi_message` says what the units mean, and `osi_session` what a side does with them.
 #![tactic(auto)]
 
 mod behind;

@@ -1,4 +1,4 @@
-//! The units that a session makes (X.225 section 8).
+//! Constructors of the units that a session sends (X.225 section 8).
 
 ghost use Rattle.std.specs.Prelude.{◌≡◌, ◌≤◌, ◌<◌, length, true, None};
 ghost use Rattle.osi_spdu.specs.Kinds.{category_of};
@@ -17,8 +17,8 @@ use crate::settings::TokenSetting;
 use crate::tokens::TokenSet;
 use crate::units::Spdu;
 
-/// What a CN proposes, or an AC answers, apart from its addresses and its user data. The protocol
-/// options say that extended concatenation is read, and the version is 2.
+/// What a CN proposes or an AC answers, apart from addresses and user data. Protocol options and version are fixed:
+/// extended concatenation is supported, and the version is 2.
 #[derive(Clone, Copy, PartialEq, Eq, Debug)]
 pub struct Terms {
     /// The first synchronization point serial number.
@@ -27,7 +27,7 @@ pub struct Terms {
     pub token_setting: TokenSetting,
     /// The functional units.
     pub user_requirements: Requirements,
-    /// The largest TSDU in each direction, which is written where a number is not 0.
+    /// The largest TSDU in each direction. It is written only if one of the numbers is not 0.
     pub tsdu_maximum_size: TsduMaximumSize,
 }
 
@@ -83,7 +83,7 @@ impl<'a> Spdu<'a> {
         Spdu::new(Kind::Accept, params)
     }
 
-    /// RF: refuses a connection, and keeps no transport connection (17 is 01).
+    /// RF: refuses a connection, and releases the transport connection (parameter 17 is 01).
     pub fn refuse(reason: Reason<'a>) -> Spdu<'a>
         ensures units { said_by result ≡ made Kind.Refuse (refuse_params reason.entry) }
         ensures place { is_joined (said_by result).kind None ≡ true }
@@ -136,8 +136,8 @@ impl<'a> Spdu<'a> {
         Spdu::new(Kind::NotFinished, params)
     }
 
-    /// AB: aborts a connection. The octet has 01 where the transport connection is released, 02 for
-    /// a user's abort, 04 for a protocol error.
+    /// AB: aborts a connection. The octet is a sum of 01 if the transport connection is released, 02 for a user's
+    /// abort, and 04 for a protocol error.
     pub fn abort(transport_disconnect: u8, user_data: &'a [u8]) -> Spdu<'a>
         ensures units { said_by result
             ≡ made Kind.Abort (abort_params transport_disconnect user_data.entry) }
@@ -162,7 +162,7 @@ impl<'a> Spdu<'a> {
         Spdu::new(Kind::AbortAccept, params)
     }
 
-    /// GT: gives tokens; with none it stands in front of a unit of category 2.
+    /// GT: gives tokens. Without tokens it only introduces a unit of category 2.
     pub fn give_tokens(token_item: Option<TokenSet>) -> Spdu<'a>
         ensures units { said_by result ≡ made Kind.GiveTokens (give_tokens_params token_item) }
         ensures place { is_joined (said_by result).kind None ≡ true }
@@ -220,7 +220,7 @@ impl<'a> Spdu<'a> {
         Spdu::new(Kind::MinorSyncAck, params)
     }
 
-    /// MAP: a major synchronization point (15 is 01).
+    /// MAP: a major synchronization point (parameter 15 is 01).
     pub fn major_point(number: Serial, user_data: &'a [u8]) -> Spdu<'a>
         ensures units { said_by result
             ≡ made Kind.MajorSyncPoint (major_point_params number user_data.entry) }

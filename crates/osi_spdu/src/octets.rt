@@ -65,8 +65,8 @@ impl Short {
     }
 }
 
-/// The octets of a parameter's value, in two pieces: at most six that were made here, and then
-/// some that are borrowed.
+/// The octets of a parameter's value, in two pieces: at most six octets that are computed here, and then octets that
+/// are borrowed.
 #[derive(Clone, Copy, Debug)]
 pub struct Value<'a> {
     made: Short,
@@ -92,7 +92,7 @@ impl<'a> Value<'a> {
         }
     }
 
-    /// Octets that are made here.
+    /// Octets that are computed here.
     pub(crate) fn of_short(made: Short) -> Value<'a>
         ensures { octets_of result ≡ short_octets made }
     {
@@ -106,7 +106,7 @@ impl<'a> Value<'a> {
         Value::of_short(Short::one(octet))
     }
 
-    /// The first octets, at most six.
+    /// The computed octets, at most six.
     pub fn made(&self) -> &[u8]
         ensures value { result.now ≡ made_of self.now }
         ensures short { length result.now ≤ 6 }
@@ -114,21 +114,21 @@ impl<'a> Value<'a> {
         self.made.as_slice()
     }
 
-    /// The octets behind the first ones.
+    /// The borrowed octets after them.
     pub fn lent(&self) -> &'a [u8]
         ensures { result.now ≡ lent_of self.now }
     {
         self.lent
     }
 
-    /// How many octets the value has.
+    /// The number of octets of the value.
     pub fn len(&self) -> usize
         ensures { result ≡ length (octets_of self.now) }
     {
         self.made.as_slice().len() + self.lent.len()
     }
 
-    /// Whether the value has no octet.
+    /// Whether the value is empty.
     pub fn is_empty(&self) -> bool
         ensures { result ≡ (length (octets_of self.now) == 0) }
     {

@@ -19,7 +19,7 @@ use crate::tokens::TokenSet;
 
 /// The parameters of a session unit (X.225 section 8), each by its meaning, its code in brackets.
 ///
-/// What stands in a group counts only where the group is there.
+/// A parameter of a group counts only if the group is there.
 #[derive(Clone, Copy)]
 pub struct Params<'a> {
     /// Whether the group of the references is there (1).
@@ -101,7 +101,7 @@ impl Params<'static> {
 }
 
 impl<'a> Params<'a> {
-    /// What is known before any parameter is read.
+    /// The parameters of a unit before any has been read.
     #[tactic(auto, using(crate::proofs::ParamsLaws::no_slots))]
     pub(crate) fn none() -> Params<'a>
         ensures { slots_of result ≡ nothing }
@@ -109,8 +109,8 @@ impl<'a> Params<'a> {
         Params::NONE
     }
 
-    /// Makes the parameters as a unit keeps them: a token item has no bit that names no token, and
-    /// empty user data is none.
+    /// Normalises the parameters: a token item keeps only the bits that name a token, and empty user data counts as
+    /// none.
     #[inline(always)]
     pub(crate) fn settle(&mut self)
         ensures value { known_of self.new ≡ known_of self.old }
@@ -120,8 +120,7 @@ impl<'a> Params<'a> {
         self.user_data = some_octets(self.user_data);
     }
 
-    /// The value of a parameter as it is written, empty user data included. A group that is there
-    /// has no octet of its own.
+    /// The value of a parameter in its written form, empty user data included. The value of a group is empty.
     #[tactic(auto, unfolding(crate::specs::Params::slots_of, crate::specs::Params::cells_of, crate::specs::Params::place_of))]
     fn slot(&self, code: Code) -> Option<Value<'a>>
         ensures { option_map octets_of result ≡ slots_of self.now code }
@@ -154,8 +153,7 @@ impl<'a> Params<'a> {
         }
     }
 
-    /// The value of a parameter as it is written, if it is there. A group that is there has no
-    /// octet of its own.
+    /// The value of a parameter in its written form, if it is there. The value of a group is empty.
     pub fn value(&self, code: Code) -> Option<Value<'a>>
         ensures { option_map octets_of result ≡ known_of self.now code }
     {
@@ -199,7 +197,7 @@ impl<'a> Params<'a> {
         }
     }
 
-    /// Puts the value of a parameter into its slot, or `None` where it is no value of this code.
+    /// Puts the value of a parameter into its slot, or returns `None` if its code does not allow this value.
     #[tactic(auto, unfolding(crate::specs::Params::cells_of, crate::specs::Params::place_of, crate::specs::Codes::slot_of, crate::specs::Values::canonical))]
     pub(crate) fn fill(&mut self, code: Code, value: &'a [u8]) -> Option<()>
         ensures value { is_some result ≡ is_some (canonical code value.now) }
@@ -236,7 +234,7 @@ impl<'a> Params<'a> {
     }
 }
 
-/// The tokens without bits that name none.
+/// The tokens, without bits that name no token.
 fn tokens_alone(tokens: Option<TokenSet>) -> Option<TokenSet>
     ensures same { option_map token_octets result ≡ option_map token_octets tokens }
     ensures alone { tokens_alone result ≡ true }
@@ -245,7 +243,7 @@ fn tokens_alone(tokens: Option<TokenSet>) -> Option<TokenSet>
     Some(tokens.alone())
 }
 
-/// The octets, if there are some.
+/// The octets, unless there are none.
 pub(crate) fn some_octets(octets: Option<&[u8]>) -> Option<&[u8]>
     ensures same { option_map (λ s. s.now) result ≡ some_octets (option_map (λ s. s.now) octets.entry) }
 {
@@ -257,7 +255,7 @@ pub(crate) fn some_octets(octets: Option<&[u8]>) -> Option<&[u8]>
     }
 }
 
-/// A group that is there has no octet of its own.
+/// The value of a group is empty.
 fn present<'a>(there: bool) -> Option<Value<'a>>
     ensures { option_map octets_of result ≡ present there }
 {

@@ -1,4 +1,4 @@
-//! Readers of the parameters: each value by its meaning, its code in brackets.
+//! Accessors of the parameters. Each gives the value by its meaning; the code is in brackets.
 
 ghost use Rattle.std.specs.Prelude.{◌≡◌, [], ◌∷◌, is_some, option_map};
 ghost use Rattle.osi_spdu.specs.Fields.{sync_octet, token_octets, octet_list, requirement_octets, size_octets, enclosure_octet, setting_octets, resync_octet, reason_octets};

@@ -1,4 +1,4 @@
-//! The units of a TSDU, read from left to right.
+//! Reading the units of a TSDU from left to right.
 
 ghost use Rattle.std.specs.Prelude.{◌≡◌, ◌<◌, ◌+◌, ◌^◌, true, length, Some, IfOk, IsOkAnd};
 ghost use Rattle.osi_spdu.specs.Kinds.{category_of, kind_named, may_stand};
@@ -20,7 +20,7 @@ use crate::levels::{check_there, measured_at, read_parameters};
 use crate::params::Params;
 use crate::units::Spdu;
 
-/// A unit apart from its parameters: where it ends, and the octets behind it.
+/// A unit and where it ends, apart from its parameters, and the octets after it.
 #[derive(Clone, Copy)]
 struct Found<'a> {
     kind: Kind,
@@ -28,7 +28,7 @@ struct Found<'a> {
     rest: &'a [u8],
 }
 
-/// A unit behind another, where it ends with its user information, and the octets behind that.
+/// A unit that follows another, the end of its user information, and the octets after that.
 #[derive(Clone, Copy)]
 pub(crate) struct Later<'a> {
     pub(crate) unit: Spdu<'a>,
@@ -36,7 +36,7 @@ pub(crate) struct Later<'a> {
     pub(crate) rest: &'a [u8],
 }
 
-/// The unit that an SI names, if it may stand in its place.
+/// The unit that an SI names, if it may occur in this place.
 fn placed_kind(second: bool, at: usize, si: u8) -> Result<Kind, SpduFault>
     ensures value { Gives (λ k. k) result (placed_kind second at (kind_named second si)) }
     ensures stands { IfOk result (λ k. may_stand second (category_of k) ≡ true) }
@@ -50,8 +50,7 @@ fn placed_kind(second: bool, at: usize, si: u8) -> Result<Kind, SpduFault>
     Ok(kind)
 }
 
-// This and its callers are inlined: else the parameters of each unit would be moved through memory
-// on the way out.
+// This function and its callers are inlined: otherwise the parameters of each unit would be copied on the way out.
 #[inline(always)]
 #[tactic(auto, unfolding(crate::specs::Reading::unit_at, crate::specs::Params::known_of))]
 fn unit_at<'a>(
@@ -97,7 +96,7 @@ fn found_at<'a>(
     unit_at(second, at, octets, params)
 }
 
-/// A unit behind another, with the user information of a DT.
+/// A unit that follows another, with the user information of a DT.
 #[inline(always)]
 #[tactic(auto, unfolding(crate::specs::Reading::next_at, crate::specs::Behind::is_behind))]
 pub(crate) fn next_at<'a>(at: usize, octets: &'a [u8]) -> Result<Later<'a>, SpduFault>
@@ -144,19 +143,19 @@ fn read_all(octets: &[u8]) -> Result<Group<'_>, SpduFault>
     }
 }
 
-/// The session units of a TSDU, which they borrow. A fault is the first from left to right.
+/// Reads the session units of a TSDU, which borrow its octets. A fault is the first one from left to right.
 ///
-/// X.225 section 8; sections 6.3.5 to 6.3.7 for what may stand together.
+/// X.225 section 8; sections 6.3.5 to 6.3.7 say which units may occur together.
 #[inline(always)]
 pub fn read_tsdu(octets: &[u8]) -> Result<Group<'_>, SpduFault>
-    // What is read is spelled so.
+    // Sound: units that are read are spelled by the octets.
     ensures found { IfOk result (λ g. SpellsTsdu (units_of g) octets.now) }
-    // What is spelled so is read.
+    // Complete: units that the octets spell are read.
     ensures only { (units : Units) → SpellsTsdu units octets.now →
         IsOkAnd result (λ g. units_of g ≡ units) }
-    // Which fault it is.
+    // Which fault is returned.
     ensures exact { Gives units_of result (tsdu_at octets.now) }
-    // What is read can be written.
+    // Units that were read can be written.
     ensures formed { IfOk result (λ g. IsFormedTsdu (units_of g)) }
     ensures fits { IfOk result (λ g. TsduFits (units_of g)) }
 {

@@ -9,8 +9,8 @@ use crate::codes::Code;
 use crate::octets::{Short, Value};
 use bitflags::{Flag, Flags};
 
-/// The functional units of a session (X.225 section 8, session user requirements). All 16 bits
-/// are kept as they are read.
+/// The functional units of a session (X.225 section 8, session user requirements). All 16 bits are kept as they were
+/// read.
 #[derive(Clone, Copy, PartialEq, Eq, Debug)]
 pub struct Requirements(u16);
 

@@ -15,11 +15,11 @@ pub enum Wish {
     Asker,
     /// The side that answers.
     Answerer,
-    /// The side that the answer names.
+    /// The side that the responder chooses in its answer.
     Choice,
 }
 
-/// The side that holds a token at first, once it is settled.
+/// The side that holds a token at first, once this is settled.
 #[derive(Clone, Copy, PartialEq, Eq, Debug)]
 pub enum Side {
     /// The side that asks for the connection or the resynchronization.

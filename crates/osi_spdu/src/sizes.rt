@@ -1,4 +1,4 @@
-//! The largest TSDU in each direction, as users give it and as it is named in a unit.
+//! The largest TSDU in each direction, as a user gives it and as a unit carries it.
 
 ghost use Rattle.std.specs.Prelude.{◌≡◌, true};
 ghost use Rattle.osi_spdu.specs.Values.{is_size};
@@ -29,7 +29,7 @@ impl TsduSize {
     /// No limit.
     pub const NONE: TsduSize = TsduSize { octets: 0 };
 
-    /// The size of so many octets, 0 for no limit. It is None for 1 to 63.
+    /// The size with this number of octets, 0 for no limit. `None` for 1 to 63.
     pub fn new(octets: u16) -> Option<TsduSize>
         ensures { MatchOption result (is_size octets ≡ false)
             (λ s. (size_of s ≡ octets) × (is_size octets ≡ true)) }
@@ -40,7 +40,7 @@ impl TsduSize {
         Some(TsduSize { octets })
     }
 
-    /// Its octets, 0 for no limit.
+    /// The number of octets, 0 for no limit.
     pub fn octets(self) -> u16
         ensures { result ≡ size_of self }
     {
@@ -57,7 +57,7 @@ impl TsduSizes {
         from_answerer: TsduSize::NONE,
     };
 
-    /// As they are named in a unit, each 0 or at least 64.
+    /// The sizes as a unit carries them, each 0 or at least 64.
     pub fn named(self) -> TsduMaximumSize
         ensures named { result ≡ named_by self }
         ensures sizes { are_sizes result ≡ true }
@@ -78,7 +78,7 @@ impl TsduMaximumSize {
         from_answerer: 0,
     };
 
-    /// What stands in a unit: nothing where both are 0.
+    /// The parameter of a unit: none if both sizes are 0.
     pub fn written(self) -> Option<TsduMaximumSize>
         ensures { result ≡ written_sizes self }
     {

@@ -9,9 +9,8 @@ use crate::codes::Code;
 use crate::octets::Value;
 use bitflags::{Flag, Flags};
 
-/// A set of tokens (X.225 section 8, token item): each has a bit of its own. Bits that name no
-/// token are kept, and never written. What sets have in common, together and apart are the functions
-/// of [`bitflags::Flags`].
+/// A set of tokens, each with a bit of its own (X.225 section 8, token item). Bits that name no token are kept in
+/// memory but never written. Union, intersection and difference are functions of [`bitflags::Flags`].
 #[derive(Clone, Copy, PartialEq, Eq, Debug)]
 pub struct TokenSet(u8);
 
@@ -48,7 +47,7 @@ impl TokenSet {
     #[tactic(auto, unfolding(crate::specs::Values::canonical))]
     pub(crate) fn read(value: &[u8]) -> Option<TokenSet>
         ensures value { canonical Code.TokenItem value.now ≡ option_map token_octets result }
-        // The other bits are left out where the octet is read.
+        // The other bits are dropped when the octet is read.
         ensures alone { tokens_alone result ≡ true }
     {
         match value {

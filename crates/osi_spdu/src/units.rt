@@ -14,7 +14,7 @@ use crate::writing::written_code;
 
 /// A session protocol data unit (X.225 section 8).
 ///
-/// It has no parameter that its kind does not know, and each that its kind must have.
+/// It has only parameters that its kind knows, and all mandatory ones.
 #[derive(Clone, Copy)]
 pub struct Spdu<'a> {
     kind: Kind,
@@ -35,7 +35,7 @@ impl<'a> Spdu<'a> {
         ensures value { said_by result
             ≡ record { kind = kind; known = known_of params.entry; information = [] } }
         ensures kind { (said_by result).kind ≡ kind }
-        // Octets of any number that are not too many leave room for the length.
+        // If the values of variable length have at most 65,000 octets, the unit's length fits.
         ensures fits { lent_len params.entry ≤ 65000 → UnitFits (said_by result) }
     {
         let mut params = params;
@@ -55,7 +55,7 @@ impl<'a> Spdu<'a> {
         ensures value { said_by result
             ≡ record { kind = kind; known = known_of params.entry; information = information.now } }
         ensures kind { (said_by result).kind ≡ kind }
-        // Octets of any number that are not too many leave room for the length.
+        // If the values of variable length have at most 65,000 octets, the unit's length fits.
         ensures fits { lent_len params.entry ≤ 65000 → UnitFits (said_by result) }
     {
         let mut params = params;
@@ -67,15 +67,15 @@ impl<'a> Spdu<'a> {
         }
     }
 
-    /// Which unit it is.
+    /// The kind of the unit.
     pub fn kind(&self) -> Kind
         ensures { result ≡ (said_by self.now).kind }
     {
         self.kind
     }
 
-    /// The parameters, those of its groups included. A token item has no bit that names no token, and
-    /// empty user data is none.
+    /// The parameters, those of its groups included. A token item has only bits that name a token, and empty user data
+    /// counts as none.
     pub fn params(&self) -> &Params<'a>
         ensures known { known_of result.now ≡ (said_by self.now).known }
         ensures settled { is_settled result.now ≡ true }
@@ -83,23 +83,21 @@ impl<'a> Spdu<'a> {
         &self.params
     }
 
-    /// The user information of a DT; of another unit it has no octet.
+    /// The user information of a DT. It is empty for every other unit.
     pub fn information(&self) -> &'a [u8]
         ensures { result.now ≡ (said_by self.now).information }
     {
         self.information
     }
 
-    /// The value of a parameter as it is written, if it is there. A group that is there has no
-    /// octet of its own.
+    /// The value of a parameter in its written form, if it is there. The value of a group is empty.
     pub fn value(&self, code: Code) -> Option<Value<'a>>
         ensures { option_map octets_of result ≡ (said_by self.now).known code }
     {
         self.params.value(code)
     }
 
-    /// The code under which a parameter is written: user data above 512 octets has a code of its
-    /// own in a CN.
+    /// The code under which a parameter is written: a CN has another code for user data above 512 octets.
     pub fn written_code(&self, code: Code) -> Code
         ensures { MatchOption ((said_by self.now).known code) (result ≡ code)
             (λ value. result ≡ written_code (said_by self.now).kind code value) }

@@ -1,4 +1,4 @@
-//! The written form of units: known parameters alone, in rising order of code.
+//! The written form of units: only known parameters, in rising order of code.
 
 ghost use Rattle.std.specs.Prelude.{◌≡◌, ◌≤◌, ◌<◌, ◌^◌, ◌+◌, ◌*◌, ◌++◌, [], ◌∷◌, true, length, get_or, set, nat_lt, is_some, Ok, OnOk, OnErr, if◌then◌else◌};
 ghost use Rattle.std.specs.List.{flat_map};
@@ -27,7 +27,7 @@ use bytes::BytesMut;
 use osi_tpkt::laws::are_octets;
 use std::alloc::AllocError;
 
-/// How many octets a code or SI, a length indicator and these many octets are.
+/// The length of a code or SI, a length indicator and this many octets.
 fn item_len(len: usize) -> usize
     requires { len < 2 ^ 63 + 6 }
     ensures { result ≡ 1 + (if nat_lt 254 len then 3 else 1) + len }
@@ -49,7 +49,7 @@ fn put_header(out: &mut BytesMut, code: u8, len: usize)
     }
 }
 
-/// Appends a code, the length of a value and its octets; those of a short value all at once.
+/// Appends a code, the length of a value and its octets; a short value is appended at once.
 fn put_octets(out: &mut BytesMut, code: u8, octets: &[u8])
     requires small { length octets.now < 65536 }
     requires room { length (written_item code octets.now) ≤ out.old.spare }
@@ -89,8 +89,7 @@ fn put_item(out: &mut BytesMut, code: u8, value: Value)
     out.extend_reserved(value.lent());
 }
 
-/// The code in which a value is written: user data above 512 octets has a code of its own in a
-/// CN.
+/// The code under which a value is written: a CN has another code for user data above 512 octets.
 #[tactic(auto, unfolding(crate::specs::Writing::written_code))]
 pub(crate) fn written_code(kind: Kind, code: Code, value: Value) -> Code
     ensures { result ≡ written_code kind code (octets_of value.entry) }
@@ -102,7 +101,7 @@ pub(crate) fn written_code(kind: Kind, code: Code, value: Value) -> Code
     }
 }
 
-/// How many octets a parameter of a group is.
+/// The length of a parameter of a group, in octets.
 fn member_len(params: &Params, code: Code) -> usize
     ensures { result ≡ length (member_octets code (known_of params.now code)) }
 {
@@ -124,7 +123,7 @@ fn put_member(out: &mut BytesMut, params: &Params, code: Code)
     }
 }
 
-/// How many octets the parameters of a group are.
+/// The length of the parameters of a group, in octets.
 fn members_len(params: &Params, codes: &[Code]) -> usize
     requires { length (members_octets (known_of params.now) codes.now) < 65536 }
     ensures { result ≡ length (members_octets (known_of params.now) codes.now) }
@@ -148,7 +147,7 @@ fn put_members(out: &mut BytesMut, params: &Params, codes: &[Code])
     }
 }
 
-/// How many octets a group of a unit holds, where the unit knows it and it is there.
+/// The length of the contents of a group of a unit, in octets, if the unit knows the group and it is there.
 #[tactic(auto, unfolding(crate::specs::Writing::group_octets))]
 fn group_len(kind: Kind, params: &Params, group: Code) -> usize
     requires group { is_group group ≡ true }
@@ -162,7 +161,7 @@ fn group_len(kind: Kind, params: &Params, group: Code) -> usize
     members_len(params, kind.members(group))
 }
 
-/// How many octets each group of a unit of this kind holds. One that is not there does not count.
+/// The length of the contents of each group of a unit of this kind, in octets. An absent group does not count.
 #[derive(Clone, Copy)]
 struct GroupLengths {
     kind: Kind,
@@ -171,7 +170,7 @@ struct GroupLengths {
 }
 
 impl GroupLengths {
-    /// What the groups of a unit hold.
+    /// The lengths for a unit.
     fn of(kind: Kind, params: &Params) -> GroupLengths
         requires { length (body_octets kind (known_of params.now)) < 65536 }
         ensures kind { result.kind ≡ kind }
@@ -197,7 +196,7 @@ impl GroupLengths {
         }
     }
 
-    /// What a group holds.
+    /// The length of the contents of a group.
     #[tactic(auto, unfolding(crate::specs::UnitLengths::held))]
     fn held(self, group: Code) -> usize
         ensures { result ≡ held self group }
@@ -209,7 +208,7 @@ impl GroupLengths {
     }
 }
 
-/// How many octets a parameter or a group of a unit is.
+/// The length of a parameter or group of a unit, in octets.
 fn parameter_len(groups: GroupLengths, params: &Params, code: Code) -> usize
     requires held { IsHeld groups (known_of params.now) code }
     requires small { length (parameter_octets groups.kind (known_of params.now) code (known_of params.now code))
@@ -251,7 +250,7 @@ fn put_parameter(out: &mut BytesMut, groups: GroupLengths, params: &Params, code
     put_item(out, number, value);
 }
 
-/// How many octets the parameters and groups of a unit are.
+/// The length of the parameters and groups of a unit, in octets.
 #[tactic(auto, unfolding(crate::specs::Writing::body_octets))]
 fn body_len(groups: GroupLengths, params: &Params) -> usize
     requires held { AreHeld groups (known_of params.now) }
@@ -281,10 +280,10 @@ fn put_body(out: &mut BytesMut, groups: GroupLengths, params: &Params)
     }
 }
 
-/// How many octets a unit is, without the user information of a DT.
+/// The length of a unit in octets, without the user information of a DT.
 #[derive(Clone, Copy)]
 struct UnitLength {
-    /// What each of its groups holds.
+    /// The lengths of its groups.
     groups: GroupLengths,
     /// Its parameters and groups.
     body: usize,
@@ -324,8 +323,7 @@ fn put_unit(out: &mut BytesMut, unit: &Spdu, groups: GroupLengths, body: usize)
     put_body(out, groups, unit.params());
 }
 
-/// How many octets the first unit of a group is, the parameters of each unit behind it, and all its
-/// units.
+/// The lengths of the first unit of a group, of the parameters of each unit after it, and of all units, in octets.
 #[derive(Clone, Copy)]
 struct Lengths {
     first: UnitLength,
@@ -348,7 +346,7 @@ fn kept_length(lengths: &[u16], count: usize) -> usize
     lengths[count] as usize
 }
 
-/// How many octets units behind the first one are. The length of each is kept.
+/// The length of the units after the first one, in octets. The length of each unit is stored.
 fn count_units(mut behind: Behind, lengths: &mut [u16]) -> usize
     requires fits { TsduFits (units_behind behind) }
     requires room { length lengths.old ≡ 16 }
@@ -367,8 +365,8 @@ fn count_units(mut behind: Behind, lengths: &mut [u16]) -> usize
     len
 }
 
-/// How many octets the units behind the first one are. The length of each is kept. Mostly there is
-/// one, which is not copied.
+/// The length of the units after the first one, in octets. The length of each unit is stored. The common case is one
+/// unit, which is not copied.
 fn count_behind(behind: &Behind, lengths: &mut [u16]) -> usize
     requires fits { TsduFits (units_behind behind.now) }
     requires room { length lengths.old ≡ 16 }
@@ -384,7 +382,7 @@ fn count_behind(behind: &Behind, lengths: &mut [u16]) -> usize
     counted.whole + unit.information().len()
 }
 
-/// Counts the octets of the units, each once.
+/// Counts the octets of the units, each one once.
 fn lengths_of(group: &Group) -> Lengths
     requires { TsduFits (units_of group.now) }
     ensures first { result.first.body ≡ body_length (first_of group.now) }
@@ -403,7 +401,7 @@ fn lengths_of(group: &Group) -> Lengths
     }
 }
 
-/// How many octets `write_tsdu` appends.
+/// The number of octets that `write_tsdu` appends.
 pub fn written_len(group: &Group) -> usize
     requires { TsduFits (units_of group.now) }
     ensures { result ≡ length (tsdu_octets (units_of group.now)) }
@@ -461,16 +459,15 @@ fn put_group(out: &mut BytesMut, group: &Group, lengths: &Lengths)
 
 /// Appends the written form of the units of a TSDU (X.225 section 8).
 ///
-/// An `Err` leaves the octets of `out` as they were, and comes only where `out` had no room for
-/// all of them and got none.
+/// An `Err` leaves the octets of `out` as they were, and is possible only if `out` had too little room.
 pub fn write_tsdu(group: &Group, out: &mut BytesMut) -> Result<(), AllocError>
     requires { TsduFits (units_of group.now) }
     ensures ok { OnOk result (out.new.items ≡ out.old.items ++ tsdu_octets (units_of group.now)) }
     ensures err { OnErr result (out.new.items ≡ out.old.items) }
     ensures full { OnErr result (out.old.spare < length (tsdu_octets (units_of group.now))) }
-    // The room that was there is used for what is written, and for nothing else.
+    // Spare room of the buffer is used for what is written, and for nothing else.
     ensures spare { UsesSpare result out.old.spare out.new.spare (length (tsdu_octets (units_of group.now))) }
-    // What is appended spells the units, and is read as them.
+    // What is appended spells the units and reads back as them.
     ensures spelled { OnOk result (SpellsTsdu (units_of group.now) (tsdu_octets (units_of group.now))) }
     ensures read { tsdu_at (tsdu_octets (units_of group.now)) ≡ Ok (units_of group.now) }
 {

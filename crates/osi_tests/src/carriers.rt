@@ -1,5 +1,5 @@
-//! Carriers: what no whole end shows (an end of neither class, all references, what is sent where
-//! nothing is open), and that calls succeed where memory is ample.
+//! Carriers: cases that no whole end shows (an end of neither class, all references, sending if nothing is open), and
+//! that calls succeed if memory is ample.
 
 ghost use Rattle.std.specs.Prelude.{◌<◌};
 
@@ -14,38 +14,38 @@ use std::test::Fail;
 enum Told {
     /// The first is open.
     Opened,
-    /// The one of this reference was refused, for reason 130.
+    /// The one with this reference was refused, for reason 130.
     Refused(u16),
     /// A unit of the first is out of sequence.
     Faulted,
-    /// A TSDU came on the first.
+    /// A TSDU arrived on the first.
     Tsdu(&'static [u8]),
 }
 
-/// What a carrier is asked for, and what it answers.
+/// What is asked of a carrier, and what it answers.
 #[derive(Clone, Copy)]
 enum Step {
     /// A connection is asked for, and is given this reference.
     Connect(u16),
     /// No connection may be asked for, by `may_connect` and by `connect`.
     NoConnect(OpenError),
-    /// A TSDU is sent on connection 1, or refused for this error.
+    /// A TSDU is sent on connection 1, or refused with this error.
     Send(&'static [u8], Option<SendError>),
     /// All of these octets are used.
     Take(&'static [u8]),
-    /// These octets are to be carried, no others, and are taken.
+    /// The backlog is exactly these octets, and they are taken.
     Write(&'static [u8]),
-    /// All that is to be carried is taken.
+    /// The whole backlog is taken.
     Carry,
-    /// What happened next.
+    /// The next event.
     Tell(Told),
-    /// So many octets are unsent, all of them of connection 1, and so many connections are live.
+    /// This many octets are unsent, all of them of connection 1, and this many connections are live.
     HoldBack(usize, usize),
     /// Connection 1 is closed for reason 128.
     Close,
 }
 
-/// The answer where a connection is asked for.
+/// The answer to a request for a connection.
 fn connect(carrier: &mut Carrier) -> Result<Ref, OpenError> {
     carrier.connect(None, None)
 }
@@ -67,12 +67,12 @@ fn refuses_to_connect(carrier: &mut Carrier, error: OpenError) -> Result<(), Fai
     }
 }
 
-/// The answer where a TSDU is sent on connection 1.
+/// The answer to sending a TSDU on connection 1.
 fn send(carrier: &mut Carrier, tsdu: &[u8]) -> Result<(), SendError> {
     carrier.send(Ref(1), tsdu)
 }
 
-/// A TSDU is sent on connection 1, or refused for this error.
+/// Sends a TSDU on connection 1, which may be refused with this error.
 fn sends(carrier: &mut Carrier, tsdu: &[u8], error: Option<SendError>) -> Result<(), Fail> {
     match (send(carrier, tsdu), error) {
         (Ok(()), None) => Ok(()),
@@ -82,7 +82,7 @@ fn sends(carrier: &mut Carrier, tsdu: &[u8], error: Option<SendError>) -> Result
     }
 }
 
-/// These octets are to be carried, no others.
+/// Whether the backlog is exactly these octets.
 fn has_to_carry(carrier: &Carrier, octets: &[u8]) -> Result<(), Fail> {
     if carrier.outgoing() != octets {
         return Err(Fail::from("other octets are written"));
@@ -90,7 +90,7 @@ fn has_to_carry(carrier: &Carrier, octets: &[u8]) -> Result<(), Fail> {
     Ok(())
 }
 
-/// All that is to be carried is taken.
+/// Takes the whole backlog.
 fn all_is_taken(carrier: &mut Carrier) {
     carrier.taken(carrier.outgoing().len());
 }
@@ -116,12 +116,12 @@ fn takes(carrier: &mut Carrier, octets: &[u8]) -> Result<(), Fail> {
     }
 }
 
-/// What happened next.
+/// The next event.
 fn next(carrier: &mut Carrier) -> Option<Event> {
     carrier.next_event()
 }
 
-/// What happened is this.
+/// Whether the event is this one.
 fn is_told(event: &Option<Event>, told: Told) -> bool {
     match (event, told) {
         (Some(Event::Opened(Ref(1))), Told::Opened) => true,
@@ -178,7 +178,7 @@ fn goes(carrier: &mut Carrier, steps: &[Step]) -> Result<(), Fail> {
     Ok(())
 }
 
-/// What an end supports, both classes or neither, with size 0A and window 4.
+/// The configuration of an end with both classes or neither, size 0A and window 4.
 fn local(classes: bool) -> Result<Local, Fail> {
     Ok(Local {
         class0: classes,
@@ -206,8 +206,8 @@ fn called_does(rt: &HostRuntime, classes: bool, steps: &[Step]) -> Result<(), Fa
     goes(&mut called(rt, classes)?, steps)
 }
 
-/// The CR of a caller with both classes and window 3, and the DR that refuses connection 1: no class can
-/// be selected.
+/// The CR of a caller with both classes and window 3, and the DR that refuses connection 1, since no class can be
+/// selected.
 const NO_CLASS: [Step; 2] = [
     Step::Take(&[
         0x03, 0x00, 0x00, 0x14, 0x0F, 0xE3, 0x00, 0x00, 0x00, 0x01, 0x20, 0xC0, 0x01, 0x0A, 0xC6,
@@ -306,22 +306,22 @@ fn opened_does(rt: &HostRuntime, steps: &[Step]) -> Result<(), Fail> {
     goes(&mut opened(rt)?, steps)
 }
 
-/// The answer where a TSDU is given away on connection 1.
+/// The answer to sending a TSDU on connection 1 that is given away.
 fn send_owned(carrier: &mut Carrier, tsdu: Vec<u8>) -> Result<(), SendError> {
     carrier.send_owned(Ref(1), tsdu)
 }
 
-/// The answer where TSDUs are sent together on connection 1.
+/// The answer to sending several TSDUs on connection 1 in one call.
 fn send_all(carrier: &mut Carrier, tsdus: &[Vec<u8>]) -> Result<(), SendError> {
     carrier.send_all(Ref(1), tsdus)
 }
 
-/// The answer where TSDUs are given away together on connection 1.
+/// The same for TSDUs that are given away.
 fn send_all_owned(carrier: &mut Carrier, tsdus: Vec<Vec<u8>>) -> Result<(), SendError> {
     carrier.send_all_owned(Ref(1), tsdus)
 }
 
-/// A copy of a TSDU is given away.
+/// Sends a copy of a TSDU that is given away.
 fn gives_away(carrier: &mut Carrier, alloc: Global, tsdu: &[u8]) -> Result<(), Fail> {
     send_owned(carrier, Vec::from_slice(alloc, tsdu)?)?;
     Ok(())
@@ -336,15 +336,15 @@ fn copies(alloc: Global, tsdu: &[u8], count: u8) -> Result<Vec<Vec<u8>>, Fail> {
     Ok(tsdus)
 }
 
-/// Two copies of a TSDU are sent together, and two are given away together.
+/// Sends two copies of a TSDU in one call, and two more that are given away.
 fn sends_together(carrier: &mut Carrier, alloc: Global, tsdu: &[u8]) -> Result<(), Fail> {
     send_all(carrier, copies(alloc, tsdu, 2)?.as_slice())?;
     send_all_owned(carrier, copies(alloc, tsdu, 2)?)?;
     Ok(())
 }
 
-/// With one octet more than the greatest length: a TSDU of that length is sent in each way. Most of the
-/// first goes behind credit that has not come, and the others behind it.
+/// The octets are one more than the greatest length. A TSDU of that length is sent in each way. The peer has not given
+/// enough credit for the first, so most of it and all others wait.
 fn lengths_go_on(carrier: &mut Carrier, alloc: Global, octets: &[u8]) -> Result<(), Fail> {
     let (longest, _) = octets.split_at_checked(1_048_576).ok_or("octets")?;
     sends(carrier, octets, Some(SendError::TooLong))?;
@@ -360,7 +360,7 @@ fn a_sent_tsdu_has_at_most_1048576_octets(rt: HostRuntime) -> Result<(), Fail> {
     lengths_go_on(&mut opened(&rt)?, rt.alloc(), octets.as_slice())
 }
 
-/// A TSDU comes with number 5, where 0 is expected.
+/// A TSDU arrives with number 5, where 0 is expected.
 const FAULT: [Step; 3] = [
     Step::Take(&[3, 0, 0, 0x0A, 4, 0xF0, 0, 1, 0x85, 0x5A]),
     Step::Write(&[3, 0, 0, 0x0B, 6, 0x80, 0, 1, 0, 1, 0x85]),
@@ -378,8 +378,8 @@ const SEND: [Step; 2] = [
     Step::Write(&[3, 0, 0, 0x0A, 4, 0xF0, 0, 1, 0x80, 0x41]),
 ];
 
-/// One was given away, and is sent in a DT with number 1. One comes, which is acknowledged. The connection
-/// is closed with a DR, and nothing is sent on it then.
+/// A TSDU that was given away is sent in a DT with number 1. One arrives and is acknowledged. The connection is closed
+/// with a DR, and nothing can be sent on it after that.
 const CLOSE: [Step; 7] = [
     Step::Write(&[3, 0, 0, 0x0A, 4, 0xF0, 0, 1, 0x81, 0x43]),
     Step::Take(&[3, 0, 0, 0x0A, 4, 0xF0, 0, 1, 0x80, 0x42]),
@@ -410,8 +410,7 @@ fn five(alloc: Global) -> Result<Vec<Vec<u8>>, Fail> {
     Ok(tsdus)
 }
 
-/// TSDUs are sent together. Where no memory is found nothing is written, and they are sent once more, as
-/// if they had not been.
+/// Sends TSDUs in one call. If memory runs out, nothing is written, and they are sent again as if for the first time.
 fn sends_all(carrier: &mut Carrier, tsdus: &[Vec<u8>]) -> Result<(), Fail> {
     match send_all(carrier, tsdus) {
         Ok(()) => Ok(()),
@@ -430,7 +429,7 @@ fn sends_five(carrier: &mut Carrier, alloc: Global) -> Result<(), Fail> {
     sends_all(carrier, five(alloc)?.as_slice())
 }
 
-/// The connection is opened, five TSDUs are sent on it, and then it goes on so.
+/// Opens the connection, sends five TSDUs on it, and continues with these steps.
 fn five_go_on(
     carrier: &mut Carrier,
     alloc: Global,
@@ -458,7 +457,7 @@ fn tsdus_are_sent_together_in_class_0(rt: HostRuntime) -> Result<(), Fail> {
     )
 }
 
-/// Four DTs of class 2, with the numbers 0 to 3, and the last TSDU behind an AK with number 4 and credit 4.
+/// Four DTs of class 2, with the numbers 0 to 3, and the last TSDU after an AK with number 4 and credit 4.
 const FIVE_IN_CLASS_2: [Step; 3] = [
     Step::Write(&[
         3, 0, 0, 0x0A, 4, 0xF0, 0, 1, 0x80, 0x41, 3, 0, 0, 0x0A, 4, 0xF0, 0, 1, 0x81, 0x42, 3, 0,
@@ -478,7 +477,7 @@ fn tsdus_are_sent_together_in_class_2(rt: HostRuntime) -> Result<(), Fail> {
     )
 }
 
-/// An empty list is refused where nothing is open, and then changes nothing.
+/// An empty list is refused if nothing is open; otherwise it changes nothing.
 fn empty_goes_on(carrier: &mut Carrier) -> Result<(), Fail> {
     if send_all(carrier, &[]) != Err(SendError::NotOpen) {
         return Err(Fail::from("another answer to sending"));
@@ -493,8 +492,8 @@ fn an_empty_list_is_sent_on_an_open_connection_alone(rt: HostRuntime) -> Result<
     empty_goes_on(&mut caller(&rt, true)?)
 }
 
-/// Six TSDUs of two octets are sent with credit for four. Credit comes for one more, by an AK of the four,
-/// and then the connection is closed, which a DC answers.
+/// Sends six TSDUs of two octets with credit for four. An AK of the four gives credit for one more. Then the connection
+/// is closed, which a DC answers.
 const HELD_BACK: [Step; 14] = [
     Step::Send(b"AB", None),
     Step::Send(b"AB", None),

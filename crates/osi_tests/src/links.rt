@@ -9,7 +9,7 @@ use osi_tpdu::{DataAcknowledgement, DataClass0, DataClass2, SizeCode, Tpdu, Wind
 use std::alloc::Global;
 use std::test::Fail;
 
-/// What a link gives next: nothing; a DT of class 0, or one of class 2, with so many octets; an AK.
+/// What a link gives next: nothing; a DT of class 0 or of class 2 with this many octets; an AK.
 #[derive(Clone, Copy)]
 enum Given {
     Nothing,
@@ -18,12 +18,12 @@ enum Given {
     Ack { number: u8, credit: u8 },
 }
 
-/// What a link is asked for, and what it answers.
+/// What is asked of a link, and what it answers.
 #[derive(Clone, Copy)]
 enum Step {
     /// A TSDU is handed in.
     Send(&'static [u8]),
-    /// The transport unit of these octets is taken, or refused for this fault.
+    /// The transport unit with these octets is taken, or refused with this fault.
     Take(&'static [u8], Option<LinkFault>),
     /// The next unit.
     Give(Given),
@@ -205,7 +205,7 @@ const EDGE: [Step; 3] = [
     Step::Take(&[4, 0x6F, 0, 1, 0], None),
 ];
 
-/// Fifteen TSDUs of an octet each go out at once, and no other.
+/// Fifteen TSDUs of an octet each are sent at once, and no more.
 fn fifteen_go_out(link: &mut impl Link) -> Result<(), Fail> {
     for number in 0..15u8 {
         let data = Given::Data {
@@ -229,7 +229,7 @@ fn an_ack_sets_the_upper_edge(rt: HostRuntime) -> Result<(), Fail> {
     credit_goes_on(&mut class_2(&rt, SizeCode::new(7), 4, 3)?)
 }
 
-/// A unit goes out, no other does, and it is acknowledged.
+/// One unit is sent and no other, and it is acknowledged.
 fn a_unit_passes(link: &mut impl Link, number: u8) -> Result<(), Fail> {
     let data = Given::Data {
         number,
@@ -251,7 +251,7 @@ const LAST: [Step; 3] = [
     Step::Give(Given::Nothing),
 ];
 
-/// 129 units pass, whose numbers go round, and then the last one.
+/// 129 units pass, so that numbers wrap around, and then the last one.
 fn numbers_go_on(link: &mut impl Link, tsdu: &[u8]) -> Result<(), Fail> {
     sends(link, tsdu)?;
     for unit in 0..129u8 {
@@ -288,7 +288,7 @@ fn each_unit_taken_gives_one_ack(rt: HostRuntime) -> Result<(), Fail> {
     goes(&mut AnyLink::Two(class_2(&rt, None, 2, 0)?), &WINDOW)
 }
 
-/// Each unit is answered by the number behind its own, and credit for one.
+/// Each unit is answered by the number after its own, and credit for one more.
 fn five_are_answered(link: &mut impl Link) -> Result<(), Fail> {
     for number in 0..5u8 {
         takes(
@@ -312,7 +312,7 @@ fn the_fifth_unit_of_a_window_of_1_is_answered_by_number_5(rt: HostRuntime) -> R
     five_are_answered(&mut class_2(&rt, None, 1, 0)?)
 }
 
-/// A DT of class 0 with which no TSDU ends.
+/// A DT of class 0 that does not end its TSDU.
 fn data(user: &[u8]) -> Tpdu<'_> {
     Tpdu::Dt0(DataClass0 { end: false, user })
 }
@@ -337,7 +337,7 @@ const TOO_LONG: [Step; 2] = [
     Step::Take(&[2, 0xF0, 0x80], None),
 ];
 
-/// A link takes no more than the end of the longest TSDU.
+/// A link takes no more than the longest TSDU.
 fn longest_goes_on(link: &mut impl Link, longest: &[u8]) -> Result<(), Fail> {
     takes_longest(link, longest)?;
     goes(link, &TOO_LONG)?;
@@ -384,7 +384,7 @@ fn unit_of(out: Out<'_>) -> Tpdu<'_>
     }
 }
 
-/// Hands the next unit of one link to the other, for reference 1; false where there is none.
+/// Hands the next unit of one link to the other, for reference 1; false if there is none.
 fn passes(from: &mut AnyLink, to: &mut AnyLink) -> Result<bool, LinkFault> {
     match from.next_out() {
         None => Ok(false),
@@ -405,7 +405,7 @@ fn pass_all(from: &mut AnyLink, to: &mut AnyLink) -> Result<(), Fail> {
     Ok(())
 }
 
-/// Two TSDUs of the greatest length go over.
+/// Moves two TSDUs of the greatest length.
 fn two_go_over(ends: &mut Ends, longest: &[u8]) -> Result<(), Fail> {
     for _ in 0..18u8 {
         pass_all(&mut ends.from, &mut ends.to)?;
@@ -415,13 +415,13 @@ fn two_go_over(ends: &mut Ends, longest: &[u8]) -> Result<(), Fail> {
     hands_out(&mut ends.to, Some(longest))
 }
 
-/// A copy of a TSDU is given away.
+/// Sends a copy of a TSDU that is given away.
 fn gives_away(link: &mut AnyLink, alloc: Global, tsdu: &[u8]) -> Result<(), Fail> {
     link.send_owned(Vec::from_slice(alloc, tsdu)?)?;
     Ok(())
 }
 
-/// The longest TSDU is lent, and given away; and then the other way round.
+/// Moves the longest TSDU, once borrowed and once given away, in both orders.
 fn all_go_over(ends: &mut Ends, alloc: Global, longest: &[u8]) -> Result<(), Fail> {
     sends(&mut ends.from, longest)?;
     gives_away(&mut ends.from, alloc, longest)?;

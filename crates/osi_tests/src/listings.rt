@@ -4,10 +4,10 @@ use osi_listing::list;
 use std::alloc::{AllocError, Global};
 use std::test::Fail;
 
-/// Packets that stand behind 16 data units of 65,528 octets, and the last lines of the listing of all.
+/// Packets after 16 data units of 65,528 octets, and the last lines of the listing of all.
 #[derive(Clone, Copy)]
 struct Last {
-    /// A header, and so many octets behind it.
+    /// A header, and this many octets after it.
     header: &'static [u8],
     octets: &'static [u8],
     /// Packets with no octets.
@@ -30,7 +30,7 @@ const TOO_LONG: Last = Last {
     lines: b"octets 129\n  fault 0 TsduTooLong\nrest 0\n",
 };
 
-/// What is too long is dropped up to its end.
+/// The rest of a TSDU that is too long is dropped.
 const DROPPED: Last = Last {
     header: &[3, 0, 0, 136, 2, 0xF0, 0],
     octets: &[0; 129],
@@ -58,12 +58,12 @@ fn push_packets(out: &mut Vec<u8>, last: &Last) -> Result<(), AllocError> {
     out.extend_from_slice(last.behind)
 }
 
-/// The answer of `list`.
+/// The result of `list`.
 fn listed(alloc: Global, text: &mut Vec<u8>, octets: &[u8]) -> Result<u8, AllocError> {
     list(alloc, text, octets)
 }
 
-/// The listing ends so.
+/// The listing ends with these lines.
 fn is_listed(
     alloc: Global,
     octets: &mut Vec<u8>,
@@ -78,7 +78,7 @@ fn is_listed(
     Ok(())
 }
 
-/// The listing ends so, of octets and of a text that are new.
+/// The listing of new octets into a new text ends with these lines.
 fn ends_so(alloc: Global, last: &Last) -> Result<(), Fail> {
     is_listed(alloc, &mut Vec::new(alloc), &mut Vec::new(alloc), last)
 }

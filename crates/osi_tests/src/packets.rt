@@ -8,7 +8,7 @@ fn feed(cutter: &mut Cutter, piece: &[u8]) -> Result<Fed, TpktFault> {
     cutter.feed(piece)
 }
 
-/// The answer to a piece, where a first want of memory is to change nothing.
+/// The answer to a piece. If memory runs out, this must have changed nothing, and the piece is fed again.
 fn fed(cutter: &mut Cutter, piece: &[u8]) -> Result<Fed, Fail> {
     let before = cutter.rest_len();
     match feed(cutter, piece) {
@@ -19,7 +19,7 @@ fn fed(cutter: &mut Cutter, piece: &[u8]) -> Result<Fed, Fail> {
     }
 }
 
-/// A cutter uses so many octets of a piece, and then a packet stands or does not.
+/// A cutter uses this many octets of a piece, and then a packet is ready or not.
 fn uses(cutter: &mut Cutter, piece: &[u8], used: usize, whole: bool) -> Result<(), Fail> {
     let fed = fed(cutter, piece)?;
     if fed.used != used || fed.whole != whole {
@@ -28,7 +28,7 @@ fn uses(cutter: &mut Cutter, piece: &[u8], used: usize, whole: bool) -> Result<(
     Ok(())
 }
 
-/// This packet stands, header and transport unit.
+/// This packet is ready, header and transport unit.
 fn has_packet(cutter: &Cutter, packet: &[u8]) -> Result<(), Fail> {
     let (_, unit) = packet.split_at_checked(4).ok_or("a packet")?;
     if cutter.rest_len() != packet.len() || cutter.packet() != Some(unit) {
@@ -43,7 +43,7 @@ const CONNECT_REQUEST: [u8; 22] = [
     0x01, 0x00, 0xc2, 0x02, 0x01, 0x02,
 ];
 
-/// A packet comes octet by octet.
+/// A packet arrives octet by octet.
 fn comes_slowly(cutter: &mut Cutter, packet: &[u8]) -> Result<(), Fail> {
     let (last, first) = packet.split_last().ok_or("a packet")?;
     for octet in first {
@@ -64,7 +64,7 @@ fn octets_come_one_by_one(rt: HostRuntime) -> Result<(), Fail> {
     two_come_slowly(&mut Cutter::new(rt.alloc()))
 }
 
-/// How many octets a unit of any grammar at the front has, where it is whole.
+/// The length of the unit of any grammar at the front, if it is complete.
 fn octets_read<'a, U: Unit<'a>>(octets: &'a [u8]) -> Option<usize> {
     match U::read(octets) {
         Ok(Some((_, used))) => Some(used),
@@ -72,7 +72,7 @@ fn octets_read<'a, U: Unit<'a>>(octets: &'a [u8]) -> Option<usize> {
     }
 }
 
-/// A unit of any grammar is written so.
+/// A unit of any grammar has this written form.
 pub fn is_appended<'a, U: Unit<'a>>(unit: &U, octets: &[u8], out: &mut BytesMut) -> Result<(), Fail>
     requires { U.fits (U.value unit.now) }
 {
@@ -90,7 +90,7 @@ fn a_packet_is_read_and_written(rt: HostRuntime) -> Result<(), Fail> {
     is_appended(&packet, &CONNECT_REQUEST, &mut BytesMut::new(rt.alloc()))
 }
 
-/// Octets are a proper part of a packet.
+/// Octets are a proper prefix of a packet.
 fn is_cut(octets: &[u8]) -> bool {
     match Packet::read(octets) {
         Ok(None) => true,
@@ -126,7 +126,7 @@ fn is_the_longest_packet(out: &mut BytesMut, unit: &[u8]) -> Result<(), Fail> {
     Ok(())
 }
 
-/// With 65,532 octets.
+/// The octets are 65,532.
 fn sizes_go_on(out: &mut BytesMut, octets: &[u8]) -> Result<(), Fail> {
     let (longest, _) = octets.split_at_checked(65531).ok_or("octets")?;
     has_a_bad_size(out, &[7, 7])?;

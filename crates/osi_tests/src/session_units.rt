@@ -1,5 +1,4 @@
-//! Session units: sets, bounds and what is made; what is read and written stands in the files of
-//! `osi_runs`.
+//! Session units: sets, bounds and constructors. What is read and written is in the files of `osi_runs`.
 
 use bitflags::Flags;
 use bytes::BytesMut;
@@ -13,7 +12,7 @@ const CONNECT: [u8; 20] = [
     0x14, 0x02, 0x00, 0xB9,
 ];
 
-/// The units of a TSDU are written so again.
+/// The units of a TSDU have this as their written form.
 fn is_written_again(out: &mut BytesMut, tsdu: &[u8]) -> Result<(), Fail> {
     let group = read_tsdu(tsdu)?;
     group.write(out)?;
@@ -28,13 +27,13 @@ fn a_connect_is_written_as_it_is_read(rt: HostRuntime) -> Result<(), Fail> {
     is_written_again(&mut BytesMut::new(rt.alloc()), &CONNECT)
 }
 
-/// The kind of the second unit of a minor point behind a token unit.
+/// The kind of the second unit of a minor point after a token unit.
 fn kind_behind_a_token_unit(number: Serial) -> Option<Kind> {
     let group = Group::behind_give_tokens(Spdu::minor_point(None, number, &[0x5A]));
     Some(group.behind().next()?.kind())
 }
 
-/// A minor point behind a token unit is the second unit, and has room for four parameters.
+/// A minor point after a token unit is the second unit, and has room for four parameters.
 #[test]
 fn a_minor_point_stands_behind_a_token_unit(rt: HostRuntime) -> Result<(), Fail> {
     let number = Serial::new(1).ok_or("1 is a serial number")?;

@@ -1,5 +1,5 @@
-//! Sessions by themselves: plans, requests that change nothing, the greatest lengths, and that calls
-//! succeed where memory is ample.
+//! Sessions by themselves: plans, requests that change nothing, the greatest lengths, and that calls succeed if memory
+//! is ample.
 
 use bitflags::Flags;
 use osi_message::Sent;
@@ -34,7 +34,7 @@ const CONNECT: [u8; 20] = [
     0x14, 0x02, 0x00, 0xB9,
 ];
 
-/// The AC that accepts it whole.
+/// The AC that accepts all of it.
 const ACCEPT: [u8; 20] = [
     0x0E, 0x12, 0x05, 0x0C, 0x13, 0x01, 0x01, 0x16, 0x01, 0x02, 0x17, 0x01, 0x31, 0x1A, 0x01, 0x00,
     0x14, 0x02, 0x00, 0xB9,
@@ -48,7 +48,7 @@ fn is_one(sent: &Sent, wanted: &[u8]) -> Result<(), Fail> {
     }
 }
 
-/// A connection is asked for.
+/// The request for a connection.
 fn opening<'a>() -> Result<Opening<'a>, Fail> {
     Ok(Opening {
         requirements: Requirements::from_bits_retain(ALL_UNITS),
@@ -74,12 +74,12 @@ fn opens(left: &mut Session) -> Result<(), Fail> {
     }
 }
 
-/// A TSDU comes.
+/// A TSDU arrives.
 fn takes(session: &mut Session, tsdu: &[u8]) -> Result<Taken, AllocError> {
     session.take_tsdu(tsdu)
 }
 
-/// The AC comes, and all tokens are held.
+/// The AC arrives; all tokens are held.
 fn is_answered(left: &mut Session) -> Result<(), Fail> {
     takes(left, &ACCEPT)?;
     holds(left, 0x55)
@@ -95,20 +95,20 @@ fn holds(session: &Session, tokens: u8) -> Result<(), Fail> {
 /// A GT that gives the data token.
 const GIVES: [u8; 5] = [0x01, 0x03, 0x10, 0x01, 0x01];
 
-/// The data token is to be given.
+/// The plan to give the data token.
 fn plans(left: &Session) -> Result<Plan, CallError> {
     left.plan(Request::Give {
         tokens: TokenSet::from_bits_retain(0x01),
     })
 }
 
-/// A GT would be sent, and no token is given yet.
+/// A GT would be sent, and no token has been given yet.
 fn is_planned(left: &Session, plan: &Plan) -> Result<(), Fail> {
     is_one(plan.sent(), &GIVES)?;
     holds(left, 0x55)
 }
 
-/// What is planned is done, and sent.
+/// Commits the plan, and sends its unit.
 fn commits(left: &mut Session, plan: Plan) -> Result<(), Fail> {
     match left.commit(plan) {
         Some(sent) => is_one(&sent, &GIVES),
@@ -151,17 +151,17 @@ fn a_plan_changes_nothing(rt: HostRuntime) -> Result<(), Fail> {
     gives_a_token(&mut caller(&rt)?)
 }
 
-/// A user asks for this.
+/// A call of the user.
 fn call(session: &mut Session, request: Request) -> Result<Sent, CallError> {
     session.call(request)
 }
 
-/// The units of a TSDU come.
+/// The units of a TSDU arrive.
 fn take(session: &mut Session, units: &Group) -> Result<Taken, AllocError> {
     session.take(units)
 }
 
-/// The CN comes.
+/// The CN arrives.
 fn is_asked(right: &mut Session) -> Result<(), Fail> {
     take(right, &read_tsdu(&CONNECT)?)?;
     Ok(())
@@ -178,7 +178,7 @@ fn accepts(right: &mut Session) -> Result<(), Fail> {
     is_one(&call(right, accept)?, &ACCEPT)
 }
 
-/// The fault of a unit for which the connection is aborted is that data is too long.
+/// The fault for which the connection is aborted is data that is too long.
 fn is_too_long(taken: &Taken) -> Result<(), Fail> {
     match &taken.first {
         Some(
@@ -197,7 +197,7 @@ fn is_over(right: &Session) -> Result<(), Fail> {
     Ok(())
 }
 
-/// A first part of data that is too long comes.
+/// A first part of data arrives that is too long.
 fn takes_too_long(right: &mut Session, part: &[u8]) -> Result<(), Fail> {
     is_too_long(&takes(right, part)?)
 }
@@ -211,7 +211,7 @@ fn push_part(part: &mut Vec<u8>) -> Result<(), Fail> {
     Ok(())
 }
 
-/// The connection is accepted, and a first part of data comes that is too long.
+/// The connection is accepted, and then a first part of data arrives that is too long.
 fn begins_too_long(right: &mut Session, part: &mut Vec<u8>) -> Result<(), Fail> {
     is_asked(right)?;
     accepts(right)?;
@@ -235,15 +235,15 @@ fn plans_point(left: &Session) -> Result<PlannedPoint, CallError> {
     left.plan_minor(true, &[])
 }
 
-/// The session goes on after a point.
+/// The session continues after a point.
 fn goes_on(left: &mut Session, point: SentPoint) -> bool {
     left.advance(point)
 }
 
-/// MIP with number 1, of which the confirmation is asked for.
+/// MIP with number 1, which asks for its confirmation.
 const POINT: [u8; 7] = [0x01, 0x00, 0x31, 0x03, 0x2A, 0x01, 0x31];
 
-/// The point is sent, and the session goes on after it once: then it is stale.
+/// The point is sent, and the session continues after it once; after that the plan is stale.
 fn goes_on_once(left: &mut Session) -> Result<(), Fail> {
     is_connected(left)?;
     let plan = plans_point(left)?;
@@ -260,7 +260,7 @@ fn a_planned_point_is_stale_once_it_is_sent(rt: HostRuntime) -> Result<(), Fail>
     goes_on_once(&mut caller(&rt)?)
 }
 
-/// Octets come that are no session units.
+/// Octets arrive that are not session units.
 fn take_bad(session: &mut Session, fault: SpduFault) -> Result<Taken, AllocError> {
     session.take_bad(fault)
 }
@@ -268,7 +268,7 @@ fn take_bad(session: &mut Session, fault: SpduFault) -> Result<Taken, AllocError
 /// An AB for an error of the protocol, which releases the transport connection too.
 const PROTOCOL_ERROR: [u8; 5] = [0x19, 0x03, 0x11, 0x01, 0x05];
 
-/// The fault of the octets is shown, and AB is sent.
+/// The user is told of the fault, and AB is sent.
 fn is_refused(taken: &Taken) -> Result<(), Fail> {
     match (&taken.first, &taken.reply) {
         (
@@ -293,7 +293,7 @@ fn octets_that_are_no_units_are_answered_by_an_abort(rt: HostRuntime) -> Result<
     refuses_octets(&mut caller(&rt)?)
 }
 
-/// A refusal, and the RF that is sent.
+/// A refusal, and the RF that it sends.
 const REFUSALS: [(Refusal<'static>, &[u8]); 4] = [
     (
         Refusal::Unspecified,
@@ -326,7 +326,7 @@ fn a_refusal_says_why(rt: HostRuntime) -> Result<(), Fail> {
     Ok(())
 }
 
-/// How many octets a request is sent in, where it is one TSDU.
+/// The length of the TSDU in which a request is sent, if it is one TSDU.
 fn length_of(session: &mut Session, request: Request) -> Result<usize, CallError> {
     match call(session, request)?.tsdus() {
         [tsdu] => Ok(tsdu.len()),
@@ -334,7 +334,7 @@ fn length_of(session: &mut Session, request: Request) -> Result<usize, CallError
     }
 }
 
-/// A request is sent in one TSDU of so many octets, or refused.
+/// A request is sent in one TSDU of this many octets, or refused.
 fn has_length(
     session: &mut Session,
     request: Request,
@@ -348,12 +348,12 @@ fn has_length(
     }
 }
 
-/// The first so many octets, and what stands behind them.
+/// The first `count` octets, and the others.
 fn cut(octets: &[u8], count: usize) -> Result<(&[u8], &[u8]), Fail> {
     Ok(octets.split_at_checked(count).ok_or("too few octets")?)
 }
 
-/// With one octet more than the greatest length of data.
+/// The octets are one more than the greatest length of data.
 fn lengths_go_on(left: &mut Session, octets: &[u8]) -> Result<(), Fail> {
     let (too_long, _) = cut(octets, 10_241)?;
     let (_, longest) = cut(octets, 1)?;

@@ -1,5 +1,5 @@
-//! Which side of a connection first said what no session could have said there: runs whose outcome was worked
-//! out by hand. Each TSDU passes whole before the next begins.
+//! Which side of a connection first broke the protocol: runs whose outcome was worked out by hand. In most of them each
+//! TSDU arrives before the next is sent.
 
 use osi_judge::{Finding, Side};
 use std::test::Fail;
@@ -9,12 +9,12 @@ const CN: &[u8] = &[
     0x0D, 0x12, 0x05, 0x0C, 0x13, 0x01, 0x01, 0x16, 0x01, 0x02, 0x17, 0x01, 0x31, 0x1A, 0x01, 0x00,
     0x14, 0x02, 0x00, 0xB9,
 ];
-/// The AC that accepts it whole.
+/// The AC that accepts all of it.
 const AC: &[u8] = &[
     0x0E, 0x12, 0x05, 0x0C, 0x13, 0x01, 0x01, 0x16, 0x01, 0x02, 0x17, 0x01, 0x31, 0x1A, 0x01, 0x00,
     0x14, 0x02, 0x00, 0xB9,
 ];
-/// An AC that gives the data token to the answerer, which was not asked for.
+/// An AC that gives the data token to the answerer, although the CN fixed it for the asker.
 const OTHER_AC: &[u8] = &[
     0x0E, 0x12, 0x05, 0x0C, 0x13, 0x01, 0x01, 0x16, 0x01, 0x02, 0x17, 0x01, 0x31, 0x1A, 0x01, 0x01,
     0x14, 0x02, 0x00, 0xB9,
@@ -72,36 +72,36 @@ const AB_8: &[u8] = &[0x19, 0x03, 0x11, 0x01, 0x08];
 
 const AA: &[u8] = &[0x1A, 0x00];
 
-/// Who says a TSDU.
+/// Who sends a TSDU.
 #[derive(Clone, Copy)]
 enum Who {
     Left,
     Right,
-    /// Right, before whose TSDU the last of left's had not yet passed.
+    /// Right, before the last TSDU of left arrived.
     RightEarly,
 }
 
 use Who::{Left, Right, RightEarly};
 
-/// What passes, and what is found of both sides.
+/// The TSDUs of a run, and the findings for both sides.
 type Run = (&'static [(Who, &'static [u8])], Finding, Finding);
 
 const KEPT: Finding = Finding::Kept;
 
 const RUNS: &[Run] = &[
-    // a token that was given
+    // the data token is given, and its new holder sends data
     (
         &[(Left, CN), (Right, AC), (Left, GT), (Right, DT)],
         KEPT,
         KEPT,
     ),
-    // and that had not come
+    // the new holder sends data before the token has arrived
     (
         &[(Left, CN), (Right, AC), (Left, GT), (RightEarly, DT)],
         KEPT,
         Finding::Broke(1),
     ),
-    // data behind the answer to a restart that gives all tokens to the other side
+    // data after the answer to a restart that gives all tokens to the other side
     (
         &[
             (Left, CN),
@@ -113,14 +113,14 @@ const RUNS: &[Run] = &[
         Finding::Broke(2),
         KEPT,
     ),
-    // a second answer, and one with another side of a token
+    // a second answer, and one that moves a token that the CN had fixed
     (
         &[(Left, CN), (Right, AC), (Right, AC)],
         KEPT,
         Finding::Broke(1),
     ),
     (&[(Left, CN), (Right, OTHER_AC)], KEPT, Finding::Broke(0)),
-    // restarts that cross: the lower stands
+    // restarts that cross: the lower number wins
     (
         &[
             (Left, CN),
@@ -134,7 +134,7 @@ const RUNS: &[Run] = &[
         KEPT,
         KEPT,
     ),
-    // a point is confirmed behind a restart that had come, and whoever accuses for it is right
+    // a point is confirmed again after a restart, and the abort for it is right
     (
         &[
             (Left, CN),
@@ -152,7 +152,7 @@ const RUNS: &[Run] = &[
         KEPT,
         Finding::Broke(4),
     ),
-    // and here wrong
+    // if this is its first confirmation, the abort for it is wrong
     (
         &[
             (Left, CN),
@@ -168,7 +168,7 @@ const RUNS: &[Run] = &[
         Finding::Broke(5),
         KEPT,
     ),
-    // a point of another number
+    // a point with a wrong number
     (
         &[(Left, CN), (Right, AC), (Left, MIP_2)],
         Finding::Broke(1),
@@ -202,13 +202,13 @@ const RUNS: &[Run] = &[
         KEPT,
         KEPT,
     ),
-    // data behind a release that was asked for
+    // data after a release that was asked for
     (
         &[(Left, CN), (Right, AC), (Left, FN), (Left, DT), (Right, NF)],
         Finding::Broke(2),
         KEPT,
     ),
-    // the token acts behind the data
+    // the tokens of a TSDU are given after its data
     (
         &[(Left, CN), (Right, AC), (Left, GT_AND_DT), (Left, DT)],
         Finding::Broke(2),
@@ -219,7 +219,7 @@ const RUNS: &[Run] = &[
         KEPT,
         KEPT,
     ),
-    // a part where no size is agreed, and octets that are no units
+    // a part although no size is agreed, and octets that are not units
     (
         &[(Left, CN), (Right, AC), (Left, FIRST_PART)],
         Finding::Broke(1),
@@ -230,7 +230,7 @@ const RUNS: &[Run] = &[
         Finding::Broke(1),
         KEPT,
     ),
-    // an abort that nobody asked an answer to
+    // an answer to an abort, although no abort was sent
     (
         &[(Left, CN), (Right, AC), (Right, AA)],
         KEPT,
@@ -238,7 +238,7 @@ const RUNS: &[Run] = &[
     ),
 ];
 
-/// A side says a TSDU, before which all that it heard had passed, but for so many.
+/// A side sends a TSDU, when all but this many of those sent to it had arrived.
 fn says(side: &mut Side, missed: usize, tsdu: &[u8]) -> Result<(), Fail> {
     let heard = side.heard();
     if heard < missed || heard - missed < side.before() {

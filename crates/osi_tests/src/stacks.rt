@@ -1,5 +1,5 @@
-//! Whole ends: what no script of `osi_runs` can ask for, and the addresses by which two connections of
-//! one port are told apart.
+//! Whole ends: cases that no script of `osi_runs` can ask for, and the addresses that distinguish two connections of
+//! one port.
 
 use crate::sessions::{ALL_UNITS, ASKER_WISHES};
 use bitflags::Flags;
@@ -41,7 +41,7 @@ fn two_ends(rt: &HostRuntime) -> Result<Ends, Fail> {
     })
 }
 
-/// The answer where a connection is asked for.
+/// The answer to a request for a connection.
 fn connect(stack: &mut Stack, connect: &Connect) -> Result<Ref, ConnectError> {
     stack.connect(connect)
 }
@@ -56,7 +56,7 @@ fn asks(stack: &mut Stack, asked: &Connect, refused: Option<ConnectError>) -> Re
     }
 }
 
-/// A connection for the user with this address, asked for by one that has none.
+/// A request for a connection with the user at this address, without a calling address.
 fn asking(user: &[u8]) -> Result<Connect<'_>, Fail> {
     Ok(Connect {
         requirements: Requirements::from_bits_retain(ALL_UNITS),
@@ -71,7 +71,7 @@ fn asking(user: &[u8]) -> Result<Connect<'_>, Fail> {
     })
 }
 
-/// A selector of 17 octets is refused, and so is what a called end asks for.
+/// A selector of 17 octets is refused, and so is a request for a connection at a called end.
 fn refuse(ends: &mut Ends) -> Result<(), Fail> {
     let not_caller = ConnectError::Open(OpenError::NotCaller);
     asks(
@@ -87,7 +87,7 @@ fn a_long_selector_and_a_called_end_are_refused(rt: HostRuntime) -> Result<(), F
     refuse(&mut two_ends(&rt)?)
 }
 
-/// A connection is asked for with addresses and user data of the greatest lengths.
+/// Asks for a connection with addresses and user data of the greatest lengths.
 fn asks_at_length(left: &mut Stack, user_data: &[u8]) -> Result<(), Fail> {
     let asked = Connect {
         calling_tsap: Tsap::new(&[0x42; 32]),
@@ -104,7 +104,7 @@ fn a_connection_is_asked_for_at_the_greatest_lengths(rt: HostRuntime) -> Result<
     asks_at_length(&mut two_ends(&rt)?.left, &[0x41; 10_240])
 }
 
-/// The other end is fed what one has to send.
+/// Feeds an end with the backlog of the other.
 fn feeds(from: &mut Stack, to: &mut Stack) {
     let fed = to.feed(from.outgoing());
     from.taken(fed.used);
@@ -115,12 +115,12 @@ fn ended(stack: &Stack) -> Option<EndReason> {
     stack.ended()
 }
 
-/// Whether an indication is shown.
+/// Whether an indication is pending; it is fetched.
 fn shows(stack: &mut Stack) -> bool {
     stack.next_indication().is_some()
 }
 
-/// Carries what one end has to send, up to an indication.
+/// Carries the backlog of an end, up to an indication.
 fn carry(from: &mut Stack, to: &mut Stack) -> Result<bool, Fail> {
     feeds(from, to);
     if ended(to) == Some(EndReason::NoMemory) {
@@ -143,7 +143,7 @@ fn is_tsap(address: &Option<Tsap>, octets: &[u8]) -> bool {
     }
 }
 
-/// The connection was asked for of this user, by one that has no address.
+/// Whether the connection was asked for at this address, without a calling address.
 fn name(addresses: &Addresses, user: &[u8]) -> bool {
     is_tsap(&addresses.calling_tsap, &HERE)
         && is_user(&addresses.called_selector, user)
@@ -155,7 +155,7 @@ fn addresses_at(end: &Stack, connection: u16) -> Option<Addresses> {
     end.addresses(Ref(connection))
 }
 
-/// The connection was asked for of this user, or has no addresses.
+/// Whether the connection was asked for at this address, or has no addresses.
 fn is_for(end: &Stack, connection: u16, user: Option<&[u8]>) -> Result<(), Fail> {
     let addresses = addresses_at(end, connection);
     match (&addresses, user) {
@@ -165,13 +165,13 @@ fn is_for(end: &Stack, connection: u16, user: Option<&[u8]>) -> Result<(), Fail>
     }
 }
 
-/// At both ends the connection was asked for of this user, or has no addresses.
+/// The same at both ends.
 fn are_for(ends: &Ends, connection: u16, user: Option<&[u8]>) -> Result<(), Fail> {
     is_for(&ends.left, connection, user)?;
     is_for(&ends.right, connection, user)
 }
 
-/// The CC comes, and then the CN.
+/// The CC arrives, and then the CN.
 fn comes(ends: &mut Ends) -> Result<(), Fail> {
     carry(&mut ends.right, &mut ends.left)?;
     if !carry(&mut ends.left, &mut ends.right)? {
@@ -180,7 +180,7 @@ fn comes(ends: &mut Ends) -> Result<(), Fail> {
     Ok(())
 }
 
-/// A connection is asked for; its called end has no addresses before the CN comes.
+/// Asks for a connection; its called end has no addresses before the CN arrives.
 fn one_comes(ends: &mut Ends, connection: u16, user: &[u8]) -> Result<(), Fail> {
     asks(&mut ends.left, &asking(user)?, None)?;
     carry(&mut ends.left, &mut ends.right)?;
@@ -189,7 +189,7 @@ fn one_comes(ends: &mut Ends, connection: u16, user: &[u8]) -> Result<(), Fail> 
     comes(ends)
 }
 
-/// Two connections are told apart.
+/// Two connections are distinguished.
 fn two_come(ends: &mut Ends) -> Result<(), Fail> {
     one_comes(ends, 1, &ONE)?;
     one_comes(ends, 2, &TWO)?;
@@ -240,7 +240,7 @@ fn gives_up(stack: &mut Stack, connection: u16, refused: Option<CallError>) -> R
     }
 }
 
-/// What an end has to send is this and nothing else.
+/// The backlog of an end is exactly these octets.
 fn has_to_send(stack: &Stack, octets: &[u8]) -> Result<(), Fail> {
     if stack.outgoing() == octets {
         return Ok(());
@@ -248,7 +248,7 @@ fn has_to_send(stack: &Stack, octets: &[u8]) -> Result<(), Fail> {
     Err(Fail::from("other octets"))
 }
 
-/// So many connections are live, and this one stands there.
+/// This many connections are live, and this one is in this phase.
 fn stands(stack: &Stack, live: usize, connection: u16, phase: Phase) -> Result<(), Fail> {
     if stack.live() == live && stack.phase(Ref(connection)) == Some(phase) {
         return Ok(());
@@ -260,7 +260,7 @@ fn is_over(stack: &Stack) -> bool {
     stack.is_over()
 }
 
-/// Before its CC a connection is not given up, nor one that was never asked for.
+/// Before its CC a connection can't be given up, nor can one that was never asked for.
 fn none_is_given_up(ends: &mut Ends) -> Result<(), Fail> {
     asks(&mut ends.left, &asking(&ONE)?, None)?;
     gives_up(&mut ends.left, 1, Some(CallError::BadState))?;
@@ -274,8 +274,8 @@ const GIVEN_UP: [u8; 11] = [
     0x03, 0x00, 0x00, 0x0B, 0x06, 0x80, 0x00, 0x01, 0x00, 0x01, 0x80,
 ];
 
-/// The first of two connections is given up: a DR goes, the other user is shown the loss, and the DC that
-/// answers shows nothing. The second connection goes on.
+/// The first of two connections is given up: a DR is sent, the other user is told of the loss, and the DC that answers
+/// causes no indication. The second connection continues.
 fn one_is_given_up(ends: &mut Ends) -> Result<(), Fail> {
     gives_up(&mut ends.left, 1, None)?;
     has_to_send(&ends.left, &GIVEN_UP)?;
@@ -290,7 +290,7 @@ fn one_is_given_up(ends: &mut Ends) -> Result<(), Fail> {
     stands(&ends.right, 1, 2, Phase::Answering)
 }
 
-/// Where both are given up, the byte connection may be closed.
+/// After both are given up, the byte connection may be closed.
 fn all_are_given_up(ends: &mut Ends) -> Result<(), Fail> {
     gives_up(&mut ends.right, 2, None)?;
     if is_over(&ends.right) || !carry(&mut ends.right, &mut ends.left)? {

@@ -11,7 +11,7 @@ use osi_tpkt::Unit;
 use std::alloc::Global;
 use std::test::Fail;
 
-// Each a transport unit in the form in which it is written.
+// Transport units in their written form.
 const WRITTEN: [&[u8]; 16] = [
     &[
         0x11, 0xE0, 0, 0, 0, 1, 0, 0xC0, 1, 0x0A, 0xC1, 2, 1, 0, 0xC2, 2, 1, 2,
@@ -50,7 +50,7 @@ pub(crate) fn only_unit(packet: &[u8]) -> Result<Tpdu<'_>, Fail>
     Ok(unit)
 }
 
-/// A unit is written so.
+/// A unit has this written form.
 fn is_written(out: &mut BytesMut, unit: &Tpdu<'_>, octets: &[u8]) -> Result<(), Fail>
     requires { HasRoom (value unit.now) }
 {
@@ -61,7 +61,7 @@ fn is_written(out: &mut BytesMut, unit: &Tpdu<'_>, octets: &[u8]) -> Result<(), 
     Ok(())
 }
 
-/// A packet has this unit, and no other.
+/// A packet has exactly this unit.
 fn has_unit(packet: &[u8], unit: &Tpdu<'_>) -> Result<(), Fail> {
     if only_unit(packet)? != *unit {
         return Err(Fail::from("another unit"));
@@ -69,7 +69,7 @@ fn has_unit(packet: &[u8], unit: &Tpdu<'_>) -> Result<(), Fail> {
     Ok(())
 }
 
-/// Octets are one unit, which is written so.
+/// Octets are one unit, and its written form.
 fn is_its_own(out: &mut BytesMut, octets: &[u8]) -> Result<(), Fail> {
     let unit = only_unit(octets)?;
     if written_len(&unit) != octets.len() {
@@ -100,19 +100,19 @@ const REQUEST: [u8; 21] = [
     9,
 ];
 
-/// The same as it is written.
+/// The same in its written form.
 const REQUEST_WRITTEN: [u8; 19] = [
     0x10, 0xE7, 0, 0, 0xAB, 0xCD, 0x4E, 0xC0, 1, 7, 0xC6, 1, 3, 0xC7, 2, 0x20, 0, 8, 9,
 ];
 
-/// The one unit of a packet is written so.
+/// The one unit of a packet has this written form.
 fn is_written_so(alloc: Global, packet: &[u8], octets: &[u8]) -> Result<(), Fail> {
     let unit = only_unit(packet)?;
     is_written(&mut BytesMut::new(alloc), &unit, octets)
 }
 
-/// Transport units as they are read, and as they are written: a CR; a CC with a selector and user data;
-/// a DR with an unknown parameter; an ER; and a DT of class 0 with ignored bits.
+/// Transport units as they are read, and in their written form: a CR; a CC with a selector and user data; a DR with an
+/// unknown parameter; an ER; and a DT of class 0 with ignored bits.
 const SPELLINGS: [(&[u8], &[u8]); 5] = [
     (&REQUEST, &REQUEST_WRITTEN),
     (
@@ -135,7 +135,7 @@ fn units_are_written_in_one_spelling(rt: HostRuntime) -> Result<(), Fail> {
     Ok(())
 }
 
-/// A unit of any grammar stands at the front, and has so many octets.
+/// The unit of any grammar at the front, which has this many octets.
 fn front<'a, U: Unit<'a>>(octets: &'a [u8], count: usize) -> Result<U, Fail> {
     match U::read(octets) {
         Ok(Some((unit, used))) if used == count => Ok(unit),
@@ -143,7 +143,7 @@ fn front<'a, U: Unit<'a>>(octets: &'a [u8], count: usize) -> Result<U, Fail> {
     }
 }
 
-/// Whether a unit of any grammar stands at the front, has so many octets, and may be followed.
+/// Whether a unit of any grammar is at the front, has this many octets, and may be followed by another.
 fn is_at_the_front(octets: &[u8], count: usize, may_be_followed: bool) -> Result<(), Fail> {
     let unit: Tpdu = front(octets, count)?;
     if unit.may_be_followed() != may_be_followed {
@@ -154,14 +154,14 @@ fn is_at_the_front(octets: &[u8], count: usize, may_be_followed: bool) -> Result
 
 #[test]
 fn a_unit_at_the_front(rt: HostRuntime) -> Result<(), Fail> {
-    // Anything may follow an AK, whose number's high bit is ignored; a DT goes to the end.
+    // Anything may follow an AK, and the high bit of its number is ignored; a DT extends to the end.
     is_at_the_front(&[0x04, 0x61, 0, 1, 0x85, 0xFF], 5, true)?;
     is_at_the_front(&[0x02, 0xF0, 0x80, 0xFF], 4, false)?;
     let ak = only_unit(&[0x04, 0x61, 0, 1, 0x85])?;
     is_appended(&ak, &[0x04, 0x61, 0, 1, 5], &mut BytesMut::new(rt.alloc()))
 }
 
-/// A code is that of a size of so many octets, or of none.
+/// A code is that of a size of this many octets, or of no size.
 fn is_size(code: u8, octets: Option<usize>) -> bool {
     match SizeCode::new(code) {
         Some(size) => size.code() == code && Some(size.octets()) == octets,
@@ -189,7 +189,7 @@ fn is_too_long(octets: &[u8]) -> bool {
     Tsap::new(octets).is_none() && Selector::new(octets).is_none()
 }
 
-/// A transport address of these octets has these octets.
+/// A transport address keeps these octets.
 fn keeps(octets: &[u8]) -> bool {
     match Tsap::new(octets) {
         Some(tsap) => tsap.octets() == octets && tsap.selector().octets() == octets,

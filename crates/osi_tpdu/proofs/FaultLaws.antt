@@ -1,10 +1,10 @@
--- What the reader of parameters answers is the first of their faults.
+-- The fault that the reader of parameters returns is their first one.
 use Rattle.std.proofs.Common.{◌≡◌, ℕ, zero, suc, ◌+◌, ◌<◌, ◌≤◌, Bool, true, false, cond, eqb, ltb, leb, not, ◌&&◌, List, [], ◌∷◌, ◌++◌, length, get_or, Option, Some, None, Result, Ok, Err, refl, sym, ap, subst, ◌∙◌, append_assoc, arith, inl, inr, ◌⊎◌, add-zero}
 use Rattle.osi_tpdu.proofs.Vocabulary.{option_to_list, is_some, flat_map, false≢true, ltb-true, ltb-false, leb-true, le-leb, eqb-true, eqb-false, eq-eqb, and_parts, not-false, append-nil, length-append, IsOctets, TpduFault, BadParameterLength, BadParameterValue, DuplicateParameter, Parameters, AreParameters, Item, item_octets, values_of, single, ◌>>=◌, parameter_at, no_parameters, with_size, with_calling, with_called, with_additional, with_alternative, with_parameter, parameters_at, known_at, skipped_at, all_skipped_at, Kind, LooksAtParameters, Parameter, Size, Calling, Called, Additional, Alternative, code_of, MayBeLong, MayHold, HasNoItem, BeginsWith, HasBadLength, IsRepeated, HasBadValue, HasItemFault, HasParameterFault, place_of, StandsBefore, IsFirst}
 use Rattle.osi_tpdu.proofs.StepLaws.{chosen, ok_is}
 use Rattle.osi_tpdu.proofs.ItemLaws.{Adds, other_code, Adds-then, Adds-none, with_found, parameter_found, parameter_again}
 
--- ---- an answer is the first fault, or there is none
+-- ---- a result is the first fault, or there is none
 
 abbrev pub Judges : {A : Type 0} → (TpduFault → Type 0) → Result A TpduFault → Type 0
 Judges Has (Ok x) = (f : TpduFault) → Has f → ⊥
@@ -66,7 +66,7 @@ some_is k j e = cc
 same_parameter : (k j : Parameter) → code_of k ≡ code_of j → k ≡ j
 same_parameter k j e = some_is k j (sym (named_again k) ∙ ap named e ∙ named_again j)
 
--- what is said of the parameter at the front, said of it by another name
+-- a statement about the parameter at the front, for two names of the same parameter
 same_front : (P : Parameter → List ℕ → Type 0) (kind : Kind) (k j : Parameter) (v w s : List ℕ) → BeginsWith kind k v s → BeginsWith kind j w s → P k v → P j w
 same_front P kind k j v w s b c p =
     let same = same_item (item (code_of k) v) (item (code_of j) w) b.rest c.rest (sym b.whole ∙ c.whole) in
@@ -77,7 +77,7 @@ same_front P kind k j v w s b c p =
 pub item_place : (kind : Kind) (at : ℕ) (before : List Item) (s : List ℕ) (f : TpduFault) → HasItemFault kind at before s f → place_of f ≡ at
 item_place kind at before s f h = grind arith
 
--- a bad length stands before all else that an item can have
+-- a bad length comes before all other faults of an item
 length_first : (kind : Kind) (at : ℕ) (before : List Item) (s : List ℕ) (f : TpduFault) → HasItemFault kind at before s f → (f ≡ BadParameterLength at) ⊎ StandsBefore (BadParameterLength at) f
 length_first kind at before s f h = grind arith
 
@@ -241,9 +241,9 @@ with_judged kind at code before value rest s p looks whole adds =
     (λ n6. judges_cond P (eqb code 0xC7) (with_alternative at value p) (Ok p) (λ e. alternative_judged kind at before value s p (begins Alternative (eqb-true code 0xC7 e)) adds)
     (λ n7. ignored kind at code before value rest s whole (λ k v b. eqb-false code (code_of k) (other_code code n0 n1 n2 n6 n7 k) (same_item (item code value) (item (code_of k) v) rest b.rest (sym whole ∙ b.whole)).code))))))
 
--- ---- items behind others
+-- ---- items after others
 
--- the octets from here on have the fault, behind these items
+-- the octets from here on have the fault, after these items
 pub record HasLater (kind : Kind) (at : ℕ) (before : List Item) (octets : List ℕ) (fault : TpduFault) : Type 0 where
   pub items : List Item
   pub rest : List ℕ
@@ -288,7 +288,7 @@ here_or_later kind at before i s t f (j ∷ items) rest e whole some bad =
 pub later_place : (kind : Kind) (at : ℕ) (before : List Item) (s : List ℕ) (f : TpduFault) → HasLater kind at before s f → at ≤ place_of f
 later_place kind at before s f h = omega (arith, item_place kind (at + length (flat_map item_octets h.items)) (before ++ h.items) h.rest f h.bad)
 
--- the item has a fault: it is the first
+-- if the item has a fault, it is the first
 item_first : (kind : Kind) (at : ℕ) (before : List Item) (i : Item) (s t : List ℕ) (f : TpduFault) → s ≡ item_octets i ++ t → IsFirst (HasItemFault kind at before s) f → IsFirst (HasLater kind at before s) f
 item_first kind at before i s t f e h = record {
   there = here kind at before s f (subst (λ (o : List ℕ). 1 ≤ length o) (sym e) (omega arith)) h.there;
@@ -301,7 +301,7 @@ item_first kind at before i s t f e h = record {
   ];
 }
 
--- it has none: the first stands behind it
+-- if it has none, the first comes after it
 item_passed : {A : Type 0} (kind : Kind) (at : ℕ) (before : List Item) (i : Item) (s t : List ℕ) (r : Result A TpduFault) → s ≡ item_octets i ++ t → ((f : TpduFault) → HasItemFault kind at before s f → ⊥)
     → Judges (HasLater kind (at + (2 + length i.value)) (before ++ i ∷ []) t) r → Judges (HasLater kind at before s) r
 item_passed kind at before i s t r e none =
@@ -323,7 +323,7 @@ cut_by : (kind : Kind) (at : ℕ) (before : List Item) (s : List ℕ) (f : TpduF
 cut_by kind at before s f [] rest none whole bad = length_first kind at before rest f (moved kind (at + 0) at (before ++ []) before rest f (add-zero at) (append-nil before) bad)
 cut_by kind at before s f (j ∷ items) rest none whole bad = absurd (none j (flat_map item_octets items ++ rest) (whole ∙ append_assoc (item_octets j) (flat_map item_octets items) rest))
 
--- no item stands there whole
+-- no complete item is there
 cut_first : (kind : Kind) (at : ℕ) (before : List Item) (s : List ℕ) (f : TpduFault) → 1 ≤ length s → parameter_at at s ≡ Err f → IsFirst (HasLater kind at before s) f
 cut_first kind at before s f there e = grind (arith, parameter_none, here, cut_by, parameter_bad)
 

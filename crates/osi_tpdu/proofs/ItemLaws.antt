@@ -1,5 +1,4 @@
--- The parameters of a CR or CC: what reading them gives is what the items mean, and what the items
--- mean is read.
+-- The parameters of a CR or CC: reading them gives what the items mean, and what the items mean is read.
 use Rattle.std.proofs.Common.{◌≡◌, ℕ, zero, suc, ◌+◌, ◌<◌, ◌≤◌, true, false, eqb, ltb, leb, not, ◌&&◌, List, [], ◌∷◌, ◌++◌, length, get_or, take, drop, Option, Some, None, Result, Ok, refl, sym, ap, subst, ◌∙◌, append_assoc, arith, inl, inr, ◌⊎◌}
 use Rattle.std.proofs.lemmas.List.Elements.{filter-append}
 use Rattle.osi_tpdu.proofs.Vocabulary.{map, filter, option_to_list, is_some, IfSome, flat_map, ltb-false, leb-true, le-leb, le-ltb, eqb-true, eq-eqb, ne_eqb, and_parts, not-false, cases_eq, append-nil, take_at, drop_at, length-append, take-append-drop, length-take, length-drop, map-append, IsOctets, octets_take, octets_drop, TpduFault, BadParameterLength, BadParameterValue, DuplicateParameter, Parameter, Size, Calling, Called, Additional, Alternative, code_of, Parameters, AreParameters, Item, item_octets, values_of, single, Means, parameter_at, no_parameters, with_size, with_calling, with_called, with_additional, with_alternative, with_parameter, parameters_at, known_at, skipped_at, all_skipped_at}
@@ -18,7 +17,7 @@ slot Alternative p = p.alternative
 abbrev Gains : ℕ → Option (List ℕ) → List Item → Option (List ℕ) → Type 0
 Gains code old items new = option_to_list old ++ values_of code items ≡ option_to_list new
 
--- the items that stand behind what gave p make it m
+-- the items that follow after those that gave p make it m
 abbrev pub Adds : Parameters → List Item → Parameters → Type 0
 Adds p items m = (k : Parameter) → Gains (code_of k) (slot k p) items (slot k m)
 
@@ -70,7 +69,7 @@ alternative_adds : (value : List ℕ) (p : Parameters) → p.alternative ≡ Non
 alternative_adds value p none Alternative = rw none refl
 alternative_adds value p none k = Adds-none p k
 
--- this holds in whichever order the last two tests stand
+-- this holds in either order of the last two tests
 size_found : (at : ℕ) (value : List ℕ) (p m : Parameters) → AreParameters p → IsOctets value → with_size at value p ≡ Ok m → Adding 0xC0 value p m
 unfolding with_size
 size_found at value p m fits octets e = grind (arith, get_or, unless_ok, when_ok, and_parts, ok_is, size_adds, one_long, eqb-true, not-false, is_none, leb-true)
@@ -91,7 +90,7 @@ alternative_found : (at : ℕ) (value : List ℕ) (p m : Parameters) → ArePara
 unfolding with_alternative
 alternative_found at value p m fits octets e = grind (arith, unless_ok, ok_is, alternative_adds, is_none)
 
--- what a code that is none of the table is not
+-- a code that is not in the table is none of these
 pub other_code : (code : ℕ) → eqb code 0xC0 ≡ false → eqb code 0xC1 ≡ false → eqb code 0xC2 ≡ false → eqb code 0xC6 ≡ false → eqb code 0xC7 ≡ false → (k : Parameter) → eqb code (code_of k) ≡ false
 other_code code a b c d e Size = a
 other_code code a b c d e Calling = b
@@ -128,7 +127,7 @@ ok p = Ok p
 abbrev Piece : Type 0
 Piece = ℕ × List ℕ × List ℕ
 
--- a code, a length, the value, and what stands behind it
+-- a code, a length, the value, and the octets after it
 split_two : (s : List ℕ) → 2 ≤ length s → s ≡ get_or s 0 0 ∷ get_or s 1 0 ∷ drop 2 s
 split_two (a ∷ b ∷ s) le = refl
 split_two _ le = absurd (omega arith)
@@ -149,7 +148,7 @@ parameter_found at s x octets e =
     subst (λ (y : Piece). (s ≡ item_octets (item y.0 y.1) ++ y.2) × IsOctets y.1 × IsOctets y.2 × (length y.2 < length s)) (ok_is made x a.1)
     (whole, octets_take n (drop 2 s) (octets_drop 2 s octets), octets_drop n (drop 2 s) (octets_drop 2 s octets), omega (arith, length-drop n (drop 2 s), length-drop 2 s))
 
--- what stands in the octets
+-- what the octets hold
 pub record Found (p : Parameters) (s : List ℕ) (m : Parameters) : Type 0 where
   pub items : List Item
   pub spelled : s ≡ flat_map item_octets items
@@ -241,7 +240,7 @@ same_parameters p m a =
     let additional = single-injective p.additional m.additional (same Additional) in
     λ i. record { size = size i; calling = same Calling i; called = same Called i; additional = additional i; alternative = same Alternative i }
 
--- items behind one with another code
+-- items after one with another code
 Gains-past : (code : ℕ) (i : Item) (items : List Item) (o new : Option (List ℕ)) → eqb i.code code ≡ false → Gains code o (i ∷ items) new → Gains code o items new
 Gains-past code i items o new ne e = rw ne at e
 
@@ -259,7 +258,7 @@ short_value : (o : Option (List ℕ)) (v : List ℕ) → IfSome o (λ s. (length
 short_value None v h e = absurd cc
 short_value (Some w) v h e = grind arith
 
--- what is read of an item with a code of the table, and what the others add to that
+-- the result of reading an item with a code of the table, and what the other items add to it
 size_left : (n : ℕ) (value : List ℕ) (items : List Item) (p m : Parameters) → value ≡ n ∷ [] → p.size ≡ None → Adds p (item 0xC0 value ∷ items) m → Adds (record p { size = Some n }) items m
 size_left n value items p m one none a Size = ap (λ (v : List ℕ). v ∷ values_of 0xC0 items) (sym one) ∙ rw none at (a Size)
 size_left n value items p m one none a k = a k
@@ -378,7 +377,7 @@ meant items m means Called = means.called
 meant items m means Additional = means.additional
 meant items m means Alternative = means.alternative
 
--- what the items mean is known when they were read
+-- once items were read, their meaning is known
 pub known_only : (at : ℕ) (items : List Item) (m : Parameters) → AreParameters m → Means m items → known_at at (flat_map item_octets items) ≡ Ok m
 known_only at items m fits means =
     parameters_only (length (flat_map item_octets items)) at no_parameters items m (omega arith) fits

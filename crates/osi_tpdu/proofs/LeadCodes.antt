@@ -1,4 +1,4 @@
--- The code octet of a unit tells whether another may follow it.
+-- The code octet of a unit tells whether another unit may follow it.
 use Rattle.std.proofs.Common.{◌≡◌, ℕ, ◌+◌, ◌≤◌, ◌/◌, ◌%◌, Bool, true, false, eqb, ltb, leb, List, length, get_or, drop, Result, Ok, Err, refl, sym, ◌∙◌, subst, arith, inl, inr}
 use Rattle.osi_tpdu.proofs.Vocabulary.{ne_eqb, eqb-true, TpduFault, BadLi, UnknownCode, Value, request, confirm, disconnect, disconnected, data0, data2, acknowledge, error, may_be_followed, header_at, reference_at, all_skipped_at, connect_of, request_of, confirm_of, disconnect_of, disconnected_of, transfer_of, acknowledge_of, error_of, value_of, is_lead_code, used_by, unit_at, can_be_read}
 use Rattle.osi_tpdu.proofs.StepLaws.{bind_ok, unless_ok, when_ok, chosen, ok_is}
@@ -43,12 +43,12 @@ lead_code : (at : ℕ) (header behind : List ℕ) (v : Value) → value_of at he
 unfolding value_of is_lead_code
 lead_code at header behind v e = grind (arith, get_or, chosen, eqb-true, request_leads, no_lead, confirm_leads, acknowledge_leads, disconnect_leads, disconnected_leads, transfer_leads, when_ok, error_leads)
 
--- the first unit by its header and its fields, and how many octets it takes
+-- the first unit by its header and its fields, and the number of octets it takes
 pub first_read : (at : ℕ) (b : List ℕ) (x : List ℕ × List ℕ) (v : Value) → header_at at b ≡ Ok x → value_of at x.0 x.1 ≡ Ok v → unit_at at b ≡ Ok (v, used_by x.0 (length b))
 unfolding unit_at
 first_read at b x v header fields = rw (header, fields, lead_code at x.0 x.1 v fields) refl
 
--- a header or fields that cannot be read are no part of what can be
+-- a header or fields that can't be read are no part of octets that can
 pub no_bad_header : (at : ℕ) (b : List ℕ) (f : TpduFault) → 1 ≤ length b → can_be_read at b ≡ true → header_at at b ≡ Err f → ⊥
 unfolding unit_at
 no_bad_header at b f some can header = none_bad at b f some can (rw header refl)
@@ -62,7 +62,7 @@ read_by : (at : ℕ) (b : List ℕ) (x : List ℕ × List ℕ) (r : Result Value
 read_by at b x (Ok v) some can header fields = (v, fields, first_read at b x v header fields)
 read_by at b x (Err f) some can header fields = absurd (no_bad_fields at b x f some can header fields)
 
--- behind a header in what can be read stands a unit
+-- after a header, octets that can be read begin with a unit
 pub first_stands : (at : ℕ) (b : List ℕ) (x : List ℕ × List ℕ) → 1 ≤ length b → can_be_read at b ≡ true → header_at at b ≡ Ok x
     → (v : Value) × (value_of at x.0 x.1 ≡ Ok v) × (unit_at at b ≡ Ok (v, used_by x.0 (length b)))
 first_stands at b x some can header = read_by at b x (value_of at x.0 x.1) some can header refl

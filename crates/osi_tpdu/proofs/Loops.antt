@@ -1,5 +1,4 @@
--- The loops over parameters and units: what has been read and what is left give what reading the
--- whole gives.
+-- The loops over parameters and units: what has been read and what is left give the result of reading the whole.
 use Rattle.std.proofs.Common.{◌≡◌, ℕ, zero, suc, ◌+◌, ◌<◌, ◌≤◌, List, [], ◌∷◌, length, Result, Ok, Err, sym, arith}
 use Rattle.osi_tpdu.proofs.Vocabulary.{TpduFault, Parameters, parameter_at, with_parameter, parameters_at, skipped_at}
 
@@ -53,7 +52,7 @@ Reads-all-with n at p (o ∷ rest) whole none same = absurd (omega arith)
 pub Reads-all : (at : ℕ) (p : Parameters) (rest : List ℕ) (whole : Result Parameters TpduFault) → Reads at p rest whole → length rest ≡ 0 → whole ≡ Ok p
 Reads-all at p rest whole r none = Reads-all-with r.fuel at p rest whole none r.same
 
--- the same where none is known
+-- the same if none is known
 pub record Skips (at : ℕ) (rest : List ℕ) (whole : Result (Unit {0}) TpduFault) : Type 0 where
   pub fuel : ℕ
   pub enough : length rest ≤ fuel

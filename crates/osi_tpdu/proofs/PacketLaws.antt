@@ -1,5 +1,4 @@
--- The units of a packet: what is read is spelled so, what is spelled so is read, and what is left
--- behind the first of them.
+-- The units of a packet: reading is sound and complete, and what is left after the first unit.
 use Rattle.std.proofs.Common.{◌≡◌, ℕ, zero, suc, ◌+◌, ◌<◌, ◌≤◌, Bool, true, false, cond, eqb, List, [], ◌∷◌, ◌++◌, length, take, drop, Result, Ok, Err, refl, sym, ap, subst, ◌∙◌, append_assoc, arith, inl, inr, add-zero, zero-add}
 use Rattle.std.specs.Result.{result_unwrap_or}
 use Rattle.osi_tpdu.proofs.Vocabulary.{is_ok, IsTrue, IsOk, OnFalse, AllByRecursion, false≢true, eqb-true, eqb-false, eq-eqb, ne_eqb, cases_Bool, append-nil, take_all, drop_all, drop_at, length-append, take-append-drop, length-drop, length-take-le, IsOctets, octets_right, octets_drop, TpduFault, Value, may_be_followed, Spells, ◌>>=◌, header_at, value_of, unit_at, AreUnits, AreLeads, IsFirstFault, Follows, units_at, units_of, Fits, can_be_read, rest_at}
@@ -23,7 +22,7 @@ bad_one f = Err f
 abbrev with_first : Value → Read → Read
 with_first v others = others >>= λ vs. Ok (v ∷ vs)
 
--- ---- what is read is spelled so
+-- ---- sound: what is read is spelled by the octets
 
 lead_by_rest : (v : Value) (rest : List ℕ) (may : Bool) → may_be_followed v ≡ may → 1 ≤ length rest → Follows v rest → IsTrue (may_be_followed v)
 lead_by_rest v rest true may some f = may
@@ -61,7 +60,7 @@ pub units_found : (b : List ℕ) (vs : List Value) → IsOctets b → units_of b
 unfolding units_of
 units_found b vs octets e = units_at_found (suc (length b)) 0 b vs octets e
 
--- ---- what is spelled so is read
+-- ---- complete: what the octets spell is read
 
 spelling_least : (v : Value) (x : List ℕ) → Spells v x → 1 ≤ length x
 spelling_least v x s = subst (λ (y : List ℕ). 1 ≤ length y) (sym s.whole) (omega arith)
@@ -218,7 +217,7 @@ first_left at rest x some can read =
           }
     ]
 
--- a unit that cannot be read is no part of what can be
+-- a unit that can't be read is no part of octets that can
 pub none_bad : (at : ℕ) (rest : List ℕ) (f : TpduFault) → 1 ≤ length rest → can_be_read at rest ≡ true → unit_at at rest ≡ Err f → ⊥
 unfolding units_at
 none_bad at rest f some can read = grind (arith, some_left, false≢true)
@@ -229,25 +228,25 @@ packet_by b (Ok vs) e some h =
     (here.0 ∙ ap is_ok_read e, ap (λ (us : List Value). ok us) (sym (ap left_of e) ∙ sym here.1))
 packet_by b (Err f) e some h = absurd (false≢true h)
 
--- a packet that was read can be, and all its units are left
+-- a packet that was read can be read, and all its units are left
 pub packet_left : (b : List ℕ) → IsOk (units_of b) → (can_be_read 0 b ≡ true) × (units_of b ≡ Ok (rest_at 0 b))
 unfolding units_of units_at unit_at header_at
 packet_left [] h = absurd (false≢true h)
 packet_left (o ∷ b) h = packet_by (o ∷ b) (units_at (suc (length (o ∷ b))) 0 (o ∷ b)) refl (omega arith) h
 
--- what has a fault is spelled by no units
+-- octets with a fault spell no units
 pub no_units : (b : List ℕ) (f : TpduFault) (vs : List Value) → units_of b ≡ Err f → AreUnits vs b → ⊥
 no_units b f vs bad us =
     let read : units_of b ≡ Ok vs = units_only b vs us in
     cc
 
--- and what was read by no others
+-- octets that were read spell no other units
 pub one_reading : (b : List ℕ) (vs ws : List Value) → units_of b ≡ Ok vs → AreUnits ws b → vs ≡ ws
 one_reading b vs ws read us =
     let again : units_of b ≡ Ok ws = units_only b ws us in
     cc
 
--- ---- units behind others
+-- ---- units after others
 
 units_behind : (leads : List Value) (front x : List ℕ) (v : Value) → AreLeads leads front → Spells v x → AreUnits (leads ++ v ∷ []) (front ++ x)
 units_behind [] front x v none s = subst (λ (f : List ℕ). Spells v (f ++ x)) (sym none) s
@@ -256,7 +255,7 @@ units_behind (w ∷ leads) front x v l s =
     let whole : front ++ x ≡ l.1 ++ (l.2 ++ x) = ap (λ (f : List ℕ). f ++ x) l.3 ∙ append_assoc l.1 l.2 x in
     cons_units w (leads ++ v ∷ []) l.1 (l.2 ++ x) (front ++ x) whole l.0 l.4 others
 
--- whatever units stand before it, a spelling is read
+-- a spelling is read, whatever units come before it
 pub behind_read : (leads : List Value) (front x : List ℕ) (v : Value) → AreLeads leads front → Spells v x → units_of (front ++ x) ≡ Ok (leads ++ v ∷ [])
 behind_read leads front x v l s = units_only (front ++ x) (leads ++ v ∷ []) (units_behind leads front x v l s)
 
@@ -281,7 +280,7 @@ read_fits at b x v octets header fields =
 
 -- ---- the first fault
 
--- what stands before the first unit that cannot be read
+-- the units before the first one that can't be read
 record Stops (at : ℕ) (b : List ℕ) (f : TpduFault) : Type 0 where
   pub leads : List Value
   pub front : List ℕ

@@ -32,7 +32,7 @@ ack_only first high low last code =
     let header : header_at 0 (4 ∷ first ∷ high ∷ low ∷ last ∷ []) ≡ Ok (front, []) = header_again 0 front [] (omega arith) (omega arith) in
     only_unit (acknowledge (first % 16) (256 * high + low) (last % 128)) (4 ∷ first ∷ high ∷ low ∷ last ∷ []) (rw (header, code) refl)
 
--- ---- the same of the octets of a packet, one by one
+-- ---- the same for the octets of a packet, one by one
 
 abbrev data0_in : List ℕ → Value
 data0_in packet = data0 (leb 128 (get_or packet 2 0)) (take (length packet - 3) (drop 3 packet))
@@ -43,7 +43,7 @@ data2_in packet = data2 (256 * get_or packet 2 0 + get_or packet 3 0) (get_or pa
 abbrev ack_in : List ℕ → Value
 ack_in packet = acknowledge (get_or packet 1 0 % 16) (256 * get_or packet 2 0 + get_or packet 3 0) (get_or packet 4 0 % 128)
 
--- the octets behind so many, as they are sliced
+-- the octets after this many, as they are sliced
 behind : (n : ℕ) (packet : List ℕ) → drop n packet ≡ take (length packet - n) (drop n packet)
 behind n packet = sym (take_all (length packet - n) (drop n packet) (omega (arith, length-drop n packet)))
 

@@ -1,4 +1,4 @@
--- What the reader of a unit answers is the first of its faults.
+-- The fault that the reader of a unit returns is its first one.
 use Rattle.std.proofs.Common.{◌≡◌, ℕ, ◌+◌, ◌*◌, ◌/◌, ◌%◌, ◌<◌, ◌≤◌, true, false, cond, eqb, ltb, leb, ◌||◌, List, ◌∷◌, ◌++◌, length, get_or, take, drop, Option, Some, None, Result, Ok, Err, refl, sym, ap, subst, ◌∙◌, arith, inl, inr, ◌⊎◌}
 use Rattle.osi_tpdu.proofs.Vocabulary.{IsOk, false≢true, ltb-true, ltb-false, eqb-true, eqb-false, length-take-le, drop_at, take-append-drop, IsOctets, octets_drop, octets_left, TpduFault, BadLi, UnknownCode, Parameters, Connect, Value, request, confirm, disconnect, disconnected, data0, data2, acknowledge, error, may_be_followed, header_at, reference_at, known_at, all_skipped_at, connect_of, request_of, confirm_of, disconnect_of, disconnected_of, transfer_of, acknowledge_of, error_of, value_of, unit_at, Kind, Request, Confirm, Disconnect, Disconnected, Transfer, Acknowledge, Report, HasCode, MayCount, HasParametersBehind, LooksAtParameters, HasParameterFault, HasHeader, HasNoHeader, BeginsUnit, HasBadIndicator, HasUnknownCode, HasFault, StandsBefore, IsFirst, IsUnitFault}
 use Rattle.osi_tpdu.proofs.StepLaws.{chosen, ok_is, IsOctets-rest}
@@ -33,7 +33,7 @@ some_is k j e = cc
 same_kind : (k j : Kind) (code : ℕ) → HasCode k code → HasCode j code → k ≡ j
 same_kind k j code a b = some_is k j (sym (named_kind k code a) ∙ named_kind j code b)
 
--- what is said of the unit that begins the octets, said of it by another name
+-- a statement about the unit at the front of the octets, for two names of the same kind
 same_unit : (P : Kind → List ℕ → Type 0) (k j : Kind) (b h g : List ℕ) → BeginsUnit k b h → BeginsUnit j b g → P k h → P j g
 same_unit P k j b h g x y p =
     let headers : h ≡ g = same_header b h x.behind g y.behind x.there y.there in
@@ -100,7 +100,7 @@ parameters_only at b fixed s kind r u counts behind =
       ]
     ])
 
--- the same where the fixed part is so long
+-- the same if the fixed part has n octets
 behind_judged : {A : Type 0} (at n : ℕ) (b header : List ℕ) (kind : Kind) (r : Result A TpduFault) → n ≤ length header → BeginsUnit kind b header → MayCount kind (length header) → HasParametersBehind kind n
     → Judges (HasParameterFault kind (at + (1 + n)) (drop n header)) r → Judges (HasFault at b) r
 behind_judged at n b header kind r long u counts behind j =
@@ -274,7 +274,7 @@ fault_by : (at : ℕ) (b : List ℕ) (f : TpduFault) (r : Read) → r ≡ Err f 
 fault_by at b f (Ok x) e j = absurd cc
 fault_by at b f (Err g) e j = grind arith
 
--- what is answered is the first
+-- the fault returned is the first
 pub unit_fault_found : (at : ℕ) (b : List ℕ) (f : TpduFault) → IsOctets b → unit_at at b ≡ Err f → IsUnitFault at b f
 unit_fault_found at b f octets e = fault_by at b f (unit_at at b) e (unit_judged at b octets)
 
@@ -306,7 +306,7 @@ only_by : (at : ℕ) (b : List ℕ) (f : TpduFault) (r : Read) → IsUnitFault a
 only_by at b f (Ok x) first j = absurd (j f first.there)
 only_by at b f (Err g) first j = ap (λ (h : TpduFault). (let r : Read = Err h in r)) (one_first (HasFault at b) g f j first)
 
--- and the first is answered
+-- and the first fault is returned
 pub unit_fault_only : (at : ℕ) (b : List ℕ) (f : TpduFault) → IsOctets b → IsUnitFault at b f → unit_at at b ≡ Err f
 unit_fault_only at b f octets first = only_by at b f (unit_at at b) first (unit_judged at b octets)
 

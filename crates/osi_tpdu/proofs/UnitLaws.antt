@@ -1,4 +1,4 @@
--- One unit: what is read is spelled so, and what is spelled so is read.
+-- One unit: reading is sound and complete.
 use Rattle.std.proofs.Common.{◌≡◌, ℕ, ◌+◌, ◌*◌, ◌/◌, ◌%◌, ◌<◌, ◌≤◌, Bool, true, false, cond, eqb, ltb, leb, ◌||◌, List, [], ◌∷◌, ◌++◌, length, get_or, take, drop, Result, Ok, Err, refl, sym, ap, subst, ◌∙◌, arith, inl, inr}
 use Rattle.osi_tpkt.specs.Unit.{IsAtFront}
 use Rattle.osi_tpdu.proofs.Vocabulary.{flat_map, OnFalse, ltb-false, leb-true, leb-false, le-leb, lt-leb, le-ltb, eqb-true, eqb-false, ne_eqb, or_parts, cases_Bool, append-nil, take_at, drop_at, length-append, take-append-drop, length-take, length-take-le, take_all, drop_all, IsOctets, octets_take, octets_drop, octets_left, octets_right, TpduFault, BadLi, UnknownCode, Parameters, Connect, Value, request, confirm, disconnect, disconnected, data0, data2, acknowledge, error, user_data, may_be_followed, IsReference, IsConnect, HasFieldsInRange, Item, Means, item_octets, two, below_bit, connect_part, IsHeader, Spells, header_at, reference_at, known_at, all_skipped_at, connect_of, request_of, confirm_of, disconnect_of, disconnected_of, transfer_of, acknowledge_of, error_of, value_of, unit_at, Follows}
@@ -71,7 +71,7 @@ number_read false n lt = omega arith
 
 -- ---- found: what the fields of a unit were read from
 
--- the header is one of the value, and the value's user data is what stands behind it
+-- the header is one of the value, and the value's user data is what stands after it
 pub record IsRead (v : Value) (header behind : List ℕ) : Type 0 where
   pub fields : IsHeader v header
   pub in_range : HasFieldsInRange v
@@ -369,7 +369,7 @@ ok_measured x = Ok x
 abbrev measured : Value → List ℕ → List ℕ → Measured
 measured v header b = (v, cond (may_be_followed v) (1 + length header) (length b))
 
--- what stands at the front
+-- what is at the front
 abbrev Stands : List ℕ → Measured → Type 0
 Stands b x = IsAtFront Spells Follows x.0 x.1 b × (1 ≤ x.1)
 
@@ -378,7 +378,7 @@ stands : (v : Value) (header behind : List ℕ) (may : Bool) → may_be_followed
 stands v header behind true may r some most octets = grind (arith, take_at, append-nil, octets_take, length-append)
 stands v header behind false may r some most octets = grind (arith, take_all, drop_all)
 
--- what is read is spelled so
+-- sound: what is read is spelled by the octets
 pub unit_found : (at : ℕ) (b : List ℕ) (x : Value × ℕ) → IsOctets b → unit_at at b ≡ Ok x → Stands b x
 unfolding unit_at
 unit_found at b x octets e =
@@ -424,7 +424,7 @@ only_with at v x y false may s f =
     ap (λ (m : Bool). cond m (1 + length s.header) (length (length s.header ∷ s.header ++ user_data v))) may ∙ sym (ap length s.whole) in
     ap (λ (w : List ℕ). unit_at at w) whole ∙ read ∙ ap (λ (n : ℕ). ok_measured (v, n)) n-is
 
--- what is spelled so is read
+-- complete: what the octets spell is read
 pub unit_only : (at : ℕ) (v : Value) (n : ℕ) (b : List ℕ) → IsAtFront Spells Follows v n b → unit_at at b ≡ Ok (v, n)
 unit_only at v n b f =
     let read = only_with at v (take n b) (drop n b) (may_be_followed v) refl f.spelled f.followed in
@@ -454,7 +454,7 @@ follows_nothing v false may = rw may refl
 pub stands_alone : (v : Value) → Follows v []
 stands_alone v = follows_nothing v (may_be_followed v) refl
 
--- at most one unit stands at the front of octets
+-- at most one unit is at the front of octets
 pub one_reading : (v w : Value) (m n : ℕ) (octets : List ℕ) → IsOctets octets → IsAtFront Spells Follows v m octets → IsAtFront Spells Follows w n octets → (v ≡ w) × (m ≡ n)
 one_reading v w m n octets are_octets p q =
     let first : unit_at 0 octets ≡ Ok (v, m) = unit_only 0 v m octets p in
@@ -462,13 +462,13 @@ one_reading v w m n octets are_octets p q =
     let same = ok_is (v, m) (w, n) (sym first ∙ second) in
     (ap (λ (x : Value × ℕ). x.0) same, ap (λ (x : Value × ℕ). x.1) same)
 
--- what was read is what stands there
+-- what was read is what is at the front
 pub same_front : (octets : List ℕ) (v : Value) (n : ℕ) (x : Value × ℕ) → IsAtFront Spells Follows v n octets → unit_at 0 octets ≡ Ok x → (x.0 ≡ v) × (x.1 ≡ n)
 same_front octets v n x stands read =
     let same = ok_is x (v, n) (sym read ∙ unit_only 0 v n octets stands) in
     (ap (λ (y : Value × ℕ). y.0) same, ap (λ (y : Value × ℕ). y.1) same)
 
--- a unit that stands there has no fault
+-- a unit at the front has no fault
 pub not_bad : (octets : List ℕ) (v : Value) (n : ℕ) (f : TpduFault) → IsAtFront Spells Follows v n octets → unit_at 0 octets ≡ Err f → ⊥
 not_bad octets v n f stands bad =
     let read = unit_only 0 v n octets stands in

@@ -9,7 +9,7 @@ use Rattle.osi_tpdu.proofs.Vocabulary.{option_map, option_to_list, IfSome, flat_
 use Rattle.osi_tpdu.proofs.StepLaws.{IsOctets-cons}
 use Rattle.osi_tpdu.proofs.ItemLaws.{values_of-append, test_eq}
 
--- ---- the written parameters mean theirs
+-- ---- the written parameters have the meaning of the unit
 
 -- the values that one slot gives to a code
 kept_by : (code other : ℕ) (o : Option (List ℕ)) (same : Bool) → eqb other code ≡ same → values_of code (items_of other o) ≡ cond same (option_to_list o) []
@@ -258,7 +258,7 @@ parameters_most p few =
     let len = written_len_is v in
     omega arith
 
--- the types bound all that a header has but its alternative classes
+-- the types bound everything in a header except its alternative classes
 pub few_fit : (t : Tpdu) → HasFewClasses (value t) → HasRoom (value t)
 few_fit (Cr r) few = omega (arith, parameters_most r.fields.parameters few)
 few_fit (Cc c) few = omega (arith, parameters_most c.fields.parameters few)

@@ -1,4 +1,4 @@
--- A unit that is in range and has room is written as a spelling of it, which is read again.
+-- A unit that is in range and has room is written as a spelling of it, which reads back as the unit.
 use Rattle.std.proofs.Common.{◌≡◌, [], ◌∷◌, Ok, sym, subst}
 use Rattle.osi_tpdu.proofs.Vocabulary.{Tpdu, HasFieldsInRange, Spells, written, HasRoom, units_of, value}
 use Rattle.osi_tpdu.proofs.WrittenLaws.{written_spells}

@@ -1,5 +1,5 @@
--- The faults of a transport unit, each for itself, and the one of them that stands first in the order of
--- the octets (X.224 sections 13.2 and 13.3).
+-- The faults of a transport unit, each by itself, and the first of them in the order of the octets (X.224 sections 13.2
+-- and 13.3).
 use Rattle.std.specs.Prelude.{◌≡◌, ℕ, ◌+◌, ◌<◌, ◌≤◌, List, ◌++◌, ◌∷◌, length, slice_index, ◌⊎◌}
 use Rattle.std.specs.List.{flat_map}
 use Rattle.osi_tpdu.specs.declared.faults.TpduFault.{TpduFault}
@@ -32,7 +32,7 @@ HasCode Transfer code = code ≡ 0xF0
 HasCode Acknowledge code = WithCredit 0x60 code
 HasCode Report code = code ≡ 0x70
 
--- such a unit may have a header of so many octets
+-- such a unit may have a header of this many octets
 abbrev pub MayCount : Kind → ℕ → Type 0
 MayCount Request n = 6 ≤ n
 MayCount Confirm n = 6 ≤ n
@@ -42,7 +42,7 @@ MayCount Transfer n = (n ≡ 2) ⊎ (n ≡ 4)
 MayCount Acknowledge n = n ≡ 4
 MayCount Report n = 4 ≤ n
 
--- its parameters stand behind so many octets of the header
+-- its parameters begin after this many octets of the header
 abbrev pub HasParametersBehind : Kind → ℕ → Type 0
 HasParametersBehind Request n = n ≡ 6
 HasParametersBehind Confirm n = n ≡ 6
@@ -79,7 +79,7 @@ code_of Called = 0xC2
 code_of Additional = 0xC6
 code_of Alternative = 0xC7
 
--- its value may have so many octets
+-- its value may have this many octets
 abbrev pub MayBeLong : Parameter → ℕ → Type 0
 MayBeLong Size n = n ≡ 1
 MayBeLong Calling n = n ≤ 32
@@ -97,40 +97,40 @@ MayHold Alternative value = Unit {0}
 
 -- ---- the faults of a parameter
 
--- no parameter stands whole at the front of the octets: its length is missing or passes their end
+-- no complete parameter is at the front of the octets: its length is missing or exceeds them
 abbrev pub HasNoItem : List ℕ → Type 0
 HasNoItem octets = (item : Item) (rest : List ℕ) → octets ≡ item_octets item ++ rest → ⊥
 
--- a parameter that is looked at stands at the front of the octets, with this value
+-- a parameter of a kind that is looked at is at the front of the octets, with this value
 pub record BeginsWith (kind : Kind) (parameter : Parameter) (value octets : List ℕ) : Type 0 where
   pub looks : LooksAtParameters kind
   pub rest : List ℕ
   pub whole : octets ≡ item_octets (record { code = code_of parameter; value = value }) ++ rest
 
--- none stands there whole, or one that may not be so long
+-- there is no complete parameter, or one with a length that its code does not allow
 abbrev pub HasBadLength : Kind → List ℕ → Type 0
 HasBadLength kind octets =
     HasNoItem octets
     ⊎ ((parameter : Parameter) × (value : List ℕ) × BeginsWith kind parameter value octets × (MayBeLong parameter (length value) → ⊥))
 
--- one stands there that also stands before it
+-- there is one whose code occurred before it
 abbrev pub IsRepeated : Kind → List Item → List ℕ → Type 0
 IsRepeated kind before octets =
     (parameter : Parameter) × (value : List ℕ) × BeginsWith kind parameter value octets × (1 ≤ length (values_of (code_of parameter) before))
 
--- one stands there that may not have its value
+-- there is one with a value that its code does not allow
 abbrev pub HasBadValue : Kind → List ℕ → Type 0
 HasBadValue kind octets =
     (parameter : Parameter) × (value : List ℕ) × BeginsWith kind parameter value octets × (MayHold parameter value → ⊥)
 
--- a fault at the front of the octets, which stand at this offset behind these parameters
+-- a fault at the front of the octets, which begin at this offset after these parameters
 abbrev pub HasItemFault : Kind → ℕ → List Item → List ℕ → TpduFault → Type 0
 HasItemFault kind at before octets fault =
     ((fault ≡ BadParameterLength at) × HasBadLength kind octets)
     ⊎ (((fault ≡ DuplicateParameter at) × IsRepeated kind before octets)
     ⊎ ((fault ≡ BadParameterValue at) × HasBadValue kind octets))
 
--- a fault of the parameters that begin at this offset: whole ones stand before it, good or bad
+-- a fault of the parameters that begin at this offset; those before it are complete, good or bad
 pub record HasParameterFault (kind : Kind) (at : ℕ) (octets : List ℕ) (fault : TpduFault) : Type 0 where
   pub items : List Item
   pub rest : List ℕ
@@ -150,23 +150,23 @@ pub record HasHeader (octets header behind : List ℕ) : Type 0 where
 abbrev pub HasNoHeader : List ℕ → Type 0
 HasNoHeader octets = (header behind : List ℕ) → HasHeader octets header behind → ⊥
 
--- a unit with this header stands at the front of the octets, by its code
+-- a unit with this header, of this kind, is at the front of the octets
 pub record BeginsUnit (kind : Kind) (octets header : List ℕ) : Type 0 where
   pub behind : List ℕ
   pub there : HasHeader octets header behind
   pub code : HasCode kind (slice_index header 0)
 
--- no header is there, or one that may not be so long
+-- there is no header, or one with a length that its kind does not allow
 abbrev pub HasBadIndicator : List ℕ → Type 0
 HasBadIndicator octets =
     HasNoHeader octets ⊎ ((kind : Kind) × (header : List ℕ) × BeginsUnit kind octets header × (MayCount kind (length header) → ⊥))
 
--- a header is there, and its code is that of no unit
+-- there is a header, and its code belongs to no unit
 abbrev pub HasUnknownCode : List ℕ → Type 0
 HasUnknownCode octets =
     (header : List ℕ) × (behind : List ℕ) × HasHeader octets header behind × ((kind : Kind) → HasCode kind (slice_index header 0) → ⊥)
 
--- a parameter behind the fixed part of the unit at this offset has the fault
+-- a parameter after the fixed part of the unit at this offset has the fault
 abbrev pub HasFaultBehind : ℕ → List ℕ → TpduFault → Type 0
 HasFaultBehind at octets fault =
     (kind : Kind) × (fixed : List ℕ) × (parameters : List ℕ) × BeginsUnit kind octets (fixed ++ parameters)
@@ -188,7 +188,7 @@ place_of (BadParameterLength at) = at
 place_of (BadParameterValue at) = at
 place_of (DuplicateParameter at) = at
 
--- the order of those at one place
+-- the order of faults at the same place
 abbrev pub rank_of : TpduFault → ℕ
 rank_of (BadLi at) = 0
 rank_of (UnknownCode at) = 1
@@ -199,7 +199,7 @@ rank_of (BadParameterValue at) = 4
 abbrev pub StandsBefore : TpduFault → TpduFault → Type 0
 StandsBefore fault other = (place_of fault < place_of other) ⊎ ((place_of fault ≡ place_of other) × (rank_of fault < rank_of other))
 
--- one of the faults, and every other stands behind it
+-- one of the faults, and every other comes after it
 pub record IsFirst (Has : TpduFault → Type 0) (fault : TpduFault) : Type 0 where
   pub there : Has fault
   pub first : (other : TpduFault) → Has other → (other ≡ fault) ⊎ StandsBefore fault other

@@ -1,5 +1,5 @@
--- The units of a whole packet: one after the other, at least one; the last may be any, and those
--- before it are units that another may follow.
+-- The units of a whole packet: one after the other, at least one; the last may be of any kind, and another unit may
+-- follow each of those before it.
 use Rattle.std.specs.Prelude.{◌≡◌, ℕ, zero, suc, ◌+◌, ◌≤◌, List, [], ◌∷◌, ◌++◌, length, drop, Result, Ok, Err, ◌==◌, if◌then◌else◌, IsTrue}
 use Rattle.std.specs.Bool.{OnFalse}
 use Rattle.osi_tpdu.specs.declared.faults.TpduFault.{TpduFault}
@@ -15,12 +15,12 @@ AreUnits [] octets = ⊥
 AreUnits (v ∷ []) octets = Spells v octets
 AreUnits (v ∷ w ∷ vs) octets = IsTrue (may_be_followed v) × (x : List ℕ) × (y : List ℕ) × (octets ≡ x ++ y) × Spells v x × AreUnits (w ∷ vs) y
 
--- the octets are spellings of units that another may follow, one after the other, or there are none
+-- the octets are spellings of units that another may follow, one after the other, or they are empty
 abbrev pub AreLeads : List Value → List ℕ → Type 0
 AreLeads [] octets = octets ≡ []
 AreLeads (v ∷ vs) octets = IsTrue (may_be_followed v) × (x : List ℕ) × (y : List ℕ) × (octets ≡ x ++ y) × Spells v x × AreLeads vs y
 
--- what may stand behind a unit: anything behind AK, DC and ER, and else nothing
+-- what may stand after a unit: anything after AK, DC and ER, and else nothing
 abbrev pub Follows : Value → List ℕ → Type 0
 Follows v octets = OnFalse (may_be_followed v) (octets ≡ [])
 
@@ -35,8 +35,7 @@ units_at (suc n) at octets = do
 unfoldable pub units_of : List ℕ → Result (List Value) TpduFault
 units_of octets = units_at (suc (length octets)) 0 octets
 
--- the fault of a packet, at its offset: the first of a unit that has one, where something stands behind
--- the units before it, or the packet is empty
+-- the fault of a packet, with its offset: the first fault of the first bad unit, or that of an empty packet
 pub record IsFirstFault (octets : List ℕ) (fault : TpduFault) : Type 0 where
   pub leads : List Value
   pub front : List ℕ

@@ -1,4 +1,4 @@
--- Reading a unit from left to right, with the first fault that is met.
+-- Reading a unit from left to right, up to the first fault.
 use Rattle.std.specs.Prelude.{◌≡◌, ℕ, zero, suc, Bool, ◌+◌, ◌*◌, ◌/◌, ◌%◌, ◌||◌, ◌&&◌, not, List, [], ◌∷◌, length, take, drop, slice_index, Some, None, is_some, Result, Ok, Err, nat_lt, nat_le, ◌==◌, if◌then◌else◌}
 use Rattle.osi_tpdu.specs.declared.faults.TpduFault.{TpduFault}
 use Rattle.osi_tpdu.specs.declared.faults.TpduFault.TheVariants.{BadLi, UnknownCode, BadParameterLength, BadParameterValue, DuplicateParameter}
@@ -9,19 +9,19 @@ abbrev pub ◌>>=◌ : {A B : Type 0} → Result A TpduFault → (A → Result B
 (Ok x) >>= f = f x
 (Err e) >>= f = Err e
 
--- what a function returned, seen by view, is what reading gives
+-- the result of a function, seen through `view`, is that of reading
 abbrev pub ReadsAs : {X Y : Type 0} → (X → Y) → Result X TpduFault → Result Y TpduFault → Type 0
 ReadsAs view (Ok x) read = read ≡ Ok (view x)
 ReadsAs view (Err e) read = read ≡ Err e
 
--- the header that the length indicator counts, and the octets behind it
+-- the header that the length indicator counts, and the octets after it
 unfoldable pub header_at : ℕ → List ℕ → Result (List ℕ × List ℕ) TpduFault
 header_at at octets =
     let li = slice_index octets 0 in
     if (li == 0) || (nat_lt 254 li || nat_le (length octets) li) then Err (BadLi at)
     else Ok (take li (drop 1 octets), drop li (drop 1 octets))
 
--- the first parameter, of at least one: its code, its value, and the octets behind it
+-- the first parameter, of at least one: its code, its value, and the octets after it
 unfoldable pub parameter_at : ℕ → List ℕ → Result (ℕ × List ℕ × List ℕ) TpduFault
 parameter_at at octets =
     let len = slice_index octets 1 in
@@ -31,7 +31,7 @@ parameter_at at octets =
 abbrev pub no_parameters : Parameters
 no_parameters = record { size = None; calling = None; called = None; additional = None; alternative = None }
 
--- ---- a known parameter, at its code octet: its length, whether it stood before, its value
+-- ---- a known parameter, at its code octet: its length, whether its code occurred before, its value
 
 unfoldable pub with_size : ℕ → List ℕ → Parameters → Result Parameters TpduFault
 with_size at value p =
@@ -97,7 +97,7 @@ skipped_at (suc n) at (code ∷ octets) = do
 abbrev pub all_skipped_at : ℕ → List ℕ → Result (Unit {0}) TpduFault
 all_skipped_at at octets = skipped_at (length octets) at octets
 
--- ---- a unit, by the header and the octets behind it; at is the place of the length indicator
+-- ---- a unit, by the header and the octets after it; at is the place of the length indicator
 
 abbrev pub reference_at : ℕ → List ℕ → ℕ
 reference_at place header = 256 * slice_index header place + slice_index header (place + 1)
@@ -165,11 +165,11 @@ value_of at header user =
 unfoldable pub is_lead_code : ℕ → Bool
 is_lead_code code = (code / 16 == 0x6) || (code == 0xC0 || code == 0x70)
 
--- how many of so many octets a unit with this header takes: AK, DC and ER their own, all others the rest
+-- how many of n octets a unit with this header takes: AK, DC and ER their own, all others all of them
 abbrev pub used_by : List ℕ → ℕ → ℕ
 used_by header n = if is_lead_code (slice_index header 0) then 1 + length header else n
 
--- the first unit of the octets, and how many of them spell it
+-- the first unit of the octets, and the number of octets that spell it
 unfoldable pub unit_at : ℕ → List ℕ → Result (Value × ℕ) TpduFault
 unit_at at octets = do
   parts ← header_at at octets

@@ -1,10 +1,10 @@
--- What is left of the units of a packet behind some of them.
+-- The units of a packet that follow after some of them.
 use Rattle.std.specs.Prelude.{ℕ, suc, Bool, true, List, [], ◌∷◌, length, is_ok}
 use Rattle.std.specs.Result.{result_unwrap_or}
 use Rattle.osi_tpdu.specs.Value.{Value}
 use Rattle.osi_tpdu.specs.Packet.{units_at}
 
--- the octets from this place of the packet on are units, or there are no more
+-- the octets of the packet from this place on are units, or there are no more octets
 unfoldable pub can_be_read : ℕ → List ℕ → Bool
 can_be_read at [] = true
 can_be_read at (o ∷ octets) = is_ok (units_at (suc (length (o ∷ octets))) at (o ∷ octets))

@@ -30,7 +30,7 @@ values_of code items = map (λ i. i.value) (filter (λ i. i.code == code) items)
 abbrev pub single : Option ℕ → Option (List ℕ)
 single o = option_map (λ n. n ∷ []) o
 
--- each known code stands once where the parameter is there, with its value, and else nowhere
+-- each known code occurs once, with its value, if the parameter is there, and does not occur otherwise
 pub record Means (p : Parameters) (items : List Item) : Type 0 where
   pub size : values_of 0xC0 items ≡ option_to_list (single p.size)
   pub calling : values_of 0xC1 items ≡ option_to_list p.calling

@@ -1,4 +1,4 @@
--- The units that are still to be given of a packet that was read.
+-- The units of a packet that the iterator has still to give.
 use Rattle.std.specs.Prelude.{◌≡◌, List, [], ◌∷◌, Option, Some, None}
 use Rattle.osi_tpdu.specs.declared.packet.Units.{Units}
 use Rattle.osi_tpdu.specs.declared.unit.Tpdu.{Tpdu}
@@ -11,7 +11,7 @@ use Rattle.osi_tpdu.specs.Rest.{rest_at}
 abbrev pub units_left : Units → List Value
 units_left u = rest_at u.at u.rest.now
 
--- one call of next gives the first unit that was left, which can be written, or there was none
+-- one call of `next` gives the first unit that is left, which can be written; or no unit was left
 abbrev pub GivesUnit : Units → Option Tpdu → Units → Type 0
 GivesUnit old (Some t) new = (units_left old ≡ value t ∷ units_left new) × Fits (value t)
 GivesUnit old None new = (units_left old ≡ []) × (units_left new ≡ [])

@@ -1,4 +1,4 @@
--- What transport units say, apart from where their octets lie.
+-- What transport units mean, wherever their octets lie.
 use Rattle.std.specs.Prelude.{ℕ, ◌<◌, ◌≤◌, Bool, true, false, List, [], length, Option, Some, None, IfSome}
 use Rattle.osi_tpkt.specs.Octets.{IsOctets}
 
@@ -11,7 +11,7 @@ pub record Parameters : Type 0 where
   pub additional : Option ℕ
   pub alternative : Option (List ℕ)
 
--- what a CR says, and a CC beside its DST-REF
+-- the fields of a CR, and those of a CC without its DST-REF
 pub record Connect : Type 0 where
   pub credit : ℕ
   pub source : ℕ

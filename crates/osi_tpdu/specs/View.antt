@@ -1,4 +1,4 @@
--- What the units that the code holds say.
+-- The values of the units that the code holds.
 use Rattle.std.specs.Prelude.{option_map, option_copied}
 use Rattle.osi_tpdu.specs.declared.connect.ConnectParameters.{ConnectParameters}
 use Rattle.osi_tpdu.specs.declared.connect.ConnectFields.{ConnectFields}

@@ -4,7 +4,7 @@ use Rattle.std.specs.List.{flat_map}
 use Rattle.osi_tpdu.specs.Value.{Parameters, Connect, Value, request, confirm, disconnect, disconnected, data0, data2, acknowledge, error, user_data, HasFieldsInRange}
 use Rattle.osi_tpdu.specs.Spelling.{Item, item_octets, two, below_bit, single, connect_part}
 
--- a parameter that may be there
+-- a parameter that may be absent
 abbrev pub items_of : ℕ → Option (List ℕ) → List Item
 items_of code value = map (λ v. record { code = code; value = v }) (option_to_list value)
 
@@ -34,7 +34,7 @@ written v = length (written_header v) ∷ written_header v ++ user_data v
 abbrev pub HasRoom : Value → Type 0
 HasRoom v = length (written_header v) ≤ 254
 
--- the alternative classes, if any, leave room for all else that a header can have
+-- the alternative classes, if any, leave room for everything else that a header can have
 abbrev pub HasFewClasses : Value → Type 0
 HasFewClasses (request c) = IfSome c.parameters.alternative (λ classes. length classes ≤ 172)
 HasFewClasses (confirm destination c) = IfSome c.parameters.alternative (λ classes. length classes ≤ 172)

@@ -11,7 +11,7 @@ pub struct DataAcknowledgement {
     pub credit: u8,
     /// DST-REF: the reference that the receiver gave the connection.
     pub destination: u16,
-    /// YR-TU-NR: the number of the unit that is awaited next, 0 to 127.
+    /// YR-TU-NR: the number of the next unit expected, 0 to 127.
     pub number: u8,
     pub ghost credit_fits: { credit < 16 },
     pub ghost number_fits: { number < 128 },
@@ -48,7 +48,7 @@ impl DataAcknowledgement {
         self.destination
     }
 
-    /// YR-TU-NR: the number of the unit that is awaited next, 0 to 127.
+    /// YR-TU-NR: the number of the next unit expected, 0 to 127.
     pub fn number(&self) -> u8
         ensures { result ≡ self.now.number }
     {

@@ -1,4 +1,4 @@
-//! What a CR and a CC have in common.
+//! The fields that a CR and a CC have in common.
 
 ghost use Rattle.std.specs.Prelude.{◌≡◌, ◌<◌, None};
 

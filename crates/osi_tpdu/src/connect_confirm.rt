@@ -9,7 +9,7 @@ use crate::connect::ConnectFields;
 pub struct ConnectConfirm<'a> {
     /// DST-REF: the reference that the receiver gave the connection.
     pub destination: u16,
-    /// What it says beside that: the class is the selected one.
+    /// The other fields; the class is the selected one.
     pub fields: ConnectFields<'a>,
 }
 
@@ -21,7 +21,7 @@ impl<'a> ConnectConfirm<'a> {
         self.destination
     }
 
-    /// What it says beside that: the class is the selected one.
+    /// The other fields; the class is the selected one.
     pub fn fields(&self) -> &ConnectFields<'a>
         ensures { result.now ≡ self.now.fields }
     {

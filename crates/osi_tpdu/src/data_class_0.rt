@@ -2,7 +2,7 @@
 
 ghost use Rattle.std.specs.Prelude.{◌≡◌};
 
-/// DT of class 0, a part of a TSDU (X.224 section 13.7). Its number is written 0 and not looked at.
+/// DT of class 0, a part of a TSDU (X.224 section 13.7). Its number is written as 0 and ignored when read.
 #[derive(Clone, Copy, PartialEq, Eq, Debug)]
 pub struct DataClass0<'a> {
     /// EOT: this part is the last of its TSDU.

@@ -30,8 +30,8 @@ impl<'a> DisconnectRequest<'a> {
         self.source
     }
 
-    /// Why the connection ends or is refused: any octet, of which X.224 section 13.5.3 names some, as 128
-    /// for a normal disconnect.
+    /// Why the connection ends or is refused: any octet. X.224 section 13.5.3 names some, such as 128 for a normal
+    /// disconnect.
     pub fn reason(&self) -> u8
         ensures { result ≡ self.now.reason }
     {

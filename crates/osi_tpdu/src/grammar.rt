@@ -29,7 +29,7 @@ impl<'a> Unit<'a> for Tpdu<'a> {
 
     ghost follows = { Follows };
 
-    // Octets that hold no unit now hold none however they go on: a packet is whole.
+    // More octets can't help: a packet is complete when its units are read.
     ghost begins = { λ _. ⊥ };
 
     ghost refuses = { λ octets fault. unit_at 0 octets ≡ Err fault };
@@ -46,13 +46,13 @@ impl<'a> Unit<'a> for Tpdu<'a> {
             (v ≡ w) × (m ≡ n) }
     {}
 
-    /// The first unit of the octets, as a packet has it, and the length of its spelling: AK, DC and
-    /// ER may be followed by anything, CR, CC, DR and DT go to the end. Never `Ok(None)`.
+    /// The first unit of the octets of a packet, and the length of its spelling. AK, DC and ER may be followed by
+    /// anything; CR, CC, DR and DT extend to the end. Never `Ok(None)`.
     fn read(octets: &'a [u8]) -> Result<Option<(Self, usize)>, TpduFault> {
         Ok(Some(read_unit(0, octets)?))
     }
 
-    // Only the header's length is asked for: the rest of what fits is in the types.
+    // Only the header's length has to be checked: the types bound everything else.
     fn write(&self, out: &mut BytesMut) -> Result<(), AllocError>
         requires { HasRoom (value self.now) }
         ensures ok { OnOk result (out.new.items ≡ out.old.items ++ written (value self.now)) }

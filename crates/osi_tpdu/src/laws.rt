@@ -15,7 +15,8 @@ ghost use Rattle.osi_tpdu.specs.declared.faults.TpduFault.{TpduFault};
 ghost use Rattle.osi_tpdu.specs.declared.unit.Tpdu.{Tpdu};
 ghost use Rattle.osi_tpdu.specs.Writing.{written, HasRoom, HasFewClasses, Fits};
 
-/// One unit at the front of octets: what is read is spelled so, and what is spelled so is read.
+/// One unit at the front of octets: reading is sound and complete. Every unit that is read is spelled by these octets,
+/// and every unit that they spell is read.
 pub fn one_unit()
     ensures found { (v : Value) (n : ℕ) (octets : List ℕ) → IsOctets octets → unit_at 0 octets ≡ Ok (v, n) →
         IsAtFront Spells Follows v n octets }
@@ -23,8 +24,8 @@ pub fn one_unit()
         unit_at 0 octets ≡ Ok (v, n) }
 {}
 
-/// The fault that reading answers at a unit is the first of its faults, in the order of its octets,
-/// and the first is answered. A unit that has none is read.
+/// If a unit can't be read, the fault returned is its first one in the order of its octets. A unit without a fault is
+/// read.
 pub fn first_fault_of_a_unit()
     ensures fault { (at : ℕ) (octets : List ℕ) (fault : TpduFault) → IsOctets octets →
         (unit_at at octets ≡ Err fault) ↔ IsUnitFault at octets fault }
@@ -32,9 +33,8 @@ pub fn first_fault_of_a_unit()
         IsOk (unit_at at octets) ↔ ((fault : TpduFault) → ¬ (HasFault at octets fault)) }
 {}
 
-/// The units of a packet: what is read is spelled so, what is spelled so is read, and so a packet
-/// spells one list of units at most. Each of them has a written form. A packet that spells none has
-/// the fault of the first unit that cannot be read.
+/// The units of a packet: reading is sound and complete, so a packet spells at most one list of units. Each of them has
+/// a written form. If a packet spells no units, its fault is that of the first unit that can't be read.
 pub fn whole_packet()
     ensures found { (vs : List Value) (octets : List ℕ) → IsOctets octets → units_of octets ≡ Ok vs → AreUnits vs octets }
     ensures only { (vs : List Value) (octets : List ℕ) → AreUnits vs octets → units_of octets ≡ Ok vs }
@@ -44,8 +44,8 @@ pub fn whole_packet()
         (units_of octets ≡ Err f) ↔ IsFirstFault octets f }
 {}
 
-/// The written form spells its value, and is read as it behind whatever units may stand before it.
-/// Each value that was read has one, and so has each unit with at most 172 alternative classes.
+/// The written form spells its value. It reads back as that value, whatever units come before it in the packet. Each
+/// value that was read has a written form, and so has each unit with at most 172 alternative classes.
 pub fn written_form()
     ensures spells { (v : Value) → Fits v → Spells v (written v) }
     ensures again { (leads : List Value) (front : List ℕ) (v : Value) → AreLeads leads front → Fits v →

@@ -1,5 +1,25 @@
-//! The units of the transport protocol of X.224, classes 0 and 2, in octets: what they mean, how
-//! they are read from one packet, and the one spelling in which each is written.
+//! The units of the transport protocol of X.224, classes 0 and 2 (TPDUs), as octets: what they mean, how they are read
+//! from a packet, and the one spelling in which each is written.
+//!
+//! [`read_units`] reads the transport units of one packet, and gives them one by one as [`Tpdu`]s. It borrows the
+//! packet and allocates nothing. [`write`] appends one unit to a buffer.
+//!
+//! ```text
+//! for unit in read_units(packet)? {              // Err: the first fault, and its offset
+//!     match unit {
+//!         Tpdu::Cr(request) => ..,               // request.fields().source(), .parameters()
+//!         Tpdu::Dt2(data) => ..,                 // data.number(), data.end(), data.user()
+//!         _ => ..,
+//!     }
+//! }
+//! ```
+//!
+//! A packet that holds a single DT or AK has a fast path: `from_packet` and `write_packet` of [`DataClass0`],
+//! [`DataClass2`] and [`DataAcknowledgement`]. [`SizeCode`], [`Window`] and [`Tsap`] are small types with the ranges
+//! of the standard.
+//!
+//! The laws ([`mod@laws`]) say that reading is sound and complete, which fault a bad unit has, and that what is written
+//! reads back. Negotiation and credit are left to `osi_class`, references to `osi_carrier`.
 #![tactic(auto)]
 
 mod acknowledgement;

@@ -11,8 +11,7 @@ mod whole;
 
 pub use whole::read_units;
 
-/// The units of one packet, in their order. Each is read again as it is given, and no memory is
-/// taken.
+/// The units of one packet, in order. Each is read again when it is given, so nothing is allocated.
 #[derive(Clone, Copy, Debug)]
 pub struct Units<'a> {
     at: usize,
@@ -44,7 +43,7 @@ impl<'a> Iterator for Units<'a> {
         let (_, rest) = octets.split_at(used);
         let at = place + used;
         *self = Units { at, rest };
-        // The unit is made last, so that nothing but it is between its reader and the caller.
+        // The unit is built last, so that it is moved to the caller without a copy.
         Some(known_fields(place, header, behind))
     }
 }

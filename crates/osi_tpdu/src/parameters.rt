@@ -9,7 +9,7 @@ use crate::faults::TpduFault;
 use crate::limits::SizeCode;
 use crate::tsaps::Selector;
 
-/// The codes of the parameters that are known in a CR or CC (X.224 section 13.3.4).
+/// The codes of the known parameters of a CR or CC (X.224 section 13.3.4).
 pub(crate) const SIZE: u8 = 0xC0;
 
 pub(crate) const CALLING: u8 = 0xC1;
@@ -20,7 +20,7 @@ pub(crate) const ADDITIONAL_OPTIONS: u8 = 0xC6;
 
 pub(crate) const ALTERNATIVE_CLASSES: u8 = 0xC7;
 
-// The parameter at the front: its code, its value, and the octets behind it.
+// The parameter at the front: its code, its value, and the octets after it.
 #[inline(always)]
 #[tactic(auto, unfolding(crate::specs::Reading::parameter_at))]
 fn read_parameter(at: usize, octets: &[u8]) -> Result<(u8, &[u8], &[u8]), TpduFault>
@@ -152,7 +152,7 @@ fn add_parameter<'a>(
     }
 }
 
-// The parameters of a CR or CC, which fill the octets.
+// The known parameters of a CR or CC, read from octets that hold nothing else.
 #[inline(always)]
 pub(crate) fn read_parameters(
     start: usize,
@@ -173,7 +173,7 @@ pub(crate) fn read_parameters(
     Ok(known)
 }
 
-// Parameters that fill the octets, of which none is known.
+// Skips parameters that fill the octets, none of which is known.
 #[inline(always)]
 pub(crate) fn skip_parameters(start: usize, octets: &[u8]) -> Result<(), TpduFault>
     requires { start + length octets.now < 2 ^ 64 }

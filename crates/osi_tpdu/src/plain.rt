@@ -1,5 +1,5 @@
-//! Packets of one DT or one AK, which are nearly all: read straight from their octets, and written at
-//! once with the header of the packet.
+//! The fast path for packets of one DT or one AK, which nearly all packets are: they are read straight from their
+//! octets, and written together with the header of the packet.
 
 ghost use Rattle.std.specs.Prelude.{◌≡◌, ◌+◌, ◌≤◌, ◌<◌, ◌∷◌, ◌++◌, [], length, ℕ, Bool, List, Ok, IfSome, IsSomeAnd, OnOk, OnErr};
 ghost use Rattle.bytes.specs.Filled.{UsesSpare};
@@ -20,12 +20,12 @@ use osi_tpkt::laws::are_octets;
 use std::alloc::AllocError;
 
 impl<'a> DataClass0<'a> {
-    /// The DT of class 0 of a packet that holds it and nothing else (X.224 section 13.7); `None` for every
-    /// other packet, a bad one too.
+    /// The DT of class 0 of a packet that holds nothing else (X.224 section 13.7). `None` for every other packet, also
+    /// for a bad one.
     #[inline(always)]
     #[tactic(auto, using(crate::proofs::PlainUnits::data0_found, crate::proofs::PlainUnits::data0_read))]
     pub fn from_packet(packet: &'a [u8]) -> Option<DataClass0<'a>>
-        // What is given is spelled so, and what is spelled so is given.
+        // A unit that is given is spelled by the packet, and a DT of class 0 that the packet spells is given.
         ensures found { IfSome result (λ d. Spells (value (Dt0 d)) packet.now) }
         ensures only { (end : Bool) (user : List ℕ) → Spells (data0 end user) packet.now →
             IsSomeAnd result (λ d. value (Dt0 d) ≡ data0 end user) }
@@ -38,20 +38,20 @@ impl<'a> DataClass0<'a> {
         Some(DataClass0 { end, user })
     }
 
-    /// Appends the unit, of at most 65,528 octets of user data, in a packet of its own. An `Err` leaves the
-    /// octets of `out` as they were, and comes only where `out` had no room and got none.
+    /// Appends the unit, of at most 65,528 octets of user data, in a packet of its own. An `Err` leaves the octets of
+    /// `out` as they were, and is possible only if `out` had no room.
     #[inline(always)]
     #[tactic(auto, using(crate::proofs::PlainUnits::data0_spelled, crate::proofs::PlainUnits::data0_again))]
     pub fn write_packet(&self, out: &mut BytesMut) -> Result<(), AllocError>
         requires { length self.now.user.now ≤ 65528 }
         ensures ok { OnOk result (out.new.items ≡ out.old.items ++ packet_of (written (value (Dt0 self.now)))) }
-        // What is appended is a packet, which spells the unit and is read as it.
+        // What is appended is a packet that spells the unit and reads back as it.
         ensures packet { OnOk result (IsPacket (written (value (Dt0 self.now))) (packet_of (written (value (Dt0 self.now))))) }
         ensures spelled { OnOk result (Spells (value (Dt0 self.now)) (written (value (Dt0 self.now)))) }
         ensures again { OnOk result (units_of (written (value (Dt0 self.now))) ≡ Ok (value (Dt0 self.now) ∷ [])) }
         ensures err { OnErr result (out.new.items ≡ out.old.items) }
         ensures full { OnErr result (out.old.spare < length (written (value (Dt0 self.now))) + 4) }
-        // The room that was there is used for what is written, and for nothing else.
+        // Spare room of the buffer is used for what is written, and for nothing else.
         ensures spare { UsesSpare result out.old.spare out.new.spare (length (written (value (Dt0 self.now))) + 4) }
     {
         let user = self.user;
@@ -67,8 +67,8 @@ impl<'a> DataClass0<'a> {
 }
 
 impl<'a> DataClass2<'a> {
-    /// The DT of class 2 of a packet that holds it and nothing else (X.224 section 13.7); `None` for every
-    /// other packet, a bad one too.
+    /// The DT of class 2 of a packet that holds nothing else (X.224 section 13.7). `None` for every other packet, also
+    /// for a bad one.
     #[inline(always)]
     #[tactic(auto, using(crate::proofs::PlainUnits::data2_found, crate::proofs::PlainUnits::data2_read))]
     pub fn from_packet(packet: &'a [u8]) -> Option<DataClass2<'a>>
@@ -88,8 +88,8 @@ impl<'a> DataClass2<'a> {
         })
     }
 
-    /// Appends the unit, of at most 65,526 octets of user data, in a packet of its own. An `Err` leaves the
-    /// octets of `out` as they were, and comes only where `out` had no room and got none.
+    /// Appends the unit, of at most 65,526 octets of user data, in a packet of its own. An `Err` leaves the octets of
+    /// `out` as they were, and is possible only if `out` had no room.
     #[inline(always)]
     #[tactic(auto, using(crate::proofs::PlainUnits::data2_spelled, crate::proofs::PlainUnits::data2_again))]
     pub fn write_packet(&self, out: &mut BytesMut) -> Result<(), AllocError>
@@ -116,8 +116,8 @@ impl<'a> DataClass2<'a> {
 }
 
 impl DataAcknowledgement {
-    /// The AK of a packet that holds it and nothing else (X.224 section 13.9); `None` for every other packet,
-    /// a bad one too.
+    /// The AK of a packet that holds nothing else (X.224 section 13.9). `None` for every other packet, also for a bad
+    /// one.
     #[inline(always)]
     #[tactic(auto, using(crate::proofs::PlainUnits::ack_found, crate::proofs::PlainUnits::ack_read))]
     pub fn from_packet(packet: &[u8]) -> Option<DataAcknowledgement>
@@ -135,8 +135,8 @@ impl DataAcknowledgement {
         Some(DataAcknowledgement::from_header(*first, *high, *low, *last))
     }
 
-    /// Appends the unit in a packet of its own. An `Err` leaves the octets of `out` as they were, and comes
-    /// only where `out` had no room and got none.
+    /// Appends the unit in a packet of its own. An `Err` leaves the octets of `out` as they were, and is possible only
+    /// if `out` had no room.
     #[inline(always)]
     #[tactic(auto, using(crate::proofs::PlainUnits::ack_spelled, crate::proofs::PlainUnits::ack_again))]
     pub fn write_packet(&self, out: &mut BytesMut) -> Result<(), AllocError>

@@ -20,10 +20,10 @@ use crate::parameters::{read_parameters, skip_parameters};
 use crate::report::ErrorReport;
 use crate::unit::Tpdu;
 
-/// The greatest length indicator.
+/// The largest length indicator.
 const GREATEST_LI: usize = 254;
 
-// The header of the unit at the front, and the octets behind it.
+// The header of the unit at the front, and the octets after it.
 #[inline(always)]
 #[tactic(auto, unfolding(crate::specs::Reading::header_at))]
 fn read_header(at: usize, octets: &[u8]) -> Result<(&[u8], &[u8]), TpduFault>
@@ -42,7 +42,7 @@ fn read_header(at: usize, octets: &[u8]) -> Result<(&[u8], &[u8]), TpduFault>
     Ok(counted.split_at(li))
 }
 
-// Whether this is the code octet of a unit that another may follow: AK, DC or ER.
+// Whether this is the code octet of a unit that another one may follow: AK, DC or ER.
 #[inline(always)]
 #[tactic(auto, unfolding(crate::specs::Reading::is_lead_code))]
 fn is_lead_code(code: u8) -> bool
@@ -51,8 +51,8 @@ fn is_lead_code(code: u8) -> bool
     high_half(code) == 0x6 || code == 0xC0 || code == 0x70
 }
 
-/// The header of the first unit of the octets, what stands behind the header, and how many octets
-/// the unit takes, if one with this header can be read.
+/// The header of the first unit of the octets, the octets after the header, and how many octets the unit takes, if a
+/// unit with this header can be read.
 #[inline(always)]
 pub(crate) fn read_front(at: usize, octets: &[u8]) -> Result<(&[u8], &[u8], usize), TpduFault>
     ensures gives { ReadsAs (λ r. (r.0.now, r.1.now)) result (header_at at octets.now) }
@@ -71,7 +71,7 @@ pub(crate) fn read_front(at: usize, octets: &[u8]) -> Result<(&[u8], &[u8], usiz
     Ok((header, behind, used))
 }
 
-// What a CR and a CC share. It is inlined, as `read_fields` is.
+// The fields that a CR and a CC share. It is inlined, as `read_fields` is.
 #[inline(always)]
 #[tactic(auto, unfolding(crate::specs::Reading::connect_of))]
 fn read_connect<'a>(
@@ -154,7 +154,7 @@ fn read_disconnected<'a>(at: usize, header: &[u8]) -> Result<Tpdu<'a>, TpduFault
     }))
 }
 
-// The length of its header tells the class of a DT.
+// The length of the header tells the class of a DT.
 #[inline(always)]
 #[tactic(auto, unfolding(crate::specs::Reading::transfer_of))]
 fn read_transfer<'a>(at: usize, header: &[u8], user: &'a [u8]) -> Result<Tpdu<'a>, TpduFault>
@@ -203,8 +203,8 @@ fn read_error<'a>(at: usize, header: &[u8]) -> Result<Tpdu<'a>, TpduFault>
     }))
 }
 
-// The unit with this header, by its code, and these octets behind it. All readers are inlined: else
-// each unit would be moved through memory several times as the largest of them.
+// The unit with this header, by its code, and these octets after it. All readers are inlined: otherwise each unit would
+// be moved through memory several times, with the size of the largest one.
 #[inline(always)]
 #[tactic(auto, unfolding(crate::specs::Reading::value_of))]
 fn read_fields<'a>(at: usize, header: &'a [u8], user: &'a [u8]) -> Result<Tpdu<'a>, TpduFault>
@@ -227,7 +227,7 @@ fn read_fields<'a>(at: usize, header: &'a [u8], user: &'a [u8]) -> Result<Tpdu<'
     }
 }
 
-// A unit that is known to be there.
+// The unit of a read that can't have failed.
 #[inline(always)]
 fn known(read: Result<Tpdu<'_>, TpduFault>) -> Tpdu<'_>
     requires { IsOk read }
@@ -237,8 +237,8 @@ fn known(read: Result<Tpdu<'_>, TpduFault>) -> Tpdu<'_>
     unit
 }
 
-/// The same where a unit with this header is known to be there. Each kind is made on its own, with no
-/// result that could be a fault between, so that a caller's `match` of the unit needs no copy of it.
+/// The same if a unit with this header is known to be there. Each kind is built on its own, without a `Result` in
+/// between, so that a caller's `match` on the unit needs no copy of it.
 #[inline(always)]
 #[tactic(auto, unfolding(crate::specs::Reading::value_of, crate::specs::Reading::transfer_of))]
 pub(crate) fn known_fields<'a>(at: usize, header: &'a [u8], user: &'a [u8]) -> Tpdu<'a>
@@ -265,7 +265,7 @@ pub(crate) fn known_fields<'a>(at: usize, header: &'a [u8], user: &'a [u8]) -> T
     }
 }
 
-/// The first unit of the octets, which begin at this offset, and how many of them spell it.
+/// The first unit of the octets, which begin at this offset, and the number of octets that spell it.
 #[inline(always)]
 #[tactic(auto, unfolding(crate::specs::Reading::unit_at))]
 pub(crate) fn read_unit(at: usize, octets: &[u8]) -> Result<(Tpdu<'_>, usize), TpduFault>

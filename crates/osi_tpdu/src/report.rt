@@ -7,8 +7,7 @@ ghost use Rattle.std.specs.Prelude.{◌≡◌};
 pub struct ErrorReport {
     /// DST-REF: the reference that the receiver gave the connection.
     pub destination: u16,
-    /// Which error it was: 0 not specified, 1 a parameter's code, 2 a unit's type, 3 a parameter's
-    /// value.
+    /// The error: 0 not specified, 1 a parameter's code, 2 a unit's type, 3 a parameter's value.
     pub cause: u8,
 }
 
@@ -20,7 +19,7 @@ impl ErrorReport {
         self.destination
     }
 
-    /// Which error it was: any octet, of which X.224 section 13.12 names 0 to 3.
+    /// The error: any octet. X.224 section 13.12 names 0 to 3.
     pub fn cause(&self) -> u8
         ensures { result ≡ self.now.cause }
     {

@@ -2,8 +2,8 @@
 
 ghost use Rattle.std.specs.Prelude.{◌≡◌, ◌≤◌, ◌↔◌, ℕ, length, slice_index, IsSome, IfSome};
 
-/// A transport selector of at most 32 octets, where it was read: the name of a transport service
-/// access point below an address (X.224 section 13.3.4).
+/// A transport selector of at most 32 octets, borrowed from the octets that were read: it names a transport service
+/// access point at an address (X.224 section 13.3.4).
 #[derive(Clone, Copy, PartialEq, Eq, Debug)]
 pub struct Selector<'a> {
     octets: &'a [u8],
@@ -34,8 +34,8 @@ impl<'a> Selector<'a> {
     }
 }
 
-/// A transport selector that is held in place, with no memory taken. The octets past its length are
-/// 0, so two are equal where their octets are.
+/// A transport selector held inline, without an allocation. The octets past its length are 0, so two selectors are
+/// equal if their octets are.
 #[derive(Clone, Copy, PartialEq, Eq, Debug)]
 pub struct Tsap {
     octets: [u8; 32],

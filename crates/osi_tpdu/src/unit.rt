@@ -13,7 +13,7 @@ use crate::disconnect_confirm::DisconnectConfirm;
 use crate::disconnect_request::DisconnectRequest;
 use crate::report::ErrorReport;
 
-/// A transport unit (TPDU) of class 0 or 2 (X.224 section 13). Its octets lie where it was read.
+/// A transport unit (TPDU) of class 0 or 2 (X.224 section 13). It borrows the octets from which it was read.
 #[derive(Clone, Copy, PartialEq, Eq, Debug)]
 pub enum Tpdu<'a> {
     /// CR, the connection request.
@@ -35,8 +35,8 @@ pub enum Tpdu<'a> {
 }
 
 impl Tpdu<'_> {
-    /// Whether another unit may follow in the packet, as behind AK, DC and ER: they have no user
-    /// data (X.224 section 6.4).
+    /// Whether another unit may follow in the packet, as after AK, DC and ER: they have no user data (X.224 section
+    /// 6.4).
     pub fn may_be_followed(&self) -> bool
         ensures { result ≡ may_be_followed (value self.now) }
     {

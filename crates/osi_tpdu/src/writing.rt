@@ -1,4 +1,4 @@
-//! Writing one unit, in the one form that this product writes (X.224 section 13).
+//! Writing one unit, in the one form that this library writes (X.224 section 13).
 
 ghost use Rattle.std.specs.Prelude.{ℕ, ◌≡◌, ◌+◌, ◌*◌, ◌<◌, ◌≤◌, ◌^◌, ◌++◌, ◌∷◌, [], length, Ok, IsOk, IfSome, OnOk, OnErr, option_copied, option_map};
 ghost use Rattle.std.specs.List.{flat_map};
@@ -81,7 +81,7 @@ fn parameters_len(p: &ConnectParameters<'_>) -> usize
         + classes_len(p.alternative_classes)
 }
 
-// ---- octets and parameters, where there is room for them
+// ---- octets and parameters, if there is room for them
 
 fn put_octets(out: &mut BytesMut, octets: &[u8])
     requires { length octets.now ≤ out.old.spare }
@@ -162,7 +162,7 @@ fn put_parameters(out: &mut BytesMut, p: &ConnectParameters<'_>)
     put_classes(out, p.alternative_classes);
 }
 
-// ---- units, where there is room for them
+// ---- units, if there is room for them
 
 // A CR or CC, by its code and DST-REF.
 fn put_connect(out: &mut BytesMut, code: u8, destination: u16, c: &ConnectFields<'_>)
@@ -283,19 +283,18 @@ pub fn written_len(unit: &Tpdu<'_>) -> usize
     }
 }
 
-/// Appends the unit. An `Err` leaves the octets of `out` as they were, and comes only where `out`
-/// had no room and got none.
+/// Appends the unit. An `Err` leaves the octets of `out` as they were, and is possible only if `out` had no room.
 pub fn write(unit: &Tpdu<'_>, out: &mut BytesMut) -> Result<(), AllocError>
     requires { HasRoom (value unit.now) }
     ensures ok { OnOk result (out.new.items ≡ out.old.items ++ written (value unit.now)) }
-    // What is appended spells the unit, and is read as it.
+    // What is appended spells the unit and reads back as it.
     ensures spelled { OnOk result (Spells (value unit.now) (written (value unit.now))) }
     ensures again { OnOk result (units_of (written (value unit.now)) ≡ Ok (value unit.now ∷ [])) }
     ensures err { OnErr result (out.new.items ≡ out.old.items) }
     ensures full { OnErr result (out.old.spare < length (written (value unit.now))) }
-    // Where there is room for it, it is written.
+    // If there is room for it, it is written.
     ensures enough { length (written (value unit.now)) ≤ out.old.spare → IsOk result }
-    // The room that was there is used for what is written, and for nothing else.
+    // Spare room of the buffer is used for what is written, and for nothing else.
     ensures spare { UsesSpare result out.old.spare out.new.spare (length (written (value unit.now))) }
 {
     out.reserve(written_len(unit))?;

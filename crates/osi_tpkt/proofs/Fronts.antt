@@ -1,4 +1,4 @@
--- Fronts of packets: a full one is a packet, a short one a proper prefix of a packet, and the other way round.
+-- Prefixes of packets: a full one is a packet, a short one a proper prefix, and the converse.
 use Rattle.std.proofs.Common.{Result, Ok, Err, IfOk, OnOk, not, Option, Some, None, IfNone, Bool, true, false, MatchBool, ◌≡◌, ℕ, ◌+◌, ◌-◌, ◌*◌, ◌<◌, ◌≤◌, ◌⊎◌, inl, inr, List, [], ◌∷◌, ◌++◌, length, get_or, take, drop, replicate, refl, sym, ◌∙◌, ap, subst, arith}
 use Rattle.osi_tpkt.proofs.Vocabulary.{cases_lt, append_assoc, get_or_append_left, length-append, length-replicate, length-take-le, take-append-drop, append-nil, drop_all, take_all, drop-take, IsOctets, IsPacket, IsOnePacket, IsPartial, IsBadVersion, IsBadLength, IsFaultOf, packet_of, stated_length, TpktFault, BadVersion, BadLength, OutOfMemory, IsFront, IsFull, IsUnfinished, Held, Belongs, Fed, HeaderFault}
 use Rattle.osi_tpkt.proofs.PacketLaws.{stated_length-append, packet_front, written_packet}
@@ -148,7 +148,7 @@ fault_behind r more at (BadVersion o) front enough bad = bad_version r more fron
 fault_behind r more at (BadLength o) front enough bad = bad_length r more front enough bad.0
 fault_behind r more at OutOfMemory front enough bad = bad
 
--- where a whole front was taken, or all of the piece, its octets have no fault
+-- if a complete packet or all of the piece was taken, its octets have no fault
 pub no_fault : (held piece : List ℕ) (n at : ℕ) (f : TpktFault) → IsFront (held ++ take n piece) →
     (4 ≤ length (held ++ take n piece)) ⊎ (n ≡ length piece) → IsFaultOf at (held ++ piece) f → ⊥
 no_fault held piece n at f front enough fault =
@@ -169,12 +169,12 @@ one_fault at s (BadLength a) (BadLength b) h k = ap BadLength (h.1 ∙ sym k.1)
 one_fault at s OutOfMemory g h k = absurd h
 one_fault at s _ OutOfMemory h k = absurd k
 
--- what the header says of a front, said of packets
+-- what the header says of a prefix, as a statement about packets
 pub stood : (whole : Bool) (x : List ℕ) (P : Type 0) → IsFront x → MatchBool whole (IsFull x) (IsUnfinished x × P) → MatchBool whole (IsOnePacket x) (IsPartial x × P)
 stood true x P f g = (drop 4 x, full_packet x f g)
 stood false x P f g = (short_partial x f g.0, g.1)
 
--- the same where no whole packet was found
+-- the same if no whole packet was found
 pub none_partial : {A : Type 0} (o : Option A) (s : List ℕ) → IsFront s → IfNone o (IsUnfinished s) → IfNone o (IsPartial s)
 none_partial None s f h = short_partial s f h
 none_partial (Some x) s f h = h
@@ -184,7 +184,7 @@ pub front_packet : (octets : List ℕ) (used : ℕ) → used ≤ length octets �
     IsPacket (take (used - 4) (drop 4 octets)) (take used octets)
 front_packet octets used within front full = grind (arith, length-take-le, drop-take, full_packet)
 
--- what stands where a packet is whole, and where it is not
+-- what holds if a packet is complete, and what if it is not
 pub where_whole : (P Q : Type 0) (whole : Bool) → not whole ≡ false → MatchBool whole P Q → P
 where_whole P Q true e h = h
 where_whole P Q false e h = absurd (cc)
@@ -214,7 +214,7 @@ long_or_all : (whole : Bool) (x : List ℕ) (P : Type 0) → MatchBool whole (Is
 long_or_all true x P h = let front = packet_front h.0 x h.1 in (front.0, inl front.1.0)
 long_or_all false x P h = ((partial_front x h.0).0, inr h.1)
 
--- where some of a piece belongs to the packet, the octets have no fault
+-- if some of a piece belongs to the packet, the octets have no fault
 pub belonging_no_fault : (octets piece : List ℕ) (fed : Fed) (at : ℕ) (f : TpktFault) → Belongs octets piece fed → IsFaultOf at (octets ++ piece) f → ⊥
 belonging_no_fault octets piece fed at f h fault =
     let front = long_or_all fed.whole (octets ++ take fed.used piece) (fed.used ≡ length piece) h.whole in
@@ -259,7 +259,7 @@ part_whole (Err e) held piece front long least used part = tt
 part_whole (Ok fed) held piece front long least used part =
     whole_part fed.whole held piece fed.used least used part
 
--- what is written behind other octets and a header is a packet
+-- what is written after other octets and a header is a packet
 pub packet_behind : (before unit octets : List ℕ) → octets ≡ before ++ packet_of unit → IsOctets octets → 3 ≤ length unit → length unit ≤ 65531 →
     IsPacket unit (packet_of unit)
 packet_behind before unit octets same known least most =
@@ -270,7 +270,7 @@ whole_where : (P Q : Type 0) (whole : Bool) → whole ≡ true → MatchBool who
 whole_where P Q true e h = h
 whole_where P Q false e h = absurd (cc)
 
--- a packet that comes to stand needed some of the piece
+-- a packet that becomes ready needed some of the piece
 pub belonging_some : (octets piece : List ℕ) (fed : Fed) → IsPartial octets → Belongs octets piece fed → fed.whole ≡ true → 0 < fed.used
 belonging_some octets piece fed partial h whole = elim (cases_lt 0 fed.used) [
   | inl some ↦ some

@@ -1,4 +1,4 @@
--- What every cutter holds, and what its calls leave of it.
+-- What every cutter holds, and what its calls do to it.
 use Rattle.std.proofs.Common.{◌≡◌, ℕ, ◌+◌, ◌-◌, ◌<◌, ◌≤◌, ◌^◌, ◌∷◌, ◌⊎◌, inl, inr, List, [], ◌++◌, length, take, drop, refl, sym, ◌∙◌, ap, subst, arith, Bool, true, false, Option, Some, None, Result, Ok, Err, IfOk, MatchBool}
 use Rattle.osi_tpkt.specs.declared.cutting.Progress.{Progress}
 use Rattle.osi_tpkt.specs.declared.cutting.Progress.TheVariants.{Awaited, Partial, Stopped}
@@ -37,7 +37,7 @@ going_on offset octets progress room now is fits same =
 pub awaiting : (offset : ℕ) (octets : List ℕ) (progress : Progress) → progress ≡ Awaited → IsKept offset octets progress → octets ≡ []
 awaiting offset octets progress is fits = subst (λ p. FitsProgress octets p) is fits.progress
 
--- where a piece was taken, it was fed
+-- if a piece was taken, it was fed
 taken_used : (old : Held) (piece : List ℕ) (result : Result Fed TpktFault) (new : Held) → IsPartial old.octets → TakesPiece old piece result new →
     IfOk result (λ fed. fed.used ≤ length piece) × IfOk result (λ fed. fed.whole ≡ true → 0 < fed.used)
 taken_used old piece (Ok fed) new partial t = (t.0.within, belonging_some old.octets piece fed partial t.0)
@@ -98,7 +98,7 @@ pub begins : (at room : ℕ) (octets : List ℕ) → octets ≡ [] → at < 2 ^ 
 begins at room octets none fits =
     subst (λ x. IsHolding (holding at None x room)) (sym none) (record { offset = fits; octets = inl empty_partial })
 
--- where a piece was taken, its fault was answered, and no want of memory is kept
+-- if a piece was refused, its fault was returned, and `OutOfMemory` is not kept
 pub taken_refused : (old : Held) (piece : List ℕ) (result : Result Fed TpktFault) (new : Held) (f : TpktFault) → TakesPiece old piece result new →
     IsFaultOf old.offset (old.octets ++ piece) f → result ≡ Err f
 taken_refused old piece (Ok fed) new f t fault = absurd (belonging_no_fault old.octets piece fed old.offset f t.0 fault)
@@ -114,13 +114,13 @@ taken_lasting old piece _ new unfaulted t e = absurd (let f = ap (λ (h : Held).
 
 -- ---- what the storage holds
 
--- octets that were put behind those held
+-- octets that were put after those held
 pub gathered : (offset held used before after : ℕ) (fault : Option TpktFault) (old mid new part : List ℕ) → length part ≡ used →
     take (held + length part) new ≡ take held mid ++ part → take held mid ≡ take held old → fault ≡ None → before ≤ after →
     Gains (holding offset fault (take held old) before) part (holding offset None (take (held + used) new) after)
 gathered offset held used before after fault old mid new part count put stays unfaulted more = grind (arith, holding)
 
--- a packet that stands whole at the front of a piece, put where one was awaited
+-- a complete packet at the front of a piece, put where one was awaited
 pub taken_whole : (offset used before after : ℕ) (octets piece items : List ℕ) (progress : Progress) (now : Held) → progress ≡ Awaited → IsKept offset octets progress →
     holding offset (fault_of offset progress) octets before ≡ now → used ≤ length piece → IsFront (take used piece) → IsFull (take used piece) →
     take used items ≡ take used piece → after ≡ before →
@@ -136,7 +136,7 @@ taken_whole offset used before after octets piece items progress now is kept sam
       },
     )
 
--- ---- a packet that is passed by
+-- ---- a packet that is taken without a copy
 
 pub passed : (offset sum room used : ℕ) (octets piece : List ℕ) (progress : Progress) (now : Held) → progress ≡ Awaited → IsKept offset octets progress → used ≤ length piece →
     IsFront (take used piece) → IsFull (take used piece) → sum ≡ offset_of (offset + used) → holding offset (fault_of offset progress) octets room ≡ now →
@@ -167,7 +167,7 @@ passing_advances old new unit piece p =
       partial = λ h. absurd (partial_not_whole (take (4 + length unit) piece) h (unit, p.packet));
     }
 
--- a packet that is passed by is one that is fed and then dropped
+-- a packet that is taken without a copy is one that is fed and then dropped
 pub passing_runs : (old new : Held) (unit piece : List ℕ) → Passes old unit piece new →
     CutterRun old (Feed piece (Ok (record { used = 4 + length unit; whole = true })) ∷ Advance ∷ []) (unit ∷ []) new
 passing_runs old new unit piece p = (

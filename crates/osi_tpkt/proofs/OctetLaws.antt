@@ -1,4 +1,4 @@
--- Lists of octets: what joining, cutting and filling leaves of their bound.
+-- Lists of octets: joining, cutting and filling keep their bound.
 use Rattle.std.proofs.Common.{ℕ, zero, suc, ◌<◌, List, [], ◌∷◌, ◌++◌, take, drop, replicate, arith}
 use Rattle.osi_tpkt.specs.Octets.{IsOctets}
 

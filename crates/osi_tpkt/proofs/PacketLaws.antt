@@ -1,4 +1,4 @@
--- Laws of packets: what a packet's header says, that no packet begins another, and that the written form is a packet.
+-- Laws of packets: what a header states, that no packet is a prefix of another, and that the written form is a packet.
 use Rattle.std.proofs.Common.{◌≡◌, ℕ, ◌+◌, ◌*◌, ◌/◌, ◌%◌, ◌≤◌, List, ◌∷◌, ◌++◌, length, get_or, take, drop, refl, sym, ◌∙◌, ap, subst, arith}
 use Rattle.osi_tpkt.proofs.Vocabulary.{get_or_append_left, length-take-le, take_at, take-append-drop, IsOctets, IsPacket, IsUnit, packet_of, stated_length, IsFront, IsFull}
 use Rattle.osi_tpkt.proofs.OctetLaws.{octets_cons}
@@ -25,7 +25,7 @@ packet_front u b p = grind (arith, spelled_front)
 pub packet_unit : (u b : List ℕ) → IsPacket u b → u ≡ drop 4 b
 packet_unit u b p = sym (ap (drop 4) p.spelled)
 
--- no packet begins another
+-- no packet is a proper prefix of another
 pub one_packet : (u v b c x y : List ℕ) → IsPacket u b → IsPacket v c → b ++ x ≡ c ++ y → (b ≡ c) × (u ≡ v)
 one_packet u v b c x y p q e =
     let f = packet_front u b p in
@@ -37,7 +37,7 @@ one_packet u v b c x y p q e =
     let equal : b ≡ c = sym (take_at b x (length b) refl) ∙ ap (take (length b)) e ∙ take_at c y (length b) lengths in
     (equal, packet_unit u b p ∙ ap (drop 4) equal ∙ sym (packet_unit v c q))
 
--- two packets at the front of the same octets are one
+-- two packets at the front of the same octets are the same
 pub one_front : (octets u v : List ℕ) (m n : ℕ) → m ≤ length octets → n ≤ length octets →
     IsPacket u (take m octets) → IsPacket v (take n octets) → (u ≡ v) × (m ≡ n)
 one_front octets u v m n hm hn p q =

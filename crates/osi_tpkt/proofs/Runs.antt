@@ -1,4 +1,4 @@
--- Over every run of calls a cutter's packets are those of the stream that was used.
+-- Over every run of calls, a cutter's packets are those of the stream that was used.
 use Rattle.std.proofs.Common.{◌≡◌, ℕ, ◌+◌, ◌-◌, ◌≤◌, inl, inr, List, [], ◌∷◌, ◌++◌, length, take, refl, sym, ◌∙◌, ap, subst, arith, true, Some, None, Result, Ok, Err, Contains}
 use Rattle.std.proofs.lemmas.List.Concat.{flat_map-append}
 use Rattle.std.proofs.lemmas.List.Elements.{Contains-append_left, Contains-append_right}
@@ -93,7 +93,7 @@ refused start made us old new piece g partial fault same k =
       );
     })
 
--- a piece that was fed where no packet stood and no fault was answered
+-- a piece that was fed while no packet was ready and no fault was returned
 fed : (start : Held) (made : List CutterCall) (us : List (List ℕ)) (old new : Held) (piece : List ℕ) (result : Result Fed TpktFault) →
     old.fault ≡ None → IsPartial old.octets → Feeds old piece result new → TakesPiece old piece result new → CutterReadsOn start made us old →
     CutterReadsOn start (made ++ Feed piece result ∷ []) us new
@@ -202,7 +202,7 @@ any_run calls units held h =
       ];
     }
 
--- calls behind calls are calls
+-- two runs of calls, one after the other, are one run
 pub runs_joined : (old mid new : Held) (calls more : List CutterCall) (us vs : List (List ℕ)) → CutterRun old calls us mid → CutterRun mid more vs new →
     CutterRun old (calls ++ more) (us ++ vs) new
 runs_joined old mid new [] more us vs h k = grind arith

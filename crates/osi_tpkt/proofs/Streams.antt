@@ -1,4 +1,4 @@
--- A stream is packets in one way.
+-- A stream is cut into packets in one way.
 use Rattle.std.proofs.Common.{◌≡◌, ℕ, zero, suc, ◌+◌, ◌-◌, ◌<◌, ◌≤◌, ◌⊎◌, inl, inr, List, [], ◌∷◌, ◌++◌, length, get_or, take, drop, refl, sym, ◌∙◌, ap, subst, arith, Result, Err}
 use Rattle.osi_tpkt.proofs.Vocabulary.{cases_lt, cases_eq, append_cancel_left, length-append, length-take-le, take-append-drop, append-nil, IsOctets, IsPacket, IsPartial, IsBadVersion, IsBadLength, IsFaultOf, stated_length, IsFront, ArePackets, EndsAt, Cuts, offset_of, Ending, Fed, HeaderFault, TpktFault, BadVersion, BadLength, OutOfMemory}
 use Rattle.osi_tpkt.proofs.OctetLaws.{octets_right}
@@ -7,7 +7,7 @@ use Rattle.osi_tpkt.specs.Stream.Ending.{Faulty, Rest}
 use Rattle.osi_tpkt.specs.declared.headers.HeaderFault.TheVariants.{Version, Length}
 use Rattle.osi_tpkt.proofs.Fronts.{full_packet, short_partial, partial_front, front_version, front_length, front_part, one_fault, fault_behind}
 
--- no packet stands at the front
+-- no packet is ready at the front
 abbrev NoPacket : List ℕ → Type 0
 NoPacket r = (u b t : List ℕ) → IsPacket u b → r ≡ b ++ t → ⊥
 
@@ -38,7 +38,7 @@ pub end_no_packet : (at : ℕ) (r : List ℕ) (e : Ending) → EndsAt at r e →
 end_no_packet at r (Faulty f) h = fault_no_packet at r f h
 end_no_packet at r (Rest n) h = partial_no_packet r h.0
 
--- two readings of a stream up to octets where no packet stands are one
+-- two readings of a stream, up to octets with no packet at the front, are the same
 one_reading : (us vs : List (List ℕ)) (s r q : List ℕ) → NoPacket r → NoPacket q → ArePackets us s r → ArePackets vs s q → (us ≡ vs) × (r ≡ q)
 one_reading [] [] s r q nr nq h k = (refl, sym h ∙ k)
 one_reading [] (v ∷ vs) s r q nr nq h k = absurd (nr v k.0 k.1 k.2 (sym h ∙ k.3))
@@ -49,7 +49,7 @@ one_reading (u ∷ us) (v ∷ vs) s r q nr nq h k =
     let more = one_reading us vs h.1 r q nr nq h.4 (subst (λ x. ArePackets vs x q) (sym rest) k.4) in
     (ap (λ x. x ∷ us) one.1 ∙ ap (λ x. v ∷ x) more.0, more.1)
 
--- the same where a proper prefix of a packet is left
+-- the same if an unfinished packet is left
 pub one_list : (s r q : List ℕ) (us vs : List (List ℕ)) → IsPartial r → IsPartial q → ArePackets us s r → ArePackets vs s q → (us ≡ vs) × (r ≡ q)
 one_list s r q us vs left right h k = one_reading us vs s r q (partial_no_packet r left) (partial_no_packet q right) h k
 
@@ -66,7 +66,7 @@ one_cut s us vs e f h k =
     let one = one_reading us vs s h.0 k.0 (end_no_packet _ h.0 e h.2) (end_no_packet _ k.0 f k.2) h.1 k.1 in
     (one.0, one_end at h.0 e f h.2 (subst (λ r. EndsAt (offset_of (0 + (length s - length r))) r f) (sym one.1) k.2))
 
--- what stands at the front of octets: a packet, or an end of the stream
+-- what is at the front of octets: a packet, or an end of the stream
 abbrev Front : List ℕ → Type 0
 Front s = ((u : List ℕ) × (b : List ℕ) × (t : List ℕ) × IsPacket u b × (s ≡ b ++ t))
     ⊎ (IsBadVersion s ⊎ (IsBadLength s ⊎ IsPartial s))
@@ -104,7 +104,7 @@ some_end at s (inl bad) = (Faulty (BadVersion at), (bad, refl))
 some_end at s (inr (inl bad)) = (Faulty (BadLength at), (bad, refl))
 some_end at s (inr (inr partial)) = (Rest (length s), (partial, refl))
 
--- the packets at the front of octets, of which there are at most so many, and what is left
+-- the packets at the front of octets, of which there are at most this many, and what is left
 some_packets : (fuel : ℕ) (s : List ℕ) → length s ≤ fuel → IsOctets s →
     (us : List (List ℕ)) × (r : List ℕ) × ArePackets us s r × (IsBadVersion r ⊎ (IsBadLength r ⊎ IsPartial r))
 some_packets zero s few octets = elim (front_of s octets) [

@@ -25,7 +25,7 @@ pub record IsPartial (r : List ℕ) : Type 0 where
   pub some : 0 < length more
   pub completes : IsOnePacket (r ++ more)
 
--- no packet begins so: the first octet is not the version
+-- no packet begins with these octets: the first is not the version
 abbrev pub IsBadVersion : List ℕ → Type 0
 IsBadVersion s = (0 < length s) × (slice_index s 0 ≢ 3)
 
@@ -33,17 +33,17 @@ IsBadVersion s = (0 < length s) × (slice_index s 0 ≢ 3)
 abbrev pub stated_length : List ℕ → ℕ
 stated_length s = 256 * slice_index s 2 + slice_index s 3
 
--- no packet begins so: the four octets of the header give a length below 7
+-- no packet begins with these octets: the header gives a length below 7
 abbrev pub IsBadLength : List ℕ → Type 0
 IsBadLength s = (4 ≤ length s) × (slice_index s 0 ≡ 3) × (stated_length s < 7)
 
--- the fault of octets that stand at this offset of the stream
+-- the fault of octets at this offset of the stream
 abbrev pub IsFaultOf : ℕ → List ℕ → TpktFault → Type 0
 IsFaultOf at s (BadVersion offset) = IsBadVersion s × (offset ≡ at)
 IsFaultOf at s (BadLength offset) = IsBadLength s × (offset ≡ at)
 IsFaultOf at s OutOfMemory = ⊥
 
--- the packet as it is written: its reserved octet is 0
+-- the packet in its written form: the reserved octet is 0
 abbrev pub packet_of : List ℕ → List ℕ
 packet_of u = 3 ∷ 0 ∷ ((length u + 4) / 256) ∷ ((length u + 4) % 256) ∷ u
 

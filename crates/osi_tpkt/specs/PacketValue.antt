@@ -1,4 +1,4 @@
--- What a `Packet` is, apart from where its octets lie.
+-- What a `Packet` means, wherever its octets lie.
 use Rattle.std.specs.Prelude.{ℕ, List}
 use Rattle.osi_tpkt.specs.declared.packets.Packet.{Packet}
 

@@ -1,4 +1,4 @@
--- How far a cutter is with the packet whose octets it holds.
+-- How far a cutter has come with the packet whose octets it holds.
 use Rattle.std.specs.Prelude.{◌≡◌, ℕ, ◌<◌, ◌^◌, List, [], length, Option, Some, None}
 use Rattle.osi_tpkt.specs.Header.{IsFront, IsFull, IsUnfinished}
 use Rattle.osi_tpkt.specs.declared.faults.TpktFault.{TpktFault}
@@ -7,7 +7,7 @@ use Rattle.osi_tpkt.specs.declared.cutting.Progress.{Progress}
 use Rattle.osi_tpkt.specs.declared.cutting.Progress.TheVariants.{Awaited, Partial, Stopped}
 use Rattle.osi_tpkt.specs.declared.cutting.Stop.TheVariants.{Whole, Version, Length}
 
--- the fault that is kept, of octets that stand at this offset
+-- the fault that is kept, of octets at this offset
 abbrev pub fault_of : ℕ → Progress → Option TpktFault
 fault_of at Awaited = None
 fault_of at Partial = None
@@ -15,7 +15,7 @@ fault_of at (Stopped Whole) = None
 fault_of at (Stopped Version) = Some (BadVersion at)
 fault_of at (Stopped Length) = Some (BadLength at)
 
--- what is true of the octets held: none while a packet is awaited, and after a fault no packet stands
+-- the octets held at each stage: none while a packet is awaited, and no complete packet after a fault
 abbrev pub FitsProgress : List ℕ → Progress → Type 0
 FitsProgress octets Awaited = octets ≡ []
 FitsProgress octets Partial = IsFront octets × IsUnfinished octets × (0 < length octets)

@@ -9,7 +9,7 @@ use Rattle.osi_tpkt.specs.Cutter.{Feeds, Advances}
 use Rattle.osi_tpkt.specs.declared.faults.TpktFault.{TpktFault}
 use Rattle.osi_tpkt.specs.declared.cutting.Fed.{Fed}
 
--- a call, with what it was given and what it answered
+-- a call, with its argument and its result
 pub data CutterCall : Type 0 where
   Feed : List ℕ → Result Fed TpktFault → CutterCall
   Advance : CutterCall
@@ -24,7 +24,7 @@ used_by Advance = []
 abbrev pub stream_of : List CutterCall → List ℕ
 stream_of calls = flat_map used_by calls
 
--- what is dropped is the unit of the packet that stands, or nothing
+-- what is dropped: the unit of the packet that is ready, or nothing
 abbrev pub Drops : List ℕ → List (List ℕ) → Type 0
 Drops octets units = ((u : List ℕ) × IsPacket u octets × (units ≡ u ∷ [])) ⊎ (IsPartial octets × (units ≡ []))
 
@@ -39,16 +39,16 @@ CutterRun old [] units new = (units ≡ []) × (new ≡ old)
 CutterRun old (call ∷ calls) units new =
     (mid : Held) × (first : List (List ℕ)) × (rest : List (List ℕ)) × CutterStep old call first mid × CutterRun mid calls rest new × (units ≡ first ++ rest)
 
--- the packets dropped, and the one that stands, are those of the stream that was used; a fault is that of
--- this stream with a piece that was refused behind it
+-- the packets dropped, and the one that is ready, are those of the stream that was used; a fault is the fault of this
+-- stream followed by the refused piece
 pub record CutterReads (calls : List CutterCall) (units : List (List ℕ)) (held : Held) : Type 0 where
   pub partial : IsPartial held.octets → Cuts (stream_of calls) units (Rest (length held.octets))
   pub standing : (u : List ℕ) → IsPacket u held.octets → Cuts (stream_of calls) (units ++ u ∷ []) (Rest 0)
   pub faulty : (f : TpktFault) → held.fault ≡ Some f →
       (piece : List ℕ) × Contains calls (Feed piece (Err f)) × Cuts (stream_of calls ++ piece) units (Faulty f)
 
--- the same of a cutter in any state: what it held and the octets used behind it are the packets dropped and
--- what is held now; a fault was there before, or is that of what is held with a piece that was refused behind it
+-- the same of a cutter in any state: the octets that it held, followed by those used, are the packets dropped and then
+-- what is held now; a fault was there before, or is the fault of what is held followed by the refused piece
 pub record CutterReadsOn (old : Held) (calls : List CutterCall) (units : List (List ℕ)) (new : Held) : Type 0 where
   pub packets : ArePackets units (old.octets ++ stream_of calls) new.octets
   pub offset : new.offset ≡ offset_of (old.offset + (length (old.octets ++ stream_of calls) - length new.octets))

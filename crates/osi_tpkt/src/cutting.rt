@@ -1,4 +1,4 @@
-//! A stream of octets, cut into packets.
+//! Cutting a stream of octets into packets.
 
 ghost use Rattle.std.specs.Prelude.{◌≡◌, ◌≢◌, ◌+◌, ◌<◌, ◌≤◌, ◌++◌, ℕ, List, [], length, None, Some, Ok, Err, true, IsOk, IfOk, IfSome, IfNone};
 ghost use Rattle.osi_tpkt.specs.Packet.{IsPacket, IsOnePacket, IsPartial, IsFaultOf};
@@ -12,18 +12,18 @@ use std::marker::Model;
 /// What a call of [`Cutter::feed`] did.
 #[derive(Clone, Copy, PartialEq, Eq, Debug)]
 pub struct Fed {
-    /// How many octets of the piece were used. The rest is to be fed again after [`Cutter::advance`].
+    /// How many octets of the piece were used. Feed the others again after [`Cutter::advance`].
     pub used: usize,
-    /// Whether a packet stands now.
+    /// Whether a complete packet is ready: [`Cutter::packet`] gives its unit.
     pub whole: bool,
 }
 
-/// How far a packet is.
+/// How far the current packet is.
 #[derive(Clone, Copy)]
 enum Progress {
-    /// None of its octets has come.
+    /// None of its octets has arrived.
     Awaited,
-    /// Some have come, and its end has not.
+    /// Some of its octets have arrived, but not all.
     Partial,
     /// No more octets are taken.
     Stopped(Stop),
@@ -32,20 +32,20 @@ enum Progress {
 /// Why no more octets are taken.
 #[derive(Clone, Copy)]
 enum Stop {
-    /// The packet stands whole.
+    /// The packet is complete.
     Whole,
-    /// The stream has none there: its first octet is not the version.
+    /// No packet begins here: the first octet is not the version.
     Version,
-    /// The stream has none there: its length is below 7.
+    /// No packet begins here: the length is below 7.
     Length,
 }
 
-/// Cuts a stream of octets, in whatever pieces it comes, into packets (RFC 1006 section 6).
+/// Cuts a stream of octets, in whatever pieces it arrives, into packets (RFC 1006 section 6).
 ///
-/// The octets of one packet are held, in storage that is kept for the next.
+/// It holds the octets of one packet. Its buffer is kept for the next packet.
 #[derive(Drop)]
 pub struct Cutter {
-    /// The octets held, and behind them room for more.
+    /// The buffer: the octets held, and then spare room.
     storage: Vec<u8>,
     /// How many octets are held.
     held: usize,
@@ -76,7 +76,7 @@ impl Cutter {
     ghost use Rattle.osi_tpkt.specs.Cutter.{TakesPiece, Feeds, Passes, Advances};
     ghost use Rattle.osi_tpkt.specs.Stream.{offset_of};
 
-    /// A cutter at the start of a stream. It takes no memory until it is fed.
+    /// A cutter at the start of a stream. It allocates nothing until it is fed.
     pub fn new(alloc: Global) -> Self
         ensures value { result ≡ fresh }
         ensures sound { IsHolding result }
@@ -89,31 +89,31 @@ impl Cutter {
         }
     }
 
-    /// Takes octets of the next piece of the stream, up to the end of the first packet that they
-    /// make whole, or all of them. Octets of the piece that were not used are to be fed again after
-    /// [`Cutter::advance`].
+    /// Takes octets of the next piece of the stream, up to the end of the first packet that they complete, or all of
+    /// them. Feed the octets that were not used again after [`Cutter::advance`].
     ///
-    /// Nothing is used while a packet stands. [`TpktFault::BadVersion`] is answered where no packet
-    /// begins with the first octet, [`TpktFault::BadLength`] where none begins with the first four;
-    /// either is answered from then on, and what was held stays. Want of memory changes nothing, and
-    /// comes only where more octets are to be held than there is room for.
+    /// While a packet is ready, nothing is used. The call returns [`TpktFault::BadVersion`] if no packet can begin with
+    /// the first octet, and [`TpktFault::BadLength`] if none can begin with the first four; each later call then
+    /// returns the same fault, and the octets held stay. [`TpktFault::OutOfMemory`] changes nothing. It is possible
+    /// only if more octets must be held than there is room for.
     #[inline(always)]
     pub fn feed(&mut self, piece: &[u8]) -> Result<Fed, TpktFault>
         ensures used { IfOk result (λ fed. fed.used ≤ length piece.now) }
         ensures standing { IsOnePacket self.old.octets →
             (result ≡ Ok (record { used = 0; whole = true })) × (self.new ≡ self.old) }
-        // A fault is kept, but for want of memory.
+        // A fault is kept, unless it is `OutOfMemory`.
         ensures again { (f : TpktFault) → self.old.fault ≡ Some f →
             (result ≡ Err f) × (self.new ≡ self.old) }
         ensures lasting { self.new.fault ≢ Some TpktFault.OutOfMemory }
 
-        // Where neither stands, the piece is taken as `TakesPiece` says, or its fault is answered.
+        // If no packet is ready and no fault was returned, the piece is taken as `TakesPiece` says, or its fault is
+        // returned.
         ensures empty { self.old.fault ≡ None → piece.now ≡ [] → IsOk result × (self.new ≡ self.old) }
         ensures refused { self.old.fault ≡ None → IsPartial self.old.octets → (f : TpktFault) →
             IsFaultOf self.old.offset (self.old.octets ++ piece.now) f → result ≡ Err f }
         ensures taken { self.old.fault ≡ None → IsPartial self.old.octets →
             TakesPiece self.old piece.now result self.new }
-        // A packet that comes to stand used some of the piece.
+        // If a packet becomes ready, some of the piece was used.
         ensures progress { self.old.fault ≡ None → IsPartial self.old.octets →
             IfOk result (λ fed. fed.whole ≡ true → 0 < fed.used) }
         ensures feeds { Feeds self.old piece.now result self.new }
@@ -133,8 +133,8 @@ impl Cutter {
         }
     }
 
-    /// Takes the packet that stands whole at the front of a piece, where one is awaited and there is room
-    /// for it, and says how many octets it has. `None` in all other cases: then nothing has changed.
+    /// Takes the complete packet at the front of a piece, if the cutter awaits one and has room for it, and returns its
+    /// length. `None` in all other cases: then nothing has changed.
     #[inline(always)]
     fn take_whole(&mut self, piece: &[u8]) -> Option<usize>
         ensures faultless { IfSome result (λ _. self.old.fault ≡ None) }
@@ -152,7 +152,7 @@ impl Cutter {
         Some(used)
     }
 
-    /// What [`Cutter::feed`] does where no packet stands and no fault was answered.
+    /// What [`Cutter::feed`] does if no packet is ready and no fault was returned.
     #[inline(always)]
     fn gather(&mut self, piece: &[u8]) -> Result<Fed, TpktFault>
         requires faultless { self.old.fault ≡ None }
@@ -186,7 +186,7 @@ impl Cutter {
         Ok(fed)
     }
 
-    /// The transport unit of the packet that stands, or `None` where none does.
+    /// The transport unit of the packet that is ready, or `None` if no packet is ready.
     #[inline]
     #[tactic(auto, using(crate::proofs::Fronts::short_partial))]
     pub fn packet(&self) -> Option<&[u8]>
@@ -200,8 +200,8 @@ impl Cutter {
         }
     }
 
-    /// Drops the packet that stands; the octets of the next are held from now on. The room stays.
-    /// Where none stands nothing changes.
+    /// Drops the packet that is ready, so that the next can be read. The buffer keeps its room. If no packet is ready,
+    /// nothing changes.
     #[inline]
     pub fn advance(&mut self)
         ensures whole { (u : List ℕ) → IsPacket u self.old.octets → self.new ≡ record {
@@ -226,10 +226,9 @@ impl Cutter {
         }
     }
 
-    /// The transport unit of the packet that stands whole at the front of a piece, where nothing is
-    /// held and no fault was answered: it is passed by, with no copy of it, and its octets of the piece
-    /// were used, 4 more than those of the unit. `None` in all other cases: then nothing has changed,
-    /// and the piece is to be fed.
+    /// The fast path: the transport unit of the complete packet at the front of a piece, without a copy. It needs a
+    /// cutter that holds nothing and has returned no fault. The unit's octets and the 4 before it were used. `None` in
+    /// all other cases: then nothing has changed, and the piece has to be fed.
     #[inline]
     pub fn pass<'p>(&mut self, piece: &'p [u8]) -> Option<&'p [u8]>
         ensures passes { IfSome result (λ u. Passes self.old u.now piece.now self.new) }
@@ -246,7 +245,7 @@ impl Cutter {
         Some(&piece[4..used])
     }
 
-    /// The number of octets held: those of a packet that stands, or of the packet under way.
+    /// The number of octets held, of a packet that is ready or of an unfinished one.
     #[inline]
     pub fn rest_len(&self) -> usize
         ensures { result ≡ length self.now.octets }

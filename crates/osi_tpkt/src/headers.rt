@@ -27,7 +27,7 @@ impl HeaderFault {
     }
 }
 
-/// The octet at an index of two slices, one behind the other.
+/// The octet at an index of two slices, one after the other.
 #[inline]
 fn octet_at(held: &[u8], piece: &[u8], index: usize) -> Option<u8>
     ensures { MatchOption result (length (held.now ++ piece.now) ≤ index)
@@ -40,7 +40,7 @@ fn octet_at(held: &[u8], piece: &[u8], index: usize) -> Option<u8>
     }
 }
 
-/// How much of a piece belongs to the packet of which these octets are held.
+/// How much of a piece belongs to the packet whose first octets are held.
 #[inline]
 pub(crate) fn survey(held: &[u8], piece: &[u8]) -> Result<Fed, HeaderFault>
     requires { IsFront held.now }
@@ -59,7 +59,7 @@ pub(crate) fn survey(held: &[u8], piece: &[u8]) -> Result<Fed, HeaderFault>
     }
 }
 
-/// How many octets the packet has that stands whole at the front of a piece, or `None` where none does.
+/// The length in octets of the complete packet at the front of a piece, or `None` if there is none.
 #[inline]
 pub(crate) fn whole_length(piece: &[u8]) -> Option<usize>
     ensures within { IfSome result (λ used. used ≤ length piece.now) }
@@ -77,7 +77,7 @@ pub(crate) fn whole_length(piece: &[u8]) -> Option<usize>
     Some(length)
 }
 
-/// What [`survey`] says where nothing is held.
+/// What [`survey`] says if nothing is held.
 #[inline]
 fn survey_first(piece: &[u8]) -> Result<Fed, HeaderFault>
     ensures used { IfOk result (λ fed. fed.used ≤ length piece.now) }
@@ -95,7 +95,7 @@ fn survey_first(piece: &[u8]) -> Result<Fed, HeaderFault>
     }
 }
 
-/// What [`survey`] says where the first octets are held, of which the version is right.
+/// What [`survey`] says if the first octets are held and the version is right.
 #[inline]
 fn survey_next(held: &[u8], piece: &[u8]) -> Result<Fed, HeaderFault>
     requires front { IsFront held.now }
@@ -117,7 +117,7 @@ fn survey_next(held: &[u8], piece: &[u8]) -> Result<Fed, HeaderFault>
     part_of(high, low, held.len(), piece.len())
 }
 
-/// All of a piece, whose packet goes on behind it.
+/// All of a piece, whose packet continues after it.
 fn all_of(piece: &[u8]) -> Fed
     ensures { result ≡ record { used = length piece.now; whole = false } }
 {
@@ -127,8 +127,8 @@ fn all_of(piece: &[u8]) -> Fed
     }
 }
 
-/// The part of a piece of so many octets that belongs to a packet with this length, of which so
-/// many octets are held.
+/// How much of a piece belongs to a packet with this length. `held` counts the octets of the packet that are held,
+/// `piece` those of the piece.
 #[inline]
 fn part_of(high: u8, low: u8, held: usize, piece: usize) -> Result<Fed, HeaderFault>
     requires { 7 ≤ 256 * high + low → held ≤ 256 * high + low }

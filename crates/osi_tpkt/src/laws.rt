@@ -9,7 +9,7 @@ ghost use Rattle.osi_tpkt.specs.Runs.{CutterCall, CutterRun, CutterReads, Cutter
 ghost use Rattle.osi_tpkt.specs.Runs.CutterCall.{Feed, Advance};
 ghost use Rattle.osi_tpkt.specs.Cutter.{Passes};
 
-/// What a slice of octets holds are octets: to name a slice gives a proof the facts of its type.
+/// The items of a slice of octets are octets. Naming a slice gives a proof the facts of its type.
 #[inline(always)]
 pub fn are_octets(octets: &[u8])
     ensures { IsOctets octets.now }
@@ -17,22 +17,23 @@ pub fn are_octets(octets: &[u8])
     let _octets = octets;
 }
 
-/// No spelling of a packet begins another: where two packets stand at the front of the same
-/// octets, they are one, with one transport unit.
+/// No packet is a proper prefix of another: two packets at the front of the same octets are the same packet, with the
+/// same transport unit.
 pub fn no_packet_begins_another()
     ensures { (u v b c x y : List ℕ) → IsPacket u b → IsPacket v c → b ++ x ≡ c ++ y →
         (b ≡ c) × (u ≡ v) }
 {}
 
-/// Nothing is a proper prefix of a packet, a front part of a proper prefix is one, and no packet is one.
+/// The empty list is a proper prefix of a packet, every prefix of a proper prefix is one, and no complete packet is
+/// one.
 pub fn a_prefix_of_a_packet()
     ensures nothing { IsPartial [] }
     ensures front { (r more : List ℕ) → IsPartial (r ++ more) → IsPartial r }
     ensures proper { (r : List ℕ) → IsPartial r → IsOnePacket r → ⊥ }
 {}
 
-/// A stream is packets in at most one way, and has at most one ending. So are octets of which a
-/// proper prefix of a packet is left.
+/// A stream is cut into packets in at most one way, and has at most one ending. The same holds if an unfinished packet
+/// is left at the end.
 pub fn a_stream_has_one_cut()
     ensures packets { (s r q : List ℕ) (us vs : List (List ℕ)) → IsPartial r → IsPartial q →
         ArePackets us s r → ArePackets vs s q → (us ≡ vs) × (r ≡ q) }
@@ -40,13 +41,13 @@ pub fn a_stream_has_one_cut()
         (us ≡ vs) × (e ≡ f) }
 {}
 
-/// Every stream of octets is packets and an ending.
+/// Every stream of octets is a list of packets followed by an ending.
 pub fn a_stream_has_a_cut()
     ensures { (s : List ℕ) → IsOctets s → (us : List (List ℕ)) × (e : Ending) × Cuts s us e }
 {}
 
-/// Packets one behind the other, and packets in what is left and what comes behind it, are packets
-/// one behind the other; and where packets are parted, so are their octets.
+/// Two lists of packets, one after the other, are one list of packets; and if a list of packets is split, its octets
+/// are split at the same place.
 pub fn packets_follow_one_another()
     ensures joined { (us vs : List (List ℕ)) (s m t r : List ℕ) → ArePackets us s m → ArePackets vs (m ++ t) r →
         ArePackets (us ++ vs) (s ++ t) r }
@@ -54,17 +55,17 @@ pub fn packets_follow_one_another()
         (m : List ℕ) × ArePackets us s m × ArePackets vs m r }
 {}
 
-/// A packet that is passed by is one that is fed from the same piece and then dropped. So all that is
-/// said of runs of these two calls is said of runs with [`crate::Cutter::pass`] too.
+/// A packet taken by [`crate::Cutter::pass`] is one that is fed from the same piece and then dropped. So what is said
+/// of runs of `feed` and `advance` also holds of runs with `pass`.
 pub fn a_packet_passed_by_is_fed_and_dropped()
     ensures { (old new : Held) (unit piece : List ℕ) → Passes old unit piece new →
         CutterRun old (Feed piece (Ok (record { used = 4 + length unit; whole = true })) ∷ Advance ∷ []) (unit ∷ []) new }
 {}
 
-/// Whatever calls are made of a new cutter, and however the stream is cut into the pieces that it
-/// is fed, the packets that it gives are those of the octets that were used, and a fault is that
-/// of these octets and the piece that was refused. The same holds of a cutter in any state, behind
-/// the octets that it holds; and calls behind calls are calls.
+/// The pieces don't matter. Whatever calls are made of a new cutter, and however the stream is cut into pieces, the
+/// packets that it gives are the packets of the octets that it used, and a fault is the fault of these octets followed
+/// by the refused piece. The same holds of a cutter in any state, for the octets that it holds and those that follow.
+/// Two runs of calls, one after the other, are one run.
 pub fn the_pieces_do_not_matter()
     ensures new { (calls : List CutterCall) (units : List (List ℕ)) (held : Held) →
         CutterRun fresh calls units held → CutterReads calls units held }

@@ -1,9 +1,8 @@
-//! Packets on a byte stream: the TPKT of RFC 1006 section 6, in which the transport units of X.224 travel
-//! over TCP. A packet is the octet 3, a reserved octet, the length of the whole packet in two octets, and
-//! a transport unit.
+//! Packets on a byte stream: the TPKT of RFC 1006 section 6, in which the transport units of X.224 travel over TCP. A
+//! packet is the octet 3, a reserved octet, the length of the whole packet in two octets, and a transport unit.
 //!
-//! A [`Cutter`] is fed the octets of a stream in whatever pieces they come and gives the packets, one at
-//! a time. [`write_packet`] appends a packet to a buffer.
+//! You feed a [`Cutter`] the octets of a stream, in whatever pieces they arrive, and it gives you the packets, one at a
+//! time. [`write_packet`] appends a packet to a buffer. The crate does no I/O and keeps no clock.
 //!
 //! ```text
 //! let mut cutter = Cutter::new(alloc);
@@ -14,14 +13,13 @@
 //! }
 //! ```
 //!
-//! A fault names its place in the stream: [`TpktFault`]. After one, each further call answers the same.
+//! A fault names its place in the stream: [`TpktFault`]. After a fault, each further call returns the same one.
 //!
-//! [`Unit`] is what a grammar of units offers, here and in the crates above: reading that borrows its
-//! input and takes no memory, writing, and the relation of which octets spell which value. [`Packet`] is
-//! its first grammar.
+//! [`Unit`] is the trait of every grammar here and in the crates above: reading, which borrows its input and allocates
+//! nothing; writing; and the relation that says which octets spell which value. [`Packet`] is its first grammar.
 //!
-//! The laws ([`mod@laws`]) say that a stream is packets in exactly one way, and that the pieces in which it
-//! comes do not matter.
+//! The laws ([`mod@laws`]) say that a stream is packets in exactly one way, and that the result does not depend on the
+//! pieces in which the stream arrives.
 #![tactic(auto)]
 
 mod cutting;

@@ -1,4 +1,4 @@
-//! One packet, read and written.
+//! Reading and writing one packet.
 
 ghost use Rattle.std.specs.Prelude.{◌≡◌, ◌≤◌, ◌+◌, ◌/◌, ◌%◌, ◌<◌, [], ◌∷◌, ◌++◌, ◌↔◌, ◌⊎◌, length, IsSome, IfSome, Err, OnOk, OnErr};
 ghost use Rattle.bytes.specs.Filled.{UsesSpare};
@@ -30,8 +30,7 @@ impl<'a> Packet<'a> {
     ghost use Rattle.osi_tpkt.specs.PacketValue.{unit_of, Anything};
     ghost use Rattle.osi_tpkt.specs.Unit.{IsAtFront};
 
-    /// The packet that carries a transport unit, or `None` for a unit of under 3 or over 65,531
-    /// octets.
+    /// The packet that carries a transport unit, or `None` for a unit of fewer than 3 or more than 65,531 octets.
     pub fn new(unit: &'a [u8]) -> Option<Packet<'a>>
         ensures fits { IsSome result ↔ ((3 ≤ length unit.now) × (length unit.now ≤ 65531)) }
         ensures value { IfSome result (λ p. unit_of p ≡ unit.now) }
@@ -115,16 +114,16 @@ impl<'a> Unit<'a> for Packet<'a> {
 /// Why a packet was not written.
 #[derive(Clone, Copy, PartialEq, Eq, Debug, Error)]
 pub enum WriteError {
-    /// The transport unit has under 3 or over 65,531 octets.
+    /// The transport unit has fewer than 3 or more than 65,531 octets.
     #[error("a packet carries 3 to 65531 octets")]
     BadSize,
-    /// There was no memory for the packet.
+    /// An allocation for the packet failed.
     #[error("out of memory")]
     OutOfMemory,
 }
 
-/// Appends the packet that carries a transport unit (RFC 1006 section 6). An `Err` leaves the
-/// octets of `out` as they were; want of memory comes only where `out` had no room and got none.
+/// Appends the packet that carries a transport unit (RFC 1006 section 6). An `Err` leaves the octets of `out` as they
+/// were; an allocation can fail only if `out` had no room.
 pub fn write_packet(out: &mut BytesMut, unit: &[u8]) -> Result<(), WriteError>
     ensures ok { OnOk result (out.new.items ≡ out.old.items ++ packet_of unit.now) }
     ensures packet { OnOk result (IsPacket unit.now (packet_of unit.now)) }
@@ -143,7 +142,7 @@ pub fn write_packet(out: &mut BytesMut, unit: &[u8]) -> Result<(), WriteError>
     Ok(())
 }
 
-// The header of a packet of so many octets, these four included.
+// Writes the header of a packet; `octets` is the packet's whole length, header included.
 fn put_header(out: &mut BytesMut, octets: usize)
     requires size { octets ≤ 65535 }
     requires room { 4 ≤ out.old.spare }
@@ -154,9 +153,9 @@ fn put_header(out: &mut BytesMut, octets: usize)
     out.extend_reserved(&(octets as u16).to_be_bytes());
 }
 
-/// Appends the packet that carries a unit of any grammar (RFC 1006 section 6): its header and the
-/// written form of the unit behind it, with no other buffer. An `Err` leaves the octets of `out` as
-/// they were; want of memory comes only where `out` had no room and got none.
+/// Appends the packet that carries a unit of any grammar (RFC 1006 section 6): the header, and then the written form of
+/// the unit, without another buffer. An `Err` leaves the octets of `out` as they were; an allocation can fail only if
+/// `out` had no room.
 pub fn write_in_packet<'a, U: Unit<'a>>(out: &mut BytesMut, unit: &U) -> Result<(), WriteError>
     requires { U.fits (U.value unit.now) }
     ensures ok { OnOk result (out.new.items ≡ out.old.items ++ packet_of (U.written (U.value unit.now))) }

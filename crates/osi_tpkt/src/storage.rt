@@ -1,4 +1,4 @@
-//! The storage of a packet: octets that are all set, of which the first are those of the packet.
+//! The buffer of a packet. All its octets are initialised; the first ones are those of the packet.
 
 ghost use Rattle.std.specs.Prelude.{◌≡◌, ◌+◌, ◌<◌, ◌≤◌, ◌++◌, length, take, false, IsTrue, IfSome, IfNone, OnOk, OnErr, vec_len};
 ghost use Rattle.osi_tpkt.specs.Header.{IsFront, IsFull};
@@ -6,11 +6,11 @@ ghost use Rattle.osi_tpkt.specs.Header.{IsFront, IsFull};
 use crate::headers::whole_length;
 use std::alloc::AllocError;
 
-/// The least number of octets that storage grows by.
+/// The buffer grows by at least this many octets.
 const LEAST: usize = 64;
 
-/// Puts the packet that stands whole at the front of a piece at the front of the storage, and says how
-/// many octets it has. `None` where no packet stands there, or there is no room for it.
+/// Copies the complete packet at the front of a piece to the front of the buffer, and returns its length in octets.
+/// `None` if the piece does not begin with a complete packet, or the buffer has no room for it.
 #[inline(always)]
 pub(crate) fn put_first(storage: &mut Vec<u8>, piece: &[u8]) -> Option<usize>
     ensures within { IfSome result (λ used. used ≤ length piece.now) }
@@ -31,8 +31,8 @@ pub(crate) fn put_first(storage: &mut Vec<u8>, piece: &[u8]) -> Option<usize>
     Some(used)
 }
 
-/// The same of a packet that stands whole in the first 32 octets of a piece, which are put there as one
-/// block. `None` where none does, or the piece or the storage has no such block.
+/// The same for a complete packet within the first 32 octets of a piece, which are copied as one block. `None` if there
+/// is no such packet, or the piece or the buffer is shorter than a block.
 #[inline(always)]
 fn put_block(storage: &mut Vec<u8>, piece: &[u8]) -> Option<usize>
     ensures within { IfSome result (λ used. used ≤ length piece.now) }
@@ -49,7 +49,7 @@ fn put_block(storage: &mut Vec<u8>, piece: &[u8]) -> Option<usize>
     Some(used)
 }
 
-/// Puts octets into the storage behind its first `at`.
+/// Copies octets into the buffer after its first `at`.
 #[inline(always)]
 pub(crate) fn put(storage: &mut Vec<u8>, at: usize, octets: &[u8])
     requires fits { at + length octets.now ≤ vec_len storage.old }
@@ -65,8 +65,8 @@ pub(crate) fn put(storage: &mut Vec<u8>, at: usize, octets: &[u8])
     }
 }
 
-/// Makes room for so many octets behind the first `held`, which stay. Want of memory changes nothing, and
-/// comes only where there was no room for them.
+/// Makes room for `more` octets after the first `held`, which stay. An allocation failure changes nothing, and is
+/// possible only if there was no room.
 #[inline]
 pub(crate) fn make_room(storage: &mut Vec<u8>, held: usize, more: usize) -> Result<(), AllocError>
     requires { held ≤ vec_len storage.old }
@@ -82,7 +82,7 @@ pub(crate) fn make_room(storage: &mut Vec<u8>, held: usize, more: usize) -> Resu
     grow(storage, more)
 }
 
-/// Makes room for so many more octets. What stands in the storage stays.
+/// Makes room for this many more octets. The contents of the buffer stay.
 #[cold]
 #[inline(never)]
 fn grow(storage: &mut Vec<u8>, more: usize) -> Result<(), AllocError>

@@ -11,13 +11,13 @@ use std::error::Error;
 
 /// A grammar of units: values that are read from octets, which they borrow, and written to octets.
 ///
-/// What a unit means is its `value`, and `spells` says which octets spell a value: often many do,
-/// of which one is the written form. Reading takes no memory.
+/// The meaning of a unit is its `value`, and `spells` says which octets spell a value. Often several spellings have the
+/// same value; one of them is the written form. Reading takes no memory.
 pub trait Unit<'a>: Sized + Drop {
     /// Why octets hold no unit.
     type Fault: Error;
 
-    /// What the units of this grammar mean, apart from where their octets lie.
+    /// What the units of this grammar mean, wherever their octets lie.
     ghost Value: { Type 0 };
 
     /// What a unit means.
@@ -26,10 +26,10 @@ pub trait Unit<'a>: Sized + Drop {
     /// The octets are a spelling of the value.
     ghost spells: { Value → List ℕ → Type 0 };
 
-    /// These octets may stand behind a spelling of the value in what `read` is given.
+    /// These octets may follow a spelling of the value in the argument of `read`.
     ghost follows: { Value → List ℕ → Type 0 };
 
-    /// The octets are a proper prefix of a spelling, and more of them are to be awaited.
+    /// The octets are a proper prefix of a spelling, and more octets are awaited.
     ghost begins: { List ℕ → Type 0 };
 
     /// The octets hold no unit, for this reason.
@@ -38,13 +38,13 @@ pub trait Unit<'a>: Sized + Drop {
     /// The one spelling in which a value is written.
     ghost written: { Value → List ℕ };
 
-    /// The lengths of the value have room in the fields that count them.
+    /// The lengths of the value fit the fields that count them.
     ghost fits: { Value → Type 0 };
 
-    /// The unit at the front of the octets and the number of octets that spell it, or `None` where
-    /// the octets are a proper prefix of a spelling.
+    /// Reads the unit at the front of the octets, and the number of octets that spell it. `None` if the octets are a
+    /// proper prefix of a spelling.
     fn read(octets: &'a [u8]) -> Result<Option<(Self, usize)>, Self::Fault>
-        // What is read stands there, and what stands there is read.
+        // What is read is at the front of the octets, and every unit at the front of the octets is read.
         ensures found { IfOk result (λ o. IfSome o (λ r.
             IsAtFront spells follows (value r.0) r.1 octets.now)) }
         ensures only { (v : Value) (n : ℕ) → IsAtFront spells follows v n octets.now →
@@ -53,14 +53,14 @@ pub trait Unit<'a>: Sized + Drop {
         ensures begun { (result ≡ Ok None) ↔ begins octets.now }
         ensures refused { (f : Self.Fault) → (result ≡ Err f) ↔ refuses octets.now f };
 
-    /// Appends the written form. An `Err` leaves the octets of `out` as they were, and comes only
-    /// where `out` had no room and got none.
+    /// Appends the written form. An `Err` leaves the octets of `out` as they were, and is possible only if `out` had no
+    /// room.
     fn write(&self, out: &mut BytesMut) -> Result<(), AllocError>
         requires { fits (value self.now) }
         ensures ok { OnOk result (out.new.items ≡ out.old.items ++ written (value self.now)) }
         ensures err { OnErr result (out.new.items ≡ out.old.items) }
         ensures full { OnErr result (out.old.spare < length (written (value self.now))) }
-        // The room that was there is used for what is written, and for nothing else.
+        // Spare room of the buffer is used for what is written, and for nothing else.
         ensures spare { UsesSpare result out.old.spare out.new.spare (length (written (value self.now))) };
 
     /// The number of octets that `write` appends.
@@ -68,8 +68,8 @@ pub trait Unit<'a>: Sized + Drop {
         requires { fits (value self.now) }
         ensures { result ≡ length (written (value self.now)) };
 
-    /// Laws of the grammar; this does nothing. The written form of a value spells it, a unit may be the last
-    /// of its octets, and at most one unit stands at the front of octets.
+    /// Laws of the grammar; the function does nothing. The written form of a value spells it, a unit may be the last of
+    /// its octets, and there is at most one unit at the front of octets.
     fn laws()
         ensures is_spelled { (v : Value) → fits v → spells v (written v) }
         ensures stands_alone { (v : Value) → follows v [] }

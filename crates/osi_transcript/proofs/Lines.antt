@@ -63,7 +63,7 @@ no_event number (Carry side octets) lines p is = absurd is
 no_event number (Break left right) lines p is = absurd is
 no_event number (Told side) lines p is = absurd is
 
--- a line of the two ends where they are there
+-- a line that declares two ends after the first
 pub misplaced : (number : ℕ) (line : List ℕ) (c : Command) (old : TwoEnds) (before after : List ℕ) → command_of line ≡ Some c → IsNoEvent c →
     after ≡ before ++ answer_line (LineRefused number) → StopsAtLine number line old before after
 misplaced number line c old before after read is says = record {
@@ -75,7 +75,7 @@ misplaced number line c old before after read is says = record {
 
 -- ---- lines one after the other
 
--- what was said so far stands before what the lines that are left say
+-- the text so far comes before that of the lines that are left
 pub record HasPlayed (all : Lines) (old : TwoEnds) (before : List ℕ) (left : Lines) (new : TwoEnds) (after : List ℕ) : Type 0 where
   pub text : List ℕ
   pub says : after ≡ before ++ text
@@ -109,7 +109,7 @@ played_all all old before lines new said after h none says = record {
   plays = h.plays (all_standings new) 0 (subst (λ (ls : Lines). Plays ls new (all_standings new) 0) (sym none) (record { stands = refl; good = refl }));
 }
 
--- ---- what a line did, by whether the next is to be read
+-- ---- the effect of a line, by whether the next is to be read
 
 pub goes_behind : (b : Bool) (number : ℕ) (line : List ℕ) (old : TwoEnds) (before : List ℕ) (new : TwoEnds) (after : List ℕ) → b ≡ true →
     PlaysOne b number line old before new after → GoesBehind number line old before new after
@@ -149,7 +149,7 @@ refused number (Some (Carry side octets)) lines text starts says = record { says
 refused number (Some (Break left right)) lines text starts says = record { says = says; bad = refl }
 refused number (Some (Told side)) lines text starts says = record { says = says; bad = refl }
 
--- the two ends are there, and the lines behind the first were played
+-- the two ends are there, and the lines after the first were played
 pub transcribed : (lines left : Lines) (number : ℕ) (line : List ℕ) (p : TwoEnds) (before text : List ℕ) (status : ℕ) → lines ≡ (number, line) ∷ left →
     IsStart (command_of line) p → before ≡ [] → PlaysAll left p before text status → Transcribes lines text status
 transcribed lines left number line p before text status is starts none h =

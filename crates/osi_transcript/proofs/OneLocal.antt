@@ -1,4 +1,4 @@
--- Two ends that support the same are one: small types with a bound are their numbers.
+-- Two configurations of an end with the same numbers are the same.
 use Rattle.std.proofs.Common.{◌≡◌, ◌∙◌, ℕ, ◌≤◌, ◌<◌, Bool, ap, ap₂, subst}
 use Rattle.std.specs.Coded.{le_prop}
 use Rattle.osi_class.specs.declared.terms.Local.{Local}

@@ -1,4 +1,4 @@
--- A script has one transcript: behind each line nobody can tell the two ends of one run from those of another.
+-- A script has one transcript: after each line, the two ends of one run and those of another have the same state.
 use Rattle.std.proofs.Common.{◌≡◌, ◌∙◌, ℕ, List, [], ◌∷◌, ◌++◌, length, drop, min, Option, Some, None, inl, inr, refl, sym, ap, ap₂, subst, arith}
 use Rattle.osi_class.specs.declared.terms.Local.{Local}
 use Rattle.osi_stack.specs.State.{End}
@@ -37,7 +37,7 @@ abbrev pub DoesOnce : Type 0
 DoesOnce = (event : Event) (p q a b : TwoEnds) (octets : ℕ) → IsReached p → IsReached q → IsReached a → IsReached b → AreSameEnds p q →
     Does event p octets a → Does event q octets b → FoundMemory a → FoundMemory b → AreSameEnds a b
 
--- two pairs of ends that nobody can tell apart
+-- two pairs of ends in the same state
 record AreBehind (p q : TwoEnds) : Type 0 where
   here : IsReached p
   there : IsReached q

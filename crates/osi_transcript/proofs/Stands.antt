@@ -1,4 +1,4 @@
--- The line of a standing in memory.
+-- The line of a connection's state in memory.
 use Rattle.std.proofs.Common.{◌≡◌, ◌∙◌, ◌+◌, ◌-◌, ◌<◌, ◌++◌, ◌&&◌, Bool, true, false, List, [], ℕ, zero, suc, refl, sym, ap, subst, add-one, arith}
 use Rattle.std.specs.Prelude.{Some, None, nat_lt, nat_le, if◌then◌else◌}
 use Rattle.std.proofs.lemmas.Bool.Decides.{nat_tests}
@@ -57,7 +57,7 @@ none_behind side e n (suc k) m few same =
     ∙ ap (λ (t : List ℕ). standing_texts side e p ++ t) (no_standing side (p + 1) e (omega arith))
     ∙ append-nil (standing_texts side e p) ∙ none_behind side e n k p few refl
 
--- the first reference that was not given is behind all others
+-- no connection has the first reference that was not given, or one above it
 pub standings_end : (side : Side) (e : End) (n : ℕ) (before after : List ℕ) → phase_at (n + 1) e ≡ None → n < 65535 →
     after ≡ before ++ standing_texts side e n → after ≡ before ++ standing_texts side e 65535
 standings_end side e n before after none within h =

@@ -36,7 +36,7 @@ texts_more before mid after entries i entry within is h says =
     ∙ ap (λ t. before ++ entry_texts t) (sym (map-append entry_by (take i entries) (entry ∷ [])))
     ∙ ap (λ (l : List Entry). before ++ entry_texts (map entry_by l)) (sym more)
 
--- what the journal says now that it did not say before
+-- the lines of the new entries of the journal
 pub new_texts_are : (old new : TwoEnds) (xs ys : List Entry) → map entry_by xs ≡ old.journal → map entry_by ys ≡ new.journal →
     entry_texts (map entry_by (drop (length xs) ys)) ≡ new_texts old new
 new_texts_are old new xs ys h k =
@@ -44,7 +44,7 @@ new_texts_are old new xs ys h k =
     ap entry_texts (sym (drop-map entry_by (length xs) ys))
     ∙ ap₂ (λ n l. entry_texts (drop n l)) many k
 
--- the journal says what it said, and perhaps more
+-- the journal keeps its entries, and may get more
 pub journal_grows : (old new : TwoEnds) (xs ys : List Entry) → map entry_by xs ≡ old.journal → map entry_by ys ≡ new.journal →
     Adds old.journal new.journal → length xs ≤ length ys
 journal_grows old new xs ys h k more =
@@ -96,7 +96,7 @@ event_failed number event old before after error why rule is says = record {
   says = says;
 }
 
--- no side has ended for want of memory
+-- no side has ended because memory ran out
 pub found_memory : (p : TwoEnds) → p.left.end.carrier.ended ≢ Some NoMemory → p.right.end.carrier.ended ≢ Some NoMemory → FoundMemory p
 found_memory p left right Left = left
 found_memory p left right Right = right

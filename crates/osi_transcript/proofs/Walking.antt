@@ -6,7 +6,7 @@ use Rattle.std.proofs.lemmas.List.Sums.{count_by-le-length}
 use Rattle.osi_script.specs.Scripts.{lines_of, is_line_feed, is_skipped}
 use Rattle.osi_transcript.specs.Numbered.{numbered, lines_left}
 
--- a text has no more lines than octets, and one
+-- a text has at most one line more than octets
 pub few_lines : (text : List ℕ) → length text < 2 ^ 32 → 1 + length (lines_of text) < 2 ^ 40
 unfolding lines_of
 few_lines text h =
@@ -28,7 +28,7 @@ pub asked_next : (all : List (ℕ × List ℕ)) (number : ℕ) (text line : List
     lines_of text ≡ line ∷ rest → is_skipped line ≡ false → all ≡ (number, line) ∷ numbered (number + 1) rest
 asked_next all number text line rest h cut asks = sym h ∙ ap (numbered number) cut ∙ by_test number line rest false asks
 
--- a line that asks for nothing is passed over
+-- a line that asks for nothing is skipped
 pub skipped_next : (all : List (ℕ × List ℕ)) (number : ℕ) (text line : List ℕ) (rest : List (List ℕ)) → numbered number (lines_of text) ≡ all →
     lines_of text ≡ line ∷ rest → is_skipped line ≡ true → numbered (number + 1) rest ≡ all
 skipped_next all number text line rest h cut asks = sym (by_test number line rest true asks) ∙ sym (ap (numbered number) cut) ∙ h

@@ -1,4 +1,4 @@
--- The lines of what the journal says.
+-- The lines of the journal's entries.
 use Rattle.std.specs.Prelude.{ℕ, List, [], Option, Some, None, Result, Ok, Err}
 use Rattle.std.specs.List.{flat_map}
 use Rattle.osi_session.specs.Calls.{Call}
@@ -46,17 +46,17 @@ refusal_by (connect.Open error) = refused.Open error
 refusal_by connect.NotSelected = refused.NotSelected
 refusal_by connect.TooLong = refused.TooLong
 
--- what is answered where the user of the left end asks for a connection
+-- the answer to the left user's request for a connection
 abbrev pub connect_answered : Result ℕ ConnectError → Answer
 connect_answered (Ok reference) = Connecting reference
 connect_answered (Err error) = ConnectRefused (refusal_by error)
 
--- what is answered to a call
+-- the answer to a call
 abbrev pub call_answered : Side → ℕ → Verb → Option CallError → Answer
 call_answered side reference verb None = Called (name_of side) reference verb
 call_answered side reference verb (Some error) = CallRefused (name_of side) reference verb error
 
--- the line of an entry; the end of an end has none
+-- the line of an entry; the entry for the end of an end has none
 unfoldable pub entry_text : Entry → List ℕ
 entry_text (asks asked answer) = answer_line (connect_answered answer)
 entry_text (calls side reference call error) = answer_line (call_answered side reference (verb_of call) error)

@@ -2,7 +2,7 @@
 use Rattle.std.specs.Prelude.{ℕ, ◌+◌, List, [], ◌∷◌, Option, Some, None, if◌then◌else◌}
 use Rattle.osi_script.specs.Scripts.{lines_of, is_skipped}
 
--- those of these lines, each with its number; the first has this one
+-- those of these lines that ask for something, each with its number; the first line has number n
 unfoldable pub numbered : ℕ → List (List ℕ) → List (ℕ × List ℕ)
 numbered number [] = []
 numbered number (line ∷ lines) = if is_skipped line then numbered (number + 1) lines else (number, line) ∷ numbered (number + 1) lines

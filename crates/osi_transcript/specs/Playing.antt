@@ -22,12 +22,12 @@ use Rattle.osi_transcript.specs.Standings.{all_standings}
 
 -- ---- one event
 
--- How many octets an event carries: a carry all that it was asked to, or all there are where there are fewer.
+-- How many octets an event carries. A carry moves as many as it was asked to, or all if there are fewer.
 abbrev pub carried_by : Event → TwoEnds → ℕ
 carried_by (event.Carry side most) p = min most (reachable side p)
 carried_by event p = 0
 
--- what is answered to an event, where its entry does not say it
+-- the answer to an event, if its entry does not have it
 unfoldable pub event_text : Event → (octets : ℕ) → List ℕ
 event_text (event.Connect asked) octets = []
 event_text (event.Call side reference request) octets = []
@@ -35,7 +35,7 @@ event_text (event.Carry side most) octets = answer_line (Carried (name_of side) 
 event_text (event.Break left right) octets = answer_line Broken
 event_text (event.Told side) octets = answer_line (Told (name_of side))
 
--- what the journal says now that it did not say before
+-- the lines of the new entries of the journal
 abbrev pub new_texts : TwoEnds → TwoEnds → List ℕ
 new_texts old new = entry_texts (drop (length old.journal) new.journal)
 
@@ -48,8 +48,8 @@ abbrev pub fault_of : Option PairError → Option LineFault
 fault_of None = None
 fault_of (Some error) = fault_by error
 
--- An event that fits is applied whole, and no side has ended for want of memory. The two ends stand then at steps of
--- the machine, as those of every pair do.
+-- An event that fits is applied whole, and no side has ended because memory ran out. The two ends are then at steps of
+-- the machine, as those of every pair are.
 pub record IsApplied (event : Event) (old new : TwoEnds) : Type 0 where
   pub fits : misfit event old ≡ None
   pub does : Does event old (carried_by event old) new
@@ -58,17 +58,17 @@ pub record IsApplied (event : Event) (old new : TwoEnds) : Type 0 where
 
 -- ---- the end of a script
 
--- all lines were read: the last lines say where connections stand
+-- all lines were read: the last lines give the states of connections
 pub record Finishes (p : TwoEnds) (text : List ℕ) (status : ℕ) : Type 0 where
   pub stands : text ≡ all_standings p
   pub good : status ≡ 0
 
--- a line can't be read
+-- a line that can't be read
 pub record RefusesLine (number : ℕ) (text : List ℕ) (status : ℕ) : Type 0 where
   pub says : text ≡ answer_line (LineRefused number)
   pub bad : status ≡ 1
 
--- the event of a line does not fit behind those before it
+-- the event of a line does not fit after those before it
 pub record FailsAt (number : ℕ) (event : Event) (p : TwoEnds) (text : List ℕ) (status : ℕ) : Type 0 where
   pub why : LineFault
   pub misfit : fault_of (misfit event p) ≡ Some why
@@ -80,7 +80,7 @@ pub record FailsAt (number : ℕ) (event : Event) (p : TwoEnds) (text : List ℕ
 abbrev pub Lines : Type 0
 Lines = List (ℕ × List ℕ)
 
--- what comes of the lines behind one: the text and the status
+-- the text and the status of the lines after one
 abbrev pub Rest : Type 1
 Rest = TwoEnds → List ℕ → ℕ → Type 0
 
@@ -118,12 +118,12 @@ pub record Starts (caller called : Classes) (size window : ℕ) (p : TwoEnds) : 
   pub is_right : IsLocal called size window right
   pub fresh : p ≡ fresh_ends left right
 
--- the first line is that of the two ends
+-- the first line declares the two ends
 abbrev pub BeginsWith : ℕ → Option Command → Lines → List ℕ → ℕ → Type 0
 BeginsWith number (Some (Ends caller called size window)) lines text status = (p : TwoEnds) × Starts caller called size window p × Plays lines p text status
 BeginsWith number other lines text status = RefusesLine number text status
 
--- the text and the status of a script; nothing where no line asks for anything
+-- the text and the status of a script; nothing if no line asks for anything
 abbrev pub Transcribes : Lines → List ℕ → ℕ → Type 0
 Transcribes [] text status = (text ≡ []) × (status ≡ 0)
 Transcribes ((number, line) ∷ lines) text status = BeginsWith number (command_of line) lines text status

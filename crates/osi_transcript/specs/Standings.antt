@@ -1,4 +1,4 @@
--- Where connections stand at the end of a script.
+-- The states of connections at the end of a script.
 use Rattle.std.specs.Prelude.{ℕ, zero, suc, List, [], ◌++◌, Option, Some, None, if◌then◌else◌}
 use Rattle.osi_message.specs.Tokens.{token_octet}
 use Rattle.osi_session.specs.Phases.{is_ended}
@@ -13,7 +13,7 @@ use Rattle.osi_script.specs.Standing.{standing_line}
 use Rattle.osi_script.specs.declared.sides.Side as script
 use Rattle.osi_transcript.specs.Entries.{name_of}
 
--- the line of a standing: tokens by their octet, and V(M), V(A) and V(R)
+-- the line of a state: tokens by their octet, and V(M), V(A) and V(R)
 unfoldable pub stand : script.Side → (reference : ℕ) → Phase → (held next below lowest : ℕ) → List ℕ
 stand side reference phase held next below lowest = standing_line (record {
   side = side;
@@ -37,7 +37,7 @@ abbrev pub text_by : Side → (reference : ℕ) → End → Option Phase → Lis
 text_by side reference e None = []
 text_by side reference e (Some phase) = phase_text side reference e phase
 
--- the line of a connection; none for one that was never there
+-- the line of a connection; none for one that never existed
 unfoldable pub standing_text : Side → (reference : ℕ) → End → List ℕ
 standing_text side reference e = text_by side reference e (phase_at reference e)
 
@@ -46,6 +46,6 @@ unfoldable pub standing_texts : Side → End → (references : ℕ) → List ℕ
 standing_texts side e zero = []
 standing_texts side e (suc reference) = standing_texts side e reference ++ standing_text side (suc reference) e
 
--- those of the left side first
+-- the lines of all connections, the left side first
 abbrev pub all_standings : TwoEnds → List ℕ
 all_standings p = standing_texts Left p.left.end 65535 ++ standing_texts Right p.right.end 65535

@@ -29,7 +29,7 @@ pub fn named(side: osi_pair::Side) -> osi_script::Side
     }
 }
 
-/// The event that a line asks for; none for the line of the two ends.
+/// The event that a line asks for. The line that declares the two ends asks for none.
 pub fn event_of<'a>(command: osi_script::Command<'a>) -> Option<Event<'a>>
     ensures some { IfSome result (λ event. IsEvent (command_by command.entry) event) }
     ensures none { IfNone result (IsNoEvent (command_by command.entry)) }

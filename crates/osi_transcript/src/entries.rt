@@ -1,4 +1,4 @@
-//! The lines of what the journal says.
+//! The lines of the journal's entries.
 
 ghost use Rattle.std.specs.Prelude.{◌≡◌, ◌++◌, map, OnOk};
 ghost use Rattle.osi_pair.specs.Asked.{owned_call};
@@ -45,7 +45,7 @@ fn refusal(error: ConnectError) -> ConnectRefusal
     }
 }
 
-/// What is answered where the user of the left end asks for a connection.
+/// The answer to the left user's request for a connection.
 fn connect_answer(answer: Result<Ref, ConnectError>) -> Answer
     ensures { result ≡ connect_answered (answer_by answer) }
 {
@@ -55,7 +55,7 @@ fn connect_answer(answer: Result<Ref, ConnectError>) -> Answer
     }
 }
 
-/// What is answered to a call.
+/// The answer to a call.
 fn call_answer(side: Side, reference: Ref, verb: Verb, answer: Result<(), CallError>) -> Answer
     ensures { result ≡ call_answered side reference.0 verb (error_by answer) }
 {
@@ -76,7 +76,7 @@ fn call_answer(side: Side, reference: Ref, verb: Verb, answer: Result<(), CallEr
     }
 }
 
-/// Adds the line of an entry; the end of an end has none.
+/// Adds the line of an entry. The entry for the end of an end has no line.
 #[tactic(auto, unfolding(crate::specs::Entries::entry_text))]
 fn push_entry(alloc: Global, out: &mut Vec<u8>, entry: &Entry) -> Result<(), AllocError>
     ensures { OnOk result (out.new.items ≡ out.old.items ++ entry_text (entry_by entry.now)) }

@@ -1,4 +1,11 @@
-//! Runs a script on two ends, and tells what they answered and what their users were shown.
+//! Runs a script on two ends, and writes a transcript: what the ends answered and what their users received.
+//!
+//! [`transcribe`] takes the text of a script and returns its [`Transcript`]: the lines, and a status that says whether
+//! all lines of the script were read. It holds the two ends as a `Pair` of `osi_pair`; reading and writing lines is
+//! left to `osi_script`.
+//!
+//! The law says that a script has one transcript ([`mod@laws`]): the lines of the script determine its text and its
+//! status. If memory runs out there is no transcript.
 #![tactic(auto)]
 
 pub mod asking;

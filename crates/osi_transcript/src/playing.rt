@@ -1,4 +1,4 @@
-//! The lines of a script behind the first, one after the other.
+//! Running the lines of a script after the first.
 
 ghost use Rattle.std.specs.Prelude.{◌≡◌, ◌≢◌, ◌<◌, ◌++◌, false, Some, OnOk, IfOk, MatchBool};
 ghost use Rattle.osi_pair.specs.Reached.{IsReached};
@@ -17,7 +17,7 @@ use osi_script::{Answer, Line, LineFault, push_answer};
 use osi_stack::Stack;
 use std::alloc::{AllocError, Global};
 
-/// The answer to an event, where its entry in the journal does not say it.
+/// The answer to an event, if its entry in the journal does not have it.
 #[tactic(auto, unfolding(crate::specs::Playing::event_text))]
 fn push_event(
     alloc: Global,
@@ -52,7 +52,7 @@ fn fault(error: PairError) -> Option<LineFault>
     }
 }
 
-/// Whether a side has ended for want of memory.
+/// Whether a side has ended because memory ran out.
 #[tactic(auto, using(crate::proofs::Texts::found_memory))]
 fn has_starved(pair: &Pair) -> bool
     ensures found { result ≡ false → FoundMemory pair.now }
@@ -61,7 +61,7 @@ fn has_starved(pair: &Pair) -> bool
     is_starved(pair.stack(Side::Left)) || is_starved(pair.stack(Side::Right))
 }
 
-/// Whether an end has ended for want of memory.
+/// Whether an end has ended because memory ran out.
 fn is_starved(stack: &Stack) -> bool
     ensures { MatchBool result
         (stack.now.end.carrier.ended ≡ Some EndReason.NoMemory)
@@ -70,8 +70,8 @@ fn is_starved(stack: &Stack) -> bool
     matches!(stack.ended(), Some(EndReason::NoMemory))
 }
 
-/// Applies an event, and adds what comes of it. Says whether it fits. Where memory runs out there is no
-/// transcript: also where a carry is cut short by that, or a side has ended by it.
+/// Applies an event, and adds its lines. Returns whether the event fits. If memory runs out there is no transcript;
+/// this includes a carry that is cut short, and a side that ends, by an allocation failure.
 fn play_event(
     alloc: Global,
     out: &mut Vec<u8>,
@@ -109,7 +109,7 @@ fn play_event(
     }
 }
 
-/// Does what a line asks for. Says whether the next line is to be read.
+/// Does what a line asks for. Returns whether the next line is to be read.
 fn play_line(
     alloc: Global,
     out: &mut Vec<u8>,
@@ -135,7 +135,7 @@ fn play_line(
     }
 }
 
-/// Does what the lines ask for, up to one that cannot be done, and answers the status.
+/// Does what the lines ask for, up to one that can't be done, and returns the status.
 #[tactic(auto, using(crate::proofs::Lines::played_none, crate::proofs::Lines::played_all))]
 pub(crate) fn play(
     alloc: Global,

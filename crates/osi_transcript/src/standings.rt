@@ -1,4 +1,4 @@
-//! Where connections stand at the end of a script.
+//! The states of connections at the end of a script.
 
 ghost use Rattle.std.specs.Prelude.{◌≡◌, ◌++◌, OnOk};
 ghost use Rattle.osi_session.specs.Phases.{is_ended};
@@ -19,7 +19,7 @@ fn has_ended(phase: Phase) -> bool
     matches!(phase, Phase::Ended)
 }
 
-/// Adds the line of where a connection stands, unless it has ended.
+/// Adds the line with the state of a connection, unless it has ended.
 #[tactic(auto, using(crate::proofs::Stands::stand_of), unfolding(crate::specs::Standings::phase_text))]
 fn push_phase(
     alloc: Global,
@@ -47,8 +47,7 @@ fn push_phase(
     Ok(())
 }
 
-/// Adds the lines of where the connections of a side stand, by rising reference, up to the last that was
-/// given.
+/// Adds the lines with the states of a side's connections, by rising reference, up to the last reference given.
 fn push_side(alloc: Global, out: &mut Vec<u8>, side: Side, stack: &Stack) -> Result<(), AllocError>
     ensures { OnOk result (out.new.items ≡ out.old.items ++ standing_texts side stack.now.end 65535) }
 {
@@ -62,7 +61,7 @@ fn push_side(alloc: Global, out: &mut Vec<u8>, side: Side, stack: &Stack) -> Res
     Ok(())
 }
 
-/// Adds the lines of where connections stand, those of the left side first.
+/// Adds the lines with the states of all connections, the left side first.
 pub(crate) fn push_standings(
     alloc: Global,
     out: &mut Vec<u8>,

@@ -13,7 +13,7 @@ use osi_pair::Pair;
 use osi_script::{Answer, Command, Line, push_answer};
 use std::alloc::{AllocError, Global};
 
-/// A script has so many octets for each entry of the journal, or more in most.
+/// A script has about this many octets for each entry of the journal, mostly more.
 const OCTETS_AN_ENTRY: usize = 16;
 
 /// The transcript of a script.
@@ -21,11 +21,11 @@ const OCTETS_AN_ENTRY: usize = 16;
 pub struct Transcript {
     /// Its lines.
     pub lines: Vec<u8>,
-    /// 0 where all lines of the script were read, 1 where one was refused.
+    /// 0 if all lines of the script were read, 1 if one was refused.
     pub status: u8,
 }
 
-/// The two ends that a line asks for; none for any other line.
+/// The two ends that a line declares; none for any other line.
 fn ends_of(alloc: Global, line: &[u8]) -> Result<Option<Pair>, AllocError>
     ensures { IfOk result (λ pair. StartsWith (command_of line.now) pair) }
 {
@@ -49,9 +49,8 @@ fn ends_of(alloc: Global, line: &[u8]) -> Result<Option<Pair>, AllocError>
 
 /// The transcript of a script of less than 4,294,967,296 octets.
 ///
-/// The first line that asks for anything says what the two ends are; where there is none, the
-/// transcript is empty. Each further line asks for an event. The first line that cannot be read, or
-/// whose event does not fit, ends the transcript.
+/// The first line that asks for anything declares the two ends; if there is none, the transcript is empty. Each further
+/// line asks for an event. The first line that can't be read, or whose event does not fit, ends the transcript.
 pub fn transcribe(alloc: Global, script: &[u8]) -> Result<Transcript, AllocError>
     requires { length script.now < 2 ^ 32 }
     ensures told { IfOk result (λ t. Transcribes (numbered 1 (lines_of script.now)) t.lines.items t.status) }

@@ -1,4 +1,4 @@
-//! A script, read line by line.
+//! Reading a script line by line.
 
 ghost use Rattle.std.specs.Prelude.{◌≡◌, ◌+◌, ◌<◌, ◌^◌, ◌∷◌, [], length, option_map, IfSome, IfNone};
 ghost use Rattle.osi_script.specs.Scripts.{lines_of};
@@ -6,8 +6,8 @@ ghost use Rattle.osi_transcript.specs.Numbered.{numbered, lines_left};
 
 use osi_script::{first_line, is_skipped};
 
-/// The first line of a text that asks for something, with its number, and the text behind it. The
-/// first line of the text has this number.
+/// The first line of a text that asks for something, with its number, and the text after it. `number` is that of the
+/// text's first line.
 fn next_from(number: u64, text: &[u8]) -> Option<(u64, &[u8], Option<&[u8]>)>
     requires { number + length (lines_of text.now) < 2 ^ 40 }
     ensures some { IfSome result (λ next. numbered number (lines_of text.entry.now)
@@ -30,7 +30,7 @@ fn next_from(number: u64, text: &[u8]) -> Option<(u64, &[u8], Option<&[u8]>)>
     }
 }
 
-/// A script that is read line by line. Lines that ask for nothing are passed over, but count.
+/// A script that is read line by line. Lines that ask for nothing are skipped, but count.
 #[derive(Clone, Copy)]
 pub(crate) struct Walk<'s> {
     rest: Option<&'s [u8]>,
@@ -43,7 +43,7 @@ impl<'s> Walk<'s> {
     ghost use Rattle.osi_transcript.specs.Numbered.{numbered};
     ghost use Rattle.osi_transcript.specs.Walks.{lines_in, IsSmall};
 
-    /// A script of less than 4,294,967,296 octets, of which nothing was read.
+    /// A script of less than 4,294,967,296 octets, at its first line.
     pub(crate) fn new(text: &'s [u8]) -> Walk<'s>
         requires { length text.now < 2 ^ 32 }
         ensures value { lines_in result ≡ numbered 1 (lines_of text.entry.now) }
@@ -55,7 +55,7 @@ impl<'s> Walk<'s> {
         }
     }
 
-    /// The next line that asks for something, without its end, and its number, from 1 on.
+    /// The next line that asks for something, without its line end, and its number, from 1 on.
     pub(crate) fn next_line(&mut self) -> Option<(u64, &'s [u8])>
         requires { IsSmall self.old }
         ensures some { IfSome result (λ line. lines_in self.old ≡ (line.0, line.1.now) ∷ lines_in self.new) }

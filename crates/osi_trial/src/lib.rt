@@ -1,6 +1,6 @@
-//! What is read is written and read again, as C functions over octets: for the programs of `trials/`.
-//! Each answers 0 where the octets are refused, 1 where all came back as it was, 2 where something
-//! did not, and 3 for want of memory.
+//! Round trips of units for the programs of `trials/`, as C functions over octets: each reads units, writes them and
+//! reads them again. Each returns 0 if the octets are refused, 1 if everything came back unchanged, 2 if something did
+//! not, and 3 if memory ran out.
 #![tactic(auto)]
 
 ghost use Rattle.osi_tpdu.specs.View.{value};
@@ -19,7 +19,7 @@ const ANOTHER: u32 = 2;
 
 const NO_MEMORY: u32 = 3;
 
-/// Whether a transport unit, written and read again, is itself and alone.
+/// Whether a transport unit that is written and read again comes back unchanged, with nothing after it.
 fn comes_back(alloc: Global, unit: &Tpdu<'_>) -> Result<bool, AllocError>
     requires { HasRoom (value unit.now) }
 {
@@ -50,7 +50,7 @@ pub extern "C" fn osi_trial_units(alloc: Global, packet: &[u8]) -> u32 {
     ITSELF
 }
 
-/// Whether the units of a TSDU, written and read again, are written as they were.
+/// Whether the units of a TSDU that are written and read again have the same written form.
 fn group_comes_back(alloc: Global, tsdu: &[u8]) -> Result<u32, AllocError> {
     let Ok(group) = read_tsdu(tsdu) else {
         return Ok(REFUSED);

@@ -1,4 +1,4 @@
-//! All units of a packet, read.
+//! Reading all units of a packet.
 
 ghost use Rattle.std.specs.Prelude.{◌≡◌, List, Err, IfOk, IfErr, IsOk, IsOkAnd, OnErr, MatchResult};
 ghost use Rattle.osi_tpdu.specs.Packet.{AreUnits, IsFirstFault, units_of};
@@ -28,12 +28,12 @@ fn read_to_end(packet: &[u8]) -> Result<(), TpduFault>
     }
 }
 
-/// The units that the octets of a packet spell, one after the other: at least one, AK, DC and ER in
-/// any number, and then at most one CR, CC, DR or DT (X.224 section 6.4). Where one of them is bad
-/// none is given, and the `Err` names the first fault.
+/// The units that the octets of a packet spell, one after the other: AK, DC and ER in any number, and then at most one
+/// CR, CC, DR or DT, but at least one unit (X.224 section 6.4). If one of them is bad, no unit is given, and the `Err`
+/// names the first fault.
 #[inline(always)]
 pub fn read_units(packet: &[u8]) -> Result<Units<'_>, TpduFault>
-    // What is given is spelled so, and what is spelled so is given.
+    // Every list of units that is given is spelled by the packet, and every list that it spells is given.
     ensures found { IfOk result (λ u. AreUnits (units_left u) packet.now) }
     ensures only { (vs : List Value) → AreUnits vs packet.now → IsOkAnd result (λ u. units_left u ≡ vs) }
     ensures refused { OnErr result ((vs : List Value) → ¬ (AreUnits vs packet.now)) }

@@ -6,7 +6,7 @@ use Rattle.osi_tpkt.proofs.storage.put_block.Goals as goal
 of_block : (used size : ℕ) (block piece : List ℕ) → used ≤ length block → size ≤ length piece → block ≡ take size piece → take used block ≡ take used piece
 of_block used size block piece within enough is = grind (arith, length-take-le, take-take)
 
--- the same of a list that begins with the block, and is cut behind it
+-- the same of a list that begins with the block, and is cut after it
 of_storage : (used size room : ℕ) (block behind more piece : List ℕ) → used ≤ length block → size ≤ room → size ≤ length piece → block ≡ take size piece →
     take used (take room ((block ++ behind) ++ more)) ≡ take used piece
 of_storage used size room block behind more piece within fits enough is = grind (arith, length-take-le, length-append, take-take, take-append-le, of_block)
