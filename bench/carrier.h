@@ -36,11 +36,19 @@ struct link {
     unsigned next, unacknowledged, credit, expected;
 };
 
+/* A TSDU that came. `memory` is the block in which it was joined, and the taker frees it. It is NULL if the TSDU lies whole in
+   one unit: then its octets are lent until the carrier is fed again. */
+struct tsdu {
+    const uint8_t *at;
+    size_t length;
+    uint8_t *memory;
+};
+
 /* One TSDU that waits to be taken: none other is begun to be read before. */
 struct event {
     bool waits;
     unsigned reference;
-    struct octets tsdu;
+    struct tsdu tsdu;
 };
 
 struct carrier {
@@ -64,19 +72,16 @@ static bool reserve(struct octets *o, size_t n)
 {
     if (n <= o->room - o->length)
         return true;
-    if (o->first > 0 && n <= o->room - (o->length - o->first)) {
-        memmove(o->at, o->at + o->first, o->length - o->first);
-    } else {
+    if (o->first == 0 || n > o->room - (o->length - o->first)) {
         size_t room = 2 * o->room > o->length + n ? 2 * o->room : o->length + n;
-        uint8_t *at = malloc(room);
+        uint8_t *at = realloc(o->at, room);
         if (at == NULL)
             return false;
-        if (o->length > o->first)
-            copy(at, o->at + o->first, o->length - o->first);
-        free(o->at);
         o->at = at;
         o->room = room;
     }
+    if (o->first > 0)
+        memmove(o->at, o->at + o->first, o->length - o->first);
     o->length -= o->first;
     o->first = 0;
     return true;
@@ -123,18 +128,26 @@ static uint8_t *put_header(struct carrier *c, size_t unit)
     return at + HEADER;
 }
 
-static bool put_data(struct carrier *c, struct link *l, const uint8_t *user, size_t n, bool end)
+/* The octets of a DT before its user data. */
+static size_t data_header(const struct carrier *c)
 {
-    size_t header = c->class_two ? 5 : 3;
+    return c->class_two ? 5 : 3;
+}
+
+/* Writes a DT. Its user data begins with `front` octets that are left free, and ends with these. */
+static bool put_data(struct carrier *c, struct link *l, size_t front, const uint8_t *user, size_t n, bool end)
+{
+    size_t header = data_header(c) + front;
     uint8_t *at;
     if (!reserve(&c->outgoing, HEADER + header + n))
         return false;
     at = put_header(c, header + n);
+    if (n > 0)
+        copy(at + header, user, n);
     if (!c->class_two) {
         at[0] = 2;
         at[1] = 0xF0;
         at[2] = end ? 0x80 : 0;
-        copy(at + 3, user, n);
         return true;
     }
     at[0] = 4;
@@ -142,7 +155,6 @@ static bool put_data(struct carrier *c, struct link *l, const uint8_t *user, siz
     at[2] = (uint8_t)(l->peer >> 8);
     at[3] = (uint8_t)l->peer;
     at[4] = (uint8_t)((end ? 0x80 : 0) | l->next);
-    copy(at + 5, user, n);
     l->next = (l->next + 1) % NUMBERS;
     l->unacknowledged += 1;
     l->credit -= 1;
@@ -170,7 +182,7 @@ struct written {
 /* Takes back what was written last. */
 static void take_back(struct carrier *c, struct link *l, size_t octets, unsigned units)
 {
-    c->outgoing.length -= octets + units * (HEADER + (c->class_two ? 5 : 3));
+    c->outgoing.length -= octets + units * (HEADER + data_header(c));
     if (c->class_two) {
         l->next = (l->next + NUMBERS - units) % NUMBERS;
         l->unacknowledged -= units;
@@ -178,23 +190,25 @@ static void take_back(struct carrier *c, struct link *l, size_t octets, unsigned
     }
 }
 
-/* Writes as much of a TSDU as the credit allows. Where there is no memory, nothing has changed. */
-static bool put_parts(struct carrier *c, struct link *l, const uint8_t *tsdu, size_t n, struct written *w)
+/* Writes as much of a TSDU as the credit allows: `front` octets, which are left free in the first unit, and then the `n` of the
+   body. If there is no memory, nothing has changed. */
+static bool put_parts(struct carrier *c, struct link *l, size_t front, const uint8_t *body, size_t n, struct written *w)
 {
-    size_t limit = LARGEST - (c->class_two ? 5 : 3), done = 0;
+    size_t limit = LARGEST - data_header(c), all = front + n, done = 0;
     unsigned units = 0;
-    bool all = false;
-    while (!all && (!c->class_two || l->credit > 0)) {
-        size_t part = n - done > limit ? limit : n - done;
-        all = done + part == n;
-        if (!put_data(c, l, tsdu + done, part, all)) {
+    bool ends = false;
+    while (!ends && (!c->class_two || l->credit > 0)) {
+        size_t part = all - done > limit ? limit : all - done, space = done == 0 ? front : 0;
+        ends = done + part == all;
+        if (!put_data(c, l, space, body, part - space, ends)) {
             take_back(c, l, done, units);
             return false;
         }
+        body += part - space;
         done += part;
         units += 1;
     }
-    *w = (struct written){done, units, all};
+    *w = (struct written){done, units, ends};
     return true;
 }
 
@@ -203,7 +217,7 @@ static bool pump(struct carrier *c, struct link *l)
 {
     while (l->count > 0 && l->credit > 0) {
         struct written w;
-        if (!put_parts(c, l, l->unsent.at + l->unsent.first, l->ends[0], &w))
+        if (!put_parts(c, l, 0, l->unsent.at + l->unsent.first, l->ends[0], &w))
             return false;
         drop(&l->unsent, w.octets);
         l->ends[0] -= w.octets;
@@ -215,38 +229,63 @@ static bool pump(struct carrier *c, struct link *l)
     return true;
 }
 
-/* Writes what the credit allows straight out of the TSDU, and keeps a copy of the rest. Where there is no memory, nothing
-   has changed. */
-static bool send_tsdu(struct carrier *c, unsigned reference, const uint8_t *tsdu, size_t n)
+/* Keeps what was not written of a TSDU: `front` octets, which are left free, and a copy of these. Answers the place of the
+   first, or NULL if there is no memory. */
+static uint8_t *keep_rest(struct link *l, size_t front, const uint8_t *body, size_t n)
+{
+    uint8_t *at;
+    if (!reserve(&l->unsent, front + n))
+        return NULL;
+    at = l->unsent.at + l->unsent.length;
+    if (n > 0)
+        copy(at + front, body, n);
+    l->unsent.length += front + n;
+    l->ends[l->count++] = front + n;
+    return at;
+}
+
+/* Sends a TSDU of `front` octets and a body. The body is copied straight into the octets to be sent, as far as the credit
+   allows, and the rest is kept. Answers the place of the front, which the caller then writes; or NULL if the TSDU is refused or
+   there is no memory: then nothing has changed. The front fits into one unit. */
+static uint8_t *send_tsdu(struct carrier *c, unsigned reference, size_t front, const uint8_t *body, size_t n)
 {
     struct link *l = find(c, reference);
     struct written w = {0, 0, false};
-    if (l == NULL || l->stage != OPEN || c->ended || n > LONGEST || l->count == WINDOW)
-        return false;
-    if (l->count == 0 && !put_parts(c, l, tsdu, n, &w))
-        return false;
-    if (w.all)
-        return true;
-    if (!append(&l->unsent, tsdu + w.octets, n - w.octets)) {
-        take_back(c, l, w.octets, w.units);
-        return false;
+    uint8_t *kept = NULL;
+    size_t start;
+    if (l == NULL || l->stage != OPEN || c->ended || n > LONGEST - front || l->count == WINDOW)
+        return NULL;
+    start = c->outgoing.length - c->outgoing.first;
+    if (l->count == 0 && !put_parts(c, l, front, body, n, &w))
+        return NULL;
+    if (!w.all) {
+        size_t space = w.units == 0 ? front : 0, done = w.units == 0 ? 0 : w.octets - front;
+        kept = keep_rest(l, space, body + done, n - done);
+        if (kept == NULL) {
+            take_back(c, l, w.octets, w.units);
+            return NULL;
+        }
     }
-    l->ends[l->count++] = n - w.octets;
-    return true;
+    return w.units == 0 ? kept : c->outgoing.at + c->outgoing.first + start + HEADER + data_header(c);
 }
 
 /* ---- what is taken */
 
+/* Takes a part of a TSDU. A whole TSDU stays where it lies; parts are joined. */
 static bool join(struct carrier *c, struct link *l, const uint8_t *user, size_t n, bool end)
 {
     static const struct octets none = {NULL, 0, 0, 0};
     if (n > LONGEST - l->begun.length)
         return false;
+    if (end && l->begun.length == 0) {
+        c->event = (struct event){true, l->reference, {user, n, NULL}};
+        return true;
+    }
     if (!append(&l->begun, user, n))
         return false;
     if (!end)
         return true;
-    c->event = (struct event){true, l->reference, l->begun};
+    c->event = (struct event){true, l->reference, {l->begun.at, l->begun.length, l->begun.at}};
     l->begun = none;
     return true;
 }

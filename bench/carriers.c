@@ -11,15 +11,27 @@ struct moved {
     uint64_t tsdus, octets;
 };
 
+/* Takes a TSDU into a block of its own, counts it, and frees it. */
+static void count(struct tsdu tsdu, struct moved *moved)
+{
+    if (tsdu.memory == NULL && tsdu.length > 0) {
+        tsdu.memory = malloc(tsdu.length);
+        if (tsdu.memory == NULL)
+            abort();
+        copy(tsdu.memory, tsdu.at, tsdu.length);
+    }
+    moved->tsdus += 1;
+    moved->octets += tsdu.length;
+    free(tsdu.memory);
+}
+
 static void carry(struct carrier *from, struct carrier *to, size_t piece, struct moved *moved)
 {
     while (from->outgoing.length > from->outgoing.first) {
         size_t left = from->outgoing.length - from->outgoing.first;
         drop(&from->outgoing, feed(to, from->outgoing.at + from->outgoing.first, left < piece ? left : piece));
         if (to->event.waits) {
-            moved->tsdus += 1;
-            moved->octets += to->event.tsdu.length;
-            free(to->event.tsdu.at);
+            count(to->event.tsdu, moved);
             to->event.waits = false;
         }
     }
@@ -31,7 +43,7 @@ static uint64_t move_by_hand(const uint8_t *tsdu, size_t n, size_t rounds, uint1
 {
     struct carrier *caller = carrier_of(connections, class_two), *called = carrier_of(connections, class_two);
     struct moved moved = {0, 0};
-    for (size_t i = 0; i < rounds && send_tsdu(caller, (unsigned)(i % connections) + 1, tsdu, n); i++)
+    for (size_t i = 0; i < rounds && send_tsdu(caller, (unsigned)(i % connections) + 1, 0, tsdu, n); i++)
         do {
             carry(caller, called, piece, &moved);
             carry(called, caller, piece, &moved);

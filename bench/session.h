@@ -19,9 +19,10 @@ struct session {
     int answers;
 };
 
-/* A block of memory, of the caller's. */
-struct owned {
-    uint8_t *at;
+/* User data that is shown, and the block in which it lies: the user frees it. */
+struct user_data {
+    uint8_t *memory;
+    const uint8_t *at;
     size_t length;
 };
 
@@ -34,13 +35,13 @@ struct indication {
     uint8_t tokens;
     enum fault fault;
     uint8_t si;
-    struct owned data;
+    struct user_data data;
 };
 
+/* What a TSDU does; `aborts`: an AB is to be sent. */
 struct taken {
     struct indication first;
-    struct owned reply;
-    int closes;
+    int aborts, closes;
 };
 
 static int has_right(const struct session *s, uint8_t tokens)
@@ -76,38 +77,65 @@ static size_t item_length(size_t length)
     return (length > 254 ? 4 : 2) + length;
 }
 
-/* A GT that names no token, and a unit with a number; `open` leaves the confirmation open. */
-static enum error write_point(struct owned *out, uint8_t si, int open, uint32_t number, struct slice data)
+/* What stands before data: a GT that names no token, and the SI and LI of a DT. */
+enum { DATA_FRONT = 4 };
+
+static void write_data_front(uint8_t *at)
 {
-    uint8_t digits[6], *at;
-    unsigned count = digits_of(number, digits);
-    size_t body = (open ? 3u : 0u) + 2 + count + (data.length ? item_length(data.length) : 0);
-    out->length = 2 + item_length(body);
-    at = out->at = malloc(out->length);
-    if (!at)
-        return NO_MEMORY;
+    memcpy(at, "\1\0\1", DATA_FRONT);
+}
+
+/* What stands before the user data of a point or a confirmation: a GT that names no token, and the beginning of the unit.
+   `octets` is its length. `open` leaves the confirmation open. */
+struct front {
+    uint8_t si;
+    int open;
+    uint8_t digits[6];
+    unsigned count;
+    size_t user_data, body, octets;
+};
+
+static struct front front_of(uint8_t si, int open, uint32_t number, size_t user_data)
+{
+    struct front f = {.si = si, .open = open, .user_data = user_data};
+    f.count = digits_of(number, f.digits);
+    f.body = (open ? 3u : 0u) + 2 + f.count + (user_data ? item_length(user_data) : 0);
+    f.octets = 2 + item_length(f.body) - user_data;
+    return f;
+}
+
+static void write_front(uint8_t *at, const struct front *f)
+{
     *at++ = 1;
     *at++ = 0;
-    *at++ = si;
-    at = put_length(at, body);
-    if (open) {
+    *at++ = f->si;
+    at = put_length(at, f->body);
+    if (f->open) {
         *at++ = 15;
         *at++ = 1;
         *at++ = 1;
     }
     *at++ = 42;
-    *at++ = (uint8_t)count;
-    memcpy(at, digits, count);
-    at += count;
-    if (data.length) {
+    *at++ = (uint8_t)f->count;
+    memcpy(at, f->digits, f->count);
+    at += f->count;
+    if (f->user_data) {
         *at++ = 193;
-        at = put_length(at, data.length);
-        memcpy(at, data.at, data.length);
+        put_length(at, f->user_data);
     }
-    return OK;
 }
 
-static enum error call_data(struct session *s, struct slice data, struct owned *out)
+/* The octets of an AB. */
+enum { ABORT_FRONT = 5 };
+
+static inline void write_abort(uint8_t *at)
+{
+    memcpy(at, "\x19\3\x11\1\5", ABORT_FRONT);
+}
+
+/* ---- calls: the first error of each, and what it changes once it is sent */
+
+static enum error may_data(const struct session *s, struct slice data)
 {
     if (s->phase == ABORTING || s->phase == ENDED)
         return CALL_ENDED;
@@ -117,20 +145,11 @@ static enum error call_data(struct session *s, struct slice data, struct owned *
         return TOKEN_NOT_HELD;
     if (data.length == 0)
         return EMPTY;
-    if (data.length > MOST_DATA)
-        return TOO_LONG;
-    out->length = 4 + data.length;
-    out->at = malloc(out->length);
-    if (!out->at)
-        return NO_MEMORY;
-    memcpy(out->at, "\1\0\1", 4);
-    memcpy(out->at + 4, data.at, data.length);
-    return OK;
+    return data.length > MOST_DATA ? TOO_LONG : OK;
 }
 
-static enum error call_minor(struct session *s, int confirm, struct slice data, struct owned *out)
+static enum error may_minor(const struct session *s, struct slice data)
 {
-    enum error e;
     if (s->phase == ABORTING || s->phase == ENDED)
         return CALL_ENDED;
     if (s->phase != READY)
@@ -141,21 +160,24 @@ static enum error call_minor(struct session *s, int confirm, struct slice data, 
         return TOKEN_NOT_HELD;
     if (s->next > LAST_NUMBER)
         return USED_UP;
-    if (data.length > MOST_USER_DATA)
-        return TOO_LONG;
-    e = write_point(out, 49, !confirm, s->next, data);
-    if (e)
-        return e;
+    return data.length > MOST_USER_DATA ? TOO_LONG : OK;
+}
+
+static struct front minor_front(const struct session *s, int confirm, struct slice data)
+{
+    return front_of(49, !confirm, s->next, data.length);
+}
+
+static void minor_sent(struct session *s)
+{
     if (s->answers)
         s->confirmed = s->next;
     s->next += 1;
     s->answers = 0;
-    return OK;
 }
 
-static enum error call_confirm(struct session *s, uint32_t number, struct slice data, struct owned *out)
+static enum error may_confirm(const struct session *s, uint32_t number, struct slice data)
 {
-    enum error e;
     if (s->phase == ABORTING || s->phase == ENDED)
         return CALL_ENDED;
     if (s->phase != READY && s->phase != RELEASE_DUE)
@@ -164,23 +186,25 @@ static enum error call_confirm(struct session *s, uint32_t number, struct slice 
         return NOT_SELECTED;
     if (!(s->answers && s->confirmed <= number && number < s->next))
         return BAD_NUMBER;
-    if (data.length > MOST_USER_DATA)
-        return TOO_LONG;
-    e = write_point(out, 50, 0, number, data);
-    if (e)
-        return e;
-    s->confirmed = number + 1;
-    return OK;
+    return data.length > MOST_USER_DATA ? TOO_LONG : OK;
 }
+
+static struct front confirm_front(uint32_t number, struct slice data)
+{
+    return front_of(50, 0, number, data.length);
+}
+
+static void confirm_sent(struct session *s, uint32_t number)
+{
+    s->confirmed = number + 1;
+}
+
+/* ---- what is taken */
 
 /* A bad unit: AB, and the user is shown why. */
 static enum error abort_by(struct session *s, enum fault fault, uint8_t si, struct taken *t)
 {
-    t->reply.at = malloc(5);
-    if (!t->reply.at)
-        return NO_MEMORY;
-    t->reply.length = 5;
-    memcpy(t->reply.at, "\x19\3\x11\1\5", 5);
+    t->aborts = 1;
     t->first.kind = SHOWN_ABORT;
     t->first.fault = fault;
     t->first.si = si;
@@ -189,20 +213,27 @@ static enum error abort_by(struct session *s, enum fault fault, uint8_t si, stru
     return OK;
 }
 
-static enum error show(struct indication *i, enum shown kind, struct slice data)
+/* Shows user data. If it came in a block, the indication gets the block; else the data is copied into a block of its own. */
+static enum error show(struct indication *i, enum shown kind, struct slice data, uint8_t **memory)
 {
+    uint8_t *at;
     i->kind = kind;
-    if (data.length) {
-        i->data.at = malloc(data.length);
-        if (!i->data.at)
-            return NO_MEMORY;
-        memcpy(i->data.at, data.at, data.length);
-        i->data.length = data.length;
+    if (data.length == 0)
+        return OK;
+    if (*memory) {
+        i->data = (struct user_data){*memory, data.at, data.length};
+        *memory = NULL;
+        return OK;
     }
+    at = malloc(data.length);
+    if (!at)
+        return NO_MEMORY;
+    memcpy(at, data.at, data.length);
+    i->data = (struct user_data){at, at, data.length};
     return OK;
 }
 
-static enum error take_unit(struct session *s, const struct unit *u, struct taken *t)
+static enum error take_unit(struct session *s, const struct unit *u, uint8_t **memory, struct taken *t)
 {
     enum error e;
     switch (u->si) {
@@ -211,11 +242,11 @@ static enum error take_unit(struct session *s, const struct unit *u, struct take
             return abort_by(s, NONE, 1, t);
         if (s->held & DATA_TOKEN)
             return abort_by(s, NONE, 1, t);
-        return show(&t->first, SHOWN_DATA, u->information);
+        return show(&t->first, SHOWN_DATA, u->information, memory);
     case 49:
         if (s->phase != READY || !(s->units & 0x08) || s->held & (DATA_TOKEN | MINOR_TOKEN) || u->number != s->next)
             return abort_by(s, NONE, 49, t);
-        e = show(&t->first, SHOWN_MINOR, u->data);
+        e = show(&t->first, SHOWN_MINOR, u->data, memory);
         if (e)
             return e;
         t->first.number = u->number;
@@ -230,7 +261,7 @@ static enum error take_unit(struct session *s, const struct unit *u, struct take
             return abort_by(s, NONE, 50, t);
         if (s->answers || s->confirmed > u->number || u->number + (s->phase == MAJOR_ASKED) >= s->next)
             return abort_by(s, NONE, 50, t);
-        e = show(&t->first, SHOWN_CONFIRMED, u->data);
+        e = show(&t->first, SHOWN_CONFIRMED, u->data, memory);
         if (e)
             return e;
         t->first.number = u->number;
@@ -241,8 +272,9 @@ static enum error take_unit(struct session *s, const struct unit *u, struct take
     }
 }
 
-/* Reads a TSDU and takes its units, the token item in front after the others. */
-static enum error take(struct session *s, const uint8_t *octets, size_t length, struct taken *t)
+/* Reads a TSDU and takes its units, the token item in front after the others. `memory` is the block in which the TSDU lies, or
+   NULL if its octets are lent. If an indication got the block, it is NULL afterwards. */
+static enum error take(struct session *s, const uint8_t *octets, size_t length, uint8_t **memory, struct taken *t)
 {
     struct unit units[MOST_UNITS];
     size_t count;
@@ -256,7 +288,7 @@ static enum error take(struct session *s, const uint8_t *octets, size_t length, 
         enum error e;
         if (s->phase == RESTARTING && units[i].si != 53 && units[i].si != 34)
             continue;
-        e = take_unit(s, &units[i], t);
+        e = take_unit(s, &units[i], memory, t);
         if (e || t->first.kind == SHOWN_ABORT)
             return e;
     }
@@ -266,6 +298,6 @@ static enum error take(struct session *s, const uint8_t *octets, size_t length, 
         t->first.tokens = units[0].tokens;
         s->held |= units[0].tokens;
     }
-    return units[0].category == 1 ? take_unit(s, &units[0], t) : OK;
+    return units[0].category == 1 ? take_unit(s, &units[0], memory, t) : OK;
 }
 #endif

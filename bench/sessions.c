@@ -27,16 +27,70 @@ static void open_ends(struct ends *e)
     e->caller.held = DATA_TOKEN | MINOR_TOKEN;
 }
 
-/* Hands a TSDU to a side, where there is one, and frees it: its octets, or 0. */
+static const struct slice none = {(const uint8_t *)"", 0};
+
+/* A TSDU in a block of its own. */
+struct owned {
+    uint8_t *at;
+    size_t length;
+};
+
+/* A block with `front` octets that are left free, and the user data behind them. */
+static int made(struct owned *tsdu, size_t front, struct slice data)
+{
+    tsdu->length = front + data.length;
+    tsdu->at = malloc(tsdu->length);
+    if (!tsdu->at)
+        return 0;
+    if (data.length > 0)
+        memcpy(tsdu->at + front, data.at, data.length);
+    return 1;
+}
+
+static int call_data(const struct session *s, struct slice data, struct owned *tsdu)
+{
+    if (may_data(s, data) != OK || !made(tsdu, DATA_FRONT, data))
+        return 0;
+    write_data_front(tsdu->at);
+    return 1;
+}
+
+static int call_minor(struct session *s, struct owned *tsdu)
+{
+    struct front front;
+    if (may_minor(s, none) != OK)
+        return 0;
+    front = minor_front(s, 1, none);
+    if (!made(tsdu, front.octets, none))
+        return 0;
+    write_front(tsdu->at, &front);
+    minor_sent(s);
+    return 1;
+}
+
+static int call_confirm(struct session *s, uint32_t number, struct owned *tsdu)
+{
+    struct front front;
+    if (may_confirm(s, number, none) != OK)
+        return 0;
+    front = confirm_front(number, none);
+    if (!made(tsdu, front.octets, none))
+        return 0;
+    write_front(tsdu->at, &front);
+    confirm_sent(s, number);
+    return 1;
+}
+
+/* Lends a TSDU to a side, where there is one, and frees it: its octets, or 0. */
 static size_t hand(struct owned tsdu, struct session *to)
 {
     struct taken t;
+    uint8_t *lent = NULL;
     size_t octets = tsdu.length;
     if (to) {
-        if (take(to, tsdu.at, tsdu.length, &t) != OK || t.first.kind == SHOWN_NONE || t.reply.at)
+        if (take(to, tsdu.at, tsdu.length, &lent, &t) != OK || t.first.kind == SHOWN_NONE || t.aborts)
             octets = 0;
-        free(t.first.data.at);
-        free(t.reply.at);
+        free(t.first.data.memory);
     }
     free(tsdu.at);
     return octets;
@@ -45,23 +99,21 @@ static size_t hand(struct owned tsdu, struct session *to)
 static size_t data_to(struct ends *e, struct slice data, struct session *to)
 {
     struct owned tsdu;
-    return call_data(&e->caller, data, &tsdu) == OK ? hand(tsdu, to) : 0;
+    return call_data(&e->caller, data, &tsdu) ? hand(tsdu, to) : 0;
 }
 
 static size_t minor_to(struct ends *e, struct session *to)
 {
-    static const struct slice none = {NULL, 0};
     struct owned tsdu;
-    return call_minor(&e->caller, 1, none, &tsdu) == OK ? hand(tsdu, to) : 0;
+    return call_minor(&e->caller, &tsdu) ? hand(tsdu, to) : 0;
 }
 
 static size_t confirmed_to(struct ends *e, struct session *to)
 {
-    static const struct slice none = {NULL, 0};
     uint32_t number = e->caller.next;
     struct owned tsdu;
     size_t point = minor_to(e, &e->called), more;
-    if (!point || call_confirm(&e->called, number, none, &tsdu) != OK)
+    if (!point || !call_confirm(&e->called, number, &tsdu))
         return 0;
     more = hand(tsdu, to);
     return more ? point + more : 0;

@@ -26,52 +26,78 @@ static struct session *session_of(struct stack *s, unsigned reference)
     return l == NULL ? NULL : &s->sessions[l - s->carrier->live];
 }
 
-/* Sends what a call made, and frees it. */
-static bool sent(struct stack *s, unsigned reference, enum error e, struct owned tsdu)
-{
-    bool good = e == OK && send_tsdu(s->carrier, reference, tsdu.at, tsdu.length);
-    if (e == OK)
-        free(tsdu.at);
-    return good;
-}
-
+/* Sends data, and writes what stands before it where it is sent. */
 static bool stack_data(struct stack *s, unsigned reference, struct slice data)
 {
     struct session *session = session_of(s, reference);
-    struct owned tsdu;
-    return session != NULL && sent(s, reference, call_data(session, data, &tsdu), tsdu);
+    uint8_t *at;
+    if (session == NULL || may_data(session, data) != OK)
+        return false;
+    at = send_tsdu(s->carrier, reference, DATA_FRONT, data.at, data.length);
+    if (at == NULL)
+        return false;
+    write_data_front(at);
+    return true;
 }
+
+/* Sends a point or a confirmation, in the same way. */
+static bool sent(struct stack *s, unsigned reference, const struct front *front, struct slice data)
+{
+    uint8_t *at = send_tsdu(s->carrier, reference, front->octets, data.at, data.length);
+    if (at == NULL)
+        return false;
+    write_front(at, front);
+    return true;
+}
+
+static const struct slice none = {(const uint8_t *)"", 0};
 
 static bool stack_minor(struct stack *s, unsigned reference)
 {
-    static const struct slice none = {NULL, 0};
     struct session *session = session_of(s, reference);
-    struct owned tsdu;
-    return session != NULL && sent(s, reference, call_minor(session, 1, none, &tsdu), tsdu);
+    struct front front;
+    if (session == NULL || may_minor(session, none) != OK)
+        return false;
+    front = minor_front(session, 1, none);
+    if (!sent(s, reference, &front, none))
+        return false;
+    minor_sent(session);
+    return true;
 }
 
 static bool stack_confirm(struct stack *s, unsigned reference, uint32_t number)
 {
-    static const struct slice none = {NULL, 0};
     struct session *session = session_of(s, reference);
-    struct owned tsdu;
-    return session != NULL && sent(s, reference, call_confirm(session, number, none, &tsdu), tsdu);
+    struct front front;
+    if (session == NULL || may_confirm(session, number, none) != OK)
+        return false;
+    front = confirm_front(number, none);
+    if (!sent(s, reference, &front, none))
+        return false;
+    confirm_sent(session, number);
+    return true;
 }
 
-/* The session of a TSDU that came takes it: what it shows waits, and its reply is sent. */
+/* Sends an AB, if there is memory for it. */
+static void send_abort(struct stack *s, unsigned reference)
+{
+    uint8_t *at = send_tsdu(s->carrier, reference, ABORT_FRONT, none.at, none.length);
+    if (at != NULL)
+        write_abort(at);
+}
+
+/* The session of a TSDU that came takes it: what it shows waits, and its AB is sent. */
 static void hear(struct stack *s)
 {
     struct event event = s->carrier->event;
     struct session *session = session_of(s, event.reference);
     struct taken t;
     s->carrier->event.waits = false;
-    if (session == NULL || take(session, event.tsdu.at, event.tsdu.length, &t) != OK)
+    if (session == NULL || take(session, event.tsdu.at, event.tsdu.length, &event.tsdu.memory, &t) != OK)
         abort();
-    free(event.tsdu.at);
-    if (t.reply.at) {
-        send_tsdu(s->carrier, event.reference, t.reply.at, t.reply.length);
-        free(t.reply.at);
-    }
+    free(event.tsdu.memory);
+    if (t.aborts)
+        send_abort(s, event.reference);
     s->waits = t.first.kind != SHOWN_NONE;
     s->reference = event.reference;
     s->shown = t.first;
@@ -104,7 +130,7 @@ static void carry(struct stack *from, struct stack *to, struct ends *e)
         if (to->waits) {
             e->messages += 1;
             e->octets += to->shown.data.length;
-            free(to->shown.data.at);
+            free(to->shown.data.memory);
             to->waits = false;
         }
     }

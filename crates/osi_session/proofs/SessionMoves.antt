@@ -1,5 +1,5 @@
 -- The moves of a session in memory.
-use Rattle.std.proofs.Common.{◌≡◌, ◌∙◌, refl, sym, ap, subst, ℕ, ◌≤◌, ◌<◌, true, false, ◌&&◌, if◌then◌else◌, is_some, List, [], ◌∷◌, ◌++◌, length, map, Option, Some, None, option_map, Result, Ok, Err, IsOk}
+use Rattle.std.proofs.Common.{◌≡◌, ◌∙◌, refl, sym, ap, subst, ℕ, ◌≤◌, ◌<◌, true, false, ◌&&◌, if◌then◌else◌, is_some, List, [], ◌∷◌, ◌++◌, length, map, Option, Some, None, option_map, Result, Ok, Err}
 use Rattle.osi_message.specs.declared.plain.PlainUnit.{PlainUnit}
 use Rattle.osi_session.specs.declared.expected.Expected.{Expected}
 use Rattle.osi_session.specs.declared.hearing.Joined.{Joined}
@@ -207,9 +207,3 @@ pub came_plain : (l : Listener) (tsdu : List ℕ) (p : PlainUnit) → said_at ts
     → moved l (respond_word (taker_of l) (plain_word p)) ≡ react l (came tsdu)
 came_plain l tsdu p said =
     sym (came_is l (said_at tsdu) (respond_word (taker_of l) (plain_word p)) (ap (respond_came (taker_of l)) said ∙ word_behind (taker_of l) (plain_word p)))
-
--- what shows and sends nothing is the whole move, beside the state
-pub takes_quietly : {E : Type 0} (r : Result Taken E) (move : Move) (old new : Listener) → move ≡ rests new → IsOk r → Takes r (rests new) new new → Takes r move old new
-takes_quietly (Ok t) move old new e ok h =
-    takes_as (Ok t) (rests new) move old new (sym e) (record { state = h.state; shown = h.shown; first = h.first; reply = h.reply; closes = h.closes; err = tt; memory = tt })
-takes_quietly (Err x) move old new e ok h = absurd (cc)

@@ -636,6 +636,7 @@ pub(crate) fn allow_minor_confirm(
 
 /// Whether a point or a confirmation may be sent now, whatever its user data: the phase, the functional
 /// unit and the tokens allow it, and its number is still the one.
+#[inline(always)]
 fn may_advance(state: &State, point: SentPoint) -> bool
     ensures { result ≡ may_advance state.now point }
 {
@@ -656,6 +657,7 @@ fn may_advance(state: &State, point: SentPoint) -> bool
 }
 
 /// The numbers after a point or a confirmation that may be sent now.
+#[inline(always)]
 pub(crate) fn numbers_after(state: &State, point: SentPoint) -> Option<Numbers>
     ensures { result ≡ (if may_advance state.now point then Some (after state.now (call_for point true [])).numbers else None) }
 {

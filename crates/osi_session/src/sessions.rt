@@ -26,7 +26,7 @@ use crate::selected::is_profile;
 use crate::sizes::{limit_of, size_limit};
 use crate::state::State;
 use crate::taken::Taken;
-use osi_message::{Message, Octets, Sent, laws};
+use osi_message::{Message, Octets, PlainUnit, Sent, laws};
 use osi_spdu::{Group, SpduFault, TokenSet, read_tsdu};
 use std::alloc::{AllocError, Global};
 use std::marker::Model;
@@ -100,12 +100,12 @@ fn written_connect(alloc: Global, opening: &Opening) -> Result<Sent, AllocError>
 }
 
 impl Session {
-    ghost use Rattle.std.specs.Prelude.{◌≡◌, ◌++◌, [], true, false, map, option_map, None, Some, IsSome, IfSome, OnSome, IfNone, ◌≢◌, IfOk, IsOk, OnOk, IfErr, OnErr, length, ◌≤◌};
+    ghost use Rattle.std.specs.Prelude.{◌≡◌, ◌++◌, [], true, false, map, option_map, None, Some, IsSome, IfSome, OnSome, IfNone, ◌≢◌, IfOk, OnOk, IfErr, OnErr, length, ◌≤◌};
     ghost use Rattle.osi_spdu.specs.Groups.{units_of};
     ghost use Rattle.osi_message.specs.Reading.{said_by_units};
     ghost use Rattle.osi_message.specs.Tokens.{named, token_octet};
     ghost use Rattle.osi_session.specs.Calls.{Data, called_by};
-    ghost use Rattle.osi_session.specs.Listening.{called, taken, unread, came, opened, refused, broken, in_state, moved, react, rests};
+    ghost use Rattle.osi_session.specs.Listening.{called, taken, unread, came, opened, refused, broken, in_state, moved, react};
     ghost use Rattle.osi_session.specs.Phases.{is_wait_transport};
     ghost use Rattle.osi_session.specs.Sessions.{Refused, CanBeSent, IsPlanOf, opens, refusal_of, awaits, shown_in, takes_memory, Takes};
     ghost use Rattle.osi_session.specs.Shown.{shown_by};
@@ -327,22 +327,32 @@ impl Session {
         ensures err { OnErr result (self.new ≡ self.old) }
         ensures memory { OnErr result (takes_memory self.old (react self.old (came tsdu.now)) ≡ true) }
     {
+        if PlainUnit::data(tsdu).is_none() {
+            return self.take_no_data(tsdu);
+        }
+        self.take_tried(tsdu)
+    }
+
+    /// What is no whole data. It stands out of line: else what data shows would be made in the room for this
+    /// answer, and be copied from there.
+    #[inline(never)]
+    fn take_no_data(&mut self, tsdu: &[u8]) -> Result<Taken, AllocError>
+        ensures { Takes result (react self.old (came tsdu.now)) self.old self.new }
+    {
+        self.take_tried(tsdu)
+    }
+
+    /// Tries a TSDU as one that is expected; the general reader takes any other.
+    #[inline(always)]
+    fn take_tried(&mut self, tsdu: &[u8]) -> Result<Taken, AllocError>
+        ensures { Takes result (react self.old (came tsdu.now)) self.old self.new }
+    {
         match self.take_expected(tsdu) {
             Ok(Expected::Shown(indication)) => Ok(Taken::showing(self.alloc, Some(indication))),
-            Ok(Expected::Joined) => self.show_nothing(),
+            Ok(Expected::Joined) => Ok(Taken::showing(self.alloc, None)),
             Ok(Expected::Other) => self.take_unexpected(tsdu),
             Err(error) => Err(error),
         }
-    }
-
-    /// Nothing is shown or sent. It stands out of line: else the room for it would be made on the way to data,
-    /// too.
-    #[inline(never)]
-    fn show_nothing(&self) -> Result<Taken, AllocError>
-        ensures ok { IsOk result }
-        ensures takes { Takes result (rests self.now) self.now self.now }
-    {
-        Ok(Taken::showing(self.alloc, None))
     }
 
     /// A TSDU that is not expected, by the general reader: what [`Session::take_tsdu`] does after

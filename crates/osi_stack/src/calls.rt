@@ -15,6 +15,7 @@ use osi_carrier::Carrier;
 use osi_session::{CallError, PlannedPoint, Request, Session};
 
 /// Sends a point, and then the session goes on after it. Each error changes nothing.
+#[inline(always)]
 fn send_point(
     session: &mut Session,
     carrier: &mut Carrier,
