@@ -23,7 +23,7 @@ ends_by limit octets left false e is = let many = leb-false octets limit e in ne
 pub record IsFirst (slot : Slot) (limit n : ℕ) (head body part rest : List ℕ) (end : Bool) : Type 0 where
   pub unit : part_under (number_in slot) end (head ++ part) ≡ first_in slot limit (head ++ body)
   pub carries : octets_of (first_in slot limit (head ++ body)) ≡ length head + n
-  pub rest : drop (octets_of (first_in slot limit (head ++ body))) (head ++ body) ≡ rest
+  pub left : drop (octets_of (first_in slot limit (head ++ body))) (head ++ body) ≡ rest
 
 pub first_cut : (slot : Slot) (limit n : ℕ) (head body part rest : List ℕ) (end : Bool) → length head ≤ limit → n ≡ min (limit - length head) (length body) →
     part ≡ take n body → rest ≡ drop n body → end ≡ eqb (length rest) 0 → IsFirst slot limit n head body part rest end
@@ -31,7 +31,7 @@ first_cut slot limit n head body part rest end few is first behind last =
     let all = length-append head body in
     let most : min limit (length (head ++ body)) ≡ length head + n = omega arith in
     let octets = ap (λ (m : ℕ). take m (head ++ body)) most ∙ take-append-add head body n ∙ ap (λ (l : List ℕ). head ++ l) (sym first) in
-    let left : length rest ≡ length body - n = ap length behind ∙ length-drop n body in
+    let short : length rest ≡ length body - n = ap length behind ∙ length-drop n body in
     let ends = last ∙ ends_by limit (length (head ++ body)) (length rest) (leb (length (head ++ body)) limit) refl (omega arith) in
     let unit = ap (λ (b : Bool). part_under (number_in slot) b (head ++ part)) ends ∙ ap (part_under (number_in slot) (leb (length (head ++ body)) limit)) (sym octets) in
     let carries = part_octets (number_in slot) (leb (length (head ++ body)) limit) (take (min limit (length (head ++ body))) (head ++ body)) ∙ ap length octets in
@@ -40,5 +40,5 @@ first_cut slot limit n head body part rest end few is first behind last =
     record {
       unit = unit;
       carries = omega (arith, carries, long, part_long);
-      rest = ap (λ (m : ℕ). drop m (head ++ body)) (omega (arith, carries, long, part_long)) ∙ drop-append-add head body n ∙ sym behind;
+      left = ap (λ (m : ℕ). drop m (head ++ body)) (omega (arith, carries, long, part_long)) ∙ drop-append-add head body n ∙ sym behind;
     }

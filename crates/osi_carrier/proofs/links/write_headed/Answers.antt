@@ -41,7 +41,7 @@ returns-then-end c =
     let put = c.in-Ok.ensures.ok ∙ ap (λ (u : Given). c.args.out.now.items ++ packets (unit_of c.args.peer u ∷ [])) cut.unit in
     let goes : GoesWhole (any_standing c.args.link.now) tsdu = record { quiet = c.requires.quiet; some = c.requires.some; whole = c.requires.whole } in
     let nothing = eqb-true (length c.split_at.result.1.now) 0 (sym c.is_empty-end.ensures ∙ c.if-end.true) in
-    let none : drop (octets_of unit) tsdu ≡ [] = cut.rest ∙ empty_list c.split_at.result.1.now nothing in
+    let none : drop (octets_of unit) tsdu ≡ [] = cut.left ∙ empty_list c.split_at.result.1.now nothing in
     let start = parting_first c.args.peer (any_standing c.args.link.now) tsdu c.args.out.now.items c.args.out.now.spare goes c.requires.room in
     let all = parting_last c.args.peer first (any_standing c.args.link.now) then c.args.out.now.items tsdu c.args.out.now.items c.put_part.new.out.items unit c.args.out.now.spare
     start (omega arith) (c.in-Some.ensures.given tsdu) put none in
@@ -65,7 +65,7 @@ write_parts-requires-clause-quiet c =
     subst (λ (u : Given). c.args.out.now.spare ≤ c.put_part.new.out.spare + length (packets (unit_of c.args.peer u ∷ []))) cut.unit c.in-Ok.ensures.spare in
     let something : length c.split_at.result.1.now ≡ 0 → ⊥ = eqb-false (length c.split_at.result.1.now) 0 (sym c.is_empty-end.ensures ∙ c.if-end.false) in
     let parting = parting_then c.args.peer (any_standing c.args.link.now) then tsdu c.split_at.result.1.now c.args.out.now.items c.put_part.new.out.items unit c.args.out.now.spare c.put_part.new.out.spare
-    goes c.requires.room (omega arith) (c.in-Some.ensures.given tsdu) cut.rest put took (omega arith) in
+    goes c.requires.room (omega arith) (c.in-Some.ensures.given tsdu) cut.left put took (omega arith) in
     parting.goes.quiet
 
 pub write_parts-requires-clause-some : goal.write_parts-requires-clause-some
@@ -86,7 +86,7 @@ write_parts-requires-clause-some c =
     subst (λ (u : Given). c.args.out.now.spare ≤ c.put_part.new.out.spare + length (packets (unit_of c.args.peer u ∷ []))) cut.unit c.in-Ok.ensures.spare in
     let something : length c.split_at.result.1.now ≡ 0 → ⊥ = eqb-false (length c.split_at.result.1.now) 0 (sym c.is_empty-end.ensures ∙ c.if-end.false) in
     let parting = parting_then c.args.peer (any_standing c.args.link.now) then tsdu c.split_at.result.1.now c.args.out.now.items c.put_part.new.out.items unit c.args.out.now.spare c.put_part.new.out.spare
-    goes c.requires.room (omega arith) (c.in-Some.ensures.given tsdu) cut.rest put took (omega arith) in
+    goes c.requires.room (omega arith) (c.in-Some.ensures.given tsdu) cut.left put took (omega arith) in
     parting.goes.some
 
 pub write_parts-requires-clause-whole : goal.write_parts-requires-clause-whole
@@ -107,7 +107,7 @@ write_parts-requires-clause-whole c =
     subst (λ (u : Given). c.args.out.now.spare ≤ c.put_part.new.out.spare + length (packets (unit_of c.args.peer u ∷ []))) cut.unit c.in-Ok.ensures.spare in
     let something : length c.split_at.result.1.now ≡ 0 → ⊥ = eqb-false (length c.split_at.result.1.now) 0 (sym c.is_empty-end.ensures ∙ c.if-end.false) in
     let parting = parting_then c.args.peer (any_standing c.args.link.now) then tsdu c.split_at.result.1.now c.args.out.now.items c.put_part.new.out.items unit c.args.out.now.spare c.put_part.new.out.spare
-    goes c.requires.room (omega arith) (c.in-Some.ensures.given tsdu) cut.rest put took (omega arith) in
+    goes c.requires.room (omega arith) (c.in-Some.ensures.given tsdu) cut.left put took (omega arith) in
     parting.goes.whole
 
 pub write_parts-requires-clause-room : goal.write_parts-requires-clause-room
@@ -128,7 +128,7 @@ write_parts-requires-clause-room c =
     subst (λ (u : Given). c.args.out.now.spare ≤ c.put_part.new.out.spare + length (packets (unit_of c.args.peer u ∷ []))) cut.unit c.in-Ok.ensures.spare in
     let something : length c.split_at.result.1.now ≡ 0 → ⊥ = eqb-false (length c.split_at.result.1.now) 0 (sym c.is_empty-end.ensures ∙ c.if-end.false) in
     let parting = parting_then c.args.peer (any_standing c.args.link.now) then tsdu c.split_at.result.1.now c.args.out.now.items c.put_part.new.out.items unit c.args.out.now.spare c.put_part.new.out.spare
-    goes c.requires.room (omega arith) (c.in-Some.ensures.given tsdu) cut.rest put took (omega arith) in
+    goes c.requires.room (omega arith) (c.in-Some.ensures.given tsdu) cut.left put took (omega arith) in
     parting.room
 
 pub returns : goal.returns
@@ -149,7 +149,7 @@ returns c =
     subst (λ (u : Given). c.args.out.now.spare ≤ c.put_part.new.out.spare + length (packets (unit_of c.args.peer u ∷ []))) cut.unit c.in-Ok.ensures.spare in
     let something : length c.split_at.result.1.now ≡ 0 → ⊥ = eqb-false (length c.split_at.result.1.now) 0 (sym c.is_empty-end.ensures ∙ c.if-end.false) in
     let parting = parting_then c.args.peer (any_standing c.args.link.now) then tsdu c.split_at.result.1.now c.args.out.now.items c.put_part.new.out.items unit c.args.out.now.spare c.put_part.new.out.spare
-    goes c.requires.room (omega arith) (c.in-Some.ensures.given tsdu) cut.rest put took (omega arith) in
+    goes c.requires.room (omega arith) (c.in-Some.ensures.given tsdu) cut.left put took (omega arith) in
     let all = parting_all c.args.peer first then (any_standing c.write_parts.new.link) c.args.out.now.items c.split_at.result.1.now c.put_part.new.out.items c.write_parts.new.out.items c.put_part.new.out.spare
     parting c.write_parts.ensures.link c.write_parts.ensures.written in
     record { link = all.link; written = all.written; pumped = c.write_parts.ensures.pumped }

@@ -41,7 +41,7 @@ returns-then-end c =
     let part = c.in-Some.ensures.given rest in
     let put = c.in-Ok.ensures.ok ∙ ap (λ (u : Given). c.parts.out.items ++ packets (unit_of c.args.peer u ∷ [])) cut.unit in
     let nothing = eqb-true (length c.split_at.result.1.now) 0 (sym c.is_empty-end.ensures ∙ c.if-end.true) in
-    let none : drop (octets_of unit) rest ≡ [] = cut.rest ∙ empty_list c.split_at.result.1.now nothing in
+    let none : drop (octets_of unit) rest ≡ [] = cut.left ∙ empty_list c.split_at.result.1.now nothing in
     let all = parting_last c.args.peer (with_tsdu (any_standing c.args.link.now) c.args.tsdu.now) (any_standing c.parts.link) (any_standing c.give_slot.new.self)
     c.args.out.now.items rest c.parts.out.items c.put_part.new.out.items unit c.parts.out.spare c.parts.invariant (omega arith) part put none in
     record { link = all.link; written = all.written; pumped = part.last }
@@ -60,9 +60,9 @@ parts-preserved c =
     let put = c.in-Ok.ensures.ok ∙ ap (λ (u : Given). c.parts.out.items ++ packets (unit_of c.args.peer u ∷ [])) cut.unit in
     let took : c.parts.out.spare ≤ c.put_part.new.out.spare + length (packets (unit_of c.args.peer unit ∷ [])) =
     subst (λ (u : Given). c.parts.out.spare ≤ c.put_part.new.out.spare + length (packets (unit_of c.args.peer u ∷ []))) cut.unit c.in-Ok.ensures.spare in
-    let left = ap length cut.rest in
+    let left = ap length cut.left in
     let something : length c.split_at.result.1.now ≡ 0 → ⊥ = eqb-false (length c.split_at.result.1.now) 0 (sym c.is_empty-end.ensures ∙ c.if-end.false) in
     let some : 0 < length (drop (octets_of unit) rest) = omega arith in
-    subst (λ (r : List ℕ). IsParting c.args.peer first c.args.out.now.items then r c.put_part.new.out.items c.put_part.new.out.spare) cut.rest
+    subst (λ (r : List ℕ). IsParting c.args.peer first c.args.out.now.items then r c.put_part.new.out.items c.put_part.new.out.spare) cut.left
     (parting_next c.args.peer first (any_standing c.parts.link) then c.args.out.now.items rest c.parts.out.items c.put_part.new.out.items unit
     c.parts.out.spare c.put_part.new.out.spare c.parts.invariant (omega arith) (c.in-Some.ensures.given rest) put took some)
