@@ -16,6 +16,7 @@ pub mod Apart
 pub mod Coming
 pub mod InFront
 pub mod Parts
+pub mod Slots
 pub mod SentAll
 pub mod Pieces
 pub mod ToldOpen

@@ -1,5 +1,5 @@
 -- Writing a TSDU straight from its octets, part after part.
-use Rattle.std.proofs.Common.{◌≡◌, ℕ, ◌+◌, ◌<◌, ◌≤◌, List, [], ◌∷◌, ◌++◌, length, drop, None, refl, ap, subst, arith, length-drop}
+use Rattle.std.proofs.Common.{◌≡◌, ℕ, ◌+◌, ◌<◌, ◌≤◌, List, [], ◌∷◌, ◌++◌, length, drop, None, refl, sym, ap, ◌∙◌, subst, append_assoc, arith, length-drop}
 use Rattle.osi_class.proofs.PartLaws.{goes_at_once, some_rest}
 use Rattle.osi_carrier.proofs.Vocabulary.{Drained, drained, all_given, octets_of, octets_in, GoesAtOnce, GivesPart, with_rest, Standing, Given, next, unit_of, with_tsdu, drained_none, drained_some, pumped, written_by, packets}
 use Rattle.osi_carrier.proofs.Pumping.{IsPumping, pumping_first, pumping_next, pumping_octets, pumping_link, pumping_room}
@@ -95,3 +95,23 @@ parting_last peer first link new before rest octets after unit spare h room part
     let all = subst (λ (r : List ℕ). IsPumping peer first before (with_rest new r) after) none more in
     let end = drained_none new part.last in
     record { link = pumping_link peer first new before after all end; written = pumping_octets peer first new before after all end }
+
+-- the first part was written, which ends in front of these octets
+pub parting_then : (peer : ℕ) (link new : Standing) (tsdu rest before after : List ℕ) (unit : Given) (spare left : ℕ) → GoesWhole link tsdu →
+    length (packets (written_by peer (with_tsdu link tsdu))) ≤ spare → 0 < link.ends.limit → GivesPart unit tsdu link new → drop (octets_of unit) tsdu ≡ rest →
+    after ≡ before ++ packets (unit_of peer unit ∷ []) → spare ≤ left + length (packets (unit_of peer unit ∷ [])) → 0 < length rest →
+    IsParting peer (with_tsdu link tsdu) before new rest after left
+parting_then peer link new tsdu rest before after unit spare left goes room limit part behind put took some =
+    subst (λ (r : List ℕ). IsParting peer (with_tsdu link tsdu) before new r after left) behind
+    (parting_next peer (with_tsdu link tsdu) link new before tsdu before after unit spare left (parting_first peer link tsdu before spare goes room) limit part put took
+    (subst (λ (r : List ℕ). 0 < length r) (sym behind) some))
+
+-- and then all others
+pub parting_all : (peer : ℕ) (first link last : Standing) (before rest octets after : List ℕ) (spare : ℕ) → IsParting peer first before link rest octets spare →
+    last ≡ pumped (with_tsdu link rest) → after ≡ octets ++ packets (written_by peer (with_tsdu link rest)) → IsWhole peer first before last after
+parting_all peer first link last before rest octets after spare h e put =
+    let others = packets (written_by peer (with_tsdu link rest)) in
+    record {
+      link = e ∙ h.pumping.link;
+      written = put ∙ ap (λ (l : List ℕ). l ++ others) h.pumping.is ∙ append_assoc before h.pumping.more others ∙ ap (λ (l : List ℕ). before ++ l) h.pumping.all;
+    }

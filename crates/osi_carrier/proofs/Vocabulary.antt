@@ -1,16 +1,18 @@
 -- What the proofs of this crate take from the library, from the crates below and from its own definitions.
-pub use Rattle.std.proofs.lemmas.Bool.{cases_lt, eq-eqb, eqb-false, eqb-true, lt-ltb, ltb-true, or_left, or_right}
+pub use Rattle.std.proofs.lemmas.Bool.{cases_lt, eq-eqb, eqb-false, eqb-true, le-leb, leb-false, leb-true, lt-ltb, ltb-true, ne_eqb, or_left, or_right}
 pub use Rattle.std.proofs.lemmas.Bool.Decides.{nat_tests}
 pub use Rattle.std.proofs.lemmas.Grind.{common_steps}
 pub use Rattle.std.proofs.lemmas.List.{append-nil, append_cancel_left, drop_all, get_or_append_left, length-set, length-take-le, map-append, take-append-drop, take_all, take_at}
 pub use Rattle.std.proofs.lemmas.List.Sorted.{IsNonDecreasingBy-from_default}
 pub use Rattle.std.proofs.lemmas.List.Sums.{position_or_len_is, sum_by-cons}
 pub use Rattle.std.specs.Cow.{cow_slice_items}
+pub use Rattle.std.specs.Prelude.{min}
 pub use Rattle.std.specs.List.{AllByRecursion, flat_map, list_any, position_or_len, remove}
 pub use Rattle.osi_class.proofs.Giving.{drained_leaves, drained_none, drained_some}
 pub use Rattle.osi_class.specs.AnyLink.{any_standing}
-pub use Rattle.osi_class.specs.Giving.{Drained, GivesPart, GoesAtOnce, all_given, drained, given_one_by_one, header_octets, left_to_give, octets_in, octets_of, one_by_one, with_rest}
-pub use Rattle.osi_class.specs.Link.{Given, Gives, Hands, Standing, ack, given, needs_memory, next, part0, part2, part_needs_memory, taken, taken_by, taken_flow, unit_of, with_joined, with_tsdu, with_tsdus}
+pub use Rattle.osi_class.specs.Giving.{Drained, GivesPart, GivesSlot, GoesAtOnce, IsNumbered, all_given, drained, first_in, given_one_by_one, header_octets, left_to_give, number_in, octets_in, octets_of, one_by_one, with_rest}
+pub use Rattle.osi_class.specs.declared.units.Slot.{Slot}
+pub use Rattle.osi_class.specs.Link.{Given, Gives, Hands, Standing, ack, given, needs_memory, next, part0, part2, part_needs_memory, part_under, taken, taken_by, taken_flow, unit_of, with_joined, with_tsdu, with_tsdus}
 pub use Rattle.osi_class.specs.Negotiation.{Selection, accept, refuse, selected_by, selection}
 pub use Rattle.osi_class.specs.declared.faults.LinkFault.{LinkFault}
 pub use Rattle.osi_class.specs.declared.terms.Class.{Class}

@@ -38,7 +38,7 @@ impl Model for Carrier {
 }
 
 impl Carrier {
-    ghost use Rattle.std.specs.Prelude.{◌≡◌, ◌≢◌, ◌+◌, ◌-◌, ◌*◌, ◌^◌, ◌≤◌, true, false, None, Some, Err, [], length, map, min, drop, IfOk, IfErr, OnOk, OnErr, MatchResult, option_map, is_some};
+    ghost use Rattle.std.specs.Prelude.{◌≡◌, ◌≢◌, ◌+◌, ◌-◌, ◌*◌, ◌^◌, ◌≤◌, ◌++◌, true, false, None, Some, Err, [], length, map, min, drop, IfOk, IfErr, OnOk, OnErr, MatchResult, option_map, is_some};
     ghost use Rattle.osi_tpkt.specs.Held.{fresh};
     ghost use Rattle.osi_tpdu.specs.Limits.{tsap_octets};
     ghost use Rattle.osi_carrier.specs.Calls.{fresh_state, may_connect, open_error, asks, open_link, close_error, send_error, send_all_error, call_error, closed_with, sent, sent_all, ended_by, kept_in, unsent_at, backlog_of, tsaps_at, Tells, WaitsOn};
@@ -114,6 +114,24 @@ impl Carrier {
         ensures kept { WaitsOn (open_link reference.0 self.old.state) tsdu.items → result ≢ Err SendError.OutOfMemory }
     {
         self.switch.send(reference.0, CowSlice::Owned(tsdu))
+    }
+
+    /// Sends a TSDU as [`Carrier::send`] does, which is given in two pieces: its first octets and the others, as
+    /// a header and what follows it. What may go now is written straight from them. Where not all of it may,
+    /// the rest is kept.
+    #[inline(always)]
+    pub fn send_headed(
+        &mut self,
+        reference: Ref,
+        head: &[u8],
+        body: &[u8],
+    ) -> Result<(), SendError>
+        ensures ok { OnOk result (self.new ≡ record self.old { state = sent reference.0 (head.now ++ body.now) self.old.state }) }
+        ensures allowed { OnOk result (send_error (head.now ++ body.now) (open_link reference.0 self.old.state) ≡ None) }
+        ensures refused { IfErr result (λ e. call_error e ≡ send_error (head.now ++ body.now) (open_link reference.0 self.old.state)) }
+        ensures err { OnErr result (self.new ≡ self.old) }
+    {
+        self.switch.send_headed(reference.0, head, body)
     }
 
     /// Sends TSDUs of at most 1,048,576 octets each together on an open connection, all or none: as

@@ -1,6 +1,6 @@
 //! The links of open connections: units that come for them, and units that they give.
 
-ghost use Rattle.std.specs.Prelude.{◌≡◌, ◌<◌, ◌≤◌, ◌++◌, [], None, true, false, nat_lt, length, map, IsOk, OnOk, OnErr};
+ghost use Rattle.std.specs.Prelude.{◌≡◌, ◌<◌, ◌≤◌, ◌+◌, ◌++◌, [], None, true, false, nat_lt, length, map, IfOk, IsOk, OnOk, OnErr};
 ghost use Rattle.std.specs.Cow.{cow_slice_items, IsOwnedSlice};
 ghost use Rattle.osi_class.specs.AnyLink.{any_standing};
 ghost use Rattle.osi_class.specs.Giving.{all_given, octets_in, one_by_one};
@@ -9,7 +9,7 @@ ghost use Rattle.osi_carrier.specs.Calls.{WaitsAlone};
 ghost use Rattle.osi_carrier.specs.Pump.{pumped, written_by, written_for};
 ghost use Rattle.osi_carrier.specs.State.{packets};
 
-use crate::writing::put_given;
+use crate::writing::{put_given, put_part};
 use bytes::BytesMut;
 use osi_class::laws::{all_is_given, giving_ends, many_go_as_one_by_one, what_units_take};
 use osi_class::{AnyLink, Link, LinkFault};
@@ -21,6 +21,9 @@ const MOST_HEADERS: usize = 9;
 
 /// The most octets of a TSDU in one unit.
 const MOST_OCTETS: usize = 8189;
+
+/// The octets of a TSDU that each unit has room for.
+const LEAST_LIMIT: usize = 123;
 
 /// What became of a unit that came for an open connection.
 #[derive(Drop)]
@@ -55,29 +58,40 @@ pub fn pump(link: &mut AnyLink, peer: u16, out: &mut BytesMut) -> Result<(), All
     Ok(())
 }
 
-/// Writes a TSDU as one unit straight from its octets, where it fits one, the link gives it now and
-/// there is memory. `false` in all other cases, and then nothing has changed.
+/// Writes a TSDU, which is given as its first octets and the others, as one unit straight from these, where it
+/// fits one, the link gives it now and there is memory. `false` in all other cases, and then nothing has
+/// changed.
 #[inline(always)]
-pub fn send_whole(link: &mut AnyLink, peer: u16, tsdu: &[u8], out: &mut BytesMut) -> bool
-    ensures link { result ≡ true → any_standing link.new ≡ pumped (with_tsdu (any_standing link.old) tsdu.now) }
-    ensures written { result ≡ true → out.new.items ≡ out.old.items ++ packets (written_by peer (with_tsdu (any_standing link.old) tsdu.now)) }
+pub fn send_whole(
+    link: &mut AnyLink,
+    peer: u16,
+    head: &[u8],
+    body: &[u8],
+    out: &mut BytesMut,
+) -> bool
+    ensures link { result ≡ true → any_standing link.new ≡ pumped (with_tsdu (any_standing link.old) (head.now ++ body.now)) }
+    ensures written { result ≡ true → out.new.items ≡ out.old.items ++ packets (written_by peer (with_tsdu (any_standing link.old) (head.now ++ body.now))) }
     ensures pumped { result ≡ true → next (any_standing link.new) ≡ None }
     ensures none { result ≡ false → (any_standing link.new ≡ any_standing link.old) × (out.new.items ≡ out.old.items) }
 {
     all_is_given();
-    if tsdu.len() > MOST_OCTETS {
+    if head.len() > MOST_OCTETS {
         return false;
     }
-    let Ok(()) = out.reserve(tsdu.len() + MOST_HEADERS) else {
-        return false;
-    };
-    if tsdu.len() > link.limit() {
+    if body.len() > MOST_OCTETS - head.len() {
         return false;
     }
-    let Some(unit) = link.give_part(tsdu) else {
+    let octets = head.len() + body.len();
+    let Ok(()) = out.reserve(octets + MOST_HEADERS) else {
         return false;
     };
-    let Ok(()) = put_given(out, peer, &unit) else {
+    if octets > link.limit() {
+        return false;
+    }
+    let Some(slot) = link.give_slot() else {
+        return false;
+    };
+    let Ok(()) = put_part(out, peer, slot, true, head, body) else {
         unreachable!()
     };
     true
@@ -114,7 +128,7 @@ pub fn send_parts(
 {
     all_is_given();
     let octets = tsdu.as_slice();
-    let room = link.room_for(octets);
+    let room = link.room_for(octets.len());
     out.reserve(room.octets + MOST_HEADERS * room.units)?;
     if room.octets == octets.len() && room.units > 0 {
         write_parts(link, peer, octets, out);
@@ -180,16 +194,86 @@ fn write_parts(link: &mut AnyLink, peer: u16, tsdu: &[u8], out: &mut BytesMut)
 {
     let mut rest = tsdu;
     'parts: loop {
-        let Some(unit) = link.give_part(rest) else {
+        let carried = link.limit().min(rest.len());
+        let Some(slot) = link.give_slot() else {
             unreachable!()
         };
-        let Ok(()) = put_given(out, peer, &unit) else {
+        let (part, behind) = rest.split_at(carried);
+        let end = behind.is_empty();
+        let Ok(()) = put_part(out, peer, slot, end, &[], part) else {
             unreachable!()
         };
-        let (_, behind) = rest.split_at(unit.carries());
-        rest = behind;
-        if rest.is_empty() {
+        if end {
             return;
         }
+        rest = behind;
     }
+}
+
+/// Writes a TSDU of which all units go now, and of which the first octets are given apart, part after part,
+/// straight from its octets. There is room for them in `out`.
+fn write_headed(link: &mut AnyLink, peer: u16, head: &[u8], body: &[u8], out: &mut BytesMut)
+    requires short { length head.now ≤ 123 }
+    requires quiet { next (any_standing link.old) ≡ None }
+    requires some { 0 < length (all_given (with_tsdu (any_standing link.old) (head.now ++ body.now))) }
+    requires whole { octets_in (all_given (with_tsdu (any_standing link.old) (head.now ++ body.now))) ≡ length (head.now ++ body.now) }
+    requires room { length (packets (written_by peer (with_tsdu (any_standing link.old) (head.now ++ body.now)))) ≤ out.old.spare }
+    ensures link { any_standing link.new ≡ pumped (with_tsdu (any_standing link.old) (head.now ++ body.now)) }
+    ensures written { out.new.items ≡ out.old.items ++ packets (written_by peer (with_tsdu (any_standing link.old) (head.now ++ body.now))) }
+    ensures pumped { next (any_standing link.new) ≡ None }
+{
+    let carried = (link.limit() - head.len()).min(body.len());
+    let Some(slot) = link.give_slot() else {
+        unreachable!()
+    };
+    let (part, rest) = body.split_at(carried);
+    let end = rest.is_empty();
+    let Ok(()) = put_part(out, peer, slot, end, head, part) else {
+        unreachable!()
+    };
+    if end {
+        return;
+    }
+    write_parts(link, peer, rest, out);
+}
+
+/// Both pieces in one room.
+fn joined(alloc: Global, head: &[u8], body: &[u8]) -> Result<Vec<u8>, AllocError>
+    requires { length head.now + length body.now ≤ 1048576 }
+    ensures { IfOk result (λ v. v.items ≡ head.now ++ body.now) }
+{
+    let mut octets = Vec::with_capacity(alloc, head.len() + body.len())?;
+    octets.extend_from_slice(head)?;
+    octets.extend_from_slice(body)?;
+    Ok(octets)
+}
+
+/// Hands in a TSDU, which is given as its first octets and the others, at a link that gives nothing now, and
+/// writes all units that it gives then, where not all may be sent now, or it takes several units. Only in the first case
+/// it is kept, by a copy of its own. Want of memory changes nothing: the room for the units is made first.
+#[inline(never)]
+pub fn send_headed_parts(
+    alloc: Global,
+    link: &mut AnyLink,
+    peer: u16,
+    head: &[u8],
+    body: &[u8],
+    out: &mut BytesMut,
+) -> Result<(), AllocError>
+    requires long { length head.now + length body.now ≤ 1048576 }
+    requires quiet { next (any_standing link.old) ≡ None }
+    ensures link { OnOk result (any_standing link.new ≡ pumped (with_tsdu (any_standing link.old) (head.now ++ body.now))) }
+    ensures ok { OnOk result (out.new.items ≡ out.old.items ++ packets (written_by peer (with_tsdu (any_standing link.old) (head.now ++ body.now)))) }
+    ensures pumped { OnOk result (next (any_standing link.new) ≡ None) }
+    ensures err { OnErr result ((any_standing link.new ≡ any_standing link.old) × (out.new.items ≡ out.old.items)) }
+{
+    let octets = head.len() + body.len();
+    let room = link.room_for(octets);
+    out.reserve(room.octets + MOST_HEADERS * room.units)?;
+    if room.octets == octets && room.units > 0 && head.len() <= LEAST_LIMIT {
+        write_headed(link, peer, head, body, out);
+        return Ok(());
+    }
+    let tsdu = joined(alloc, head, body)?;
+    send_parts(link, peer, CowSlice::Owned(tsdu), out)
 }

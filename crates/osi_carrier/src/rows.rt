@@ -1,6 +1,6 @@
 //! The live connections, in the order of their references.
 
-ghost use Rattle.std.specs.Prelude.{◌≡◌, ◌*◌, ◌^◌, ◌-◌, ◌<◌, ◌≤◌, ◌∷◌, ◌++◌, ◌==◌, [], None, Some, true, length, map, min, is_some, IsOk, IfOk, IfSome, OnOk, OnErr};
+ghost use Rattle.std.specs.Prelude.{◌≡◌, ◌+◌, ◌*◌, ◌^◌, ◌-◌, ◌<◌, ◌≤◌, ◌∷◌, ◌++◌, ◌==◌, [], None, Some, true, length, map, min, is_some, IsOk, IfOk, IfSome, OnOk, OnErr};
 ghost use Rattle.std.specs.Cow.{cow_slice_items, IsOwnedSlice};
 ghost use Rattle.osi_carrier.specs.Calls.{backlog_of, begun_by, kept_in, link_of, unsent_at, unsent_by, WaitsAlone};
 ghost use Rattle.osi_carrier.specs.Live.{connection, IsPumped};
@@ -15,7 +15,7 @@ ghost use Rattle.osi_class.specs.Giving.{one_by_one};
 ghost use Rattle.osi_class.specs.Link.{taken, with_tsdu};
 ghost use Rattle.osi_tpdu.specs.View.{value};
 
-use crate::links::{Step, pump, send_all_on, send_parts, send_whole};
+use crate::links::{Step, pump, send_all_on, send_headed_parts, send_parts, send_whole};
 use crate::lookup::{Referred, is_above, place_in};
 use bytes::BytesMut;
 use osi_class::{AnyLink, Link, LinkFault};
@@ -135,6 +135,34 @@ impl Row {
             return Err(AllocError);
         };
         Ok(Step::Took(whole))
+    }
+
+    /// Hands in a TSDU, which is given as its first octets and the others, at the link of the connection, which
+    /// is open with this reference of the peer, and writes what the link gives then: where all of it goes now,
+    /// straight from these octets. Want of memory changes nothing.
+    #[inline(always)]
+    fn send_headed(
+        &mut self,
+        alloc: Global,
+        peer: u16,
+        head: &[u8],
+        body: &[u8],
+        out: &mut BytesMut,
+    ) -> Result<(), AllocError>
+        requires open { peer_in (Some self.old.1) ≡ Some peer }
+        requires long { length head.now + length body.now ≤ 1048576 }
+        ensures reference { self.new.0 ≡ self.old.0 }
+        ensures row { OnOk result (self.new ≡ (self.old.0, linked peer (pumped (with_tsdu (link_in (Some self.old.1)) (head.now ++ body.now))))) }
+        ensures ok { OnOk result (out.new.items ≡ out.old.items ++ packets (written_by peer (with_tsdu (link_in (Some self.old.1)) (head.now ++ body.now)))) }
+        ensures err { OnErr result ((self.new ≡ self.old) × (out.new.items ≡ out.old.items)) }
+    {
+        let Phase::Linked(_, link) = &mut self.phase else {
+            unreachable!()
+        };
+        if send_whole(link, peer, head, body, out) {
+            return Ok(());
+        }
+        send_headed_parts(alloc, link, peer, head, body, out)
     }
 
     /// Hands in TSDUs together at the link of the connection, which is open with this reference of the
@@ -390,10 +418,34 @@ impl Connections {
         let Phase::Linked(_, link) = &mut self.rows[place].phase else {
             unreachable!()
         };
-        if send_whole(link, peer, tsdu.as_slice(), out) {
+        if send_whole(link, peer, &[], tsdu.as_slice(), out) {
             return Ok(());
         }
         send_parts(link, peer, tsdu, out)
+    }
+
+    /// Hands in a TSDU, which is given as its first octets and the others, at the link of the connection at
+    /// this place, which is open with this reference of the peer, and writes what the link gives then. Want of
+    /// memory changes nothing.
+    #[inline(always)]
+    pub fn send_headed(
+        &mut self,
+        alloc: Global,
+        place: usize,
+        reference: u16,
+        peer: u16,
+        head: &[u8],
+        body: &[u8],
+        out: &mut BytesMut,
+    ) -> Result<(), AllocError>
+        requires place { place_of reference self.old ≡ Some place }
+        requires open { peer_in (value_at reference self.old) ≡ Some peer }
+        requires long { length head.now + length body.now ≤ 1048576 }
+        ensures rows { OnOk result (self.new ≡ put reference (linked peer (pumped (with_tsdu (link_in (value_at reference self.old)) (head.now ++ body.now)))) self.old) }
+        ensures ok { OnOk result (out.new.items ≡ out.old.items ++ packets (written_by peer (with_tsdu (link_in (value_at reference self.old)) (head.now ++ body.now)))) }
+        ensures err { OnErr result ((self.new ≡ self.old) × (out.new.items ≡ out.old.items)) }
+    {
+        self.rows[place].send_headed(alloc, peer, head, body, out)
     }
 
     /// Hands in TSDUs together at the link of the connection at this place, which is open with this

@@ -6,11 +6,12 @@ ghost use Rattle.osi_tpdu.specs.Limits.{size_code, selector_octets};
 ghost use Rattle.osi_tpdu.specs.Value.{user_data, request, confirm, disconnect, disconnected, AreParameters, IsConnect, IsReference};
 ghost use Rattle.osi_tpdu.specs.View.{value, parameter_values, request_content, confirm_content};
 ghost use Rattle.osi_tpdu.specs.Writing.{Fits, HasFewClasses};
-ghost use Rattle.osi_class.specs.Link.{FitsAUnit, given, unit_of};
+ghost use Rattle.osi_class.specs.Giving.{number_in, IsNumbered};
+ghost use Rattle.osi_class.specs.Link.{FitsAUnit, given, part_under, unit_of};
 ghost use Rattle.osi_carrier.specs.State.{packets};
 
 use bytes::BytesMut;
-use osi_class::Out;
+use osi_class::{Out, Slot};
 use osi_tpdu::laws::written_form;
 use osi_tpdu::{
     ConnectConfirm, ConnectParameters, ConnectRequest, DataAcknowledgement, DataClass0, DataClass2,
@@ -189,6 +190,38 @@ pub fn put_given(out: &mut BytesMut, peer: u16, unit: &Out<'_>) -> Result<(), Al
                 number,
             };
             ack.write_packet(out)
+        }
+    }
+}
+
+/// Appends the data unit of a slot, to this reference of the peer, with octets that are given in two pieces.
+#[inline(always)]
+#[tactic(auto, using(crate::proofs::Units::one_packet_of, crate::proofs::Units::given_size))]
+pub fn put_part(
+    out: &mut BytesMut,
+    peer: u16,
+    slot: Slot,
+    end: bool,
+    head: &[u8],
+    body: &[u8],
+) -> Result<(), AllocError>
+    requires number { IsNumbered slot }
+    requires fits { length head.now + length body.now ≤ 8189 }
+    ensures ok { OnOk result (out.new.items ≡ out.old.items ++ packets (unit_of peer (part_under (number_in slot) end (head.now ++ body.now)) ∷ [])) }
+    ensures err { OnErr result (out.new.items ≡ out.old.items) }
+    ensures spare { OnOk result (out.old.spare ≤ out.new.spare + length (packets (unit_of peer (part_under (number_in slot) end (head.now ++ body.now)) ∷ []))) }
+    ensures full { OnErr result (out.old.spare < length (packets (unit_of peer (part_under (number_in slot) end (head.now ++ body.now)) ∷ []))) }
+{
+    match slot {
+        Slot::Data0 => DataClass0 { end, user: body }.write_packet_behind(head, out),
+        Slot::Data2(number) => {
+            let data = DataClass2 {
+                destination: peer,
+                number,
+                end,
+                user: body,
+            };
+            data.write_packet_behind(head, out)
         }
     }
 }

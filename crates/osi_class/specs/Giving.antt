@@ -1,9 +1,11 @@
 -- All that a link gives, one unit after the other, until it gives none.
-use Rattle.std.specs.Prelude.{◌≡◌, ℕ, zero, suc, ◌+◌, ◌-◌, ◌*◌, ◌/◌, ◌<◌, min, List, [], ◌∷◌, ◌++◌, length, drop, Option, Some, None}
+use Rattle.std.specs.Prelude.{◌≡◌, ℕ, zero, suc, ◌+◌, ◌-◌, ◌*◌, ◌/◌, ◌<◌, nat_le, min, List, [], ◌∷◌, ◌++◌, length, take, drop, Option, Some, None}
 use Rattle.std.specs.List.{sum_by}
 use Rattle.osi_class.specs.Ends.{Ends}
 use Rattle.osi_class.specs.Flow.{Flow}
-use Rattle.osi_class.specs.Link.{Standing, Given, part0, part2, ack, next, with_tsdu}
+use Rattle.osi_class.specs.declared.units.Slot.{Slot}
+use Rattle.osi_class.specs.declared.units.Slot.TheVariants.{Data0, Data2}
+use Rattle.osi_class.specs.Link.{Standing, Given, part0, part2, ack, part_under, next, with_tsdu}
 
 -- how much is left to give: each octet and each TSDU that is to be sent, and each Ack that waits
 abbrev pub left_of_tsdus : List (List ℕ) → ℕ
@@ -105,3 +107,20 @@ pub record GivesPart (unit : Given) (tsdu : List ℕ) (old new : Standing) : Typ
   pub gives : next (with_tsdu old tsdu) ≡ Some (unit, with_rest new (drop (octets_of unit) tsdu))
   pub last : next new ≡ None
   pub octets : octets_of unit ≡ min old.ends.limit (length tsdu)
+
+-- the number of a data unit, in class 2 alone
+abbrev pub number_in : Slot → Option ℕ
+number_in Data0 = None
+number_in (Data2 number) = Some number
+
+abbrev pub IsNumbered : Slot → Type 0
+IsNumbered Data0 = Unit {0}
+IsNumbered (Data2 number) = number < 128
+
+-- the unit with the first part of a TSDU: as much as a unit carries, or all of it, and then it ends the TSDU
+abbrev pub first_in : Slot → (limit : ℕ) → List ℕ → Given
+first_in slot limit tsdu = part_under (number_in slot) (nat_le (length tsdu) limit) (take (min limit (length tsdu)) tsdu)
+
+-- the first part of any TSDU goes so
+abbrev pub GivesSlot : Slot → Standing → Standing → Type 0
+GivesSlot slot old new = (tsdu : List ℕ) → GivesPart (first_in slot old.ends.limit tsdu) tsdu old new

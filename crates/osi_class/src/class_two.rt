@@ -8,7 +8,7 @@ use crate::links::Link;
 use crate::queue::Queue;
 use crate::sending::Outgoing;
 use crate::sizes::{most_octets, room_for_parts, room_within};
-use crate::units::{Out, Room};
+use crate::units::{Out, Room, Slot};
 use osi_tpdu::{SizeCode, Tpdu, Window};
 use std::alloc::{AllocError, Global};
 use std::marker::Model;
@@ -92,7 +92,7 @@ impl Link for Class2 {
     }
 
     #[inline(always)]
-    fn give_part<'t>(&mut self, tsdu: &'t [u8]) -> Option<Out<'t>> {
+    fn give_slot(&mut self) -> Option<Slot> {
         if !self.outgoing.is_empty() {
             return None;
         }
@@ -102,13 +102,7 @@ impl Link for Class2 {
         if !self.sending.has_credit() {
             return None;
         }
-        let carried = self.limit.min(tsdu.len());
-        let octets = &tsdu[..carried];
-        Some(Out::Data2 {
-            number: self.sending.count_unit(),
-            end: tsdu.len() <= self.limit,
-            octets,
-        })
+        Some(Slot::Data2(self.sending.count_unit()))
     }
 
     #[inline(always)]
@@ -170,8 +164,8 @@ impl Link for Class2 {
         self.outgoing.octets()
     }
 
-    fn room_for(&self, tsdu: &[u8]) -> Room {
-        room_within(self.limit, self.sending.credit(), tsdu.len())
+    fn room_for(&self, octets: usize) -> Room {
+        room_within(self.limit, self.sending.credit(), octets)
     }
 
     fn room_for_all(&self, tsdus: &[Vec<u8>], headers: u8) -> Option<usize> {

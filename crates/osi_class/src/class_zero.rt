@@ -6,7 +6,7 @@ use crate::links::Link;
 use crate::queue::Queue;
 use crate::sending::Outgoing;
 use crate::sizes::{count_parts, most_octets, room_for_parts};
-use crate::units::{Out, Room};
+use crate::units::{Out, Room, Slot};
 use osi_tpdu::{SizeCode, Tpdu};
 use std::alloc::{AllocError, Global};
 use std::marker::Model;
@@ -79,14 +79,11 @@ impl Link for Class0 {
     }
 
     #[inline(always)]
-    fn give_part<'t>(&mut self, tsdu: &'t [u8]) -> Option<Out<'t>> {
+    fn give_slot(&mut self) -> Option<Slot> {
         if !self.outgoing.is_empty() {
             return None;
         }
-        let carried = self.limit.min(tsdu.len());
-        let octets = &tsdu[..carried];
-        let end = tsdu.len() <= self.limit;
-        Some(Out::Data0 { end, octets })
+        Some(Slot::Data0)
     }
 
     #[inline(always)]
@@ -127,8 +124,7 @@ impl Link for Class0 {
         self.outgoing.octets()
     }
 
-    fn room_for(&self, tsdu: &[u8]) -> Room {
-        let octets = tsdu.len();
+    fn room_for(&self, octets: usize) -> Room {
         Room {
             units: count_parts(self.limit, octets),
             octets,

@@ -4,7 +4,7 @@ use crate::class_two::Class2;
 use crate::class_zero::Class0;
 use crate::faults::LinkFault;
 use crate::links::Link;
-use crate::units::{Out, Room};
+use crate::units::{Out, Room, Slot};
 use osi_tpdu::Tpdu;
 use std::alloc::AllocError;
 
@@ -51,10 +51,10 @@ impl Link for AnyLink {
     }
 
     #[inline(always)]
-    fn give_part<'t>(&mut self, tsdu: &'t [u8]) -> Option<Out<'t>> {
+    fn give_slot(&mut self) -> Option<Slot> {
         match self {
-            AnyLink::Zero(link) => link.give_part(tsdu),
-            AnyLink::Two(link) => link.give_part(tsdu),
+            AnyLink::Zero(link) => link.give_slot(),
+            AnyLink::Two(link) => link.give_slot(),
         }
     }
 
@@ -104,10 +104,10 @@ impl Link for AnyLink {
         }
     }
 
-    fn room_for(&self, tsdu: &[u8]) -> Room {
+    fn room_for(&self, octets: usize) -> Room {
         match self {
-            AnyLink::Zero(link) => link.room_for(tsdu),
-            AnyLink::Two(link) => link.room_for(tsdu),
+            AnyLink::Zero(link) => link.room_for(octets),
+            AnyLink::Two(link) => link.room_for(octets),
         }
     }
 

@@ -36,4 +36,4 @@ pub use negotiation::answer;
 pub use queue::Queue;
 pub use sizes::smaller_size;
 pub use terms::{Answer, Class, Local};
-pub use units::{Out, Room};
+pub use units::{Out, Room, Slot};

@@ -1,7 +1,7 @@
 //! What both classes of links promise.
 
 use crate::faults::LinkFault;
-use crate::units::{Out, Room};
+use crate::units::{Out, Room, Slot};
 use osi_tpdu::Tpdu;
 use std::alloc::AllocError;
 
@@ -12,11 +12,11 @@ use std::alloc::AllocError;
 /// their order. What a link holds and each call does is stated on its `standing`, which both
 /// classes have; the laws over lists of calls are in [`crate::laws`].
 pub trait Link {
-    ghost use Rattle.std.specs.Prelude.{◌≡◌, ◌≤◌, ◌+◌, ◌*◌, ◌^◌, [], None, length, map, IfSome, IfNone, IsOk, IsSome, OnOk, OnErr, option_map};
+    ghost use Rattle.std.specs.Prelude.{ℕ, List, ◌≡◌, ◌≤◌, ◌+◌, ◌*◌, ◌^◌, [], None, length, map, IfSome, IfNone, IsOk, IsSome, OnOk, OnErr, option_map};
     ghost use Rattle.std.specs.Borrow.{sem};
     ghost use Rattle.std.specs.Io.BufRead.{Rests};
     ghost use Rattle.osi_tpdu.specs.View.{value};
-    ghost use Rattle.osi_class.specs.Giving.{all_given, octets_in, most_given, GoesAtOnce, GivesPart};
+    ghost use Rattle.osi_class.specs.Giving.{all_given, octets_in, most_given, GoesAtOnce, GivesSlot, IsNumbered};
     ghost use Rattle.osi_class.specs.Limits.{longest_tsdu};
     ghost use Rattle.osi_class.specs.Link.{Standing, with_tsdu, with_tsdus, unsent_octets, given, taken, needs_memory, next, Gives, Hands, FitsAUnit};
     ghost use Rattle.osi_class.specs.Sound.{IsSound};
@@ -57,17 +57,17 @@ pub trait Link {
         ensures nothing { tsdus.items ≡ [] → IsOk result }
         ensures limit { (standing self.new).ends.limit ≡ (standing self.old).ends.limit };
 
-    /// The first part of a TSDU that goes at once, since nothing else is to be given: as many octets as
-    /// a unit carries, or all of them. The unit lends them from the TSDU, and none is copied. What is
-    /// left of the TSDU is not kept: it is to be given by further calls of this one, each for what the
-    /// one before has left ([`Out::carries`]), or handed in by [`Link::send_tsdu`].
+    /// Lets the first part of a TSDU go at once, since nothing else is to be given: as many octets as a unit
+    /// carries ([`Link::limit`]), or all of them, and then the unit ends the TSDU. The link sees no octet of
+    /// the TSDU and keeps none. What is left of it is to go by further calls of this one, or to be handed in
+    /// by [`Link::send_tsdu`].
     ///
-    /// A part is given wherever nothing is to be sent and, in class 2, no Ack waits and there is
+    /// A part may go wherever nothing is to be sent and, in class 2, no Ack waits and there is
     /// credit. `None` in all other cases, and then nothing has changed.
-    fn give_part<'t>(&mut self, tsdu: &'t [u8]) -> Option<Out<'t>>
-        ensures given { IfSome result (λ out. GivesPart (given out) tsdu.now (standing self.old) (standing self.new)) }
+    fn give_slot(&mut self) -> Option<Slot>
+        ensures given { IfSome result (λ slot. GivesSlot slot (standing self.old) (standing self.new)) }
         ensures at_once { GoesAtOnce (standing self.old) → IsSome result }
-        ensures fits { IfSome result FitsAUnit }
+        ensures number { IfSome result IsNumbered }
         ensures none { IfNone result (self.new ≡ self.old) }
         ensures at_least { 123 ≤ (standing self.old).ends.limit };
 
@@ -111,13 +111,13 @@ pub trait Link {
     fn unsent(&self) -> usize
         ensures value { result ≡ unsent_octets (standing self.now) };
 
-    /// What the units take that [`Link::next_out`] gives, up to none, once this TSDU is handed in at
-    /// a link that gives none now: how many they are, and how many octets of TSDUs are in them.
-    fn room_for(&self, tsdu: &[u8]) -> Room
-        ensures units { next (standing self.now) ≡ None → result.units ≡ length (all_given (with_tsdu (standing self.now) tsdu.now)) }
-        ensures octets { next (standing self.now) ≡ None → result.octets ≡ octets_in (all_given (with_tsdu (standing self.now) tsdu.now)) }
-        ensures few_units { 123 * result.units ≤ length tsdu.now + 123 }
-        ensures few_octets { result.octets ≤ length tsdu.now };
+    /// What the units take that [`Link::next_out`] gives, up to none, once a TSDU of so many octets is
+    /// handed in at a link that gives none now: how many they are, and how many octets of TSDUs are in them.
+    fn room_for(&self, octets: usize) -> Room
+        ensures units { (tsdu : List ℕ) → length tsdu ≡ octets → next (standing self.now) ≡ None → result.units ≡ length (all_given (with_tsdu (standing self.now) tsdu)) }
+        ensures octets { (tsdu : List ℕ) → length tsdu ≡ octets → next (standing self.now) ≡ None → result.octets ≡ octets_in (all_given (with_tsdu (standing self.now) tsdu)) }
+        ensures few_units { 123 * result.units ≤ octets + 123 }
+        ensures few_octets { result.octets ≤ octets };
 
     /// How many octets the units take at most that [`Link::next_out`] gives, up to none, once these TSDUs
     /// are handed in together at a link that gives none now, with so many octets of headers for each unit

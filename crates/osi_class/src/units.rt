@@ -1,6 +1,13 @@
 //! Units that a link gives.
 
-ghost use Rattle.std.specs.Prelude.{◌≡◌};
+/// A data unit that a link lets go at once, for octets that it does not see: what is written before them.
+#[derive(Clone, Copy)]
+pub enum Slot {
+    /// DT of class 0 (X.224 section 13.7).
+    Data0,
+    /// DT of class 2 with this number, 0 to 127 (X.224 section 13.7).
+    Data2(u8),
+}
 
 /// A unit that a link gives, to be written for its peer.
 #[derive(Clone, Copy, PartialEq, Eq, Debug)]
@@ -28,23 +35,6 @@ pub enum Out<'a> {
         /// How many units may be sent from that number on, 1 to 15.
         credit: u8,
     },
-}
-
-impl Out<'_> {
-    ghost use Rattle.osi_class.specs.Giving.{octets_of};
-    ghost use Rattle.osi_class.specs.Link.{given};
-
-    /// How many octets of a TSDU it carries, none in an Ack.
-    #[inline(always)]
-    pub fn carries(&self) -> usize
-        ensures { result ≡ octets_of (given self.now) }
-    {
-        match *self {
-            Out::Data0 { octets, .. } => octets.len(),
-            Out::Data2 { octets, .. } => octets.len(),
-            Out::Ack { .. } => 0,
-        }
-    }
 }
 
 /// What the units take that a link gives for a TSDU.

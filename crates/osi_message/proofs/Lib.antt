@@ -7,6 +7,7 @@ pub mod PlainLaws
 pub mod ReadingLaws
 pub mod SendingLaws
 pub mod SentLaws
+pub mod Starts
 pub mod TokenLaws
 mod Vocabulary
 pub mod WritingLaws

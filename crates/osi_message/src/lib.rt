@@ -17,6 +17,6 @@ mod writing;
 pub use messages::Message;
 pub use octets::Octets;
 pub use places::Place;
-pub use plain::PlainUnit;
+pub use plain::{PlainUnit, data_head};
 pub use sent::Sent;
 pub use tokens::Tokens;

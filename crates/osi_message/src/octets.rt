@@ -1,6 +1,6 @@
 //! Octets that a value owns.
 
-ghost use Rattle.std.specs.Prelude.{◌≡◌, ◌<◌, ◌++◌, [], length, IfOk, OnOk, OnErr};
+ghost use Rattle.std.specs.Prelude.{◌≡◌, ◌<◌, ◌≤◌, ◌++◌, [], drop, length, IfOk, OnOk, OnErr};
 
 use std::alloc::{AllocError, Global};
 use std::marker::Model;
@@ -9,14 +9,18 @@ use std::marker::Model;
 #[derive(Drop)]
 pub struct Octets {
     items: Vec<u8>,
+    /// Where they begin in it. What stands before them is none of them.
+    start: usize,
 }
 
 impl Model for Octets {
-    ghost use Rattle.std.specs.Prelude.{ℕ, List};
+    ghost use Rattle.std.specs.Prelude.{ℕ, List, ◌≤◌, drop, length};
 
     ghost Value = { List ℕ };
 
-    ghost view = { λ o. o.items.items };
+    ghost view = { λ o. drop o.start o.items.items };
+
+    ghost invariant = { λ o. o.start ≤ length o.items.items };
 }
 
 impl Octets {
@@ -26,7 +30,17 @@ impl Octets {
     {
         Octets {
             items: Vec::new(alloc),
+            start: 0,
         }
+    }
+
+    /// All but the first octets of these, so many, where they are: none is copied.
+    #[inline(always)]
+    pub fn behind(items: Vec<u8>, start: usize) -> Octets
+        requires { start ≤ length items.items }
+        ensures { result ≡ drop start items.items }
+    {
+        Octets { items, start }
     }
 
     /// A copy of these octets.
@@ -34,10 +48,11 @@ impl Octets {
         ensures { IfOk result (λ o. o ≡ octets.now) }
     {
         let items = Vec::from_slice(alloc, octets)?;
-        Ok(Octets { items })
+        Ok(Octets { items, start: 0 })
     }
 
     /// Puts more octets behind them. `Err` changes nothing, and comes only where there are some.
+    #[tactic(auto, using(crate::proofs::Starts::more_behind))]
     pub fn extend(&mut self, more: &[u8]) -> Result<(), AllocError>
         ensures ok { OnOk result (self.new ≡ self.old ++ more.now) }
         ensures err { OnErr result (self.new ≡ self.old) }
@@ -51,6 +66,7 @@ impl Octets {
 
     /// Puts the last octets behind them, and makes no more room than they need. `Err` changes nothing, and
     /// comes only where there are some.
+    #[tactic(auto, using(crate::proofs::Starts::more_behind))]
     pub fn complete(&mut self, last: &[u8]) -> Result<(), AllocError>
         ensures ok { OnOk result (self.new ≡ self.old ++ last.now) }
         ensures err { OnErr result (self.new ≡ self.old) }
@@ -67,13 +83,7 @@ impl Octets {
     pub fn as_slice(&self) -> &[u8]
         ensures { result.now ≡ self.now }
     {
-        self.items.as_slice()
-    }
-
-    /// The octets, which are not copied.
-    pub fn into_vec(self) -> Vec<u8>
-        ensures { result.items ≡ self }
-    {
-        self.items
+        let (_, octets) = self.items.as_slice().split_at(self.start);
+        octets
     }
 }

@@ -2,7 +2,7 @@
 //! synchronization point or its confirmation with no parameter but its number, behind a GT that names
 //! no token. Whole data has a reader of its own, [`PlainUnit::data`]; [`PlainUnit::read`] reads the others.
 
-ghost use Rattle.std.specs.Prelude.{◌≡◌, ◌+◌, ◌%◌, ◌≤◌, true, [], ◌∷◌, Ok, IfOk, IfSome};
+ghost use Rattle.std.specs.Prelude.{ℕ, List, ◌≡◌, ◌+◌, ◌%◌, ◌≤◌, ◌++◌, true, [], ◌∷◌, length, Ok, IfOk, IfSome};
 ghost use Rattle.osi_spdu.specs.Values.{digits_of};
 ghost use Rattle.osi_message.specs.Meanings.{DT, GT, MIP, MIA};
 ghost use Rattle.osi_message.specs.Plain.{plain_octets, plain_said, data_octets, point_octets, has_zero_in_front};
@@ -127,6 +127,17 @@ pub(crate) fn minor_ack(alloc: Global, number: Serial) -> Result<Vec<u8>, AllocE
 {
     let octets = point(alloc, MINOR_ACK, number)?;
     Ok(octets)
+}
+
+/// What stands in front of data in its TSDU: a GT that names no token, and the header of a DT (X.225 sections
+/// 6.3.7 and 8).
+#[inline(always)]
+#[tactic(auto, using(crate::proofs::PlainLaws::data_written))]
+pub fn data_head() -> &'static [u8]
+    ensures octets { (octets : List ℕ) → written (DT octets) ≡ result.now ++ octets }
+    ensures length { length result.now ≡ 4 }
+{
+    &[1, 0, 1, 0]
 }
 
 /// Whether a zero stands before another digit.

@@ -26,7 +26,7 @@ use crate::selected::is_profile;
 use crate::sizes::{limit_of, size_limit};
 use crate::state::State;
 use crate::taken::Taken;
-use osi_message::{Message, Octets, PlainUnit, Sent, laws};
+use osi_message::{Message, Octets, PlainUnit, Sent, data_head, laws};
 use osi_spdu::{Group, SpduFault, TokenSet, read_tsdu};
 use std::alloc::{AllocError, Global};
 use std::marker::Model;
@@ -100,7 +100,7 @@ fn written_connect(alloc: Global, opening: &Opening) -> Result<Sent, AllocError>
 }
 
 impl Session {
-    ghost use Rattle.std.specs.Prelude.{◌≡◌, ◌++◌, [], true, false, map, option_map, None, Some, IsSome, IfSome, OnSome, IfNone, ◌≢◌, IfOk, OnOk, IfErr, OnErr, length, ◌≤◌};
+    ghost use Rattle.std.specs.Prelude.{◌≡◌, ◌++◌, [], ◌∷◌, true, false, map, option_map, None, Some, IsSome, IfSome, OnSome, IfNone, ◌≢◌, IfOk, IsOk, OnOk, IfErr, OnErr, length, ◌≤◌};
     ghost use Rattle.osi_spdu.specs.Groups.{units_of};
     ghost use Rattle.osi_message.specs.Reading.{said_by_units};
     ghost use Rattle.osi_message.specs.Tokens.{named, token_octet};
@@ -272,6 +272,25 @@ impl Session {
             Ok(sent) => Ok(sent),
             Err(_) => Err(CallError::OutOfMemory),
         }
+    }
+
+    /// What stands in front of data in its TSDU, where a call of the user for it is accepted and all of it goes
+    /// in one TSDU: these octets and then the data are all that [`Session::call_data`] gives then. `None` where
+    /// the call is refused or the data leaves in parts.
+    #[inline(always)]
+    pub fn data_head(&self, user_data: &[u8]) -> Option<&'static [u8]>
+        ensures state { OnSome result (self.now ≡ (react self.now (called (Data user_data.now))).next) }
+        ensures sent { IfSome result (λ h. (h.now ++ user_data.now) ∷ [] ≡ tsdus_sent (limit_of self.now.state) (react self.now (called (Data user_data.now))).reply) }
+        ensures accepted { OnSome result ((react self.now (called (Data user_data.now))).error ≡ None) }
+        ensures sendable { OnSome result (CanBeSent (react self.now (called (Data user_data.now))).reply) }
+    {
+        let Ok(()) = allow_data(&self.state, user_data) else {
+            return None;
+        };
+        if !Sent::is_whole(limit_of(&self.state), user_data) {
+            return None;
+        }
+        Some(data_head())
     }
 
     /// Data that is refused, or for which a size was agreed. It stands out of line: other data comes more

@@ -10,7 +10,7 @@ ghost use Rattle.osi_stack.specs.Calls.{move_refusal, send_refusal, Refuses};
 ghost use Rattle.osi_stack.specs.Moving.{answers};
 ghost use Rattle.osi_stack.specs.Transport.{hands};
 
-use crate::transport::{send_call, send_owned_call};
+use crate::transport::{send_call, send_headed_call, send_owned_call};
 use osi_carrier::Carrier;
 use osi_session::{CallError, PlannedPoint, Request, Session};
 
@@ -105,6 +105,25 @@ fn make_planned_call(
     Ok(())
 }
 
+/// Sends data that leaves in parts, or says why data is refused. It stands out of line: else the room for the
+/// parts would be made on the way of other data, too.
+#[inline(never)]
+fn make_parted_call(
+    session: &Session,
+    carrier: &mut Carrier,
+    reference: u16,
+    user_data: &[u8],
+) -> Result<(), CallError>
+    ensures session { OnOk result (session.now ≡ (react session.now (called (Data user_data.now))).next) }
+    ensures carrier { OnOk result (carrier.new ≡ record carrier.old { state = answers reference (limit_of session.now.state) (react session.now (called (Data user_data.now))) carrier.old.state }) }
+    ensures allowed { OnOk result (move_refusal reference (limit_of session.now.state) (react session.now (called (Data user_data.now))) carrier.old.state ≡ None) }
+    ensures refused { IfErr result (λ e. Refuses e (react session.now (called (Data user_data.now))).error (move_refusal reference (limit_of session.now.state) (react session.now (called (Data user_data.now))) carrier.old.state)) }
+    ensures err { OnErr result (carrier.new ≡ carrier.old) }
+{
+    let sent = session.call_data(user_data)?;
+    send_owned_call(carrier, reference, sent)
+}
+
 /// Sends what a call of the user does, and then the session does it: data leaves it as it is. Each error
 /// changes nothing.
 pub fn make_call(
@@ -121,8 +140,10 @@ pub fn make_call(
 {
     match request {
         Request::Data { user_data } => {
-            let sent = session.call_data(user_data)?;
-            send_owned_call(carrier, reference, sent)
+            let Some(head) = session.data_head(user_data) else {
+                return make_parted_call(session, carrier, reference, user_data);
+            };
+            send_headed_call(carrier, reference, head, user_data)
         }
         Request::Minor { confirm, user_data } => {
             make_minor_call(session, carrier, reference, confirm, user_data)

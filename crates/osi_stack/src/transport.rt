@@ -1,6 +1,6 @@
 //! What sessions hand to the carrier.
 
-ghost use Rattle.std.specs.Prelude.{◌≡◌, [], ◌∷◌, ◌||◌, map, true, None, is_some, unwrap_or, IfErr, OnOk, OnErr};
+ghost use Rattle.std.specs.Prelude.{◌≡◌, [], ◌∷◌, ◌++◌, ◌||◌, map, true, None, is_some, unwrap_or, IfErr, OnOk, OnErr};
 ghost use Rattle.osi_carrier.specs.Calls.{closed_with, sent_all, send_all_error, open_link, call_error as sending_error};
 ghost use Rattle.osi_carrier.specs.Growth.{grows};
 ghost use Rattle.osi_stack.specs.Calls.{send_refusal, Refuses};
@@ -108,6 +108,27 @@ pub fn send_call(carrier: &mut Carrier, reference: u16, sent: &Sent) -> Result<(
     ensures err { OnErr result (carrier.new ≡ carrier.old) }
 {
     match send(carrier, reference, sent.tsdus()) {
+        Ok(()) => Ok(()),
+        Err(error) => Err(call_error(error)),
+    }
+}
+
+/// The same of one TSDU, which is given as its first octets and the others: what of it may go now is written
+/// straight from these.
+#[inline(always)]
+#[tactic(auto, using(crate::proofs::Handing::one_error))]
+pub fn send_headed_call(
+    carrier: &mut Carrier,
+    reference: u16,
+    head: &[u8],
+    body: &[u8],
+) -> Result<(), CallError>
+    ensures ok { OnOk result (carrier.new ≡ record carrier.old { state = hands reference ((head.now ++ body.now) ∷ []) carrier.old.state }) }
+    ensures allowed { OnOk result (send_refusal (send_all_error ((head.now ++ body.now) ∷ []) (open_link reference carrier.old.state)) ≡ None) }
+    ensures refused { IfErr result (λ e. Refuses e None (send_refusal (send_all_error ((head.now ++ body.now) ∷ []) (open_link reference carrier.old.state)))) }
+    ensures err { OnErr result (carrier.new ≡ carrier.old) }
+{
+    match carrier.send_headed(Ref(reference), head, body) {
         Ok(()) => Ok(()),
         Err(error) => Err(call_error(error)),
     }

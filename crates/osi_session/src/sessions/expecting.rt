@@ -10,14 +10,16 @@ use osi_message::{Octets, Place, PlainUnit};
 use std::alloc::AllocError;
 
 impl Session {
-    ghost use Rattle.std.specs.Prelude.{◌≡◌, true, IfOk, OnErr};
+    ghost use Rattle.std.specs.Prelude.{◌≡◌, true, drop, IfOk, IfErr, OnOk, OnErr};
     ghost use Rattle.osi_message.specs.Plain.{plain_word};
     ghost use Rattle.osi_message.specs.Words.{part};
     ghost use Rattle.osi_session.specs.Expecting.{Meets, Tries};
     ghost use Rattle.osi_session.specs.Joining.{respond_word, word_verdict};
     ghost use Rattle.osi_session.specs.Listening.{came, moved, react, taker_of};
     ghost use Rattle.osi_session.specs.Respond.{fine};
+    ghost use Rattle.osi_session.specs.Points.{only_shows};
     ghost use Rattle.osi_session.specs.Sessions.{takes_memory};
+    ghost use Rattle.osi_session.specs.Shown.{Data, shown_by};
 
     /// Tries a TSDU as one that is expected: the written form of whole data, of a part of it, or of a minor
     /// point or a confirmation without other parameters, behind a GT that names no token. `Shown` and
@@ -40,6 +42,26 @@ impl Session {
             Ok(user_data) => Ok(Expected::Shown(Indication::Data { user_data })),
             Err(error) => Err(error),
         }
+    }
+
+    /// Tries a TSDU, with the room that its octets are in, as whole data that is expected: that is shown from
+    /// there, and no octet is copied. Nothing else happens, so the session stays as it is, and no memory is
+    /// taken. Any other TSDU comes back.
+    #[inline(always)]
+    pub fn show_data(&self, tsdu: Vec<u8>) -> Result<Indication, Vec<u8>>
+        ensures data { IfOk result (λ i. shown_by i ≡ Data (drop 4 tsdu.items)) }
+        ensures shown { OnOk result (react self.now (came tsdu.items) ≡ only_shows self.now (Data (drop 4 tsdu.items))) }
+        ensures other { IfErr result (λ t. t ≡ tsdu) }
+    {
+        let Some(_user_data) = PlainUnit::data(tsdu.as_slice()) else {
+            return Err(tsdu);
+        };
+        if self.joined.is_some() || !expects_data(&self.state) {
+            return Err(tsdu);
+        }
+        Ok(Indication::Data {
+            user_data: Octets::behind(tsdu, 4),
+        })
     }
 
     /// What is no whole data. It stands out of line: data comes more often.

@@ -1,4 +1,4 @@
-use Rattle.std.proofs.Common.{◌≤◌, ◌∙◌, length, ap, sym, subst, arith}
+use Rattle.std.proofs.Common.{◌≤◌, ◌∙◌, length, refl, ap, sym, subst, arith}
 use Rattle.osi_carrier.proofs.Vocabulary.{any_standing, all_given, Standing, with_tsdu, written_by, packets}
 use Rattle.osi_carrier.proofs.Pumping.{packets_most}
 use Rattle.osi_carrier.proofs.links.send_parts.Goals as goal
@@ -6,8 +6,8 @@ use Rattle.osi_carrier.proofs.links.send_parts.Goals as goal
 pub write_parts-requires-clause-room : goal.write_parts-requires-clause-room
 write_parts-requires-clause-room c =
     let then = with_tsdu (any_standing c.args.link.now) c.as_slice-octets.result.now in
-    let units = c.room_for-room.ensures.units c.requires in
-    let octets = c.room_for-room.ensures.octets c.requires in
+    let units = c.room_for-room.ensures.units c.as_slice-octets.result.now refl c.requires in
+    let octets = c.room_for-room.ensures.octets c.as_slice-octets.result.now refl c.requires in
     let room = c.in_ok-reserve.ensures.spare.1 in
     let most = packets_most c.args.peer (all_given then) in
     omega arith
@@ -15,8 +15,8 @@ write_parts-requires-clause-room c =
 pub unreachable-requires : goal.unreachable-requires
 unreachable-requires c =
     let then = with_tsdu (any_standing c.args.link.now) c.as_slice-octets.result.now in
-    let units = c.room_for-room.ensures.units c.requires in
-    let octets = c.room_for-room.ensures.octets c.requires in
+    let units = c.room_for-room.ensures.units c.as_slice-octets.result.now refl c.requires in
+    let octets = c.room_for-room.ensures.octets c.as_slice-octets.result.now refl c.requires in
     let room = c.in_ok-reserve.ensures.spare.1 in
     let most = packets_most c.args.peer (all_given then) in
     let fits : length (packets (written_by c.args.peer then)) ≤ c.reserve.new.self.spare = omega arith in

@@ -1,36 +1,41 @@
-use Rattle.std.proofs.Common.{◌≡◌, ◌≤◌, Some, [], ◌∷◌, ◌++◌, length, ap, subst, ◌∙◌, arith}
-use Rattle.osi_carrier.proofs.Vocabulary.{drop_all, any_standing, octets_of, with_rest, given, next, unit_of, with_tsdu, packets}
+use Rattle.std.proofs.Common.{◌≡◌, ◌≤◌, true, Some, [], ◌∷◌, ◌++◌, length, ap, subst, ◌∙◌, arith, length-append}
+use Rattle.osi_carrier.proofs.Vocabulary.{drop_all, any_standing, octets_of, number_in, part_under, with_rest, GivesPart, Given, next, unit_of, with_tsdu, packets}
 use Rattle.osi_carrier.proofs.Pumping.{whole_link, whole_written}
+use Rattle.osi_carrier.proofs.Slots.{part_octets, whole_part}
 use Rattle.osi_carrier.proofs.Units.{given_size, header_most}
 use Rattle.osi_carrier.proofs.links.send_whole.Goals as goal
 
 pub unreachable-requires : goal.unreachable-requires
 unreachable-requires c =
-    let unit = given c.in-Some.unit in
+    let tsdu = c.args.head.now ++ c.args.body.now in
+    let unit = part_under (number_in c.in-Some.slot) true tsdu in
     let size = given_size c.args.peer unit in
     let header = header_most unit in
-    let octets = c.in-Some.ensures.given.octets in
+    let octets = part_octets (number_in c.in-Some.slot) true tsdu in
+    let long = length-append c.args.head.now c.args.body.now in
     let room = c.in-Ok.ensures.spare.1 in
-    let full = c.in_default-put_given.ensures.full in
+    let full = c.in_default-put_part.ensures.full in
     omega arith
 
 pub returns : goal.returns
 returns c =
-    let tsdu = c.args.tsdu.now in
+    let tsdu = c.args.head.now ++ c.args.body.now in
     let old = with_tsdu (any_standing c.args.link.now) tsdu in
-    let new = any_standing c.give_part.new.self in
-    let unit = given c.in-Some.unit in
-    let sent = c.in-Some.ensures.given in
-    let least = c.in-Some.ensures.at_least in
-    let octets = sent.octets in
+    let new = any_standing c.give_slot.new.self in
+    let unit = part_under (number_in c.in-Some.slot) true tsdu in
+    let long = length-append c.args.head.now c.args.body.now in
     let limit = c.limit.ensures.value in
+    let fits : length tsdu ≤ (any_standing c.args.link.now).ends.limit = omega arith in
+    let sent = subst (λ (u : Given). GivesPart u tsdu (any_standing c.args.link.now) new) (whole_part c.in-Some.slot (any_standing c.args.link.now).ends.limit tsdu fits) (c.in-Some.ensures.given tsdu) in
+    let least = c.in-Some.ensures.at_least in
+    let octets = part_octets (number_in c.in-Some.slot) true tsdu in
     let all : length tsdu ≤ octets_of unit = omega arith in
     let gives = subst (λ r. next old ≡ Some (unit, with_rest new r)) (drop_all (octets_of unit) tsdu all) sent.gives in
     let first = c.all_is_given.ensures.some old new unit (omega arith) gives in
     let last = c.all_is_given.ensures.none new sent.last in
     record {
       link = λ _. whole_link old new unit first last;
-      written = λ _. c.in-Ok-put_given.ensures.ok ∙ ap (λ l. l ++ packets (unit_of c.args.peer unit ∷ [])) c.in-Ok.ensures.items ∙ ap (λ us. c.args.out.now.items ++ packets us) (whole_written c.args.peer old new unit first last);
+      written = λ _. c.in-Ok-put_part.ensures.ok ∙ ap (λ l. l ++ packets (unit_of c.args.peer unit ∷ [])) c.in-Ok.ensures.items ∙ ap (λ us. c.args.out.now.items ++ packets us) (whole_written c.args.peer old new unit first last);
       pumped = λ _. sent.last;
       none = λ e. cc;
     }

@@ -1,6 +1,7 @@
-use Rattle.std.proofs.Common.{◌≡◌, ◌<◌, ℕ, List, [], length, drop, sym, ap, subst, ◌∙◌, arith}
-use Rattle.osi_carrier.proofs.Vocabulary.{eqb-true, eqb-false, any_standing, octets_of, given, with_tsdu}
+use Rattle.std.proofs.Common.{◌≡◌, ◌<◌, ◌≤◌, ◌+◌, ℕ, Bool, List, [], ◌∷◌, ◌++◌, length, drop, refl, sym, ap, subst, ◌∙◌, arith}
+use Rattle.osi_carrier.proofs.Vocabulary.{eqb-true, eqb-false, any_standing, first_in, octets_of, Given, unit_of, packets, with_tsdu}
 use Rattle.osi_carrier.proofs.Parts.{IsParting, parting_first, part_goes, part_room, empty_list, parting_next, parting_last}
+use Rattle.osi_carrier.proofs.Slots.{first_cut}
 use Rattle.osi_carrier.proofs.links.write_parts.Goals as goal
 
 pub parts-init : goal.parts-init
@@ -13,39 +14,55 @@ unreachable-requires c =
     let given = c.in_default.ensures.at_once (part_goes (any_standing c.parts.link) c.parts.rest.now c.parts.invariant.goes) in
     cc
 
-pub unreachable-requires-in_default-put_given : goal.unreachable-requires-in_default-put_given
-unreachable-requires-in_default-put_given c =
-    let unit = given c.in-Some.unit in
+pub unreachable-requires-in_default-put_part : goal.unreachable-requires-in_default-put_part
+unreachable-requires-in_default-put_part c =
+    let rest = c.parts.rest.now in
+    let limit = (any_standing c.parts.link).ends.limit in
+    let value = c.limit.ensures.value in
     let least = c.in-Some.ensures.at_least in
-    let room = part_room c.args.peer (any_standing c.parts.link) (any_standing c.give_part.new.self) c.parts.rest.now unit (omega arith) c.in-Some.ensures.given in
+    let cut = first_cut c.in-Some.slot limit c.min-carried.result [] rest c.split_at.result.0.now c.split_at.result.1.now c.is_empty-end.result (omega arith) (omega (arith, c.min-carried.ensures))
+    c.split_at.ensures.front c.split_at.ensures.back c.is_empty-end.ensures in
+    let unit = first_in c.in-Some.slot limit rest in
+    let size = ap (λ (u : Given). length (packets (unit_of c.args.peer u ∷ []))) cut.unit in
+    let room = part_room c.args.peer (any_standing c.parts.link) (any_standing c.give_slot.new.self) rest unit (omega arith) (c.in-Some.ensures.given rest) in
     let enough = c.parts.invariant.room in
-    let full = c.in_default-put_given.ensures.full in
+    let full = c.in_default-put_part.ensures.full in
     omega arith
 
-pub returns-then-is_empty : goal.returns-then-is_empty
-returns-then-is_empty c =
-    let unit = given c.in-Some.unit in
+pub returns-then-end : goal.returns-then-end
+returns-then-end c =
+    let rest = c.parts.rest.now in
+    let limit = (any_standing c.parts.link).ends.limit in
+    let value = c.limit.ensures.value in
     let least = c.in-Some.ensures.at_least in
-    let part = c.in-Some.ensures.given in
-    let same = ap (λ (n : ℕ). drop n c.parts.rest.now) (sym c.carries.ensures) in
-    let nothing = eqb-true (length c.split_at.result.1.now) 0 (sym c.is_empty.ensures ∙ c.if-is_empty.true) in
-    let none : drop (octets_of unit) c.parts.rest.now ≡ [] = same ∙ sym c.split_at.ensures.back ∙ empty_list c.split_at.result.1.now nothing in
-    let all = parting_last c.args.peer (with_tsdu (any_standing c.args.link.now) c.args.tsdu.now) (any_standing c.parts.link) (any_standing c.give_part.new.self)
-    c.args.out.now.items c.parts.rest.now c.parts.out.items c.put_given.new.out.items unit c.parts.out.spare c.parts.invariant (omega arith) part c.in-Ok.ensures.ok none in
+    let cut = first_cut c.in-Some.slot limit c.min-carried.result [] rest c.split_at.result.0.now c.split_at.result.1.now c.is_empty-end.result (omega arith) (omega (arith, c.min-carried.ensures))
+    c.split_at.ensures.front c.split_at.ensures.back c.is_empty-end.ensures in
+    let unit = first_in c.in-Some.slot limit rest in
+    let part = c.in-Some.ensures.given rest in
+    let put = c.in-Ok.ensures.ok ∙ ap (λ (u : Given). c.parts.out.items ++ packets (unit_of c.args.peer u ∷ [])) cut.unit in
+    let nothing = eqb-true (length c.split_at.result.1.now) 0 (sym c.is_empty-end.ensures ∙ c.if-end.true) in
+    let none : drop (octets_of unit) rest ≡ [] = cut.left ∙ empty_list c.split_at.result.1.now nothing in
+    let all = parting_last c.args.peer (with_tsdu (any_standing c.args.link.now) c.args.tsdu.now) (any_standing c.parts.link) (any_standing c.give_slot.new.self)
+    c.args.out.now.items rest c.parts.out.items c.put_part.new.out.items unit c.parts.out.spare c.parts.invariant (omega arith) part put none in
     record { link = all.link; written = all.written; pumped = part.last }
 
 pub parts-preserved : goal.parts-preserved
 parts-preserved c =
     let first = with_tsdu (any_standing c.args.link.now) c.args.tsdu.now in
-    let then = any_standing c.give_part.new.self in
-    let unit = given c.in-Some.unit in
+    let then = any_standing c.give_slot.new.self in
+    let rest = c.parts.rest.now in
+    let limit = (any_standing c.parts.link).ends.limit in
+    let value = c.limit.ensures.value in
     let least = c.in-Some.ensures.at_least in
-    let same = ap (λ (n : ℕ). drop n c.parts.rest.now) (sym c.carries.ensures) in
-    let behind : drop (octets_of unit) c.parts.rest.now ≡ c.split_at.result.1.now = same ∙ sym c.split_at.ensures.back in
-    let left = ap length behind in
-    let something : length c.split_at.result.1.now ≡ 0 → ⊥ = eqb-false (length c.split_at.result.1.now) 0 (sym c.is_empty.ensures ∙ c.if-is_empty.false) in
-    let some : 0 < length (drop (octets_of unit) c.parts.rest.now) = omega arith in
-    let took = c.in-Ok.ensures.spare in
-    subst (λ (r : List ℕ). IsParting c.args.peer first c.args.out.now.items then r c.put_given.new.out.items c.put_given.new.out.spare) behind
-    (parting_next c.args.peer first (any_standing c.parts.link) then c.args.out.now.items c.parts.rest.now c.parts.out.items c.put_given.new.out.items unit
-    c.parts.out.spare c.put_given.new.out.spare c.parts.invariant (omega arith) c.in-Some.ensures.given c.in-Ok.ensures.ok took some)
+    let cut = first_cut c.in-Some.slot limit c.min-carried.result [] rest c.split_at.result.0.now c.split_at.result.1.now c.is_empty-end.result (omega arith) (omega (arith, c.min-carried.ensures))
+    c.split_at.ensures.front c.split_at.ensures.back c.is_empty-end.ensures in
+    let unit = first_in c.in-Some.slot limit rest in
+    let put = c.in-Ok.ensures.ok ∙ ap (λ (u : Given). c.parts.out.items ++ packets (unit_of c.args.peer u ∷ [])) cut.unit in
+    let took : c.parts.out.spare ≤ c.put_part.new.out.spare + length (packets (unit_of c.args.peer unit ∷ [])) =
+    subst (λ (u : Given). c.parts.out.spare ≤ c.put_part.new.out.spare + length (packets (unit_of c.args.peer u ∷ []))) cut.unit c.in-Ok.ensures.spare in
+    let left = ap length cut.left in
+    let something : length c.split_at.result.1.now ≡ 0 → ⊥ = eqb-false (length c.split_at.result.1.now) 0 (sym c.is_empty-end.ensures ∙ c.if-end.false) in
+    let some : 0 < length (drop (octets_of unit) rest) = omega arith in
+    subst (λ (r : List ℕ). IsParting c.args.peer first c.args.out.now.items then r c.put_part.new.out.items c.put_part.new.out.spare) cut.left
+    (parting_next c.args.peer first (any_standing c.parts.link) then c.args.out.now.items rest c.parts.out.items c.put_part.new.out.items unit
+    c.parts.out.spare c.put_part.new.out.spare c.parts.invariant (omega arith) (c.in-Some.ensures.given rest) put took some)

@@ -4,25 +4,27 @@ use Rattle.osi_class.proofs.RoomLaws.{room_of_class_2}
 use Rattle.osi_class.proofs.class_two.Class2Link.room_for.Goals as goal
 
 pub returns-clause-units : goal.returns-clause-units
-returns-clause-units c none =
+returns-clause-units c tsdu same none =
     let two : Two = c.args.self.now in
     let limit : c.self.inside.limit ≡ two.ends.limit = ap (λ (t : Two). t.ends.limit) c.self.view_is in
     let credit : c.credit.result ≡ two.flow.sender.credit =
     c.credit.ensures.value ∙ ap (λ (t : Two). t.flow.sender.credit) c.self.view_is in
     let room : 0 < two.ends.limit = omega arith in
     c.room_within.ensures.units
-    ∙ ap (λ (n : ℕ). min (parts_needed n (length c.args.tsdu.now)) c.credit.result) limit
-    ∙ ap (λ (n : ℕ). min (parts_needed two.ends.limit (length c.args.tsdu.now)) n) credit
-    ∙ sym (room_of_class_2 two.ends two.flow c.args.tsdu.now room none).0
+    ∙ ap (λ (n : ℕ). min (parts_needed n c.args.octets) c.credit.result) limit
+    ∙ ap (λ (n : ℕ). min (parts_needed two.ends.limit c.args.octets) n) credit
+    ∙ ap (λ (n : ℕ). min (parts_needed two.ends.limit n) two.flow.sender.credit) (sym same)
+    ∙ sym (room_of_class_2 two.ends two.flow tsdu room none).0
 
 pub returns-clause-octets : goal.returns-clause-octets
-returns-clause-octets c none =
+returns-clause-octets c tsdu same none =
     let two : Two = c.args.self.now in
     let limit : c.self.inside.limit ≡ two.ends.limit = ap (λ (t : Two). t.ends.limit) c.self.view_is in
     let credit : c.credit.result ≡ two.flow.sender.credit =
     c.credit.ensures.value ∙ ap (λ (t : Two). t.flow.sender.credit) c.self.view_is in
     let room : 0 < two.ends.limit = omega arith in
     c.room_within.ensures.octets
-    ∙ ap (λ (n : ℕ). min (length c.args.tsdu.now) (c.credit.result * n)) limit
-    ∙ ap (λ (n : ℕ). min (length c.args.tsdu.now) (n * two.ends.limit)) credit
-    ∙ sym (room_of_class_2 two.ends two.flow c.args.tsdu.now room none).1
+    ∙ ap (λ (n : ℕ). min c.args.octets (c.credit.result * n)) limit
+    ∙ ap (λ (n : ℕ). min c.args.octets (n * two.ends.limit)) credit
+    ∙ ap (λ (n : ℕ). min n (two.flow.sender.credit * two.ends.limit)) (sym same)
+    ∙ sym (room_of_class_2 two.ends two.flow tsdu room none).1

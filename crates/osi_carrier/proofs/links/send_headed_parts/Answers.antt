@@ -1,0 +1,15 @@
+use Rattle.std.proofs.Common.{◌++◌, length, sym, arith, ◌∙◌, length-append}
+use Rattle.osi_carrier.proofs.Vocabulary.{any_standing, all_given, with_tsdu}
+use Rattle.osi_carrier.proofs.Pumping.{packets_most}
+use Rattle.osi_carrier.proofs.links.send_headed_parts.Goals as goal
+
+pub write_headed-requires-clause-room : goal.write_headed-requires-clause-room
+write_headed-requires-clause-room c =
+    let tsdu = c.args.head.now ++ c.args.body.now in
+    let long = length-append c.args.head.now c.args.body.now in
+    let then = with_tsdu (any_standing c.args.link.now) tsdu in
+    let units = c.room_for-room.ensures.units tsdu long c.requires.quiet in
+    let octets = c.room_for-room.ensures.octets tsdu long c.requires.quiet in
+    let room = c.in_ok-reserve.ensures.spare.1 in
+    let most = packets_most c.args.peer (all_given then) in
+    omega arith

@@ -1,0 +1,7 @@
+-- Octets that begin behind the first ones of their room.
+-- For `Octets`.
+use Rattle.std.proofs.Common.{◌≡◌, ℕ, ◌≤◌, List, ◌++◌, length, drop}
+use Rattle.std.proofs.lemmas.List.{drop-append-le}
+
+pub more_behind : (start : ℕ) (items more : List ℕ) → start ≤ length items → drop start (items ++ more) ≡ drop start items ++ more
+more_behind start items more h = drop-append-le start items more h
