@@ -1,0 +1,1 @@
+-- A stand-in: nmap looks here whether it has this script (../README.md).

@@ -1,0 +1,35 @@
+"""Packets of RFC 1006 over TCP, as clients and servers of S7 exchange them."""
+import socket
+
+# The setup of S7: how many requests may be open at once, and how long a PDU may be.
+S7_SETUP = bytes.fromhex("0300001902f08032010000040000080000f0000001000101e0")
+
+
+class Wire:
+    """A connection to a server, or one that a server took."""
+
+    def __init__(self, host, port, made=None):
+        self.made = made or socket.create_connection((host, port), 10)
+        self.made.settimeout(10)
+
+    def __enter__(self):
+        return self
+
+    def __exit__(self, *_):
+        self.made.close()
+
+    def packet(self):
+        """The next packet, or none where the peer closes."""
+        octets = b""
+        while len(octets) < 4 or len(octets) < int.from_bytes(octets[2:4], "big"):
+            length = int.from_bytes(octets[2:4], "big") if len(octets) >= 4 else 4
+            came = self.made.recv(length - len(octets))
+            if not came:
+                return b""
+            octets += came
+        return octets
+
+    def asked(self, octets):
+        """What is answered to these octets."""
+        self.made.sendall(octets)
+        return self.packet()
