@@ -1,4 +1,4 @@
-"""Two captures, one of each direction, as `osi show` lists them: put into one order by what must come before what."""
+"""Two captures, one of each direction, as `osi show` lists them, put into one order: an answer after what it answers."""
 import re
 
 from .picture import CAPTURE_KEY, Arrow, Picture, Row
@@ -198,8 +198,8 @@ def picture_of(listings, title):
     missing = without_what_is_missing(packets)
     order, broken = merge(packets["left"], packets["right"])
     made = Picture(title, f"A ladder of two captures, {len(packets['left'])} and {len(packets['right'])} packets and "
-                          "ends, in an order in which nothing stands before what must come before it. "
-                          "The time between is not known.")
+                          "ends, in an order in which each packet comes after those that it must follow. "
+                          "Times are not known.")
     made.key, made.has_tokens = CAPTURE_KEY, False
     index = 0
     for packet in order:
@@ -211,19 +211,19 @@ def picture_of(listings, title):
 
 
 def notes_of(missing, broken):
-    """What has to be said about two captures."""
-    notes = ["The time between packets is not known, nor the order of two packets of which neither must come first."]
+    """The notes below a picture of two captures."""
+    notes = ["Captures have no times. If neither of two packets has to come first, their order here is arbitrary."]
     if missing:
         notes.append(f"{missing} packet{'s' * (missing > 1)} answer{'s' * (missing == 1)} something that is not in the "
                      "capture of the other side.")
     if broken:
-        notes.append(f"{broken} packet{'s' * (broken > 1)} stand{'s' * (broken == 1)} before what must come first: "
+        notes.append(f"{broken} packet{'s' * (broken > 1)} come{'s' * (broken == 1)} before what {'it' if broken == 1 else 'they'} must follow: "
                      "the captures contradict each other.")
     return notes
 
 
 def add_packet(made, packet, index):
-    """The rows and the arrow of a packet; the index behind it."""
+    """The rows and the arrow of a packet; the index after it."""
     start, number = index, int(packet.reference, 16) if packet.reference else None
     for row in packet.lines:
         mark = "call" if index == start and packet.octets else "carried"

@@ -114,8 +114,8 @@ def head(page):
     page.add(STYLE)
     page.add(f'<rect class="paper" width="{page.width}" height="{page.height}"/>')
     page.add(f'<text class="head" x="{middle}" y="24" text-anchor="middle">{escape(cut(picture.title, 112))}</text>')
-    page.add(f'<text class="head" x="{TEXT}" y="50" text-anchor="end">left, which calls</text>')
-    page.add(f'<text class="head" x="{page.width - TEXT}" y="50">right, which is called</text>')
+    page.add(f'<text class="head" x="{TEXT}" y="50" text-anchor="end">left: the caller</text>')
+    page.add(f'<text class="head" x="{page.width - TEXT}" y="50">right: the called end</text>')
     for connection in picture.connections:
         for side in ("left", "right"):
             x = page.x(side, connection)

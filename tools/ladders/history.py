@@ -77,7 +77,7 @@ class History:
                 self.ended.setdefault(key, line.index)
 
     def shown(self, line, key):
-        """What a user was shown."""
+        """An indication that a user received."""
         name, fields = line.name, line.fields
         if name == "Connected":
             self.available[key[1]] = int(fields["units"], 16)
@@ -159,7 +159,7 @@ class History:
             self.guess(line, key)
 
     def guess(self, line, key):
-        """Which tokens are held behind a line is told only by where the connection stands at the end, if at all."""
+        """Which tokens are held after a line is known only from the state of the connection at the end, if at all."""
         indexes, later = self.later.get(key, ((), ()))
         place = bisect_right(indexes, line.index)
         if place < len(later) and later[place].kind == "standing":
@@ -176,10 +176,10 @@ class History:
         self.marks[line.index] = number
         text = f"point {'?' if number is None else number}"
         told = ", ".join("?" if each is None else each for each in data)
-        self.notes[line.index] = text + (f" behind {told}" if data else " behind no data")
+        self.notes[line.index] = text + (f" after {told}" if data else " after no data")
 
     def back(self, line, key, number):
-        """A restart: what came behind its number is no more."""
+        """A restart: what came after its number is void."""
         self.since.pop(key, None)
         if line.kind == "call" or line.name == "Restart":
             self.notes[line.index] = f"back to {'?' if number is None else number}"

@@ -38,7 +38,7 @@ def opening(fields, data):
 
 
 def behind_a_token_item(*parameters):
-    """A unit of category 2 with these parameters, behind an empty GT."""
+    """A unit of category 2 with these parameters, after an empty GT."""
     return 2 + coded(sum(parameters))
 
 

@@ -32,13 +32,13 @@ class Arrow:
         self.stop, self.minor, self.carry = "", False, end
 
 
-KEY = ("● a call that was accepted · ○ what a user was shown · × refused · ◆ a point, sent · ◇ a point, seen · "
+KEY = ("● an accepted call · ○ an indication that a user received · × a refused call · ◆ a point sent · ◇ a point seen · "
        "═ the end of a connection",
-       "Bands beside a line, from left to right: the tokens of data (d), minor (m), major (M) and release (r) "
+       "Bands beside a life line, from left to right: the data (d), minor (m), major (M) and release (r) tokens "
        "that this end holds.",
-       "An arrow goes from where its octets were written to where they were used; dashed: an acknowledgement.",
-       "A bar at the end of an arrow: nobody is shown it. × at its end: it is cut inside a packet.")
-CAPTURE_KEY = ("An arrow is a packet, from the line that names it to the last line of what is in it.",)
+       "An arrow begins when its octets are written and ends when they are used. Dashed: an acknowledgement.",
+       "A bar at the tip of an arrow: it causes no indication. × at the tip: it is cut there, inside a packet.")
+CAPTURE_KEY = ("An arrow is a packet: it begins at the line that names it and ends at the last line of its contents.",)
 
 
 class Picture:
@@ -96,7 +96,7 @@ def arrow_of(piece, lines):
     octets = piece.reach - piece.begin
     if piece.run is None:
         whole = (f"{piece.side} to the other side: {octets} octets, carried at line {piece.carry + 1}; "
-                 "the transcript does not tell what they are")
+                 "the transcript doesn't say which unit they are of")
         return Arrow(piece.side, None, piece.start, piece.end, 0, 1, f"{octets} octets", whole)
     run, message = piece.run, piece.run.message
     total = run.length
@@ -116,40 +116,40 @@ def arrow_of(piece, lines):
     elif not ends:
         arrow.stop = "rest"
     elif piece.dropped:
-        arrow.stop, arrow.whole = "dropped", whole + ", shown to nobody"
+        arrow.stop, arrow.whole = "dropped", whole + ", no indication"
     arrow.minor, arrow.carry = unit == "AK", piece.carry
     return arrow
 
 
 def describe(lines, shown):
-    """What a picture is of, for who does not see it."""
+    """A description of the picture, for a reader who can't see it."""
     count = {kind: sum(line.kind == kind for line in lines) for kind in ("call", "carried", "shown")}
     refused = sum(line.error is not None for line in lines)
     numbers = ", ".join(map(str, shown[:12])) + (" and more" if len(shown) > 12 else "")
     return (f"A ladder of two ends, time downwards: {len(lines)} lines, with {count['call']} calls, "
-            f"{refused} of what was asked for refused, {count['carried']} carries and {count['shown']} indications; "
+            f"{refused} refused requests, {count['carried']} carries and {count['shown']} indications; "
             f"connections shown: {numbers or 'none'}. "
-            "Each line stands as text at its side, in its order.")
+            "Each line is text at its side, in order.")
 
 
 def notes_of(lines, wire, history, hidden):
-    """What has to be said about a picture."""
+    """The notes below a picture."""
     notes = []
     if wire.untold is not None:
-        notes.append(f"From line {wire.untold + 1} on the transcript does not tell what the octets are: "
-                     "these arrows stand at the line of the carry (the script would tell).")
+        notes.append(f"From line {wire.untold + 1} on the transcript doesn't say which octets are carried, so these arrows are "
+                     "drawn at the line of the carry. With the script they would be exact.")
     if any(piece.run and piece.run.length is None for piece in wire.pieces):
-        notes.append("An arrow that ends with ? is a packet of which the length is not told, and who used it.")
+        notes.append("An arrow that ends with ? is a packet of unknown length; whether it was used is unknown too.")
     if wire.assumed_window:
-        notes.append("The window is not told: a data unit counts as written when it is asked for, and its arrow begins "
-                     "too early where it waited for an acknowledgement.")
+        notes.append("The window is unknown: a data unit counts as written when its call is made, so its arrow begins too "
+                     "early if it waited for an acknowledgement.")
     notes += never_carried(wire)
     for first, second in overlaps(history.bands)[:3]:
         notes.append(f"The lines contradict each other: both sides hold the {first.token} token of connection "
                      f"{first.connection} at line {second.start + 1}.")
     if history.unknown:
         named = ", ".join(str(index + 1) for index in history.unknown[:9])
-        notes.append(f"Which tokens are held behind line {named} is not told: none is drawn until it is.")
+        notes.append(f"The transcript doesn't say which tokens are held after line {named}: none is drawn until it does.")
     if hidden:
         notes.append(f"Not shown: {len(hidden)} more connection{'s' * (len(hidden) > 1)} "
                      f"({', '.join(map(str, hidden[:9]))}{' ..' * (len(hidden) > 9)}).")
@@ -157,7 +157,7 @@ def notes_of(lines, wire, history, hidden):
 
 
 def never_carried(wire):
-    """What was written and never carried, where that is told."""
+    """The octets that were written and never carried, if that is known."""
     if wire.untold is not None:
         return []
     notes = []
@@ -166,7 +166,7 @@ def never_carried(wire):
         if rows:
             named = ", ".join(map(str, rows[:9])) + (" .." if len(rows) > 9 else "")
             plural = "s" * (len(rows) > 1)
-            notes.append(f"Not carried up to the end: octets that the {side} wrote at line{plural} {named}.")
+            notes.append(f"Never carried: octets that the {side} end wrote at line{plural} {named}.")
     return notes
 
 

@@ -161,7 +161,7 @@ def make(options, progress):
     if options.left and (options.file or options.script or options.connection):
         raise BadInput("captures are drawn without a transcript, a script and --connection")
     if not 1 <= options.first <= options.last:
-        raise BadInput("--from and --to are lines from 1 on, the one not behind the other")
+        raise BadInput("--from and --to are lines from 1 on, in this order")
     made = picture_of_captures(options, progress) if options.left else picture_of_run(options, progress)
     if made.rows and options.first > made.rows[-1].index + 1:
         raise BadInput(f"there is no line {options.first}")

@@ -16,7 +16,7 @@ def draw(picture, first=0, last=10 ** 12, columns=100, progress=None):
     for arrow in picture.arrows:
         arrows.setdefault(arrow.carry, []).append(arrow)
     out = [cut(picture.title, columns),
-           row_text("left, which calls", "dmMr", " ", "", " ", "dmMr", "right, which is called", side, middle)]
+           row_text("left: the caller", "dmMr", " ", "", " ", "dmMr", "right: the called end", side, middle)]
     for row in picture.rows:
         tokens = held(row)
         if first <= row.index <= last:

@@ -335,7 +335,7 @@ class Wire:
         return True
 
     def settle(self, key, name, fields):
-        """The numbers behind what was shown."""
+        """The numbers of the indications."""
         number = fields.get("number")
         if name in ("Minor", "Major"):
             self.next[key] = int(number) + 1

@@ -268,7 +268,7 @@ piece_carried laws f q steps most used new at le piece memory quiet =
 
 -- ---- pieces one after the other
 
--- nothing waits after them
+-- nothing is pending after them
 quiet_behind : (f : Side) (p : TwoEnds) (steps : List Step) (most octets : ℕ) (new : Crossing) → SoFar f p steps most octets new →
     waiting_in new.to.end.lines ≡ []
 quiet_behind f p steps most octets new x =

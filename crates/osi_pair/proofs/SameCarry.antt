@@ -157,7 +157,7 @@ one_by h a b xs ys None (Some reason) e f partial bound alive x y used =
     let over : b.end.carrier.ended ≡ a.end.carrier.ended = ap (λ (z : End). z.carrier.ended) back.end in
     absurd (cc)
 
--- if nothing waits and nothing was carried, what is alike is the same
+-- if nothing is pending and nothing was carried, what is alike is the same
 hushed_same : (a b : Holding) (xs ys : List Call) → AreAlike a xs b ys → flat_map carried_in xs ≡ [] → flat_map carried_in ys ≡ [] →
     waiting_in a.end.lines ≡ [] → waiting_in b.end.lines ≡ [] → a.end ≡ b.end
 hushed_same a b xs ys h none none_too quiet still =
@@ -214,7 +214,7 @@ fed_by s p q a b n None e same from partial x y quiet still =
 
 -- ---- a carry
 
--- octets were carried, and two ends stand if nothing waits
+-- octets were carried, and two ends match the machine if nothing is pending
 carried_at : CarryLaws → (f : Side) (most : ℕ) (p new : TwoEnds) (octets : ℕ) → IsReached p → CarriesFrom f most p octets new →
     FoundMemory new → IsCarried (other f) (crossing f p) octets (crossing f new)
 carried_at laws f most p new octets at c memory =

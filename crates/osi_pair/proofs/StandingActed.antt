@@ -166,7 +166,7 @@ pub nothing_noted : (s : Side) (e : End) (p : TwoEnds) (n : ℕ) → turned_pair
 nothing_noted Left e p n = ap (λ (j : List Entry). record (with_holding Left e p.left.held p) { journal = j }) (append-nil p.journal)
 nothing_noted Right e p n = ap (λ (j : List Entry). record (with_holding Right e p.right.held p) { journal = j }) (append-nil p.journal)
 
--- the line that stands at a reference, seen from a side
+-- the line at a reference, seen from a side
 pub seen_at : (s : Side) (p : TwoEnds) (b : Between) (t : Tables) (n : ℕ) (l : Line) → Stands p b t → connection_at n t.lines ≡ Some (seen_from (side_in s) l) → IsSeen s n p b l
 seen_at s p b t n l old found =
     let h = there none_there n p b t (seen_from (side_in s) l) old found in

@@ -28,7 +28,7 @@ use Rattle.osi_pair.proofs.StandingTurned.{with_holding, turned_pair}
 pub turned_here : (s : Side) (e : End) (h : Held) (n : ℕ) (shown : List Shown) (p : TwoEnds) → end_at s (turned_pair s e h n shown p) ≡ record { end = e; held = h }
 turned_here s e h n shown p = grind arith
 
--- the end as it then stands, with the carrier as it acted, and where all pending indications still waits
+-- the end as it then stands, with the carrier as it acted, and where all indications are still pending
 abbrev pub answered_end : Carrier → Rows Line → End
 answered_end c lines = record { carrier = c; lines = lines }
 

@@ -46,8 +46,8 @@ abbrev pub is_asked : Place → Bool
 is_asked (was_given (Some asked)) = true
 is_asked place = false
 
--- The unit is for a reference that the caller gave, and such as may come where its connection stands; and
--- where that is open the caller has the class. The called end awaits no CC.
+-- The unit is for a reference that the caller gave, and such as may come in the state of its connection; and if that is
+-- open the caller has the class. The called end awaits no CC.
 pub record IsFirstFor (terms : Terms) (end : Bool) (caller : State) (place : Place) (u : Value) : Type 0 where
   pub named : 0 < reference_of u
   pub given : reference_of u ≤ caller.given

@@ -334,7 +334,7 @@ pub others_left : (side : Side) (r : ℕ) (call : Call) (p : TwoEnds) (b : Betwe
     Others side p b (now_of r call (end_at side p)).end (end_at side p).held a.now r
 others_left side r call p b words m c a = grind (arith, put_other, if◌then◌else◌, nat_lt, still_there)
 
--- ---- what waits
+-- ---- what is pending
 
 quiet_put : (r : ℕ) (x y : stack.Line) (lines : Rows stack.Line) → y.waiting ≡ x.waiting → value_at r lines ≡ Some x → waiting_in (put r y lines) ≡ waiting_in lines
 quiet_put r x y [] same at = refl

@@ -60,7 +60,7 @@ pieces_stand laws f p steps most (used ∷ before) new at le c =
           ap (λ (r : Option Reach). reachable f (crossed f new r)) (sym reach) ∙ (left_over f new q.reach (end_at f q) used piece.taken) in omega arith;
     }
 
--- THE CARRY: two ends stand then at what arrives at the other side more.
+-- The carry: two ends then match the machine with what arrived at the other side.
 pub carry_at : PieceLaws → (f : Side) (most : ℕ) (p : TwoEnds) (octets : ℕ) (new : TwoEnds) (steps : List Step) → StandsAt p steps → CarriesFrom f most p octets new →
     StandsAtArrivals (other f) new steps
 carry_at laws f most p octets new steps at c =

@@ -73,7 +73,8 @@ out_closes s p b t n l old a i takes =
 session_shuts : (n : ℕ) (lines : Rows StackLine) (x : Standing) → is_ended x.state.phase ≡ true → HasSession n lines in_use x → HasSession n lines shutting x
 session_shuts n lines x ended h = record { joined = h.joined; live = λ e. h.live refl; kept = h.kept; over_now = λ e. ended; awaiting = λ e. cc; octets = h.octets }
 
--- after a close of the end of a side, which is this, they stand, where so much is kept of what was in flight
+-- after a close of the end of a side, which is this, the ends match the tables, if this much is kept of what was in
+-- flight
 pub record ClosesOn (s : Side) (p : TwoEnds) (t : Tables) (n : ℕ) (l : Line) (y : Holding) : Type 0 where
   pub keep : ℕ
   pub on : StandsOn (with_holding s (with_carrier (closed_with n 128 y.end.carrier) y.end) y.held p) (stays t (side_in s) n (closed t.broken keep l))

@@ -177,7 +177,7 @@ ended_stands Right p b t u e h c reason ending lines held first journal s m is n
 
 -- ---- an end at which nothing arrived
 
--- all of what it has put is under way
+-- all of what it has put is in flight
 pub whole_line : (s : Side) (p : TwoEnds) (u : Tables) (e : End) (h : Held) (c : Between) (n : ℕ) (l : Line) → connection_at n u.lines ≡ Some (seen_from (side_in s) l) → IsPlaced n e.carrier l.own →
     IsSeated n (end_at (other s) p) l.peer → IsUnderWay s (other s) n (with_holding s e h p) c l.own l.peer → EndingLine s p u e h c n
 whole_line s p u e h c n l found here there out =

@@ -128,7 +128,7 @@ live_then_by n q line lines live y false e here all kept shown =
 live_then : (n : ℕ) (line : Line) (lines : Rows Line) (live : Rows Connection) → IsSome (value_at n live) → AreLive lines live → AreLive (put n line lines) live
 live_then n line lines live here all q y kept shown = live_then_by n q line lines live y (q == n) refl here all kept shown
 
--- what is known of the end where the session hears
+-- what is known of the end when the session receives something
 record Hearing (e : End) (live : Rows Connection) (n : ℕ) : Type 0 where
   quiet : waiting_in e.lines ≡ []
   rise : RiseFrom 0 e.lines
@@ -187,7 +187,7 @@ heard_of : (s : Side) (p : TwoEnds) (b : Between) (t : Tables) (u : Value) (n : 
     Hearing (told_all u (end_at s p).end) (end_at s p).end.carrier.live n
 heard_of s p b t u n old alive here = grind (arith, quiet, quiet_of, order_of, live_lines)
 
--- what a session hears
+-- what a session receives
 record HasInput (n : ℕ) (row : Row) : Type 0 where
   event : Happening
   told : told_for n row ≡ event ∷ []
@@ -306,7 +306,7 @@ losses_at s p b t old alive =
     let order = order_of s p b t old alive in
     few_losses (end_at s p).end.lines (end_at s p).end.carrier.live (quiet_of s p b t old) order.rising (live_lines s p b t old alive) order.sound.orderly.live
 
--- THE BOUND
+-- the bound
 pub few_wait : FewLaws → FewWait
 few_wait laws = record {
   told = λ p steps s packet octets h at alive is cut.

@@ -13,7 +13,7 @@ use Rattle.osi_pair.proofs.Vocabulary.{Input, Standing, Move, react, called, ans
 abbrev pub as_made : Move → words.Move
 as_made m = record { next = listening m.next; shown = m.shown; reply = m.reply; closes = m.closes; error = m.error }
 
--- THE TIE
+-- the relation between the two
 pub moves_so : (s : Standing) (input : Input) → words.react (listening s) (in_words input) ≡ as_made (react s input)
 moves_so s input = grind (arith, kept_none, moves_as_whole)
 

@@ -42,7 +42,7 @@ pub is_over : (s : Standing) → is_ended (react s broken_off).next.state.phase 
 unfolding react
 is_over s = refl
 
--- ---- what waits then
+-- ---- what is pending then
 
 abbrev pub lost_of : ℕ → stack.Line → List (ℕ × Shown)
 lost_of r line = map (λ shown. (r, shown)) (shown_at_loss line.session)
@@ -283,7 +283,7 @@ up_in_all : (m n : ℕ) (lines : Rows stack.Line) → m ≤ n → AreUpTo m line
 up_in_all m n [] less up = tt
 up_in_all m n ((r, line) ∷ lines) less up = ((let here = up.0 in omega arith), up_in_all m n lines less up.1)
 
--- its journal, and that no more waits
+-- its journal, and that no more is pending
 pub record SaysAll (who : Side) (lines : Rows stack.Line) (first : List (ℕ × Shown)) (t : Tables) : Type 0 where
   pub quiet : waiting_in lines ≡ []
   pub says : map Some (shown_in_order (side_in who) 1 t.lines) ≡ map entry_in (shown_entries who first)

@@ -47,7 +47,7 @@ move_of m = react m.seen.own.session m.input
 
 -- ---- the end
 
--- its lines, where what the session shows still waits
+-- its lines, where what the session shows is still pending
 abbrev pub loud_lines : Side → TwoEnds → Moving → Rows Line
 loud_lines s p m = lines_then m.n m.line m.seen.own.session m.input (end_at s p).end.lines
 
@@ -91,7 +91,7 @@ pub record HasMoved (s : Side) (p : TwoEnds) (t : Tables) (packet : List ℕ) (h
   pub row : is_move m.row ≡ true
   pub some : 0 < m.n
   pub given : m.n ≤ length t.lines
-  -- how it stood
+  -- the line before
   pub was : Line
   pub here : value_at m.n (end_at s p).end.lines ≡ Some was
   pub found : connection_at m.n t.lines ≡ Some (seen_from (side_in s) m.seen)
@@ -100,7 +100,7 @@ pub record HasMoved (s : Side) (p : TwoEnds) (t : Tables) (packet : List ℕ) (h
   pub does : after_packet (end_at s p).end packet ≡ concludes (record { carrier = answers m.n 0 (as_made (move_of m)) (moved_end s p unit m).carrier; lines = loud_lines s p m })
   pub waits : waiting_in (loud_lines s p m) ≡ map (λ x. (m.n, x)) (move_of m).shown
   pub steps : (keep : ℕ → ℕ) → step t (delivers (side_in s) m.n keep) ≡ after_turn (record t { known = known_by t m }) (side_in s) m.n keep (turn_of t.broken m)
-  -- how all stands before anything is sent or closed
+  -- the state before anything is sent or closed
   pub lasts : (moved_end s p unit m).carrier.ended ≡ None
   pub local : (moved_end s p unit m).carrier.local ≡ (end_at s p).end.carrier.local
   pub kept : kept_at m.n (moved_end s p unit m).lines ≡ Some (listening (move_of m).next)
@@ -144,7 +144,7 @@ line_by n lines joined x o e h = grind arith
 heard_lives : (row : Row) → is_heard row ≡ true → lives_in (before row) ≡ true
 heard_lives row e = grind arith
 
--- what stands at its reference, and what happens to its session
+-- the line at its reference, and what happens to its session
 pub record Arriving (s : Side) (p : TwoEnds) (b : Between) (t : Tables) (n : ℕ) (row : Row) : Type 0 where
   pub seen : TableLine
   pub found : connection_at n t.lines ≡ Some (seen_from (side_in s) seen)
@@ -347,8 +347,7 @@ arriving laws s p b t packet h old run alive pa heard =
     let was = session_of_seat n (end_at s p) at.line.own (before pa.did.row) (seat_progress s p b t n pa.did.row old alive (stood_at s p b packet h pa)) at.is.here in
     arriving_as laws s p b t packet h old run alive pa heard at was (comes_at s p b t packet h alive pa (got_in pa.did.row) at (one_in pa.did.row heard))
 
--- the move
--- the line of the end, with the selectors of a CN of which its session hears
+-- the move the line of the end, with the selectors of a CN that its session receives
 abbrev pub heard_line : (s : Side) (p : TwoEnds) (b : Between) (t : Tables) (n : ℕ) (row : Row) → Arriving s p b t n row → Line
 heard_line s p b t n row a = noted (joining a.joined a.seen.own.session) a.hears.heard a.kept.line
 
@@ -418,7 +417,7 @@ moved_then laws s p b t packet h old alive pa a d same f =
 
 -- ---- two ends then
 
--- a message that comes to a session makes of it what the session makes of what it hears
+-- a message that comes to a session leads to what the session makes of what it receives
 agrees_left : (x : Standing) (m : Message) → kind_of (message_in m) ≡ carrier.agree → after_message x.state m ≡ (react x opened).next.state
 agrees_left x agree k = left_is x opened
 agrees_left x m k = cc

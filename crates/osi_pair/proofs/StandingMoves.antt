@@ -62,7 +62,7 @@ moved_others s p e n line x input is =
 -- the line of the end, its session, and what is known of it when it has moved
 pub record MovesBy (s : Side) (p : TwoEnds) (n : ℕ) (x : Standing) (row : Row) (input : Input) : Type 0 where
   pub line : Line
-  -- the line that stood there
+  -- the line before
   pub was : Line
   pub here : value_at n (end_at s p).end.lines ≡ Some was
   pub ended : is_parting (transport_by (after row)) ≡ true → is_ended (react x input).next.state.phase ≡ true

@@ -179,7 +179,7 @@ rest_packet laws s p b t packet h old alive pa q at first others parts kind back
       stands = turned_stands s p b t e h d.now (step t (delivers (side_in s) n (λ r. 0))) n [] old alive x;
     }
 
--- a part of one Data came to an end that ignores it: the tables have it under way until its last part comes
+-- a part of one Data came to an end that ignores it: the tables have it in flight until its last part comes
 ignored_packet : PacketLaws → (s : Side) (p : TwoEnds) (b : Between) (t : Tables) (packet : List ℕ) (h : Held) → Stands p b t → (end_at s p).end.carrier.ended ≡ None →
     (pa : PacketActs (terms_at p) (is_caller s) (carriers_of p) b packet h.octets) → (octets : List ℕ) → pa.did.row ≡ ignores octets → (at : FoundLine s (reference_of pa.unit) p b t) → BackThen s p b packet h pa at.line.own.session.state at.line.peer.channel →
     StandsBehind s p t packet h

@@ -13,7 +13,7 @@ use Rattle.osi_pair.proofs.StandingShown.{shown_pair}
 use Rattle.osi_pair.proofs.StandingTurned.{with_holding, holding_here}
 use Rattle.osi_pair.proofs.Waiting.{none_waits}
 
--- THE LAWS OF ONE PACKET. If two ends match a list of steps, and a side that lasts takes the packet that it holds
+-- The laws of one packet. If two ends match a list of steps, and a side that lasts takes the packet that it holds
 -- first, or runs out of memory for it, or ends because memory runs out, they match that list followed by what arrives
 -- at the side, when its users were shown what came of it.
 pub record PacketStands : Type 0 where
@@ -24,7 +24,7 @@ pub record PacketStands : Type 0 where
   pub ended : (p : TwoEnds) (steps : List Step) (s : Side) (h : Held) → StandsAt p steps → (end_at s p).end.carrier.ended ≡ None →
       StandsAtArrivals s (shown_pair s (ends NoMemory (end_at s p).end) h p) steps
 
--- THEIR BOUND: of what came of it no more waits than is shown at once.
+-- Their bound: of one packet no more is pending than is shown at once.
 pub record FewWait : Type 0 where
   pub told : (p : TwoEnds) (steps : List Step) (s : Side) (packet octets : List ℕ) (h : Held) → StandsAt p steps → (end_at s p).end.carrier.ended ≡ None →
       IsPacket packet octets → (end_at s p).held.octets ≡ octets ++ h.octets → length (waiting_in (after_packet (end_at s p).end packet).lines) ≤ 81
@@ -54,7 +54,7 @@ taken_laws laws few = record {
   ended = λ p steps s h at alive. record { stands = laws.ended p steps s h at alive; few = few.ended p steps s at alive };
 }
 
--- ---- what waits
+-- ---- what is pending
 
 pub still_waits : (lines : Rows Line) → waiting_in lines ≡ [] → waits lines ≡ false
 still_waits [] e = refl
@@ -62,7 +62,7 @@ still_waits ((r, line) ∷ lines) e =
     ap (λ (w : List Shown). not (length w == 0) || waits lines) (none_first (λ shown. (r, shown)) line.waiting (waiting_in lines) e)
     ∙ still_waits lines (none_second (λ shown. (r, shown)) line.waiting (waiting_in lines) e)
 
--- an end that does not stop lasts, and nothing waits
+-- an end that does not stop lasts, and nothing is pending
 pub stops_quiet : (e : End) → stops e ≡ false → waiting_in e.lines ≡ []
 stops_quiet e h = none_waits e.lines (quiet_none e.lines (or_second (is_some e.carrier.ended) (waits e.lines) h)).shown
 

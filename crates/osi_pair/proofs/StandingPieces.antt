@@ -236,7 +236,7 @@ goes_stands laws f p steps most used new at alive le (inr (inr d)) = memory_stan
 
 -- ---- all pending indications is shown
 
--- all at once, if no more waits than that
+-- all at once, if no more is pending than that
 record AllShown (old : Holding) (first : List (ℕ × Shown)) (new : Holding) : Type 0 where
   all : first ≡ waiting_in old.end.lines
   is : new ≡ record old { end = record old.end { lines = quieted old.end.lines } }

@@ -26,7 +26,7 @@ words_by (j ∷ js) (x ∷ es) e =
     ∙ ap (λ (l : List entries.Entry). j ∷ l) (words_by js es (rest_same (Some j) (entry_in x) (map Some js) (map entry_in es) e))
 words_by js es e = grind arith
 
--- ---- the tables at which two ends stand
+-- ---- the tables that two ends match
 
 abbrev pub tables_at : TwoEnds → List Step → Tables
 tables_at p steps = run (start (terms_in (terms_of p.left.end.carrier.local p.right.end.carrier.local))) steps

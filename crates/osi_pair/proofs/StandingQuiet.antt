@@ -45,7 +45,7 @@ put_by : (n r : ℕ) (line was there : Line) (move : Move) (lines : Rows Line) (
 put_by n r line was there move lines true e waits none is more = grind (arith, eqb-true, none_first, none_second, if◌then◌else◌, map, append-nil)
 put_by n r line was there move lines false e waits none is more = grind (arith, none_first, if◌then◌else◌, map)
 
--- the line that is put there has what waited in the one that stood there
+-- the line that is put there has what was pending in the line before it
 pub put_waits : (n : ℕ) (line was : Line) (move : Move) (lines : Rows Line) → was.waiting ≡ line.waiting → waiting_in lines ≡ [] → value_at n lines ≡ Some was → waiting_in (put n (line_after line move) lines) ≡ of_one n move.shown
 put_waits n line was move [] waits none is = cc
 put_waits n line was move ((r, there) ∷ lines) waits none is =

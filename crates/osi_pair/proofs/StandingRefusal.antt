@@ -121,7 +121,7 @@ refusal_is t c known over waits many up k o w m u = cc
 some_same : (x : Option Ending) (y : Option EndReason) → option_map Some x ≡ option_map ending_in y → is_some x ≡ is_some y
 some_same x y e = grind arith
 
--- before a class holds, each that is live awaits its answer
+-- before a class is agreed, each that is live awaits its answer
 abbrev pub Awaits : Type 0
 Awaits = (terms : Terms) (both : Both) (b : Between) (n : ℕ) (x : Connection) → AreBetween terms both b → b.caller.class ≡ None → value_at n b.caller.live ≡ Some x → x ≡ asked
 

@@ -36,7 +36,7 @@ pub record FoundLine (s : Side) (n : ℕ) (p : TwoEnds) (b : Between) (t : Table
   pub found : connection_at n t.lines ≡ Some (seen_from (side_in s) line)
   pub is : IsSeen s n p b line
 
--- what stands at a reference that the caller gave
+-- the line at a reference that the caller gave
 pub line_at : (s : Side) (n : ℕ) (p : TwoEnds) (b : Between) (t : Tables) → Stands p b t → 0 < n → n ≤ b.caller.given → FoundLine s n p b t
 line_at s n p b t old some le =
     let count = old.given in

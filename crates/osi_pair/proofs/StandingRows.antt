@@ -175,6 +175,6 @@ row_of by_two n (was_given (Some (closing peer))) u h may = row_closing by_two n
 row_of by_zero n (was_given (Some (closing peer))) u h may = row_closing by_zero n peer u [] refl may refl
 row_of terms n place u h may = grind arith
 
--- where the connection stands then
+-- the state of the connection then
 pub row_after : (terms : Terms) (row : Row) → is_row terms row → behind_puts (behind_arrivals (accepts_in terms) (before row) (arrived_in row)) (put_for row) ≡ after row
 row_after terms row is = grind arith

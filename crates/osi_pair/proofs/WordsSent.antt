@@ -5,7 +5,7 @@ use Rattle.osi_message.specs.Words as sent
 use Rattle.osi_pair.proofs.Vocabulary.{append-nil, length-append, unit, Meaning, DT, is_parted, words_sent, AreLater, AreParts, joined, Words, word_octets, First, Middle, Last, is_size, word_in, Word, whole, part, joins, left_of, AreInOrder, most_data}
 use Rattle.osi_pair.proofs.WordLaws.{AreWords, wholes}
 
--- a word of the sender, among those under way
+-- a word of the sender, among those in flight
 abbrev pub word_of : sent.Word → Word
 word_of (sent.says m) = whole (unit m)
 word_of (sent.part place octets) = part place octets
