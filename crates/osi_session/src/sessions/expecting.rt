@@ -49,7 +49,7 @@ impl Session {
     /// taken. Any other TSDU comes back.
     #[inline(always)]
     pub fn show_data(&self, tsdu: Vec<u8>) -> Result<Indication, Vec<u8>>
-        ensures data { IfOk result (λ i. shown_by i ≡ Data (drop 4 tsdu.items)) }
+        ensures octets { IfOk result (λ i. shown_by i ≡ Data (drop 4 tsdu.items)) }
         ensures shown { OnOk result (react self.now (came tsdu.items) ≡ only_shows self.now (Data (drop 4 tsdu.items))) }
         ensures other { IfErr result (λ t. t ≡ tsdu) }
     {

@@ -7,12 +7,12 @@ use Rattle.osi_session.proofs.sessions.Session.data_head.Goals as goal
 
 pub returns : goal.returns
 returns c =
-    let data = c.args.user_data.now in
-    let a = accepts c.limit_of.result _ c.args.self.now (Data data) (record { next = c.self.inside.state; sent = DT data }) c.limit_of.ensures c.self.view_is c.self.invariant.0 tt c.in-Ok.ensures.ok in
-    let whole : is_whole c.limit_of.result data ≡ true = sym c.is_whole.ensures ∙ c.if-not-is_whole.false in
+    let user = c.args.user_data.now in
+    let a = accepts c.limit_of.result _ c.args.self.now (Data user) (record { next = c.self.inside.state; sent = DT user }) c.limit_of.ensures c.self.view_is c.self.invariant.0 tt c.in-Ok.ensures.ok in
+    let whole : is_whole c.limit_of.result user ≡ true = sym c.is_whole.ensures ∙ c.if-not-is_whole.false in
     record {
-      state = rests_by _ c.args.self.now (Data data) (DT data) c.self.view_is c.self.invariant.3 c.in-Ok.ensures.ok;
-      sent = ap (λ (t : List ℕ). t ∷ []) (sym (c.data_head.ensures.octets data)) ∙ sym (sent_whole c.limit_of.result data whole) ∙ a.sends;
+      state = rests_by _ c.args.self.now (Data user) (DT user) c.self.view_is c.self.invariant.3 c.in-Ok.ensures.ok;
+      sent = ap (λ (t : List ℕ). t ∷ []) (sym (c.data_head.ensures.octets user)) ∙ sym (sent_whole c.limit_of.result user whole) ∙ a.sends;
       accepted = a.passes;
       sendable = a.sendable;
     }
