@@ -110,7 +110,11 @@ reads, runs scripts of two ends, and draws what they did. It wants a processor o
         "OSI session layer, one end (package for Python 3)" "$long This package calls the library, and goes over TCP by asyncio."
     [ -e "$out/osi-session-$version.crate" ] || return 0
     take_crate
-    control librust-osi-session-dev all "libosi-session-dev (>= $version)" rust "" \
+    local name provides=""
+    for name in "${version%%.*}" "${version%.*}" "$version"; do
+        provides="$provides${provides:+, }librust-osi-session-$name-dev (= $debian)"
+    done
+    control librust-osi-session-dev all "libosi-session-dev (>= $version)" rust "Provides: $provides" \
         "OSI session layer, one end (crate for Rust)" \
         "$long This package has the sources of the crate osi-session, which links the library."
 }
