@@ -2,6 +2,7 @@
 # make test: proves and tests everything, as the gate does (bash .ci/run), and then runs the tests of what is not Rattle: the
 # ladders, the programs and bindings, the packages, the pages (scripts/test_all). What needs something that isn't here is
 # named and counted as skipped.
+# make quick: runs tests and stored runs without a proof, and looks at layout and pages, in some minutes; it proves nothing.
 # make edits, or make edits CRATE=osi_spdu: tries the edits of crates/*/edits, which the prover must refuse, and the
 # functions of scripts/refused_borrows, which must not compile.
 # make lib: builds the library for C, into build/: libosi-session.a and libosi-session.so, with the number of its soname.
@@ -23,7 +24,7 @@
 # make pages: checks the links, limits and commands of the pages; it proves and builds nothing (scripts/pages).
 # make ledger: builds the same and the benchmarks, counts the instructions of each operation that a benchmark times, and
 # fails where one takes more than bench/ledger.txt says; some minutes where all is proved.
-.PHONY: all test edits bench ledger lib install uninstall dist check-dist release check-release gateways trials fuzz ladders
+.PHONY: all test quick edits bench ledger lib install uninstall dist check-dist release check-release gateways trials fuzz ladders
 .PHONY: ladders-check pages mms interop slow-peers scaling soak
 PREFIX ?= /usr/local
 LIBDIR ?= $(PREFIX)/lib
@@ -36,6 +37,9 @@ all:
 
 test:
 	scripts/test_all
+
+quick:
+	scripts/quick
 
 edits:
 	scripts/edits -v $(CRATE)

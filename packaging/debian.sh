@@ -95,11 +95,12 @@ make_packages() {
     symbols >"$room/libosi-session$abi/DEBIAN/symbols"
     echo "activate-noawait ldconfig" >"$room/libosi-session$abi/DEBIAN/triggers"
     local long="An end of a byte connection takes the octets that came and returns those that are to be sent. It speaks X.225 version 2 over
-the transport classes 0 and 2 of X.224 in TPKT packets (RFC 1006), opens no socket, and is proved."
+the transport classes 0 and 2 of X.224 in TPKT packets (RFC 1006), opens no socket, and is proved. It wants a processor of x86-64-v2
+(SSE4.2)."
     control osi amd64 "libc6 (>= $(libc_of "$room/osi/usr/bin/osi")), python3 (>= 3.9)" net "Recommends: tshark" \
         "lister of captures of the OSI session protocol" \
         "It lists captures of X.225 version 2 over the transport classes 0 and 2 of X.224 in TPKT packets (RFC 1006), also those that tshark
-reads, runs scripts of two ends, and draws what they did."
+reads, runs scripts of two ends, and draws what they did. It wants a processor of x86-64-v2 (SSE4.2)."
     control "libosi-session$abi" amd64 "libc6 (>= $(libc_of "$room/libosi-session$abi$libdir/libosi-session.so.$version"))" libs \
         "Multi-Arch: same" "OSI session layer, one end (shared library)" "$long"
     control libosi-session-dev amd64 "libosi-session$abi (= $debian)" libdevel "Multi-Arch: same" \
@@ -109,6 +110,11 @@ reads, runs scripts of two ends, and draws what they did."
         "OSI session layer, one end (package for Python 3)" "$long This package calls the library, and goes over TCP by asyncio."
     [ -e "$out/osi-session-$version.crate" ] || return 0
     take_crate
-    control librust-osi-session-dev all "libosi-session-dev (>= $version)" rust "" \
-        "OSI session layer, one end (crate for Rust)" "$long This package has the sources of the crate osi-session, which links the library."
+    local name provides=""
+    for name in "${version%%.*}" "${version%.*}" "$version"; do
+        provides="$provides${provides:+, }librust-osi-session-$name-dev (= $debian)"
+    done
+    control librust-osi-session-dev all "libosi-session-dev (>= $version)" rust "Provides: $provides" \
+        "OSI session layer, one end (crate for Rust)" \
+        "$long This package has the sources of the crate osi-session, which links the library."
 }

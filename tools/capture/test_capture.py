@@ -9,6 +9,7 @@ import shutil
 import subprocess
 import tempfile
 import unittest
+from unittest import mock
 
 from . import columns, listing, program, streams, texts
 
@@ -228,14 +229,16 @@ class Texts(unittest.TestCase):
         self.assertEqual(len(found), 8)
 
     def test_what_is_no_text_is_left_to_tshark(self):
-        with open(self.path("a.pcap"), "wb") as file:
-            file.write(bytes.fromhex("d4c3b2a102000400"))
-        self.assertIsNone(texts.read(self.path("a.pcap")))
+        for name, begin in (("a.pcap", "d4c3b2a102000400"), ("a.pcapng", "0a0d0d0a6c0000004d3c2b1a01000000"), ("a.gz", "1f8b0800")):
+            with open(self.path(name), "wb") as file:
+                file.write(bytes.fromhex(begin))
+            self.assertIsNone(texts.read(self.path(name)), name)
         self.assertIsNone(texts.read(self.path("nothing")))
 
     def test_a_text_with_something_else_is_refused(self):
-        status, out, err = call("show", self.write("bad.left", "# a capture\n03 00 zz\n"), "--osi", OSI)
-        self.assertEqual((status, out, err.count("\n")), (2, "", 1))
+        for text in ("# a capture\n03 00 zz\n", "# a capture\n", ""):
+            status, out, err = call("show", self.write("bad.left", text), "--osi", OSI)
+            self.assertEqual((status, out, err.count("\n")), (2, "", 1))
 
     def test_user_data_is_found_in_each_unit(self):
         for line, wanted in (("    FN 193=0a0b", "0a0b"), ("    CN 5(19=01 22=02) 20=0002 193=3160", "3160"), ("    AB 17=01", None),
@@ -269,6 +272,39 @@ class Texts(unittest.TestCase):
         rows = call("show", run, "--osi", OSI, "--columns", "--width", "100")[1].splitlines()
         self.assertEqual((max(map(len, rows)) <= 100, len(rows)), (True, len(told) + 1))
         self.assertRegex(rows[1], r"^ +0\.000000 \| packet 0 length 18 code e0 +\|$")
+
+
+class Streams(unittest.TestCase):
+    """A stream as tshark tells it, of which no tshark is asked: a segment for each packet, an eighth of a second apart."""
+
+    def setUp(self):
+        patched = mock.patch.object(program.tshark, "segments", self.segments)
+        patched.start()
+        self.addCleanup(patched.stop)
+
+    @staticmethod
+    def segments(_):
+        left, right = ("192.0.2.1", 40000), ("192.0.2.2", 102)
+        sequences = {"O": 1, "I": 1}
+        for number, (direction, octets) in enumerate(association()):
+            made = object.__new__(program.tshark.Segment)
+            made.frame, made.time, made.stream, made.is_first = number + 1, 1000 + number / 8, 3, False
+            made.source, made.target = (left, right) if direction == "O" else (right, left)
+            made.sequence, made.octets = sequences[direction], octets
+            sequences[direction] += len(octets)
+            yield made
+
+    def test_the_stream_is_named(self):
+        self.assertEqual(call("list", "run.pcap")[1], "stream 3 192.0.2.1:40000 192.0.2.2:102 left 209 octets right 180 octets\n")
+
+    @unittest.skipUnless(os.path.exists(OSI), "`make` has not built the program")
+    def test_each_line_has_the_time_of_its_packet(self):
+        told = [json.loads(line) for line in call("show", "run.pcap", "--osi", OSI, "--json")[1].splitlines()]
+        times = [(each["side"], each["frame"], each["time"]) for each in told if each["line"].startswith("packet ")]
+        self.assertEqual(times, [(streams.SIDES[at % 2], at + 1, 1000 + at / 8) for at in range(8)])
+        self.assertEqual(list(map(wrongs, told)), [[]] * len(told))
+        rows = call("show", "run.pcap", "--osi", OSI, "--columns", "--width", "120")[1].splitlines()
+        self.assertRegex(rows[3], r"^ +0\.125000 \| +\| packet 0 length 18 code d0$")
 
 
 class Joining(unittest.TestCase):

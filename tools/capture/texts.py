@@ -68,9 +68,9 @@ def side_of(name, parts):
 
 
 def is_text(path):
-    """Whether a file is such a text, and no capture of a network."""
+    """Whether a file is such a text, and no capture of a network: a pcapng begins with a line feed, but no text has a zero."""
     with open(path, "rb") as file:
-        return re.fullmatch(rb"[\t\n\r 0-9a-fA-F]*(#.*)?", file.read(4096).partition(b"\n")[0].rstrip(b"\r")) is not None
+        return re.fullmatch(rb"[\t\n\r ]*([0-9a-fA-F#][\t\n\r -~]*)?", file.read(4096)) is not None
 
 
 def read(name):
@@ -80,6 +80,8 @@ def read(name):
     if not os.path.isfile(name) or not is_text(name):
         return None
     parts = parts_of(text_of(name), name)
+    if not parts:
+        raise BadInput(f"{name}: there are no octets in it")
     if not any(side == SIDES[1] for _, _, side, _ in parts):
         side = side_of(name, parts)
         parts = [(frame, time, side, octets) for frame, time, _, octets in parts]
