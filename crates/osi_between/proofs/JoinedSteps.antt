@@ -55,7 +55,7 @@ stands_by end q n asked this other next going coming rest taken put true e own s
 stands_by end q n asked this other next going coming rest taken put false e own s cut all mv =
     stands_still end q n this other next going coming rest taken mv.units mv.events (λ same. let yes = eq-eqb q n same in cc) own cut all mv.acts
 
--- after a move of one connection each stands as it should
+-- after a move of one connection, each is in a state that both share
 pub all_stand : (end : Bool) (n asked : ℕ) (this other next : State) (going coming rest taken : List Value) (put : List Message) →
     ((q : ℕ) → 0 < q → StandsBetween end q this other going coming) → (s : StandsBetween end n this other going coming) → coming ≡ taken ++ rest → AreFor n taken →
     (mv : CourseMoves end n s.course this other next taken asked put) → (q : ℕ) → 0 < q → StandsBetween end q next other (going ++ mv.units) rest

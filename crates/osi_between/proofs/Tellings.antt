@@ -13,7 +13,7 @@ use Rattle.osi_between.proofs.Terms.{provides, begins}
 drop_front : {A : Type 0} (xs ys : List A) → drop (length xs) (xs ++ ys) ≡ ys
 drop_front xs ys = drop-append_seam xs ys
 
--- after one move, and what it told and took in
+-- after one move, with what it reported and what was handed in
 record Goes (terms : Terms) (m : Move) (both : Both) (b : Between) : Type 0 where
   now : Between
   between : AreBetween terms (moved m both) now

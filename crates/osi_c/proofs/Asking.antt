@@ -1,4 +1,4 @@
--- A connection that is asked for is what C said.
+-- A requested connection is the one that C named.
 use Rattle.std.specs.Prelude.{ℕ, Option, Some, None}
 use Rattle.osi_stack.specs.declared.connecting.Connect.{Connect}
 use Rattle.osi_stack.specs.declared.connecting.ConnectError.{ConnectError}

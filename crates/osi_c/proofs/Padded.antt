@@ -1,4 +1,4 @@
--- Octets with zeros behind them.
+-- Octets with zeros after them.
 use Rattle.std.proofs.Common.{◌≡◌, ◌∙◌, ℕ, ◌-◌, List, ◌++◌, length, drop, replicate, ap}
 use Rattle.std.proofs.lemmas.List.{drop-replicate}
 use Rattle.osi_c.specs.Addressed.{tsap_told, selector_told}

@@ -1,4 +1,4 @@
--- The addresses of a connection as C is told of them: the whole of what it is given.
+-- The addresses of a connection as C receives them, with every field.
 use Rattle.std.specs.Prelude.{ℕ, ◌-◌, List, [], ◌++◌, length, replicate, Option, Some, None, unwrap_or}
 use Rattle.osi_stack.specs.Addresses.{Addresses, addresses_at}
 use Rattle.osi_c.specs.Codes.{Fetching, NoEnd, Nothing, Fetched}
@@ -7,7 +7,7 @@ use Rattle.osi_c.specs.declared.addresses.OsiSelector.{OsiSelector}
 use Rattle.osi_c.specs.declared.addresses.OsiAddressing.{OsiAddressing}
 use Rattle.osi_c.specs.declared.handles.Contents.{Contents}
 
--- an address with zeros behind it; of no octets where there is none
+-- an address followed by zeros; of length 0 if there is none
 abbrev pub tsap_told : List ℕ → OsiTsap
 tsap_told octets = record { octets = octets ++ replicate (32 - length octets) 0; length = length octets }
 
@@ -22,13 +22,13 @@ telling from_tsap to_tsap from_selector to_selector = record {
   called_selector = selector_told to_selector;
 }
 
--- what C is told of addresses
+-- the addresses as C receives them
 abbrev pub told : Option Addresses → OsiAddressing
 told None = telling [] [] [] []
 told (Some known) =
     telling (unwrap_or known.calling_tsap []) (unwrap_or known.called_tsap []) (unwrap_or known.calling_selector []) (unwrap_or known.called_selector [])
 
--- those of a connection; a slot that holds no end is as one that has none
+-- the addresses of a connection; an empty slot has no connections
 abbrev pub addresses : ℕ → Option Contents → Option Addresses
 addresses r None = None
 addresses r (Some c) = addresses_at r c.stack.end

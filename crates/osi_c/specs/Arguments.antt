@@ -1,4 +1,4 @@
--- What C passes, and what it says.
+-- The meaning of the arguments that C passes.
 use Rattle.std.specs.Prelude.{◌≡◌, ℕ, ◌≤◌, ◌&&◌, ◌||◌, List, length, Option, Some, None, IsSome, option_map, ◌==◌, not, nat_le, if◌then◌else◌}
 use Rattle.osi_class.specs.declared.terms.Local.{Local}
 use Rattle.osi_tpdu.specs.Limits.{size_code, window_units, tsap_octets}
@@ -49,11 +49,11 @@ wishes_of s = do
 abbrev pub serial_of : ℕ → Option ℕ
 serial_of number = if nat_le number 999999 then Some number else None
 
--- how many octets a TSDU of the asker and one of the answerer may have: 0 for no limit, or 64 and more
+-- the largest TSDU of the asker and of the answerer: 0 for no limit, or at least 64 octets
 abbrev pub sizes_of : (from_asker from_answerer : ℕ) → Option TsduMaximumSize
 sizes_of a b = if is_size a && is_size b then Some (record { from_asker = a; from_answerer = b }) else None
 
--- an address of no octets is none
+-- an address without octets is no address
 abbrev pub given : List ℕ → Option (List ℕ)
 given octets = if length octets == 0 then None else Some octets
 
@@ -68,7 +68,7 @@ SaysTerms t local =
     (local.class0 ≡ (t.classes == 1 || t.classes == 3)) × (local.class2 ≡ nat_le 2 t.classes)
     × (size_code local.size ≡ t.size) × (window_units local.window ≡ t.window)
 
--- ---- a connection that is asked for
+-- ---- a requested connection
 
 abbrev pub IsOpening : OsiOpening → Type 0
 IsOpening c =
@@ -87,7 +87,7 @@ SaysOpening c connect =
     × (Some (named_by connect.sizes) ≡ sizes_of c.size_from_asker c.size_from_answerer)
     × (connect.user_data.now ≡ c.user_data.now)
 
--- ---- calls whose arguments may not be readable
+-- ---- calls whose arguments may be out of range
 
 abbrev pub accept_with : ℕ → ℕ → OsiSides → TsduMaximumSize → List ℕ → Option Call
 accept_with requirements number codes sizes octets = do
@@ -100,7 +100,7 @@ accept_of requirements number codes from_asker from_answerer octets = do
   sizes ← sizes_of from_asker from_answerer
   accept_with requirements number codes sizes octets
 
--- user data goes with reason 2 alone
+-- user data goes only with reason 2
 abbrev pub refusal_of : ℕ → List ℕ → Option Refusal
 refusal_of reason octets =
     if reason == 2 then Some (WithData octets)

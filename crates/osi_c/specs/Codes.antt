@@ -1,4 +1,4 @@
--- What the numbers that C sees say.
+-- The meaning of the numbers that C receives.
 use Rattle.std.specs.Prelude.{ℕ, List, [], ◌∷◌, Option, Some, None, ◌==◌, if◌then◌else◌}
 use Rattle.osi_carrier.specs.declared.ends.EndReason.{EndReason}
 use Rattle.osi_carrier.specs.declared.ends.EndReason.TheVariants as end
@@ -14,7 +14,7 @@ use Rattle.osi_stack.specs.declared.connecting.ConnectError.TheVariants as conne
 use Rattle.osi_tpdu.specs.declared.faults.TpduFault.TheVariants as unit
 use Rattle.osi_tpkt.specs.declared.faults.TpktFault.TheVariants as packet
 
--- what is read, and then more, where both can be read
+-- one reading and then another, if both succeed
 infixl 10 ◌>>=◌
 abbrev pub ◌>>=◌ : {A B : Type 0} → Option A → (A → Option B) → Option B
 None >>= f = None
@@ -25,8 +25,7 @@ abbrev pub coded : {X : Type 0} → List (ℕ × X) → ℕ → Option X
 coded [] code = None
 coded (row ∷ rows) code = if code == row.0 then Some row.1 else coded rows code
 
--- What a call answers: it is done, the slot holds no end, an argument cannot stand there, or the end
--- refuses it.
+-- The answer to a call: it is done, the slot is empty, an argument is out of range, or the end refuses it.
 pub data Answer (E : Type 0) : Type 0 where
   Done : Answer E
   Closed : Answer E
@@ -53,11 +52,11 @@ connect_answers =
     ∷ (22, Refused (connect.Open opening.OneConnection)) ∷ (23, Refused (connect.Open opening.TooMany))
     ∷ (24, Refused (connect.Open opening.ReferencesUsedUp)) ∷ []
 
--- the answer where a connection is asked for
+-- the answer to a request for a connection
 abbrev pub asked_of : ℕ → Option (Answer ConnectError)
 asked_of = coded connect_answers
 
--- What is answered where an end is made.
+-- The answer to making an end.
 pub data Made : Type 0 where
   Begun : Made
   Unreadable : Made
@@ -67,7 +66,7 @@ pub data Made : Type 0 where
 abbrev pub made_of : ℕ → Option Made
 made_of = coded ((0, Begun) ∷ (2, Unreadable) ∷ (3, NoMemory) ∷ (4, InUse) ∷ [])
 
--- What is answered where an indication is fetched.
+-- The answer to fetching an indication.
 pub data Fetching : Type 0 where
   Fetched : Fetching
   NoEnd : Fetching
@@ -83,11 +82,11 @@ phases =
     ∷ (8, Some phase.Releasing) ∷ (9, Some phase.ReleaseDue) ∷ (10, Some phase.Restarting)
     ∷ (11, Some phase.RestartDue) ∷ (12, Some phase.Aborting) ∷ (13, Some phase.Ended) ∷ []
 
--- where a connection stands; a connection that was never given stands nowhere
+-- the phase of a connection; none for one that was never given
 abbrev pub phase_of : ℕ → Option (Option Phase)
 phase_of = coded phases
 
--- an end that has ended, by what is told beside the number
+-- the reasons of an end, by the detail that goes with the number
 abbrev pub reasons : ℕ → List (ℕ × Option EndReason)
 reasons detail =
     (0, None) ∷ (1, Some end.Broken) ∷ (2, Some end.Closed) ∷ (3, Some (end.PeerClosed detail)) ∷ (4, Some end.NoMemory)
@@ -107,11 +106,11 @@ reasons detail =
     ∷ (21, Some (end.Fault (carrier.Link link.TsduTooLong)))
     ∷ (22, Some (end.Fault (carrier.Link link.OutOfMemory))) ∷ []
 
--- why an end has ended; none where it has not
+-- why an end has ended; none if it has not
 abbrev pub reason_of : ℕ → ℕ → Option (Option EndReason)
 reason_of code detail = coded (reasons detail) code
 
--- what belongs to the reason: the reason of the peer, or the place of an octet; 0 where nothing does
+-- the detail of the reason: the peer's reason, or the offset of an octet; 0 if there is none
 abbrev pub detail_of : Option EndReason → ℕ
 detail_of (Some (end.PeerClosed reason)) = reason
 detail_of (Some (end.Fault (carrier.Tpkt (packet.BadVersion at)))) = at

@@ -1,4 +1,4 @@
--- What the functions that C calls do: `old` and `new` are what the slot holds.
+-- The effects of the functions that C calls: `old` and `new` are the contents of the slot.
 use Rattle.std.specs.Prelude.{◌≡◌, ℕ, ◌≤◌, ◌+◌, ◌-◌, ◌*◌, ◌^◌, min, Bool, true, false, not, ◌==◌, List, [], length, Option, Some, None, option_map}
 use Rattle.osi_tpkt.specs.Held.{fresh}
 use Rattle.osi_class.specs.declared.terms.Local.{Local}
@@ -28,13 +28,13 @@ use Rattle.osi_c.specs.declared.arguments.OsiTerms.{OsiTerms}
 use Rattle.osi_c.specs.declared.arguments.OsiOpening.{OsiOpening}
 use Rattle.osi_c.specs.declared.handles.Contents.{Contents}
 
--- the same contents at another end
+-- the same contents with another end
 abbrev pub with_end : Contents → End → Contents
 with_end c end = record c { stack = record c.stack { end = end } }
 
 -- ---- making an end
 
--- an end on which nothing has happened
+-- a fresh end
 abbrev pub begun : Bool → Local → Contents
 begun is_caller local = record { stack = record { end = fresh_end is_caller local; held = fresh }; last = None; reference = 0 }
 
@@ -49,7 +49,7 @@ Makes is_caller terms (Some NoMemory) None new = IsTerms terms × (new ≡ None)
 Makes is_caller terms (Some InUse) (Some old) new = IsTerms terms × (new ≡ Some old)
 Makes is_caller terms answer old new = ⊥
 
--- ---- asking for a connection
+-- ---- requesting a connection
 
 abbrev pub Connects : Connect → Option (Answer ConnectError) → Option Contents → ℕ → Option Contents → Type 0
 Connects connect (Some Done) (Some old) reference new =
@@ -74,13 +74,13 @@ Calls r call (Some (Refused error)) (Some old) new =
 Calls r call (Some Closed) None new = new ≡ None
 Calls r call answer old new = ⊥
 
--- a call whose arguments may not be readable
+-- a call whose arguments may be out of range
 abbrev pub CallsIf : ℕ → Option Call → Option (Answer CallError) → Option Contents → Option Contents → Type 0
 CallsIf r (Some call) answer old new = Calls r call answer old new
 CallsIf r None (Some BadArgument) old new = new ≡ old
 CallsIf r None answer old new = ⊥
 
--- One connection is given up. For want of memory it is not where a DR is to be written, and that alone.
+-- One connection is given up. If memory runs out it is not, which is possible only if a DR has to be written.
 abbrev pub Disconnects : ℕ → Option (Answer CallError) → Option Contents → Option Contents → Type 0
 Disconnects r (Some Done) (Some old) new =
     (disconnect_error r old.stack.end ≡ None) × (new ≡ Some (with_end old (disconnects r old.stack.end)))
@@ -98,7 +98,7 @@ FeedsTo piece used waits (Some Done) (Some old) (Some new) =
 FeedsTo piece used waits (Some Closed) None new = (used ≡ 0) × (waits ≡ false) × (new ≡ None)
 FeedsTo piece used waits answer old new = ⊥
 
--- the octets to be carried; none of a slot that holds no end
+-- the octets to send; none for an empty slot
 abbrev pub outgoing : Option Contents → List ℕ
 outgoing None = []
 outgoing (Some c) = c.stack.end.carrier.outgoing
@@ -121,7 +121,7 @@ Breaks answer old new = ⊥
 
 -- ---- indications
 
--- what C was last told of
+-- the indication that C fetched last
 abbrev pub told : Option Contents → Option (ℕ × Shown)
 told None = None
 told (Some c) = option_map (λ i. (c.reference, shown_by i)) c.last
@@ -137,7 +137,7 @@ Fetches (Some answer) (Some old) (Some new) =
     × (new.stack ≡ record old.stack { end = record old.stack.end { lines = without_first old.stack.end.lines } })
 Fetches answer old new = ⊥
 
--- ---- where an end and its connections stand; a slot that holds no end is as one that has none
+-- ---- the states of an end and its connections; an empty slot has none
 
 abbrev pub ended : Option Contents → Option EndReason
 ended None = None
@@ -160,27 +160,27 @@ abbrev pub numbers : ℕ → Option Contents → Numbers
 numbers r None = from_base 0
 numbers r (Some c) = numbers_of (session_at r c.stack.end)
 
--- the octets of packets, TSDUs and data in parts that are not whole yet
+-- the octets of unfinished packets, TSDUs and data in parts
 abbrev pub kept : Option Contents → ℕ
 kept None = 0
 kept (Some c) = kept_octets c.stack
 
--- as many as there may be: of a packet, and of a TSDU and data in parts of each live connection
+-- the most that these can be: of a packet, and of a TSDU and data in parts of each live connection
 abbrev pub most_kept : Option Contents → ℕ
 most_kept None = 0
 most_kept (Some c) = 65535 + 2097148 * length c.stack.end.carrier.live
 
--- the octets of TSDUs of a connection that are not yet in those to be carried
+-- the octets of a connection's TSDUs that are not yet among those to send
 abbrev pub unsent : ℕ → Option Contents → ℕ
 unsent r None = 0
 unsent r (Some c) = unsent_at (value_at r c.stack.end.carrier.live)
 
--- those of all connections, as far as a size_t counts
+-- the same for all connections, up to the largest size_t
 abbrev pub backlog : Option Contents → ℕ
 backlog None = 0
 backlog (Some c) = min (backlog_of c.stack.end.carrier.live) (2 ^ 64 - 1)
 
--- how many connections are asked for, open or closing
+-- how many connections are requested, open or closing
 abbrev pub live : Option Contents → ℕ
 live None = 0
 live (Some c) = length c.stack.end.carrier.live

@@ -14,10 +14,10 @@ use Rattle.osi_c.specs.declared.slots.OsiEnd.{OsiEnd}
 abbrev pub holding : OsiEnd → Contents → OsiEnd
 holding s x = record { full = true; inner = record { at = s.inner.at; value = Some x }; tied = refl }
 
--- once the borrow r ends, the slot behind s holds the last value written through r
+-- once the borrow r ends, the slot after s holds the last value written through r
 abbrev pub LendsSlot : MutBor OsiEnd → MutBor Contents → Fml
 LendsSlot s r = follows the_row contents_row s.ghost_name r.ghost_name (holding s.now)
 
--- once what was lent is over, the slot behind s holds what it held
+-- once the loan is over, the slot after s holds what it held before
 abbrev pub KeepsSlot : MutBor OsiEnd → Fml
 KeepsSlot s = follows_so the_row the_row s.ghost_name none (λ _ _. ⊤) (λ last. last.inner.value ≡ s.now.inner.value)

@@ -13,7 +13,7 @@ use Rattle.osi_c.specs.declared.handles.Contents.{Contents}
 abbrev pub block : Ty → Ptr → Fml
 block = ghosts.dealloc_token (record { memory = record { seal = tt } })
 
--- nothing, or the box at p with this value
+-- null, or the box at p with this value
 abbrev pub may_own : Ptr → Option Contents → Fml
 may_own p None = ftrue
 may_own p (Some x) = box_owns block the_row p x

@@ -1,4 +1,4 @@
--- What an indication in C says: the whole of it, so that a field that the tag does not have is 0.
+-- The fields of an indication in C. All of them are listed, so a field that the tag does not have is 0.
 use Rattle.std.specs.Prelude.{◌≡◌, ℕ, Bool, true, false, List, [], Option, Some, None}
 use denote.Ref.{Bor}
 use Rattle.osi_spdu.specs.declared.faults.SpduFault.{SpduFault}
@@ -19,7 +19,7 @@ use Rattle.osi_c.specs.declared.telling.OsiIndication.{OsiIndication}
 
 -- ---- a fault
 
--- why octets are no session units: which fault of spelling, of which parameter, and where
+-- why octets are not session units: which fault of spelling, of which parameter, and where
 abbrev pub spelled : ℕ → ℕ → ℕ → OsiFault
 spelled spelling parameter at = record { fault = 1; si = 0; spelling = spelling; parameter = parameter; offset = at }
 
@@ -79,7 +79,7 @@ abbrev pub flag : Bool → ℕ
 flag true = 1
 flag false = 0
 
--- no more than of which connection it is, which it is, and the user data that is lent
+-- an indication with only its connection, its tag and the user data that is lent
 abbrev pub plain : ℕ → ℕ → Bor (List ℕ) → OsiIndication
 plain r tag lent = record {
   tag = tag;
@@ -97,7 +97,7 @@ plain r tag lent = record {
   size_from_answerer = 0;
 }
 
--- what an opening says beside
+-- the other fields of an opening
 abbrev pub opened : ℕ → Option ℕ → OsiSides → TsduMaximumSize → OsiIndication → OsiIndication
 opened units serial sides sizes i = record i {
   requirements = units;
@@ -108,7 +108,7 @@ opened units serial sides sizes i = record i {
   size_from_answerer = sizes.from_answerer;
 }
 
--- what C is told of what a user is shown, with the user data that is lent
+-- an indication as C receives it, with the user data that is lent
 abbrev pub telling : ℕ → Shown → Bor (List ℕ) → OsiIndication
 telling r (Connect units serial wishes sizes octets) lent = opened units serial (wishes_told wishes) sizes (plain r 1 lent)
 telling r (Connected units serial sides sizes octets) lent = opened units serial (sides_told sides) sizes (plain r 2 lent)
@@ -131,7 +131,7 @@ telling r Lost lent = plain r 18 lent
 telling r (PeerAbort bits) lent = record (plain r 19 lent) { reason = bits }
 telling r (BadUnit fault) lent = record (plain r 20 lent) { fault = fault_told fault }
 
--- the user data; no octets where the tag has none
+-- the user data; none if the tag has none
 abbrev pub data_shown : Shown → List ℕ
 data_shown (Connect _ _ _ _ octets) = octets
 data_shown (Connected _ _ _ _ octets) = octets
@@ -150,16 +150,16 @@ data_shown (ReleaseRefused octets) = octets
 data_shown (Aborted octets) = octets
 data_shown _ = []
 
--- which indication it is, of which connection, and what it says
+-- the tag, the connection and the fields of an indication
 abbrev pub Says : OsiIndication → ℕ → Shown → Type 0
 Says i r shown = (i ≡ telling r shown i.user_data) × (i.user_data.now ≡ data_shown shown)
 
--- nothing, or what the user of a connection is shown
+-- no indication, or one for the user of a connection
 abbrev pub Tells : OsiIndication → Option (ℕ × Shown) → Type 0
 Tells i None = (i ≡ plain 0 0 i.user_data) × (i.user_data.now ≡ [])
 Tells i (Some (r, shown)) = Says i r shown
 
--- ---- which indications each function tells of
+-- ---- which indications each function describes
 
 -- which indications tell of the opening of a connection
 abbrev pub is_opening : Shown → Bool

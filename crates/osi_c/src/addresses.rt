@@ -13,7 +13,7 @@ use osi_carrier::Ref;
 use osi_stack::{Addresses, SessionSelector};
 use osi_tpdu::Tsap;
 
-/// A transport address: its first octets, so many, and zeros behind them; of no octets where there is no address.
+/// A transport address: the first `length` octets, followed by zeros. Length 0 means that there is no address.
 #[repr(C)]
 #[derive(Clone, Copy)]
 pub struct OsiTsap {
@@ -21,7 +21,7 @@ pub struct OsiTsap {
     pub length: u8,
 }
 
-/// A session address, in the same way.
+/// A session address, in the same form.
 #[repr(C)]
 #[derive(Clone, Copy)]
 pub struct OsiSelector {
@@ -95,7 +95,7 @@ fn none() -> OsiAddressing
     }
 }
 
-/// These.
+/// The known addresses.
 fn tell(known: &Addresses) -> OsiAddressing
     ensures { result ≡ told (Some (known_by known.now)) }
 {
@@ -107,7 +107,7 @@ fn tell(known: &Addresses) -> OsiAddressing
     }
 }
 
-/// The addresses of a connection, where there are any.
+/// The addresses of a connection, if there are any.
 #[unsafe(no_mangle)]
 pub extern "C" fn osi_addresses(end: &mut OsiEnd, reference: u16, shown: &mut OsiAddressing) -> u32
     ensures code { fetched_of result ≡ Some (asks reference end.old.inner.value) }

@@ -1,4 +1,4 @@
-//! What C passes.
+//! The arguments that C passes.
 
 ghost use Rattle.std.specs.Prelude.{◌≡◌, ◌≤◌, length, option_map, IfSome, OnSome, IfNone};
 ghost use Rattle.osi_session.specs.Calls.{refusal_by};
@@ -25,8 +25,8 @@ pub struct OsiTerms {
     pub window: u8,
 }
 
-/// The side for each token: 0 for the one that asks, 1 for the one that answers, and in a wish 2 for
-/// the choice of the one that answers.
+/// The side for each token: 0 for the side that asks, 1 for the side that answers; in a wish also 2, if the answering
+/// side is to choose.
 #[repr(C)]
 #[derive(Clone, Copy)]
 pub struct OsiSides {
@@ -36,7 +36,7 @@ pub struct OsiSides {
     pub release: u8,
 }
 
-/// A connection that is asked for. An address of no octets is none, and a size of 0 no limit.
+/// A requested connection. An address without octets is no address, and a size of 0 is no limit.
 #[repr(C)]
 #[derive(Clone, Copy)]
 pub struct OsiOpening<'a> {
@@ -85,7 +85,7 @@ pub(crate) fn sides(codes: &OsiSides) -> Option<Sides>
     })
 }
 
-/// The side that is wished for each token.
+/// The side wished for as the holder of each token.
 pub(crate) fn wishes(codes: &OsiSides) -> Option<TokenSetting>
     ensures { result ≡ wishes_of codes.now }
 {
@@ -104,7 +104,7 @@ pub(crate) fn serial(number: u32) -> Option<Serial>
     Serial::new(number)
 }
 
-/// How many octets a TSDU may have, of those that each side sends: 64 and more, or 0 for no limit.
+/// The largest TSDU that each side sends, in octets: at least 64, or 0 for no limit.
 pub(crate) fn sizes(from_asker: u16, from_answerer: u16) -> Option<TsduSizes>
     ensures { option_map named_by result ≡ sizes_of from_asker from_answerer }
 {
@@ -114,7 +114,7 @@ pub(crate) fn sizes(from_asker: u16, from_answerer: u16) -> Option<TsduSizes>
     })
 }
 
-/// Why a user refuses, by the octet of the reason: user data goes with reason 2 alone.
+/// The refusal for the octet of a reason. User data goes only with reason 2.
 pub(crate) fn refusal_for<'a>(reason: u8, user_data: &'a [u8]) -> Option<Refusal<'a>>
     ensures { option_map refusal_by result ≡ refusal_of reason user_data.entry.now }
 {
@@ -131,7 +131,7 @@ pub(crate) fn refusal_for<'a>(reason: u8, user_data: &'a [u8]) -> Option<Refusal
     }
 }
 
-/// The transport protocol of an end, where its numbers are within their ranges.
+/// The transport protocol of an end, if its numbers are in range.
 pub(crate) fn terms(terms: &OsiTerms) -> Option<Local>
     ensures some { IfSome result (λ local. SaysTerms terms.now local) }
     ensures readable { OnSome result (IsTerms terms.now) }
@@ -148,7 +148,7 @@ pub(crate) fn terms(terms: &OsiTerms) -> Option<Local>
     })
 }
 
-/// The octets of a session address; none where there is no octet.
+/// The octets of a session address; none if there are no octets.
 fn address(octets: &[u8]) -> Option<&[u8]>
     ensures { option_map (λ o. o.now) result ≡ given octets.now }
 {
@@ -158,7 +158,7 @@ fn address(octets: &[u8]) -> Option<&[u8]>
     Some(octets)
 }
 
-/// A transport address; none where there is no octet, and nothing where there are more than 32.
+/// A transport address; `Some(None)` if there are no octets, `None` if there are more than 32.
 fn transport_address(octets: &[u8]) -> Option<Option<Tsap>>
     ensures some { IfSome result (λ tsap. option_map tsap_octets tsap ≡ given octets.now) }
     ensures none { IfNone result (length octets.now ≤ 32 → ⊥) }
@@ -169,7 +169,7 @@ fn transport_address(octets: &[u8]) -> Option<Option<Tsap>>
     Some(Some(Tsap::new(octets)?))
 }
 
-/// What is asked for, where its numbers and lengths are within their ranges.
+/// The request, if its numbers and lengths are in range.
 pub(crate) fn opening<'a>(opening: &OsiOpening<'a>) -> Option<Connect<'a>>
     ensures some { IfSome result (λ connect. SaysOpening opening.now connect) }
     ensures none { IfNone result (IsOpening opening.now → ⊥) }

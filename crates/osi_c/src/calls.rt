@@ -56,7 +56,7 @@ fn accept(
     call(end, reference, request)
 }
 
-/// Accepts the connection (AC). This user has no limit of its own to how many octets a TSDU may have.
+/// Accepts the connection (AC). This user sets no limit of its own to the length of a TSDU.
 #[unsafe(no_mangle)]
 pub extern "C" fn osi_accept(
     end: &mut OsiEnd,
@@ -79,8 +79,8 @@ pub extern "C" fn osi_accept(
     )
 }
 
-/// Accepts the connection (AC), with how many octets a TSDU may have, of those that each side sends: 64
-/// and more, or 0 where this user has no limit.
+/// Accepts the connection (AC), with the largest TSDU that each side may send, in octets: at least 64, or 0 if this
+/// user sets no limit.
 #[unsafe(no_mangle)]
 pub extern "C" fn osi_accept_sized(
     end: &mut OsiEnd,
@@ -117,8 +117,8 @@ pub extern "C" fn osi_refuse(end: &mut OsiEnd, reference: u16, user_data: &[u8])
     call(end, reference, Request::Refuse { refusal })
 }
 
-/// Refuses the connection (RF) for one of the reasons of a user: 0 gives none, 1 is congestion that
-/// passes, and 2 has the user data. `BAD_ARGUMENT` for another reason, and for user data with 0 or 1.
+/// Refuses the connection (RF) with one of the reasons of a user: 0 gives no reason, 1 is temporary congestion, and 2
+/// has the user data. `BAD_ARGUMENT` for any other reason, and for user data with 0 or 1.
 #[unsafe(no_mangle)]
 pub extern "C" fn osi_refuse_with(
     end: &mut OsiEnd,
@@ -268,8 +268,8 @@ pub extern "C" fn osi_abort(end: &mut OsiEnd, reference: u16, user_data: &[u8]) 
     call(end, reference, Request::Abort { user_data })
 }
 
-/// Gives up one connection at once: no more of it is shown, and its transport connection is closed by a DR
-/// or, in class 0, by the end of the end.
+/// Gives up one connection at once: its pending indications are dropped, and its transport connection is closed by a DR
+/// or, in class 0, by the end of this end.
 #[unsafe(no_mangle)]
 pub extern "C" fn osi_disconnect(end: &mut OsiEnd, reference: u16) -> u32
     ensures { Disconnects reference (answer_of result) end.old.inner.value end.new.inner.value }

@@ -1,4 +1,4 @@
-//! The numbers that C is answered with.
+//! The numbers that C receives.
 
 ghost use Rattle.std.specs.Prelude.{◌≡◌, Some};
 ghost use Rattle.osi_c.specs.Codes.{answer_of, asked_of, phase_of, reason_of, detail_of, Refused};
@@ -14,13 +14,13 @@ use osi_tpkt::TpktFault;
 pub(crate) const OK: u32 = 0;
 /// The slot holds no end.
 pub(crate) const CLOSED: u32 = 1;
-/// An argument is none of those that may stand there.
+/// An argument is out of range.
 pub(crate) const BAD_ARGUMENT: u32 = 2;
-/// There was no memory.
+/// An allocation failed.
 pub(crate) const NO_MEMORY: u32 = 3;
 /// The slot holds an end already.
 pub(crate) const IN_USE: u32 = 4;
-/// Nothing waits.
+/// Nothing is pending.
 pub(crate) const NOTHING: u32 = 5;
 
 /// Why a call was refused.
@@ -42,7 +42,7 @@ pub(crate) fn refusal(error: CallError) -> u32
     }
 }
 
-/// Why no connection was asked for.
+/// Why no connection was requested.
 pub(crate) fn connect_refusal(error: ConnectError) -> u32
     ensures { asked_of result ≡ Some (Refused error) }
 {
@@ -59,7 +59,7 @@ pub(crate) fn connect_refusal(error: ConnectError) -> u32
     }
 }
 
-/// Where a connection stands; 0 for none.
+/// The phase of a connection; 0 for none.
 pub(crate) fn phase_code(phase: Option<Phase>) -> u32
     ensures { phase_of result ≡ Some phase }
 {
@@ -81,7 +81,7 @@ pub(crate) fn phase_code(phase: Option<Phase>) -> u32
     }
 }
 
-/// A number with what belongs to it: a reason, or the place of an octet.
+/// A number with its detail: a reason, or the offset of an octet.
 #[derive(Clone, Copy)]
 pub(crate) struct Coded {
     pub(crate) code: u32,
@@ -94,7 +94,7 @@ fn told(code: u32, detail: u64) -> Coded
     Coded { code, detail }
 }
 
-/// Why an end has ended; 0 where it has not.
+/// Why an end has ended; 0 if it has not.
 pub(crate) fn end_code(ended: Option<EndReason>) -> Coded
     ensures value { reason_of result.code result.detail ≡ Some ended }
     ensures detail { result.detail ≡ detail_of ended }

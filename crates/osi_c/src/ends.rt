@@ -1,4 +1,4 @@
-//! Making and freeing an end, and asking for a connection.
+//! Making and freeing an end, and requesting a connection.
 
 ghost use Rattle.std.specs.Prelude.{◌≡◌, true, false, None};
 ghost use Rattle.osi_c.specs.Codes.{made_of, asked_of};
@@ -58,7 +58,7 @@ pub extern "C" fn osi_called(alloc: Global, end: &mut OsiEnd, own: &OsiTerms) ->
     OK
 }
 
-/// Frees what the slot holds; nothing where it holds no end.
+/// Frees what the slot holds, if it holds an end.
 #[unsafe(no_mangle)]
 pub extern "C" fn osi_free(alloc: Global, end: &mut OsiEnd)
     ensures { end.new.inner.value ≡ None }
@@ -93,7 +93,7 @@ fn ask(end: &mut OsiEnd, connect: &Connect, reference: &mut u16) -> u32
     }
 }
 
-/// Asks for a connection, and gives the reference of this end.
+/// Requests a connection, and stores its reference.
 #[tactic(auto, using(crate::proofs::Asking::asks_by))]
 #[unsafe(no_mangle)]
 pub extern "C" fn osi_connect(end: &mut OsiEnd, asked: &OsiOpening<'_>, reference: &mut u16) -> u32

@@ -13,8 +13,8 @@ use std::alloc::{AllocError, Global};
 use std::marker::Model;
 use std::ptr::null_mut;
 
-/// What an end of C holds: the end, and the indication that C was last told of, whose user data is
-/// lent until the next call, with the reference of its connection.
+/// The contents of a C slot: the end; and the indication that C fetched last, with the reference of its connection. The
+/// indication's user data is lent until the next call.
 #[derive(Drop)]
 pub struct Contents {
     pub stack: Stack,
@@ -22,7 +22,7 @@ pub struct Contents {
     pub reference: u16,
 }
 
-/// A box as its pointer, or nothing. It is not `Drop`, so that no box is let go of unfreed.
+/// A box as a raw pointer, or null. It is not `Drop`, so a box can't be dropped without being freed.
 #[repr(C)]
 pub struct Handle {
     at: *mut u8,
@@ -79,7 +79,7 @@ impl Handle {
         self.into_loose(alloc).into_box()
     }
 
-    /// Lets go of nothing.
+    /// Discards a handle that is null.
     pub(crate) fn discard(self)
         requires { IsNone self.value }
     {

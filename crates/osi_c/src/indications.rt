@@ -43,7 +43,7 @@ fn show<'a>(contents: Option<&'a Contents>, shown: &mut OsiIndication<'a>)
     }
 }
 
-/// Shows the indication that was fetched last, whose user data is lent.
+/// Describes the indication that was fetched last; its user data is lent.
 #[unsafe(no_mangle)]
 pub extern "C" fn osi_last<'a>(end: &'a mut OsiEnd, shown: &mut OsiIndication<'a>)
     ensures* same { sem 𝓛 (KeepsSlot end.entry) }

@@ -1,6 +1,11 @@
-//! One end of a byte connection for C: what `include/osi.h` declares. Each function is a call of
-//! [`osi_stack::Stack`], whose contract it states again, and no argument but a pointer to nothing
-//! makes it do what it does not say.
+//! One end of a byte connection for C: the functions that `include/osi.h` declares.
+//!
+//! Each function is a call of [`osi_stack::Stack`], and its contract says what that call's contract says, in the
+//! numbers of C. `OsiEnd` is the slot that a C program holds. Every argument is allowed except a pointer to nothing:
+//! numbers that are out of range give `BAD_ARGUMENT`, and an empty slot gives `CLOSED`.
+//!
+//! What a C caller owes in addition (lengths that are true, one thread at a time) is in docs/GUIDE.md. Three functions
+//! of the header are written in C in front of these, in `bindings/c/edges.c`.
 #![tactic(auto)]
 
 mod addresses;

@@ -5,7 +5,7 @@ ghost use Rattle.std.specs.Prelude.{◌≡◌, is_some};
 use crate::handles::{Contents, Handle};
 use std::mem::replace;
 
-/// What C keeps of an end: a slot that holds one, or none. It begins as zeros.
+/// The slot of an end in C: it holds an end, or none. It begins as zeros.
 #[repr(C)]
 pub struct OsiEnd {
     pub(crate) full: bool,

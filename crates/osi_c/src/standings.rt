@@ -1,4 +1,4 @@
-//! Where the connections of an end stand.
+//! The states of the connections of an end.
 
 ghost use Rattle.std.specs.Prelude.{◌≡◌, Some};
 ghost use Rattle.osi_c.specs.Codes.{phase_of};
@@ -22,7 +22,7 @@ pub extern "C" fn osi_held(end: &mut OsiEnd, reference: u16) -> u8
     tokens.bits()
 }
 
-/// Where a connection stands.
+/// The phase of a connection.
 #[unsafe(no_mangle)]
 pub extern "C" fn osi_phase(end: &mut OsiEnd, reference: u16) -> u32
     ensures value { phase_of result ≡ Some (phase reference end.old.inner.value) }

@@ -10,18 +10,17 @@ use crate::codes::{BAD_ARGUMENT, CLOSED, OK, end_code};
 use crate::slots::OsiEnd;
 use osi_carrier::Ref;
 
-/// What feeding did.
+/// The result of feeding.
 #[repr(C)]
 #[derive(Clone, Copy)]
 pub struct OsiFed {
-    /// How many octets of the piece were used. The rest is to be fed again once the indications were
-    /// fetched.
+    /// How many octets of the piece were used. Fetch the indications, then feed the others again.
     pub used: usize,
-    /// Whether an indication waits.
+    /// Whether an indication is pending.
     pub waits: bool,
 }
 
-/// Feeds octets that came from the peer.
+/// Feeds octets from the peer.
 #[unsafe(no_mangle)]
 pub extern "C" fn osi_feed(end: &mut OsiEnd, piece: &[u8], fed: &mut OsiFed) -> u32
     ensures { FeedsTo piece.now fed.new.used fed.new.waits (answer_of result) end.old.inner.value end.new.inner.value }
@@ -39,7 +38,7 @@ pub extern "C" fn osi_feed(end: &mut OsiEnd, piece: &[u8], fed: &mut OsiFed) -> 
     OK
 }
 
-/// The octets that are to be carried; none of a slot that holds no end.
+/// The octets to send; none for an empty slot.
 fn lent(end: &mut OsiEnd) -> &[u8]
     ensures* same { sem 𝓛 (KeepsSlot end.entry) }
     ensures value { result.now ≡ outgoing end.old.inner.value }
@@ -50,7 +49,7 @@ fn lent(end: &mut OsiEnd) -> &[u8]
     }
 }
 
-/// Lends the octets that are to be carried to the peer; none of a slot that holds no end.
+/// Lends the octets to send to the peer; none for an empty slot.
 #[unsafe(no_mangle)]
 pub extern "C" fn osi_outgoing<'a>(end: &'a mut OsiEnd, octets: &mut &'a [u8])
     ensures* same { sem 𝓛 (KeepsSlot end.entry) }
@@ -59,7 +58,7 @@ pub extern "C" fn osi_outgoing<'a>(end: &'a mut OsiEnd, octets: &mut &'a [u8])
     *octets = lent(end);
 }
 
-/// The first octets that were lent have been carried, so many.
+/// Says that the first `octets` of the lent octets were sent.
 #[unsafe(no_mangle)]
 pub extern "C" fn osi_taken(end: &mut OsiEnd, octets: usize) -> u32
     ensures { Carries octets (answer_of result) end.old.inner.value end.new.inner.value }
@@ -75,7 +74,7 @@ pub extern "C" fn osi_taken(end: &mut OsiEnd, octets: usize) -> u32
     OK
 }
 
-/// The byte connection broke.
+/// Says that the byte connection broke.
 #[unsafe(no_mangle)]
 pub extern "C" fn osi_broken(end: &mut OsiEnd) -> u32
     ensures { Breaks (answer_of result) end.old.inner.value end.new.inner.value }
@@ -87,8 +86,8 @@ pub extern "C" fn osi_broken(end: &mut OsiEnd) -> u32
     OK
 }
 
-/// Why the end has ended, and what belongs to that: a reason, or the place of an octet. 0 where it has
-/// not, and of a slot that holds no end.
+/// Why the end has ended, and its detail: a reason, or the offset of an octet. 0 if it has not ended, and for an empty
+/// slot.
 #[unsafe(no_mangle)]
 pub extern "C" fn osi_ended(end: &mut OsiEnd, detail: &mut u64) -> u32
     ensures value { reason_of result detail.new ≡ Some (ended end.old.inner.value) }
@@ -104,7 +103,7 @@ pub extern "C" fn osi_ended(end: &mut OsiEnd, detail: &mut u64) -> u32
     why.code
 }
 
-/// Whether there are octets to be carried to the peer; none of a slot that holds no end.
+/// Whether there are octets to send to the peer; not for an empty slot.
 #[unsafe(no_mangle)]
 pub extern "C" fn osi_wants_write(end: &mut OsiEnd) -> bool
     ensures value { result ≡ wants_write end.old.inner.value }
@@ -116,8 +115,8 @@ pub extern "C" fn osi_wants_write(end: &mut OsiEnd) -> bool
     !end.get_mut().stack.outgoing().is_empty()
 }
 
-/// Whether the byte connection may be closed now: nothing is to be carried, and the end has ended, or there
-/// were connections and none is live. Not of a slot that holds no end.
+/// Whether the byte connection may be closed now: nothing is to be sent, and the end has ended, or there were
+/// connections and none is live. Not for an empty slot.
 #[unsafe(no_mangle)]
 pub extern "C" fn osi_is_over(end: &mut OsiEnd) -> bool
     ensures value { result ≡ is_over end.old.inner.value }
@@ -129,8 +128,8 @@ pub extern "C" fn osi_is_over(end: &mut OsiEnd) -> bool
     end.get_mut().stack.is_over()
 }
 
-/// How many octets of packets, TSDUs and data in parts are kept that are not whole yet: at most 65,535,
-/// and 2,097,148 for each live connection; 0 of a slot that holds no end.
+/// How many octets of unfinished packets, TSDUs and data in parts are kept: at most 65,535, and 2,097,148 for each live
+/// connection; 0 for an empty slot.
 #[unsafe(no_mangle)]
 pub extern "C" fn osi_kept(end: &mut OsiEnd) -> usize
     ensures value { result ≡ kept end.old.inner.value }
@@ -143,9 +142,8 @@ pub extern "C" fn osi_kept(end: &mut OsiEnd) -> usize
     end.get_mut().stack.kept()
 }
 
-/// How many octets of a connection were handed in and are not yet in what `osi_outgoing` lends: those of
-/// TSDUs that the peer's credit holds back in class 2. 0 for a connection that is gone or never was, and
-/// of a slot that holds no end.
+/// How many octets of a connection were handed in and are not yet in what `osi_outgoing` lends: those of TSDUs that
+/// wait for the peer's credit in class 2. 0 for a connection that is gone or never existed, and for an empty slot.
 #[unsafe(no_mangle)]
 pub extern "C" fn osi_unsent(end: &mut OsiEnd, reference: u16) -> usize
     ensures value { result ≡ unsent reference end.old.inner.value }
@@ -157,8 +155,7 @@ pub extern "C" fn osi_unsent(end: &mut OsiEnd, reference: u16) -> usize
     end.get_mut().stack.unsent(Ref(reference))
 }
 
-/// Those of all connections together, or the greatest `size_t` where they are more; 0 of a slot that holds
-/// no end.
+/// The same for all connections together, or the largest `size_t` if it is more; 0 for an empty slot.
 #[unsafe(no_mangle)]
 pub extern "C" fn osi_backlog(end: &mut OsiEnd) -> usize
     ensures value { result ≡ backlog end.old.inner.value }
@@ -170,8 +167,8 @@ pub extern "C" fn osi_backlog(end: &mut OsiEnd) -> usize
     end.get_mut().stack.backlog()
 }
 
-/// How many connections are live, at most 64: those whose transport connection is asked for, open or
-/// closing; 0 of a slot that holds no end.
+/// How many connections are live, at most 64: those whose transport connection is requested, open or closing; 0 for an
+/// empty slot.
 #[unsafe(no_mangle)]
 pub extern "C" fn osi_live(end: &mut OsiEnd) -> usize
     ensures value { result ≡ live end.old.inner.value }

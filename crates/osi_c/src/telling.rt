@@ -1,4 +1,4 @@
-//! What the user of a connection is shown, for C.
+//! Indications for C.
 
 ghost use Rattle.std.specs.Prelude.{◌≡◌, None, false, true};
 ghost use Rattle.osi_spdu.specs.Fields.{bits_of, unit_bits};
@@ -12,8 +12,8 @@ use osi_message::Octets;
 use osi_session::{AbortCause, Indication, Sides, UnitFault};
 use osi_spdu::{Requirements, Side, SpduFault, TokenSet, TokenSetting, TsduMaximumSize, Wish};
 
-/// Why a unit that came is bad: which fault, the SI of the unit; and where the octets are no session
-/// units the fault of their spelling, with the code of the parameter and the place of the octet.
+/// Why a received unit is bad: which fault, and the SI of the unit; if the octets are not session units, the fault of
+/// their spelling, with the code of the parameter and the offset of the octet.
 #[repr(C)]
 #[derive(Clone, Copy)]
 pub struct OsiFault {
@@ -24,8 +24,7 @@ pub struct OsiFault {
     pub offset: u64,
 }
 
-/// What a user is shown: which indication (0 for none), of which connection, and what it says. The
-/// user data is lent.
+/// An indication: which one (0 for none), of which connection, and its fields. The user data is lent.
 #[repr(C)]
 #[derive(Clone, Copy)]
 pub struct OsiIndication<'a> {
@@ -138,7 +137,7 @@ fn fault_codes(fault: UnitFault) -> OsiFault
     }
 }
 
-/// No more than which indication it is, and its user data.
+/// An indication with only its tag and its user data.
 fn plain(reference: u16, tag: u32, user_data: &[u8]) -> OsiIndication<'_>
     ensures { result ≡ told.plain reference tag user_data.entry }
 {
@@ -215,7 +214,7 @@ fn tell_abort<'a>(reference: u16, cause: &AbortCause, shown: &mut OsiIndication<
     }
 }
 
-/// What is said of an opening: a CN, an AC or a refusal. No other indication comes here.
+/// The fields of an opening: a CN, an AC or a refusal. Called with no other indication.
 fn tell_opening<'a>(reference: u16, indication: &'a Indication, shown: &mut OsiIndication<'a>)
     ensures { is_opening (shown_by indication.now) ≡ true → Says shown.new reference (shown_by indication.now) }
 {
@@ -256,8 +255,8 @@ fn tell_opening<'a>(reference: u16, indication: &'a Indication, shown: &mut OsiI
     }
 }
 
-/// What is said with the number of a point and who is to hold the tokens. No other indication comes
-/// here.
+/// The fields of an indication with the number of a point and the wished holders of the tokens. Called with no other
+/// indication.
 fn tell_restart<'a>(reference: u16, indication: &'a Indication, shown: &mut OsiIndication<'a>)
     ensures { is_restart (shown_by indication.now) ≡ true → Says shown.new reference (shown_by indication.now) }
 {
@@ -288,8 +287,8 @@ fn tell_restart<'a>(reference: u16, indication: &'a Indication, shown: &mut OsiI
     }
 }
 
-/// What is said but for data, a minor point and its confirmation, which do not come here. It stands out of
-/// line: else its fields would be made on their way, too.
+/// The fields of any indication but data, a minor point and its confirmation. It is kept out of line: otherwise its
+/// fields would be built on the way of these three, too.
 #[inline(never)]
 fn tell_other<'a>(reference: u16, indication: &'a Indication, shown: &mut OsiIndication<'a>)
     ensures { is_common (shown_by indication.now) ≡ false → Says shown.new reference (shown_by indication.now) }
@@ -330,8 +329,7 @@ fn tell_other<'a>(reference: u16, indication: &'a Indication, shown: &mut OsiInd
     }
 }
 
-/// What the user of a connection is shown. Each arm writes it where it is to stand: else what all of them
-/// may say would be put together first.
+/// An indication for C. Each arm writes it in place: otherwise the fields of all arms would be put together first.
 pub(crate) fn tell<'a>(reference: u16, indication: &'a Indication, shown: &mut OsiIndication<'a>)
     ensures { Says shown.new reference (shown_by indication.now) }
 {

@@ -2,7 +2,7 @@
 use Rattle.std.proofs.Common.{◌≡◌, ℕ, ◌<◌, ◌≤◌, Bool, ◌==◌, true, false, [], ◌∷◌, ◌++◌, Option, Some, None, refl, sym, ap, ◌∙◌, arith, if◌then◌else◌}
 use Rattle.osi_carrier.proofs.Vocabulary.{eqb-true, eq-eqb, RiseFrom, AreUpTo, Rows, value_at, put, without}
 
--- what is found behind a row, by whether the row has the reference
+-- what is found after a row, by whether the row has the reference
 pub found : {X : Type 0} (m q : ℕ) (y : X) (rows : Rows X) (b : Bool) → (q == m) ≡ b → value_at m ((q, y) ∷ rows) ≡ (if b then Some y else value_at m rows)
 found {X} m q y rows b e = ap (λ (c : Bool). if◌then◌else◌ {A = Option X} c (Some y) (value_at m rows)) e
 

@@ -2,7 +2,7 @@
 use Rattle.std.proofs.Common.{◌≡◌, ◌≢◌, ℕ, ◌+◌, ◌<◌, ◌≤◌, ◌==◌, Bool, true, false, [], ◌∷◌, ◌++◌, length, None, refl, arith}
 use Rattle.osi_carrier.proofs.Vocabulary.{eqb-true, RiseFrom, AreUpTo, Rows, value_at, put, without}
 
--- ---- what stands at another reference
+-- ---- the value at another reference
 
 -- the head has this reference, or not
 put_other_by : {X : Type 0} (q r p : ℕ) (x y : X) (rows : Rows X) (b c : Bool) → (p == r) ≡ b → (p == q) ≡ c → q ≢ r →
@@ -32,7 +32,7 @@ pub push_other : {X : Type 0} (q n : ℕ) (x : X) (rows : Rows X) → q ≢ n �
 push_other q n x [] other = none_there q n x (n == q) refl other
 push_other q n x ((p, y) ∷ rows) other = push_other_by q p n x y rows (p == q) refl (push_other q n x rows other)
 
--- ---- what does not stand
+-- ---- references without a value
 
 value_none : {X : Type 0} (q p : ℕ) (y : X) (rows : Rows X) (c : Bool) → (p == q) ≡ c → value_at q ((p, y) ∷ rows) ≡ None →
     (c ≡ false) × (value_at q rows ≡ None)

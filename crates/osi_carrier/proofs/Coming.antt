@@ -1,4 +1,4 @@
--- Octets that a carrier wrote are read as the units that it wrote.
+-- Octets that a carrier wrote read back as the units that it wrote.
 use Rattle.std.proofs.Common.{◌≡◌, ℕ, ◌<◌, ◌≤◌, List, [], ◌∷◌, ◌++◌, length, map, take, drop, Result, Ok, refl, sym, ap, subst, ◌∙◌, arith, append_assoc, length-append}
 use Rattle.osi_tpdu.proofs.WrittenLaws.{written_spells}
 use Rattle.osi_tpdu.proofs.PacketLaws.{units_only}

@@ -1,4 +1,4 @@
--- What a unit does, apart from what it writes: it is for one connection, and touches no other.
+-- The effect of a unit apart from what it writes: it is for one connection, and touches no other.
 use Rattle.std.proofs.Common.{◌≡◌, ◌≢◌, ℕ, ◌+◌, ◌<◌, ◌≤◌, Bool, true, false, List, [], ◌∷◌, ◌++◌, length, take, Option, Some, None, Result, Ok, Err, IsSome, is_some, nat_le, ◌||◌, refl, sym, ap, subst, ◌∙◌, ◌⊎◌, inl, inr, arith, length-append, not, if◌then◌else◌}
 use Rattle.osi_carrier.specs.declared.faults.OpenError.{OpenError}
 use Rattle.osi_carrier.specs.declared.faults.OpenError.TheVariants.{NotCaller, Ended, TooMany, ReferencesUsedUp}
@@ -9,7 +9,7 @@ use Rattle.osi_carrier.proofs.Reacts.{react_over}
 
 -- ---- how the live connections change
 
--- the rows are as they were, or another value stands at one reference, or that is dropped
+-- the rows are as they were, or one reference has another value, or it is dropped
 abbrev pub Touched : ℕ → Rows Connection → Rows Connection → Type 0
 Touched r old new = (new ≡ old) ⊎ (((c : Connection) × (new ≡ put r c old)) ⊎ (new ≡ without r old))
 
@@ -43,7 +43,7 @@ pub record Effect (r : ℕ) (old new : State) : Type 0 where
   pub one : length told ≤ 1
   pub how : How r old new
 
--- nothing is told
+-- nothing is reported
 silent : (r : ℕ) (old new : State) → new.events ≡ old.events → How r old new → Effect r old new
 silent r old new same how = record { told = []; events = same ∙ sym (append-nil old.events); about = tt; one = omega arith; how = how }
 
@@ -176,7 +176,7 @@ effect unit s = effect_by (is_some s.ended) unit s
 
 -- ---- what it gives
 
--- where a value was none, or the reference is another
+-- if a value was none, or the reference is another
 touched_other : (q r : ℕ) (old new : Rows Connection) → q ≢ r → Touched r old new → value_at q new ≡ value_at q old
 touched_other q r old new other h = grind (arith, put_other, without_other)
 
@@ -274,7 +274,7 @@ orderly_packet packet s h = orderly_acts (units_of packet) s h
 pub orderly_fresh : (is_caller : Bool) (local : Local) → IsOrderly (fresh_state is_caller local)
 orderly_fresh is_caller local = record { rise = tt; up_to = tt; given = omega arith; live = omega arith; over = λ some. refl; named = refl }
 
--- where a connection may be asked for, there is room for it
+-- if a connection may be asked for, there is room for it
 pub record MayJoin (s : State) : Type 0 where
   pub lasts : is_some s.ended ≡ false
   pub room : length s.live < 64

@@ -1,4 +1,4 @@
--- What the cutter answered, as the carrier's look at the stream.
+-- The result of the cutter, as the carrier's look at the stream.
 use Rattle.std.proofs.Common.{◌≡◌, ℕ, zero, suc, ◌+◌, ◌<◌, ◌≤◌, Bool, true, false, List, [], ◌++◌, length, take, drop, None, Result, Ok, Err, MatchBool, refl, sym, ap, subst, ◌∙◌, inl, inr, arith}
 use Rattle.osi_tpkt.specs.Cutter.{TakesPiece, Belongs, Passes}
 use Rattle.osi_carrier.proofs.Vocabulary.{append-nil, take-append-drop, length-take-le, Held, IsHolding, IsPacket, IsOnePacket, IsPartial, IsFaultOf, offset_of, Fed, TpktFault, BadVersion, BadLength, OutOfMemory, PacketActs, EndsOver, IsNoFront, Carrying, IsReading, HasToHold, Acts, after_refusal}
@@ -15,7 +15,7 @@ second_out : (b : Bool) (A B : Type 0) → MatchBool b A B → (B → ⊥) → b
 second_out true A B h never = refl
 second_out false A B h never = absurd (never h)
 
--- where any fault would have been answered, and none was
+-- if any fault would have been answered, and none was
 never_faulty : (at : ℕ) (octets : List ℕ) → ((f : TpktFault) → IsFaultOf at octets f → f ≡ OutOfMemory) → (place : ℕ) (f : TpktFault) → IsFaultOf place octets f → ⊥
 never_faulty at octets only place (BadVersion o) h = let e = only (BadVersion at) (h.0, refl) in cc
 never_faulty at octets only place (BadLength o) h = let e = only (BadLength at) (h.0, refl) in cc

@@ -1,4 +1,4 @@
--- What needs memory writes, tells or keeps something.
+-- What needs memory writes, reports or keeps something.
 use Rattle.std.proofs.Common.{◌≡◌, ℕ, ◌+◌, ◌<◌, ◌≤◌, ◌⊎◌, inl, inr, Bool, true, false, List, [], ◌∷◌, ◌++◌, length, take, drop, Option, Some, None, Result, Ok, Err, IfOk, IsOk, OnErr, ◌==◌, map, refl, sym, ap, subst, ◌∙◌, nat_lt, if◌then◌else◌, length-append, arith}
 use Rattle.osi_class.specs.Flow.{Flow, is_awaited}
 use Rattle.osi_class.specs.Joining.{Joining, joined, with_part}
@@ -54,7 +54,7 @@ grown_of peer s (Err fault) h ok = cc
 pub taken_grows : (peer : ℕ) (s : Standing) (unit : Value) → needs_memory unit ≡ true → IsOk (taken s unit) → link_grows peer s (taken s unit) ≡ true
 taken_grows peer s unit needs ok = grown_of peer s (taken s unit) (taken_by_grows peer s s.flow unit needs) ok
 
--- what a call of a link answers where there was no memory
+-- what a call of a link answers if there was no memory
 pub want_taken : {A : Type 0} (r : Result A LinkFault) (f : LinkFault) (needs : Bool) (t : Result Standing LinkFault) (old new : Standing) → r ≡ Err f → f ≡ OutOfMemory →
     TakesUnit r needs t old new → (needs ≡ true) × IsOk t
 want_taken (Err OutOfMemory) f needs t old new e g h = (h.0, h.1)
@@ -69,14 +69,14 @@ given_grows : (peer : ℕ) (s t : Standing) → nat_lt 0 (length (written_by pee
 unfolding link_grows
 given_grows peer s t some = or_left _ _ (subst (λ (n : ℕ). nat_lt 0 n ≡ true) refl some)
 
--- a unit that was taken, behind which the link gives a unit
+-- a unit that was taken, after which the link gives a unit
 pub pump_grows : (peer : ℕ) (s t u : Standing) (o : Option (List ℕ)) (r : Result Standing LinkFault) → r ≡ Ok t → Hands o t u →
     nat_lt 0 (length (written_by peer u)) ≡ true → link_grows peer s r ≡ true
 pump_grows peer s t u o r ok handed some =
     subst (λ (x : Result Standing LinkFault). link_grows peer s x ≡ true) (sym ok)
     (given_grows peer s t (subst (λ (x : Standing). nat_lt 0 (length (written_by peer x)) ≡ true) (handed_is o t u handed) some))
 
--- want of room comes only where something is to be written
+-- room is lacking only if something is to be written
 pub some_written : (us : List Value) (spare : ℕ) → (length (packets us) ≤ spare → ⊥) → nat_lt 0 (length us) ≡ true
 some_written [] spare full = absurd (full (omega arith))
 some_written (u ∷ us) spare full = lt-ltb 0 (length (u ∷ us)) (omega arith)
@@ -104,7 +104,7 @@ pub kept_grows : (old new : State) → kept_in old.live < kept_in new.live → g
 unfolding grows
 kept_grows old new more = or_right _ _ (or_right _ _ (lt-ltb (kept_in old.live) (kept_in new.live) more))
 
--- one event is told
+-- one event is reported
 pub tells_grows : (old new : State) (event : Happening) → new.events ≡ old.events ++ event ∷ [] → grows old new ≡ true
 tells_grows old new event e = told_grows old new (event ∷ []) (omega arith) e
 
@@ -200,7 +200,7 @@ pub taking_grows : (r peer : ℕ) (s : State) (t : Result Standing LinkFault) �
 taking_grows r peer s t stands h =
     taking_by r peer s (link_in (value_at r s.live)) t (open_is (value_at r s.live) peer stands) (link_cases peer (link_in (value_at r s.live)) t h)
 
--- a TSDU that became whole is told
+-- a TSDU that became whole is reported
 pub took_grows : (r peer : ℕ) (s : State) (t : Result Standing LinkFault) (whole : List ℕ) → IsOk t → whole ∷ [] ≡ whole_after t → grows s (taking r peer t s) ≡ true
 took_grows r peer s (Ok link) whole ok e =
     let one = ap length e in

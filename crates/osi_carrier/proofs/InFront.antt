@@ -1,10 +1,9 @@
--- What a carrier does hangs on no event that waits and no octet that is to be carried: it comes to the
--- same with others in front of these.
+-- The effects on a carrier don't depend on queued events and octets to send: they are the same with others in front.
 use Rattle.std.proofs.Common.{◌≡◌, ℕ, ◌+◌, Bool, true, false, List, [], ◌∷◌, ◌++◌, take, map, Option, Some, None, Result, Ok, Err, is_some, refl, ap, ◌∙◌, append_assoc, if◌then◌else◌}
 use Rattle.osi_carrier.specs.Runs.UserCall.{closes as closing_call, breaks as breaking_call}
 use Rattle.osi_carrier.proofs.Vocabulary.{connection_by, units_of, Value, Connect, request, confirm, disconnect, disconnected, data0, error, TpduFault, Standing, taken, Selection, accept, refuse, selected_by, LinkFault, Class, Zero, Two, sent_on, open_link, closes, closed_on, Happening, opened, refused, tsdu, closed, faulted, proposal, acceptance, confirmed, agreed_size, opened_link, acts_by, after_packet, written_by, pumped, denies, tsaps_of, answers, is_full, has_peer, answers_request, to_unknown, opens, to_asked, handed_out, pumps, tells_of, settles, taking, breaks, leaves, to_linked, to_closing, to_connection, to_reference, before_class, to_only, in_zero, in_two, in_class, react, react_by, reacts, Rows, value_at, UserCall, Act, user_does, does, all_done, put_back, connects, sends, packet, user, Connection, asked, linked, closing, State, writes, tells, joins, moves, drops, ends, packets, EndReason, sent_all, sends_all, sent}
 
--- these events and octets stand in front
+-- with these events and octets in front
 module _ (e : List Happening) (o : List ℕ) where
   apart_writes : (units : List Value) (s : State) → writes units (put_back e o s) ≡ put_back e o (writes units s)
   apart_writes units s = ap (λ out. record s { events = e ++ s.events; outgoing = out }) (append_assoc o s.outgoing (packets units))
@@ -15,7 +14,7 @@ module _ (e : List Happening) (o : List ℕ) where
   apart_tells : (event : Happening) (s : State) → tells event (put_back e o s) ≡ put_back e o (tells event s)
   apart_tells event s = ap (λ waiting. record s { events = waiting; outgoing = o ++ s.outgoing }) (append_assoc e s.events (event ∷ []))
 
-  -- an event is told behind units that are written
+  -- an event is reported after units that are written
   apart_both : (event : Happening) (units : List Value) (s : State) → tells event (writes units (put_back e o s)) ≡ put_back e o (tells event (writes units s))
   apart_both event units s = ap (tells event) (apart_writes units s) ∙ apart_tells event (writes units s)
 

@@ -1,4 +1,4 @@
--- What a carrier keeps of what came is bounded.
+-- The octets that a carrier keeps of its input are bounded.
 use Rattle.std.proofs.Common.{ℕ, ◌≤◌, List, length, ap, arith, length-append}
 use Rattle.osi_tpkt.specs.Packet.{IsPartial}
 

@@ -1,4 +1,4 @@
--- Where one list of pieces does not end a carrier, no other with the same octets does.
+-- If one list of pieces does not end a carrier, no other with the same octets does.
 use Rattle.std.proofs.Common.{◌≡◌, ℕ, ◌≤◌, ◌||◌, Bool, true, false, List, [], ◌∷◌, ◌++◌, length, take, drop, map, Option, Some, None, Result, is_some, refl, sym, ap, subst, ◌∙◌, ◌⊎◌, inl, inr, arith, append_assoc, length-append, if◌then◌else◌}
 use Rattle.osi_carrier.proofs.Vocabulary.{append-nil, take_all, take-append-drop, get_or_append_left, flat_map, IsPacket, IsOnePacket, IsPartial, IsFaultOf, stated_length-append, ArePackets, Faulty, Fed, TpktFault, partial_no_fault, end_no_packet, units_of, Value, TpduFault, Tells, Happening, Carrying, Feeds, Goes, acts_by, after_packet, waits, is_spoilt, UserCall, Call, all_done, packet_in, Calls, CallsAlong, used_in, told_in, carried_in, called_in, put_back, packet, feeding, telling, carrying, calling, State, EndReason, NoMemory}
 use Rattle.osi_carrier.proofs.InFront.{apart_all}
@@ -98,7 +98,7 @@ pub no_fault : PacketLaws → (at : ℕ) (ws : List (List ℕ)) (r t rest : List
 no_fault laws at [] r t rest f fault partial h = partial_no_fault at r f (laws.front r t (subst IsPartial (sym h) partial)) fault
 no_fault laws at (u ∷ ws) r t rest f fault partial h = end_no_packet at (r ++ t) (Faulty f) (fault_behind at r t f fault) u h.0 h.1 h.2 h.3
 
--- the octets up to the packet that stopped stand in front of those that were used
+-- the octets up to the packet that stopped come before those that were used
 pub front_used : (b : Bool) (piece : List ℕ) (used within : ℕ) → within ≤ length piece → used ≡ (if b then length piece else within) →
     (t : List ℕ) × (take used piece ≡ take within piece ++ t)
 front_used true piece used within bound e = (drop within piece, take_all used piece (omega arith) ∙ sym (take-append-drop within piece))
@@ -142,7 +142,7 @@ over_one laws old (telling event) new later none quiet lasts h over = never new.
 over_one laws old (carrying octets) new later none quiet lasts h over = never new.state over (ap (λ (x : Carrying). x.state.ended) (sym h) ∙ quiet)
 over_one laws old (calling call) new later none quiet lasts h over = absurd cc
 
--- what is left of them does not end the carrier behind a call
+-- what is left of them does not end the carrier after a call
 lasts_on : PacketLaws → (old : Carrying) (call : Call) (new : Carrying) (later : List ℕ) → called_in call ≡ [] → ReadsOne old call new →
     Lasts old (old.held.octets ++ (used_in call ++ later)) → Lasts new (new.held.octets ++ later)
 lasts_on laws old call new later none one lasts =

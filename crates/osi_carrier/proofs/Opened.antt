@@ -17,7 +17,7 @@ not_open r s e = link_by (is_some s.ended) (link_of (value_at r s.live)) e
 pub no_link : (r : ℕ) (s : State) → value_at r s.live ≡ None → open_link r s ≡ None
 no_link r s e = not_open r s (ap link_of e)
 
--- a TSDU that waits at an open connection waits at its link
+-- a TSDU that is queued at an open connection is queued at its link
 waits_by : (over : Bool) (o : Option Connection) (octets : List ℕ) → WaitsOn (if over then None else link_of o) octets → WaitsAlone (link_in o) octets
 waits_by false (Some (linked peer link)) octets h = h
 waits_by over o octets h = absurd h

@@ -1,4 +1,4 @@
--- Rows that rise by a key, as a reference: each key stands at one place, and what keeps them rising.
+-- Rows that rise by a key, such as a reference: each key has one place, and what preserves the order.
 use Rattle.std.proofs.Common.{◌≡◌, ℕ, Bool, zero, suc, ◌<◌, ◌≤◌, ◌==◌, true, false, List, [], ◌∷◌, ◌++◌, length, get_or, set, Some, Result, Ok, Err, refl, sym, ap, subst, ◌∙◌, arith, None, inl, inr}
 use Rattle.std.specs.List.Sorted.{IsSearchInRange, IsBinarySearchResult, IsNonDecreasingBy}
 use Rattle.std.specs.Ordering.{nat_cmp, ordering_index}
@@ -35,9 +35,9 @@ place_here key r rows i d h within here =
     (λ inside. eq-eqb (key (get_or rows i d)) r here) in
     grind (arith, common_steps)
 
--- ---- a key that is looked for by halves
+-- ---- a key found by binary search
 
--- a row's key is at most that of a row behind it, or its own
+-- a row's key is at most that of a row after it, or its own
 up_to_at : {X : Type 0} (key : X → ℕ) (n : ℕ) (rows : List X) (i k : ℕ) (d : X) → RiseBy key n rows → i < length rows → k ≤ i → key (get_or rows k d) ≤ key (get_or rows i d)
 up_to_at key n (y ∷ rows) zero zero d h within less = omega arith
 up_to_at key n (y ∷ rows) (suc i) zero d h within less = let above = above_at key (key y) rows i d h.1 (omega arith) in omega arith

@@ -1,5 +1,5 @@
--- How a list of calls ends a carrier: behind a packet, or at a fault of the stream. Two lists with the same
--- octets end it alike.
+-- How a list of calls ends a carrier: after a packet, or at a fault of the stream. Two lists with the same octets end
+-- it alike.
 use Rattle.std.proofs.Common.{◌≡◌, ℕ, ◌+◌, ◌-◌, ◌<◌, ◌≤◌, ◌^◌, ◌||◌, Bool, true, false, List, [], ◌∷◌, ◌++◌, length, take, map, Option, Some, None, is_some, refl, sym, ap, subst, ◌∙◌, ◌⊎◌, inl, inr, arith, append_assoc, length-append}
 use Rattle.osi_carrier.specs.declared.ends.CarrierFault.TheVariants.{Tpkt}
 use Rattle.osi_carrier.proofs.Vocabulary.{append-nil, take_all, flat_map, IsPartial, IsFaultOf, ArePackets, offset_of, Faulty, Fed, TpktFault, Held, one_fault, end_no_packet, Tells, Happening, Carrying, Feeds, Goes, TakesPackets, after_packet, waits, stops, is_spoilt, Call, all_done, packet_in, Calls, CallsAlong, used_in, told_in, carried_in, called_in, put_back, EndAlike, packet, feeding, telling, carrying, calling, State, fails, EndReason, NoMemory}
@@ -11,7 +11,7 @@ use Rattle.osi_carrier.proofs.Reading.{packets_leave, packets_more}
 
 -- ---- two lists of packets at the front of the same octets
 
--- the one goes on where the other ends
+-- one continues where the other ends
 pub record Further (us vs : List (List ℕ)) (q r : List ℕ) : Type 0 where
   pub more : List (List ℕ)
   pub all : us ≡ vs ++ more
@@ -47,7 +47,7 @@ record InPacket (old : State) (s : List ℕ) (final : State) : Type 0 where
   over : is_some (after (before ++ last ∷ []) old).ended ≡ true
   state : final ≡ after (before ++ last ∷ []) old
 
--- behind these packets the stream has a fault
+-- after these packets the stream has a fault
 record InFault (old : State) (at : ℕ) (s : List ℕ) (final : State) : Type 0 where
   before : List (List ℕ)
   rest : List ℕ
@@ -66,7 +66,7 @@ after_more us vs more old all = grind (arith, map_joined, all_joined, map)
 over_front : (us vs more : List (List ℕ)) (old : State) → us ≡ vs ++ more → is_some (after vs old).ended ≡ true → is_some (after us old).ended ≡ true
 over_front us vs more old all over = ap (λ (s : State). is_some s.ended) (after_more us vs more old all) ∙ packets_over more (after vs old) over
 
--- what stands in front of the last packet
+-- the packets before the last one
 pub init_front : (before ws ms : List (List ℕ)) (last m : List ℕ) → before ++ last ∷ [] ≡ ws ++ m ∷ ms → (more : List (List ℕ)) × (before ≡ ws ++ more)
 init_front before [] ms last m e = (before, refl)
 init_front [] (w ∷ []) ms last m e = let none : [] ≡ m ∷ ms = cc in cc
@@ -198,7 +198,7 @@ ends_one old (telling event) new later none quiet h over full = never new.state 
 ends_one old (carrying octets) new later none quiet h over full = never new.state over (ap (λ (x : Carrying). x.state.ended) (sym h) ∙ quiet)
 ends_one old (calling call) new later none quiet h over full = absurd cc
 
--- ---- behind the end
+-- ---- after the end
 
 record Stays (old : Carrying) (told : List Happening) (carried : List ℕ) (new : Carrying) : Type 0 where
   state : put_back told carried new.state ≡ old.state
@@ -224,11 +224,11 @@ stays_along old (call ∷ calls) new none over h =
 
 -- ---- calls one after the other
 
--- an offset behind octets of which these are held, and behind more
+-- an offset after octets of which these are held, and after more
 pub offsets_join : (at mid s m t r : ℕ) → mid ≡ offset_of (at + (s - m)) → m ≤ s → r ≤ m + t → offset_of (mid + ((m + t) - r)) ≡ offset_of (at + ((s + t) - r))
 offsets_join at mid s m t r e less few = omega arith
 
--- what packets did behind the call
+-- what packets did after the call
 behind_call : (told : List Happening) (carried : List ℕ) (vs more us : List (List ℕ)) (old mid : State) → us ≡ vs ++ more → put_back told carried mid ≡ after vs old → after us old ≡ put_back told carried (after more mid)
 behind_call told carried vs more us old mid all e =
     after_more us vs more old all ∙ ap (after more) (sym e) ∙ apart_all told carried (map packet more) mid

@@ -1,4 +1,4 @@
--- Over every run of calls a carrier has done what the packets of the octets used and its user's calls do.
+-- Over every run of calls, a carrier has done exactly what the packets of the octets used and its user's calls do.
 use Rattle.std.proofs.Common.{◌≡◌, ℕ, ◌+◌, ◌-◌, ◌<◌, ◌^◌, ◌||◌, Bool, true, false, List, [], ◌∷◌, ◌++◌, length, take, map, Option, Some, None, is_some, refl, sym, ap, subst, ◌∙◌, inl, inr, arith, append_assoc, length-append, if◌then◌else◌}
 use Rattle.std.proofs.lemmas.List.Concat.{flat_map-append}
 pub use Rattle.osi_tpkt.proofs.Runs.{packets_joined}

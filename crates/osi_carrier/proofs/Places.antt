@@ -1,9 +1,9 @@
--- What stands at the place of a reference, and what a write there leaves; no place, no value.
+-- The row at the place of a reference, and the effect of a write there; no place, no value.
 use Rattle.std.proofs.Common.{◌≡◌, ℕ, Bool, zero, suc, ◌+◌, ◌<◌, ◌≤◌, ◌==◌, true, false, [], ◌∷◌, length, get_or, set, Option, Some, None, is_some, Result, Ok, Err, OnOk, refl, sym, ap, ◌∙◌, arith}
 use Rattle.std.proofs.lemmas.List.Quantifiers.{position-Some}
 use Rattle.osi_carrier.proofs.Vocabulary.{common_steps, position_or_len, remove, eqb-true, Connection, asked, Rows, value_at, place_of, put, without}
 
--- where the place `i` of a reference is, `d` being any row
+-- if the place `i` of a reference is, `d` being any row
 pub record IsPlace {X : Type 0} (r : ℕ) (rows : Rows X) (i : ℕ) (d : ℕ × X) : Type 0 where
   pub within : i < length rows
   pub named : (get_or rows i d).0 ≡ r
@@ -39,7 +39,7 @@ placed r rows i d e =
     let p = position-Some (λ row. row.0 == r) rows i d e in
     placed_at r rows i d p.0 p.1 p.2
 
--- the row at the place of a reference has its value, where the rows are held under another name
+-- the row at the place of a reference has its value, if the rows are held under another name
 pub here_is : {X : Type 0} (r : ℕ) (rows items : Rows X) (i : ℕ) (row : ℕ × X) → place_of r rows ≡ Some i → row ≡ get_or items i row → items ≡ rows → value_at r rows ≡ Some row.1
 here_is r rows items i row e here same = (placed r rows i row e).there ∙ ap (λ (x : ℕ × _). Some x.1) (sym (here ∙ ap (λ l. get_or l i row) same))
 

@@ -6,7 +6,7 @@ pub packets_join : (us vs : List Value) → packets (us ++ vs) ≡ packets us ++
 packets_join [] vs = refl
 packets_join (u ∷ us) vs = ap (λ l. packet_of (written u) ++ l) (packets_join us vs) ∙ sym (append_assoc (packet_of (written u)) (packets us) (packets vs))
 
--- some units of a link were written, and the link stands behind them
+-- some units of a link were written, and this is the link after them
 pub record IsPumping (peer : ℕ) (first : Standing) (before : List ℕ) (now : Standing) (octets : List ℕ) : Type 0 where
   pub more : List ℕ
   pub is : octets ≡ before ++ more
@@ -44,7 +44,7 @@ pub pumping_full : (peer : ℕ) (first now : Standing) (before octets after : Li
     after ≡ octets → take (length before) after ≡ before
 pumping_full peer first now before octets after h same = ap (take (length before)) (same ∙ h.is) ∙ take_at before h.more (length before) refl
 
--- the room that is left serves for the units behind
+-- the room that is left serves for the units after
 pub pumping_room : (peer : ℕ) (now next : Standing) (unit : Given) → drained now ≡ record { units = unit ∷ (drained next).units; link = (drained next).link } →
     length (packets (written_by peer now)) ≡ length (packets (unit_of peer unit ∷ [])) + length (packets (written_by peer next))
 pumping_room peer now next unit e =
@@ -52,7 +52,7 @@ pumping_room peer now next unit e =
     ap (λ us. length (packets us)) given ∙ ap length (packets_join (unit_of peer unit ∷ []) (written_by peer next))
     ∙ length-append (packets (unit_of peer unit ∷ [])) (packets (written_by peer next))
 
--- where the next unit finds no room, there was none for all
+-- if the next unit finds no room, there was none for all
 pub pumping_short : (peer : ℕ) (first now then : Standing) (unit : Given) (room left : ℕ) → drained now ≡ record { units = unit ∷ (drained then).units; link = (drained then).link } →
     (length (packets (written_by peer first)) ≤ room → length (packets (written_by peer now)) ≤ left) → left < length (packets (unit_of peer unit ∷ [])) → room < length (packets (written_by peer first))
 pumping_short peer first now then unit room left e more full =
@@ -75,7 +75,7 @@ packets_most peer (u ∷ units) =
     let joined = length-append (packet_of (written (unit_of peer u))) (packets (map (unit_of peer) units)) in
     omega arith
 
--- where a link gives one unit and then none, the link after it
+-- if a link gives one unit and then none, the link after it
 pub whole_link : (s new : Standing) (unit : Given) → drained s ≡ record { units = unit ∷ (drained new).units; link = (drained new).link } →
     drained new ≡ record { units = []; link = new } → new ≡ pumped s
 whole_link s new unit first last = sym (ap (λ (d : Drained). d.link) first ∙ ap (λ (d : Drained). d.link) last)

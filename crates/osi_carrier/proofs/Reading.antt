@@ -1,4 +1,4 @@
--- A piece of the stream, read packet by packet.
+-- Reading a piece of the stream, packet by packet.
 use Rattle.std.proofs.Common.{◌≡◌, ℕ, ◌+◌, ◌-◌, ◌*◌, ◌<◌, ◌≤◌, ◌||◌, true, false, Bool, List, [], ◌∷◌, ◌++◌, length, take, drop, Option, Some, None, Result, Ok, Err, is_some, refl, sym, ap, subst, ◌∙◌, inl, inr, ◌⊎◌, arith, length-append, length-take, append_assoc, if◌then◌else◌}
 use Rattle.std.proofs.Math.Seq.{drop-append_seam}
 use Rattle.osi_carrier.proofs.Vocabulary.{append-nil, take-append-drop, take_at, IsPacket, IsFaultOf, ArePackets, offset_of, Fed, TpktFault, BadVersion, BadLength, OutOfMemory, units_of, Value, TpduFault, PacketActs, PartHeld, Faults, LacksRoom, EndsOver, Carrying, IsReading, Acts, ActsBy, acts_by, after_packet, stops, waits, is_spoilt, TakesPackets, StopsBehind, Starves, HasToHold, FindsNoMemory, Goes, Feeds, RunsOut, State, EndReason}
@@ -37,7 +37,7 @@ pub acts_cases : (old new : State) (packet : List ℕ) → Acts old packet new �
 unfolding after_packet
 acts_cases old new packet h = acts_by_cases (units_of packet) old new h
 
--- ---- where reading a piece is
+-- ---- the progress of reading a piece
 
 -- the packets in front of `rest` have acted, and none of them stopped
 pub record IsRead (old : Carrying) (piece : List ℕ) (now : Carrying) (rest : List ℕ) : Type 0 where

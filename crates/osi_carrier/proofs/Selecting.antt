@@ -1,4 +1,4 @@
--- Which rule a CR falls under.
+-- Which rule applies to a CR.
 use Rattle.std.proofs.Common.{◌≡◌, ◌<◌, false, length, Result, Ok, Err, OnOk, ap, ◌∙◌, arith}
 use Rattle.osi_carrier.proofs.Vocabulary.{nat_tests, Connect, Selection, selected_by, answers_request, answers, has_peer, is_full, State}
 

@@ -25,7 +25,7 @@ no_items items (v ∷ vs) h = absurd (omega arith)
 
 -- ---- an open connection
 
--- the value that was put last stands there
+-- the value there is the one that was put last
 put_twice_by : {X : Type 0} (r q : ℕ) (x y z : X) (rows : Rows X) (b : Bool) → (q == r) ≡ b → put r x (put r y rows) ≡ put r x rows →
     put r x (put r y ((q, z) ∷ rows)) ≡ put r x ((q, z) ∷ rows)
 put_twice_by r q x y z rows true e more = rw e (rw e refl)
@@ -72,7 +72,7 @@ pub sent_open : (r peer : ℕ) (ts : List (List ℕ)) (s : State) → s.ended �
     pumps_all r peer (link_in (value_at r s.live)) ts s ≡ sent_all r ts s
 sent_open r peer ts s alive e = sym (all_sent r peer (link_in (value_at r s.live)) ts s alive (open_is (value_at r s.live) peer e))
 
--- nothing is sent where there is nothing
+-- nothing is sent if there is nothing
 pub sends_none : (r peer : ℕ) (ts : List (List ℕ)) (s : State) → ts ≡ [] → peer_in (value_at r s.live) ≡ Some peer →
     s ≡ pumps_all r peer (link_in (value_at r s.live)) ts s
 sends_none r peer ts s none e =

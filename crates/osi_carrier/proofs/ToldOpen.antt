@@ -16,7 +16,7 @@ other_than q r e same = let t : (q == r) ≡ true = eq-eqb q r (sym same) in cc
 next_none : (given : ℕ) (rows : Rows Connection) → AreUpTo given rows → value_at (given + 1) rows ≡ None
 next_none given rows h = beyond (given + 1) given rows h (omega arith)
 
--- ---- whether an open connection stands there
+-- ---- whether there is an open connection
 
 abbrev open_in : ℕ → Rows Connection → Bool
 open_in r rows = is_some (link_of (value_at r rows))
@@ -40,7 +40,7 @@ open_push r n x rows b e h = grind (arith, is_some, eqb-true, push_here, push_ot
 open_was : (r q : ℕ) (y : Connection) (rows : Rows Connection) → (q == r) ≡ true → value_at q rows ≡ Some y → open_in r rows ≡ is_link y
 open_was r q y rows e h = ap (λ o. is_some (link_of o)) (subst (λ n. value_at n rows ≡ Some y) (eqb-true q r e) h)
 
--- ---- what is told
+-- ---- what is reported
 
 or_true : (b : Bool) → true ≡ (b || true)
 or_true b = grind arith
@@ -68,7 +68,7 @@ still_told r s = same_told r s s refl refl
 over_told : {B : Type 0} (reason : EndReason) (s : State) → (ends reason s).ended ≡ None → B
 over_told reason s h = absurd cc
 
--- it opens: nothing stood there, or a connection that was not open
+-- it opens: there was no connection, or one that was not open
 opens_told : (r q : ℕ) (b : Bool) (old new : State) → (q == r) ≡ b → new.events ≡ old.events ++ opened q ∷ [] →
     open_in r new.live ≡ (if b then true else open_in r old.live) → Told r old new
 opens_told r q b old new e events is = grind (arith, or_true, or_false)
@@ -78,7 +78,7 @@ leaves_told : (r q : ℕ) (b : Bool) (old new : State) (event : Happening) → (
     ((was : Bool) → open_after r was (event ∷ []) ≡ (was && not (q == r))) → open_in r new.live ≡ (if b then false else open_in r old.live) → Told r old new
 leaves_told r q b old new event e events means is = grind (arith, and_false, and_true)
 
--- one that was not open, or stays open, at whose reference nothing is told of that
+-- one that was not open, or stays open, of which nothing is reported
 stays_told : (r q : ℕ) (b was : Bool) (old : Rows Connection) (now : Bool) → (q == r) ≡ b → ((q == r) ≡ true → open_in r old ≡ was) →
     now ≡ (if b then was else open_in r old) → now ≡ open_in r old
 stays_told r q b was old now e here is = grind arith
@@ -278,7 +278,7 @@ at_end over a b e = grind arith
 pub asks_opens : (calling called : Option (List ℕ)) (s : State) (r : ℕ) → IsOrderly s → is_open r (asks calling called s) ≡ is_open r s
 asks_opens calling called s r o = grind (arith, at_end, is_some, asks_by)
 
--- a link that is open stands among the live connections of a carrier that has not ended
+-- an open link is one of a live connection of a carrier that has not ended
 link_there : (q peer : ℕ) (link : Standing) (over : Bool) (o : Option Connection) → (if over then None else link_of o) ≡ Some (peer, link) →
     (o ≡ Some (linked peer link)) × (over ≡ false)
 link_there q peer link over o h = grind arith

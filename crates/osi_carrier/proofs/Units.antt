@@ -1,4 +1,4 @@
--- How long the written form of a unit is, and that one unit makes one packet.
+-- The length of the written form of a unit, and that one unit makes one packet.
 use Rattle.std.proofs.Common.{◌≡◌, ℕ, ◌+◌, ◌≤◌, [], ◌∷◌, length, ap, arith, length-append}
 use Rattle.osi_carrier.proofs.Vocabulary.{append-nil, packet_of, Value, request, confirm, data0, data2, acknowledge, user_data, written, written_header, Fits, header_octets, octets_of, Given, part0, part2, ack, unit_of, packets}
 

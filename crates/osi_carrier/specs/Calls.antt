@@ -1,4 +1,4 @@
--- What the calls of a carrier's user answer and do.
+-- The results and effects of the calls of a carrier's user.
 use Rattle.std.specs.Prelude.{◌≡◌, ℕ, ◌+◌, Bool, List, [], ◌∷◌, length, nat_le, nat_lt, Option, Some, None, is_some, not, if◌then◌else◌}
 use Rattle.std.specs.List.{list_any, sum_by}
 use Rattle.osi_tpdu.specs.Value.{request, disconnect}
@@ -20,13 +20,13 @@ use Rattle.osi_carrier.specs.declared.faults.OpenError.TheVariants.{NotCaller, E
 use Rattle.osi_carrier.specs.declared.faults.SendError.{SendError}
 use Rattle.osi_carrier.specs.declared.faults.SendError.TheVariants.{NotOpen, TooLong, OutOfMemory as NoRoom}
 
--- a carrier on which nothing has happened
+-- a fresh carrier
 abbrev pub fresh_state : Bool → Local → State
 fresh_state is_caller local = record { is_caller = is_caller; local = local; class = None; given = 0; live = []; tsaps = []; outgoing = []; events = []; ended = None }
 
 -- ---- connect
 
--- by the class that holds: the first answer is awaited, or class 0 has its one connection
+-- by the agreed class: the first answer is awaited, or class 0 has its one connection
 abbrev pub class_error : Option Class → Rows Connection → Option OpenError
 class_error None live = if nat_lt 0 (length live) then Some Negotiating else None
 class_error (Some Zero) live = Some OneConnection
@@ -39,14 +39,14 @@ or_else (Some e) other = Some e
 abbrev pub room_error : State → Option OpenError
 room_error s = if nat_le 64 (length s.live) then Some TooMany else (if nat_le 65535 s.given then Some ReferencesUsedUp else None)
 
--- why no connection can be asked for now, the first reason in the order of the errors
+-- why no connection can be requested now: the first reason in the order of the errors
 abbrev pub may_connect : State → Option OpenError
 may_connect s =
     if not s.is_caller then Some NotCaller
     else (if is_some s.ended then Some Ended
     else or_else (class_error s.class s.live) (room_error s))
 
--- an error as the rules give it: want of memory comes where they give none
+-- an error that the rules give; if they give none, it is an allocation failure
 abbrev pub open_error : OpenError → Option OpenError
 open_error OutOfMemory = None
 open_error NotCaller = Some NotCaller
@@ -79,7 +79,7 @@ open_link r s = if is_some s.ended then None else link_of (value_at r s.live)
 abbrev pub length_error : List ℕ → Option SendError
 length_error tsdu = if nat_lt 1048576 (length tsdu) then Some TooLong else None
 
--- why a TSDU is not sent, the first reason in the order of the errors
+-- why a TSDU is not sent: the first reason in the order of the errors
 abbrev pub send_error : List ℕ → Option (ℕ × Standing) → Option SendError
 send_error tsdu None = Some NotOpen
 send_error tsdu (Some link) = length_error tsdu
@@ -97,13 +97,13 @@ abbrev pub close_error : Option (ℕ × Standing) → Option SendError
 close_error None = Some NotOpen
 close_error (Some link) = None
 
--- an error as the rules give it: want of memory comes where they give none
+-- an error that the rules give; if they give none, it is an allocation failure
 abbrev pub call_error : SendError → Option SendError
 call_error NoRoom = None
 call_error NotOpen = Some NotOpen
 call_error TooLong = Some TooLong
 
--- a TSDU is handed in, and all that may be sent now is written
+-- a TSDU is handed in, and everything that may be sent now is written
 abbrev pub sent_on : ℕ → List ℕ → Option (ℕ × Standing) → State → State
 sent_on r tsdu None s = s
 sent_on r tsdu (Some (peer, link)) s = pumps r peer (with_tsdu link tsdu) s
@@ -111,16 +111,16 @@ sent_on r tsdu (Some (peer, link)) s = pumps r peer (with_tsdu link tsdu) s
 abbrev pub sent : ℕ → List ℕ → State → State
 sent r tsdu s = sent_on r tsdu (open_link r s) s
 
--- TSDUs that are sent together are as if each was sent by itself, one after the other
+-- TSDUs that are sent together have the effect of sending them one after the other
 abbrev pub sent_all : ℕ → List (List ℕ) → State → State
 sent_all r [] s = s
 sent_all r (tsdu ∷ tsdus) s = sent_all r tsdus (sent r tsdu s)
 
--- what that does at an open connection
+-- the effect of that on an open connection
 abbrev pub pumps_all : ℕ → ℕ → Standing → List (List ℕ) → State → State
 pumps_all r peer link tsdus s = moves r (linked peer (one_by_one link tsdus)) (writes (written_for peer link tsdus) s)
 
--- A TSDU that is handed in now waits at its link, and nothing else does: none of it may go now.
+-- A TSDU that is handed in now only waits at its link: none of it may be sent now.
 pub record WaitsAlone (link : Standing) (tsdu : List ℕ) : Type 0 where
   pub alone : link.ends.unsent ≡ []
   pub none : next (with_tsdu link tsdu) ≡ None
@@ -144,7 +144,7 @@ closed_with r reason s = closed_on r reason (open_link r s) s
 
 -- ---- the end, what is kept, and what is unsent
 
--- an end stays as it is
+-- an end that has ended stays as it is
 abbrev pub ended_by : EndReason → State → State
 ended_by reason s = if is_some s.ended then s else ends reason s
 
@@ -179,7 +179,7 @@ tsaps_at r s = value_at r s.tsaps
 
 -- ---- events
 
--- the oldest event is told, none exactly where none waits
+-- the oldest event is reported; none exactly if none is queued
 abbrev pub Tells : Option Happening → State → State → Type 0
 Tells None old new = (old.events ≡ []) × (new ≡ old)
 Tells (Some event) old new = old ≡ record new { events = event ∷ new.events }

@@ -1,4 +1,4 @@
--- What one look at the stream does: up to the end of the first packet that stands whole.
+-- The effect of one look at the stream, up to the end of the first complete packet.
 use Rattle.std.specs.Prelude.{◌≡◌, ◌≢◌, ℕ, ◌+◌, ◌<◌, ◌≤◌, List, [], ◌++◌, length, take, ◌⊎◌}
 use Rattle.osi_tpkt.specs.Packet.{IsPacket, IsPartial, IsFaultOf}
 use Rattle.osi_tpkt.specs.Stream.{offset_of}
@@ -10,7 +10,7 @@ use Rattle.osi_carrier.specs.declared.carrier.feeding.Fetched.TheVariants.{Packe
 use Rattle.osi_carrier.specs.declared.ends.CarrierFault.TheVariants.{Tpkt}
 use Rattle.osi_carrier.specs.declared.ends.EndReason.TheVariants.{NoMemory}
 
--- so many octets made a packet whole, which acted and was dropped
+-- this many octets completed a packet, which took effect and was dropped
 pub record PacketActs (old : Carrying) (octets : List ℕ) (used : ℕ) (new : Carrying) : Type 0 where
   pub packet : List ℕ
   pub some : 0 < used
@@ -22,7 +22,7 @@ pub record PacketActs (old : Carrying) (octets : List ℕ) (used : ℕ) (new : C
   pub offset : new.held.offset ≡ offset_of (old.held.offset + length (old.held.octets ++ take used octets))
   pub room : old.held.room ≤ new.held.room
 
--- the octets are held, and the packet's end has not come
+-- the octets are held, and the packet is unfinished
 pub record PartHeld (old : Carrying) (octets : List ℕ) (new : Carrying) : Type 0 where
   pub state : new.state ≡ old.state
   pub held : new.held.octets ≡ old.held.octets ++ octets
@@ -35,13 +35,13 @@ pub record Faults (old : Carrying) (octets : List ℕ) (new : Carrying) : Type 0
   pub is : IsFaultOf old.held.offset (old.held.octets ++ octets) fault
   pub ended : new.state ≡ fails (Tpkt fault) old.state
 
--- there was no memory to hold octets that have to be held, and no fault behind what was
+-- memory ran out for octets that have to be held, and they have no fault
 pub record LacksRoom (old : Carrying) (octets : List ℕ) (new : Carrying) : Type 0 where
   pub faultless : (at : ℕ) (fault : TpktFault) → IsFaultOf at (old.held.octets ++ octets) fault → ⊥
   pub holds : HasToHold old.held.room old.held.octets octets
   pub ended : new.state ≡ ends NoMemory old.state
 
--- what was held and the octets are no packet, or there was no memory; nothing is held any more
+-- the octets held and these are no packet, or memory ran out; nothing is held any more
 pub record EndsOver (old : Carrying) (octets : List ℕ) (new : Carrying) : Type 0 where
   pub how : Faults old octets new ⊎ LacksRoom old octets new
   pub held : new.held.octets ≡ []
@@ -51,6 +51,6 @@ Fetches old octets (Packet used) new = PacketActs old octets used new
 Fetches old octets Part new = PartHeld old octets new
 Fetches old octets Over new = EndsOver old octets new
 
--- no packet stands whole at the front of these octets
+-- there is no complete packet at the front of these octets
 abbrev pub IsNoFront : List ℕ → Type 0
 IsNoFront octets = (unit packet rest : List ℕ) → IsPacket unit packet → octets ≢ packet ++ rest

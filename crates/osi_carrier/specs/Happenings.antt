@@ -1,4 +1,4 @@
--- What a carrier tells its user, apart from where the octets of a TSDU lie.
+-- The events that a carrier reports, wherever the octets of a TSDU lie.
 use Rattle.std.specs.Prelude.{ℕ, List}
 use Rattle.osi_class.specs.declared.faults.LinkFault.{LinkFault}
 use Rattle.osi_carrier.specs.declared.events.Event.{Event}

@@ -11,7 +11,7 @@ connection Asked = asked
 connection (Linked peer link) = linked peer (any_standing link)
 connection (Closing peer) = closing peer
 
--- all that an open link gives now was written
+-- everything that an open link gives now has been written
 abbrev pub IsPumped : Connection → Type 0
 IsPumped asked = Unit {0}
 IsPumped (linked peer link) = next link ≡ None

@@ -1,4 +1,4 @@
--- What is true of the live connections of every carrier, and what one unit changes.
+-- The invariant of the live connections of every carrier, and what one unit changes.
 use Rattle.std.specs.Prelude.{◌≡◌, ◌≢◌, ℕ, ◌+◌, ◌≤◌, List, [], ◌∷◌, ◌++◌, length, Option, Some, None, IsSome}
 use Rattle.std.specs.List.{AllByRecursion}
 use Rattle.osi_tpdu.specs.Value.{Value, destination_of}
@@ -21,9 +21,8 @@ abbrev pub AreUpTo : {X : Type 0} → ℕ → Rows X → Type 0
 AreUpTo n [] = Unit {0}
 AreUpTo n ((r, x) ∷ rows) = (r ≤ n) × AreUpTo n rows
 
--- true of every carrier: live connections have references that were given and rise, of which there are
--- at most 65,535; at most 64 are live, and after the end none; each of them has its transport selectors,
--- and no other connection
+-- the invariant of every carrier: live connections have references that were given, in rising order, at most 65,535
+-- were given, at most 64 are live, and none after the end; exactly the live connections have transport selectors
 pub record IsOrderly (s : State) : Type 0 where
   pub rise : RiseFrom 0 s.live
   pub up_to : AreUpTo s.given s.live
@@ -60,7 +59,7 @@ told_of (tsdu r octets) = r
 told_of (closed r reason) = r
 told_of (faulted r fault) = r
 
--- All other connections stand as they did, and at most one event is told, of this one.
+-- All other connections are as they were, and at most one event is reported, of this connection.
 pub record ChangesOne (r : ℕ) (old new : State) : Type 0 where
   pub others : (q : ℕ) → q ≢ r → value_at q new.live ≡ value_at q old.live
   pub told : List Happening

@@ -1,4 +1,4 @@
--- What packets do to a carrier, and what feeding a piece of the stream does.
+-- The effect of packets on a carrier, and of feeding a piece of the stream.
 use Rattle.std.specs.Prelude.{◌≡◌, ℕ, ◌+◌, ◌-◌, ◌<◌, ◌≤◌, ◌||◌, ◌==◌, not, Bool, true, false, List, [], ◌∷◌, ◌++◌, length, take, drop, Option, Some, None, is_some, IsSome, Result, Ok, Err, ◌⊎◌, if◌then◌else◌}
 use Rattle.osi_tpkt.specs.Cutter.{Belongs}
 use Rattle.osi_tpkt.specs.Held.{Held, IsHolding}
@@ -21,17 +21,17 @@ use Rattle.osi_carrier.specs.declared.ends.EndReason.TheVariants.{Broken, Closed
 
 -- ---- one packet
 
--- each of its units acts, or with a bad one none
+-- each of its units takes effect; if one is bad, none does
 abbrev pub acts_by : Result (List Value) TpduFault → State → State
 acts_by (Ok units) s = reacts units s
 acts_by (Err fault) s = fails (Tpdu fault) s
 
--- what a packet with this transport unit does
+-- the effect of a packet with this transport unit
 unfoldable pub after_packet : State → List ℕ → State
 after_packet s packet = acts_by (units_of packet) s
 
--- For one of the units there was no memory: it did nothing, and those before it had not ended the
--- carrier. With memory it would have written, told or kept something.
+-- Memory ran out for one of the units: it had no effect, and those before it had not ended the carrier. With memory it
+-- would have written, reported or kept something.
 pub record RunsOut (old : State) (units : List Value) (new : State) : Type 0 where
   pub done : List Value
   pub next : Value
@@ -41,7 +41,7 @@ pub record RunsOut (old : State) (units : List Value) (new : State) : Type 0 whe
   pub ended : new ≡ ends NoMemory (reacts done old)
   pub needs : grows (reacts done old) (react next (reacts done old)) ≡ true
 
--- what units did: all that they do, or for one there was no memory
+-- the effect of units: that of all, or memory ran out for one
 abbrev pub Act : State → List Value → State → Type 0
 Act old units new = (new ≡ reacts units old) ⊎ RunsOut old units new
 
@@ -49,11 +49,11 @@ abbrev pub ActsBy : Result (List Value) TpduFault → State → State → Type 0
 ActsBy (Ok units) old new = Act old units new
 ActsBy (Err fault) old new = new ≡ fails (Tpdu fault) old
 
--- what a packet with this transport unit did
+-- the effect of a packet with this transport unit, with or without enough memory
 abbrev pub Acts : State → List ℕ → State → Type 0
 Acts old packet new = ActsBy (units_of packet) old new
 
--- what a fault of the stream does, or want of memory to hold its octets
+-- the effect of a fault of the stream, or of running out of memory for its octets
 abbrev pub after_refusal : TpktFault → State → State
 after_refusal OutOfMemory s = ends NoMemory s
 after_refusal (BadVersion offset) s = fails (Tpkt (BadVersion offset)) s
@@ -61,31 +61,31 @@ after_refusal (BadLength offset) s = fails (Tpkt (BadLength offset)) s
 
 -- ---- a piece of the stream
 
--- what contracts see of a carrier
+-- what contracts say that a carrier holds
 pub record Carrying : Type 0 where
   pub state : State
-  -- the packet under way
+  -- the unfinished packet
   pub held : Held
 
--- what a carrier holds of the packet under way
+-- what a carrier holds of the unfinished packet
 pub record IsReading (held : Held) : Type 0 where
   pub holding : IsHolding held
   pub partial : IsPartial held.octets
   pub fault : held.fault ≡ None
 
--- an event waits
+-- an event is queued
 abbrev pub waits : State → Bool
 waits s = not (length s.events == 0)
 
--- feeding stops behind a packet that told the user something, or ended the carrier
+-- feeding stops after a packet that caused an event, or ended the carrier
 abbrev pub stops : State → Bool
 stops s = is_some s.ended || waits s
 
--- packets one after the other, of which none stopped but perhaps the last
+-- packets one after the other, only the last of which may have stopped
 abbrev pub TakesPackets : State → List (List ℕ) → State → Type 0
 TakesPackets old units new = TakesAll after_packet stops old units new
 
--- the carrier ended by a fault of its peer, or for want of memory
+-- the carrier ended because of a fault of its peer, or because memory ran out
 abbrev pub is_spoilt : Option EndReason → Bool
 is_spoilt None = false
 is_spoilt (Some Broken) = false
@@ -106,8 +106,8 @@ pub record RunsDry (old : Carrying) (piece : List ℕ) (used : ℕ) (new : Carry
   -- the room stays
   pub room : old.held.room ≤ new.held.room
 
--- The piece up to `within` was cut into packets, of which the last stopped. All of the piece is
--- used where the carrier ended by a fault.
+-- The piece up to `within` was cut into packets, the last of which stopped. All of the piece is used if the carrier
+-- ended because of a fault.
 pub record StopsBehind (old : Carrying) (piece : List ℕ) (used : ℕ) (new : Carrying) : Type 0 where
   pub within : ℕ
   pub units : List (List ℕ)
@@ -123,7 +123,7 @@ pub record StopsBehind (old : Carrying) (piece : List ℕ) (used : ℕ) (new : C
   pub offset : new.held.offset ≡ offset_of (old.held.offset + length (old.held.octets ++ take within piece))
   pub room : old.held.room ≤ new.held.room
 
--- What was held and the piece have a fault behind packets of which none stopped.
+-- The octets held and the piece have a fault after packets none of which stopped.
 pub record Refuses (old : Carrying) (piece : List ℕ) (used : ℕ) (new : Carrying) : Type 0 where
   pub units : List (List ℕ)
   pub fault : TpktFault
@@ -135,12 +135,12 @@ pub record Refuses (old : Carrying) (piece : List ℕ) (used : ℕ) (new : Carry
   pub ended : new.state ≡ fails (Tpkt fault) before
   pub held : new.held.octets ≡ []
 
--- For a unit of a packet there was no memory.
+-- Memory ran out for a unit of a packet.
 abbrev pub Starves : State → List ℕ → State → Type 0
 Starves old packet new = (units : List Value) × (units_of packet ≡ Ok units) × RunsOut old units new
 
--- Octets are left that belong to the packet of which these are held, and with them it is more than
--- there is room for. A packet that lies whole in what is left is not held.
+-- Octets are left that belong to the unfinished packet, and need more room than there is. A packet that is complete
+-- within what is left is not held.
 pub record HasToHold (room : ℕ) (held left : List ℕ) : Type 0 where
   pub next : Fed
   pub belongs : Belongs held left next
@@ -148,14 +148,14 @@ pub record HasToHold (room : ℕ) (held left : List ℕ) : Type 0 where
   pub parted : held ≡ [] → next.whole ≡ false
   pub more : room < length held + next.used
 
--- There was no memory to hold what is left of the piece. Behind a packet none of it is held yet.
+-- Memory ran out for what is left of the piece. After a packet, none of it is held yet.
 pub record FindsNoRoom (old : Carrying) (piece : List ℕ) (within : ℕ) (rest : List ℕ) (before new : State) : Type 0 where
   pub ended : new ≡ ends NoMemory before
   pub first : (within ≡ 0) ⊎ (rest ≡ [])
   pub holds : HasToHold old.held.room rest (drop within piece)
 
--- There was no memory to hold what belongs to a packet, or for a unit of the next packet. What stands
--- behind the packets that acted has no fault: else the carrier would have ended by that.
+-- Memory ran out for what belongs to a packet, or for a unit of the next packet. What follows the packets that took
+-- effect has no fault; otherwise the carrier would have ended because of it.
 pub record FindsNoMemory (old : Carrying) (piece : List ℕ) (used : ℕ) (new : Carrying) : Type 0 where
   pub within : ℕ
   pub units : List (List ℕ)
@@ -170,19 +170,19 @@ pub record FindsNoMemory (old : Carrying) (piece : List ℕ) (used : ℕ) (new :
   pub held : new.held.octets ≡ []
   pub faultless : (at : ℕ) (fault : TpktFault) → IsFaultOf at (rest ++ drop within piece) fault → ⊥
 
--- feeding a piece where nothing waits and nothing has ended
+-- feeding a piece if no event is queued and the carrier has not ended
 abbrev pub Goes : Carrying → List ℕ → ℕ → Carrying → Type 0
 Goes old piece used new =
     (RunsDry old piece used new ⊎ StopsBehind old piece used new) ⊎ (Refuses old piece used new ⊎ FindsNoMemory old piece used new)
 
 -- feeding a piece
 pub record Feeds (old : Carrying) (piece : List ℕ) (fed : Fed) (new : Carrying) : Type 0 where
-  -- after the end all is used, and nothing changes
+  -- after the end everything is used, and nothing changes
   pub over : IsSome old.state.ended → (fed.used ≡ length piece) × (new ≡ old)
-  -- while an event waits nothing is used, and nothing changes
+  -- while an event is queued nothing is used, and nothing changes
   pub waiting : old.state.ended ≡ None → waits old.state ≡ true → (fed.used ≡ 0) × (new ≡ old)
   pub goes : stops old.state ≡ false → Goes old piece fed.used new
   pub whole : fed.whole ≡ waits new.state
   pub bound : fed.used ≤ length piece
-  -- where no event waits, some of a piece that is not empty is used
+  -- if no event is queued, some of a piece that is not empty is used
   pub progress : waits old.state ≡ false → 0 < length piece → 0 < fed.used

@@ -1,9 +1,9 @@
--- Where a connection stands at an end.
+-- The state of a connection at an end.
 use Rattle.std.specs.Prelude.{ℕ, Option, None, nat_lt, if◌then◌else◌}
 use Rattle.osi_carrier.specs.Rows.{value_at}
 use Rattle.osi_carrier.specs.State.{Connection, State}
 
--- what a carrier has at a reference: it was not given yet, or it was and this is live
+-- the place of a reference at a carrier: not given yet; or given, with this live connection or none
 pub data Place : Type 0 where
   never : Place
   was_given : Option Connection → Place

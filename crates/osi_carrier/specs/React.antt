@@ -1,4 +1,4 @@
--- What a carrier does with each unit that comes (X.224 sections 6.5 to 6.8 and 6.22).
+-- The effect of each unit that arrives at a carrier (X.224 sections 6.5 to 6.8 and 6.22).
 use Rattle.std.specs.Prelude.{ℕ, ◌+◌, Bool, true, false, ◌||◌, ◌==◌, List, [], ◌∷◌, ◌++◌, length, map, take, drop, nat_le, Option, Some, None, Result, Ok, Err, is_some, if◌then◌else◌}
 use Rattle.std.specs.List.{list_any}
 use Rattle.osi_tpdu.specs.Value.{Value, Connect, request, confirm, disconnect, disconnected, data0, data2, acknowledge, error}
@@ -31,7 +31,7 @@ accepts class size c s =
     (joins (s.given + 1) (linked c.source (opened_link class size s.local c.credit)) (tsaps_of c)
     (record s { class = Some class; given = s.given + 1 })))
 
--- by what negotiation selects: class 0 is refused where class 2 holds
+-- the result of negotiation; class 0 is refused if class 2 is agreed
 abbrev pub answers : Connect → Selection → Option Class → State → State
 answers c (refuse reason) held s = denies reason c.source s
 answers c (accept Two size) held s = accepts Two size c s
@@ -43,7 +43,7 @@ is_of_peer peer asked = false
 is_of_peer peer (linked q link) = q == peer
 is_of_peer peer (closing q) = q == peer
 
--- a live connection has this reference of the peer
+-- a live connection has this peer's reference
 abbrev pub has_peer : ℕ → Rows Connection → Bool
 has_peer peer live = list_any (λ row. is_of_peer peer row.1) live
 
@@ -51,7 +51,7 @@ has_peer peer live = list_any (λ row. is_of_peer peer row.1) live
 abbrev pub is_full : State → Bool
 is_full s = nat_le 64 (length s.live) || nat_le 65535 s.given
 
--- in this order: a reference in use, no room, and what negotiation selects
+-- in this order: a reference in use, no room, and the result of negotiation
 abbrev pub answers_request : Connect → State → State
 answers_request c s =
     if has_peer c.source s.live then denies 131 c.source s
@@ -60,7 +60,7 @@ answers_request c s =
 
 -- ---- a unit for a reference that is not live
 
--- a DR is answered by a DC, a DC is ignored, and all else ends the carrier
+-- a DR is answered with a DC, a DC is ignored, and any other unit ends the carrier
 abbrev pub to_unknown : Value → State → State
 to_unknown (disconnect destination source reason user) s = writes (disconnected source destination ∷ []) s
 to_unknown (disconnected destination source) s = s
@@ -68,14 +68,14 @@ to_unknown unit s = fails UnknownReference s
 
 -- ---- a unit for a connection that awaits its CC
 
--- a CC opens the connection with the class that it selects, or was not asked for
+-- a CC opens the connection in the class that it selects, or selects what was not proposed
 abbrev pub opens : ℕ → Connect → Option Class → State → State
 opens r c None s = fails BadAnswer s
 opens r c (Some class) s =
     tells (opened r) (moves r (linked c.source (opened_link class (agreed_size c.parameters.size s.local) s.local c.credit))
     (record s { class = Some class }))
 
--- a DR or an ER refuses it; for all else but a CC its reference is not known yet
+-- a DR or an ER refuses it; for any other unit except a CC its reference is not known yet
 abbrev pub to_asked : ℕ → Value → State → State
 to_asked r (confirm destination c) s = opens r c (confirmed c s.local s.class) s
 to_asked r (disconnect destination source reason user) s = tells (refused r reason) (drops r s)
@@ -84,7 +84,7 @@ to_asked r unit s = to_unknown unit s
 
 -- ---- a unit for an open connection
 
--- the link without its first whole TSDU
+-- the link without its first complete TSDU
 abbrev pub handed_out : Standing → Standing
 handed_out link = record link { ends = record link.ends { joining = record link.ends.joining { whole = drop 1 link.ends.joining.whole } } }
 
@@ -96,7 +96,7 @@ pumps r peer link s = moves r (linked peer (pumped link)) (writes (written_by pe
 abbrev pub tells_of : ℕ → List (List ℕ) → State → State
 tells_of r whole s = record s { events = s.events ++ map (tsdu r) whole }
 
--- a TSDU that became whole is handed out
+-- a TSDU that became complete is handed out
 abbrev pub settles : ℕ → ℕ → Standing → State → State
 settles r peer link s = tells_of r (take 1 link.ends.joining.whole) (pumps r peer (handed_out link) s)
 
@@ -121,7 +121,7 @@ to_linked r peer link unit s = taking r peer (taken link unit) s
 
 -- ---- a unit for a connection that is closing
 
--- a DC or a DR ends it, and all else is ignored
+-- a DC or a DR ends it, and any other unit is ignored
 abbrev pub to_closing : ℕ → Value → State → State
 to_closing r (disconnected destination source) s = drops r s
 to_closing r (disconnect destination source reason user) s = drops r s
@@ -140,7 +140,7 @@ to_reference r unit s = to_connection r (value_at r s.live) unit s
 
 -- ---- by class
 
--- The class is not known: the caller awaits an answer to its CR, and the called end a CR.
+-- The class is not known: the caller expects an answer to its CR, and the called end a CR.
 abbrev pub before_class : Bool → Value → State → State
 before_class true (confirm destination c) s = to_reference destination (confirm destination c) s
 before_class true (disconnect destination source reason user) s = to_reference destination (disconnect destination source reason user) s
@@ -174,12 +174,12 @@ in_class None unit s = before_class s.is_caller unit s
 in_class (Some Zero) unit s = in_zero s.is_caller unit s
 in_class (Some Two) unit s = in_two s.is_caller unit s
 
--- nothing is done after the end
+-- nothing has an effect after the end
 abbrev pub react_by : Bool → Value → State → State
 react_by true unit s = s
 react_by false unit s = in_class s.class unit s
 
--- what a unit does
+-- the effect of a unit
 unfoldable pub react : Value → State → State
 react unit s = react_by (is_some s.ended) unit s
 

@@ -1,4 +1,4 @@
--- Rows that rise by a key: each has a key above those before it.
+-- Rows in rising order of a key.
 use Rattle.std.specs.Prelude.{ℕ, ◌<◌, ◌==◌, List, [], ◌∷◌, Option, position}
 
 -- each key is above those before it, and above this number

@@ -4,7 +4,7 @@ use Rattle.std.specs.Prelude.{ℕ, List, [], ◌∷◌, ◌==◌, Option, Some, 
 abbrev pub Rows : Type 0 → Type 0
 Rows X = List (ℕ × X)
 
--- what stands at a reference
+-- the value at a reference
 abbrev pub value_at : {X : Type 0} → ℕ → Rows X → Option X
 value_at r [] = None
 value_at r ((q, x) ∷ rows) = if q == r then Some x else value_at r rows
@@ -13,7 +13,7 @@ value_at r ((q, x) ∷ rows) = if q == r then Some x else value_at r rows
 abbrev pub place_of : {X : Type 0} → ℕ → Rows X → Option ℕ
 place_of r rows = position (λ row. row.0 == r) rows
 
--- another value at a reference that has one
+-- a reference gets another value
 abbrev pub put : {X : Type 0} → ℕ → X → Rows X → Rows X
 put r x [] = []
 put r x ((q, y) ∷ rows) = if q == r then (q, x) ∷ rows else (q, y) ∷ put r x rows

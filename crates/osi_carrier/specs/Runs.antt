@@ -1,4 +1,4 @@
--- Runs of calls of one carrier, and what they say of the octets that it was fed.
+-- Runs of calls of one carrier, and what they did with the octets that it was fed.
 use Rattle.std.specs.Prelude.{◌≡◌, ℕ, ◌+◌, ◌-◌, ◌<◌, ◌^◌, List, [], ◌∷◌, ◌++◌, length, take, Option, option_to_list}
 use Rattle.std.specs.List.{flat_map}
 use Rattle.osi_tpkt.specs.Packet.{IsPartial}
@@ -10,10 +10,10 @@ use Rattle.osi_carrier.specs.Packets.{Carrying, Feeds, after_packet}
 use Rattle.osi_carrier.specs.State.{State}
 use Rattle.osi_carrier.specs.declared.ends.EndReason.{EndReason}
 
--- ---- what acts on a carrier
+-- ---- what has an effect on a carrier
 
--- what its user does: it asks for a connection with these selectors, sends a TSDU or several on one, closes
--- one for a reason, or ends the carrier
+-- what its user does: it requests a connection with these selectors, sends one or several TSDUs on one, closes one for
+-- a reason, or ends the carrier
 pub data UserCall : Type 0 where
   connects : Option (List ℕ) → Option (List ℕ) → UserCall
   sends : ℕ → List ℕ → UserCall
@@ -21,7 +21,7 @@ pub data UserCall : Type 0 where
   closes : ℕ → ℕ → UserCall
   breaks : EndReason → UserCall
 
--- a packet with this transport unit came, or the user called
+-- a packet with this transport unit arrived, or the user made a call
 pub data Act : Type 0 where
   packet : List ℕ → Act
   user : UserCall → Act
@@ -51,11 +51,11 @@ call_in (user call) = call ∷ []
 
 -- ---- calls
 
--- a call, with what it was given and what it answered
+-- a call, with its argument and its result
 pub data Call : Type 0 where
   feeding : List ℕ → Fed → Call
   telling : Option Happening → Call
-  -- these octets were carried to the peer
+  -- these octets were sent to the peer
   carrying : List ℕ → Call
   -- the user's call was accepted
   calling : UserCall → Call
@@ -98,12 +98,12 @@ called_in (calling call) = call ∷ []
 
 -- ---- what calls did
 
--- the events that were told and the octets that were carried, put back in front
+-- the events that were reported and the octets that were sent, put back in front
 abbrev pub put_back : List Happening → List ℕ → State → State
 put_back told carried s = record s { events = told ++ s.events; outgoing = carried ++ s.outgoing }
 
--- The packets of what was held and of the octets that were used acted, each whole and in order, and
--- the calls of the user between them, and nothing else; the octets behind the last packet are held.
+-- The packets of the octets held and of those used took effect, each whole and in order, with the calls of the user
+-- between them, and nothing else; the octets after the last packet are held.
 pub record Reads (old : Carrying) (calls : List Call) (new : Carrying) : Type 0 where
   pub acts : List Act
   pub called : flat_map call_in acts ≡ flat_map called_in calls
@@ -112,13 +112,13 @@ pub record Reads (old : Carrying) (calls : List Call) (new : Carrying) : Type 0 
   pub partial : IsPartial old.held.octets → IsPartial new.held.octets
   pub offset : old.held.offset < 2 ^ 64 → new.held.offset ≡ offset_of (old.held.offset + (length (old.held.octets ++ flat_map used_in calls) - length new.held.octets))
 
--- two carriers that did the same, each with what it told and carried
+-- two carriers that did the same, each with what it reported and sent
 pub record AreAlike (a : Carrying) (xs : List Call) (b : Carrying) (ys : List Call) : Type 0 where
   pub octets : a.held.octets ≡ b.held.octets
   pub offset : a.held.offset ≡ b.held.offset
   pub state : put_back (flat_map told_in xs) (flat_map carried_in xs) a.state ≡ put_back (flat_map told_in ys) (flat_map carried_in ys) b.state
 
--- two carriers that ended so: neither holds anything
+-- two carriers that ended in the same way, and hold nothing
 pub record EndAlike (a : Carrying) (xs : List Call) (b : Carrying) (ys : List Call) : Type 0 where
   pub octets : a.held.octets ≡ []
   pub octets_too : b.held.octets ≡ []

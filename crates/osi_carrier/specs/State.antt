@@ -1,5 +1,4 @@
--- What a carrier holds beside the packet under way, and the words in which the rules say what
--- changes.
+-- The state of a carrier apart from the unfinished packet, and the vocabulary for changes of it.
 use Rattle.std.specs.Prelude.{ℕ, Bool, List, [], ◌∷◌, ◌++◌, Option, Some}
 use Rattle.std.specs.List.{flat_map}
 use Rattle.osi_tpkt.specs.Packet.{packet_of}
@@ -14,8 +13,8 @@ use Rattle.osi_carrier.specs.declared.ends.CarrierFault.{CarrierFault}
 use Rattle.osi_carrier.specs.declared.ends.EndReason.{EndReason}
 use Rattle.osi_carrier.specs.declared.ends.EndReason.TheVariants.{Fault}
 
--- A live connection: asked for and not answered; linked, with the peer's reference and the link; or
--- closing, with the peer's reference, from the DR that this end sent until a DC or a DR comes.
+-- A live connection: requested and not answered; linked, with the peer's reference and the link; or closing, with the
+-- peer's reference, from the DR that this end sent until a DC or a DR arrives.
 pub data Connection : Type 0 where
   asked : Connection
   linked : ℕ → Standing → Connection
@@ -26,10 +25,10 @@ pub record TsapIds : Type 0 where
   pub calling : Option (List ℕ)
   pub called : Option (List ℕ)
 
--- `class`: the one that was selected on this byte connection; `given`: how many references were
--- given, which are the numbers from 1 up to it; `live`: the live connections by the references that
--- this end gave; `tsaps`: the transport selectors of each; `outgoing`: octets to be carried to the
--- peer; `events`: what the user is still to be told, the oldest first; `ended`: why the carrier ended
+-- `class`: the class selected on this byte connection; `given`: how many references were given, which are the numbers
+-- from 1 up to it; `live`: the live connections, by the references that this end gave; `tsaps`: the transport selectors
+-- of each; `outgoing`: octets to send to the peer; `events`: queued events, the oldest first; `ended`: why the carrier
+-- ended
 pub record State : Type 0 where
   pub is_caller : Bool
   pub local : Local
@@ -41,7 +40,7 @@ pub record State : Type 0 where
   pub events : List Happening
   pub ended : Option EndReason
 
--- units as they are written: each in a packet of its own
+-- units in their written form, each in a packet of its own
 abbrev pub packets : List Value → List ℕ
 packets units = flat_map (λ unit. packet_of (written unit)) units
 

@@ -1,4 +1,4 @@
--- What a unit does to the link that takes it.
+-- The effect of a unit on the link that takes it.
 use Rattle.std.specs.Prelude.{◌≡◌, ℕ, Bool, ◌||◌, List, [], length, nat_lt, take, Result, Ok, Err, IsOk, option_map, option_to_list}
 use Rattle.osi_tpdu.specs.Value.{Value}
 use Rattle.osi_class.specs.Link.{Standing}
@@ -8,7 +8,7 @@ use Rattle.osi_carrier.specs.React.{handed_out}
 use Rattle.osi_carrier.specs.declared.links.Step.{Step}
 use Rattle.osi_carrier.specs.declared.links.Step.TheVariants.{Took, Broke}
 
--- the link, as it was where the unit was refused
+-- the link, unchanged if the unit was refused
 abbrev pub link_after : Standing → Result Standing LinkFault → Standing
 link_after old (Ok link) = pumped (handed_out link)
 link_after old (Err fault) = old
@@ -21,13 +21,13 @@ abbrev pub whole_after : Result Standing LinkFault → List (List ℕ)
 whole_after (Ok link) = take 1 link.ends.joining.whole
 whole_after (Err fault) = []
 
--- units are written, a TSDU is told, or octets of an unfinished one are kept
+-- units are written, a TSDU is reported, or octets of an unfinished one are kept
 unfoldable pub link_grows : ℕ → Standing → Result Standing LinkFault → Bool
 link_grows peer old taken =
     nat_lt 0 (length (units_after peer taken))
     || (nat_lt 0 (length (whole_after taken)) || nat_lt (length old.ends.joining.begun) (length (link_after old taken).ends.joining.begun))
 
--- what is answered of it
+-- the result
 abbrev pub StepsTo : Step → Result Standing LinkFault → Type 0
 StepsTo (Took whole) taken = IsOk taken × (option_to_list (option_map (λ v. v.items) whole) ≡ whole_after taken)
 StepsTo (Broke fault) taken = taken ≡ Err fault

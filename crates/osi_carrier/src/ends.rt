@@ -16,14 +16,14 @@ pub enum EndReason {
     PeerClosed(u8),
     /// The peer broke a rule of the byte connection.
     Fault(CarrierFault),
-    /// There was no memory for a packet that came or for one of its units.
+    /// Memory ran out for a received packet or for one of its units.
     NoMemory,
 }
 
 /// Which rule the peer broke.
 #[derive(Clone, Copy, PartialEq, Eq, Debug, Error)]
 pub enum CarrierFault {
-    /// The octets are no packet (RFC 1006 section 6).
+    /// The octets are not a packet (RFC 1006 section 6).
     #[error("bad packet: {0}")]
     Tpkt(TpktFault),
     /// A packet holds no transport units (X.224 section 13).
@@ -35,10 +35,10 @@ pub enum CarrierFault {
     /// A unit for a reference that no live connection has.
     #[error("unknown reference")]
     UnknownReference,
-    /// A CC that selects what was not proposed.
+    /// A CC that selects what this end did not propose.
     #[error("answer not proposed")]
     BadAnswer,
-    /// A unit that this end never takes now, whatever its reference.
+    /// A unit that this end does not take now, whatever its reference.
     #[error("unexpected unit")]
     UnexpectedUnit,
 }

@@ -1,29 +1,29 @@
-//! What a carrier tells its user.
+//! The events that a carrier reports to its user.
 
 ghost use Rattle.std.specs.Prelude.{◌≡◌, ◌++◌, ◌∷◌, [], true};
 
 use osi_class::{LinkFault, Queue};
 
-/// The reference that this end gave a connection: 1 to 65,535, and none twice.
+/// The reference that this end gave a connection: 1 to 65,535, and never twice the same.
 #[derive(Clone, Copy, PartialEq, Eq, Debug)]
 pub struct Ref(pub u16);
 
-/// What a carrier tells its user.
+/// An event that a carrier reports to its user.
 #[derive(Drop)]
 pub enum Event {
-    /// The connection is open: a CC came for it, or it was accepted.
+    /// The connection is open: a CC arrived for it, or this end accepted it.
     Opened(Ref),
     /// The peer refused the connection, with this reason (X.224 section 13.5.3).
     Refused(Ref, u8),
-    /// A TSDU of this connection came whole.
+    /// A whole TSDU of this connection arrived.
     Tsdu(Ref, Vec<u8>),
     /// The peer closed the connection, with this reason.
     Closed(Ref, u8),
-    /// The peer broke a rule of this connection alone, and a DR was sent.
+    /// The peer broke a rule on this connection, and a DR was sent. Other connections go on.
     Faulted(Ref, LinkFault),
 }
 
-/// Puts an event behind the others, for which there is room.
+/// Queues an event, for which there is room.
 #[inline(always)]
 pub(crate) fn tell(events: &mut Queue<Event>, event: Event)
     requires { events.old.has_room ≡ true }

@@ -2,7 +2,7 @@
 
 use thiserror::Error;
 
-/// Why no connection was asked for: the first that applies in this order.
+/// Why no connection was requested: the first reason that applies, in this order.
 #[derive(Clone, Copy, PartialEq, Eq, Debug, Error)]
 pub enum OpenError {
     /// This is the called end, which only answers.
@@ -11,10 +11,10 @@ pub enum OpenError {
     /// The carrier has ended.
     #[error("the carrier has ended")]
     Ended,
-    /// The first connection is asked for and not answered, so the class is not known yet.
+    /// The first connection is requested and not answered yet, so the class is not known.
     #[error("the class is being negotiated")]
     Negotiating,
-    /// Class 0 holds, which has one connection.
+    /// The class is 0, which allows one connection.
     #[error("class 0 has one connection")]
     OneConnection,
     /// 64 connections are live.
@@ -23,21 +23,21 @@ pub enum OpenError {
     /// All 65,535 references were given.
     #[error("references used up")]
     ReferencesUsedUp,
-    /// No memory for the connection or its CR.
+    /// An allocation for the connection or its CR failed.
     #[error("out of memory")]
     OutOfMemory,
 }
 
-/// Why a TSDU was not sent, or a connection not closed: the first that applies in this order.
+/// Why a TSDU was not sent, or a connection not closed: the first reason that applies, in this order.
 #[derive(Clone, Copy, PartialEq, Eq, Debug, Error)]
 pub enum SendError {
     /// No open connection has this reference.
     #[error("no open connection")]
     NotOpen,
-    /// The TSDU has over 1,048,576 octets.
+    /// The TSDU has more than 1,048,576 octets.
     #[error("TSDU too long")]
     TooLong,
-    /// No memory to keep the TSDU or to write units.
+    /// An allocation for the TSDU or its units failed.
     #[error("out of memory")]
     OutOfMemory,
 }

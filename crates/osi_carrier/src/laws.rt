@@ -20,15 +20,16 @@ ghost use Rattle.osi_carrier.specs.declared.ends.EndReason.TheVariants.{NoMemory
 
 use osi_tpkt::laws::{a_prefix_of_a_packet, a_stream_has_one_cut, no_packet_begins_another};
 
-/// A unit is for one connection: that of the reference that it names, and in class 0 the only one. All
-/// others stand as they did, unless it ends the carrier; and at most one event is told, of this one.
+/// A unit is for one connection: the one with the reference that it names, and in class 0 the only one. All other
+/// connections stay as they were, unless the unit ends the carrier; and at most one event is reported, of this
+/// connection.
 pub fn a_unit_changes_one_connection()
     ensures { (unit : Value) (s : State) → (react unit s).ended ≡ None → ChangesOne (connection_of unit s) s (react unit s) }
 {}
 
-/// Of a new carrier the live connections have references that were given and rise, at most 64 are live
-/// and at most 65,535 were given, and each live one has its transport selectors; whatever comes and is
-/// called keeps this.
+/// The live connections of a carrier have references that were given, in rising order. At most 64 are live and at most
+/// 65,535 references were given, and each live connection has its transport selectors. This holds of a new carrier, and
+/// whatever is received and called preserves it.
 pub fn references_rise()
     ensures begins { (is_caller : Bool) (local : Local) → IsOrderly (fresh_state is_caller local) }
     ensures unit { (unit : Value) (s : State) → IsOrderly s → IsOrderly (react unit s) }
@@ -43,7 +44,7 @@ pub fn references_rise()
         IsOrderly (record s { outgoing = outgoing; events = events }) }
 {}
 
-/// A reference that was given and whose connection is gone is never given again.
+/// A reference is never given again once its connection is gone.
 pub fn no_reference_is_given_twice()
     ensures unit { (unit : Value) (s : State) (r : ℕ) → r ≤ s.given → value_at r s.live ≡ None → value_at r (react unit s).live ≡ None }
     ensures asks { (calling called : Option (List ℕ)) (s : State) (r : ℕ) → r ≤ s.given → value_at r s.live ≡ None →
@@ -53,9 +54,9 @@ pub fn no_reference_is_given_twice()
     ensures closed { (q r reason : ℕ) (s : State) → value_at r s.live ≡ None → value_at r (closed_with q reason s).live ≡ None }
 {}
 
-/// Each live connection has transport selectors, and no other has: of a new carrier, and whatever comes and is
-/// called keeps it. They stay as they came or were asked for until the connection is gone (`unit_keeps` and
-/// those behind it): where a connection was there and is there still, they are as they were.
+/// Exactly the live connections have transport selectors. This holds of a new carrier, and whatever is received and
+/// called preserves it. The selectors stay as they were received or requested until the connection is gone
+/// (`unit_keeps` and the clauses after it).
 pub fn each_live_connection_has_its_tsaps()
     ensures known { (r : ℕ) (s : State) → AreNamed s → is_some (tsaps_at r s) ≡ is_some (value_at r s.live) }
     ensures begins { (is_caller : Bool) (local : Local) → AreNamed (fresh_state is_caller local) }
@@ -72,12 +73,11 @@ pub fn each_live_connection_has_its_tsaps()
     ensures closed_keeps { (r reason : ℕ) (s : State) → IsOrderly s → KeepsTsaps s (closed_with r reason s) }
 {}
 
-/// Over every list of calls after which the carrier has not ended, the packets of the octets that it
-/// held and used acted, each whole and in order, with the user's calls between them, and nothing else
-/// did. So where the user only takes events and octets away, the pieces in which the octets came do not
-/// matter; and where they did not end the carrier in one list of pieces, they do in no other, but for
-/// want of memory. Where they end it, they end it for the same reason and leave it the same, whatever the
-/// pieces, want of memory aside.
+/// The pieces don't matter. Over every list of calls after which the carrier has not ended, the packets of the octets
+/// that it held and used took effect, each whole and in order, with the user's calls between them, and nothing else
+/// did. So if the user only takes events and octets, the result does not depend on the pieces in which the octets
+/// arrived. If they end the carrier in one list of pieces, they end it in every other, for the same reason and with the
+/// same state, unless memory runs out.
 pub fn the_pieces_do_not_matter()
     ensures calls { (old new : Carrying) (calls : List Call) → CallsAlong old calls new → new.state.ended ≡ None → Reads old calls new }
     ensures pieces { (old a b : Carrying) (xs ys : List Call) → IsPartial old.held.octets → old.held.offset < 2 ^ 64 →
@@ -96,9 +96,9 @@ pub fn the_pieces_do_not_matter()
     no_packet_begins_another();
 }
 
-/// The events tell which connections are open, one by one: where the carrier has not ended, a connection
-/// is open exactly where it was and no event told that it closed or faulted, or where an event told that
-/// it opened. Of the calls a close alone changes that.
+/// The events tell which connections are open. If the carrier has not ended, a connection is open exactly if it was
+/// open and no event reported that it closed or faulted, or if an event reported that it opened. Of the user's calls
+/// only a close changes that.
 pub fn what_is_open_is_told()
     ensures unit { (unit : Value) (s : State) (r : ℕ) → IsOrderly s → (react unit s).ended ≡ None → TellsOpen r s (react unit s) }
     ensures packet { (packet : List ℕ) (s : State) (r : ℕ) → IsOrderly s → (after_packet s packet).ended ≡ None → TellsOpen r s (after_packet s packet) }

@@ -1,8 +1,8 @@
 //! The transport protocol of X.224, classes 0 and 2, at one end of a byte connection, as a value.
 //!
-//! A [`Carrier`] carries TSDUs for many connections over one stream of octets. Its user asks for a
-//! connection, sends TSDUs and closes; the octets that come are fed in whatever pieces they come; and it
-//! tells [`Event`]s: a connection was opened, refused or closed, a TSDU came whole, a peer broke a rule.
+//! A [`Carrier`] carries TSDUs for many connections over one stream of octets. Its user requests a connection, sends
+//! TSDUs and closes; received octets are fed in whatever pieces they arrive; and it reports [`Event`]s: a connection
+//! was opened, refused or closed, a whole TSDU arrived, a peer broke a rule.
 //!
 //! ```text
 //! let mut carrier = Carrier::caller(alloc, local);
@@ -14,15 +14,15 @@
 //! // what is to be carried: carrier.outgoing(), and carrier.taken(count)
 //! ```
 //!
-//! A connection goes by a [`Ref`], the number that this end gave it. In class 0 a byte connection has one
-//! connection; in class 2 it has up to 64, and what a connection's credit holds back waits with it.
+//! A connection goes by a [`Ref`], the number that this end gave it. In class 0 a byte connection has one connection;
+//! in class 2 it has up to 64, and data that waits for credit is kept with its connection.
 //!
-//! `react` (`specs/React.antt`) says what one unit does to the state of a carrier; `Feeds` what a piece
-//! does. The laws say that one unit changes one connection, that references rise and are never given
-//! twice, and that the pieces do not matter.
+//! `react` (`specs/React.antt`) is the effect of one unit on the state of a carrier, and `Feeds` the effect of a piece.
+//! The laws say that one unit changes one connection, that references rise and are never given twice, and that the
+//! pieces do not matter.
 //!
-//! What it leaves to others: packets (`osi_tpkt`), how units are spelled (`osi_tpdu`), negotiation, and how
-//! TSDUs are cut into data units under credit (`osi_class`). It knows nothing of sessions.
+//! What it leaves to others: packets (`osi_tpkt`), how units are spelled (`osi_tpdu`), negotiation, and how TSDUs are
+//! cut into data units under credit (`osi_class`). It knows nothing of sessions.
 #![tactic(auto)]
 
 mod carrier;

@@ -1,5 +1,5 @@
-//! Where the row of a reference stands in a table: at one look where none between it and the first was
-//! dropped, and else by halves.
+//! Finding the row of a reference in a table: at the first look if no row between it and the first one was dropped,
+//! otherwise by binary search.
 
 ghost use Rattle.std.specs.Prelude.{◌≡◌, ◌++◌, ◌∷◌, [], true};
 ghost use Rattle.osi_carrier.specs.Rising.{RiseBy, place_by};
@@ -15,7 +15,7 @@ pub trait Referred {
         ensures { result ≡ reference_of self.now };
 }
 
-/// The place of a reference among rows, of which each is looked at.
+/// The place of a reference among rows, by a linear search.
 #[inline(always)]
 fn walk<R: Referred>(rows: &[R], reference: u16) -> Option<usize>
     ensures { result ≡ place_by R.reference_of reference rows.now }
@@ -23,7 +23,7 @@ fn walk<R: Referred>(rows: &[R], reference: u16) -> Option<usize>
     rows.iter().position(|row| row.reference() == reference)
 }
 
-/// The place of a reference among rows that rise, looked for by halves.
+/// The place of a reference among rising rows, by a binary search.
 fn halve<R: Referred>(rows: &[R], reference: u16) -> Option<usize>
     ensures { RiseBy R.reference_of 0 rows.now → result ≡ place_by R.reference_of reference rows.now }
 {
@@ -31,8 +31,8 @@ fn halve<R: Referred>(rows: &[R], reference: u16) -> Option<usize>
         .ok()
 }
 
-/// Whether a reference is above that of the last row, or above 0 where there is none: then a row with it
-/// may stand behind the others.
+/// Whether a reference is above that of the last row, or above 0 if there is none: then a row with it may be added at
+/// the end.
 pub fn is_above<R: Referred>(rows: &[R], reference: u16) -> bool
     ensures { (row : R) → R.reference_of row ≡ reference → result ≡ true → RiseBy R.reference_of 0 rows.now → RiseBy R.reference_of 0 (rows.now ++ row ∷ []) }
 {
@@ -42,9 +42,9 @@ pub fn is_above<R: Referred>(rows: &[R], reference: u16) -> bool
     rows[rows.len() - 1].reference() < reference
 }
 
-/// The place of a reference among rows. Where the caller says that they rise, it is looked for as far behind
-/// the first one as they are apart, and then by halves: as of a binary search, its answer is the place only if
-/// they do rise.
+/// The place of a reference among rows. If the caller says that they rise, the search begins at the place that the
+/// distance from the first reference suggests, and goes on by binary search. As with any binary search, the result is
+/// the place only if the rows do rise.
 #[inline]
 pub fn place_in<R: Referred>(rows: &[R], rises: bool, reference: u16) -> Option<usize>
     ensures { (rises ≡ true → RiseBy R.reference_of 0 rows.now) → result ≡ place_by R.reference_of reference rows.now }

@@ -13,7 +13,7 @@ use osi_tpdu::{
 };
 use std::alloc::Global;
 
-/// Whether a CR proposes class 0: where it is supported or class 2 is not, until a class holds.
+/// Whether a CR proposes class 0: if class 0 is supported or class 2 is not, and no class is agreed yet.
 fn proposes_zero(local: &Local, held: Option<Class>) -> bool
     ensures { result ≡ proposes_zero local.now held }
 {
@@ -30,8 +30,7 @@ fn selector_of(tsap: &Option<Tsap>) -> Option<Selector<'_>>
     }
 }
 
-/// The CR for a connection with this reference: it prefers class 2 where that is supported, and
-/// proposes this end's size.
+/// The CR for a connection with this reference: it prefers class 2 if that is supported, and proposes this end's size.
 pub fn proposal<'x>(
     local: &Local,
     held: Option<Class>,
@@ -75,7 +74,7 @@ pub fn proposal<'x>(
     ConnectRequest { fields }
 }
 
-/// The parameter of alternative classes, where class 0 is proposed behind class 2.
+/// The parameter of alternative classes, if class 0 is proposed after class 2.
 fn alternatives(zero: bool) -> Option<&'static [u8]>
     ensures { option_copied result ≡ alternatives zero }
 {
@@ -92,7 +91,7 @@ fn selects_expedited(options: Option<u8>) -> bool
     }
 }
 
-/// The class that a CC selects; `None` where that was not proposed.
+/// The class that a CC selects; `None` if that was not proposed.
 pub fn confirmed(confirm: &ConnectConfirm<'_>, local: &Local, held: Option<Class>) -> Option<Class>
     ensures { result ≡ confirmed (confirm_content confirm.now) local.now held }
 {
@@ -108,7 +107,7 @@ pub fn confirmed(confirm: &ConnectConfirm<'_>, local: &Local, held: Option<Class
     None
 }
 
-/// The smaller of the peer's size and this end's; none where the peer names none.
+/// The smaller of the peer's size and this end's; none if the peer names none.
 pub fn agreed_size(size: Option<SizeCode>, local: &Local) -> Option<SizeCode>
     ensures { option_map size_code result ≡ agreed_size (option_map size_code size) local.now }
 {
@@ -118,8 +117,7 @@ pub fn agreed_size(size: Option<SizeCode>, local: &Local) -> Option<SizeCode>
     }
 }
 
-/// A link with nothing sent and nothing taken, for the class and the size that were agreed and the
-/// first credit of the peer.
+/// A fresh link for the class and the size that were agreed and the peer's first credit.
 pub fn opened_link(
     alloc: Global,
     class: Class,
@@ -139,7 +137,7 @@ pub fn opened_link(
     }
 }
 
-/// The CC for a CR: it repeats the selectors, and the size where the CR named one.
+/// The CC for a CR: it repeats the selectors, and the size if the CR named one.
 pub fn acceptance<'x>(
     class: Class,
     size: Option<SizeCode>,

@@ -14,13 +14,13 @@ use std::marker::Model;
 /// The transport selectors that the CR of a connection names (X.224 section 13.3.4).
 #[derive(Clone, Copy)]
 pub struct Tsaps {
-    /// That of the user that asks.
+    /// The selector of the requesting user.
     pub calling: Option<Tsap>,
-    /// That of the user that is asked.
+    /// The selector of the requested user.
     pub called: Option<Tsap>,
 }
 
-/// A selector that is held in place.
+/// A selector held inline.
 fn held(selector: Option<Selector<'_>>) -> Option<Tsap>
     ensures { option_map tsap_octets result ≡ option_map selector_octets selector.entry }
 {
@@ -31,7 +31,7 @@ fn held(selector: Option<Selector<'_>>) -> Option<Tsap>
 }
 
 impl Tsaps {
-    /// Those that a CR names.
+    /// The selectors that a CR names.
     pub fn of(request: &ConnectRequest<'_>) -> Self
         ensures { tsap_ids result ≡ tsaps_of (request_content request.now) }
     {
@@ -61,7 +61,7 @@ impl Model for Named {
 }
 
 impl Named {
-    /// Whether it is of this reference.
+    /// Whether it has this reference.
     fn has(&self, reference: u16) -> bool
         ensures { result ≡ (self.now.0 == reference) }
     {
@@ -99,7 +99,7 @@ fn place_in(rows: &[Named], reference: u16) -> Option<usize>
 }
 
 impl Names {
-    /// There is none.
+    /// An empty table.
     pub fn new(alloc: Global) -> Self
         ensures { result ≡ [] }
     {
@@ -108,14 +108,14 @@ impl Names {
         }
     }
 
-    /// How many there are.
+    /// The number of connections.
     pub fn len(&self) -> usize
         ensures { result ≡ length self.now }
     {
         self.rows.len()
     }
 
-    /// Those of a reference.
+    /// The selectors of a reference.
     #[tactic(auto, using(crate::proofs::Places::nowhere))]
     pub fn find(&self, reference: u16) -> Option<Tsaps>
         ensures { option_map tsap_ids result ≡ value_at reference self.now }
@@ -126,7 +126,7 @@ impl Names {
         }
     }
 
-    /// Those at this place.
+    /// The selectors at this place.
     fn at(&self, place: usize, reference: u16) -> Tsaps
         requires { place_of reference self.now ≡ Some place }
         ensures { Some (tsap_ids result) ≡ value_at reference self.now }
@@ -134,7 +134,7 @@ impl Names {
         self.rows[place].tsaps()
     }
 
-    /// Those of a new reference. Want of memory changes nothing.
+    /// Adds the selectors of a new reference. An allocation failure changes nothing.
     pub fn push(&mut self, reference: u16, tsaps: Tsaps) -> Result<(), AllocError>
         ensures ok { OnOk result (self.new ≡ self.old ++ (reference, tsap_ids tsaps) ∷ []) }
         ensures err { OnErr result (self.new ≡ self.old) }
@@ -143,14 +143,14 @@ impl Names {
         Ok(())
     }
 
-    /// The first, so many.
+    /// Keeps only the first `len`.
     pub fn truncate(&mut self, len: usize)
         ensures { self.new ≡ take len self.old }
     {
         self.rows.truncate(len);
     }
 
-    /// Drops those of a reference.
+    /// Drops the selectors of a reference.
     #[tactic(auto, using(crate::proofs::Named::nothing_dropped))]
     pub fn remove(&mut self, reference: u16)
         ensures { self.new ≡ without reference self.old }

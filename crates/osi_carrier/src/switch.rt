@@ -1,4 +1,4 @@
-//! All of a carrier but the packet under way.
+//! All of a carrier except the unfinished packet.
 
 use crate::ends::{CarrierFault, EndReason};
 use crate::events::Event;
@@ -17,7 +17,7 @@ mod packets;
 mod reacting;
 mod together;
 
-/// All of a carrier but the packet under way: what each unit and each call does.
+/// All of a carrier except the unfinished packet; the effects of each unit and each call.
 #[derive(Drop)]
 pub struct Switch {
     alloc: Global,
@@ -30,9 +30,9 @@ pub struct Switch {
     pub live: Connections,
     /// The transport selectors of the live connections.
     pub names: Names,
-    /// Octets to be carried to the peer.
+    /// Octets to send to the peer.
     pub outgoing: BytesMut,
-    /// What the user is still to be told.
+    /// Events that the user has not taken.
     pub events: Queue<Event>,
     pub ended: Option<EndReason>,
 }
@@ -66,7 +66,7 @@ impl Switch {
     ghost use Rattle.osi_carrier.specs.Selectors.{tsap_ids};
     ghost use Rattle.osi_carrier.specs.State.{joins, drops, ends, fails};
 
-    /// A carrier's end on which nothing has happened.
+    /// A fresh end.
     pub fn new(alloc: Global, local: Local, is_caller: bool) -> Self
         ensures { result ≡ fresh_state is_caller local }
     {
@@ -84,7 +84,7 @@ impl Switch {
         }
     }
 
-    /// A new connection, whose CR names these selectors. Want of memory changes nothing.
+    /// Adds a connection, whose CR names these selectors. An allocation failure changes nothing.
     fn enter(&mut self, reference: u16, phase: Phase, tsaps: Tsaps) -> Result<(), AllocError>
         requires room { length self.old.live < 64 }
         requires pumped { IsPumped (connection phase) }
@@ -119,7 +119,7 @@ impl Switch {
         self.ended = Some(reason);
     }
 
-    /// Ends by a fault of the peer.
+    /// Ends because of a fault of the peer.
     pub fn fail(&mut self, fault: CarrierFault)
         ensures { self.new ≡ fails fault self.old }
     {

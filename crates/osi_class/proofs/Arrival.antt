@@ -1,5 +1,5 @@
--- What was handed in has been handed out, where nothing is under way and nothing is owed; and what a
--- link sends before its peer's link is opened.
+-- If nothing is in flight and nothing is owed, what was handed in has been handed out; and what a link sends before its
+-- peer's link is opened.
 use Rattle.std.proofs.Common.{◌≡◌, ℕ, ◌<◌, List, [], ◌∷◌, ◌++◌, map, Option, Some, None, ◌⊎◌, inl, inr, refl, sym, ◌∙◌, ap, subst, arith, append_assoc}
 use Rattle.osi_class.proofs.Vocabulary.{flat_map, AllByRecursion, LinkPair, swapped, Turn, at_right, TurnsAlong, opposite, left_in, right_out, given_by, parts_under_way, under_way, HasWholeTsdus, IsFresh, opened_pair, awaiting_pair, OnlySends, IsQuiet, unit_numbers, ack_numbers, direction, Agree, AgreeZero, AgreeInClass, Flow, Standing, Given, next_by, next, Move, hand_in, give_out, take_in, hand_out, MovesAlong, tsdu_in, tsdus_in, Part, tsdus_after, uncut}
 use Rattle.osi_class.proofs.Nothing as nothing
@@ -34,7 +34,7 @@ pub quiet_unsent : (p : LinkPair) → AgreeInClass p → IsQuiet p → p.left.en
 quiet_unsent p (inl a) quiet = unsent_in_class_0 p a quiet.left
 quiet_unsent p (inr (units, some, a)) quiet = unsent_in_class_2 p units some a quiet.rightward quiet.leftward quiet.left quiet.right
 
--- nothing is under way where no unit is and nothing is unsent
+-- nothing is in flight if no unit is and nothing is unsent
 no_parts : (p : LinkPair) → p.rightward ≡ [] → p.left.ends.unsent ≡ [] → pending p ≡ []
 no_parts p rightward unsent =
     ap (λ (us : List Given). parts_under_way us ++ uncut p.left.ends.unsent) rightward

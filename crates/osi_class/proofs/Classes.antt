@@ -1,4 +1,4 @@
--- Between links of one class there are none but units of that class.
+-- Between links of one class there are only units of that class.
 use Rattle.std.proofs.Common.{◌≡◌, Bool, false, List, [], ◌∷◌, ◌++◌, Option, Some, None, refl, sym, ◌∙◌, ap, subst, is_some}
 use Rattle.osi_class.proofs.Vocabulary.{LinkPair, Comes, given_by, Turn, at_left, at_right, Turns, TurnsAlong, AreOfClass, opened_pair, AgreeZero, Flow, Standing, Given, Move, hand_in, give_out, take_in, hand_out, Moves}
 use Rattle.osi_class.proofs.Giving.{giving_leaves}

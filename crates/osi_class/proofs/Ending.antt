@@ -1,4 +1,4 @@
--- Giving ends: each unit that is given leaves less to give.
+-- Giving terminates: each unit that is given leaves less to give.
 use Rattle.std.proofs.Common.{◌≡◌, ℕ, ◌+◌, ◌<◌, true, false, List, [], ◌∷◌, length, take, drop, Option, Some, None, arith, nat_lt, if◌then◌else◌, IfSome, length-drop}
 use Rattle.osi_class.proofs.Vocabulary.{ltb-true, Ends, Flow, ack_number, after_acked, Standing, Given, ack, given_part, next_by, next, sent_flow, two_standing, left_of_tsdus, left_of_acks, left_to_give, Part, give}
 use Rattle.osi_class.proofs.Order.{choose_some, at_some}

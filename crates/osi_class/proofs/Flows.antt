@@ -1,4 +1,4 @@
--- What calls of links of class 2 do to the flow control between them.
+-- The effect of calls of links of class 2 on the flow control between them.
 use Rattle.std.proofs.Common.{◌≡◌, ℕ, ◌<◌, ◌≤◌, Bool, true, List, [], ◌∷◌, ◌++◌, Option, Some, None, Result, Ok, Err, inl, inr, refl, sym, ◌∙◌, ap, subst, nat_lt, is_some, if◌then◌else◌, IfSome, IfOk}
 use Rattle.osi_class.proofs.Vocabulary.{flat_map, ltb-true, flat_map-append, Value, request, confirm, disconnect, disconnected, data0, data2, acknowledge, error, LinkFault, OutOfSequence, LinkPair, swapped, Comes, LeftMoves, Turn, at_left, at_right, Turns, TurnsAlong, opened_pair, Direction, InStep, write_unit, take_unit, write_ack, take_ack, known_after, opened, owed, unit_numbers, ack_numbers, direction, HaveFlows, StepsOrStays, TurnSteps, Agree, Ends, Flow, Sender, Receiver, acknowledged, is_awaited, ack_number, after_acked, after_taken, after_sent, fresh_sender, fresh_receiver, Joining, joined, Standing, Given, part0, part2, ack, given_part, next_by, with_joined, with_sender, taken_by, taken, taken_flow, sent_flow, two_standing, Move, hand_in, give_out, take_in, hand_out, Moves, Part, give}
 use Rattle.osi_class.proofs.Classes.{class_turn}
@@ -79,7 +79,7 @@ make_same s t us vs r q xs ys a b c d =
     ap (λ (x : Sender). make x us r xs) a ∙ ap (λ (x : List ℕ). make t x r xs) b
     ∙ ap (λ (x : Receiver). make t vs x xs) c ∙ ap (λ (x : List (ℕ × ℕ)). make t vs q x) d
 
--- the numbers in a channel, after a call put a unit behind those in it
+-- the numbers in a channel, after a call put a unit after those in it
 after_units : {A : Type 0} (f : Given → List A) (old new more : List Given) → new ≡ old ++ more →
     flat_map f new ≡ flat_map f old ++ flat_map f more
 after_units f old new more e = ap (λ (g : List Given). flat_map f g) e ∙ flat_map-append f old more

@@ -1,4 +1,4 @@
--- All that a link gives: a run of units that ends.
+-- All that a link gives: a finite list of units.
 use Rattle.std.proofs.Common.{◌≡◌, ℕ, zero, suc, ◌-◌, ◌<◌, ◌≤◌, List, [], ◌∷◌, map, Option, Some, None, refl, sym, ◌∙◌, ap, arith, nat_lt, is_some, if◌then◌else◌, IfSome}
 use Rattle.osi_class.proofs.Vocabulary.{Ends, Flow, ack_number, after_acked, Drained, drained_by, drained_within, drained, left_to_give, Standing, Given, ack, given_part, next_by, next, sent_flow, two_standing, is_of_two, give_out, MovesAlong, Part, give}
 use Rattle.osi_class.proofs.Ending.{giving_lowers}
@@ -50,7 +50,7 @@ nothing_left s room none =
       | Some p ↦ λ e. let less = giving_lowers s p.1 p.0 room e in absurd (omega arith)
     ] refl
 
--- more room to count in changes nothing
+-- more fuel changes nothing
 within_enough : (n m : ℕ) (s : Standing) → 0 < s.ends.limit → left_to_give s ≤ n → left_to_give s ≤ m →
     drained_within n s ≡ drained_within m s
 within_enough zero zero s room a b = refl
@@ -74,7 +74,7 @@ pub drained_none : (s : Standing) → next s ≡ None → drained s ≡ record {
 unfolding drained
 drained_none s e = within_none (left_to_give s) s e
 
--- one step, where so much is left
+-- one step, if this much is left
 first_step : (n : ℕ) (s t : Standing) (g : Given) → 0 < s.ends.limit → next s ≡ Some (g, t) → left_to_give s ≡ suc n →
     drained s ≡ record { units = g ∷ (drained t).units; link = (drained t).link }
 unfolding drained

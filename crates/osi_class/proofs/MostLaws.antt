@@ -1,4 +1,4 @@
--- What the units that a link gives take at most.
+-- An upper bound on the octets of the units that a link gives.
 use Rattle.std.proofs.Common.{◌≡◌, ℕ, zero, suc, ◌+◌, ◌-◌, ◌*◌, ◌<◌, ◌≤◌, true, false, List, [], ◌∷◌, length, take, drop, map, get_or, Option, Some, None, refl, sym, ◌∙◌, ap, subst, arith, nat_lt, if◌then◌else◌, IfSome, length-drop}
 use Rattle.std.proofs.lemmas.List.Sums.{sum_by-cons}
 use Rattle.osi_class.proofs.Vocabulary.{min, ltb-true, ltb-false, length-take-le, Ends, Flow, ack_number, after_acked, drained_by, drained_within, drained, all_given, left_to_give, octets_of, octets_in, parts_needed, octets_in_parts, most_by, most_given, Standing, Given, ack, given_part, next_by, next, two_standing, sent_flow, Part, give}
@@ -89,7 +89,7 @@ giving_within : (headers : ℕ) (old new : Standing) (unit : Given) → 0 < old.
 giving_within headers old new unit room e =
     at_some (Within headers (most_given headers old)) (next old) (unit, new) (next_within headers old.ends old.flow room) e
 
--- what units take with so many octets of headers for each
+-- what units take with this many octets of headers for each
 abbrev With : ℕ → List Given → ℕ → Type 0
 With headers units most = octets_in units + length units * headers ≤ most
 

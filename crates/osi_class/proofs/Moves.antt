@@ -1,4 +1,4 @@
--- What one call of a link keeps, and a list of calls.
+-- What one call of a link preserves, and a list of calls.
 use Rattle.std.proofs.Common.{◌≡◌, ℕ, Bool, List, [], ◌∷◌, ◌++◌, Option, Some, None, Result, Ok, Err, refl, sym, ◌∙◌, ap, subst, nat_lt, if◌then◌else◌, IfSome, IfOk}
 use Rattle.osi_class.proofs.Vocabulary.{append_assoc, Value, request, confirm, disconnect, disconnected, data0, data2, acknowledge, error, LinkFault, OutOfSequence, Ends, Flow, Sender, acknowledged, is_awaited, ack_number, after_acked, Joining, joined, Standing, Given, ack, given_part, next_by, next, with_joined, with_sender, taken_by, taken, taken_flow, sent_flow, two_standing, Move, hand_in, give_out, take_in, hand_out, Moves, MovesAlong, given_parts, unit_parts, tsdu_in, part_out, part_in, tsdu_out, tsdus_in, parts_out, parts_in, tsdus_out, Part, tsdus_after, uncut, give, MakeTheSame}
 use Rattle.osi_class.proofs.Order.{choose_some, choose_ok, at_some, at_ok, same_behind_all, Cuts, give_cuts, made, joined_makes, JoinsPart}

@@ -1,4 +1,4 @@
--- Numbers modulo 128 and the counts that they stand for.
+-- Numbers modulo 128 and the counts that they represent.
 use Rattle.std.proofs.Common.{◌≡◌, ℕ, zero, suc, ◌+◌, ◌-◌, ◌%◌, ◌<◌, ◌≤◌, false, List, [], ◌∷◌, ◌++◌, Ok, ◌∙◌, ap, arith, nat_lt}
 use Rattle.osi_class.proofs.Vocabulary.{le-ltb, map-append, Sender, steps_before, acknowledged, numbers, restoring}
 
@@ -14,7 +14,7 @@ earlier_number count ahead small = omega arith
 pub steps_between : (count ahead : ℕ) → ahead < 128 → steps_before ((count + ahead) % 128) (count % 128) ≡ ahead
 steps_between count ahead small = omega arith
 
--- one more unit, behind the others
+-- one more unit, after the others
 pub numbers_snoc : (count units : ℕ) → numbers count (suc units) ≡ numbers count units ++ ((count + units) % 128) ∷ []
 numbers_snoc count zero = let e : count % 128 ≡ (count + 0) % 128 = omega arith in ap (λ (n : ℕ). n ∷ []) e
 numbers_snoc count (suc units) =

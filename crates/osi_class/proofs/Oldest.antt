@@ -1,4 +1,4 @@
--- Between links that agree the oldest unit under way is taken.
+-- Between links that agree, the oldest unit in flight can be taken.
 use Rattle.std.proofs.Common.{◌≡◌, ℕ, Bool, true, false, List, [], ◌∷◌, Option, Some, None, Result, Ok, Err, refl, sym, ◌∙◌, ap, subst, if◌then◌else◌}
 use Rattle.osi_class.proofs.Vocabulary.{flat_map, AllByRecursion, data0, data2, acknowledge, LinkFault, OutOfSequence, LinkPair, swapped, parts_under_way, under_way, HasWholeTsdus, IsShortTsdu, AreOfClass, TakesOldest, unit_numbers, ack_numbers, direction, Agree, AgreeZero, restored, Flow, Sender, Joining, with_part, joined, Standing, Given, part0, part2, ack, with_joined, with_sender, taken_by, taken, taken_flow, unit_of, given_in, is_of_two}
 use Rattle.osi_class.proofs.Order.{append_nil}

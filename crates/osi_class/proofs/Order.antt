@@ -1,4 +1,4 @@
--- Parts in order: cutting and joining keep the TSDUs.
+-- Parts in order: cutting and joining preserve the TSDUs.
 use Rattle.std.proofs.Common.{◌≡◌, ℕ, ◌+◌, Bool, true, false, List, [], ◌∷◌, ◌++◌, length, take, drop, Option, Some, Result, Ok, Err, refl, sym, ◌∙◌, ap, subst, nat_lt, if◌then◌else◌, IfSome, IfOk}
 use Rattle.osi_class.proofs.Vocabulary.{append_assoc, take-append-drop, TsduTooLong, longest_tsdu, Joining, with_part, joined, Part, tsdus, tsdus_after, uncut, give, MakeTheSame}
 
@@ -24,7 +24,7 @@ at_some {A} P o x h e = let Q = λ (o : Option A). IfSome o P in subst Q e h
 pub at_ok : {A E : Type 0} (P : A → Type 0) (r : Result A E) (x : A) → IfOk r P → r ≡ Ok x → P x
 at_ok {A} {E} P r x h e = let Q = λ (r : Result A E). IfOk r P in subst Q e h
 
--- parts that make the same TSDUs do so behind a part, and so behind any
+-- parts that make the same TSDUs do so after a part, and so after any
 pub same_behind : (p : Part) (xs ys : List Part) → MakeTheSame xs ys → MakeTheSame (p ∷ xs) (p ∷ ys)
 same_behind (false, octets) xs ys same begun = same (begun ++ octets)
 same_behind (true, octets) xs ys same begun = ap (λ l. (begun ++ octets) ∷ l) (same [])
@@ -37,7 +37,7 @@ pub uncut_tsdus : (ts : List (List ℕ)) → tsdus (uncut ts) ≡ ts
 uncut_tsdus [] = refl
 uncut_tsdus (t ∷ ts) = ap (λ l. t ∷ l) (uncut_tsdus ts)
 
--- the next part and what is unsent behind it make the TSDUs that were unsent
+-- the next part and what is unsent after it make the TSDUs that were unsent
 abbrev pub Cuts : List (List ℕ) → Part × List (List ℕ) → Type 0
 Cuts unsent (p, rest) = (later : List (List ℕ)) → MakeTheSame (p ∷ uncut (rest ++ later)) (uncut (unsent ++ later))
 
@@ -50,7 +50,7 @@ give_cuts limit (tsdu ∷ more) =
       | false ↦ λ later begun. refl
     ]
 
--- what waits, then what the parts make
+-- what is queued, then what the parts make
 abbrev pub made : Joining → List Part → List (List ℕ)
 made j parts = j.whole ++ tsdus_after j.begun parts
 

@@ -76,7 +76,7 @@ ack_written d known h waiting =
       window = h.window;
     }
 
--- the first Ack under way, and those behind it
+-- the first Ack in flight, and those after it
 ack_first : (d : Direction) (known : ℕ) (ack : ℕ × ℕ) (rest : List (ℕ × ℕ)) → InStep d known → d.acks ≡ ack ∷ rest →
     (ack ≡ ((known + 1) % 128, d.receiver.window)) × (rest ≡ restoring d.receiver.window (numbers (known + 1 + 1) (length rest)))
 ack_first d known ack rest h e =

@@ -8,7 +8,7 @@ pub some_rest : (s : Standing) (rest : List ℕ) → 0 < length rest → with_re
 some_rest s [] h = absurd (omega arith)
 some_rest s (octet ∷ rest) h = refl
 
--- a link with nothing to be sent, as it stands behind a part
+-- a link with nothing to be sent, after a part
 abbrev nothing_unsent : Ends → Option Flow → Standing
 nothing_unsent e flow = record { ends = record e { unsent = [] }; flow = flow }
 
@@ -16,7 +16,7 @@ nothing_unsent e flow = record { ends = record e { unsent = [] }; flow = flow }
 abbrev first_of : ℕ → List ℕ → Bool → Option (Part × List (List ℕ))
 first_of limit t longer = if longer then Some ((false, take limit t), drop limit t ∷ []) else Some ((true, t), [])
 
--- so many octets of it, and what is left behind them
+-- this many octets of it, and what is left after them
 abbrev given_first : Option ℕ → Standing → List ℕ → Bool → ℕ → Option (Given × Standing)
 given_first number s t end n = Some (part_under number end (take n t), with_rest s (drop (length (take n t)) t))
 
@@ -74,7 +74,7 @@ positive : (n : ℕ) → (n ≡ 0 → ⊥) → 0 < n
 positive zero h = absurd (h refl)
 positive (suc n) h = omega arith
 
--- A link that gives nothing, and would give something of a TSDU that is handed in, may give it at once.
+-- A link that gives nothing, and would give something of a TSDU that is handed in, may give that at once.
 goes_by : (e : Ends) (flow : Option Flow) (t : List ℕ) → next (record { ends = e; flow = flow }) ≡ None →
     (next (with_tsdu (record { ends = e; flow = flow }) t) ≡ None → ⊥) → GoesAtOnce (record { ends = e; flow = flow })
 goes_by e None t none some = record { alone = (class_0 e).0 none; may = tt }

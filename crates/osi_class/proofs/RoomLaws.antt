@@ -1,4 +1,4 @@
--- What the units of one TSDU take, at a link that had nothing more to give.
+-- The octets of the units of one TSDU, at a link that had nothing more to give.
 use Rattle.std.proofs.Common.{◌≡◌, ℕ, zero, suc, ◌+◌, ◌-◌, ◌*◌, ◌/◌, ◌%◌, ◌<◌, ◌≤◌, true, false, List, [], ◌∷◌, ◌++◌, length, take, drop, Option, Some, None, inl, inr, refl, sym, ◌∙◌, ap, subst, arith, nat_lt, if◌then◌else◌, length-drop, length-append}
 use Rattle.osi_class.proofs.Vocabulary.{min, add-div_right, div-eq_of_lt, ltb-true, ltb-false, take-append-drop, Ends, Flow, drained_by, drained_within, drained, octets_in, parts_needed, Joining, Standing, Given, given_part, next, sent_flow, with_tsdu, zero_standing, two_standing, give}
 use Rattle.osi_class.proofs.Giving.{within_none, drained_none}
@@ -109,7 +109,7 @@ two_counts limit room (suc n) a u c w x t j small =
           (omega (arith, is), omega (arith, product))
     ] refl
 
--- what is to be sent is one TSDU, where nothing was
+-- what is to be sent is one TSDU, if nothing was
 alone : (u : List (List ℕ)) (t : List ℕ) → u ≡ [] → u ++ t ∷ [] ≡ t ∷ []
 alone u t e = ap (λ (x : List (List ℕ)). x ++ t ∷ []) e
 

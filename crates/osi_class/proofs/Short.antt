@@ -1,4 +1,4 @@
--- No TSDU between two links grows too long to be taken.
+-- No TSDU between two links becomes too long to be taken.
 use Rattle.std.proofs.Common.{◌≡◌, ℕ, ◌+◌, ◌≤◌, Bool, true, false, List, [], ◌∷◌, ◌++◌, length, Ok, sym, ◌∙◌, ap, subst, arith, nat_lt, length-append, append_assoc}
 use Rattle.osi_class.proofs.Vocabulary.{flat_map, AllByRecursion, le-ltb, append_cancel_left, map-append, longest_tsdu, LinkPair, Turn, TurnsAlong, left_in, right_out, parts_under_way, under_way, HasWholeTsdus, IsShortTsdu, with_part, joined, Part, tsdus_after, uncut}
 use Rattle.osi_class.proofs.Order.{append_nil}
@@ -36,7 +36,7 @@ part_short true octets rest begun ends all =
     let n = length-append begun octets in
     omega arith
 
--- all that is under way, as parts
+-- all that is in flight, as parts
 abbrev pub pending : LinkPair → List Part
 pending p = parts_under_way p.rightward ++ uncut p.left.ends.unsent
 

@@ -1,11 +1,11 @@
--- TSDUs that are put behind what is to be sent together.
+-- TSDUs that are added to those to be sent together.
 use Rattle.std.proofs.Common.{◌≡◌, ℕ, zero, suc, ◌<◌, ◌≤◌, Bool, true, false, List, [], ◌∷◌, ◌++◌, length, take, drop, map, Option, Some, None, refl, sym, ◌∙◌, ap, subst, arith, nat_lt, if◌then◌else◌}
 use Rattle.osi_class.proofs.Vocabulary.{append_assoc, Ends, Flow, ack_number, after_acked, Drained, drained, all_given, left_to_give, given_one_by_one, one_by_one, Standing, Given, ack, with_tsdu, with_tsdus, next, next_by, given_part, two_standing, sent_flow, hand_in, MovesAlong, Part, give}
 use Rattle.osi_class.proofs.Ending.{giving_lowers}
 use Rattle.osi_class.proofs.Giving.{giving_leaves, drained_none, drained_some}
 use Rattle.osi_class.proofs.Order.{append_nil}
 
--- ---- a TSDU that is put behind others changes nothing of what is given before it
+-- ---- a TSDU that is added after others does not change what is given before it
 
 abbrev Gave : Type 0
 Gave = Option (Part × List (List ℕ))

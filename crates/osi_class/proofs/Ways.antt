@@ -18,7 +18,7 @@ given_by_parts : (move : Move) → parts_under_way (given_by move) ≡ part_out 
 given_by_parts (give_out unit) = append_nil (given_parts unit)
 given_by_parts _ = refl
 
--- what comes to a call
+-- what arrives in a call
 come_parts : (move : Move) (old new : List Given) → Comes move old new →
     parts_under_way old ≡ part_in move ++ parts_under_way new
 come_parts (take_in unit) old new (given, says, e) =
@@ -61,7 +61,7 @@ turns_keep old new (turn ∷ turns) later (mid, first, rest) =
     ∙ ap (λ (ts : List (List ℕ)). right_out turn ++ ts) (turns_keep mid new turns later rest)
     ∙ sym (append_assoc (right_out turn) (flat_map right_out turns) (under_way_before new later))
 
--- where what is under way is whole, so that what is handed in stands behind it
+-- what is in flight is whole, so that what is handed in comes after it
 pub whole_kept : (old new : LinkPair) (turns : List Turn) → HasWholeTsdus old → TurnsAlong old turns new →
     under_way old ++ flat_map left_in turns ≡ flat_map right_out turns ++ under_way new
 whole_kept old new turns whole run =

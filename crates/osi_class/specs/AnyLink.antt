@@ -1,4 +1,4 @@
--- What a link of either class holds.
+-- The state of a link of either class.
 use Rattle.osi_class.specs.declared.either.AnyLink.{AnyLink}
 use Rattle.osi_class.specs.declared.either.AnyLink.TheVariants.{Zero, Two}
 use Rattle.osi_class.specs.Link.{Standing, zero_standing, two_standing}

@@ -18,11 +18,11 @@ pub record LinkPair : Type 0 where
 abbrev pub swapped : LinkPair → LinkPair
 swapped p = record { left = p.right; rightward = p.leftward; right = p.left; leftward = p.rightward }
 
--- a unit says what was given, whatever its reference
+-- a unit means what was given, whatever its reference
 abbrev pub Says : Value → Given → Type 0
 Says unit given = given_in unit ≡ given ∷ []
 
--- a unit that is taken is the oldest under way
+-- a unit that is taken is the oldest in flight
 abbrev pub Comes : Move → List Given → List Given → Type 0
 Comes (take_in unit) old new = (given : Given) × Says unit given × (old ≡ given ∷ new)
 Comes move old new = old ≡ new
@@ -64,15 +64,14 @@ abbrev pub right_out : Turn → List (List ℕ)
 right_out (at_left move) = []
 right_out (at_right move) = tsdu_out move
 
--- each is a unit of class 2, or each one of class 0
+-- units of class 2, or units of class 0
 abbrev pub AreOfClass : Bool → List Given → Type 0
 AreOfClass is_two units = AllByRecursion (λ unit. is_of_two unit ≡ is_two) units
 
 abbrev pub parts_under_way : List Given → List Part
 parts_under_way units = flat_map given_parts units
 
--- the TSDUs that were handed in at the left and not yet handed out at the right, where these are
--- handed in later
+-- the TSDUs that were handed in at the left and not yet handed out at the right, if these are handed in later
 abbrev pub under_way_before : LinkPair → List (List ℕ) → List (List ℕ)
 under_way_before p later = p.right.ends.joining.whole
     ++ tsdus_after p.right.ends.joining.begun (parts_under_way p.rightward ++ uncut (p.left.ends.unsent ++ later))
@@ -80,7 +79,7 @@ under_way_before p later = p.right.ends.joining.whole
 abbrev pub under_way : LinkPair → List (List ℕ)
 under_way p = under_way_before p []
 
--- no part is under way without the rest of its TSDU
+-- no part is in flight without the rest of its TSDU
 abbrev pub HasWholeTsdus : LinkPair → Type 0
 HasWholeTsdus p = (later : List (List ℕ)) → under_way_before p later ≡ under_way p ++ later
 
@@ -88,11 +87,11 @@ HasWholeTsdus p = (later : List (List ℕ)) → under_way_before p later ≡ und
 abbrev pub IsFresh : Standing → Type 0
 IsFresh s = (s.ends.unsent ≡ []) × (s.ends.joining.begun ≡ []) × (s.ends.joining.whole ≡ [])
 
--- two links with these units under way to the left one, and none to the right
+-- two links with these units in flight to the left one, and none to the right
 abbrev pub awaiting_pair : Standing → Standing → List Given → LinkPair
 awaiting_pair left right units = record { left = left; rightward = []; right = right; leftward = units }
 
--- two links with nothing under way between them
+-- two links with nothing in flight between them
 abbrev pub opened_pair : Standing → Standing → LinkPair
 opened_pair left right = awaiting_pair left right []
 
@@ -103,7 +102,7 @@ OnlySends (give_out unit) = Unit {0}
 OnlySends (take_in unit) = ⊥
 OnlySends (hand_out tsdu) = ⊥
 
--- nothing is under way, neither link gives anything, and nothing waits to be handed out at the right
+-- nothing is in flight, neither link gives anything, and nothing waits to be handed out at the right
 pub record IsQuiet (p : LinkPair) : Type 0 where
   pub rightward : p.rightward ≡ []
   pub leftward : p.leftward ≡ []
@@ -111,12 +110,12 @@ pub record IsQuiet (p : LinkPair) : Type 0 where
   pub right : next p.right ≡ None
   pub handed_out : p.right.ends.joining.whole ≡ []
 
--- the right link takes this unit, and these are then under way to it
+-- the right link takes this unit, after which these are in flight to it
 pub record TakesOldest (p : LinkPair) (unit : Value) (rest : List Given) : Type 0 where
   pub new : Standing
   pub taken : taken p.right unit ≡ Ok new
   pub turn : Turns (at_right (take_in unit)) p (record { left = p.left; rightward = rest; right = new; leftward = p.leftward })
 
--- short enough to be taken
+-- not too long to be taken
 abbrev pub IsShortTsdu : List ℕ → Type 0
 IsShortTsdu tsdu = length tsdu ≤ longest_tsdu

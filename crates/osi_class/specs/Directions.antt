@@ -16,7 +16,7 @@ ack_numbers (part0 end octets) = []
 ack_numbers (part2 number end octets) = []
 ack_numbers (ack number credit) = (number, credit) ∷ []
 
--- the direction from left to right, where the links have these flows
+-- the direction from left to right, if the links have these flows
 abbrev pub direction : Flow → LinkPair → Flow → Direction
 direction l p r = record {
   sender = l.sender;
@@ -41,7 +41,7 @@ pub record TurnSteps (old : LinkPair) (l r : Flow) (new : LinkPair) : Type 0 whe
   pub have : HaveFlows new left_flow right_flow
   pub steps : StepsOrStays (direction l old r) (direction left_flow new right_flow)
 
--- links of class 2 that agree on what is under way from left to right, for this window
+-- links of class 2 that agree on what is in flight from left to right, for this window
 pub record Agree (p : LinkPair) (units : ℕ) : Type 0 where
   pub left_flow : Flow
   pub right_flow : Flow
@@ -51,7 +51,7 @@ pub record Agree (p : LinkPair) (units : ℕ) : Type 0 where
   pub window : right_flow.receiver.window ≡ units
   pub class : AreOfClass true p.rightward
 
--- links of class 0, with none but their units under way from left to right
+-- links of class 0, with only their units in flight from left to right
 pub record AgreeZero (p : LinkPair) : Type 0 where
   pub left : p.left.flow ≡ None
   pub right : p.right.flow ≡ None

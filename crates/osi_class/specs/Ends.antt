@@ -1,4 +1,4 @@
--- What a link holds of TSDUs, both ways.
+-- The TSDUs that a link holds, both ways.
 use Rattle.std.specs.Prelude.{ℕ, ◌^◌, List, [], Option, Some, None}
 use Rattle.osi_tpdu.specs.Limits.{size_code}
 use Rattle.osi_tpdu.specs.declared.limits.SizeCode.{SizeCode}

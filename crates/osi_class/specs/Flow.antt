@@ -10,8 +10,8 @@ pub record Sender : Type 0 where
   pub unacknowledged : ℕ
   pub credit : ℕ
 
--- `window`: how many units the peer may send ahead; `expected`: the number awaited next; `waiting`:
--- how many Acks are to be given, one for each unit taken, the last of them for the unit before `expected`
+-- `window`: how many units the peer may send ahead; `expected`: the number expected next; `waiting`: how many Acks are
+-- due, one for each unit taken, the last of them for the unit before `expected`
 pub record Receiver : Type 0 where
   pub window : ℕ
   pub expected : ℕ
@@ -27,7 +27,7 @@ fresh_sender credit = record { next = 0; unacknowledged = 0; credit = credit }
 abbrev pub fresh_receiver : ℕ → Receiver
 fresh_receiver window = record { window = window; expected = 0; waiting = 0 }
 
--- the number that stands `ahead` places before this one, modulo 128
+-- the number `ahead` places before this one, modulo 128
 abbrev pub steps_before : ℕ → ℕ → ℕ
 steps_before number ahead = (number + 128 - ahead) % 128
 
@@ -35,9 +35,8 @@ steps_before number ahead = (number + 128 - ahead) % 128
 abbrev pub after_sent : Sender → Sender
 after_sent s = record { next = (s.next + 1) % 128; unacknowledged = s.unacknowledged + 1; credit = s.credit - 1 }
 
--- An AK acknowledges all units before its number, and lets its credit of units be sent from there
--- on. The number must be one from the lowest not acknowledged to the next to be sent, and the upper
--- edge may not move down.
+-- An AK acknowledges all units before its number, and allows its credit of units from there on. The number must be
+-- between the lowest unacknowledged one and the next to be sent, and the upper edge of the window may not move down.
 abbrev pub acknowledged : Sender → ℕ → ℕ → Result Sender LinkFault
 acknowledged s number credit =
     let left = steps_before s.next number in
@@ -45,7 +44,7 @@ acknowledged s number credit =
     else (if nat_lt credit (s.credit + left) then Err CreditReduced
     else Ok (record { next = s.next; unacknowledged = left; credit = credit - left }))
 
--- the unit with this number is awaited, and the peer has credit for it
+-- the unit with this number is expected, and the peer has credit for it
 abbrev pub is_awaited : Receiver → ℕ → Bool
 is_awaited r number = (number == r.expected) && nat_lt r.waiting r.window
 
@@ -53,7 +52,7 @@ is_awaited r number = (number == r.expected) && nat_lt r.waiting r.window
 abbrev pub after_taken : Receiver → Receiver
 after_taken r = record { window = r.window; expected = (r.expected + 1) % 128; waiting = r.waiting + 1 }
 
--- the number of the first waiting Ack
+-- the number of the first Ack that is due
 abbrev pub ack_number : Receiver → ℕ
 ack_number r = steps_before r.expected (r.waiting - 1)
 

@@ -1,4 +1,4 @@
--- The taking side: the TSDU whose end has not come, and those that stand whole.
+-- The receiving side: the unfinished TSDU, and the complete ones.
 use Rattle.std.specs.Prelude.{◌≡◌, ℕ, ◌+◌, Bool, true, false, List, [], ◌∷◌, ◌++◌, length, nat_lt, Result, Ok, Err, if◌then◌else◌}
 use Rattle.osi_class.specs.declared.faults.LinkFault.{LinkFault}
 use Rattle.osi_class.specs.declared.faults.LinkFault.TheVariants.{TsduTooLong}
@@ -19,6 +19,6 @@ with_part j true octets = record { begun = []; whole = j.whole ++ (j.begun ++ oc
 abbrev pub joined : Joining → Bool → List ℕ → Result Joining LinkFault
 joined j last octets = if nat_lt longest_tsdu (length j.begun + length octets) then Err TsduTooLong else Ok (with_part j last octets)
 
--- one part joined to a TSDU of which so much was taken
+-- one part joined to a TSDU of which `taken` was received
 abbrev pub joined_to : List ℕ → Bool → List ℕ → Result Joining LinkFault
 joined_to begun last octets = joined (joining begun []) last octets

@@ -1,4 +1,4 @@
--- Bounds, and the numbers of the small types with one.
+-- Bounds, and the numbers of the small types.
 use Rattle.std.specs.Prelude.{ℕ}
 use Rattle.osi_class.specs.declared.limits.Credit.{Credit}
 

@@ -1,4 +1,4 @@
--- What a link holds, and what each call answers and leaves.
+-- The state of a link, and the results and effects of its calls.
 use Rattle.std.specs.Prelude.{◌≡◌, ℕ, ◌-◌, ◌<◌, ◌≤◌, Bool, true, false, ◌||◌, List, [], ◌∷◌, ◌++◌, length, nat_lt, Option, Some, None, Result, Ok, Err, if◌then◌else◌}
 use Rattle.osi_tpdu.specs.Value.{Value, data0, data2, acknowledge}
 use Rattle.osi_class.specs.declared.faults.LinkFault.{LinkFault}
@@ -21,7 +21,7 @@ zero_standing ends = record { ends = ends; flow = None }
 abbrev pub two_standing : Ends → Flow → Standing
 two_standing ends flow = record { ends = ends; flow = Some flow }
 
--- what a link of class 2 holds
+-- the state of a link of class 2
 pub record Two : Type 0 where
   pub ends : Ends
   pub flow : Flow
@@ -36,11 +36,11 @@ fresh_two unit_size window credit = record {
 abbrev pub unsent_octets : Standing → ℕ
 unsent_octets s = octets_of_tsdus s.ends.unsent
 
--- a TSDU is put behind those that are to be sent
+-- a TSDU is added to those to be sent
 abbrev pub with_tsdu : Standing → List ℕ → Standing
 with_tsdu s tsdu = record s { ends = record s.ends { unsent = s.ends.unsent ++ tsdu ∷ [] } }
 
--- TSDUs are put there together, the first of them first
+-- TSDUs are added together, in order
 abbrev pub with_tsdus : Standing → List (List ℕ) → Standing
 with_tsdus s tsdus = record s { ends = record s.ends { unsent = s.ends.unsent ++ tsdus } }
 
@@ -55,26 +55,25 @@ given (Data0 end octets) = part0 end octets.now
 given (Data2 number end octets) = part2 number end octets.now
 given (Ack number credit) = ack number credit
 
--- the octets go into a unit of 8,192, and the numbers are in the range of their fields
+-- the octets fit a unit of 8,192, and the numbers are in the range of their fields
 abbrev pub FitsAUnit : Out → Type 0
 FitsAUnit (Data0 end octets) = length octets.now ≤ 8189
 FitsAUnit (Data2 number end octets) = (number < 128) × (length octets.now ≤ 8189)
 FitsAUnit (Ack number credit) = (number < 128) × (credit < 16)
 
--- units of class 2 alone are numbered
+-- only units of class 2 have numbers
 abbrev pub is_of_two : Given → Bool
 is_of_two (part0 end octets) = false
 is_of_two (part2 number end octets) = true
 is_of_two (ack number credit) = true
 
--- the unit of its class for the connection that its taker gave this reference, which a DT of class 0
--- does not name
+-- the unit of its class for the connection with the receiver's reference; a DT of class 0 names none
 abbrev pub unit_of : ℕ → Given → Value
 unit_of destination (part0 end octets) = data0 end octets
 unit_of destination (part2 number end octets) = data2 destination number end octets
 unit_of destination (ack number credit) = acknowledge credit destination number
 
--- what a unit brings to the link of its connection
+-- what a unit means to the link of its connection
 abbrev pub given_in : Value → List Given
 given_in (data0 end octets) = part0 end octets ∷ []
 given_in (data2 destination number end octets) = part2 number end octets ∷ []
@@ -95,8 +94,8 @@ given_part e flow number (Some ((end, octets), unsent)) =
 abbrev pub sent_flow : Flow → Flow
 sent_flow f = record f { sender = after_sent f.sender }
 
--- The unit that is given next, and the link after it. In class 2 Acks come first, each with the
--- whole window as its credit, and data only where there is credit.
+-- The next unit to be given, and the link after it. In class 2 Acks come first, each with the whole window as its
+-- credit, and data only if there is credit.
 abbrev pub next_by : Ends → Option Flow → Option (Given × Standing)
 next_by e None = given_part e None None (give e.limit e.unsent)
 next_by e (Some f) =
@@ -108,7 +107,7 @@ next_by e (Some f) =
 abbrev pub next : Standing → Option (Given × Standing)
 next s = next_by s.ends s.flow
 
--- none exactly where the definitions give none
+-- none exactly if the definitions give none
 abbrev pub Gives : Option Out → Option (Given × Standing) → Standing → Standing → Type 0
 Gives None next old new = (next ≡ None) × (new ≡ old)
 Gives (Some out) next old new = next ≡ Some (given out, new)
@@ -125,8 +124,8 @@ with_sender e f (Ok sender) = Ok (two_standing e (record f { sender = sender }))
 abbrev pub taken_flow : Flow → Flow
 taken_flow f = record f { receiver = after_taken f.receiver }
 
--- What a unit does to a link. In class 0 a DT is joined to its TSDU. In class 2 so is a DT that is
--- awaited, and an AK moves the sender's edges. All else has the wrong form.
+-- The effect of a unit on a link. In class 0 a DT is joined to its TSDU. In class 2 so is an expected DT, and an AK
+-- moves the sender's window. Any other unit has the wrong form.
 abbrev pub taken_by : Ends → Option Flow → Value → Result Standing LinkFault
 taken_by e None (data0 end octets) = with_joined e None (joined e.joining end octets)
 taken_by e (Some f) (data2 destination number end octets) =
@@ -138,7 +137,7 @@ taken_by e flow unit = Err WrongForm
 abbrev pub taken : Standing → Value → Result Standing LinkFault
 taken s unit = taken_by s.ends s.flow unit
 
--- memory is needed for the octets of a part, and for the place of a TSDU that it ends
+-- memory is needed for the octets of a part, and for the queue place of a TSDU that it ends
 abbrev pub part_needs_memory : Bool → List ℕ → Bool
 part_needs_memory end octets = end || nat_lt 0 (length octets)
 
@@ -147,7 +146,7 @@ needs_memory (data0 end octets) = part_needs_memory end octets
 needs_memory (data2 destination number end octets) = part_needs_memory end octets
 needs_memory unit = false
 
--- the first whole TSDU is handed out, none exactly where none stands whole
+-- the first complete TSDU is handed out; none exactly if there is none
 abbrev pub Hands : Option (List ℕ) → Standing → Standing → Type 0
 Hands None old new = (old.ends.joining.whole ≡ []) × (new ≡ old)
 Hands (Some tsdu) old new =

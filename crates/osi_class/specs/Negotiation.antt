@@ -23,7 +23,7 @@ abbrev pub lists : Option (List ℕ) → ℕ → Bool
 lists None class = false
 lists (Some octets) class = list_any (λ octet. octet / 16 == class) octets
 
--- it names no class but 0
+-- it names only class 0
 abbrev pub lists_zero_alone : Option (List ℕ) → Bool
 lists_zero_alone None = true
 lists_zero_alone (Some octets) = list_all (λ octet. octet / 16 == 0) octets
@@ -39,7 +39,7 @@ proposes_zero_alone c = (c.class == 0) && lists_zero_alone c.parameters.alternat
 abbrev pub keeps_flow_control : Connect → Bool
 keeps_flow_control c = not (c.options % 2 == 1)
 
--- the smaller of the proposed size and this end's; none where the CR proposes none
+-- the smaller of the proposed size and this end's; none if the CR proposes none
 abbrev pub selected_size : Connect → Local → Option ℕ
 selected_size c local = option_map (λ code. min code (size_code local.size)) c.parameters.size
 

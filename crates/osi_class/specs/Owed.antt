@@ -1,9 +1,9 @@
--- One direction of a connection of class 2 that is open at both ends: what its sender has sent, what
--- is under way, and what its receiver owes.
+-- The credit in one direction of a connection of class 2 that is open at both ends: what its sender has sent, what is
+-- in flight, and what its receiver owes.
 use Rattle.std.specs.Prelude.{◌≡◌, ℕ, zero, suc, ◌+◌, ◌-◌, ◌%◌, ◌<◌, ◌≤◌, true, List, [], ◌∷◌, ◌++◌, map, length, Ok}
 use Rattle.osi_class.specs.Flow.{Sender, Receiver, fresh_sender, fresh_receiver, after_sent, acknowledged, is_awaited, after_taken, ack_number, after_acked}
 
--- the numbers that `units` units have, where the first has `count` before it
+-- the numbers of `units` units, the first of which comes after `count` others
 abbrev pub numbers : ℕ → ℕ → List ℕ
 numbers count zero = []
 numbers count (suc units) = (count % 128) ∷ numbers (count + 1) units
@@ -20,15 +20,15 @@ pub record Direction : Type 0 where
   pub receiver : Receiver
   pub acks : List (ℕ × ℕ)
 
--- how many units the receiver took that the sender does not know of
+-- how many units the receiver took without the sender knowing it
 abbrev pub unknown : Direction → ℕ
 unknown d = length d.acks + d.receiver.waiting
 
--- units written and not yet taken, Acks waiting or under way, and the sender's open credit
+-- units written and not yet taken, Acks due or in flight, and the sender's open credit
 abbrev pub owed : Direction → ℕ
 owed d = length d.units + unknown d + d.sender.credit
 
--- both ends agree on what is under way, where the sender knows of `known` units that they were taken
+-- both ends agree on what is in flight, if the sender knows that `known` units were taken
 pub record InStep (d : Direction) (known : ℕ) : Type 0 where
   pub units : d.units ≡ numbers (known + unknown d) (length d.units)
   pub acks : d.acks ≡ restoring d.receiver.window (numbers (known + 1) (length d.acks))
@@ -44,7 +44,7 @@ pub data CreditStep : Type 0 where
   write_ack : CreditStep
   take_ack : CreditStep
 
--- what each step does, as the links do it
+-- the effect of each step on the links
 abbrev pub CreditSteps : CreditStep → Direction → Direction → Type 0
 CreditSteps write_unit old new = (0 < old.sender.credit) ×
     (new ≡ record old { sender = after_sent old.sender; units = old.units ++ old.sender.next ∷ [] })
@@ -64,7 +64,7 @@ abbrev pub StepsAlong : Direction → List CreditStep → Direction → Type 0
 StepsAlong old [] new = new ≡ old
 StepsAlong old (step ∷ steps) new = (mid : Direction) × CreditSteps step old mid × StepsAlong mid steps new
 
--- a direction where nothing was sent and the whole window is open
+-- a direction if nothing was sent and the whole window is open
 abbrev pub opened : ℕ → Direction
 opened window = record { sender = fresh_sender window; units = []; receiver = fresh_receiver window; acks = [] }
 

@@ -1,10 +1,10 @@
--- What a call that takes a unit answers, and what it leaves.
+-- The result and the effect of a call that takes a unit.
 use Rattle.std.specs.Prelude.{◌≡◌, Bool, true, Result, Ok, Err, IsOk}
 use Rattle.osi_class.specs.declared.faults.LinkFault.{LinkFault}
 use Rattle.osi_class.specs.declared.faults.LinkFault.TheVariants.{WrongForm, OutOfSequence, CreditReduced, TsduTooLong, OutOfMemory}
 
--- `taken` is what the definitions say of the call: the new state or a fault. Want of memory comes
--- last, where they would have it taken and it needs memory, and then nothing has changed either.
+-- `taken` is what the definitions say of the call: the new state or a fault. An allocation failure is possible only if
+-- they would take the unit and it needs memory; then nothing has changed either.
 abbrev pub TakesUnit : {S A : Type 0} → Result A LinkFault → Bool → Result S LinkFault → S → S → Type 0
 TakesUnit (Ok done) needs taken old new = taken ≡ Ok new
 TakesUnit (Err WrongForm) needs taken old new = (taken ≡ Err WrongForm) × (new ≡ old)

@@ -5,8 +5,7 @@ use Rattle.std.specs.List.{sum_by}
 abbrev pub Part : Type 0
 Part = Bool × List ℕ
 
--- the TSDUs that parts make, where the first of them continues what was begun: a last group without
--- an end makes none
+-- the TSDUs that parts make, if the first of them continues what was begun; an unfinished group at the end makes none
 abbrev pub tsdus_after : List ℕ → List Part → List (List ℕ)
 tsdus_after begun [] = []
 tsdus_after begun ((false, octets) ∷ parts) = tsdus_after (begun ++ octets) parts
@@ -23,7 +22,7 @@ octets_of_tsdus tsdus = sum_by length tsdus
 abbrev pub uncut : List (List ℕ) → List Part
 uncut unsent = map (λ tsdu. (true, tsdu)) unsent
 
--- the next part of what is unsent, of `limit` octets or fewer, and what is unsent behind it
+-- the next part of what is unsent, of `limit` octets or fewer, and what is unsent after it
 abbrev pub give : ℕ → List (List ℕ) → Option (Part × List (List ℕ))
 give limit [] = None
 give limit (tsdu ∷ more) =

@@ -1,4 +1,4 @@
-//! The flow control of class 2 (X.224 section 6.16), at the side that sends and at the one that takes.
+//! The flow control of class 2 (X.224 section 6.16), at the sending and at the receiving side.
 
 ghost use Rattle.std.specs.Prelude.{◌≡◌, ◌<◌, ◌≤◌, ◌+◌, ◌==◌, false, nat_lt, option_map, IfSome, IfNone};
 ghost use Rattle.osi_class.specs.Limits.{credit_units};
@@ -36,7 +36,7 @@ impl Model for SendingFlow {
 }
 
 impl SendingFlow {
-    /// Nothing sent, with the peer's first credit.
+    /// Nothing was sent; the peer gave this first credit.
     pub fn new(credit: Credit) -> Self
         ensures { result ≡ fresh_sender (credit_units credit) }
     {
@@ -47,8 +47,8 @@ impl SendingFlow {
         }
     }
 
-    /// How many units may be sent now, 0 to 15 (X.224 section 6.16). What was sent and not acknowledged
-    /// and this are at most 15 together.
+    /// How many units may be sent now, 0 to 15 (X.224 section 6.16). Together with the unacknowledged units these are
+    /// at most 15.
     pub fn credit(&self) -> u8
         ensures value { result ≡ self.now.credit }
         ensures next { self.now.next < 128 }
@@ -64,7 +64,7 @@ impl SendingFlow {
         self.credit > 0
     }
 
-    /// Counts a unit that is sent, and says its number, 0 to 127.
+    /// Counts a unit that is sent, and returns its number, 0 to 127.
     pub fn count_unit(&mut self) -> u8
         requires { 0 < self.old.credit }
         ensures number { result ≡ self.old.next }
@@ -99,14 +99,14 @@ impl SendingFlow {
 
 /// The receiving side of the flow control of class 2 (X.224 section 6.16).
 ///
-/// Waiting Acks are a count: their numbers follow one another up to the number awaited, and each
-/// has the whole window as its credit. So there is always room for one more.
+/// Acks that are due are only counted: their numbers follow one another up to the expected number, and each has the
+/// whole window as its credit. So there is always room for one more.
 #[derive(Drop)]
 pub struct ReceivingFlow {
     window: Window,
-    /// The number that is awaited next, 0 to 127.
+    /// The number expected next, 0 to 127.
     expected: u8,
-    /// How many Acks are to be given, at most the window.
+    /// How many Acks are due, at most the window.
     waiting: u8,
 }
 
@@ -127,7 +127,7 @@ impl ReceivingFlow {
     ghost use Rattle.osi_tpdu.specs.Limits.{window_units};
     ghost use Rattle.osi_class.specs.Flow.{fresh_receiver, is_awaited, after_taken, ack_number, after_acked};
 
-    /// Nothing taken, with this window.
+    /// Nothing was taken; this is the window.
     pub fn new(window: Window) -> Self
         ensures { result ≡ fresh_receiver (window_units window) }
     {
@@ -138,7 +138,7 @@ impl ReceivingFlow {
         }
     }
 
-    /// The credit of each Ack, 1 to 15. No more Acks wait than that.
+    /// The credit of each Ack, 1 to 15. At most this many Acks are due.
     pub fn window(&self) -> u8
         ensures value { result ≡ self.now.window }
         ensures at_least { 1 ≤ result }
@@ -149,8 +149,8 @@ impl ReceivingFlow {
         self.window.units()
     }
 
-    /// What this becomes where the unit with this number is taken: one more Ack waits. `None` where the
-    /// unit is not awaited, or beyond the window.
+    /// The state after the unit with this number is taken: one more Ack is due. `None` if the unit is not expected, or
+    /// beyond the window.
     #[inline(always)]
     pub fn after(&self, number: u8) -> Option<ReceivingFlow>
         ensures awaited { IfSome result (λ after. (is_awaited self.now number ≡ true) × (after ≡ after_taken self.now)) }
@@ -166,7 +166,7 @@ impl ReceivingFlow {
         })
     }
 
-    /// Whether an Ack waits to be given.
+    /// Whether an Ack is due.
     #[inline(always)]
     pub fn has_ack(&self) -> bool
         ensures { result ≡ nat_lt 0 self.now.waiting }
@@ -174,7 +174,7 @@ impl ReceivingFlow {
         self.waiting > 0
     }
 
-    /// The number of the next Ack, 0 to 127, which waits no longer; none where no Ack waits.
+    /// The number of the next Ack, 0 to 127, which is then no longer due; `None` if no Ack is due.
     pub fn next_ack(&mut self) -> Option<u8>
         ensures number { IfSome result (λ number. (0 < self.old.waiting) × (number ≡ ack_number self.old) × (self.new ≡ after_acked self.old)) }
         ensures in_range { IfSome result (λ number. number < 128) }

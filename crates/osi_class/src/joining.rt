@@ -1,4 +1,4 @@
-//! TSDUs that are joined from the parts that come.
+//! Joining TSDUs from parts.
 
 ghost use Rattle.std.specs.Prelude.{◌≡◌, ◌≤◌, ◌+◌, [], true, length, map};
 ghost use Rattle.osi_class.specs.Joining.{joined, joining};
@@ -13,7 +13,7 @@ use std::alloc::Global;
 use std::marker::Model;
 use std::mem;
 
-/// The TSDU whose end has not come.
+/// The unfinished TSDU.
 #[derive(Drop)]
 pub struct Begun {
     alloc: Global,
@@ -42,9 +42,9 @@ impl Begun {
         }
     }
 
-    /// Takes a part of the TSDU, whose octets are copied once; with the last it goes behind those that stand
-    /// whole. A TSDU of over [`LONGEST_TSDU`] octets is `TsduTooLong`. After a fault nothing has changed.
-    /// Memory is needed only for a part that has an octet or ends its TSDU.
+    /// Takes a part of the TSDU, whose octets are copied once. With its last part the TSDU is complete, and is queued
+    /// after the other complete ones. A TSDU of more than [`LONGEST_TSDU`] octets is `TsduTooLong`. After a fault
+    /// nothing has changed. Memory is needed only for a part that has an octet or ends its TSDU.
     #[inline(always)]
     pub fn join(
         &mut self,
@@ -94,8 +94,8 @@ impl Begun {
         }
     }
 
-    /// Takes the last part of a TSDU, for which no more room is made than it needs. The room for it among
-    /// those that stand whole is made first.
+    /// Takes the last part of a TSDU, with no more room than it needs. The place in the queue of complete TSDUs is
+    /// reserved first.
     fn finish(&mut self, octets: &[u8], whole: &mut Queue<Vec<u8>>) -> Result<(), LinkFault>
         requires { length self.old + length octets.now ≤ longest_tsdu }
         ensures { TakesUnit result true (joined (joining self.old (map (λ v. v.items) whole.old.items)) true octets.now)

@@ -18,9 +18,8 @@ ghost use Rattle.osi_class.specs.Runs.{Move, Moves, MovesAlong, hand_in, give_ou
 ghost use Rattle.osi_class.specs.Sound.{IsSound, HasGivenInRange, TakesInRange};
 ghost use Rattle.osi_class.specs.Tsdus.{Part, MakeTheSame, tsdus, tsdus_after, uncut};
 
-/// What a link gave in a list of calls, followed by what is still to be given, has the TSDUs that
-/// were to be sent before and those handed in, in order. At a link that had nothing to send these
-/// are exactly those handed in.
+/// The units that a link gave in a list of calls, followed by what it still has to give, carry the TSDUs that it had to
+/// send before and those handed in, in order. If the link had nothing to send, these are exactly those handed in.
 pub fn what_is_sent()
     ensures kept { (old new : Standing) (moves : List Move) → MovesAlong old moves new →
         MakeTheSame (parts_out moves ++ uncut new.ends.unsent) (uncut (old.ends.unsent ++ tsdus_in moves)) }
@@ -28,9 +27,9 @@ pub fn what_is_sent()
         tsdus (parts_out moves ++ uncut new.ends.unsent) ≡ tsdus_in moves }
 {}
 
-/// What a link handed out in a list of calls, followed by what waits, is what waited before and the
-/// TSDUs of the units that were taken; what comes later continues the TSDU whose end has not come.
-/// So nothing is handed out before its EOT.
+/// The TSDUs that a link handed out in a list of calls, followed by those that are queued, are those that were queued
+/// before and the TSDUs of the units taken. What arrives later continues the unfinished TSDU. So nothing is handed out
+/// before its EOT.
 pub fn what_is_taken()
     ensures kept { (old new : Standing) (moves : List Move) (later : List Part) → MovesAlong old moves new →
         old.ends.joining.whole ++ tsdus_after old.ends.joining.begun (parts_in moves ++ later)
@@ -40,10 +39,9 @@ pub fn what_is_taken()
         tsdus (parts_in moves) ≡ tsdus_out moves ++ new.ends.joining.whole }
 {}
 
-/// What is owed in one direction of a connection of class 2 that is open at both ends: the units
-/// written and not yet taken, the Acks waiting or under way, and the sender's open credit are together
-/// the receiver's window. It begins so, and each unit written, unit taken, Ack written and Ack taken
-/// keeps it.
+/// The conservation of credit, in one direction of a connection of class 2 that is open at both ends. Units written and
+/// not yet taken, Acks due or in flight, and the sender's open credit add up to the receiver's window. This holds at
+/// the start, and each unit written, unit taken, Ack written and Ack taken preserves it.
 pub fn what_is_owed()
     ensures begins { (window : ℕ) → window ≤ 15 → InStep (opened window) 0 }
     ensures kept { (step : CreditStep) (old new : Direction) (known : ℕ) → InStep old known → CreditSteps step old new →
@@ -53,7 +51,7 @@ pub fn what_is_owed()
         owed d ≡ window }
 {}
 
-/// Between ends in step no unit and no Ack is refused. With nothing under way the whole window is open.
+/// Between ends in step, no unit and no Ack is refused. If nothing is in flight, the whole window is open.
 pub fn nothing_is_refused()
     ensures unit { (d : Direction) (known number : ℕ) (rest : List ℕ) → InStep d known → d.units ≡ number ∷ rest →
         is_awaited d.receiver number ≡ true }
@@ -63,17 +61,17 @@ pub fn nothing_is_refused()
         d.sender.credit ≡ d.receiver.window }
 {}
 
-/// Units are numbered modulo 128 and counted in the laws: the number after a count's is the next
-/// count's, and for counts less than 128 apart steps between their numbers are steps between them.
+/// The protocol numbers units modulo 128, and the laws count them. The number after a count's number is that of the
+/// next count; and for counts less than 128 apart, the difference of their numbers is the difference of the counts.
 pub fn numbers_are_counts()
     ensures next { (count : ℕ) → (count % 128 + 1) % 128 ≡ (count + 1) % 128 }
     ensures earlier { (count ahead : ℕ) → ahead < 128 → steps_before ((count + ahead) % 128) ahead ≡ count % 128 }
     ensures between { (count ahead : ℕ) → ahead < 128 → steps_before ((count + ahead) % 128) (count % 128) ≡ ahead }
 {}
 
-/// Two links and the units between them, over every list of calls at both: what is under way from left
-/// to right, then what is handed in at the left, is what is handed out at the right, then what is
-/// under way after it. The other direction is the same law with the links swapped.
+/// Two links and the units between them, over every list of calls at both: what was in flight from left to right,
+/// followed by what is handed in at the left, is what is handed out at the right, followed by what is in flight
+/// afterwards. For the other direction swap the links.
 pub fn what_is_between()
     ensures kept { (old new : LinkPair) (turns : List Turn) (later : List (List ℕ)) → TurnsAlong old turns new →
         under_way_before old (flat_map left_in turns ++ later) ≡ flat_map right_out turns ++ under_way_before new later }
@@ -86,17 +84,16 @@ pub fn what_is_between()
         TurnsAlong (swapped old) (map opposite turns) (swapped new) }
 {}
 
-/// A link gives nothing exactly where nothing is to be sent, in class 0; and in class 2 where no Ack
-/// waits and either nothing is to be sent or there is no credit.
+/// When a link gives nothing: in class 0 exactly if nothing is to be sent; in class 2 exactly if no Ack is due and
+/// either nothing is to be sent or there is no credit.
 pub fn when_nothing_comes()
     ensures class_0 { (e : Ends) → (next (zero_standing e) ≡ None) ↔ (e.unsent ≡ []) }
     ensures class_2 { (e : Ends) (f : Flow) → (next (two_standing e f) ≡ None) ↔
         ((f.receiver.waiting ≡ 0) × ((e.unsent ≡ []) ⊎ (f.sender.credit ≡ 0))) }
 {}
 
-/// The calls of two links of class 2 make only the steps of [`what_is_owed`], or none. So two links
-/// that begin with the receiver's window as the sender's credit agree after every list of calls, and
-/// what is owed is the window.
+/// The calls of two links of class 2 make only the steps of [`what_is_owed`], or none. So two links that begin with the
+/// receiver's window as the sender's credit agree after every list of calls, and their credit adds up to the window.
 pub fn credit_between()
     ensures steps { (turn : Turn) (old new : LinkPair) (l r : Flow) → HaveFlows old l r → Turns turn old new → TurnSteps old l r new }
     ensures begins { (left right : Standing) (l r : Flow) (units : ℕ) → left.flow ≡ Some l → right.flow ≡ Some r →
@@ -105,9 +102,8 @@ pub fn credit_between()
     ensures owed { (p : LinkPair) (units : ℕ) (a : Agree p units) → owed (direction a.left_flow p a.right_flow) ≡ units }
 {}
 
-/// Each unit that a link gives leaves less to give, so a loop over `next_out` ends. It is a unit of the
-/// link's class: a DT of class 0 alone in class 0, and a DT of class 2 or an AK in class 2. What was
-/// taken stays as it is.
+/// Each unit that a link gives leaves less to give, so a loop over `next_out` terminates. The unit is of the link's
+/// class: a DT of class 0 in class 0, and a DT of class 2 or an AK in class 2. The receiving side stays as it is.
 pub fn giving_ends()
     ensures less { (old new : Standing) (given : Given) → 0 < old.ends.limit → next old ≡ Some (given, new) →
         left_to_give new < left_to_give old }
@@ -115,9 +111,9 @@ pub fn giving_ends()
     ensures joining { (old new : Standing) (given : Given) → next old ≡ Some (given, new) → new.ends.joining ≡ old.ends.joining }
 {}
 
-/// What a link gives until it gives none, and the link after that (`drained`): nothing where it gives
-/// none, and else the next unit and what is given after it. Then nothing comes. It is what the calls
-/// of `next_out` give, and what was taken stays as it is.
+/// All that a link gives, and the link after that (`drained`): nothing if `next_out` gives nothing, otherwise the next
+/// unit and what is given after it. After that it gives nothing more. These are the results of calling `next_out`, and
+/// the receiving side stays as it is.
 pub fn all_is_given()
     ensures none { (s : Standing) → next s ≡ None → drained s ≡ record { units = []; link = s } }
     ensures some { (s t : Standing) (unit : Given) → 0 < s.ends.limit → next s ≡ Some (unit, t) →
@@ -129,24 +125,24 @@ pub fn all_is_given()
     ensures class { (s : Standing) → is_some (drained s).link.flow ≡ is_some s.flow }
 {}
 
-/// TSDUs that are handed in together are put behind what is to be sent one after the other. A link that
-/// gave nothing before then gives what it gives for each of them by itself, where the next is handed in behind
-/// all that is given for the one before; and it is the same link after that.
+/// TSDUs that are handed in together are queued for sending one after the other. If a link had nothing to give before,
+/// it then gives the same units as if each TSDU were handed in after all units of the one before were given, and it is
+/// the same link after that.
 pub fn many_go_as_one_by_one()
     ensures moves { (s : Standing) (tsdus : List (List ℕ)) → MovesAlong s (map hand_in tsdus) (with_tsdus s tsdus) }
     ensures given { (s : Standing) (tsdus : List (List ℕ)) → 0 < s.ends.limit → next s ≡ None →
         drained (with_tsdus s tsdus) ≡ record { units = given_one_by_one s tsdus; link = one_by_one s tsdus } }
 {}
 
-/// What a link gives until it gives none takes no more octets than `most_given`, with so many octets of
-/// headers for each unit: in class 2 only what there is credit for.
+/// All that a link gives has at most `most_given` octets, with this many octets of headers for each unit. In class 2
+/// this counts only units for which there is credit.
 pub fn what_units_take()
     ensures { (headers : ℕ) (s : Standing) → 0 < s.ends.limit →
         octets_in (all_given s) + length (all_given s) * headers ≤ most_given headers s }
 {}
 
-/// A link begins with the bounds of `IsSound` and keeps them in every call, for units whose numbers are
-/// in the range of their fields. In every call it keeps its limit and its class.
+/// A new link satisfies the bounds of `IsSound`, and every call keeps them, for units whose numbers are in range. No
+/// call changes its limit or its class.
 pub fn a_link_keeps_its_bounds()
     ensures class_0 { (size : Option SizeCode) → IsSound (zero_standing (fresh_ends (unit_size size - 3))) }
     ensures class_2 { (size : Option SizeCode) (window credit : ℕ) → 1 ≤ window → window ≤ 15 → credit ≤ 15 →
@@ -156,8 +152,8 @@ pub fn a_link_keeps_its_bounds()
     ensures class { (move : Move) (old new : Standing) → Moves move old new → is_some new.flow ≡ is_some old.flow }
 {}
 
-/// Between two links whose users hand in TSDUs of at most 1,048,576 octets, none that is under way
-/// has more, and no part of one is refused as too long.
+/// If the users of two links hand in only TSDUs of at most 1,048,576 octets, no TSDU in flight is longer, and no part
+/// is refused as too long.
 pub fn no_tsdu_is_too_long()
     ensures kept { (old new : LinkPair) (turns : List Turn) → HasWholeTsdus old → AllByRecursion IsShortTsdu (under_way old) →
         AllByRecursion IsShortTsdu (flat_map left_in turns) → TurnsAlong old turns new → AllByRecursion IsShortTsdu (under_way new) }
@@ -166,13 +162,13 @@ pub fn no_tsdu_is_too_long()
         joined p.right.ends.joining end octets ≡ Ok (with_part p.right.ends.joining end octets) }
 {}
 
-/// A unit that a link gives, written for any reference, brings its peer's link what was given.
+/// A unit that a link gives, written for any reference, means to its peer's link what was given.
 pub fn a_unit_says_what_was_given()
     ensures { (destination : ℕ) (unit : Given) → given_in (unit_of destination unit) ≡ unit ∷ [] }
 {}
 
-/// What a sound link gives of TSDUs that are octets is in the range of its fields, and what is left
-/// are octets. So it can be written for each reference; its octets are those of its header and data.
+/// If its TSDUs consist of octets, a sound link gives units that are in the range of their fields, and what is left
+/// consists of octets. So each unit can be written for any reference, and its octets are those of its header and data.
 pub fn what_is_given_can_be_written()
     ensures range { (old new : Standing) (unit : Given) → IsSound old → AllByRecursion IsOctets old.ends.unsent →
         next old ≡ Some (unit, new) → HasGivenInRange unit }
@@ -183,16 +179,16 @@ pub fn what_is_given_can_be_written()
         length (written (unit_of destination unit)) ≡ header_octets unit + octets_of unit }
 {}
 
-/// Two links of class 0 with none but units of class 0 between them stay so, whatever is called. With
-/// [`credit_between`], which says it of class 2, links that were opened in one class agree after every
-/// list of calls.
+/// Two links of class 0 with only units of class 0 between them stay so, whatever calls are made. Together with
+/// [`credit_between`], which says the same of class 2, links that were opened in one class agree after every list of
+/// calls.
 pub fn class_0_between()
     ensures begins { (left right : Standing) → left.flow ≡ None → right.flow ≡ None → AgreeZero (opened_pair left right) }
     ensures kept { (turns : List Turn) (old new : LinkPair) → AgreeZero old → TurnsAlong old turns new → AgreeZero new }
 {}
 
-/// Between links that agree, with whole TSDUs under way and none that is too long, the unit that is
-/// oldest under way is taken: a DT or an AK, in both classes.
+/// Between links that agree, with whole TSDUs in flight and none that is too long, the oldest unit in flight can be
+/// taken: a DT or an AK, in both classes.
 pub fn the_oldest_is_taken()
     ensures class_0 { (p : LinkPair) (unit : Given) (rest : List Given) (destination : ℕ) → AgreeZero p → HasWholeTsdus p →
         AllByRecursion IsShortTsdu (under_way p) → p.rightward ≡ unit ∷ rest → TakesOldest p (unit_of destination unit) rest }
@@ -201,9 +197,9 @@ pub fn the_oldest_is_taken()
         AllByRecursion IsShortTsdu (under_way p) → p.rightward ≡ unit ∷ rest → TakesOldest p (unit_of destination unit) rest }
 {}
 
-/// Between links that agree, where no unit is under way, neither link gives one and no whole TSDU
-/// waits to be handed out, nothing is left behind: what was handed in at the left is what was handed
-/// out at the right, over every list of calls, nothing is unsent, and no TSDU is begun.
+/// Take two links that agree. If no unit is in flight, neither link has a unit to give, and no complete TSDU waits to
+/// be handed out, then nothing is left behind: over every list of calls, what was handed in at the left is what was
+/// handed out at the right, nothing is unsent, and no TSDU is unfinished.
 pub fn all_arrives()
     ensures handed { (old new : LinkPair) (turns : List Turn) → HasWholeTsdus old → under_way old ≡ [] → TurnsAlong old turns new →
         AgreeInClass new → IsQuiet new → flat_map left_in turns ≡ flat_map right_out turns }
@@ -212,8 +208,8 @@ pub fn all_arrives()
     ensures under_way { (p : LinkPair) → p.rightward ≡ [] → p.left.ends.unsent ≡ [] → p.right.ends.joining.whole ≡ [] → under_way p ≡ [] }
 {}
 
-/// A link may send before its peer's link is opened. The pair then begins with the units that it gave
-/// under way, as if both links had been open from the start; so the other laws hold from there on.
+/// A link may send before its peer's link is opened. The pair then begins with the units that it gave in flight, as if
+/// both links had been open from the start, so the other laws hold from there on.
 pub fn units_before_opening()
     ensures turns { (left right new : Standing) (moves : List Move) → AllByRecursion OnlySends moves → MovesAlong right moves new →
         TurnsAlong (opened_pair left right) (map at_right moves) (awaiting_pair left new (flat_map given_by moves)) }

@@ -28,7 +28,7 @@ impl Credit {
         }
     }
 
-    /// The credit of so many units, or of 15 if they are more: a CR, a CC or an AK gives no more.
+    /// The credit of this many units, or of 15 if they are more, because no CR, CC or AK gives more.
     pub fn up_to(units: u8) -> Self
         ensures { credit_units result ≡ min units 15 }
     {

@@ -18,11 +18,10 @@ const NEGOTIATION_FAILED: u8 = 130;
 
 /// The answer to a CR (X.224 section 6.5).
 ///
-/// Class 2 is taken where it is supported and the CR prefers or lists it, unless the CR asks for no
-/// explicit flow control (option bit 1). Else class 0 is taken where it is supported and the CR
-/// prefers or lists it. The size is the smaller of the proposed one and this end's; where the CR
-/// proposes none, none is selected. In an octet of the alternative classes the high half alone
-/// counts. A refusal gives no reason where class 0 alone was proposed.
+/// Class 2 is selected if it is supported and the CR prefers or lists it, unless the CR asks for no explicit flow
+/// control (option bit 1). Otherwise class 0 is selected if it is supported and the CR prefers or lists it. The size is
+/// the smaller of the proposed one and this end's; if the CR proposes none, none is selected. In an octet of the
+/// alternative classes only the high half counts. A refusal gives no reason if only class 0 was proposed.
 pub fn answer(request: &ConnectRequest<'_>, local: &Local) -> Answer
     ensures { selection result ≡ selected_by (request_content request.now) local.now }
 {
@@ -93,7 +92,7 @@ fn refuses_flow_control(request: &ConnectRequest<'_>) -> bool
     request.fields.options % 2 == 1
 }
 
-/// The smaller of the proposed size and this end's, or none where none was proposed.
+/// The smaller of the proposed size and this end's, or none if none was proposed.
 fn selected_size(proposed: Option<SizeCode>, local: SizeCode) -> Option<SizeCode>
     ensures { option_map size_code result ≡ option_map (λ code. min code (size_code local)) (option_map size_code proposed) }
 {

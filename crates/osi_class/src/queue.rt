@@ -1,4 +1,4 @@
-//! A queue whose first value is kept in place.
+//! A queue whose first value is kept inline.
 
 ghost use Rattle.std.specs.Prelude.{◌≡◌, ◌==◌, ◌∷◌, ◌++◌, [], true, false, length, is_some, OnOk, OnErr};
 ghost use Rattle.osi_class.specs.Queues.{PopsFirst};
@@ -7,12 +7,11 @@ use std::alloc::{AllocError, Global};
 use std::collections::VecDeque;
 use std::marker::Model;
 
-/// Values in the order in which they came. The first is kept in place: one that is taken before the next
-/// comes needs no other room.
+/// A queue. The first value is kept inline: a value that is taken before the next one arrives needs no allocation.
 #[derive(Drop)]
 pub struct Queue<T> {
     first: Option<T>,
-    /// Those behind it; none where there is no first one.
+    /// The values after it; none if there is no first one.
     others: VecDeque<T>,
 }
 
@@ -49,7 +48,7 @@ impl<T: Drop> Queue<T> {
         self.first.is_none()
     }
 
-    /// Makes room for one value more. Memory is needed only where there is a first one.
+    /// Makes room for one more value. Memory is needed only if there is a first one.
     #[inline(always)]
     pub fn reserve(&mut self) -> Result<(), AllocError>
         ensures items { self.new.items ≡ self.old.items }
@@ -62,8 +61,8 @@ impl<T: Drop> Queue<T> {
         self.others.reserve(1)
     }
 
-    /// Puts a value behind the others. If there is no memory for it nothing has changed; memory is needed only
-    /// if there is a first one, and never after [`Queue::reserve`].
+    /// Adds a value at the end. If memory runs out, nothing has changed; memory is needed only if there is a first one,
+    /// and never after [`Queue::reserve`].
     #[inline(always)]
     pub fn push(&mut self, value: T) -> Result<(), AllocError>
         ensures ok { OnOk result (self.new.items ≡ self.old.items ++ value ∷ []) }
@@ -79,7 +78,7 @@ impl<T: Drop> Queue<T> {
         Ok(())
     }
 
-    /// The first value leaves, if there is one.
+    /// Removes the first value, if there is one.
     #[inline(always)]
     pub fn pop(&mut self) -> Option<T>
         ensures { PopsFirst result self.old.items self.new.items }

@@ -1,4 +1,4 @@
-//! TSDUs that wait to be sent, and their next part.
+//! TSDUs to be sent, and their next part.
 
 ghost use Rattle.std.specs.Prelude.{◌≡◌, ◌≢◌, ◌≤◌, ◌<◌, ◌+◌, ◌^◌, ◌++◌, [], ◌∷◌, true, false, map, IfNone, IfOk, IsOk, OnOk, OnErr, option_map};
 ghost use Rattle.osi_class.specs.Tsdus.{give, octets_of_tsdus};
@@ -7,25 +7,24 @@ use std::alloc::{AllocError, Global};
 use std::collections::VecDeque;
 use std::marker::Model;
 
-/// The TSDUs that are to be sent, each kept as it was handed in, with the place of the next octet
-/// of the first.
+/// The TSDUs to be sent, each kept as it was handed in, with the offset of the next octet of the first one.
 #[derive(Drop)]
 pub struct Outgoing {
     alloc: Global,
-    /// The TSDU of which a part was given last. It is kept until the next begins, which is copied into
-    /// its room where it fits.
+    /// The TSDU of the last part that was given. It is kept until the next TSDU begins, which is copied into its buffer
+    /// if it fits.
     current: Vec<u8>,
-    /// Whether it was handed in with its room, which is given back once nothing is to be sent.
+    /// Whether it was handed in with its buffer, which is freed once nothing is to be sent.
     is_owned: bool,
-    /// Where the part that was given last begins in it.
+    /// Where the last part that was given begins in it.
     from: usize,
     /// Where that part ends.
     to: usize,
     /// Whether more of it is to be given.
     has_more: bool,
-    /// The TSDUs of which nothing was given.
+    /// The TSDUs of which nothing was given yet.
     queue: VecDeque<Vec<u8>>,
-    /// The octets of these. With those of `current` they are no more than a `usize` counts.
+    /// Their octets. Together with those of `current` they fit a `usize`.
     queued: usize,
 }
 
@@ -45,8 +44,7 @@ impl Model for Outgoing {
         (o.queued ≡ octets_of_tsdus (map (λ v. v.items) o.queue.items)) × (o.queued + length o.current.items < 2 ^ 64) };
 }
 
-/// The octets that are queued with so many more, where they and those of the TSDU before them are no
-/// more than a `usize` counts.
+/// The queued octets plus this many more, if these and those of the TSDU before them fit a `usize`.
 fn queued_with(queued: usize, more: usize, before: usize) -> Result<usize, AllocError>
     ensures { IfOk result (λ octets. (octets ≡ queued + more) × (octets + before < 2 ^ 64)) }
 {
@@ -59,7 +57,7 @@ fn queued_with(queued: usize, more: usize, before: usize) -> Result<usize, Alloc
     Ok(queued + more)
 }
 
-/// The octets of TSDUs, where they are no more than a `usize` counts.
+/// The number of octets of TSDUs, if it fits a `usize`.
 fn octets_of(tsdus: &[Vec<u8>]) -> Result<usize, AllocError>
     ensures { IfOk result (λ octets. octets ≡ octets_of_tsdus (map (λ v. v.items) tsdus.now)) }
 {
@@ -119,7 +117,7 @@ impl Outgoing {
         self.queued
     }
 
-    /// Puts a copy of a TSDU behind those that are to be sent.
+    /// Adds a copy of a TSDU to those to be sent.
     pub fn add(&mut self, tsdu: &[u8]) -> Result<(), AllocError>
         ensures ok { OnOk result (self.new.unsent ≡ self.old.unsent ++ tsdu.now ∷ []) }
         ensures err { OnErr result (self.new ≡ self.old) }
@@ -134,8 +132,7 @@ impl Outgoing {
         Ok(())
     }
 
-    /// Puts copies of TSDUs behind those that are to be sent: of all or of none. Where there are none,
-    /// no memory is needed.
+    /// Adds copies of TSDUs to those to be sent: of all or of none. For an empty list no memory is needed.
     pub fn add_all(&mut self, tsdus: &[Vec<u8>]) -> Result<(), AllocError>
         ensures ok { OnOk result (self.new.unsent ≡ self.old.unsent ++ map (λ v. v.items) tsdus.now) }
         ensures err { OnErr result (self.new ≡ self.old) }
@@ -151,8 +148,8 @@ impl Outgoing {
         Ok(())
     }
 
-    /// Puts TSDUs themselves behind those that are to be sent: all or none. Their octets stay where they
-    /// are. Where there are no TSDUs, no memory is needed.
+    /// Adds TSDUs themselves to those to be sent: all or none. Their octets are not copied. For an empty list no memory
+    /// is needed.
     pub fn add_owned_all(&mut self, tsdus: Vec<Vec<u8>>) -> Result<(), AllocError>
         ensures ok { OnOk result (self.new.unsent ≡ self.old.unsent ++ map (λ v. v.items) tsdus.items) }
         ensures err { OnErr result (self.new ≡ self.old) }
@@ -172,8 +169,8 @@ impl Outgoing {
         Ok(())
     }
 
-    /// Puts a TSDU itself behind those that are to be sent: its octets stay where they are. Where there
-    /// are none, no memory is needed.
+    /// Adds a TSDU itself to those to be sent, without copying its octets. If nothing is to be sent, no memory is
+    /// needed.
     pub fn add_owned(&mut self, tsdu: Vec<u8>) -> Result<(), AllocError>
         ensures ok { OnOk result (self.new.unsent ≡ self.old.unsent ++ tsdu.items ∷ []) }
         ensures err { OnErr result (self.new ≡ self.old) }
@@ -193,8 +190,8 @@ impl Outgoing {
         Ok(())
     }
 
-    /// Begins with a copy of a TSDU, where nothing is to be sent. It goes into the room of the TSDU
-    /// before it, if that is large enough.
+    /// Begins with a copy of a TSDU, if nothing is to be sent. It goes into the buffer of the TSDU before it, if that
+    /// is large enough.
     fn begin(&mut self, tsdu: &[u8]) -> Result<(), AllocError>
         requires { self.old.unsent ≡ [] }
         ensures ok { OnOk result (self.new.unsent ≡ tsdu.now ∷ []) }
@@ -215,7 +212,7 @@ impl Outgoing {
         Ok(())
     }
 
-    /// Whether nothing is to be sent, and no room is to be given back.
+    /// Whether nothing is to be sent, and no buffer is to be freed.
     #[inline(always)]
     pub fn is_at_rest(&self) -> bool
         ensures { result ≡ true → self.now.unsent ≡ [] }
@@ -223,9 +220,9 @@ impl Outgoing {
         self.is_empty() && !self.is_owned
     }
 
-    /// Goes to the next part, of `limit` octets or fewer, and says whether it ends its TSDU. An
-    /// empty TSDU is one part with no octet. Takes no memory. Where nothing is to be sent, the room of a
-    /// TSDU that was handed in with it is given back. It stands out of line: mostly nothing is to be done.
+    /// Goes to the next part, of at most `limit` octets, and returns whether it ends its TSDU. An empty TSDU is one
+    /// part with no octets. Allocates nothing. If nothing is to be sent, the buffer of a TSDU that was handed in with
+    /// it is freed. It is kept out of line, because mostly there is nothing to do.
     #[inline(never)]
     pub fn advance(&mut self, limit: usize) -> Option<bool>
         ensures given { give limit self.old.unsent ≡ option_map (λ last. ((last, self.new.part), self.new.unsent)) result }
@@ -255,7 +252,7 @@ impl Outgoing {
         Some(true)
     }
 
-    /// The octets of the part that [`Outgoing::advance`] went to last.
+    /// The octets of the part to which [`Outgoing::advance`] went last.
     pub fn part(&self) -> &[u8]
         ensures { result.now ≡ self.now.part }
     {

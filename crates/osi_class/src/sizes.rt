@@ -1,4 +1,4 @@
-//! Sizes of units, and how many parts a TSDU has.
+//! Sizes of units, and the number of parts of a TSDU.
 
 ghost use Rattle.std.specs.Prelude.{◌≡◌, ◌<◌, ◌≤◌, ◌+◌, ◌*◌, ◌^◌, min, length, map, IfSome, IfNone, SomeIff};
 ghost use Rattle.osi_tpdu.specs.Limits.{size_code};
@@ -8,16 +8,15 @@ ghost use Rattle.osi_class.specs.Giving.{parts_needed, octets_in_parts};
 use crate::units::Room;
 use osi_tpdu::SizeCode;
 
-/// The smaller of two sizes, as of the one that is proposed and the one that an end accepts (X.224
-/// section 13.3.4).
+/// The smaller of two sizes, for example of the proposed one and the one that an end accepts (X.224 section 13.3.4).
 pub fn smaller_size(a: SizeCode, b: SizeCode) -> SizeCode
     ensures { size_code result ≡ min (size_code a) (size_code b) }
 {
     if a.code() <= b.code() { a } else { b }
 }
 
-/// The most octets that a unit has, header included: the selected size, or 128 where none was
-/// selected (X.224 section 13.3.4).
+/// The most octets that a unit has, header included: the selected size, or 128 if none was selected (X.224 section
+/// 13.3.4).
 pub fn most_octets(size: Option<SizeCode>) -> usize
     ensures value { result ≡ unit_size size }
     ensures at_least { 128 ≤ result }
@@ -29,7 +28,7 @@ pub fn most_octets(size: Option<SizeCode>) -> usize
     }
 }
 
-/// In how many parts of `limit` octets or fewer a TSDU of so many octets is cut.
+/// The number of parts, of at most `limit` octets, into which a TSDU of this many octets is cut.
 pub fn count_parts(limit: usize, octets: usize) -> usize
     requires { 123 ≤ limit }
     ensures value { result ≡ parts_needed limit octets }
@@ -38,7 +37,7 @@ pub fn count_parts(limit: usize, octets: usize) -> usize
     octets.saturating_sub(1) / limit + 1
 }
 
-/// What is given of a TSDU of so many octets with this credit, in parts of `limit` octets or fewer.
+/// How much of a TSDU of this many octets is given with this credit, in parts of at most `limit` octets.
 pub fn room_within(limit: usize, credit: u8, octets: usize) -> Room
     requires at_least { 123 ≤ limit }
     requires at_most { limit ≤ 8189 }
@@ -53,8 +52,8 @@ pub fn room_within(limit: usize, credit: u8, octets: usize) -> Room
     }
 }
 
-/// How many octets a TSDU of so many takes in parts of `limit` octets or fewer, with so many octets of
-/// headers for each part. `None` only where they are more than a `usize` counts.
+/// How many octets a TSDU takes in parts of at most `limit` octets, with this many octets of headers for each part.
+/// `None` only if they don't fit a `usize`.
 fn room_in_parts(limit: usize, headers: u8, octets: usize) -> Option<usize>
     requires { 123 ≤ limit }
     ensures { SomeIff result (octets + parts_needed limit octets * headers < 2 ^ 64) (octets + parts_needed limit octets * headers) }
@@ -64,8 +63,7 @@ fn room_in_parts(limit: usize, headers: u8, octets: usize) -> Option<usize>
     octets.checked_add(behind)
 }
 
-/// How many octets these TSDUs take together in such parts. `None` only where they are more than a `usize`
-/// counts.
+/// How many octets these TSDUs take together in such parts. `None` only if they don't fit a `usize`.
 pub fn room_for_parts(limit: usize, headers: u8, tsdus: &[Vec<u8>]) -> Option<usize>
     requires { 123 ≤ limit }
     ensures value { IfSome result (λ room. room ≡ octets_in_parts headers limit (map (λ v. v.items) tsdus.now)) }

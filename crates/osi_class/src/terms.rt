@@ -1,4 +1,4 @@
-//! What an end supports, and what is agreed upon.
+//! What an end supports, and what is agreed.
 
 use osi_tpdu::{SizeCode, Window};
 
@@ -11,7 +11,7 @@ pub enum Class {
     Two,
 }
 
-/// What this end supports and would have.
+/// What this end supports and prefers.
 #[derive(Clone, Copy, PartialEq, Eq, Debug)]
 pub struct Local {
     /// Whether class 0 is supported.
@@ -24,7 +24,7 @@ pub struct Local {
     pub window: Window,
 }
 
-/// What is answered to a CR (X.224 section 6.5).
+/// The answer to a CR (X.224 section 6.5).
 #[derive(Clone, Copy, PartialEq, Eq, Debug)]
 pub enum Answer {
     /// A CC, with the class and the TPDU size that it selects. Without a size units have at most

@@ -1,4 +1,4 @@
--- Members behind a unit, behind the units of a TSDU, and behind a TSDU that is no session units.
+-- Members after a unit, after the units of a TSDU, and after a TSDU that is not session units.
 use Rattle.std.proofs.Common.{◌≡◌, ◌∙◌, refl, sym, ap, subst, ℕ, suc, zero, ◌+◌, ◌<◌, ◌≤◌, ◌⊎◌, ◌↔◌, ◌||◌, Bool, true, false, inl, inr, List, [], ◌∷◌, ◌++◌, length, map, drop, get_or, Option, Some, None, Result, Err, arith}
 use Rattle.osi_spdu.specs.declared.faults.SpduFault.{SpduFault}
 use Rattle.osi_message.specs.Words.{Word, Words}
@@ -69,7 +69,7 @@ pub further_behind : (octets before : ℕ) (ws : Words) (later : List Remark) �
 further_behind octets before [] later h = h
 further_behind octets before (w ∷ ws) later h = omega arith
 
--- so far the members explain what is still to act
+-- so far the members explain the units that have not taken effect
 abbrev pub UnitsSoFar : List (List ℕ) → ℕ → ℕ → List Member → Words → List Member → Bool → Word → Words → Type 0
 UnitsSoFar heard octets before members words now restarts item ws = Ever heard before (λ (us : List (List ℕ)) (later : List Remark).
     SomeExplains us members (further octets before (acting_words words) later) ↔ SomeExplains us now (further octets before (acting_behind restarts item ws) later))
@@ -116,7 +116,7 @@ units_item heard octets before members words now new restarts item first ws s e 
     (subst (λ (y : Words). SomeExplains us members (further octets before (acting_words words) later) ↔ SomeExplains us now (further octets before (acting_behind restarts item y) later)) e (s us later x h)) in
     both so_far (subst (λ (y : Word). SomeExplains us now (the_remark y octets before ∷ later) ↔ SomeExplains us new later) (sym i) (g us later x h))
 
--- ---- a TSDU that is no session units
+-- ---- a TSDU that is not session units
 
 none_or_word : (o : Option Word) (w : Word) → o ≡ None → o ≡ Some w → ⊥
 none_or_word None w h k = cc

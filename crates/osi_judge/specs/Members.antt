@@ -3,16 +3,16 @@ use Rattle.std.specs.Prelude.{◌≡◌, ◌≤◌, ◌<◌, ◌⊎◌, ℕ, Lis
 use Rattle.osi_judge.specs.declared.members.Member.{Member}
 use Rattle.osi_judge.specs.Explaining.{Remark, Explains}
 
--- one of them explains what is said from here on
+-- one of them explains what is sent from here on
 abbrev pub SomeExplains : List (List ℕ) → List Member → List Remark → Type 0
 SomeExplains us [] ms = ⊥
 SomeExplains us (m ∷ members) ms = Explains us ms m.taken m.standing ⊎ SomeExplains us members ms
 
--- the TSDUs of the other side go on from those that were heard
+-- the TSDUs of the other side continue those that were received
 abbrev pub Extends : List (List ℕ) → List (List ℕ) → Type 0
 Extends us heard = (i : ℕ) → i < length heard → get_or us i [] ≡ get_or heard i []
 
--- the next remark came when so many TSDUs had passed, or more
+-- at least `heard` TSDUs had arrived when the next remark was sent
 abbrev pub IsBehind : ℕ → List Remark → Type 0
 IsBehind before [] = Unit {0}
 IsBehind before (m ∷ ms) = before ≤ m.before

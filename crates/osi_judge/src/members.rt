@@ -1,4 +1,4 @@
-//! The sessions that still explain what a side said.
+//! The sessions that still explain what a side sent.
 
 ghost use Rattle.std.specs.Prelude.{◌≡◌, ◌↔◌, ◌⊎◌, true, IfOk, OnOk, List, ℕ};
 ghost use Rattle.osi_judge.specs.Explaining.{Remark, Explains};
@@ -8,7 +8,7 @@ ghost use Rattle.osi_judge.specs.Members.{SomeExplains};
 use osi_session::Standing;
 use std::alloc::AllocError;
 
-/// A session that explains what the side said so far, and that has taken so many TSDUs of the other side.
+/// A session that explains what the side sent so far, and how many TSDUs of the other side it has taken.
 #[derive(Clone, Copy)]
 pub(crate) struct Member {
     pub(crate) taken: usize,
@@ -27,7 +27,7 @@ fn is_among(members: &[Member], member: &Member) -> bool
     false
 }
 
-/// One more, where it is not there.
+/// Adds one, unless it is there already.
 pub(crate) fn add(members: &mut Vec<Member>, member: Member) -> Result<(), AllocError>
     ensures { OnOk result ((us : List (List ℕ)) (later : List Remark) →
         (SomeExplains us members.old.items later ⊎ Explains us later member.taken member.standing) ↔ SomeExplains us members.new.items later) }

@@ -1,4 +1,4 @@
--- The joins of streams behind one more data unit.
+-- The joins of streams after one more data unit.
 use Rattle.std.proofs.Common.{◌≡◌, ℕ, Bool, true, false, cond, List, [], ◌∷◌, ◌++◌, Option, Some, None, refl, sym, ◌∙◌, ap, ◌==◌, ◌≢◌, ◌⊎◌, inl, inr, filter, Result, Ok, Err, IfOk, OnOk}
 use Rattle.std.proofs.lemmas.Bool.Decides.{eqb_tells}
 use Rattle.osi_listing.specs.Streams.{Part, Join, joined, after_parts, join_of, is_same_stream}
@@ -65,7 +65,7 @@ took_two first others changed destination earlier end octets e h = record {
       ∙ sym (join_of-push (Some d) earlier (record { stream = Some destination; end = end; octets = octets }));
 }
 
--- what follows where a call has succeeded
+-- what follows if a call has succeeded
 pub then_ok : {A E : Type 0} (r : Result A E) (P Q : Type 0) → (P → Q) → IfOk r (λ x. P) → OnOk r Q
 then_ok (Ok x) P Q f h = f h
 then_ok (Err e) P Q f h = tt

@@ -16,6 +16,6 @@ outcome_value Nothing = streams.Outcome.Nothing
 outcome_value (Whole tsdu) = streams.Outcome.Whole tsdu.items
 outcome_value TooLong = streams.Outcome.TooLong
 
--- what is joined for a DST-REF; nothing is, where it has not come
+-- the joined octets for a DST-REF; none before its first data unit
 abbrev pub join_at : BTreeMap ℕ Join → ℕ → streams.Join
 join_at m d = option_map_or join_value (get nat_cmp m d) (streams.Join.Begun [])

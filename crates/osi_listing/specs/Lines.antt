@@ -41,7 +41,7 @@ rest_line n = codes "rest " ++ decimal n ++ codes "\n"
 
 -- ---- transport units
 
--- a word and a number, a reference, or octets where they are there
+-- a word followed by a number, a reference, or octets, if they are there
 abbrev pub number_field : List ℕ → ℕ → List ℕ
 number_field word n = word ++ decimal n
 
@@ -77,7 +77,7 @@ abbrev pub bit : Bool → ℕ
 bit true = 1
 bit false = 0
 
--- a unit by its name and its fields; a DT of class 0 has no number of its own, and is shown with 0
+-- a unit by its name and its fields; a DT of class 0 has no number of its own, and 0 is printed
 unfoldable pub unit_fields : Value → List ℕ
 unit_fields (request c) = codes "CR" ++ connect_fields 0 c ++ parameter_fields c.parameters
 unit_fields (confirm destination c) = codes "CC" ++ connect_fields destination c ++ parameter_fields c.parameters

@@ -37,7 +37,7 @@ kind_name Resynchronize = codes "RS"
 abbrev pub value_field : Code → List ℕ → List ℕ
 value_field c value = decimal (number_of c) ++ codes "=" ++ encode_lower value
 
--- a parameter of a group, where it is there
+-- a parameter of a group, if it is there
 abbrev pub member_fields : Code → Option (List ℕ) → List (List ℕ)
 member_fields c None = []
 member_fields c (Some value) = value_field c value ∷ []
@@ -46,7 +46,7 @@ member_fields c (Some value) = value_field c value ∷ []
 abbrev pub members_text : Known → List Code → List ℕ
 members_text known members = join_with_byte 32 (flat_map (λ m. member_fields m (known m)) members)
 
--- what stands in front of a field, and fields of which the first has it in front
+-- the separator before a field, and fields of which the first has one
 abbrev pub separator_of : Bool → List ℕ
 separator_of true = []
 separator_of false = codes " "
@@ -58,7 +58,7 @@ fields_left is_first (field ∷ fields) = separator_of is_first ++ field ++ fiel
 abbrev pub group_field : Contents → Code → List ℕ
 group_field u c = decimal (number_of c) ++ codes "(" ++ members_text u.known (members_of u.kind c) ++ codes ")"
 
--- a parameter or a group, where it is there; user data has the code in which it is written
+-- a parameter or a group, if it is there; user data under the code in which it is written
 abbrev pub parameter_field : Contents → Code → Option (List ℕ) → List ℕ
 parameter_field u c None = []
 parameter_field u c (Some value) = codes " " ++ (if is_group c then group_field u c else value_field (written_code u.kind c value) value)
@@ -67,14 +67,14 @@ parameter_field u c (Some value) = codes " " ++ (if is_group c then group_field 
 unfoldable pub session_fields : Contents → List ℕ
 session_fields u = flat_map (λ c. parameter_field u c (u.known c)) (codes_of u.kind)
 
--- how many octets of user information a DT has
+-- the length of the user information of a DT
 abbrev pub information_field : Contents → List ℕ
 information_field u = if takes_rest u.kind then codes " octets " ++ decimal (length u.information) else []
 
 unfoldable pub session_line : Contents → List ℕ
 session_line u = codes "    " ++ kind_name u.kind ++ session_fields u ++ information_field u ++ codes "\n"
 
--- ---- a TSDU that is no group of session units
+-- ---- a TSDU that is not a group of session units
 
 abbrev pub session_fault_name : SpduFault → List ℕ
 session_fault_name (UnknownSi at) = codes "UnknownSi"
@@ -94,7 +94,7 @@ session_fault_offset (BadValue c at) = at
 session_fault_offset (BadConcatenation at) = at
 session_fault_offset (TrailingOctets at) = at
 
--- the code of the parameter, where the fault is one of a parameter
+-- the code of the parameter, if the fault is one of a parameter
 abbrev pub session_fault_code : SpduFault → List ℕ
 session_fault_code (UnknownSi at) = []
 session_fault_code (LengthPastEnd at) = []

@@ -25,18 +25,18 @@ abbrev pub parts_of : List Value → List Part
 parts_of [] = []
 parts_of (v ∷ vs) = option_to_list (part_of v) ++ parts_of vs
 
--- what is joined of the TSDU under way; or its parts are dropped up to the next EOT, since it is too long
+-- the joined octets of the unfinished TSDU; or its parts are dropped up to the next EOT, because it is too long
 pub data Join : Type 0 where
   Begun : List ℕ → Join
   Dropping : Join
 
--- what a part brings: nothing as yet, a whole TSDU, or one that is too long from this part on
+-- the outcome of a part: nothing yet, a complete TSDU, or one that became too long
 pub data Outcome : Type 0 where
   Nothing : Outcome
   Whole : List ℕ → Outcome
   TooLong : Outcome
 
--- parts are joined as a link joins them; those behind one that is too long are dropped
+-- parts are joined as a link joins them; those after one that is too long are dropped
 abbrev pub join_after : Bool → Result Joining LinkFault → Join
 join_after end (Ok joining) = Begun joining.begun
 join_after end (Err fault) = if end then Begun [] else Dropping
@@ -67,6 +67,6 @@ abbrev pub after_parts : Join → List Part → Join
 after_parts join [] = join
 after_parts join (p ∷ parts) = after_parts (joined join p.end p.octets) parts
 
--- what is joined of a stream behind all these parts
+-- what is joined of a stream after all these parts
 unfoldable pub join_of : Option ℕ → List Part → Join
 join_of stream parts = after_parts (Begun []) (filter (λ p. is_same_stream stream p.stream) parts)

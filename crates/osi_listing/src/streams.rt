@@ -1,4 +1,4 @@
-//! Data units that are joined into TSDUs, stream by stream.
+//! Joining data units into TSDUs, stream by stream.
 
 ghost use Rattle.std.specs.Prelude.{◌≡◌, ◌==◌, ℕ, List, [], if◌then◌else◌, IfOk, OnOk};
 ghost use Rattle.osi_listing.specs.Streams.{joined, brought};
@@ -11,23 +11,23 @@ use std::alloc::{AllocError, Global};
 use std::collections::BTreeMap;
 use std::mem;
 
-/// What is joined of the TSDU under way in one stream.
+/// The joined octets of the unfinished TSDU of one stream.
 #[derive(Drop)]
 pub(crate) struct Join {
-    /// Its octets; none while its parts are dropped.
+    /// The octets; none while parts are dropped.
     octets: Vec<u8>,
-    /// Whether its parts are dropped up to the next EOT, since it is too long.
+    /// Whether parts are dropped up to the next EOT, because the TSDU is too long.
     is_dropped: bool,
 }
 
-/// What a part brings.
+/// The outcome of taking a part.
 #[derive(Drop)]
 pub(crate) enum Outcome {
-    /// Nothing as yet.
+    /// The TSDU is not complete yet.
     Nothing,
-    /// A whole TSDU.
+    /// A complete TSDU.
     Whole(Vec<u8>),
-    /// A TSDU that is too long from this part on.
+    /// The TSDU became too long with this part.
     TooLong,
 }
 
@@ -42,7 +42,7 @@ impl Join {
         }
     }
 
-    /// Takes the next part of the stream, of which the last of a TSDU has EOT.
+    /// Takes the next part of the stream; EOT marks the last part of a TSDU.
     pub(crate) fn take(
         &mut self,
         alloc: Global,
@@ -73,7 +73,7 @@ impl Join {
 /// The streams of class 2, each under its DST-REF.
 type References = BTreeMap<u16, Join>;
 
-/// Takes the next part of the stream of a DST-REF, and leaves the others as they were.
+/// Takes the next part of the stream with this DST-REF, and leaves the others as they were.
 fn take_for(
     references: &mut References,
     alloc: Global,
@@ -120,7 +120,7 @@ impl Streams {
         }
     }
 
-    /// Takes a unit, which adds to its stream where it is a data unit.
+    /// Takes a unit; a data unit adds to its stream.
     pub(crate) fn take(&mut self, alloc: Global, unit: &Tpdu) -> Result<Outcome, AllocError>
         ensures entries { IfOk result (λ o. (earlier : List Part) → Holds self.old earlier →
             outcome_entries (outcome_value o) ≡ part_entries earlier (part_of (value unit.now))) }

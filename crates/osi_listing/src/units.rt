@@ -63,7 +63,7 @@ fn push_unit_fields(alloc: Global, text: &mut Vec<u8>, unit: &Tpdu) -> Result<()
     }
 }
 
-/// A CR. Its DST-REF is no part of it, and shown as 0000.
+/// A CR. It has no DST-REF of its own, so 0000 is printed.
 #[tactic(auto, unfolding(crate::specs::Lines::unit_fields))]
 fn push_request(
     alloc: Global,

@@ -92,7 +92,7 @@ becomes_talks s AA p g st h = h
 pub ends_talking : (s : State) (us : List Meaning) → Talks s → AllFit s us → Talks (flush s us) ⊎ (is_restart_due (flush s us).phase ≡ true)
 ends_talking = until_due Talks (λ s u f st h. fit_cases Talks s u f h (λ d g. becomes_talks s u f.plain g st h))
 
--- ---- nothing that needs a token comes to a side that holds it
+-- ---- nothing that needs a token arrives at a side that holds it
 
 -- at a side that owes the answer to a restart, nothing but an empty token item fits
 empty_needs : (t : Token) (u : Meaning) → has_no_effect u ≡ true → needs_token t u ≡ false

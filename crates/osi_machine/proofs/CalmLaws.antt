@@ -62,7 +62,7 @@ pub over_calm : (s : State) (ms : List Message) → is_over s.phase ≡ true →
 over_calm s [] o = λ calls small octets. unit_when_over (after_calls s calls) (DT octets) (over_calls s calls o)
 over_calm s (m ∷ ms) o = λ calls small. over_calm (after_message (after_calls s calls) m) ms (over_message (after_calls s calls) m (over_calls s calls o))
 
--- ---- the CN that waits makes no difference
+-- ---- a CN that waits makes no difference
 
 pub left_is : (x : Standing) (input : Input) → left_by x.state input ≡ (react x input).next.state
 unfolding react
@@ -135,7 +135,7 @@ calm_behind laws says s (u ∷ us) octets rest h = λ calls small.
 
 -- ---- what is in flight
 
--- the units ahead of the data, where it is in flight in the other connection too
+-- the units ahead of the data, if it is in flight in the other connection too
 record Ahead (ms : List Message) (octets : List ℕ) (there : List Meaning) : Type 0 where
   units : List Meaning
   rest : List Meaning

@@ -101,7 +101,7 @@ alike R step s r (u ∷ us) h f =
     let more = alike R step (next s u) (next r u) us one.next f.1 in
     grind (arith, by_test)
 
--- and what is seen is the same, where each unit shows the same
+-- and what is seen is the same, if each unit shows the same
 pub alike_view : (R : State → State → Type 0) → ((s r : State) (u : Meaning) → R s r → Fits s u → Steps R s r u) →
     ((s r : State) (u : Meaning) (v : List Item) → R s r → view_next r u v ≡ view_next s u v) →
     (s r : State) (us : List Meaning) (v : List Item) → R s r → AllFit s us → heard_view r us v ≡ heard_view s us v

@@ -39,7 +39,7 @@ one_taken n base false octets v h = let e = points_append v (Octets octets ∷ [
 pub opened_count : (base : ℕ) (v : List Item) → v ≡ [] → base ≡ base + points v
 opened_count base v e = rw e (omega arith)
 
--- ---- the lines where little changes
+-- ---- the clauses if little changes
 
 -- a phase in which nothing is asked, due or awaited
 quiet : Phase → Bool

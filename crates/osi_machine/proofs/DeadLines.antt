@@ -70,7 +70,7 @@ over_quiet p o = not-true (shows_loss p) (implied is_over (λ q. not (shows_loss
 pub no_unit_asked : (way : Way) → list_any is_unit (asks way) ≡ false
 no_unit_asked way = grind arith
 
--- its called side is quiet, and no unit comes to it
+-- its called side is quiet, and no unit is in flight to it
 pub record IsQuiet (p : Phase) (tr : Transport) (ms : List Message) : Type 0 where
   pub quiet : shows_loss p ≡ false
   pub idle : is_waiting tr ≡ false

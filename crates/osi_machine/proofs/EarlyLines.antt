@@ -44,7 +44,7 @@ pub early_cut : (left right : ℕ) (w : World) → IsEarly w → IsEarly (cut_to
 early_cut left right w (inl e) = inl e
 early_cut left right w (inr d) = inr (dead_cut left right w d)
 
--- ---- no agreement, where it is denied
+-- ---- no agreement, if it is denied
 
 pub record NoAgree (w : World) : Type 0 where
   pub own : list_any is_agree w.own.channel ≡ false

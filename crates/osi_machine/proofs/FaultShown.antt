@@ -23,7 +23,7 @@ told_faulted t (e ∷ es) = told_faulted (told_entry t e) es ∙ ap (λ (b : Boo
 fine_record : (t : Told) (es : List Entry) → (told_by t es).faulted ≡ false → list_any is_fault es ≡ false
 fine_record t es h = (or_parts t.faulted (list_any is_fault es) (sym (told_faulted t es) ∙ h)).1
 
--- ---- each entry that is shown is of a record
+-- ---- each entry of an indication belongs to a record
 
 entry_fine : (e : Entry) (es : List Entry) → ((d : Side) (n : ℕ) → list_any is_fault (record_of d n (e ∷ es)) ≡ false) → is_fault e ≡ false
 entry_fine (shown_at side r i) es h =

@@ -86,7 +86,7 @@ giver x k = record { session = less k x.session; view = x.view ++ []; said = x.s
 other_end : (w : Core) (k : Tokens) → flush w.peer.session (w.own.sent ++ GT k ∷ []) ≡ next (flushed w.peer w.own) (GT k)
 other_end w k = flush_append w.peer.session w.own.sent (GT k)
 
--- the other listens to the giver, so that it hears all
+-- the other side listens to the giver, so it receives everything
 other_heard : (w : Core) (k : Tokens) → Giving w k → Half w.owner w.own w.peer → Half (turned_owners w.owner) w.peer w.own
     → heard w.peer.session (w.own.sent ++ GT k ∷ []) ≡ next (flushed w.peer w.own) (GT k)
 other_heard w k g h j = heard_append w.peer.session w.own.sent (GT k) j.fits (none_owed w.owner w.own w.peer h (excluded may_give is_restarting refl w.own.session.phase g.phase))

@@ -32,7 +32,7 @@ mute_lines P b j es k (w ∷ ws) [] f h = absurd h
 pub record IsGood (terms : Terms) (P : Bool → World → Offer → Told → Told → Type 0) (m : Machine) : Type 0 where
   pub offers : List Offer
   pub lines : Lines P m.broken m.journal 1 m.worlds offers
-  -- nothing is informed of a reference that was not given, nor of 0
+  -- nothing is reported of a reference that was not given, nor of 0
   pub fresh : (d : Side) (n : ℕ) (o : Offer) → length m.worlds < n → told_of d n o m.journal ≡ untold d o
   pub none : (d : Side) (o : Offer) → told_of d 0 o m.journal ≡ untold d o
   pub agreed : m.terms ≡ terms

@@ -192,7 +192,7 @@ order_dead d side k [] h = refl
 order_dead d side k (w ∷ ws) h =
     none_more (is_loss d) (map (shown_at side k) (shown_at_end (seen_from side w))) (shown_in_order side (k + 1) ws) (quiet_first d side k w (dead_quiet side w h.0)) (order_dead d side (k + 1) ws h.1)
 
--- where one connection that was not dead is over now
+-- if one connection that was not dead is over now
 order_one : (d side : Side) (k r : ℕ) (ws : List World) (w v : World) → slice_get ws r ≡ Some w → (IsDead w → ⊥) → shows_loss (seen_from side v).own.kept.phase ≡ false → OneAlive ws
     → list_any (is_loss d) (shown_in_order side k (replaced r v ws)) ≡ false
 order_one d side k r [] w v e n q h = absurd (cc)

@@ -103,7 +103,7 @@ same_duplex c s e f = ap (λ (u : FunctionalUnits). u.duplex)
 either_duplex : (a b d : Bool) → a ≡ d → (b ≡ false) ⊎ (b ≡ d) → (a || b) ≡ true → d ≡ true
 either_duplex a b d p q h = grind arith
 
--- what one side is shown
+-- what the user of one side receives
 shown_there : (s t : Told) (c : Core) → Stands c → Tells s c.own.session c.own.view c.own.said c.own.got → Tells t c.peer.session c.peer.view c.peer.said c.peer.got
     → (s.duplex || t.duplex) ≡ true → Begins s.indicated t.requested
 shown_there s t c k h j d = by_test (is_opening c.own.session.phase)

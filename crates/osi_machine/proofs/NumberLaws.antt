@@ -29,7 +29,7 @@ lower_both n m a c le h = grind (arith, lower_first, lower_second, lower_from)
 
 -- ---- the direction of points
 
--- an open connection where points were taken last
+-- an open connection on which points were taken last
 pub record Turned (s : State) : Type 0 where
   pub phase : is_opening s.phase ≡ false
   pub answers : s.numbers.answers ≡ true

@@ -54,7 +54,7 @@ point_good p k s (RS j n w o) d pl e g = search (arith, excluded, still_below)
 point_good p k s (FN o) d pl e g = absurd (let a = empty_has s.held data_token g.met.0 in cc)
 point_good p k s _ d pl e g = absurd (let a = g.expected in cc)
 
--- the flag is off where a confirmation comes
+-- the flag is off when a confirmation arrives
 same_numbers : (v : Numbers) (n : ℕ) → v.answers ≡ false → minor_confirmed n (point_sent v) ≡ point_sent (minor_confirmed n v)
 unfolding point_sent minor_confirmed
 same_numbers v n e = grind arith
@@ -125,12 +125,12 @@ own_number w a h = h.consistent.own.count ∙ ap (λ (v : List Item). w.own.sess
 end_base : (w : Core) → Points w → Stands w → (flushed w.own w.peer).base ≡ w.own.session.base
 end_base w a h = (flush_open w.own.session w.peer.sent (excluded is_ready is_opening refl w.own.session.phase a.phase) h.own.fits).base
 
--- the number of the other, where it listens
+-- the number of the other, if it listens
 pub other_number : (w : Core) → Stands w → (flushed w.peer w.own).base ≡ w.own.session.base → hearing w.peer w.own ≡ flushed w.peer w.own
     → is_restarting (flushed w.peer w.own).phase ≡ false → (flushed w.peer w.own).numbers.next ≡ w.own.session.base + points w.history
 other_number w h b e l = search (arith, heard_counted)
 
--- what of the history is there was seen by a side to which no point is under way
+-- a side to which no point is in flight has seen the whole history
 pub other_saw : (w : Core) → Stands w → hearing w.peer w.own ≡ flushed w.peer w.own → is_restarting (flushed w.peer w.own).phase ≡ false
     → (flushed w.peer w.own).numbers.answers ≡ false → points w.peer.view ≡ points w.history
 other_saw w h e l n = search (arith, unseen)
@@ -142,11 +142,11 @@ other_above w n h b e from to = search arith
 
 -- ---- the lines on numbers
 
--- a unit that is not discarded comes to a side that listens
+-- a unit that is not discarded arrives at a side that listens
 heard_there : (s : State) (m : Meaning) → passes_restarting m ≡ false → drops s m ≡ false → is_restarting s.phase ≡ false
 heard_there s m w d = grind arith
 
--- a side that hears after it heard before
+-- a side that listens afterwards listened before
 pub hears_there : (s : State) (m : Meaning) → passes_restarting m ≡ false → not (is_restarting (next s m).phase) ≡ true → is_restarting s.phase ≡ false
 hears_there s m w l = grind arith
 
@@ -168,7 +168,7 @@ heard_number w a h = search (arith, heard_counted, heard_open, excluded, heeds)
 nothing_needed : (w : Core) → Points w → Stands w → list_any (needs_token data_token) w.peer.sent ≡ false
 nothing_needed w a h = none_needs data_token w.own.session w.peer.sent (holding w a h) h.own.fits
 
--- if points were taken last here, none is under way there
+-- if points were taken last here, none is in flight there
 both_answer : (w : Core) → Points w → Stands w → (hearing w.own w.peer).numbers.answers ≡ true → (flushed w.peer w.own).numbers.answers ≡ false
 both_answer w a h t = search (arith, ends_same, heard_sends, nothing_needed)
 

@@ -43,7 +43,7 @@ cut_there (suc k) over_now s (u ∷ there) lost tail h =
 more_over : (a b : Bool) (s : State) (lost tail : List Meaning) → (a ≡ true → b ≡ true) → IsTail a s lost tail → IsTail b s lost tail
 more_over a b s lost tail f h = grind arith
 
--- where the sender is over or the connection broken
+-- if the sender is over or the connection broken
 carried_cut : (k : ℕ) (broken broken' a b : Bool) (channel : List Message) (sent : List Meaning) (s : State) → (a ≡ true → b ≡ true) → (b || broken') ≡ true
     → Carried broken a channel sent s → Carried broken' b (take k channel) sent s
 carried_cut k broken broken' a b channel sent s f w h =
@@ -86,7 +86,7 @@ units_alone : (m : Message) (ms : List Message) (us : List Meaning) → m ∷ ms
 units_alone m ms [] e = absurd (cc)
 units_alone m ms (u ∷ us) e = let same : m ≡ unit u = cc in ap is_unit same
 
--- only units come to it
+-- only units are in flight to it
 pub comes_unit : (broken : Bool) (w : World) (c : Core) (m : Message) (ms : List Message) → Projects broken w c → stopped w.own ≡ false → w.peer.channel ≡ m ∷ ms → is_unit m ≡ true
 comes_unit broken w c m ms p l e = let k = p.own.carried l in units_alone m ms (k.there ++ k.tail) (sym e ∙ k.carries)
 

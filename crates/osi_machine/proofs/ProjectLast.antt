@@ -13,9 +13,9 @@ use Rattle.osi_machine.proofs.Projects.{stopped, IsLast, Counted, OneSide, Proje
 use Rattle.osi_machine.proofs.ProjectCall.{left_theirs}
 use Rattle.osi_machine.proofs.ProjectTake.{Last, took, put_nothing}
 
--- ---- DN comes to a side that has asked for release, and RF to one that has asked for the connection
+-- ---- DN arrives at a side that has requested release, and RF at one that has requested the connection
 
--- a side that owes the answer to a release owes it until a restart stands
+-- a side that owes the answer to a release owes it until a restart takes effect
 none_acts : (s : State) (u : Meaning) → is_release_due s.phase ≡ true → is_plain u ≡ true → stops s u ≡ false → is_expected s.phase u ≡ false
 unfolding stands
 none_acts s u h k st = grind arith

@@ -146,7 +146,7 @@ take_asks k way = grind (arith, take-nil)
 take_replies : (k : ℕ) (way : Way) → take k (replies way) ≡ replies (cut_replies k way)
 take_replies k way = grind (arith, take-nil)
 
--- only one of both sides has something under way
+-- only one of the two sides has something in flight
 replies_kept : (k : ℕ) (way : Way) → replies (cut_asks k way) ≡ replies way
 replies_kept k way = grind arith
 

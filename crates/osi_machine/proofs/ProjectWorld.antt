@@ -33,7 +33,7 @@ turned_repeats broken w t u h = search (arith, turned_stands, turned_twice)
 
 -- ---- a call
 
--- what a call does to a connection, where this is the session
+-- the effect of a call on a connection, if this is the session
 abbrev answered_by : Bool → State → Call → World → Answer → World
 answered_by broken s x w (Ok g) = after_call broken s x g w
 answered_by broken s x w (Err e) = w

@@ -43,7 +43,7 @@ IsLast s (DN octets) = is_release_due s.phase ≡ true
 IsLast s (RF reason octets) = is_answering s.phase ≡ true
 IsLast s u = ⊥
 
--- nothing, or where the sender is over and nothing was lost, one such unit
+-- nothing; or if the sender is over and nothing was lost, one such unit
 abbrev pub IsTail : Bool → State → List Meaning → List Meaning → Type 0
 IsTail over_now s lost [] = Unit {0}
 IsTail over_now s lost (u ∷ []) = (over_now ≡ true) × (lost ≡ []) × IsLast s u

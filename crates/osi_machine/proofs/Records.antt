@@ -37,7 +37,7 @@ pub record Meeting (o : Owners) (now end other_end heard : State) (other : State
   pub holds : (t : Token) → has now.held t ≡ is_own (o t)
   pub wants : may_hold heard.phase ≡ true → (t : Token) → has heard.held t ≡ (is_own (o t) || is_to_own (o t))
   pub absent : (t : Token) → has (available end.units) t ≡ false → is_absent (o t) ≡ true
-  -- the other of a side that owes the answer to a release waits for it
+  -- the peer of a side that owes the answer to a release waits for it
   pub released : is_release_due heard.phase ≡ true → is_releasing other.phase ≡ true
 
 pub record Half (o : Owners) (x y : Party) : Type 0 where

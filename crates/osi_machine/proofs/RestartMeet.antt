@@ -28,7 +28,7 @@ pub one_stands : (s r : State) (n m : ℕ) → is_restarting s.phase ≡ true �
     → r.is_caller ≡ not s.is_caller → stands s m ≡ not (stands r n)
 one_stands s r n m a b e f c = grind (arith, asked_stands, of_two)
 
--- ---- two sides of which one waits for the answer and the other owes it
+-- ---- two sides, one of which waits for the answer that the other owes
 
 pub record Met (a b : State) : Type 0 where
   pub meets : matched a.phase b.phase ≡ true

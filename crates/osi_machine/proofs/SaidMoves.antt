@@ -162,7 +162,7 @@ asked_told b o = search arith
 
 -- ---- a message is taken
 
--- the first message that comes to a side is no unit, or the side parts and does not hear it
+-- the first message that arrives at a side is no unit, or the side leaves and does not receive it
 popped : (b : Bool) (l : Line) (m : Message) (xs : List Message) (x y : Words) → l.peer.channel ≡ m ∷ xs → (is_parting l.own.transport ≡ false → units_in xs ≡ units_in (m ∷ xs)) → Told b l x y
     → Told b (without_first l xs) x y
 popped b l m xs x y e n h = grind (arith, rest_fits, same_units)
@@ -174,16 +174,16 @@ heard_first b l u xs x y e p h =
     let c = first_heard (b || is_parting l.peer.transport) u xs y.said x.heard (subst (λ (ms : List Message). Carried (b || is_parting l.peer.transport) ms y.said x.heard) e (h.back.carried p)) in
     search (rest_fits, begins_so)
 
--- what tells that the transport connection is there comes from where it is there
+-- the message that tells of an open transport connection comes from a side that has one
 agreed_there : (tr : Transport) (l : Line) (xs : List Message) → l.own.transport ≡ waiting → l.peer.channel ≡ agree ∷ xs → l.peer.transport ≡ tr → Fits l.own l.peer → Fits l.peer l.own → is_early tr ≡ false
 agreed_there tr l xs w e f h k = search arith
 
--- a unit comes from where the transport connection is there
+-- a unit comes from a side with a transport connection
 unit_there : (early : Bool) (l : Line) (u : Meaning) (xs : List Message) → l.peer.channel ≡ unit u ∷ xs → is_early l.peer.transport ≡ early → Fits l.peer l.own → early ≡ false
 unit_there true l u xs e f k = absurd (let n = ap units_in (sym e) ∙ k.early f in cc)
 unit_there false l u xs e f k = refl
 
--- and goes to where it is there
+-- and goes to a side with one
 no_unit_early : {A : Type 0} (l : Line) (u : Meaning) (xs : List Message) → l.peer.channel ≡ unit u ∷ xs → is_early l.own.transport ≡ true → Fits l.peer l.own → A
 no_unit_early l u xs e f k = absurd (let n = ap units_in (sym e) ∙ k.unsaid f in cc)
 

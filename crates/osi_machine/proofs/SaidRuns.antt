@@ -36,7 +36,7 @@ quiet : (x : Words) → x ≡ and_more x [] []
 quiet x = ap (λ (us : List Meaning). record { said = us; heard = x.heard }) (sym (append-nil x.said))
     ∙ ap (λ (us : List Meaning). record { said = x.said ++ []; heard = us }) (sym (append-nil x.heard))
 
--- ---- what stands at a reference of the lines
+-- ---- the line at a reference
 
 not_equal : (q r : ℕ) → (q == r) ≡ false → r ≡ q → ⊥
 not_equal q r e f = absurd (let x = eq-eqb q r (sym f) in cc)

@@ -77,7 +77,7 @@ lost_tabled broken keep w a b reason h =
 
 -- ---- any message but a session unit
 
--- a unit that is taken where the transport connection is open
+-- a unit that is taken if the transport connection is open
 abbrev pub is_heard : Transport → Message → Bool
 is_heard linked (unit u) = true
 is_heard tr m = false

@@ -61,7 +61,7 @@ seat_same broken w v c d s r h k o p x y same still = search (arith, seat_state)
 lives_as : (s : State) → is_over s.phase ≡ false → state_from (kept_of s) (unless_over (is_over s.phase) s.held) s.numbers.next ≡ s
 lives_as s e = ap (λ (b : Bool). state_from (kept_of s) (unless_over b s.held) s.numbers.next) e
 
--- ---- nobody comes to own where he does nothing
+-- ---- a side that does nothing does not become an owner
 
 left_none : (s : State) (o : Owners) (t : Token) → is_over s.phase ≡ true → is_own (left_by s o t) ≡ false
 left_none s o t e = ap (λ (b : Bool). is_own ((if b then given_up o else o) t)) e ∙ own_gone (o t)

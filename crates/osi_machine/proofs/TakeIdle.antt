@@ -37,7 +37,7 @@ pair_rest h x y u us same p = search (arith, one_less)
 pub dropped_stops : (s : State) (u : Meaning) → drops s u ≡ true → stops s u ≡ false
 dropped_stops s u d = by_test (stops s u) (λ e. absurd (let a = restart_acted s u e in cc)) (λ e. e)
 
--- what its taker sees, where with duplex no data is dropped
+-- what its taker sees, if with duplex no data is dropped
 pub taker_views_dropped : (h : List Item) (x y : Party) (u : Meaning) (us : List Meaning) → drops x.session u ≡ true
     → ((flush x.session (u ∷ us)).units.duplex ≡ true → data_in u ≡ [])
     → Views h x (rest_of y (u ∷ us)) → Views h (taken_party x u) (rest_of y us)
@@ -49,7 +49,7 @@ giver_views_dropped h x y u us d v = grind arith
 
 -- ---- a unit that is acted on and changes nothing: data, and a request for tokens
 
--- what its taker sees, where it listens
+-- what its taker sees, if it listens
 pub taker_views_acted : (h : List Item) (x y : Party) (u : Meaning) (us : List Meaning) → AllFit (next x.session u) us → is_restarting x.session.phase ≡ false
     → stops x.session u ≡ false → next x.session u ≡ x.session
     → ((flush x.session (u ∷ us)).units.duplex ≡ true → (taken_party x u).got ++ data_of us ≡ x.got ++ data_of (u ∷ us))

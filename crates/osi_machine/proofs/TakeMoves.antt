@@ -12,7 +12,7 @@ use Rattle.osi_machine.proofs.CoreLaws.{SessionLaws, taking_kept}
 use Rattle.osi_machine.proofs.Deaf.{not_both}
 use Rattle.osi_machine.proofs.PhaseLaws.{if_second, if_first}
 
--- the connection, where these units are all that is in flight to this side
+-- the connection, if these units are all that is in flight to this side
 abbrev pub at : Core → List Meaning → Core
 at w us = record { history = w.history; owner = w.owner; own = w.own; peer = rest_of w.peer us }
 

@@ -15,7 +15,7 @@ use Rattle.osi_machine.proofs.TakeMoves.{at, heard_is, Calm}
 reach_point : (a : Bool) (next c confirmed : ℕ) → c ≤ next → (a ≡ true → lower next c ≤ confirmed) → lower (next + 1) c ≤ (if a then confirmed else next)
 reach_point a next c confirmed le f = grind (arith, lower_from, lower_second)
 
--- half-duplex, where points are selected
+-- half-duplex, if points are selected
 half : (u : FunctionalUnits) → IsOfProfile u → (u.minor ≡ true) ⊎ (u.major ≡ true) → u.half_duplex ≡ true
 half u p k = grind arith
 
@@ -31,7 +31,7 @@ record Pointed (w : Core) (u : Meaning) (us : List Meaning) (r : State) : Type 0
   opened : is_opening r.phase ≡ false
   numbers : r.numbers ≡ point_taken w.own.session.numbers
 
--- no point is under way the other way
+-- no point is in flight in the other direction
 none_back : (w : Core) (u : Meaning) (us : List Meaning) (r : State) → Stands (at w (u ∷ us)) → Pointed w u us r → list_any (needs_token data_token) w.own.sent ≡ false
 none_back w u us r h k =
     let units = (flush_open w.own.session (u ∷ us) (excluded is_ready is_opening refl w.own.session.phase k.ready) h.own.fits).units in

@@ -54,7 +54,7 @@ becomes_holds t s u p g st h = search (arith, excluded, united_has, or_left)
 pub next_holds : (t : Token) (s : State) (u : Meaning) → Fits s u → stops s u ≡ false → Holds t s → Holds t (next s u)
 next_holds t s u f st h = fit_cases (Holds t) s u f h (λ d g. becomes_holds t s u f.plain g st h)
 
--- what is acted on there shows nothing, where the data token is held
+-- a unit that is acted on there shows nothing, if the data token is held
 seen_nothing : (s : State) (u : Meaning) (v : List Item) → needs_token data_token u ≡ false → stops s u ≡ false → seen s u v ≡ v
 seen_nothing s u v h st = grind arith
 

@@ -5,7 +5,7 @@ use Rattle.osi_machine.proofs.PhaseLaws.{by_test}
 
 -- ---- a unit is dropped, or acted on
 
--- what is left by a unit: what was, where it is discarded, else what the table says
+-- the state after a unit: the same if it is discarded, otherwise what the table says
 pub next_cases : (P : State → Type 0) (s : State) (u : Meaning) → (drops s u ≡ true → P s) → (drops s u ≡ false → P (becomes s u)) → P (next s u)
 next_cases P s u h k = by_test (drops s u) (λ e. rw e (let h = rw e at h in h refl)) (λ e. rw e (let k = rw e at k in k refl))
 

@@ -27,7 +27,7 @@ pub record Tells (t : Told) (s : State) (v : List Item) (spoken heard : List (Li
   -- with duplex there is none
   pub pointed : points t.view ≡ points v
 
--- ---- where little changes
+-- ---- if little changes
 
 -- phase, units and base stay, and nothing is seen
 same_tells : (t : Told) (s r : State) (v w : List Item) (a a' b b' : List (List ℕ)) → r.phase ≡ s.phase → r.units ≡ s.units → r.proposed ≡ s.proposed → r.base ≡ s.base

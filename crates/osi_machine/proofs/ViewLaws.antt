@@ -73,7 +73,7 @@ pub view_grows : (s : State) (us : List Meaning) (v : List Item) → AllFit s us
 view_grows s us v f = until_heard (λ q w. points v ≤ points w)
     (λ q u w g st h. view_cases (λ r x. points v ≤ points x) q u w g h (λ a. seen_more q u w (points v) st h)) s us v (omega arith) f
 
--- if an answer to a major point comes to be due, there is one point more
+-- if an answer to a major point becomes due, there is one point more
 abbrev DueAbove : ℕ → State → List Item → Type 0
 DueAbove k s v = (k ≤ points v) × (is_major_due s.phase ≡ true → k + 1 ≤ points v)
 
@@ -86,7 +86,7 @@ major_came s us v n f d =
     (until_heard (DueAbove (points v)) (λ q u w g st h. view_cases (DueAbove (points v)) q u w g h (λ a. becomes_above (points v) q u w g.plain a st h))
     s us v (omega arith, λ e. absurd (cc)) f).1 d
 
--- ---- where points are not taken last, none was seen
+-- ---- if points are not taken last, none was seen
 
 minor_turned : (s : State) (c : Bool) (i : ℕ) (o : List ℕ) → is_ready s.phase ≡ true → Turned (becomes s (MIP c i o))
 unfolding point_taken

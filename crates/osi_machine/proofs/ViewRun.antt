@@ -79,7 +79,7 @@ called_peer w c t h = grind (arith, Tells)
 
 -- ---- a unit that is taken
 
--- what is shown of the first of these units
+-- the indications of the first of these units
 abbrev shown_of : Core → List Meaning → List Shown
 shown_of w [] = []
 shown_of w (u ∷ us) = (respond_unit w.own.session u).shown

@@ -28,7 +28,7 @@ upto (suc k) [] = []
 upto (suc k) (Octets octets ∷ h) = Octets octets ∷ upto (suc k) h
 upto (suc k) (Point n kind octets ∷ h) = Point n kind octets ∷ upto k h
 
--- up to and including the point before n, and nothing where n is the base
+-- up to and including the point before n, and nothing if n is the base
 abbrev pub cutat : ℕ → List Item → ℕ → List Item
 cutat base h n = upto (n - base) h
 

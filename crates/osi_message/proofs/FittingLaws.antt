@@ -1,4 +1,4 @@
--- The units of what can be sent have a written form.
+-- What can be sent has a written form.
 use Rattle.std.proofs.Common.{◌≡◌, ◌∙◌, refl, sym, ap, subst, ℕ, ◌+◌, ◌<◌, ◌≤◌, ◌==◌, Bool, true, false, cond, ◌&&◌, List, [], ◌∷◌, length, Option, Some, None, option_map, if◌then◌else◌, arith}
 use Rattle.osi_spdu.specs.declared.codes.Code.TheVariants as code
 use Rattle.osi_spdu.specs.declared.kinds.Category.{Category}
@@ -9,7 +9,7 @@ use Rattle.osi_message.proofs.ReadingLaws.{pairs_again, wish_small}
 use Rattle.osi_message.proofs.SendingLaws.{HaveDigits}
 use Rattle.osi_message.proofs.TokenLaws.{octet_kept}
 
--- a unit whose free values have few octets has a written form
+-- a unit whose values of variable length have few octets has a written form
 abbrev pub HaveRoom : Type 0
 HaveRoom = (unit : Contents) → IsCanonical unit.known → free_len unit.known ≤ 65000 → UnitFits unit
 
@@ -183,7 +183,7 @@ unit_good digits (NF octets) small to = with_user_data octets _ no_value
 unit_good digits (AB bits octets) small to = with_user_data octets _ (abort_good bits)
 unit_good digits _ small to = no_value
 
--- ---- a unit has what it must have, and nothing that it does not know
+-- ---- a unit has all mandatory parameters, and only those that it knows
 
 minor_formed : (confirm : Bool) (n : ℕ) (octets : List ℕ) → is_formed MinorSyncPoint (with_data octets (sync_type confirm (numbered n))) ≡ true
 unfolding is_formed codes_of members_of required_of number_of

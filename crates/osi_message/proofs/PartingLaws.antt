@@ -51,7 +51,7 @@ some_piece (suc fuel) size o = cons_if (nat_le (length o) size) o (take size o) 
 
 -- ---- parts
 
--- those behind the first
+-- those after the first
 abbrev pub rest_parts : ℕ → List ℕ → Words
 rest_parts size o = later_parts (all_pieces size o)
 
@@ -95,7 +95,7 @@ parting_goes_on size all rest piece behind old new some long f r t h =
     (append_assoc old (part_octets Middle (take size rest) ∷ []) (octets_of (rest_parts size (drop size rest)))
     ∙ ap (λ (w : Words). old ++ octets_of w) (sym (rest_step size rest some long)) ∙ h)))
 
--- what has something put behind it is not empty
+-- what has something put after it is not empty
 pub some_put : {A : Type 0} (f : A → List ℕ) (new : List A) (old : List (List ℕ)) (tsdu : List ℕ) → map f new ≡ old ++ tsdu ∷ [] → 0 < length new
 some_put f [] old tsdu e = let n = ap length e in let m = length-append old (tsdu ∷ []) in absurd (omega arith)
 some_put f (v ∷ new) old tsdu e = omega arith

@@ -141,7 +141,7 @@ said_plain read said parts (plain.Part place octets) tsdu e = ap said_at e ∙ p
 said_plain read said parts (plain.MinorPoint number) tsdu e = ap said_at e ∙ said_whole read said (MIP true number.number []) (plain_sendable (plain.MinorPoint number))
 said_plain read said parts (plain.MinorAck number) tsdu e = ap said_at e ∙ said_whole read said (MIA number.number []) (plain_sendable (plain.MinorAck number))
 
--- data is read behind a GT that names no token
+-- data is read after a GT that names no token
 pub said_data : ((m : Meaning) → IsSendable m → tsdu_at (written m) ≡ Ok (spelled m)) → ((m : Meaning) → IsSendable m → said_by_units (spelled m) ≡ words_of m)
     → (octets : List ℕ) → said_at (written (DT octets)) ≡ Ok (says (GT no_token) ∷ says (DT octets) ∷ [])
 unfolding is_second user_data_of

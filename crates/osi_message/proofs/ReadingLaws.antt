@@ -22,7 +22,7 @@ pub wish_small : (w : Wish) → wish_number w ≤ 2
 wish_small Asker = omega arith
 wish_small _ = omega arith
 
--- four pairs of bits are read as the wishes that they stand for
+-- four pairs of bits are read as the wishes that they represent
 pub pairs_again : (a b c d : ℕ) → a ≤ 2 → b ≤ 2 → c ≤ 2 → d ≤ 2 →
     let n : ℕ = a + 4 * b + 16 * c + 64 * d in
     (n % 4 ≡ a) × (n / 4 % 4 ≡ b) × (n / 16 % 4 ≡ c) × (n / 64 ≡ d)
@@ -38,13 +38,13 @@ setting_again s =
     let d = ap wish_named e.3 ∙ wish_again s.release in
     λ i. record { data_token = a i; minor = b i; major = c i; release = d i }
 
--- two numbers of two octets are read as the sizes that they stand for
+-- two numbers of two octets are read as the sizes that they represent
 pub sizes_again : (s : TsduMaximumSize) → sizes_in (Some (size_octets s)) ≡ s
 sizes_again s =
     let a : 256 * (s.from_asker / 256) + s.from_asker % 256 ≡ s.from_asker = omega arith in
     let b : 256 * (s.from_answerer / 256) + s.from_answerer % 256 ≡ s.from_answerer = omega arith in
     λ i. record { from_asker = a i; from_answerer = b i }
 
--- where nothing is written, both are 0
+-- if nothing is written, both are 0
 pub written_again : (s : TsduMaximumSize) → sizes_in (option_map size_octets (written_sizes s)) ≡ s
 written_again s = grind (arith, and_parts, eqb-true, sizes_again)

@@ -256,7 +256,7 @@ octets_if : (b : Bool) (m : Meaning) (parts : Words) → IsOctets (written m) �
 octets_if true m parts h k = (h, tt)
 octets_if false m parts h k = k
 
--- what leaves is octets, where the message that is written whole is
+-- what is sent is octets, if the message as a whole is
 pub sent_octets : (limit : ℕ) (m : Meaning) → IsInOctets m → IsOctets (written m) → AllByRecursion IsOctets (tsdus_of limit m)
 unfolding words_sent
 sent_octets limit (DT octets) h k =

@@ -1,4 +1,4 @@
--- What a session unit means here.
+-- The meaning of a session unit.
 use Rattle.osi_spdu.specs.Fields.{unit_bits}
 use Rattle.std.specs.Prelude.{ℕ, Bool, List, Option, option_map}
 use Rattle.osi_spdu.specs.declared.settings.TokenSetting.{TokenSetting}

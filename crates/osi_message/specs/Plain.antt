@@ -1,5 +1,4 @@
--- The TSDUs that come most often: data, a part of it, and a minor point or its confirmation with no parameter
--- but its number.
+-- The most common TSDUs: data, a part of it, and a minor point or its confirmation with no parameter but its number.
 use Rattle.std.specs.Prelude.{ℕ, ◌+◌, ◌==◌, Bool, true, false, List, [], ◌∷◌, length}
 use Rattle.osi_message.specs.declared.plain.PlainUnit.{PlainUnit}
 use Rattle.osi_message.specs.declared.plain.PlainUnit.TheVariants as plain
@@ -16,7 +15,7 @@ plain_word (plain.MinorAck number) = says (MIA number.number [])
 abbrev pub plain_octets : PlainUnit → List ℕ
 plain_octets p = word_octets (plain_word p)
 
--- what its TSDU says
+-- what its TSDU means
 abbrev pub plain_said : PlainUnit → Words
 plain_said p = says (GT no_token) ∷ plain_word p ∷ []
 
@@ -28,7 +27,7 @@ data_octets octets = 1 ∷ 0 ∷ 1 ∷ 0 ∷ octets
 abbrev pub point_octets : ℕ → List ℕ → List ℕ
 point_octets si digits = 1 ∷ 0 ∷ si ∷ (2 + length digits) ∷ 42 ∷ length digits ∷ digits
 
--- a zero stands before another digit
+-- a zero before another digit
 abbrev pub has_zero_in_front : List ℕ → Bool
 has_zero_in_front [] = false
 has_zero_in_front (d ∷ []) = false

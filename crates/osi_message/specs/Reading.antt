@@ -1,4 +1,4 @@
--- What the parameters of a session unit mean, those that are absent included.
+-- The meaning of the parameters of a session unit, absent ones included.
 use Rattle.std.specs.Prelude.{ℕ, ◌+◌, ◌*◌, ◌/◌, ◌%◌, ◌==◌, Bool, List, [], ◌∷◌, drop, Option, Some, None, unwrap_or, Result, Ok, Err, if◌then◌else◌, map}
 use Rattle.osi_spdu.specs.declared.kinds.Kind.{Kind}
 use Rattle.osi_spdu.specs.declared.kinds.Kind.TheVariants.{GiveTokens, PleaseTokens, DataTransfer, NotFinished, Finish, Disconnect, Refuse, Connect, Accept, Abort, AbortAccept, ResynchronizeAck, MajorSyncPoint, MajorSyncAck, MinorSyncPoint, MinorSyncAck, Resynchronize}
@@ -34,7 +34,7 @@ abbrev pub first_in : List ℕ → ℕ
 first_in [] = 0
 first_in (b ∷ octets) = b
 
--- the one octet of a parameter, 0 where it is absent
+-- the single octet of a parameter, 0 if it is absent
 abbrev pub octet_in : Option (List ℕ) → ℕ
 octet_in value = first_in (octets_in value)
 
@@ -79,7 +79,7 @@ number_in value = unwrap_or (serial_in value) 0
 abbrev pub has_version_2 : Known → Bool
 has_version_2 known = names (octet_in (known Version)) 2
 
--- a minor point whose sync type is absent, or has bit 1 clear, asks for its confirmation
+-- a minor point asks for its confirmation if its sync type is absent or has bit 1 clear
 abbrev pub asks : Known → Bool
 asks known = octet_in (known SyncType) == 0
 
@@ -119,11 +119,11 @@ meaning_by AbortAccept known information = AA
 unfoldable pub meaning : Contents → Meaning
 meaning unit = meaning_by unit.kind unit.known unit.information
 
--- what is said, in order
+-- the meanings of units, in order
 abbrev pub Said : Type 0
 Said = List Meaning
 
--- a unit alone, and one behind a token item
+-- a unit alone, and one after a token item
 abbrev pub alone : Meaning → Said
 alone u = u ∷ []
 
@@ -140,7 +140,7 @@ abbrev pub place_in : Option (List ℕ) → Option Place
 place_in None = None
 place_in (Some value) = place_named (first_in value)
 
--- which part of one Data a unit has: a DT alone has one
+-- which part of a Data a unit has; only a DT has one
 abbrev pub place_by : Kind → Known → Option Place
 place_by DataTransfer known = place_in (known code.Enclosure)
 place_by _ known = None
@@ -162,6 +162,6 @@ abbrev pub said_if_read : Result Units SpduFault → Result Words SpduFault
 said_if_read (Ok units) = Ok (said_by_units units)
 said_if_read (Err fault) = Err fault
 
--- what the octets of a TSDU say, or their first fault
+-- the meaning of the octets of a TSDU, or their first fault
 unfoldable pub said_at : List ℕ → Result Words SpduFault
 said_at octets = said_if_read (tsdu_at octets)

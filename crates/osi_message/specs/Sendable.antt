@@ -1,4 +1,4 @@
--- What can be sent, and what is said by it.
+-- What can be sent, and its meaning.
 use Rattle.std.specs.Prelude.{◌≡◌, ◌<◌, ◌≤◌, ℕ, Bool, true, List, length, map, Option, None, Some, if◌then◌else◌}
 use Rattle.osi_spdu.specs.Sizes.{are_sizes}
 use Rattle.osi_message.specs.Tokens.{no_token}
@@ -8,7 +8,7 @@ use Rattle.osi_message.specs.Reading.{Said, alone, behind}
 use Rattle.osi_message.specs.Words.{says, Words}
 use Rattle.osi_message.specs.Written.{is_second, user_data_of}
 
--- data, and what has to do with points, is said behind a GT with no token
+-- data, and everything about points, is sent after a GT with no token
 abbrev pub said_of : Meaning → Said
 said_of m = if is_second m then behind (GT no_token) m else alone m
 
@@ -36,7 +36,7 @@ abbrev pub IsAddressed : Meaning → Type 0
 IsAddressed (CN version_2 requirements serial wishes calling called sizes octets) = IsAddress calling × IsAddress called
 IsAddressed _ = Unit {0}
 
--- what the parameters of a unit have room for, of version 2 and with the sizes that a user may give
+-- the parameters of a unit have room for the message, its version is 2, and its sizes are ones that a user may give
 pub record IsSendable (m : Meaning) : Type 0 where
   pub version : is_of_version_2 m ≡ true
   pub numbered : IsNumbered m

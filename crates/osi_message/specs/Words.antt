@@ -1,4 +1,4 @@
--- What a unit of a TSDU says: a message, or a part of one Data.
+-- The meaning of a unit of a TSDU: a message, or a part of a Data.
 use Rattle.std.specs.Prelude.{ℕ, List, [], ◌∷◌}
 use Rattle.osi_message.specs.declared.places.Place.{Place}
 use Rattle.osi_message.specs.declared.places.Place.TheVariants.{First, Middle, Last}
@@ -9,11 +9,11 @@ pub data Word : Type 0 where
   says : (message : Meaning) → Word
   part : (place : Place) (octets : List ℕ) → Word
 
--- what the units of a TSDU say, in their order
+-- the meanings of the units of a TSDU, in order
 abbrev pub Words : Type 0
 Words = List Word
 
--- the message as which a word is judged: a part as data
+-- the message as which a word is judged; a part is judged as data
 abbrev pub as_message : Word → Meaning
 as_message (says m) = m
 as_message (part place octets) = DT octets

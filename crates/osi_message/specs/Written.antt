@@ -20,7 +20,7 @@ use Rattle.osi_message.specs.Meanings.{Meaning, CN, AC, RF, DT, GT, PT, MIP, MIA
 abbrev pub put_some : Code → Option (List ℕ) → Known → Known
 put_some slot value known = λ c. if is_same c slot then value else known c
 
--- user data, where there is an octet of it
+-- user data, if there is an octet of it
 abbrev pub with_data : List ℕ → Known → Known
 with_data octets known = settled (put UserData octets known)
 
@@ -28,7 +28,8 @@ with_data octets known = settled (put UserData octets known)
 abbrev pub unit_with : Kind → Known → Contents
 unit_with kind known = record { kind = kind; known = known; information = [] }
 
--- protocol options 01 and version 02; the sizes, where one of them is not 0; the number and the wishes or sides; the requirements
+-- protocol options 01 and version 02; the sizes, if one of them is not 0; the number and the wishes or sides; the
+-- requirements
 abbrev pub terms : Option ℕ → TokenSetting → ℕ → TsduMaximumSize → Known
 terms serial setting requirements sizes =
     put ConnectAcceptItem [] (put ProtocolOptions (1 ∷ []) (put_some code.TsduMaximumSize (option_map size_octets (written_sizes sizes)) (put Version (2 ∷ [])
@@ -68,7 +69,7 @@ unit_of (NF octets) = unit_with NotFinished (with_data octets nothing)
 unit_of (AB bits octets) = unit_with Abort (with_data octets (put TransportDisconnect (bits ∷ []) nothing))
 unit_of AA = unit_with AbortAccept nothing
 
--- data, and what has to do with points, stands behind a GT
+-- data, and everything about points, comes after a GT
 unfoldable pub is_second : Meaning → Bool
 is_second (CN version_2 requirements serial wishes calling called sizes octets) = false
 is_second (AC version_2 requirements serial sides sizes octets) = false
@@ -92,7 +93,7 @@ is_second AA = false
 abbrev pub alone_units : Contents → Units
 alone_units unit = unit ∷ []
 
--- a GT with no token, and the unit behind it
+-- a GT with no token, and the unit after it
 abbrev pub behind_tokens : Contents → Units
 behind_tokens unit = unit_with GiveTokens nothing ∷ unit ∷ []
 
@@ -103,7 +104,7 @@ spelled m = if is_second m then behind_tokens (unit_of m) else alone_units (unit
 abbrev pub written : Meaning → List ℕ
 written m = tsdu_octets (spelled m)
 
--- what of the octets of a user stands in a parameter, whose length is bounded
+-- the octets of a user that go into a parameter, whose length is bounded
 unfoldable pub user_data_of : Meaning → List ℕ
 user_data_of (CN version_2 requirements serial wishes calling called sizes octets) = octets
 user_data_of (AC version_2 requirements serial sides sizes octets) = octets

@@ -21,8 +21,8 @@ ghost use Rattle.osi_message.specs.Written.{spelled, written};
 
 use osi_spdu::laws;
 
-/// What is sent means what was to be sent: the octets in which a meaning is sent are read as its units,
-/// and these say it, alone or behind a GT with no token.
+/// What is sent means what was to be sent: the octets in which a meaning is sent read back as its units, and these have
+/// that meaning, alone or after a GT with no token.
 pub fn what_is_sent_is_read()
     ensures read { (m : Meaning) → IsSendable m → tsdu_at (written m) ≡ Ok (spelled m) }
     ensures said { (m : Meaning) → IsSendable m → said_by_units (spelled m) ≡ words_of m }
@@ -32,7 +32,7 @@ pub fn what_is_sent_is_read()
     laws::again();
 }
 
-/// The octets of a part of one Data are read as it, behind a GT with no token.
+/// The octets of a part of a Data read back as that part, after a GT with no token.
 pub fn what_a_part_says()
     ensures { (place : Place) (octets : List ℕ) →
         said_at (part_octets place octets) ≡ Ok (says (GT no_token) ∷ part place octets ∷ []) }
@@ -41,7 +41,7 @@ pub fn what_a_part_says()
     laws::few_octets_fit();
 }
 
-/// What is sent is octets, where what it says goes into octets.
+/// What is sent consists of octets, if its fields do.
 pub fn what_is_sent_is_octets()
     ensures { (m : Meaning) → IsSendable m → IsInOctets m → IsOctets (written m) }
 {
@@ -49,10 +49,10 @@ pub fn what_is_sent_is_octets()
     laws::few_octets_fit();
 }
 
-/// How a message leaves, where a TSDU has at most so many octets, 0 for no limit (X.225 section 6.3.5,
-/// segmenting): in one TSDU, but for data that is longer. This leaves in parts, first to last, which are
-/// read as words, each behind a GT with no token, and which joined are the data. All but the last TSDU have
-/// as many octets as the limit, and none has more than 1,048,576.
+/// How a message is sent if a TSDU may have at most `limit` octets, 0 for no limit (X.225 section 6.3.5, segmenting):
+/// in one TSDU, except for longer data. That is sent in parts, first to last. Each part reads back as itself, after a
+/// GT with no token, and joined they are the data. All TSDUs but the last have as many octets as the limit, and none
+/// has more than 1,048,576.
 pub fn what_leaves_in_parts()
     ensures whole { (limit : ℕ) (m : Meaning) → is_parted limit m ≡ false → tsdus_of limit m ≡ in_one m }
     ensures parts { (limit : ℕ) (octets : List ℕ) → is_size limit ≡ true → is_parted limit (DT octets) ≡ true → AreParts (words_sent limit (DT octets)) }
@@ -69,8 +69,7 @@ pub fn what_leaves_in_parts()
     what_is_sent_is_octets();
 }
 
-/// The numbers in a message are those that a point may have, and so are those in what the units of a
-/// TSDU mean.
+/// The numbers in a message are numbers that a point may have, and so are those in the units of a TSDU.
 pub fn numbers_of_points()
     ensures message { (m : Message) → IsNumbered (meant_by m) }
     ensures units { (units : Units) → AreNumberedWords (said_by_units units) }

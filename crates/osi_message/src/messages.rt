@@ -12,13 +12,13 @@ pub enum Message<'a> {
         version_2: bool,
         /// The functional units that it names.
         requirements: Requirements,
-        /// The number of the first point, where it names one.
+        /// The number of the first point, if it names one.
         serial: Option<Serial>,
-        /// The side that is wished for each token.
+        /// The side wished for as the holder of each token.
         wishes: TokenSetting,
-        /// The address of the user that asks.
+        /// The address of the requesting user.
         calling: Option<Selector<'a>>,
-        /// The address of the user that is asked.
+        /// The address of the requested user.
         called: Option<Selector<'a>>,
         /// The largest TSDU in each direction that it names, in octets, 0 for no limit.
         sizes: TsduMaximumSize,
@@ -31,9 +31,9 @@ pub enum Message<'a> {
         version_2: bool,
         /// The functional units that it names.
         requirements: Requirements,
-        /// The number of the first point, where it names one.
+        /// The number of the first point, if it names one.
         serial: Option<Serial>,
-        /// The side that each token has.
+        /// The side that holds each token.
         sides: TokenSetting,
         /// The largest TSDU in each direction that it names, in octets, 0 for no limit.
         sizes: TsduMaximumSize,
@@ -44,7 +44,7 @@ pub enum Message<'a> {
     Refuse {
         /// The reason code.
         reason: u8,
-        /// The octets behind the reason code.
+        /// The octets after the reason code.
         user_data: &'a [u8],
     },
     /// Data transfer (DT).
@@ -66,7 +66,7 @@ pub enum Message<'a> {
     },
     /// Minor synchronization point (MIP).
     MinorPoint {
-        /// It asks for its confirmation.
+        /// Whether it asks for its confirmation.
         confirm: bool,
         /// The number of the point.
         number: Serial,
@@ -100,7 +100,7 @@ pub enum Message<'a> {
         kind: ResyncType,
         /// The number of the point.
         number: Serial,
-        /// The side that is wished for each token.
+        /// The side wished for as the holder of each token.
         wishes: TokenSetting,
         /// User data.
         user_data: &'a [u8],
@@ -109,7 +109,7 @@ pub enum Message<'a> {
     RestartAck {
         /// The number of the point.
         number: Serial,
-        /// The side that each token has.
+        /// The side that holds each token.
         sides: TokenSetting,
         /// User data.
         user_data: &'a [u8],

@@ -1,4 +1,4 @@
-//! Data in parts (X.225 section 8, enclosure item): how each is written, and into which parts data is cut.
+//! Data in parts (X.225 section 8, enclosure item): how each part is written, and where data is cut.
 
 ghost use Rattle.std.specs.Prelude.{◌≡◌, ◌<◌, ◌++◌, [], ◌∷◌, length, map, IfOk, OnOk};
 ghost use Rattle.osi_message.specs.Parting.{pieces, parts_of};
@@ -31,7 +31,7 @@ fn part(alloc: Global, place: Place, user_data: &[u8]) -> Result<Vec<u8>, AllocE
     Ok(octets)
 }
 
-/// Puts the TSDU of a part behind the others.
+/// Adds the TSDU of a part after the others.
 fn put_part(
     alloc: Global,
     place: Place,
@@ -45,8 +45,8 @@ fn put_part(
     Ok(())
 }
 
-/// The TSDUs of the parts of one Data, each with this many of its octets but the last, which has what is
-/// left. It stands out of line: data that is whole comes more often.
+/// The TSDUs of the parts of a Data, each with `size` of its octets; the last has the rest. It is kept out of line,
+/// because whole data is more common.
 #[inline(never)]
 pub(crate) fn parts(
     alloc: Global,

@@ -32,7 +32,7 @@ fn part_of_data(params: &Params) -> Option<Place>
 }
 
 impl Place {
-    /// Which part of one Data a unit has: none where it is no DT, or has the whole.
+    /// Which part of a Data a unit has; none if it is not a DT, or has the whole.
     pub fn of(unit: &Spdu) -> Option<Place>
         ensures { result ≡ place_of (said_by unit.now) }
     {

@@ -1,4 +1,4 @@
-//! What the parameters of a unit mean, those that are absent included.
+//! The meaning of a unit's parameters, absent ones included.
 #![tactic(auto)]
 
 ghost use Rattle.osi_spdu.specs.Fields.{unit_bits};
@@ -17,8 +17,8 @@ use osi_spdu::{
     Wish, laws,
 };
 
-/// The requirements of a CN or an AC that names none: half-duplex, minor synchronize, activity
-/// management, capability data and exceptions (X.225 section 8).
+/// The requirements of a CN or AC without this parameter: half-duplex, minor synchronize, activity management,
+/// capability data and exceptions (X.225 section 8).
 const DEFAULT_REQUIREMENTS: u16 = 0x0349;
 
 /// The bit of version 2.
@@ -94,7 +94,7 @@ fn tokens(params: &Params) -> Tokens
     }
 }
 
-/// A minor point whose sync type is absent asks for its confirmation.
+/// A minor point without a sync type asks for its confirmation.
 fn asks(params: &Params) -> bool
     ensures { result ≡ asks (known_of params.now) }
 {
@@ -278,7 +278,7 @@ fn of_kind<'a>(kind: Kind, params: &Params<'a>, information: &'a [u8]) -> Messag
 }
 
 impl<'a> Message<'a> {
-    /// What a unit means, with what stands for the parameters that are absent (X.225 section 8).
+    /// The meaning of a unit, with the default values of absent parameters (X.225 section 8).
     pub fn of(unit: &Spdu<'a>) -> Message<'a>
         ensures { meant_by result ≡ meaning (said_by unit.now) }
     {

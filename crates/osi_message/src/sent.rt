@@ -1,4 +1,4 @@
-//! A message as the octets in which it is sent.
+//! The octets in which a message is sent.
 
 ghost use Rattle.std.specs.Prelude.{◌≡◌, ◌<◌, true, false, [], ◌∷◌, length, map, IfOk, IfErr, OnErr};
 ghost use Rattle.osi_spdu.specs.Groups.{units_of};
@@ -19,7 +19,7 @@ use std::alloc::{AllocError, Global};
 use std::marker::Model;
 use std::slice;
 
-/// The octets of what is to be sent: one TSDU, or those of the parts of one Data, in their order.
+/// The octets to send: one TSDU, or those of the parts of a Data, in order.
 #[derive(Drop)]
 pub struct Sent {
     tsdus: Tsdus,
@@ -36,8 +36,8 @@ impl Model for Sent {
     ghost invariant = { λ s. AreSeveral s.tsdus };
 }
 
-/// The written form of the units in which a message is sent. It stands out of line: else the room for
-/// its units would be made on the way to each message that is written straight.
+/// The written form of the units in which a message is sent. It is kept out of line: otherwise every message that is
+/// written directly would pay for the room of its units.
 #[inline(never)]
 fn by_units(alloc: Global, message: &Message) -> Result<Sent, AllocError>
     requires { length (user_data_of (meant_by message.now)) < 65000 }
@@ -100,8 +100,8 @@ impl Sent {
         }
     }
 
-    /// The written form of a message, in one TSDU. Data, and minor points and their confirmations
-    /// without user data, are written straight into a buffer of their length.
+    /// The written form of a message, in one TSDU. Data, and minor points and their confirmations without user data,
+    /// are written directly into a buffer of the right length.
     pub fn of(alloc: Global, message: &Message) -> Result<Sent, AllocError>
         requires { length (user_data_of (meant_by message.now)) < 65000 }
         ensures { IfOk result (λ s. s ≡ in_one (meant_by message.now)) }
@@ -127,14 +127,14 @@ impl Sent {
         }
     }
 
-    /// Whether data leaves in one TSDU, where this has at most so many octets, 0 for no limit.
+    /// Whether data is sent in one TSDU, if a TSDU may have at most `limit` octets, 0 for no limit.
     pub fn is_whole(limit: u16, user_data: &[u8]) -> bool
         ensures { result ≡ is_whole limit user_data.now }
     {
         limit == 0 || 4 + user_data.len() <= limit as usize
     }
 
-    /// Data, in one TSDU: written straight into a buffer of its length, behind a GT that names no token.
+    /// Data in one TSDU: written directly into a buffer of the right length, after a GT that names no token.
     #[inline(always)]
     #[tactic(auto, using(crate::proofs::PlainLaws::data_written))]
     pub fn whole(alloc: Global, user_data: &[u8]) -> Result<Sent, AllocError>
@@ -151,9 +151,8 @@ impl Sent {
         })
     }
 
-    /// Data (X.225 section 6.3.5, segmenting), where a TSDU has at most this size: whole if its TSDU is
-    /// within it, else in parts, of which all but the last are as long as the size. All of them are
-    /// written, or none.
+    /// Data (X.225 section 6.3.5, segmenting), if a TSDU may have at most this size: as a whole if its TSDU fits,
+    /// otherwise in parts, all but the last of which have the full size. Either all of them are written, or none.
     #[tactic(auto, using(crate::proofs::SentLaws::sent_whole))]
     pub fn data(alloc: Global, limit: TsduSize, user_data: &[u8]) -> Result<Sent, AllocError>
         ensures { IfOk result (λ s. s ≡ tsdus_of (size_of limit) (DT user_data.now)) }
@@ -166,8 +165,8 @@ impl Sent {
         Ok(sent)
     }
 
-    /// Data that is longer than the limit, in parts. It stands out of line: else the room for them would
-    /// be made on the way of data that is whole, too.
+    /// Data that is longer than the limit, in parts. It is kept out of line: otherwise whole data would pay for the
+    /// room of the parts.
     #[inline(never)]
     #[tactic(auto, using(crate::proofs::SentLaws::sent_parted, crate::proofs::SentLaws::some_octets, crate::proofs::SentLaws::more_octets))]
     fn in_parts(alloc: Global, limit: u16, user_data: &[u8]) -> Result<Sent, AllocError>
@@ -181,8 +180,7 @@ impl Sent {
         })
     }
 
-    /// A minor point (MIP), in one TSDU. One that asks for its confirmation is written straight where it
-    /// has no user data.
+    /// A minor point (MIP), in one TSDU. If it asks for its confirmation and has no user data, it is written directly.
     #[inline]
     pub fn minor_point(
         alloc: Global,
@@ -200,8 +198,7 @@ impl Sent {
         point_by_units(alloc, confirm, number, user_data)
     }
 
-    /// The confirmation of a minor point (MIA), in one TSDU. It is written straight where it has no user
-    /// data.
+    /// The confirmation of a minor point (MIA), in one TSDU. It is written directly if it has no user data.
     #[inline]
     pub fn minor_ack(alloc: Global, number: Serial, user_data: &[u8]) -> Result<Sent, AllocError>
         requires { length user_data.now < 65000 }
@@ -214,7 +211,7 @@ impl Sent {
         ack_by_units(alloc, number, user_data)
     }
 
-    /// A message, where a TSDU has at most this size: data as [`Sent::data`] writes it, and all else in one
+    /// A message, if a TSDU may have at most this size: data as [`Sent::data`] writes it, any other message in one
     /// TSDU, as [`Sent::of`] writes it.
     pub fn within(alloc: Global, limit: TsduSize, message: &Message) -> Result<Sent, AllocError>
         requires { length (user_data_of (meant_by message.now)) < 65000 }
@@ -226,7 +223,7 @@ impl Sent {
         }
     }
 
-    /// The octets of the TSDU, with the room that they are in; or those of each, where they are several.
+    /// The octets of the TSDU, with their buffer; or those of each TSDU, if there are several.
     pub fn into_one(self) -> Result<Vec<u8>, Vec<Vec<u8>>>
         ensures one { IfOk result (λ v. self ≡ v.items ∷ []) }
         ensures parts { IfErr result (λ v. self ≡ map (λ t. t.items) v.items) }

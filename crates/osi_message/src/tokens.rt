@@ -7,7 +7,7 @@ ghost use Rattle.osi_message.specs.Tokens.{named, token_octet, no_token, is_empt
 use bitflags::Flags;
 use osi_spdu::TokenSet;
 
-/// The four tokens (X.215 section 7), by name: those of a set are there, the others not.
+/// A set of the four tokens (X.215 section 7), with a field for each.
 #[derive(Clone, Copy, PartialEq, Eq, Debug)]
 pub struct Tokens {
     /// The data token.
@@ -62,7 +62,7 @@ impl Tokens {
         data_token + minor + major + release
     }
 
-    /// No token is there.
+    /// Whether there is no token.
     #[tactic(auto, unfolding(crate::specs::Tokens::is_empty))]
     pub fn is_empty(self) -> bool
         ensures { result ≡ is_empty self }
@@ -70,7 +70,7 @@ impl Tokens {
         !(self.data_token || self.minor || self.major || self.release)
     }
 
-    /// Each token is also in the other set.
+    /// Whether each token is also in the other set.
     #[tactic(auto, unfolding(crate::specs::Tokens::is_within))]
     pub fn is_within(self, other: Tokens) -> bool
         ensures { result ≡ is_within self other }
@@ -81,7 +81,7 @@ impl Tokens {
             && (!self.release || other.release)
     }
 
-    /// No token is also in the other set.
+    /// Whether no token is also in the other set.
     #[tactic(auto, unfolding(crate::specs::Tokens::is_disjoint))]
     pub fn is_disjoint(self, other: Tokens) -> bool
         ensures { result ≡ is_disjoint self other }

@@ -1,10 +1,10 @@
-//! One TSDU, or the TSDUs of the parts of one Data.
+//! One TSDU, or the TSDUs of the parts of a Data.
 
-/// The TSDUs that are to be sent.
+/// The TSDUs to send.
 #[derive(Drop)]
 pub(crate) enum Tsdus {
     /// One TSDU.
     One(Vec<u8>),
-    /// The parts of one Data, two at least.
+    /// The parts of a Data, at least two.
     Parts(Vec<Vec<u8>>),
 }

@@ -26,7 +26,7 @@ fn alone<'a>(unit: Spdu<'a>) -> Group<'a>
     Group::alone(unit)
 }
 
-/// A unit of category 2, behind a GT with no token.
+/// A unit of category 2, after a GT with no token.
 fn behind<'a>(unit: Spdu<'a>) -> Group<'a>
     requires { category_of (said_by unit).kind ≡ Two }
     ensures units { units_of result ≡ behind_tokens (said_by unit.entry) }
@@ -118,7 +118,7 @@ fn minor_point<'a>(confirm: bool, number: Serial, user_data: &'a [u8]) -> Spdu<'
 }
 
 impl<'a> Message<'a> {
-    /// Whether the unit is of category 2: data, and what has to do with points.
+    /// Whether the unit is of category 2: data, and everything about points.
     #[tactic(auto, unfolding(crate::specs::Written::is_second))]
     fn is_second(self) -> bool
         ensures { result ≡ is_second (meant_by self.entry) }
@@ -218,8 +218,7 @@ impl<'a> Message<'a> {
         }
     }
 
-    /// The units in which it is sent (X.225 sections 6.3.7 and 8). A CN and an AC are of version 2
-    /// alone.
+    /// The units in which it is sent (X.225 sections 6.3.7 and 8). A CN and an AC name only version 2.
     pub fn group(self) -> Group<'a>
         ensures units { units_of result ≡ spelled (meant_by self.entry) }
         ensures fits { length (user_data_of (meant_by self.entry)) < 65000 → TsduFits (units_of result) }
@@ -231,7 +230,7 @@ impl<'a> Message<'a> {
         }
     }
 
-    /// How many octets its written form is. It stands out of line, for the room of its units.
+    /// The length of its written form. It is kept out of line, because of the room for its units.
     #[inline(never)]
     pub fn written_len(&self) -> usize
         requires { length (user_data_of (meant_by self.now)) < 65000 }

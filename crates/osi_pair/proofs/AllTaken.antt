@@ -74,7 +74,7 @@ front_none : (xs ys : List ℕ) → xs ++ ys ≡ [] → xs ≡ []
 front_none [] ys e = refl
 front_none (x ∷ xs) ys e = absurd (cc)
 
--- nothing comes to an end to which nothing more is handed over, and that holds no whole packet
+-- nothing is in flight to an end to which nothing more is handed over, and that holds no whole packet
 none_coming : (held arriving : List ℕ) (units lost : List Value) → IsPartial held → arriving ≡ [] → lost ≡ [] → IsOnTheWay held arriving units lost → (units ≡ []) × (held ≡ [])
 none_coming held arriving units lost part none whole w = by units w.sendable all
   where

@@ -66,7 +66,7 @@ memory_named laws f q steps most used new at alive le d =
     let z = still_goes (other f) (handed f k g q) steps d.before rest d.quiet y.stands in
     memory_by laws f q steps k new.end d.before d.rest z (found_how (end_at (other f) q) (piece_of f most q) used new d)
 
--- ---- what is shown is reported, one after the other
+-- ---- indications are given one after the other
 
 tellings : List (ℕ × Shown) → List Call
 tellings shown = map (λ p. telling (Some p)) shown

@@ -51,7 +51,7 @@ zero_here : (s r : State) (n p : ℕ) (x : Standing) (g : zero.ZeroCourse) → z
 zero_here s r n p x (zero.talking l) one other back at = one_linked n s l.left (at_one r n (linked 1 l.right) (linked p x) other at).reference one.live
 zero_here s r n p x g one other back at = grind arith
 
--- whatever they come to
+-- whatever they agree on
 pub open_there : (terms : Terms) (s r : State) (n p : ℕ) (x : Standing) → AreJoinedBy terms s r [] [] → value_at n s.live ≡ Some (linked p x) → IsLinkedAt n r
 open_there by_two s r n p x j at =
     let st = j.stands n (within_given n s (linked p x) j.orderly at).0 in

@@ -13,7 +13,7 @@ carries_more side most carried used old mid new h more = record {
   each = (mid, h.each, subst (λ n. CarriesPiece side (most - n) mid used new) h.length more);
 }
 
--- the same, where the journal is then given room
+-- the same, if the journal is then given room
 pub carries_then : (side : Side) (most carried used : ℕ) (old mid : Crossing) (from to : Holding) (said after : List Entry) → Carries side most old carried mid →
     CarriesPiece side (most - carried) mid used (record { from = from; to = to; journal = map entry_by said }) → after ≡ said →
     Carries side most old (carried + used) (record { from = from; to = to; journal = map entry_by after })

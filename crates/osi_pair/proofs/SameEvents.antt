@@ -141,7 +141,7 @@ same_break left right p q h = record {
   journal = h.journal;
 }
 
--- what an end does that is told of it, when nothing is pending
+-- the effect of the break on an end, when nothing is pending
 break_does : End → End
 break_does e = record (breaks e) { lines = quieted (breaks e).lines }
 

@@ -13,7 +13,7 @@ pub record HasShown (side : Side) (old : Holding) (before : List Entry) (count :
   pub rest : new ≡ record old { end = record old.end { lines = new.end.lines } }
   pub says : after ≡ before ++ shown_entries side first
 
--- one more is shown
+-- one more is given
 pub shown_more : (side : Side) (old : Holding) (before : List Entry) (count : ℕ) (mid new : Holding) (after : List Entry) (p : ℕ × Shown) →
     HasShown side old before count mid after → first_shown mid.end.lines ≡ Some p →
     new ≡ record mid { end = record mid.end { lines = without_first mid.end.lines } } →
@@ -58,7 +58,7 @@ shown_end side old before count mid new after h e is =
     let same : new ≡ mid = is ∙ ap (λ (l : Rows Line). record mid { end = record mid.end { lines = l } }) (none_taken mid.end.lines e) in
     subst (λ (x : Holding). Tells side old before x after) (sym same) (shown_all side old before count mid after h e)
 
--- one more is shown, and noted
+-- one more is given, and noted
 pub shown_then : (side : Side) (old : Holding) (before : List Entry) (count : ℕ) (mid new : Holding) (after said : List Entry) (p : ℕ × Shown) →
     HasShown side old before count mid after → first_shown mid.end.lines ≡ Some p →
     new ≡ record mid { end = record mid.end { lines = without_first mid.end.lines } } → said ≡ after ++ shows side p.0 p.1 ∷ [] →

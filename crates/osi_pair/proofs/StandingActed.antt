@@ -55,7 +55,7 @@ pub acted_by : (s : Side) (p : TwoEnds) (b : Between) (n : ℕ) (terms : Terms) 
 acted_by Left p b n terms f put a = a
 acted_by Right p b n terms f put a = a
 
--- The end of a side has this carrier: what is known of it, where this was put.
+-- The end of a side has this carrier: what is known of it, after this was put.
 pub record CarrierActs (s : Side) (p : TwoEnds) (b : Between) (n : ℕ) (g : Progress) (c : State) (put : List carrier.Message) : Type 0 where
   pub on : ActsOn n g (end_at s p).end.carrier c
   pub was : Connection

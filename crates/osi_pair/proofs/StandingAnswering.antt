@@ -67,7 +67,7 @@ closes_alone laws row m x is h = cc
 
 -- ---- the class is known
 
--- where a unit comes to an open connection the caller has agreed the class
+-- if a unit arrives at an open connection, the caller has agreed the class
 pub class_known : (s : Side) (p : TwoEnds) (b : Between) (t : Tables) (packet : List ℕ) (h : Held) → Stands p b t → (pa : PacketActs (terms_at p) (is_caller s) (carriers_of p) b packet h.octets) →
     before pa.did.row ≡ in_use → t.known ≡ option_map class_in (class_of (terms_at p))
 class_known s p b t packet h old pa used = grind arith
@@ -107,7 +107,7 @@ closing_packet laws moves s p b t packet h old alive pa v row input two shut =
 
 -- ---- by what the move does
 
--- a unit comes to an open connection in one of the classes
+-- a unit arrives at an open connection in one of the classes
 open_terms : (terms : Terms) (row : Row) → is_row terms row → before row ≡ in_use → (terms ≡ by_two) ⊎ (terms ≡ by_zero)
 open_terms terms row is e = grind arith
 
@@ -118,7 +118,7 @@ by_terms : PacketLaws → AnswerLaws → (s : Side) (p : TwoEnds) (b : Between) 
 by_terms laws moves s p b t packet h old alive pa v row input shut zero (inl two) = closing_packet laws moves s p b t packet h old alive pa v row input two shut
 by_terms laws moves s p b t packet h old alive pa v row input shut zero (inr e) = zero e
 
--- where it closes; the state of two ends of class 0 then is given
+-- if it closes; the state of two ends of class 0 then is given
 pub shutting_packet : PacketLaws → AnswerLaws → (s : Side) (p : TwoEnds) (b : Between) (t : Tables) (packet : List ℕ) (h : Held) → Stands p b t → (end_at s p).end.carrier.ended ≡ None →
     (pa : PacketActs (terms_at p) (is_caller s) (carriers_of p) b packet h.octets) → (v : HasMoved s p t packet h) → v.m.row ≡ pa.did.row → v.m.input ≡ heard_by v.m.row v.m.first →
     (move_of v.m).closes ≡ true → (terms_at p ≡ by_zero → StandsShown s p t (after_packet (end_at s p).end packet) h) → StandsShown s p t (after_packet (end_at s p).end packet) h

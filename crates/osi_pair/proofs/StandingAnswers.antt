@@ -28,7 +28,7 @@ use Rattle.osi_pair.proofs.StandingTurned.{with_holding, turned_pair}
 pub turned_here : (s : Side) (e : End) (h : Held) (n : ℕ) (shown : List Shown) (p : TwoEnds) → end_at s (turned_pair s e h n shown p) ≡ record { end = e; held = h }
 turned_here s e h n shown p = grind arith
 
--- the end as it then stands, with the carrier as it acted, and where all indications are still pending
+-- the end afterwards, with the carrier after it acted, and with all indications still pending
 abbrev pub answered_end : Carrier → Rows Line → End
 answered_end c lines = record { carrier = c; lines = lines }
 
@@ -44,7 +44,7 @@ shown_is Left p e h n shown c lines lasts waits =
 shown_is Right p e h n shown c lines lasts waits =
     ap (λ (es : List Entry). record (with_holding Right (answered_end c (quieted lines)) h p) { journal = p.journal ++ es }) (told_is Right n shown c.ended (waiting_in lines) lasts waits)
 
--- it is in order, as it was where it has the connections that its sessions need
+-- it is in order, as before, if it has the connections that its sessions need
 order_then : (e : End) (c : Carrier) (lines : Rows Line) → e.lines ≡ quieted lines → c.ended ≡ None → c.given ≡ e.carrier.given → c.events ≡ e.carrier.events → IsInOrder e → IsSound (answered_end c lines) → IsInOrder (with_carrier c e)
 order_then e c lines same lasts given events was sound = grind (arith, quieted_at)
 
@@ -72,11 +72,11 @@ stays_twice t s n es x y = ap (λ (ls : List TableLine). noted_in es (record t {
 pub closing_by : (t : Tables) (s : machine.Side) (n : ℕ) (keep : ℕ → ℕ) (turn : Turn) → turn.closes ≡ true → after_turn t s n keep turn ≡ closes_by t.known (noted_in (map (shown_at s n) turn.shown) t) s n keep turn.line
 closing_by t s n keep turn e = grind arith
 
--- the line where this is sent
+-- the line if this is sent
 abbrev pub line_with : Bool → Moving → Option Meaning → TableLine
 line_with broken m reply = line_then m.row (move_of m).next (put broken (replied reply) m.seen.own.channel) m.rest m.seen
 
--- the delivery, where the move sends a unit
+-- the delivery if the move sends a unit
 answered_step : (s : Side) (p : TwoEnds) (t : Tables) (packet : List ℕ) (h : Held) (v : HasMoved s p t packet h) (x : Meaning) (keep : ℕ → ℕ) → (move_of v.m).closes ≡ false → (move_of v.m).reply ≡ Some x →
     step t (delivers (side_in s) v.m.n keep) ≡ stays (moved_tables s t v.m) (side_in s) v.m.n (puts t.broken (unit x ∷ []) (moved_line v.m))
 answered_step s p t packet h v x keep open_still reply =
@@ -87,7 +87,7 @@ answered_step s p t packet h v x keep open_still reply =
     ∙ ap (λ (o : Option Meaning). noted_in es (stays t0 (side_in s) m.n (line_with t.broken m o))) reply
     ∙ sym (stays_twice t0 (side_in s) m.n es (moved_line m) (puts t.broken (unit x ∷ []) (moved_line m)))
 
--- the delivery, where the move closes
+-- the delivery if the move closes
 closed_step : (s : Side) (p : TwoEnds) (t : Tables) (packet : List ℕ) (h : Held) (v : HasMoved s p t packet h) (keep : ℕ) → known_by t v.m ≡ Some worlds.class_2 → (move_of v.m).closes ≡ true → (move_of v.m).reply ≡ None →
     step t (delivers (side_in s) v.m.n (λ r. keep)) ≡ stays (moved_tables s t v.m) (side_in s) v.m.n (closed t.broken keep (moved_line v.m))
 closed_step s p t packet h v keep known closing reply =

@@ -26,7 +26,7 @@ pub record CarrierLaws : Type 0 where
       (side end both).state.ended ≡ None → value_at n (side end both).state.live ≡ Some (linked peer link) →
       closed_with n reason (side end both).state ≡ ends Closed (side end both).state
 
--- the end that acts, when what its carrier told was heard
+-- the acting end, when the events of its carrier were handled
 abbrev pub heard_both : Bool → Value → List ℕ → Both → Both
 heard_both end u behind both = still_to_tell end [] (becomes end (react u (side end both).state) behind both)
 

@@ -20,7 +20,7 @@ comes_open (acknowledge credit destination number) = true
 comes_open (disconnect destination (suc source) reason user) = true
 comes_open unit = false
 
--- to a CR comes its CC, or where all are refused the DR that refuses it
+-- the answer to a CR is its CC, or if all are refused the DR that refuses it
 abbrev pub comes_asked : Bool → Value → Bool
 comes_asked true (confirm destination c) = true
 comes_asked false (disconnect destination zero reason user) = true
@@ -185,7 +185,7 @@ zero_first end caller taker there place u one other z =
     let may = subst (λ (p : Place). comes true p u ≡ true) (sym at) z.may in
     grind arith
 
--- ---- where CRs are refused
+-- ---- if CRs are refused
 
 never_at : (n : ℕ) (s : State) → 0 < n → s.given ≡ 0 → place_at n s ≡ never
 never_at n s some e = place_by n s 0 s.live e refl ∙ ap (λ (b : Bool). if◌then◌else◌ {A = Place} b never (was_given (value_at n s.live))) (let less : nat_lt 0 n ≡ true = grind (arith, nat_tests) in less)

@@ -136,7 +136,7 @@ right_at : (p : TwoEnds) (u : Tables) (e : End) (h : Held) (c : Between) (reason
 right_at p u e h c reason lines held journal most n last none takes all (inl out) = record { keep = 0; is = λ some few. absurd (outside_not n most out some few) }
 right_at p u e h c reason lines held journal most n last none takes all (inr given) = right_line p u e h c reason lines held journal most n last none takes (all n given.0 given.1)
 
--- they match the tables in which the side ends, where so much is kept of what was in flight from it
+-- they match the tables in which the side ends, if this much is kept of what was in flight from it
 pub record EndsOn (s : Side) (p : TwoEnds) (c : Between) (ending : Ending) (u : Tables) : Type 0 where
   pub keep : ℕ → ℕ
   pub stands : Stands p c (after_end (side_in s) ending keep u)
@@ -205,7 +205,7 @@ shown_then Right p b t lines first s none told =
     let all : AllSeated Right p.right.end.carrier.given p.right t = (λ n a c. (let h = s.lines n a c in (h.line, h.found, h.is.right))) in
     says_all Right p.right lines first t told s.quiet_right (s.order_right none) s.given_back all
 
--- ---- all of it is shown at once
+-- ---- all of it is indicated at once
 
 quiet_twice : (lines : Rows stack.Line) → quieted (quieted lines) ≡ quieted lines
 quiet_twice [] = refl

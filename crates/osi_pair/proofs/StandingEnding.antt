@@ -12,7 +12,7 @@ use Rattle.osi_pair.proofs.StandingLost.{is_over}
 
 -- ---- a side that has ended
 
--- what becomes of it, where it was given
+-- what happens to it, if it was given
 abbrev pub ended_seat : Bool → ℕ → Seat → Seat
 ended_seat true keep s = record { transport = gone; session = (react s.session broken_off).next; channel = take keep s.channel }
 ended_seat false keep s = s

@@ -1,4 +1,4 @@
--- An end took a unit of a connection: what is left to say of its carrier, where its session is known.
+-- An end took a unit of a connection: what remains to be said of its carrier, if its session is known.
 use Rattle.std.proofs.Common.{◌≡◌, ◌≢◌, ℕ, ◌<◌, ◌≤◌, Bool, true, false, nat_lt, if◌then◌else◌, List, [], ◌++◌, map, Some, None, is_some, option_map, refl, sym, ap, subst, ◌∙◌, arith, length}
 use Rattle.osi_between.specs.Messages as carrier
 use Rattle.osi_pair.proofs.Vocabulary.{Held, place_at, value_at, State, Between, last_of, progress_of, Progress, not_yet, references_for, Terms, accepts_in, terms_of, shown_at, Line, Tables, Message, Listener, Standing, Shown, kept_at, End, Holding, TwoEnds, end_at, other, side_in, is_caller, class_in, carriers_of, Goes, IsSeated, IsInOrder, Stands, waiting_in, Side, Left, Right}

@@ -13,14 +13,14 @@ use Rattle.osi_pair.proofs.StandingSeats.{transport_by, HasSession}
 pub carried_out : (e : End) (packet : List ℕ) (u : Value) → carriers.after_packet e.carrier packet ≡ carrier_react u e.carrier → after_packet e packet ≡ attends (carries_out u e)
 carried_out e packet u acts = packet_is e packet ∙ ap (λ (c : Carrier). attends (with_carrier c e)) acts
 
--- it told nothing
+-- it reported no event
 pub nothing_heard : (e : End) (packet : List ℕ) (u : Value) → carriers.after_packet e.carrier packet ≡ carrier_react u e.carrier → (carrier_react u e.carrier).events ≡ [] → (carrier_react u e.carrier).ended ≡ None →
     after_packet e packet ≡ acted_end u e.lines e
 nothing_heard e packet u acts none lasts =
     carried_out e packet u acts ∙ quiet_attends (carries_out u e) (record { lasts = ap is_some lasts; events = none })
     ∙ ap (λ (l : List Happening). with_events l (carries_out u e)) none
 
--- it told one thing
+-- it reported one event
 pub one_told : (e : End) (packet : List ℕ) (u : Value) (event : Happening) → carriers.after_packet e.carrier packet ≡ carrier_react u e.carrier → (carrier_react u e.carrier).events ≡ event ∷ [] →
     after_packet e packet ≡ concludes (hears event (told_all u e))
 one_told e packet u event acts one = carried_out e packet u acts ∙ ap concludes (one_heard (carries_out u e) event one)

@@ -36,7 +36,7 @@ left_channel broken keep channel = put broken (over ∷ []) (take keep channel)
 abbrev pub left_turn : Bool → ℕ → Row → Move → List Message → TableLine → Turn
 left_turn broken keep row move xs l = record { line = line_then row move.next (left_channel broken keep l.own.channel) xs l; shown = move.shown; closes = false }
 
--- where a session that is lost sends this
+-- if a session that is lost sends this
 abbrev lost_turn : Bool → ℕ → Option Meaning → Standing → List Message → Seat → Turn
 lost_turn broken keep reply x channel peer = record {
   line = record {

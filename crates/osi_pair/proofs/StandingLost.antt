@@ -210,7 +210,7 @@ seat_shows_by n h seat false (Some c) e at up s =
     ap (λ (x : Option Connection). if is_some x then session_in (value_at n h.end.lines) else None) at in
     lost_so s.joined seat.session ∙ ap shown_at_loss (sym (s.live (ap is_some at)) ∙ here)
 
--- ---- what is shown
+-- ---- the indications
 
 kept_quiet : (n : ℕ) (lines : Rows stack.Line) → kept_at n (quieted lines) ≡ kept_at n lines
 kept_quiet n [] = refl
@@ -220,7 +220,7 @@ pub none_kept : (n : ℕ) (old new : Rows stack.Line) → quieted new ≡ quiete
 none_kept n old new e =
     sym (kept_quiet n new) ∙ ap (kept_at n) e ∙ kept_quiet n (all_lost old) ∙ (are_lost old).none n
 
--- all is shown, since few are lost
+-- all are given, since there are few
 all_shown : (lines new : Rows stack.Line) (live : Rows Connection) (first : List (ℕ × Shown)) → waiting_in lines ≡ [] → RiseFrom 0 lines → AreLive lines live → length live ≤ 64 →
     waiting_in (all_lost lines) ≡ first ++ waiting_in new → (waiting_in new ≡ []) ⊎ (length first ≡ 81) → waiting_in new ≡ []
 all_shown lines new live first quiet rise all most shown (inl none) = none

@@ -47,11 +47,11 @@ move_of m = react m.seen.own.session m.input
 
 -- ---- the end
 
--- its lines, where what the session shows is still pending
+-- its lines, with the session's indications still pending
 abbrev pub loud_lines : Side → TwoEnds → Moving → Rows Line
 loud_lines s p m = lines_then m.n m.line m.seen.own.session m.input (end_at s p).end.lines
 
--- the end, where that was shown; what the session sends was not handed over
+-- the end, when they were given; what the session sends was not handed over
 abbrev pub moved_end : Side → TwoEnds → Value → Moving → End
 moved_end s p u m = acted_end u (quieted (loud_lines s p m)) (end_at s p).end
 
@@ -140,7 +140,7 @@ pub record KeptLine (n : ℕ) (lines : Rows Line) (joined : Option (List ℕ)) (
 line_by : (n : ℕ) (lines : Rows Line) (joined : Option (List ℕ)) (x : Standing) (o : Option Line) → value_at n lines ≡ o → session_in o ≡ Some (joining joined x) → KeptLine n lines joined x
 line_by n lines joined x o e h = grind arith
 
--- a message that a session receives comes to one that lives
+-- a message that a session receives arrives at a live one
 heard_lives : (row : Row) → is_heard row ≡ true → lives_in (before row) ≡ true
 heard_lives row e = grind arith
 
@@ -161,7 +161,7 @@ pub record Arriving (s : Side) (p : TwoEnds) (b : Between) (t : Tables) (n : ℕ
 abbrev pub PacketAt : Side → TwoEnds → Between → List ℕ → Held → Type 0
 PacketAt s p b packet h = PacketActs (terms_at p) (is_caller s) (carriers_of p) b packet h.octets
 
--- what comes to it, and what is in flight after it
+-- what arrives, and what is in flight after it
 abbrev pub Behind : (s : Side) (p : TwoEnds) (b : Between) (packet : List ℕ) (h : Held) (pa : PacketActs (terms_at p) (is_caller s) (carriers_of p) b packet h.octets) → Option (List ℕ) → SessionState → List Message → Type 0
 Behind s p b packet h pa begun x ms =
     BehindFirst (after pa.did.row) (is_cut (is_caller (other s)) (carriers_of (with_holding s (acted_end pa.unit (end_at s p).end.lines (end_at s p).end) h p))) begun x ms
@@ -246,7 +246,7 @@ pub record PartArrives (s : Side) (p : TwoEnds) (b : Between) (t : Tables) (pack
   pub joins : PartJoins joined seen.own.session place octets (Some now)
   pub stays : Behind s p b packet h pa (Some now) seen.own.session.state seen.peer.channel
 
--- a message that does not leave comes to a session that has joined nothing
+-- a message that does not leave arrives at a session that has joined nothing
 abbrev pub got_leaves : carrier.Message → Bool
 got_leaves (carrier.bye r) = true
 got_leaves carrier.over = true
@@ -417,7 +417,7 @@ moved_then laws s p b t packet h old alive pa a d same f =
 
 -- ---- two ends then
 
--- a message that comes to a session leads to what the session makes of what it receives
+-- a message that arrives at a session has the effect of what the session receives
 agrees_left : (x : Standing) (m : Message) → kind_of (message_in m) ≡ carrier.agree → after_message x.state m ≡ (react x opened).next.state
 agrees_left x agree k = left_is x opened
 agrees_left x m k = cc

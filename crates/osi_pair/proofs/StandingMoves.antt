@@ -28,7 +28,7 @@ is_move (denies reason) = true
 is_move (tells octets) = true
 is_move row = false
 
--- the turn, where the move sends this
+-- the turn if the move sends this
 abbrev pub turn_then : Row → Input → Bool → Option Meaning → Standing → List Message → List Message → TableLine → Turn
 turn_then row input broken reply x channel back l = record {
   line = line_then row (react x input).next (put broken (replied reply) channel) back l;

@@ -13,9 +13,9 @@ use Rattle.osi_pair.proofs.StandingShown.{shown_pair}
 use Rattle.osi_pair.proofs.StandingTurned.{with_holding, holding_here}
 use Rattle.osi_pair.proofs.Waiting.{none_waits}
 
--- The laws of one packet. If two ends match a list of steps, and a side that lasts takes the packet that it holds
--- first, or runs out of memory for it, or ends because memory runs out, they match that list followed by what arrives
--- at the side, when its users were shown what came of it.
+-- The laws of one packet. Two ends match a list of steps, and a side that lasts takes the first packet that it holds,
+-- or runs out of memory for it. When its users received the indications, the two match that list followed by what
+-- arrived at the side.
 pub record PacketStands : Type 0 where
   pub told : (p : TwoEnds) (steps : List Step) (s : Side) (packet octets : List ℕ) (h : Held) → StandsAt p steps → (end_at s p).end.carrier.ended ≡ None →
       IsPacket packet octets → (end_at s p).held.octets ≡ octets ++ h.octets → StandsAtArrivals s (shown_pair s (after_packet (end_at s p).end packet) h p) steps
@@ -24,7 +24,7 @@ pub record PacketStands : Type 0 where
   pub ended : (p : TwoEnds) (steps : List Step) (s : Side) (h : Held) → StandsAt p steps → (end_at s p).end.carrier.ended ≡ None →
       StandsAtArrivals s (shown_pair s (ends NoMemory (end_at s p).end) h p) steps
 
--- Their bound: of one packet no more is pending than is shown at once.
+-- Their bound: one packet does not lead to more pending indications than are given at once.
 pub record FewWait : Type 0 where
   pub told : (p : TwoEnds) (steps : List Step) (s : Side) (packet octets : List ℕ) (h : Held) → StandsAt p steps → (end_at s p).end.carrier.ended ≡ None →
       IsPacket packet octets → (end_at s p).held.octets ≡ octets ++ h.octets → length (waiting_in (after_packet (end_at s p).end packet).lines) ≤ 81
@@ -72,7 +72,7 @@ goes_on e lasts quiet = ap (λ (o : Option EndReason). is_some o || waits e.line
 noted_none : (p : TwoEnds) → noted [] p ≡ p
 noted_none p = ap (λ (j : List Entry). record p { journal = j }) (append-nil p.journal)
 
--- if nothing is shown and the end lasts
+-- if there is no indication and the end lasts
 pub shown_plain : (s : Side) (e : End) (h : Held) (p : TwoEnds) → e.carrier.ended ≡ None → waiting_in e.lines ≡ [] → shown_pair s e h p ≡ with_holding s e h p
 shown_plain s e h p lasts quiet = grind (arith, with_holding, noted_none, quiet_same)
 

@@ -107,7 +107,7 @@ finished laws f p steps k j used e rest h g is le all x =
       few = x.few;
     }
 
--- ---- what the end of a side is where it runs out of memory
+-- ---- the end of a side when it runs out of memory
 
 unit_starved : (e new : End) (c : State) → e.carrier.events ≡ [] → c ≡ states.ends NoMemory e.carrier → new ≡ attends (with_carrier c e) → is_some new.carrier.ended ≡ true
 unit_starved e new c none is same = grind arith
@@ -234,7 +234,7 @@ goes_stands laws f p steps most used new at alive le (inl (inr d)) = behind_stan
 goes_stands laws f p steps most used new at alive le (inr (inl d)) = absurd (refused_not laws f p steps most used new at alive le d)
 goes_stands laws f p steps most used new at alive le (inr (inr d)) = memory_stands laws f p steps most used new at alive le d
 
--- ---- all pending indications is shown
+-- ---- all pending indications are given
 
 -- all at once, if no more is pending than that
 record AllShown (old : Holding) (first : List (ℕ × Shown)) (new : Holding) : Type 0 where

@@ -61,7 +61,7 @@ count_live k (suc m) ((q, x) ∷ live) rise up = count_by k m q x live (q == k +
 more_any : (t : Transport) (ts : List Transport) (b : Bool) → is_waiting t ≡ b → list_any is_waiting (t ∷ ts) ≡ (b || list_any is_waiting ts)
 more_any t ts b e = ap (λ (c : Bool). c || list_any is_waiting ts) e
 
--- where all that are live await their answer
+-- if all live connections await their answer
 AllAsked : Rows Connection → Type 0
 AllAsked live = (n : ℕ) (x : Connection) → value_at n live ≡ Some x → x ≡ asked
 
@@ -149,7 +149,7 @@ tests : (g : ℕ) (class : Option Class) (over some waits many up profile long :
     ≡ Some (by_tests over (is_known (option_map class_in class)) waits (is_class_0 (option_map class_in class)) many up profile long)
 tests g class over some waits many up profile long h = grind arith
 
--- what both come to while the left end lasts, by the class
+-- what both agree on while the left end lasts, by the class
 alive_by : (g : ℕ) (c : Connect) (p : TwoEnds) (b : Between) (t : Tables) (class : Option Class) (waits : Bool) → Stands p b t → p.left.end.carrier.class ≡ class → p.left.end.carrier.ended ≡ None →
     list_any is_waiting (map transport_of t.lines) ≡ waits → (class ≡ None → waits ≡ nat_lt 0 (length p.left.end.carrier.live)) → live_count (map transport_of t.lines) ≡ length p.left.end.carrier.live →
     answer_in (answer_with g (connect_error c p.left.end)) ≡ Some (refusal t (offer_in (asked_of c)))

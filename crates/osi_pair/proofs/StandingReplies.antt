@@ -75,7 +75,7 @@ taken_goes laws s u m e =
 
 -- ---- a move
 
--- what is known of a move: what it sends goes, and so does the CN that waits then
+-- what is known of a move: what it sends can be written, and so can a CN that waits afterwards
 pub record GoesBy (x : Standing) (input : Input) : Type 0 where
   pub sends : (m : Meaning) → (react x input).reply ≡ Some m → CanGo m
   pub octets : IfSome (react x input).next.waiting IsInOctets
@@ -118,7 +118,7 @@ pub ended_broken : (x : Standing) → is_ended (react x broken).next.state.phase
 unfolding react
 ended_broken x = refl
 
--- ---- the CN that waits
+-- ---- a CN that waits
 
 offer_answer : (o : Offer) → IsInOctets (offer_sent o) → IsAnswer (offer_sent o)
 unfolding unit_of

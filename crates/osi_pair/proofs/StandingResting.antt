@@ -14,7 +14,7 @@ use Rattle.osi_pair.proofs.StandingListens.{kept_of, discards_over}
 
 -- ---- the end that took the unit
 
--- its carrier acted, and told nothing any more; its lines are these
+-- its carrier acted, and has no events left; its lines are these
 abbrev pub acted_end : Value → Rows Line → End → End
 acted_end u lines e = record { carrier = (told_all u e).carrier; lines = lines }
 
@@ -134,7 +134,7 @@ back_alone s p b e h n l got d i alive one other_kind =
     alone_of (before d.row) (after d.row) (is_cut (is_caller (other s)) (carriers_of (with_holding s e h p))) (HasJoined n (end_at s p)) l.own.session.state l.peer.channel got
     (under_way (is_caller (other s)) n (carriers_of (with_holding s e h p)) d.now) other_kind (back_one s p b e h n l got d i alive one)
 
--- what is in flight to an end after the first, where its lines are these
+-- what is in flight to an end after the first, if its lines are these
 pub back_then : (s : Side) (p : TwoEnds) (c : Between) (e : End) (h : Held) (n : ℕ) (g : Progress) (begun : Option (List ℕ)) (x y : SessionState) (ms : List Message) →
     BehindFirst g (is_cut (is_caller (other s)) (carriers_of (with_holding s e h p))) begun x ms (under_way (is_caller (other s)) n (carriers_of (with_holding s e h p)) c) → HasJoined n (record { end = e; held = h }) begun →
     (StaysCalm x ms → StaysCalm y ms) → Goes (other s) s n (with_holding s e h p) c g y ms

@@ -14,7 +14,7 @@ use Rattle.osi_pair.proofs.WordLaws.{MayLeave, AreWords}
 
 -- ---- a delivery of the tables
 
--- what it leaves, where it closes nothing
+-- the state afterwards, if it closes nothing
 abbrev pub delivered : Tables → machine.Side → ℕ → Option worlds.Class → Turn → Tables
 delivered t s r known turn = noted (map (shown_at s r) turn.shown) (stays (record t { known = known }) s r turn.line)
 
@@ -71,7 +71,7 @@ unless_same broken whole ms ys e h = grind arith
 pub answers_same : (broken whole : Bool) (row : Row) → broken ≡ whole → map message_in (unless_broken broken (answer_for row)) ≡ (if whole then [] else put_for row)
 answers_same broken whole row e = grind arith
 
--- nothing is put where something of what is in flight was cut
+-- nothing is put if something of what is in flight was cut
 pub spare_by : (broken cut : Bool) (ms : List Message) → (broken ≡ false → cut ≡ false) → (cut ≡ false) ⊎ (unless_broken broken ms ≡ [])
 spare_by broken cut ms free = grind arith
 
@@ -88,7 +88,7 @@ put_same broken whole words e = grind arith
 pub put_spare : (broken cut : Bool) (words : List Word) → (broken ≡ false → cut ≡ false) → (cut ≡ false) ⊎ (words_put broken words ≡ [])
 put_spare broken cut words free = grind arith
 
--- what is put where its sender leaves
+-- what is put if its sender leaves
 pub leave_by : (broken cut : Bool) (m : Message) → MayLeave m → (broken ≡ true → cut ≡ true) → IsLeave (unless_broken broken (m ∷ [])) ⊎ ((cut ≡ true) × (unless_broken broken (m ∷ []) ≡ []))
 leave_by broken cut m may all = grind arith
 

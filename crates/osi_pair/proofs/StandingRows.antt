@@ -111,7 +111,7 @@ row_asked by_zero n (confirm destination c) h = row_confirm by_zero n (confirm d
 row_asked (refusing reason) n (disconnect destination zero why user) h = record { row = denies why; is = tt; stands = refl; comes_as = refl; answers = refl; told = refl }
 row_asked terms n u h = cc
 
--- at an open connection, where CRs are accepted
+-- at an open connection, if CRs are accepted
 row_quiet : (terms : Terms) (n peer : ℕ) (link : Standing) (put : List Message) → accepts_in terms ≡ true → put ≡ [] → HasRow terms n (was_given (Some (linked peer link))) [] put
 row_quiet (refusing reason) n peer link put e none = cc
 row_quiet terms n peer link put e none = record { row = quiet; is = tt; stands = refl; comes_as = refl; answers = none; told = refl }

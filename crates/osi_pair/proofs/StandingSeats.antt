@@ -26,7 +26,7 @@ transport_at p g e = grind arith
 pub place_by : (n : ℕ) (s : State) (b : Bool) → nat_lt s.given n ≡ b → place_at n s ≡ (if b then never else was_given (value_at n s.live))
 place_by n s b e = ap (λ (c : Bool). if◌then◌else◌ {A = Place} c never (was_given (value_at n s.live))) e
 
--- where it lives there is a row
+-- if it is live there is a row
 pub live_there : (n : ℕ) (s : State) → lives_in (progress_of (place_at n s)) ≡ true → is_some (value_at n s.live) ≡ true
 live_there n s h = grind arith
 

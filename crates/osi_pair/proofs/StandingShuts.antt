@@ -32,7 +32,7 @@ IsAlone (x ∷ (y ∷ lines)) = ⊥
 alone_by : (k : ℕ) (lines : Rows Line) → k ≤ 1 → RiseFrom 0 (quieted lines) → AreUpTo k (quieted lines) → IsAlone lines
 alone_by k lines most rise up = grind arith
 
--- what is pending, and then what its session shows where it is lost
+-- what is pending, and then the indications of its session's loss
 alone_shows : (lines : Rows Line) → IsAlone lines → waiting_in (all_lost lines) ≡ waiting_in lines ++ waiting_in (all_lost (quieted lines))
 alone_shows [] alone = refl
 alone_shows ((r, l) ∷ []) alone = grind (arith, append-nil, map, map-append)

@@ -11,7 +11,7 @@ use Rattle.osi_pair.proofs.StandingShown.{shown_pair, StandsShown}
 use Rattle.osi_pair.proofs.StandingTurned.{with_holding, turned_pair}
 use Rattle.osi_pair.proofs.StandingBreak.{run_behind}
 
--- ---- nothing is shown
+-- ---- there is no indication
 
 are_arrivals : (s : machine.Side) (xs : List Step) → AreDeliveries s xs → AreArrivals s xs
 are_arrivals s (delivers q r keep ∷ xs) d = (d.0, are_arrivals s xs d.1)

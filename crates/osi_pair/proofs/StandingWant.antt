@@ -61,7 +61,7 @@ pub ended_shown : (s : Side) (p : TwoEnds) (b : Between) (t : Tables) (held : He
 ended_shown s p b t held old takes alive =
     alone_shown s p b t (end_at s p).end (end_at s p).held b (end_at s p).end.lines held old (may_end s p b t old takes alive) (all_shown_then s p b t old alive) (lasting_in s p b t old alive)
 
--- ---- what is shown in the order of the tables
+-- ---- the indications, in the order of the tables
 
 order_same : (who : machine.Side) (r : ℕ) (ls ms : List Line) → length ms ≡ length ls →
     ((i : ℕ) (l m : Line) → slice_get ls i ≡ Some l → slice_get ms i ≡ Some m → (react (seen_from who m).own.session broken_off).shown ≡ (react (seen_from who l).own.session broken_off).shown) →
@@ -82,7 +82,7 @@ shows_by s n i line l x y t u false f a found shows at now =
     let same : y ≡ x = cc in
     ap (λ (m : Line). (react (seen_from (side_in s) m).own.session broken_off).shown) same
 
--- where the new line shows as much as the old one
+-- if the new line has as many indications as the old one
 pub same_shown : (s : Side) (n : ℕ) (line l : Line) (t u : Tables) → LinesAfter s n line t u → connection_at n t.lines ≡ Some (seen_from (side_in s) l) →
     (react line.own.session broken_off).shown ≡ (react l.own.session broken_off).shown → shown_in_order (side_in s) 1 u.lines ≡ shown_in_order (side_in s) 1 t.lines
 same_shown s n line l t u a found shows =
@@ -113,7 +113,7 @@ carrier_acts : WantLaws → (s : Side) (p : TwoEnds) (b : Between) (packet octet
 carrier_acts laws Left p b packet octets behind new a alive is cut h = laws.acts (terms_at p) true (carriers_of p) b packet octets behind new a alive is cut h
 carrier_acts laws Right p b packet octets behind new a alive is cut h = laws.acts (terms_at p) false (carriers_of p) b packet octets behind new a alive is cut h
 
--- The unit acted, and of what it told no session heard.
+-- The unit took effect, and no session received its events.
 pub record IsUnheard (e : End) (u : Value) (told : List Happening) (new : End) : Type 0 where
   pub event : Happening
   pub one : told ≡ event ∷ []

@@ -34,7 +34,7 @@ alike_take shutting xs ys gone h = kinds_take xs ys gone h
 alike_take progress.gone xs ys gone h = kinds_take xs ys gone h
 alike_take g xs ys gone h = ap (take (length ys)) h ∙ take-append_seam ys gone
 
--- ---- where one place stays
+-- ---- if one place stays
 
 pub alike_like : (p : Place) (xs ys zs : Sent) → AreAlike (progress_of p) xs ys → AreLike (connection_in p) ys zs → AreAlike (progress_of p) xs zs
 alike_like p xs ys zs h k = grind arith
@@ -106,7 +106,7 @@ keeps_whole o p c d H x ms puts more old new stays put w uncut are first after s
     let y = put_words w.begun w.words more puts w.order (w.finished uncut) are in
     grind (arith, put_alike, after, no_begun)
 
--- nothing of it is lost, and something is put after it, but nothing where what is in flight was cut
+-- nothing of it is lost, and something is put after it, unless what is in flight was cut
 pub out_puts : (o : Option EndReason) (p : Place) (c d : Bool) (H : About) (x : State) (ms puts : List Message) (more : List Word) (old new stays gone put : Sent) → AreUnderWay o (progress_of p) c H x ms old → AreWords more puts → (c ≡ false) ⊎ (more ≡ []) →
     (d ≡ false → c ≡ false) → AreLike (connection_in p) old (stays ++ gone) → AreLike (connection_in p) new (stays ++ put) → gone ≡ [] → map word_in more ≡ put → AreUnderWay o (progress_of p) d H x (ms ++ puts) new
 out_puts o p c d H x ms puts more old new stays gone put w are spare cut before after none same =
@@ -125,8 +125,8 @@ out_keeps o p c d H x ms puts old new stays gone put w spare cut before after no
 
 -- ---- the last of it is lost
 
--- What the tables say of a session to which this is in flight: data is no fault there after what is ahead of it; and it
--- is over where its peer has left.
+-- What the tables say of a session to which this is in flight: data is no fault there after what is ahead of it; and
+-- the session is over if its peer has left.
 pub record Takes (x : State) (ms : List Message) : Type 0 where
   pub behind : IsNoFaultBehind x ms
   pub left : IsOverWhenLeft x ms
@@ -192,7 +192,7 @@ leave_at o p c d H x ms m k old new stays put w goes first now_is same =
     let y = leave_behind w.begun kept gone m (subst (AreInOrder w.begun) (sym parts) w.order) goes in
     grind (arith, length, put_alike, take, no_begun)
 
--- what is put where the sender leaves: a message of that kind, or nothing where what is in flight was cut
+-- what is put if the sender leaves: a message of that kind, or nothing if what is in flight was cut
 pub record IsLeave (puts : List Message) : Type 0 where
   pub m : Message
   pub is : puts ≡ m ∷ []
@@ -253,7 +253,7 @@ split shutting ms m rest h = split_kinds shutting ms m rest (λ xs ys e. e) h
 split progress.gone ms m rest h = split_kinds progress.gone ms m rest (λ xs ys e. e) h
 split g ms m rest h = split_same g ms m rest (λ xs ys e. e) h
 
--- what becomes of the way where this has begun then, to a session that is this then
+-- the way after it, if this has begun, to a session with this state
 abbrev pub BehindFirst : Progress → Bool → Option (List ℕ) → State → List Message → Sent → Type 0
 BehindFirst h d begun x ms rest = AreUnderWay None h d (λ b. b ≡ begun) x ms rest
 

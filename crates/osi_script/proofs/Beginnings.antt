@@ -246,7 +246,7 @@ no_words ReleaseAccept a b = refl
 no_words ReleaseRefuse a b = refl
 no_words Abort a b = refl
 
--- the user data word stands after the verb
+-- the user data word comes after the verb
 word_behind : (v : Verb) (other : Option (List ℕ)) (connection next : List ℕ) (words : List (List ℕ)) → other ≡ last_of (next ∷ words) →
     fourth_or other (behind_accept (connection ∷ verb_name v ∷ next ∷ words)) ≡ data_behind v (next ∷ words)
 unfolding verb_name

@@ -81,7 +81,7 @@ last_of parts = slice_get parts (length parts - 1)
 pub all_is_last : (p : ℕ → Bool) (text : List ℕ) → IsLastByte p text None → last_of (slice_split p text) ≡ Some text
 all_is_last p text h = ap last_of (one_part p text h)
 
--- the last part stands after the last element that passes
+-- the last part comes after the last element that passes
 pub last_part : (p : ℕ → Bool) (text : List ℕ) (i : ℕ) → IsLastByte p text (Some i) → last_of (slice_split p text) ≡ Some (drop (i + 1) text)
 last_part p text i h =
     let high : i < length text = h.0.high in

@@ -200,7 +200,7 @@ fn put_carried(text: Vec<u8>, side: Side, octets: u64) -> Vec<u8>
     put(text, "\n")
 }
 
-/// Adds the line of a side that was informed of the break, for which there is room.
+/// Adds the line of a side that was told of the break, for which there is room.
 #[tactic(auto, unfolding(crate::specs::Answers::answer_line, crate::specs::Answers::answer_text))]
 fn put_told(text: Vec<u8>, side: Side) -> Vec<u8>
     requires { vec_len text + 64 ≤ vec_capacity text }

@@ -1,4 +1,4 @@
--- What a session does with a call that its table accepts.
+-- The effect on a session of a call that its table accepts.
 use Rattle.std.proofs.Common.{◌≡◌, ◌∙◌, subst, ℕ, None, Ok, ap}
 use Rattle.osi_session.proofs.Vocabulary.{Meaning, tsdus_of, tsdus_sent, Step, allowed, Call, HasSerial, kept_in, called, Listener, in_state, react, CanBeSent, limit_of, IsSound}
 use Rattle.osi_session.proofs.MoveLaws.{call_leaves, call_sends, call_passes}
@@ -11,7 +11,7 @@ pub record Accepts (limit : ℕ) (l : Listener) (c : Call) (x : Step) : Type 0 w
   pub sendable : CanBeSent (react l (called c)).reply
   pub passes : (react l (called c)).error ≡ None
 
--- by what stands in memory
+-- by the contents of memory
 pub accepts : (limit : ℕ) (v l : Listener) (c : Call) (x : Step) → limit ≡ limit_of v.state → v ≡ l → IsSound v.state → HasSerial c → allowed v.state c ≡ Ok x → Accepts limit l c x
 accepts limit v l c x e view sound small h = subst (λ (s : Listener). Accepts limit s c x) view (record {
   leaves = call_leaves v c x h;

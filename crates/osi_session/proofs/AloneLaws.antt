@@ -1,4 +1,4 @@
--- What stands alone in a TSDU: a unit of category 1 (X.225 section 6.3.7).
+-- Units that are alone in a TSDU: those of category 1 (X.225 section 6.3.7).
 use Rattle.std.proofs.Common.{◌≡◌, refl, subst, ℕ, Bool, true, false, not, ◌||◌, List, [], ◌∷◌, ap, Option, Some, None, Result, Ok, Err, arith}
 use Rattle.osi_spdu.specs.declared.kinds.Category.{Category}
 use Rattle.osi_spdu.specs.Spelling.{AreBehind}
@@ -15,7 +15,7 @@ pub record StandsAlone (p : Meaning → Bool) : Type 0 where
 abbrev pub passes : (Meaning → Bool) → Word → Bool
 passes p w = p (as_message w)
 
--- what passes stands alone
+-- what passes is alone
 abbrev pub stands_alone : (Meaning → Bool) → Words → Bool
 stands_alone p (w ∷ []) = true
 stands_alone p words = not (list_any (passes p) words)

@@ -1,5 +1,5 @@
--- What a TSDU is answered by, in which phases a session closes the transport connection, and in which
--- a call is accepted.
+-- The answer to a TSDU, the phases in which a session closes the transport connection, and those in which a call is
+-- accepted.
 use Rattle.std.proofs.Common.{◌⊎◌, inl, inr, ◌≡◌, refl, sym, ◌∙◌, ap, subst, ℕ, Bool, true, false, not, ◌&&◌, ◌||◌, List, [], ◌∷◌, Option, Some, None, unwrap_or, Result, Ok, Err, if◌then◌else◌, arith}
 use Rattle.osi_session.proofs.Vocabulary.{list_any, SpduFault, TokenSetting, TsduMaximumSize, are_sizes, Meaning, CN, RF, DN, AB, AA, said_at, Word, Words, as_message, UnitFault, Spelling, Unexpected, Phase, WaitTransport, Answering, Ended, State, is_wait_transport, is_wait_cn, is_connecting, is_answering, is_ready, is_major_due, is_releasing, is_release_due, is_restart_due, is_aborting, is_ended, is_over, may_give, may_ask, may_confirm_minor, may_restart, may_abort, Call, Accept, Refuse, Data, Give, Please, Minor, MinorConfirm, Major, MajorConfirm, Restart, RestartConfirm, Release, ReleaseAccept, ReleaseRefuse, Abort, Step, may_call, allowed, may_close, may_close_word, closes_alone, is_answer, awaits_close, Taker, Hearing, word_verdict, respond_word, respond_words, heard_then, acting_words, respond_tsdu, respond_came, Input, called, taken, unread, opened, refused, broken, is_opened, came_as, came, Listener, taker_of, react, after_input, without_tokens, functional_units, has_data, Outcome, si, conditions, first_fault, is_expected, drops, nothing, good, bad, becomes, judged, take_expected, in_aborting, in_ended, respond_unit, first_reply, and_then, over, verdict, enacted, is_faulty, respond_fault}
 use Rattle.osi_session.proofs.ClosingLaws.{neither, acting_none, not_true, words_open, octets_alone, fault_open}
@@ -13,7 +13,7 @@ use Rattle.osi_session.proofs.WordLaws.{word_at, word_alone}
 
 -- ---- who answers a TSDU is over
 
--- where something is sent, it is an answer, and the session is aborted or has ended
+-- if something is sent, it is an answer, and the session is aborted or has ended
 record Answers (o : Outcome) : Type 0 where
   last : (m : Meaning) → o.reply ≡ Some m → (is_answer m ≡ true) × (is_over o.next.phase ≡ true)
 
@@ -141,7 +141,7 @@ over_still s u h0 = grind (arith, aborting_still, ended_still)
 over_verdict : (s : State) (u : Meaning) → is_over s.phase ≡ true → verdict s u ≡ over
 over_verdict s u o = rw o refl
 
--- where a session is over, a word does what its message does
+-- if a session is over, a word does what its message does
 over_word : (t : Taker) (w : Word) → is_over t.state.phase ≡ true → outcome_in (respond_word t w) ≡ respond_unit t.state (as_message w)
 over_word t w o =
     ap outcome_in (word_at t w over (rw o refl))
@@ -153,7 +153,7 @@ word_still t w o h = ap outcome_in (word_at t w over (rw o refl)) ∙ over_still
 over_no_fault : (t : Taker) (w : Word) → is_over t.state.phase ≡ true → is_faulty (word_verdict t w) ≡ false
 over_no_fault t w o = rw o refl
 
--- the words that come behind others do nothing
+-- the words that come after others do nothing
 all_still : (t : Taker) (ws : Words) → is_over t.state.phase ≡ true → list_any may_close_word ws ≡ false → outcome_in (respond_words t ws) ≡ nothing t.state
 unfolding respond_words
 all_still t [] o h = refl
@@ -169,7 +169,7 @@ all_still t (w ∷ ws) o h =
 words_still : (t : Taker) (words : Words) → is_over t.state.phase ≡ true → list_any may_close_word words ≡ false → outcome_in (respond_tsdu t words) ≡ nothing t.state
 words_still t words o h = all_still t (acting_words words) o (acting_none may_close_word words h)
 
--- what comes to a session that is over: a word alone, or nothing
+-- what arrives at a session that is over: a single word, or nothing
 over_said : (P : Outcome → Type 0) (t : Taker) (words : Words) → is_over t.state.phase ≡ true → closes_alone words ≡ true
     → P (nothing t.state) → ((u : Meaning) → P (respond_unit t.state u)) → P (outcome_in (respond_tsdu t words))
 over_said P t words h0 h1 h2 h3 = grind (arith, words_still, outcome_in, word_alone, over_word, not_true)

@@ -1,4 +1,4 @@
--- The table of calls never answers that memory is wanted, and sends no more user data than fits.
+-- The table of calls never returns `OutOfMemory`, and a call sends no more user data than fits.
 use Rattle.std.proofs.Common.{◌≡◌, refl, sym, ap, subst, ◌<◌, Bool, true, false, not, ◌&&◌, nat_le, List, [], ◌∷◌, length, Ok, Err, arith, if◌then◌else◌}
 use Rattle.osi_session.specs.declared.faults.CallError.TheVariants as error
 use Rattle.osi_session.proofs.Vocabulary.{refusal_octets, leb-true, CallError, State, is_over, Call, Accept, Refuse, Data, Give, Please, Minor, MinorConfirm, Major, MajorConfirm, Restart, RestartConfirm, Release, ReleaseAccept, ReleaseRefuse, Abort, Test, Step, Answer, first_error, needs, may_call, octets_of, most_of, after, sends, met, sized, allowed, fits_limit, is_memory, Refused, RefusedBy, Meaning, user_data_of, called, Listener, react}
@@ -56,7 +56,7 @@ allowed_named s c e h =
 pub refused : (s : Listener) (c : Call) (e : CallError) → allowed s.state c ≡ Err e → Refused e (react s (called c)).error
 refused s c e h = subst (λ (b : Bool). RefusedBy b e (react s (called c)).error) (sym (allowed_named s.state c e h)) (call_errs s c e h)
 
--- and where there is none, memory may be wanted
+-- and if there is none, memory may be wanted
 pub wanting : (s : Listener) (c : Call) (x : Step) → allowed s.state c ≡ Ok x → Refused error.OutOfMemory (react s (called c)).error
 wanting s c x h = call_passes s c x h
 

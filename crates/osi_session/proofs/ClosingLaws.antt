@@ -176,7 +176,7 @@ opens_behind = record { item = item_open; behind = behind_open; plain = λ octet
 closes_so : (words : Words) → stands_alone may_close words ≡ true → closes_alone words ≡ true
 closes_so words h0 = grind arith
 
--- in what octets say, a word that may close stands alone
+-- in the meaning of octets, a word that may close is alone
 pub octets_alone : (octets : List ℕ) (words : Words) → said_at octets ≡ Ok words → closes_alone words ≡ true
 octets_alone octets words e = closes_so words (alone_in_octets may_close opens_behind octets words e)
 
@@ -190,7 +190,7 @@ answered_open : (s : Listener) (a : Answer) → (answered s a).closes ≡ false
 answered_open s (Ok step) = refl
 answered_open s (Err e) = refl
 
--- a call leaves the transport connection open, and so does what befalls it
+-- a call leaves the transport connection open, and so do its own events
 pub call_open : (s : Listener) (c : Call) → (react s (called c)).closes ≡ false
 unfolding react
 call_open s c = answered_open s (allowed s.state c)

@@ -1,4 +1,4 @@
--- What raises V(A), and that it does not fall but by a restart.
+-- What raises V(A), and that only a restart lowers it.
 use Rattle.std.proofs.Common.{◌≡◌, refl, sym, ◌∙◌, subst, ℕ, ◌+◌, ◌≤◌, Bool, true, false, not, ◌&&◌, ◌||◌, nat_le, nat_lt, List, [], ◌∷◌, Ok, Option, Some, None, if◌then◌else◌, arith}
 use Rattle.osi_spdu.specs.declared.fields.ResyncType.{ResyncType}
 use Rattle.osi_session.proofs.Vocabulary.{AllByRecursion, list_any, leb-true, and_parts, UnitFault, TokenSetting, State, Numbers, point_sent, point_taken, minor_confirmed, major_confirmed, is_wait_cn, is_aborting, is_ended, IsSound, AreOrdered, Call, Accept, Refuse, Data, Give, Please, Minor, MinorConfirm, Major, MajorConfirm, Restart, RestartConfirm, Release, ReleaseAccept, ReleaseRefuse, Abort, Meaning, CN, AC, RF, DT, GT, PT, MIP, MIA, MAP, MAA, RS, RA, FN, DN, NF, AB, AA, IsNumberedWord, Word, Words, as_message, MinorConfirmed, BadUnit, Step, needs, after, allowed, AllHold, Outcome, si, conditions, first_fault, is_expected, drops, is_acceptable, stands, becomes, bad, judged, take_expected, respond_unit, is_faulty, AllMet, Taker, Hearing, word_verdict, respond_word, respond_words, acting_words, Input, called, taken, unread, opened, refused, broken, Listener, taker_of, after_input, after_inputs, HasNumbersInWords, call_renews, unit_renews, renews}
@@ -19,7 +19,7 @@ call_confirms s n octets x h =
     let from = leb-true s.numbers.confirmed n (and_parts (nat_le s.numbers.confirmed n) (nat_lt n s.numbers.next) a.1).0 in
     (from, subst (λ (y : Step). y.next.numbers.confirmed ≡ n + 1) (sym q.gives) refl)
 
--- where a confirmation is shown, it has raised V(A)
+-- if a confirmation is indicated, it has raised V(A)
 abbrev Confirms : ℕ → List ℕ → Outcome → Type 0
 Confirms n octets o = o.shown ≡ MinorConfirmed n octets ∷ [] → o.next.numbers.confirmed ≡ n + 1
 

@@ -12,7 +12,8 @@ use Rattle.osi_session.proofs.RunLaws.{input_over}
 use Rattle.osi_session.proofs.VerdictLaws.{enacts}
 use Rattle.osi_session.proofs.WordCases.{acts_alike, outcome_in, word_does}
 
--- nothing is shown while a CN is awaited, and a Connect first where the user would then be shown a loss
+-- there is no indication while a CN is awaited; and the first one is a Connect, if the user would be told of a loss
+-- afterwards
 record Begins (o : Outcome) : Type 0 where
   waits : is_wait_cn o.next.phase ≡ true → o.shown ≡ []
   shows : shows_loss o.next.phase ≡ true → shows_connect o.shown ≡ true
@@ -190,7 +191,7 @@ words_hide t (w ∷ ws) h =
 tsdu_hides : (t : Taker) (words : Words) → list_any (passes unit_asks) words ≡ false → Hides (respond_tsdu t words).shown
 tsdu_hides t words h = words_hide t (acting_words words) (acting_none (passes unit_asks) words h)
 
--- a CN stands alone
+-- a CN is alone
 behind_asks : (k : Kind) (known : Known) (information : List ℕ) → category_of k ≡ Two → unit_asks (meaning_by k known information) ≡ false
 unfolding category_of
 behind_asks k known information h0 = grind arith

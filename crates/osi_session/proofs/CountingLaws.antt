@@ -1,4 +1,4 @@
--- What a word leaves, with the octets of an unfinished SSDU counted: it is the same whatever these octets are.
+-- The effect of a word with the octets of an unfinished SSDU counted: it is the same whatever these octets are.
 use Rattle.std.proofs.Common.{◌≡◌, ◌∙◌, refl, sym, ap, subst, ℕ, ◌+◌, ◌<◌, ◌≤◌, Bool, true, false, not, ◌||◌, if◌then◌else◌, nat_le, List, [], ◌∷◌, ◌++◌, length, Option, Some, None, Err, is_none, option_map, unwrap_or, arith}
 use Rattle.osi_session.specs.declared.joining.PartVerdict.TheVariants as is
 use Rattle.osi_session.specs.Counting.{no_octets, count_by, count_by_idle, taker_with, Counts, CountsAll, CountsCame}
@@ -17,7 +17,7 @@ kept_map false j = refl
 pub heard_counted : (j : Option (List ℕ)) (o : Outcome) → counted (heard j o) ≡ count_by (option_map length j) o
 heard_counted j o = let k = kept_map (drops_parts o.next.phase) j in λ i. record { state = o.next; joined = k i; reply = o.reply; closes = o.closes }
 
--- so many octets are joined
+-- this many octets are joined
 heard_so_many : (j : Option (List ℕ)) (n : Option ℕ) (o : Outcome) → option_map length j ≡ n → counted (heard j o) ≡ count_by n o
 heard_so_many j n o e = heard_counted j o ∙ ap (λ (m : Option ℕ). count_by m o) e
 
@@ -74,7 +74,7 @@ place_same (Some x) None Last e = absurd (cc)
 abbrev fits : Option (List ℕ) → List ℕ → Bool
 fits j o = nat_le (length (joined_octets j ++ o)) most_data
 
--- what is told of a part behind other octets, as many as there
+-- what is reported of a part after other octets, as many as there
 abbrev told_at : State → Option (List ℕ) → Place → List ℕ → Verdict
 told_at s j place o = word_verdict (taker_with s j) (part place o)
 

@@ -22,7 +22,7 @@ then_again o p q =
     let closes = or_again o.closes p.closes q.closes in
     λ i. record { next = q.next; shown = shown i; reply = reply i; closes = closes i }
 
--- what is still to act: these units, and behind them the item unless one of them is an RS, or one before them was
+-- what is still to act: these units, and after them the item unless one of them is an RS, or one before them was
 abbrev pub acting_behind : Bool → Word → Words → Words
 acting_behind restarts item us = if restarts || list_any is_restart_word us then us else us ++ item ∷ []
 
@@ -66,7 +66,7 @@ stops want o restarts item u us h bad =
     let f = ap (heard_then o) (bad_then o.next u rest bad) in
     sym f ∙ sym e ∙ h
 
--- where memory is wanted for a word, it is for the whole
+-- if memory is wanted for a word, it is for the whole
 pub takes : (j : Option (List ℕ)) (want o : Hearing) (restarts : Bool) (item u : Word) (us : Words) → SoFar j o → Leads want o restarts item (u ∷ us)
     → takes_room o.next.joined (respond_word o.next u) ≡ true → takes_room j want ≡ true
 takes j want o restarts item u us s h room =
@@ -139,7 +139,7 @@ walks_on want j r next restarts now item u us w good e ordered n = record {
   ordered = ordered;
 }
 
--- where no word is left
+-- if no word is left
 pub walks_end : (want : Hearing) (j : Option (List ℕ)) (r : Reactions) (restarts b : Bool) (item : Word) (us : Words) → Walks want j r restarts item us
     → us ≡ [] → restarts ≡ b → Leads want (hearing_of_all j r) b item []
 walks_end want j r restarts b item us w e h =
@@ -149,7 +149,7 @@ pub on_err : {A E P : Type 0} (r : Result A E) → P → OnErr r P
 on_err (Ok x) p = tt
 on_err (Err e) p = p
 
--- where no unit was given there is none
+-- if no unit was given there is none
 pub behind_none : (old new : Behind) (r : Option Spdu) → GivesBehind old r new → ((u : Spdu) → r ≡ Some u → ⊥) → units_behind old ≡ []
 behind_none old new None h k = h.0
 behind_none old new (Some u) h k = absurd (k u refl)

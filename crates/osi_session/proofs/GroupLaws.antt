@@ -1,4 +1,4 @@
--- Where one of two outcomes shows or sends something, both together do.
+-- If one of two outcomes shows or sends something, both together do.
 use Rattle.std.proofs.Common.{◌≡◌, refl, Bool, true, false, ◌&&◌, List, [], ◌∷◌, ◌++◌, Option, Some, None}
 use Rattle.osi_session.proofs.Vocabulary.{is_none, Shown, Meaning, Outcome, is_nil, is_silent, first_reply, and_then}
 

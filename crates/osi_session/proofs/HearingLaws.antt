@@ -1,4 +1,4 @@
--- What a word does, from what is told of it in memory.
+-- The effect of a word, from its result in memory.
 use Rattle.std.proofs.Common.{◌≡◌, ◌∙◌, refl, sym, ap, subst, ℕ, ◌<◌, Bool, true, false, not, ◌&&◌, ◌||◌, if◌then◌else◌, nat_le, nat_lt, List, [], ◌∷◌, ◌++◌, length, Option, Some, None, is_none, arith}
 use Rattle.osi_session.specs.declared.joining.PartVerdict.TheVariants as is
 use Rattle.osi_session.specs.Shown.{Data}
@@ -88,7 +88,7 @@ pub last_is : (t : Taker) (octets : List ℕ) → word_verdict t (part Last octe
     respond_word t (part Last octets) ≡ heard None (shows t.state (Data (joined_octets t.joined ++ octets)))
 last_is t octets e = part_is t Last octets e
 
--- ---- what is joined behind a part
+-- ---- what is joined after a part
 
 pub grown_nothing : (x u : List ℕ) → length u ≡ 0 → Some x ≡ Some (x ++ u)
 grown_nothing x [] h = ap (λ (o : List ℕ). Some o) (sym (append-nil x))

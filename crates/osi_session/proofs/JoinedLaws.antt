@@ -115,7 +115,7 @@ pub inputs_kept : (l : Listener) (inputs : List Input) → IsKept l → IsKept (
 inputs_kept l [] h = h
 inputs_kept l (input ∷ inputs) h = inputs_kept (after_input l input) inputs (input_kept l input h)
 
--- something is joined only where tokens may be held
+-- something is joined only if tokens may be held
 held_by : (b : Bool) (joined : Option (List ℕ)) → (if◌then◌else◌ {A = Option (List ℕ)} (not b) None joined) ≡ joined → is_some joined ≡ true → b ≡ true
 held_by b joined h0 h1 = grind arith
 

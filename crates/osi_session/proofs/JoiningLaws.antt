@@ -1,4 +1,4 @@
--- What is joined of an unfinished SSDU, and what becomes of a word.
+-- The joined octets of an unfinished SSDU, and the verdict on a word.
 use Rattle.std.proofs.Common.{◌≡◌, ◌∙◌, refl, sym, ap, subst, ℕ, ◌+◌, Bool, true, false, not, ◌&&◌, ◌||◌, if◌then◌else◌, nat_le, List, [], ◌∷◌, ◌++◌, length, Option, Some, None, is_none, Result, arith}
 use Rattle.osi_session.specs.declared.reactions.Reaction.{Reaction}
 use Rattle.osi_session.proofs.Vocabulary.{length-append, State, UnitFault, Unexpected, TokenHeld, BadEnclosure, DataTooLong, is_over, is_restarting, takes_data, most_data, Outcome, Condition, si, conditions, first_fault, is_expected, drops, bad, Verdict, over, dropped, faulty, fine, by_fault, verdict, is_faulty, enacted, respond_unit, replies_abort, is_silent, is_nil, kind_of, Kind, si_of, Taker, joined_octets, begins_anew, is_in_place, word_verdict, Reacts, Meaning, DT, Place, says, part}
@@ -13,7 +13,7 @@ passes_true : (n : ℕ) (cs : List Condition) (b : Bool) (f : ℕ → UnitFault)
 passes_true n [] b f h = rw h refl
 passes_true n (c ∷ cs) b f h = ap (λ r. if c.0 then r else Some (c.1 n)) (passes_true n cs b f h)
 
--- where nothing is unfinished, and where it may come within an SSDU, a message is judged by itself
+-- if nothing is unfinished, or if it may occur within an SSDU, a message is judged by itself
 pub plain_verdict : (t : Taker) (u : Meaning) → (is_none t.joined || not (begins_anew u)) ≡ true → word_verdict t (says u) ≡ verdict t.state u
 plain_verdict t u h =
     ap (λ f. if is_over t.state.phase then over else if drops t.state u then dropped else if not (is_expected t.state.phase u) then faulty (Unexpected (si u)) else by_fault f)

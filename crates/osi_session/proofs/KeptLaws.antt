@@ -1,5 +1,5 @@
--- What the taker of parts has joined, whatever its user calls between them: their octets, or nothing where it
--- discards data. Nothing is asked of its functional units here: that the data is no fault is known from elsewhere.
+-- What the receiver of parts has joined, whatever its user calls between them: their octets, or nothing if it discards
+-- data. Nothing is assumed of its functional units: that the data is no fault is known from elsewhere.
 use Rattle.std.proofs.Common.{◌≡◌, refl, sym, ◌∙◌, ap, subst, ℕ, ◌≤◌, Bool, true, false, not, ◌||◌, ◌⊎◌, if◌then◌else◌, List, [], ◌++◌, length, Option, Some, None, Ok, inl, inr, arith}
 use Rattle.osi_session.proofs.Vocabulary.{cases_Bool, le-leb, State, Phase, is_answering, is_ready, is_major_due, is_restarting, is_restart_due, is_release_due, is_over, may_hold, may_give, may_ask, may_confirm_minor, takes_data, Step, allowed, may_call, after, most_data, Call, Accept, Refuse, Data, Give, Please, Minor, MinorConfirm, Major, MajorConfirm, Restart, RestartConfirm, Release, ReleaseAccept, ReleaseRefuse, Abort, nothing, fine, Place, First, Middle, Last, DT, Word, says, part, drops_parts, kept_in, heard, respond_word, IsKeptIn, discards, IsJoinedAs, IsNoFault, IsJoined}
 use Rattle.osi_session.proofs.PhaseLaws.{implied, excluded}
@@ -51,7 +51,7 @@ call_keeps s joined begun c x h k =
       | inr d ↦ inr (ap (kept_in x.next.phase) d.0 ∙ kept_none x.next.phase, goes_on_discarding s c x h d.1)
     ]
 
--- ---- a part comes, where the whole data would be no fault
+-- ---- a part arrives, if the whole data would be no fault
 
 pub gone_is : (p : Phase) (joined : Option (List ℕ)) → discards p ≡ true → IsKeptIn p joined → joined ≡ None
 gone_is p joined d k = sym k ∙ kept_gone p joined (implied discards drops_parts refl p d)

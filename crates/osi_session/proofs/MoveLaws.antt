@@ -1,4 +1,4 @@
--- The move of each thing, from what the tables answer.
+-- The move of each input, from the answers of the tables.
 use Rattle.std.proofs.Common.{inl, inr, ◌≡◌, refl, sym, ◌∙◌, ap, ℕ, List, true, false, Some, None, Result, Ok, Err}
 use Rattle.osi_session.specs.declared.faults.CallError.TheVariants as error
 use Rattle.osi_session.proofs.Vocabulary.{SpduFault, Units, tsdu_at, said_at, said_by_units, said_if_read, State, CallError, Words, tsdus_of, tsdus_sent, Call, Step, Answer, allowed, respond_fault, lost, Hearing, heard, respond_tsdu, respond_came, called, taken, unread, opened, refused, broken, came, came_as, Listener, Move, taker_of, rests, in_state, answered, moved, begun, denied, react, after_input, Planned, IsPlanOf, limit_of, cases_Bool, is_wait_transport, is_over}

@@ -6,7 +6,7 @@ use Rattle.osi_session.proofs.PhaseLaws.{implied}
 use Rattle.osi_session.proofs.RunCases.{call_cases, unit_cases, taken_cases, fault_cases, opened_cases, refused_cases, broken_cases}
 use Rattle.osi_session.proofs.WordCases.{acts_alike, word_keeps}
 
--- tokens may be held after, where they could not be before, only by this cause
+-- if tokens may be held after but not before, this is the cause
 abbrev OpenedBy : Bool → Phase → Phase → Type 0
 OpenedBy cause p q = may_hold p ≡ false → may_hold q ≡ true → cause ≡ true
 

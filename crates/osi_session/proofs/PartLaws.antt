@@ -1,10 +1,10 @@
--- A part where data is expected, and where it is discarded.
+-- A part if data is expected, and if it is discarded.
 use Rattle.std.proofs.Common.{◌≡◌, refl, sym, ◌∙◌, ap, ℕ, Bool, true, false, not, ◌||◌, ◌⊎◌, if◌then◌else◌, nat_le, List, ◌++◌, length, Option, Some, None, inl, inr, arith}
 use Rattle.osi_session.proofs.Vocabulary.{State, Unexpected, TokenHeld, is_restarting, is_over, is_aborting, takes_data, most_data, nothing, si, over, dropped, faulty, fine, by_fault, verdict, is_faulty, Place, DT, says, part, joined_octets, is_in_place, word_verdict, heard, respond_word, discards, IsNoFault}
 use Rattle.osi_session.proofs.PhaseLaws.{excluded}
 use Rattle.osi_session.proofs.WordLaws.{word_at}
 
--- ---- where it is expected
+-- ---- if it is expected
 
 -- data is expected, and the peer has its token
 pub record Expects (s : State) : Type 0 where
@@ -30,13 +30,13 @@ at_phase : (s : State) (o : List ℕ) → is_over s.phase ≡ false → is_resta
     verdict s (DT o) ≡ (if not (takes_data s.phase) then faulty (Unexpected (si (DT o))) else by_fault (if not s.held.data_token then None else Some (TokenHeld (si (DT o)))))
 at_phase s o v r = rw (v, r) refl
 
--- where the whole data is no fault, and is not discarded, it is expected
+-- if the whole data is no fault, and is not discarded, it is expected
 pub expects : (s : State) (o : List ℕ) → is_over s.phase ≡ false → is_restarting s.phase ≡ false → IsNoFault s o → Expects s
 expects s o v r h =
     let z = when_expected o (takes_data s.phase) s.held.data_token (sym (ap is_faulty (at_phase s o v r)) ∙ h) in
     record { phase = z.0; token = z.1 }
 
--- ---- where it is discarded
+-- ---- if it is discarded
 
 either_nothing : (b : Bool) (s : State) → (if b then nothing s else nothing s) ≡ nothing s
 either_nothing true s = refl

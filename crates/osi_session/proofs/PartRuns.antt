@@ -1,4 +1,4 @@
--- The parts of one Data, with calls of their taker between, and the whole Data behind the calls alone.
+-- The parts of one Data, with calls of their taker between, and the whole Data after the calls alone.
 use Rattle.std.proofs.Common.{◌≡◌, refl, sym, ◌∙◌, ap, subst, ℕ, ◌≤◌, Bool, true, false, not, ◌&&◌, ◌||◌, ◌⊎◌, List, [], ◌∷◌, ◌++◌, length, map, Option, Some, None, Result, Ok, Err, inl, inr, arith}
 use Rattle.osi_session.proofs.Vocabulary.{cases_Bool, and_parts, length-append, SpduFault, State, Phase, is_answering, is_major_due, is_restarting, is_restart_due, is_release_due, is_over, takes_data, most_data, Step, Answer, allowed, needs, may_call, after, has_right, AllHold, Call, Accept, Refuse, Data, Give, Please, Minor, MinorConfirm, Major, MajorConfirm, Restart, RestartConfirm, Release, ReleaseAccept, ReleaseRefuse, Abort, available, FunctionalUnits, Tokens, Place, First, Middle, Last, Meaning, DT, GT, said_at, IsSendable, words_of, no_token, without, has, Words, says, part, part_octets, written, user_data_of, drops_parts, kept_in, respond_word, discards, IsNoFault, Input, called, taken, came, came_as, Listener, Move, rests, moved, answered, react, after_input, after_inputs, Act, comes, calls, part_comes, act_in_words, act_in_octets, calls_in, AreParts, AreAlike, AreSilent, IsOfProfile, has_profile, HasProfile}
 use Rattle.osi_session.proofs.PhaseLaws.{implied, excluded}
@@ -53,7 +53,7 @@ after_leaves s _ m n a = inr refl
 leaves : (s : State) (c : Call) (x : Step) → allowed s c ≡ Ok x → Awaits s → Leaves x.next
 leaves s c x h a = let p = passed s c x h in subst (λ (y : Step). Leaves y.next) (sym p.gives) (after_leaves s c p.phase p.needed a)
 
--- ---- how the taker of some parts stands
+-- ---- the state of the receiver of some parts
 
 -- it awaits data and has joined what was begun, or it discards data and has joined nothing
 abbrev Stands : State → Option (List ℕ) → Option (List ℕ) → Type 0

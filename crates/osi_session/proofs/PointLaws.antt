@@ -1,4 +1,4 @@
--- Data, minor points and confirmations: those that come where they are expected, and points that are sent.
+-- Data, minor points and confirmations: those that are expected, and points that are sent.
 use Rattle.std.proofs.Common.{◌≡◌, ◌∙◌, ap, ℕ, ◌≤◌, ◌==◌, nat_le, nat_lt, Bool, List, [], ◌∷◌, Option, Some, None, is_some, Result, Ok, Err, if◌then◌else◌, true, false, refl, sym, subst, length, arith}
 use Rattle.osi_message.specs.declared.plain.PlainUnit.{PlainUnit}
 use Rattle.osi_message.specs.Plain.{plain_word as unit_word}
@@ -20,7 +20,7 @@ data_in s octets Ready e h k = rw (e, k) refl
 data_in s octets Releasing e h k = rw (e, k) refl
 data_in s octets _ e h k = absurd (cc)
 
--- data that is expected is shown, and changes nothing
+-- expected data is indicated, and changes nothing
 pub data_is_shown : (s : State) (octets : List ℕ) → takes_data s.phase ≡ true → s.held.data_token ≡ false → respond_unit s (DT octets) ≡ shows s (Data octets)
 data_is_shown s octets h k = data_in s octets s.phase refl h k
 
@@ -30,7 +30,7 @@ unfolding respond_unit take_expected
 point_in s n Ready e r u d m k = rw (e, u, d, m, k) refl
 point_in s n _ e r u d m k = absurd (cc)
 
--- a point that is expected is shown, and changes the numbers alone
+-- an expected point is indicated, and changes only the numbers
 pub point_is_shown : (s : State) (n : ℕ) → is_ready s.phase ≡ true → s.units.minor ≡ true → s.held.data_token ≡ false → s.held.minor ≡ false
     → (n == s.numbers.next) ≡ true → respond_unit s (MIP true n []) ≡ shows (record s { numbers = point_taken s.numbers }) (Minor n true [])
 point_is_shown s n r u d m k = point_in s n s.phase refl r u d m k
@@ -46,12 +46,12 @@ pub ack_is_shown : (s : State) (n : ℕ) → is_ready s.phase ≡ true → s.uni
     → nat_lt n s.numbers.next ≡ true → respond_unit s (MIA n []) ≡ shows (record s { numbers = minor_confirmed n s.numbers }) (MinorConfirmed n [])
 ack_is_shown s n r u a k l = ack_in s n s.phase refl r u a k l
 
--- where nothing is joined
+-- if nothing is joined
 pub word_comes : (s : State) (u : Meaning) (v : Numbers) (i : Shown) → respond_unit s u ≡ shows (record s { numbers = v }) i
     → respond_word (record { state = s; joined = None }) (says u) ≡ heard None (shows (record s { numbers = v }) i)
 word_comes s u v i h = plain_word s u ∙ ap (heard None) h
 
--- behind a token item that names no token
+-- after a token item that names no token
 pub unit_comes : (s : State) (u : Meaning) (v : Numbers) (i : Shown) (read : Result Words SpduFault) → read ≡ Ok (says (GT no_token) ∷ says u ∷ [])
     → respond_unit s u ≡ shows (record s { numbers = v }) i → respond_came (record { state = s; joined = None }) read ≡ heard None (shows (record s { numbers = v }) i)
 unit_comes s u v i read e h =

@@ -1,4 +1,4 @@
--- Two restarts that cross: which of them stands.
+-- Two restarts that cross: which of them takes effect.
 use Rattle.std.proofs.Common.{inl, inr, ◌⊎◌, ◌≡◌, refl, sym, ◌∙◌, ap, ℕ, ◌≤◌, ◌<◌, Bool, true, false, not, ◌&&◌, List, None, if◌then◌else◌, arith}
 use Rattle.osi_spdu.specs.declared.fields.ResyncType.TheVariants.{Restart}
 use Rattle.osi_session.specs.Restarts.{HasAsked, AreCrossed, after_restart}
@@ -6,7 +6,7 @@ use Rattle.osi_session.proofs.Vocabulary.{lt-ltb, le-ltb, le-leb, eq-eqb, ne_eqb
 use Rattle.osi_session.proofs.PhaseLaws.{implied, excluded}
 use Rattle.osi_session.proofs.VerdictLaws.{in_front, empty_item}
 
--- at a side that has asked for a restart a lower number stands
+-- at a side that has asked for a restart a lower number takes effect
 lower_stands : (s : State) (n : ℕ) → is_restarting s.phase ≡ true → n < s.numbers.next → stands s n ≡ true
 unfolding stands
 lower_stands s n r lt = let a = lt-ltb n s.numbers.next lt in rw (r, a) refl
@@ -19,7 +19,7 @@ higher_yields s n r lt =
     let b = ne_eqb n s.numbers.next (λ e. omega arith) in
     rw (r, a, b) refl
 
--- and its own number stands where it is not the caller
+-- and its own number takes effect if it is not the caller
 equal_stands : (s : State) (n : ℕ) → is_restarting s.phase ≡ true → n ≡ s.numbers.next → stands s n ≡ not s.is_caller
 unfolding stands
 equal_stands s n r e =
@@ -27,7 +27,7 @@ equal_stands s n r e =
     let b = eq-eqb n s.numbers.next e in
     rw (r, a, b) refl
 
--- ---- one of two restarts stands
+-- ---- one of two restarts takes effect
 
 pub of_equal : (c o : State) → AreCrossed c o → c.numbers.next ≡ o.numbers.next → (stands o c.numbers.next ≡ true) × (stands c o.numbers.next ≡ false)
 of_equal c o x e =

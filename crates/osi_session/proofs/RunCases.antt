@@ -1,4 +1,4 @@
--- The outcomes of each event.
+-- The outcomes of each input.
 use Rattle.std.proofs.Common.{◌≡◌, refl, ℕ, Bool, true, false, not, Option, Some, None, Ok, Err, if◌then◌else◌, arith}
 use Rattle.osi_session.proofs.Vocabulary.{SpduFault, Connecting, Aborting, Ended, UnitFault, State, is_wait_transport, is_aborting, is_ended, is_over, without_tokens, Call, Meaning, AB, AA, Words, Step, Answer, allowed, Outcome, si, conditions, first_fault, is_expected, drops, becomes, judged, take_expected, in_aborting, in_ended, respond_unit, AllMet, respond_fault, respond_tsdu, called, taken, unread, opened, refused, broken, Listener, Move, taker_of, answered, react, after_input}
 use Rattle.osi_session.proofs.SoundUnits.{all_met}
@@ -14,7 +14,8 @@ pub call_cases : (P : State → Type 0) (s : Listener) (c : Call) → P s.state
 unfolding react
 call_cases P s c h k = answer_cases P s c (allowed s.state c) refl h k
 
--- what a unit leaves: what was, or where an abort is answered the end, or where it is bad the abort, or what the table says
+-- the state after a unit: the same; or the end, if an abort is answered; or the abort, if it is bad; or what the table
+-- says
 pub record Leaves (P : State → Type 0) (s : State) (u : Meaning) : Type 0 where
   pub same : P s
   pub ended : is_aborting s.phase ≡ true → P (without_tokens Ended s)

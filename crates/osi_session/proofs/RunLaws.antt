@@ -1,4 +1,4 @@
--- What every run of a session keeps.
+-- What every run of a session preserves.
 use Rattle.std.proofs.Common.{◌≡◌, refl, sym, subst, ℕ, true, false, ◌||◌, List, [], ◌∷◌, map, Err, arith}
 use Rattle.osi_session.specs.declared.faults.CallError.TheVariants as error
 use Rattle.osi_session.proofs.Vocabulary.{unit_bits, AllByRecursion, Phase, Connecting, Aborting, Ended, Numbers, State, from_base, is_wait_transport, is_wait_cn, is_aborting, is_ended, is_over, is_restart_due, in_major, IsSound, AreOrdered, Call, Meaning, allowed, respond_unit, Opening, functional_units, has_points, awaiting, asking, Input, called, taken, unread, opened, refused, broken, Listener, taker_of, react, after_input, after_inputs, HasNumbers, HasNumbersInWords, IsFresh, listening, in_words, Taker, respond_word, respond_tsdu, Said, AreNumbered, AreNumberedWords, Word, Words, says}

@@ -1,4 +1,4 @@
--- What a side may say: calls that a phase refuses, and that its state stays sound.
+-- What a side may send: calls that a phase refuses, and that its state keeps the invariant.
 use Rattle.std.proofs.Common.{◌≡◌, ◌∙◌, refl, sym, ap, subst, ℕ, ◌+◌, zero, suc, Bool, true, false, not, ◌&&◌, ◌||◌, ◌==◌, is_none, if◌then◌else◌, nat_le, List, [], ◌∷◌, length, Option, Some, None, Ok, Err, option_map, arith}
 use Rattle.osi_session.specs.Counting.{taker_with, CountsCame}
 use Rattle.osi_session.specs.Calls.{refusal_with}
@@ -19,11 +19,11 @@ either_way : (b : Bool) (o : Bool) → o ≡ true → (b ≡ true → o ≡ fals
 either_way false o h k = refl
 either_way true o h k = let e = k refl in absurd (cc)
 
--- no call is allowed where the connection is over
+-- no call is allowed if the connection is over
 pub over_refuses : (c : Call) (p : Phase) → is_over p ≡ true → may_call p c ≡ false
 over_refuses c p h = either_way (may_call p c) (is_over p) h (over_calls c p)
 
--- ---- the state behind what is said is sound
+-- ---- the state after what is said is sound
 
 if_some : (b : Bool) (o : Option State) (n : State) → (if b then o else None) ≡ Some n → (b ≡ true) × (o ≡ Some n)
 if_some true o n h = (refl, h)
@@ -100,9 +100,9 @@ said_sound s (NF octets) n small e h = calling_left s (ReleaseRefuse octets) n t
 said_sound s (AB bits octets) n small e h = where_left (not (names bits 4)) s (Abort octets) n tt e h
 said_sound s AA n small e h = absurd (cc)
 
--- ---- the state behind what is taken is sound
+-- ---- the state after what is taken is sound
 
--- some octets, so many
+-- some octets, this many
 abbrev pub some_octets : ℕ → List ℕ
 some_octets zero = []
 some_octets (suc n) = 0 ∷ some_octets n

@@ -1,4 +1,4 @@
--- What an accepted call sends, and what a TSDU is answered by, can be sent.
+-- What an accepted call sends, and the answer to a TSDU, can be written.
 use Rattle.std.proofs.Common.{◌≡◌, refl, sym, subst, ℕ, ◌<◌, Bool, true, false, not, ◌&&◌, nat_le, nat_lt, List, [], ◌∷◌, length, Option, Some, None, Ok, if◌then◌else◌, arith}
 use Rattle.osi_spdu.specs.declared.selectors.Selector.{Selector}
 use Rattle.osi_session.proofs.Vocabulary.{unit_bits, are_sizes, leb-true, ltb-true, and_parts, UnitFault, Opening, State, functional_units, has_points, has_data, is_aborting, is_ended, Call, Accept, Refuse, Data, Give, Please, Minor, MinorConfirm, Major, MajorConfirm, Restart, RestartConfirm, Release, ReleaseAccept, ReleaseRefuse, Abort, HasSerial, Meaning, CN, RF, AB, AA, selector_octets, IsSmall, IsNumbered, Said, asked_for, IsSound, Step, last_number, needs, may_call, sends, allowed, AllHold, Outcome, si, conditions, first_fault, is_expected, drops, reply_for, first_reply, judged, take_expected, in_aborting, in_ended, respond_unit, is_faulty, verdict, respond_all, acting, respond, user_data_of, IsAddress, IsAddressed, IsSendable, is_of_version_2, is_sized, called, Listener, react, CanBeSent, Word, Words, Taker, Hearing, word_verdict, respond_word, respond_words, acting_words, respond_tsdu}

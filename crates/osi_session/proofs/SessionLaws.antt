@@ -1,4 +1,4 @@
--- What is true of a session in memory.
+-- The invariant of a session in memory.
 use Rattle.std.proofs.Common.{◌≡◌, ◌∙◌, refl, sym, ap, subst, ℕ, if◌then◌else◌, ◌<◌, ◌≤◌, Bool, true, false, Some, Ok, arith}
 use Rattle.osi_session.specs.declared.requests.Request.{Request}
 use Rattle.osi_session.specs.declared.requests.Request.TheVariants as request

@@ -1,4 +1,4 @@
--- How much a TSDU shows.
+-- How many indications a TSDU has.
 use Rattle.std.proofs.Common.{◌≡◌, refl, ap, sym, subst, ℕ, suc, ◌+◌, ◌≤◌, Bool, true, false, List, [], ◌∷◌, ◌++◌, length, map, None, if◌then◌else◌, arith}
 use Rattle.osi_session.proofs.Vocabulary.{list_any, length-append, State, is_aborting, is_wait_cn, Meaning, CN, AC, RF, DT, GT, PT, MIP, MIA, MAP, MAA, RS, RA, FN, DN, NF, AB, AA, Said, Word, Words, says, Taker, Hearing, word_verdict, respond_word, respond_words, is_restart_word, acting_words, respond_tsdu, Shown, Outcome, is_acceptable, stands, shown_for, in_aborting, in_ended, respond_unit, Verdict, over, dropped, faulty, fine, verdict, enacted, is_faulty, respond}
 use Rattle.osi_session.proofs.VerdictLaws.{enacts}

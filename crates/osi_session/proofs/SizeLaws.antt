@@ -1,4 +1,4 @@
--- What a CN and an AC agree on, and what it bounds.
+-- What a CN and an AC agree, and what it limits.
 use Rattle.std.proofs.Common.{◌≡◌, refl, sym, subst, ℕ, ◌==◌, ◌<◌, ◌≤◌, Bool, true, false, ◌||◌, nat_lt, nat_le, length, Ok, arith, if◌then◌else◌}
 use Rattle.osi_spdu.specs.declared.sizes.TsduSizes.{TsduSizes}
 use Rattle.osi_session.specs.Sizes.{answered}
@@ -37,7 +37,7 @@ user_sizes s = and_from _ _ s.from_asker.is_size s.from_answerer.is_size
 
 -- ---- what is agreed
 
--- an AC names a size where the CN does
+-- an AC names a size if the CN does
 pub answered_named : (a b : ℕ) → 0 < a → 0 < answered a b
 answered_named a b h = grind arith
 
@@ -52,7 +52,7 @@ answered_given a b h = grind arith
 agreed : (a b : ℕ) → smaller a (answered a b) ≡ answered a b
 agreed a b = grind arith
 
--- who takes the AC comes to what it names
+-- the side that takes the AC agrees on what it names
 pub sizes_agreed : (a b : TsduMaximumSize) → smaller_sizes a (answered_sizes a b) ≡ answered_sizes a b
 unfolding smaller_sizes answered_sizes
 sizes_agreed a b = λ i. record { from_asker = agreed a.from_asker b.from_asker i; from_answerer = agreed a.from_answerer b.from_answerer i }

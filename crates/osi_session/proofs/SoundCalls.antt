@@ -1,4 +1,4 @@
--- What is true of a session at all times is true after each accepted call.
+-- Each accepted call keeps the invariant of a session.
 use Rattle.std.proofs.Common.{◌≡◌, refl, sym, subst, ℕ, ◌≤◌, ◌<◌, Bool, true, false, Ok, arith, if◌then◌else◌}
 use Rattle.osi_session.proofs.Vocabulary.{leb-true, ltb-true, and_parts, TokenSetting, TsduMaximumSize, are_sizes, Phase, Ready, MajorAsked, Releasing, Restarting, Aborting, Ended, State, Numbers, FunctionalUnits, Tokens, functional_units, has_points, point_sent, minor_confirmed, major_confirmed, restarted_at, in_major, is_restart_due, may_hold, may_give, may_ask, is_ready, is_major_due, may_confirm_minor, is_wait_transport, without_tokens, IsSound, AreOrdered, Call, Accept, Refuse, Data, Give, Please, Minor, MinorConfirm, Major, MajorConfirm, Restart, RestartConfirm, Release, ReleaseAccept, ReleaseRefuse, Abort, HasSerial, Step, opened_with, is_confirmable, is_restartable, last_number, needs, may_call, after, allowed, AllHold}
 use Rattle.osi_session.proofs.Passed.{passed}

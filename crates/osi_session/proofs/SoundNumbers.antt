@@ -1,4 +1,4 @@
--- The numbers stay in order, however they move.
+-- The numbers stay in order, however they change.
 use Rattle.std.proofs.Common.{ℕ, ◌+◌, ◌≤◌, ◌<◌, Bool, true, false, nat_lt, arith, if◌then◌else◌}
 use Rattle.osi_session.proofs.Vocabulary.{Numbers, from_base, point_sent, point_taken, minor_confirmed, major_confirmed, restarted_at, lower, AreOrdered}
 

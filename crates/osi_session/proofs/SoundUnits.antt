@@ -1,4 +1,4 @@
--- What is true of a session at all times is true after each unit.
+-- Each unit keeps the invariant of a session.
 use Rattle.std.proofs.Common.{◌≡◌, refl, ℕ, ◌+◌, ◌≤◌, ◌<◌, Bool, true, false, not, ◌&&◌, ◌==◌, nat_lt, List, [], ◌∷◌, Option, Some, None, unwrap_or, arith, if◌then◌else◌}
 use Rattle.osi_session.proofs.Vocabulary.{leb-true, ltb-true, and_parts, TokenSetting, Ready, MajorDue, ReleaseDue, RestartDue, Aborting, Ended, UnitFault, State, are_sizes, functional_units, both_units, has_points, has_data, point_taken, minor_confirmed, major_confirmed, restarted_at, in_major, is_restart_due, may_hold, may_ask, is_ready, is_wait_cn, is_major_asked, is_aborting, is_ended, takes_minor_ack, without_tokens, IsSound, Meaning, CN, AC, RF, DT, GT, PT, MIP, MIA, MAP, MAA, RS, RA, FN, DN, NF, AB, AA, IsSmall, IsNumbered, Outcome, Condition, si, conditions, first_fault, is_expected, is_acceptable, is_acknowledgeable, stands, becomes, judged, take_expected, in_aborting, in_ended, drops, respond_unit, AllMet}
 use Rattle.osi_session.proofs.PhaseLaws.{implied, excluded}

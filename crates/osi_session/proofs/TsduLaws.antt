@@ -1,4 +1,4 @@
--- What the words of a TSDU keep.
+-- What the words of a TSDU preserve.
 use Rattle.std.proofs.Common.{◌≡◌, refl, sym, subst, ℕ, List, Bool, true, false, Result, Ok, Err, if◌then◌else◌}
 use Rattle.osi_session.proofs.Vocabulary.{SpduFault, Aborting, State, is_over, is_wait_transport, IsSound, Meaning, IsNumbered, IsNumberedWord, AreNumberedWords, said_by_units, said_if_read, said_at, Word, Words, says, part, units_numbered, Units, tsdu_at, Taker, Hearing, respond_word, respond_tsdu, respond_came, Outcome, respond_fault}
 use Rattle.osi_session.proofs.Begun.{Begins, unit_begun}

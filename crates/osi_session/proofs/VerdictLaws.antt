@@ -1,4 +1,4 @@
--- What becomes of a unit, and of a token item that names no token.
+-- The verdict on a unit, and on a token item that names no token.
 use Rattle.std.proofs.Common.{inl, inr, ◌≡◌, refl, sym, ◌∙◌, ap, subst, Bool, true, false, not, ◌&&◌, ◌||◌, List, [], ◌∷◌, ◌++◌, Option, Some, None, if◌then◌else◌, arith}
 use Rattle.osi_session.proofs.Vocabulary.{cases_Bool, append-nil, Aborting, UnitFault, Unexpected, State, no_token, is_empty, is_aborting, is_ended, is_over, without_tokens, Meaning, CN, GT, PT, AB, AA, list_any, alone, behind, functional_units, has_data, are_sizes, is_second, said_of, Outcome, Condition, si, conditions, first_fault, is_expected, drops, nothing, bad, judged, take_expected, in_aborting, in_ended, has_no_effect, is_token_item, is_resynchronize, reply_for, first_reply, replies_abort, respond_unit, and_then, Verdict, over, dropped, faulty, fine, by_fault, verdict, enacted, is_faulty, AllMet, IsGood, respond_all, acting, respond}
 use Rattle.osi_session.proofs.PhaseLaws.{implied, every_is}
@@ -60,7 +60,7 @@ same_rest : (b : Bool) (o p q : Outcome) → p ≡ q → (if b then o else and_t
 same_rest true o p q h = refl
 same_rest false o p q h = ap (and_then o) h
 
--- behind other units a token item that names no token changes nothing
+-- after other units a token item that names no token changes nothing
 pub behind_all : (s : State) (us : List Meaning) (item : Meaning) → has_no_effect item ≡ true → respond_all s (us ++ item ∷ []) ≡ respond_all s us
 unfolding respond_all
 behind_all s [] item h = one s item ∙ no_effect s item h
@@ -90,7 +90,7 @@ said_alone s u = one s u
 pub of_said : (s : State) (u : Meaning) → respond s (said_of u) ≡ respond_unit s u
 of_said s u = grind (arith, in_front, empty_item, said_alone)
 
--- ---- at most one unit behind a token item
+-- ---- at most one unit after a token item
 
 faulty_is : (v : Verdict) → is_faulty v ≡ true → (f : UnitFault) × (v ≡ faulty f)
 faulty_is v h0 = grind arith
@@ -117,7 +117,7 @@ choice : (b : Bool) (s : State) (x y : List Meaning) (o p : Outcome) → respond
 choice true s x y o p h k = h
 choice false s x y o p h k = k
 
--- a token item acts after the unit behind it, and in front of an RS it does not act
+-- a token item acts after the unit after it, and in front of an RS it does not act
 pub item_and_unit : (s : State) (item u : Meaning) → is_token_item item ≡ true →
     respond s (behind item u) ≡ (if is_resynchronize u then respond_unit s u else and_then (respond_unit s u) (respond_unit (respond_unit s u).next item))
 unfolding acting
@@ -152,6 +152,6 @@ enacted_reply s u v = grind (arith, over_reply, aborting_reply, ended_reply, goo
 pub bad_is_aborted : (s : State) (u : Meaning) → replies_abort (respond_unit s u).reply ≡ is_faulty (verdict s u)
 bad_is_aborted s u = ap (λ (o : Outcome). replies_abort o.reply) (enacts s u) ∙ enacted_reply s u (verdict s u)
 
--- what is told of an outcome of a unit
+-- what is reported of an outcome of a unit
 pub told_bad : (s : State) (u : Meaning) (o : Outcome) (b : Bool) → respond_unit s u ≡ o → b ≡ replies_abort o.reply → b ≡ is_faulty (verdict s u)
 told_bad s u o b e h = h ∙ ap (λ (p : Outcome). replies_abort p.reply) (sym e) ∙ bad_is_aborted s u

@@ -1,4 +1,4 @@
--- Where nothing is joined, messages do what they do by the table of units; and what a TSDU of one word does.
+-- If nothing is joined, messages have the effect that the table of units says; and the effect of a TSDU of one word.
 use Rattle.std.proofs.Common.{◌≡◌, refl, sym, ◌∙◌, ap, ℕ, Bool, true, false, not, ◌||◌, if◌then◌else◌, List, [], ◌∷◌, ◌++◌, map, Option, Some, None, Ok, Err, inl, inr, arith}
 use Rattle.osi_session.specs.Moves as whole
 use Rattle.osi_session.proofs.Vocabulary.{list_any, cases_Bool, append-nil, State, Phase, UnitFault, Unexpected, BadEnclosure, Answer, allowed, is_over, is_aborting, is_wait_transport, Outcome, nothing, Condition, si, conditions, first_fault, is_expected, drops, bad, is_resynchronize, first_reply, Verdict, over, dropped, faulty, fine, by_fault, verdict, is_faulty, enacted, respond_unit, respond_all, acting, respond, and_then, Meaning, GT, no_token, Said, alone, behind, words_of, is_second, Word, Words, says, as_message, Taker, drops_parts, kept_in, word_verdict, joined_by, good_word, Hearing, heard, enacted_word, respond_word, respond_words, heard_then, idle, is_restart_word, acting_words, respond_tsdu, Listener, Move, react, after_input, after_inputs, taken, answered, begun, denied, rests, listening, standing_of, in_words, is_apart, joins}
@@ -123,7 +123,7 @@ messages_move s said =
     ap (λ (h : Hearing). let m : Move = record { next = record { state = h.next.state; waiting = s.waiting; joined = h.next.joined }; shown = h.shown; reply = h.reply; closes = h.closes; error = None } in m)
     (plain_tsdu s.state said)
 
--- and where nothing is joined, so do messages
+-- and if nothing is joined, so do messages
 pub moves_as_whole : (s : whole.Standing) (input : whole.Input) → react (listening s) (in_words input) ≡ joins None (whole.react s input)
 moves_as_whole s (whole.called c) = others (listening s) (whole.called c) (kept_none s.state.phase) refl
 moves_as_whole s (whole.taken said) = messages_move s said
@@ -200,7 +200,7 @@ either_words : (b : Bool) (t : Taker) (x y : Words) (h : Hearing) → respond_wo
 either_words true t x y h e k = e
 either_words false t x y h e k = k
 
--- behind a token item that names no token a word does what it does alone
+-- after a token item that names no token a word does what it does alone
 pub word_behind : (t : Taker) (w : Word) → respond_tsdu t (says (GT no_token) ∷ w ∷ []) ≡ respond_word t w
 unfolding acting_words
 word_behind t w = either_words (is_restart_word w || false) t (w ∷ []) (w ∷ says (GT no_token) ∷ []) (respond_word t w) (one_word t w) (two_words t w)

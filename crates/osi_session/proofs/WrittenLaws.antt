@@ -1,4 +1,4 @@
--- What is sent is taken as it was meant: from the octets of a message to the row of the table of units.
+-- What is sent is taken as it was meant: from the octets of a message to its row in the table of units.
 use Rattle.std.proofs.Common.{◌≡◌, ◌∙◌, ap, ℕ, List, [], ◌∷◌, Result, Ok}
 use Rattle.osi_session.proofs.Vocabulary.{SpduFault, tsdu_at, Place, Meaning, GT, no_token, said_by_units, said_if_read, said_at, words_of, Words, says, part, part_octets, written, spelled, respond_word, came_as, came, Listener, taker_of, moved, react}
 use Rattle.osi_session.proofs.MoveLaws.{taken_is}

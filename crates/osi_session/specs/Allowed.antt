@@ -1,4 +1,4 @@
--- The table of calls: the first error that applies, or the new state and the unit that is sent.
+-- The table of calls: the first error that applies, or the new state and the unit to send.
 use Rattle.std.specs.Prelude.{◌≡◌, ℕ, ◌-◌, Bool, true, not, ◌&&◌, ◌||◌, if◌then◌else◌, nat_le, nat_lt, List, [], ◌∷◌, length, Option, Some, None, Result, Ok, Err}
 use Rattle.osi_spdu.specs.declared.fields.ResyncType.TheVariants as resync
 use Rattle.osi_spdu.specs.declared.fields.TsduMaximumSize.{TsduMaximumSize}
@@ -21,11 +21,11 @@ use Rattle.osi_session.specs.Sizes.{answered_sizes, fits_limit}
 use Rattle.osi_message.specs.Meanings.{Meaning, AC, RF, DT, GT, PT, MIP, MIA, MAP, MAA, RS, RA, FN, DN, NF, AB}
 use Rattle.osi_session.specs.Calls.{refusal_octets, refusal_reason, Call, Accept, Refuse, Data, Give, Please, Minor, MinorConfirm, Major, MajorConfirm, Restart, RestartConfirm, Release, ReleaseAccept, ReleaseRefuse, Abort}
 
--- a test of a call, and the error where it fails
+-- a test of a call, and the error if it fails
 abbrev pub Test : Type 0
 Test = Bool × CallError
 
--- the state after a call, and the unit that is sent
+-- the state after a call, and the unit to send
 pub record Step : Type 0 where
   pub next : State
   pub sent : Meaning
@@ -33,7 +33,7 @@ pub record Step : Type 0 where
 abbrev pub Answer : Type 0
 Answer = Result Step CallError
 
--- the answer where each test holds, else the error of the first that fails
+-- the answer if each test holds, otherwise the error of the first that fails
 abbrev pub first_error : List Test → Answer → Answer
 first_error [] a = a
 first_error (t ∷ ts) a = if t.0 then first_error ts a else Err t.1
@@ -52,7 +52,7 @@ last_number = 999999
 abbrev pub has_right : State → Token → Bool
 has_right s t = not (has (available s.units) t) || has s.held t
 
--- points were taken last, and the number is of one that is not confirmed
+-- points were taken last, and the number is that of an unconfirmed one
 abbrev pub is_confirmable : Numbers → ℕ → Bool
 is_confirmable v n = v.answers && (nat_le v.confirmed n && nat_lt n v.next)
 
@@ -61,7 +61,7 @@ abbrev pub is_restartable : State → ℕ → Bool
 is_restartable s n = nat_le s.numbers.lowest n && (nat_le n last_number
     && (if in_major s.phase then nat_lt n s.numbers.next else nat_le n s.numbers.next))
 
--- the tests that many calls share
+-- the tests that many calls have in common
 
 abbrev pub selected : Bool → Test
 selected b = (b, error.NotSelected)
@@ -72,7 +72,7 @@ holding b = (b, error.TokenNotHeld)
 abbrev pub numbers_left : State → Test
 numbers_left s = (nat_le s.numbers.next last_number, error.SerialsUsedUp)
 
--- a point: its unit is selected, its tokens are there, and there is a number for it
+-- a point: its unit is selected, its tokens are held, and there is a number for it
 abbrev pub point_needs : State → Bool → Bool → List Test
 point_needs s unit rights = selected unit ∷ holding rights ∷ numbers_left s ∷ []
 
@@ -110,12 +110,12 @@ needs s (MinorConfirm n octets) = selected s.units.minor ∷ (is_confirmable s.n
 needs s (Major octets) =
     point_needs s s.units.major (has_right s token.data_token && (has_right s token.minor && has_right s token.major))
 needs s (Restart n wishes octets) = selected s.units.resynchronize ∷ (is_restartable s n, error.BadNumber) ∷ []
--- with duplex no token says who may ask, so only the caller may
+-- with duplex no token decides who may request release, so only the caller may
 needs s (Release octets) = holding (each (has_right s) && (not s.units.duplex || s.is_caller)) ∷ []
 needs s (ReleaseRefuse octets) = selected s.units.negotiated_release ∷ []
 needs s _ = []
 
--- the user data of a call, and how much of it there may be
+-- the user data of a call, and its greatest length
 abbrev pub octets_of : Call → List ℕ
 octets_of (Accept requirements serial sides sizes octets) = octets
 octets_of (Refuse refusal) = refusal_octets refusal
@@ -137,7 +137,7 @@ abbrev pub most_of : Call → ℕ
 most_of (Data octets) = most_data
 most_of _ = most_user_data
 
--- the first number, where there are points or restarts
+-- the first number, if there are points or restarts
 abbrev pub base_for : FunctionalUnits → ℕ → ℕ
 base_for units serial = if has_points units then serial else 0
 
@@ -167,7 +167,7 @@ after s (ReleaseAccept octets) = without_tokens Ended s
 after s (ReleaseRefuse octets) = record s { phase = Ready }
 after s (Abort octets) = without_tokens Aborting s
 
--- the number of the first point is written where there are points or restarts
+-- the number of the first point is written if there are points or restarts
 abbrev pub serial_for : FunctionalUnits → ℕ → Option ℕ
 serial_for units serial = if has_points units then Some serial else None
 
@@ -192,16 +192,16 @@ sends s (ReleaseRefuse octets) = NF octets
 -- transport released, by the user
 sends s (Abort octets) = AB 3 octets
 
--- what a call gives that is allowed in its phase, its length apart
+-- the result of a call that is allowed in its phase, apart from its length
 unfoldable pub met : State → Call → Answer
 met s c = first_error (needs s c) (Ok (record { next = after s c; sent = sends s c }))
 
--- the lengths of the user data and of the TSDU are looked at last
+-- the lengths of the user data and of the TSDU are tested last
 abbrev pub sized : Bool → Answer → Answer
 sized fits (Ok step) = if fits then Ok step else Err error.TooLong
 sized fits (Err e) = Err e
 
--- the answer to a call; want of memory is not in it
+-- the answer to a call, apart from allocation failures
 unfoldable pub allowed : State → Call → Answer
 allowed s c =
     if is_over s.phase then Err error.Ended
@@ -212,7 +212,7 @@ abbrev pub AllHold : List Test → Type 0
 AllHold [] = Unit {0}
 AllHold (t ∷ ts) = (t.0 ≡ true) × AllHold ts
 
--- what an accepted call passed, and what it gives
+-- what an accepted call has passed, and its result
 pub record Passed (s : State) (c : Call) (x : Step) : Type 0 where
   pub phase : may_call s.phase c ≡ true
   pub needed : AllHold (needs s c)

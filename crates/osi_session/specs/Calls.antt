@@ -12,7 +12,7 @@ use Rattle.osi_session.specs.declared.requests.Request.{Request}
 use Rattle.osi_session.specs.declared.requests.Request.TheVariants as request
 use Rattle.osi_message.specs.Tokens.{named}
 
--- why a user refuses: it gives no reason, it is congested for now, or it hands on user data (X.225 section 8.3.5)
+-- why a user refuses: without a reason, because of temporary congestion, or with user data (X.225 section 8.3.5)
 pub data Refusal : Type 0 where
   Unspecified : Refusal
   Congestion : Refusal
@@ -29,7 +29,7 @@ abbrev pub refusal_octets : Refusal → List ℕ
 refusal_octets (WithData octets) = octets
 refusal_octets _ = []
 
--- the refusal that hands on this user data, and gives no reason where there is none
+-- the refusal with this user data, or without a reason if there is none
 abbrev pub refusal_with : List ℕ → Refusal
 refusal_with [] = Unspecified
 refusal_with (b ∷ octets) = WithData (b ∷ octets)

@@ -1,4 +1,4 @@
--- What asks for a connection and what opens it, what gives a token to this side, and what sets the numbers anew.
+-- What requests and what opens a connection, what gives a token to this side, and what sets the numbers anew.
 use Rattle.std.specs.Prelude.{Bool, true, false, not, ◌&&◌, ◌||◌, if◌then◌else◌, [], ◌∷◌}
 use Rattle.std.specs.List.{list_any}
 use Rattle.osi_session.specs.declared.state.State.{State}
@@ -14,11 +14,11 @@ use Rattle.osi_session.specs.Respond.{is_acceptable, stands}
 use Rattle.osi_session.specs.Joining.{acting_words}
 use Rattle.osi_session.specs.Listening.{Input, called, taken}
 
--- one of the words of a TSDU that act
+-- one of the words of a TSDU that take effect
 abbrev pub some_word : (Meaning → Bool) → Words → Bool
 some_word p words = list_any (λ w. p (as_message w)) (acting_words words)
 
--- ---- a connection is asked for
+-- ---- a connection is requested
 
 abbrev pub unit_asks : Meaning → Bool
 unit_asks (CN version_2 requirements serial wishes from to sizes octets) = true
@@ -33,7 +33,7 @@ abbrev pub asks_for_connection : Input → Bool
 asks_for_connection (taken words) = asks_first words
 asks_for_connection _ = false
 
--- the units of a TSDU come
+-- the units of a TSDU arrive
 abbrev pub is_taken : Input → Bool
 is_taken (taken words) = true
 is_taken _ = false
@@ -105,7 +105,7 @@ unit_holds s (DN octets) t = false
 unit_holds s (AB bits octets) t = false
 unit_holds s _ t = has s.held t
 
--- ---- the numbers begin anew, or at the number of a restart
+-- ---- the numbers start anew, or continue from the number of a restart
 
 abbrev pub call_renews : Call → Bool
 call_renews (Accept requirements serial sides sizes octets) = true

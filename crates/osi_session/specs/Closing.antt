@@ -7,7 +7,7 @@ use Rattle.osi_session.specs.Phases.{is_connecting, is_releasing, is_aborting}
 use Rattle.osi_message.specs.Meanings.{Meaning, RF, DN, AB, AA}
 use Rattle.osi_message.specs.Words.{Word, Words, as_message}
 
--- a unit that is taken as the last: a refusal, the end of a release, an abort and its answer
+-- a unit that is taken last: a refusal, the end of a release, an abort and its answer
 abbrev pub may_close : Meaning → Bool
 may_close (RF reason octets) = true
 may_close (DN octets) = true
@@ -18,12 +18,12 @@ may_close _ = false
 abbrev pub may_close_word : Word → Bool
 may_close_word w = may_close (as_message w)
 
--- such a word stands alone in its TSDU
+-- such a word is alone in its TSDU
 abbrev pub closes_alone : Words → Bool
 closes_alone (w ∷ []) = true
 closes_alone words = not (list_any may_close_word words)
 
--- a CN that cannot be accepted is answered by RF, a bad unit by AB, and AB by AA
+-- a CN that can't be accepted is answered with RF, a bad unit with AB, and AB with AA
 abbrev pub is_answer : Meaning → Bool
 is_answer (RF reason octets) = true
 is_answer (AB bits octets) = true

@@ -1,4 +1,4 @@
--- The counts of what words leave, for the memory that holds them.
+-- The effects of words as counts, for the memory that holds them.
 use Rattle.std.specs.Prelude.{◌≡◌, ℕ, List, [], false, Option, Some, None, Result, length, option_map}
 use Rattle.osi_spdu.specs.declared.faults.SpduFault.{SpduFault}
 use Rattle.osi_session.specs.declared.counting.Counting.{Counting}
@@ -12,11 +12,11 @@ use Rattle.osi_session.specs.Steps.{reply_of}
 abbrev pub count_of : Counting → Count
 count_of c = record { state = c.next; joined = c.joined; reply = option_map reply_of c.reply; closes = c.closes }
 
--- what an outcome leaves behind which so many octets are joined
+-- the result of an outcome after which this many octets are joined
 abbrev pub count_by : Option ℕ → Outcome → Count
 count_by joined o = record { state = o.next; joined = kept_count o.next.phase joined; reply = o.reply; closes = o.closes }
 
--- octets that stand for so many: whether there are some is all that a message looks at
+-- a stand-in for n octets; a message only tests whether there are any
 abbrev pub no_octets : Option ℕ → Option (List ℕ)
 no_octets None = None
 no_octets (Some n) = Some []
@@ -24,7 +24,7 @@ no_octets (Some n) = Some []
 abbrev pub taker_with : State → Option (List ℕ) → Taker
 taker_with s joined = record { state = s; joined = joined }
 
--- a hearing leaves this count whatever octets are joined before, as long as they are so many
+-- a hearing has this count whichever octets were joined before, if there were this many
 abbrev pub CountsIn : (Taker → Hearing) → State → Option ℕ → Count → Type 0
 CountsIn f s n c = (joined : Option (List ℕ)) → option_map length joined ≡ n → counted (f (taker_with s joined)) ≡ c
 
@@ -37,6 +37,6 @@ CountsAll s n ws c = CountsIn (λ t. respond_tsdu t ws) s n c
 abbrev pub CountsCame : State → Option ℕ → Result Words SpduFault → Count → Type 0
 CountsCame s n came c = CountsIn (λ t. respond_came t came) s n c
 
--- nothing is done yet
+-- nothing has happened yet
 abbrev pub count_by_idle : State → Option ℕ → Count
 count_by_idle s n = record { state = s; joined = n; reply = None; closes = false }

@@ -1,5 +1,5 @@
--- Data may come in parts: what is joined of an unfinished SSDU, what is bad within one, and what a word
--- of a TSDU, a message or a part of one Data, does.
+-- Data in parts: the joined octets of an unfinished SSDU, which units are bad within one, and the effect of a word of a
+-- TSDU, which is a message or a part of a Data.
 use Rattle.std.specs.Prelude.{ℕ, Bool, true, false, not, ◌||◌, if◌then◌else◌, nat_le, List, [], ◌∷◌, ◌++◌, length, Option, Some, None, unwrap_or, is_none, is_some, Result, Ok, Err}
 use Rattle.std.specs.List.{list_any}
 use Rattle.osi_spdu.specs.declared.faults.SpduFault.{SpduFault}
@@ -23,8 +23,8 @@ pub record Taker : Type 0 where
 abbrev pub joined_octets : Option (List ℕ) → List ℕ
 joined_octets joined = unwrap_or joined []
 
--- An unfinished SSDU is kept in the phases in which tokens are held: a restart that is asked for or taken,
--- an abort and the end drop it, and before a connection is there is none.
+-- An unfinished SSDU is kept in the phases in which tokens are held: a restart that is requested or taken, an abort and
+-- the end drop it, and before a connection is open there is none.
 abbrev pub drops_parts : Phase → Bool
 drops_parts p = not (may_hold p)
 
@@ -33,7 +33,7 @@ kept_in p joined = if drops_parts p then None else joined
 
 -- ---- the conditions of a word, tried after those of its message
 
--- these don't come within an SSDU
+-- the messages that may not occur within an SSDU
 abbrev pub begins_anew : Meaning → Bool
 begins_anew (DT octets) = true
 begins_anew (GT tokens) = true
@@ -42,7 +42,7 @@ begins_anew (MAP n octets) = true
 begins_anew (FN octets) = true
 begins_anew _ = false
 
--- a first part stands where nothing is unfinished, and a later one where something is
+-- a first part is in place if nothing is unfinished, and a later one if something is
 abbrev pub is_in_place : Option (List ℕ) → Place → Bool
 is_in_place joined First = is_none joined
 is_in_place joined Middle = is_some joined
@@ -60,7 +60,7 @@ enclosure_conditions joined (part place octets) =
 abbrev pub word_conditions : Taker → Word → List Condition
 word_conditions t w = conditions t.state (as_message w) ++ enclosure_conditions t.joined w
 
--- what becomes of a word, as of its message
+-- the verdict on a word, as on its message
 abbrev pub word_verdict : Taker → Word → Verdict
 word_verdict t w =
     if is_over t.state.phase then over
@@ -68,30 +68,30 @@ word_verdict t w =
     else if not (is_expected t.state.phase (as_message w)) then faulty (Unexpected (si (as_message w)))
     else by_fault (first_fault (si (as_message w)) (word_conditions t w))
 
--- ---- what a word does
+-- ---- the effect of a word
 
--- what is joined behind a good word
+-- what is joined after a good word
 abbrev pub joined_by : Option (List ℕ) → Word → Option (List ℕ)
 joined_by joined (says u) = joined
 joined_by joined (part First octets) = Some octets
 joined_by joined (part Middle octets) = Some (joined_octets joined ++ octets)
 joined_by joined (part Last octets) = None
 
--- what a good word does: the last part is all the data, and an earlier one changes what is joined alone
+-- the effect of a good word: the last part is all the data, and an earlier one changes only what is joined
 abbrev pub good_word : Taker → Word → Outcome
 good_word t (says u) = good t.state u
 good_word t (part First octets) = nothing t.state
 good_word t (part Middle octets) = nothing t.state
 good_word t (part Last octets) = good t.state (DT (joined_octets t.joined ++ octets))
 
--- what is left, what the user is shown, the unit that is sent, and whether the transport connection is closed
+-- the state afterwards, the indications, the unit to send, and whether the transport connection is closed
 pub record Hearing : Type 0 where
   pub next : Taker
   pub shown : List Shown
   pub reply : Option Meaning
   pub closes : Bool
 
--- an outcome, and what is joined behind it
+-- an outcome, and what is joined after it
 abbrev pub heard : Option (List ℕ) → Outcome → Hearing
 heard joined o = record {
   next = record { state = o.next; joined = kept_in o.next.phase joined };
@@ -112,7 +112,7 @@ respond_word t w = enacted_word t w (word_verdict t w)
 
 -- ---- the words of a TSDU, one after the other
 
--- one hearing, and the one of what acts after it
+-- the result of one hearing followed by another
 abbrev pub heard_then : Hearing → Hearing → Hearing
 heard_then first second = record {
   next = second.next;
@@ -124,7 +124,7 @@ heard_then first second = record {
 abbrev pub idle : Taker → Hearing
 idle t = record { next = t; shown = []; reply = None; closes = false }
 
--- the first word that is bad is the last that acts
+-- the first bad word is the last that takes effect
 unfoldable pub respond_words : Taker → Words → Hearing
 respond_words t [] = idle t
 respond_words t (w ∷ ws) =
@@ -134,7 +134,7 @@ respond_words t (w ∷ ws) =
 abbrev pub is_restart_word : Word → Bool
 is_restart_word w = is_resynchronize (as_message w)
 
--- the words in the order in which they act, as units do
+-- the words in the order in which they take effect, as units do
 unfoldable pub acting_words : Words → Words
 acting_words [] = []
 acting_words (first ∷ words) = if list_any is_restart_word words then words else words ++ first ∷ []
@@ -143,7 +143,7 @@ acting_words (first ∷ words) = if list_any is_restart_word words then words el
 abbrev pub respond_tsdu : Taker → Words → Hearing
 respond_tsdu t words = respond_words t (acting_words words)
 
--- what is read of a TSDU, words or its fault
+-- what was read of a TSDU, words or its fault
 abbrev pub respond_came : Taker → Result Words SpduFault → Hearing
 respond_came t (Ok words) = respond_tsdu t words
 respond_came t (Err fault) = heard t.joined (respond_fault t.state fault)

@@ -1,4 +1,4 @@
--- What a session has joined at all times, and how the taker of the parts of one Data stands.
+-- What a session has joined at all times, and the state of the receiver of the parts of a Data.
 use Rattle.std.specs.Prelude.{◌≡◌, ◌≤◌, ◌⊎◌, ℕ, Bool, true, false, ◌||◌, List, [], length, Option, None}
 use Rattle.osi_session.specs.declared.phases.Phase.{Phase}
 use Rattle.osi_session.specs.declared.state.State.{State}
@@ -14,7 +14,7 @@ use Rattle.osi_session.specs.Listening.{Listener}
 abbrev pub IsKeptIn : Phase → Option (List ℕ) → Type 0
 IsKeptIn p joined = kept_in p joined ≡ joined
 
--- and it is at most as much as one Data
+-- and it is at most one Data
 pub record IsKept (l : Listener) : Type 0 where
   pub phase : IsKeptIn l.state.phase l.joined
   pub few : length (joined_octets l.joined) ≤ most_data
@@ -23,7 +23,7 @@ pub record IsKept (l : Listener) : Type 0 where
 abbrev pub discards : Phase → Bool
 discards p = is_restarting p || is_over p
 
--- The taker of the parts of one Data: it has joined what has begun, or nothing where it discards data.
+-- The receiver of the parts of a Data: it has joined the parts so far, or nothing if it discards data.
 abbrev pub IsJoinedAs : State → Option (List ℕ) → Option (List ℕ) → Type 0
 IsJoinedAs s joined begun = (joined ≡ begun) ⊎ ((joined ≡ None) × (discards s.phase ≡ true))
 
@@ -31,7 +31,7 @@ IsJoinedAs s joined begun = (joined ≡ begun) ⊎ ((joined ≡ None) × (discar
 abbrev pub IsNoFault : State → List ℕ → Type 0
 IsNoFault s octets = is_faulty (verdict s (DT octets)) ≡ false
 
--- a part changes what is joined alone, and nothing is shown or sent
+-- a part changes only what is joined, and nothing is indicated or sent
 pub record IsJoined (s : State) (joined : Option (List ℕ)) (w : Word) (begun : Option (List ℕ)) : Type 0 where
   pub now : Option (List ℕ)
   pub is : respond_word (record { state = s; joined = joined }) w ≡ record { next = record { state = s; joined = now }; shown = []; reply = None; closes = false }

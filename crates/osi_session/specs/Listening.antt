@@ -1,4 +1,4 @@
--- All that can happen to a session, which joins the parts of data that comes, and the move that it makes.
+-- Everything that can happen to a session, which joins the parts of data that arrive, and the move that it makes.
 use Rattle.std.specs.Prelude.{ℕ, Bool, true, false, List, [], ◌∷◌, Option, Some, None, Result, Ok, Err, if◌then◌else◌}
 use Rattle.osi_spdu.specs.declared.faults.SpduFault.{SpduFault}
 use Rattle.osi_session.specs.declared.phases.Phase.TheVariants.{Connecting, Ended}
@@ -15,8 +15,8 @@ use Rattle.osi_session.specs.Allowed.{Answer, allowed}
 use Rattle.osi_session.specs.Respond.{respond_fault, lost}
 use Rattle.osi_session.specs.Joining.{Taker, Hearing, kept_in, heard, respond_tsdu}
 
--- a call of the user; the words of a TSDU, and a TSDU that is none; and of the transport connection,
--- that it is there, that there is none, for this reason, and that it is lost
+-- a call of the user; the words of a TSDU, or a TSDU with a fault; and events of the transport connection: it is open,
+-- it was refused for this reason, it is lost
 pub data Input : Type 0 where
   called : Call → Input
   taken : Words → Input
@@ -34,8 +34,8 @@ pub record Listener : Type 0 where
 abbrev pub taker_of : Listener → Taker
 taker_of l = record { state = l.state; joined = l.joined }
 
--- what is left, what the user is shown, the unit that is sent, whether the transport connection is
--- closed, and the error of a call that is refused
+-- the state afterwards, the indications, the unit to send, whether the transport connection is closed, and the error of
+-- a refused call
 pub record Move : Type 0 where
   pub next : Listener
   pub shown : List Shown
@@ -47,7 +47,7 @@ pub record Move : Type 0 where
 abbrev pub rests : Listener → Move
 rests l = record { next = l; shown = []; reply = None; closes = false; error = None }
 
--- an unfinished SSDU is kept or dropped by the phase that a move leaves
+-- the phase after a move decides whether an unfinished SSDU is kept or dropped
 abbrev pub in_state : Listener → State → Listener
 in_state l next = record { state = next; waiting = l.waiting; joined = kept_in next.phase l.joined }
 
@@ -66,7 +66,7 @@ moved l h = record {
   error = None;
 }
 
--- the transport connection is there: the CN is sent
+-- the transport connection is open, and the CN is sent
 abbrev pub begun : Listener → Move
 begun l = record (rests (record (in_state l (without_tokens Connecting l.state)) { waiting = None })) { reply = l.waiting }
 
@@ -82,7 +82,7 @@ react l opened = if is_wait_transport l.state.phase then begun l else rests l
 react l (refused reason) = if is_wait_transport l.state.phase then denied reason l else rests l
 react l broken = moved l (heard l.joined (lost l.state))
 
--- what is left after one thing, and after one after the other
+-- the state after one input, and after one followed by others
 abbrev pub after_input : Listener → Input → Listener
 after_input l input = (react l input).next
 
@@ -90,7 +90,7 @@ abbrev pub after_inputs : Listener → List Input → Listener
 after_inputs l [] = l
 after_inputs l (input ∷ inputs) = after_inputs (after_input l input) inputs
 
--- what comes as the octets of a TSDU: units, or octets that are none
+-- the input that the octets of a TSDU are: units, or a fault
 abbrev pub came_as : Result Words SpduFault → Input
 came_as (Ok words) = taken words
 came_as (Err fault) = unread fault

@@ -1,4 +1,4 @@
--- All that can happen to a session over whole messages, and the move that it makes.
+-- Everything that can happen to a session over whole messages, and the move that it makes.
 use Rattle.std.specs.Prelude.{ℕ, Bool, true, false, List, [], ◌∷◌, Option, Some, None, Ok, Err, if◌then◌else◌}
 use Rattle.osi_spdu.specs.declared.faults.SpduFault.{SpduFault}
 use Rattle.osi_session.specs.declared.phases.Phase.TheVariants.{Connecting, Ended}
@@ -13,8 +13,8 @@ use Rattle.osi_session.specs.Shown.{Shown, RefusedByTransport}
 use Rattle.osi_session.specs.Allowed.{Answer, allowed}
 use Rattle.osi_session.specs.Respond.{Outcome, respond, respond_fault, lost}
 
--- a call of the user; the units of a TSDU, and a TSDU that is none; and of the transport connection,
--- that it is there, that there is none, for this reason, and that it is lost
+-- a call of the user; the units of a TSDU, or a TSDU with a fault; and events of the transport connection: it is open,
+-- it was refused for this reason, it is lost
 pub data Input : Type 0 where
   called : Call → Input
   taken : Said → Input
@@ -28,8 +28,8 @@ pub record Standing : Type 0 where
   pub state : State
   pub waiting : Option Meaning
 
--- what is left, what the user is shown, the unit that is sent, whether the transport connection is
--- closed, and the error of a call that is refused
+-- the state afterwards, the indications, the unit to send, whether the transport connection is closed, and the error of
+-- a refused call
 pub record Move : Type 0 where
   pub next : Standing
   pub shown : List Shown
@@ -53,7 +53,7 @@ answered s (Err e) = record (rests s) { error = Some e }
 abbrev pub moved : Standing → Outcome → Move
 moved s o = record { next = in_state s o.next; shown = o.shown; reply = o.reply; closes = o.closes; error = None }
 
--- the transport connection is there: the CN is sent
+-- the transport connection is open, and the CN is sent
 abbrev pub begun : Standing → Move
 begun s = record (rests (record { state = without_tokens Connecting s.state; waiting = None })) { reply = s.waiting }
 
@@ -69,7 +69,7 @@ react s opened = if is_wait_transport s.state.phase then begun s else rests s
 react s (refused reason) = if is_wait_transport s.state.phase then denied reason s else rests s
 react s broken = moved s (lost s.state)
 
--- what is left after one thing, and after one after the other
+-- the state after one input, and after one followed by others
 abbrev pub after_input : Standing → Input → Standing
 after_input s input = (react s input).next
 

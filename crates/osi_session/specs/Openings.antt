@@ -16,7 +16,7 @@ offered_serial o = serial_for (functional_units (unit_bits o.requirements)) o.se
 abbrev pub offered_wishes : Opening → TokenSetting
 offered_wishes o = offered (functional_units (unit_bits o.requirements)) o.wishes
 
--- what the CN of a caller says
+-- the contents of a caller's CN
 abbrev pub asked_for : Opening → Meaning
 asked_for o = CN true (unit_bits o.requirements) (offered_serial o) (offered_wishes o)
     (selector_octets o.calling_selector) (selector_octets o.called_selector) (named_by o.sizes) o.user_data.now

@@ -1,4 +1,4 @@
--- The parts of one Data come, with calls of their taker between; and the functional units of a session.
+-- The parts of a Data arrive, with calls of their receiver in between; and the functional units of a session.
 use Rattle.std.specs.Prelude.{◌≡◌, ℕ, Bool, true, false, not, List, [], ◌∷◌, ◌++◌, Option, Some, None}
 use Rattle.osi_session.specs.declared.phases.Phase.{Phase}
 use Rattle.osi_session.specs.declared.phases.Phase.TheVariants.{WaitCn, Answering, Aborting, Ended}
@@ -19,7 +19,7 @@ pub data Act : Type 0 where
   comes : (place : Place) (octets : List ℕ) → Act
   calls : Call → Act
 
--- a part comes behind a GT that names no token
+-- a part arrives after a GT that names no token
 abbrev pub part_comes : Place → List ℕ → Input
 part_comes place octets = taken (says (GT no_token) ∷ part place octets ∷ [])
 
@@ -31,14 +31,13 @@ abbrev pub act_in_octets : Act → Input
 act_in_octets (comes place octets) = came (part_octets place octets)
 act_in_octets (calls c) = called c
 
--- the calls alone
+-- only the calls
 abbrev pub calls_in : List Act → List Input
 calls_in [] = []
 calls_in (comes place octets ∷ acts) = calls_in acts
 calls_in (calls c ∷ acts) = called c ∷ calls_in acts
 
--- Parts up to the last, which is still to come, with these octets; and calls, wherever they come. What has
--- begun is joined from before.
+-- Parts up to the last, which is still to come, with these octets; and calls in any places. `begun` was joined before.
 abbrev pub AreParts : Option (List ℕ) → List Act → List ℕ → Type 0
 AreParts begun [] octets = begun ≡ Some octets
 AreParts begun (calls c ∷ acts) octets = AreParts begun acts octets
@@ -53,15 +52,14 @@ pub record IsSilent (move : Move) : Type 0 where
   pub reply : move.reply ≡ None
   pub closes : move.closes ≡ false
 
--- two moves show and send the same, and end alike
+-- two moves indicate and send the same, and lead to the same state
 pub record AreAlike (a b : Move) : Type 0 where
   pub shown : a.shown ≡ b.shown
   pub reply : a.reply ≡ b.reply
   pub closes : a.closes ≡ b.closes
   pub error : a.error ≡ b.error
 
--- Each part does nothing that is seen, and each call makes the move that it makes where no part came, with
--- the same sending size.
+-- Each part has no visible effect, and each call makes the same move as without the parts, with the same size limit.
 abbrev pub AreSilent : Listener → Listener → List Act → Type 0
 AreSilent l m [] = Unit {0}
 AreSilent l m (comes place o ∷ acts) = IsSilent (react l (came (part_octets place o))) × AreSilent (after_input l (came (part_octets place o))) m acts
@@ -74,8 +72,8 @@ pub record IsOfProfile (u : FunctionalUnits) : Type 0 where
   pub duplex : u.duplex ≡ not u.half_duplex
   pub alone : u.duplex ≡ true → (u.minor ≡ false) × (u.major ≡ false) × (u.resynchronize ≡ false) × (u.negotiated_release ≡ false)
 
--- Those that a caller asks for and those that are agreed on are such. A CN may name others, and where a
--- session is over none are looked at.
+-- Those that a caller requests and those that are agreed are such a set. A CN may name others, and once a session is
+-- over none are considered.
 abbrev pub has_profile : Phase → Bool
 has_profile WaitCn = false
 has_profile Answering = false

@@ -55,7 +55,7 @@ abbrev pub is_ended : Phase → Bool
 is_ended Ended = true
 is_ended _ = false
 
--- the connection is aborted, or gone
+-- the connection is aborted or gone
 abbrev pub is_over : Phase → Bool
 is_over Aborting = true
 is_over Ended = true
@@ -75,7 +75,7 @@ in_major MajorAsked = true
 in_major MajorDue = true
 in_major _ = false
 
--- tokens are held in these alone
+-- tokens are held only in these
 abbrev pub may_hold : Phase → Bool
 may_hold Ready = true
 may_hold MajorAsked = true
@@ -123,7 +123,7 @@ takes_data Ready = true
 takes_data Releasing = true
 takes_data _ = false
 
--- tokens are taken where they may be asked for
+-- tokens are taken in the phases in which they may be requested
 abbrev pub takes_give : Phase → Bool
 takes_give p = may_ask p
 
@@ -149,7 +149,7 @@ takes_restart ReleaseDue = true
 takes_restart Restarting = true
 takes_restart _ = false
 
--- the user is shown that the transport connection is lost
+-- the user is told if the transport connection is lost
 abbrev pub shows_loss : Phase → Bool
 shows_loss WaitCn = false
 shows_loss Aborting = false

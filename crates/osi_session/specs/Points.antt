@@ -1,4 +1,4 @@
--- Minor points and their confirmations: calls and units that change the numbers alone.
+-- Minor points and their confirmations: calls and units that change only the numbers.
 use Rattle.std.specs.Prelude.{◌≡◌, ◌==◌, ◌&&◌, ℕ, Bool, true, List, [], ◌∷◌, None}
 use Rattle.osi_message.specs.Parting.{tsdus_sent}
 use Rattle.osi_session.specs.declared.numbers.Numbers.{Numbers}
@@ -17,13 +17,13 @@ use Rattle.osi_session.specs.Sizes.{limit_of}
 abbrev pub in_numbers : Listener → Numbers → Listener
 in_numbers l n = record l { state = record l.state { numbers = n } }
 
--- one thing is shown, and nothing is sent: what is left is this
+-- one indication, and nothing is sent; this is the state afterwards
 abbrev pub only_shows : Listener → Shown → Move
 only_shows next shown = record (rests next) { shown = shown ∷ [] }
 
 -- ---- a point that is planned, and then sent
 
--- the call for it with this user data, which asks for a point's confirmation or not
+-- the call for it with this user data, with or without asking for the point's confirmation
 abbrev pub call_for : SentPoint → Bool → List ℕ → Call
 call_for (point.Minor number) confirm octets = Minor confirm octets
 call_for (point.Confirmation number) confirm octets = MinorConfirm number.number octets
@@ -37,7 +37,7 @@ abbrev pub all_hold : List Test → Bool
 all_hold [] = true
 all_hold (t ∷ ts) = t.0 && all_hold ts
 
--- the phase allows the call for it, its number is the one, and what the call needs is there, whatever its user data
+-- the phase allows the call for it, its number is right, and the call has what it needs, whatever its user data
 abbrev pub may_advance : State → SentPoint → Bool
 may_advance s p = may_call s.phase (call_for p true []) && (has_next s p && all_hold (needs s (call_for p true [])))
 

@@ -1,5 +1,5 @@
--- The table of units: what the user is shown, what is sent, whether the transport connection is
--- closed, and the new state; then the units of a TSDU, one after the other.
+-- The table of units: the indications, the answer, whether the transport connection is closed, and the new state; then
+-- the units of a TSDU, one after the other.
 use Rattle.std.specs.Prelude.{◌≡◌, ℕ, ◌+◌, Bool, true, false, not, ◌&&◌, ◌||◌, if◌then◌else◌, ◌==◌, nat_le, nat_lt, List, [], ◌∷◌, ◌++◌, Option, Some, None, unwrap_or, is_none}
 use Rattle.std.specs.List.{list_any}
 use Rattle.osi_spdu.specs.declared.kinds.Kind.{Kind}
@@ -95,7 +95,7 @@ is_expected p (NF o) = is_releasing p
 is_expected p (AB b o) = true
 is_expected p AA = false
 
--- a condition of a unit, and the fault where it fails
+-- a condition of a unit, and the fault if it fails
 abbrev pub Condition : Type 0
 Condition = Bool × (ℕ → UnitFault)
 
@@ -142,7 +142,7 @@ abbrev pub first_fault : ℕ → List Condition → Option UnitFault
 first_fault n [] = None
 first_fault n (c ∷ cs) = if c.0 then first_fault n cs else Some (c.1 n)
 
--- the lower number stands, and of equal numbers the caller's
+-- the lower number wins, and of equal numbers the caller's
 unfoldable pub stands : State → ℕ → Bool
 stands s n = not (is_restarting s.phase)
     || (nat_lt n s.numbers.next || ((n == s.numbers.next) && not s.is_caller))
@@ -151,7 +151,7 @@ stands s n = not (is_restarting s.phase)
 abbrev pub is_acceptable : Bool → ℕ → TsduMaximumSize → Bool
 is_acceptable version_2 requirements sizes = version_2 && (has_data (functional_units requirements) && are_sizes sizes)
 
--- the first number: the AC's, or the CN's where the AC names none
+-- the first number: the AC's, or the CN's if the AC names none
 abbrev pub agreed_base : FunctionalUnits → Option ℕ → ℕ → ℕ
 agreed_base units serial proposed = base_for units (unwrap_or serial proposed)
 
@@ -182,7 +182,7 @@ becomes s (NF octets) = record s { phase = Ready }
 becomes s (AB bits octets) = without_tokens Ended s
 becomes s AA = s
 
--- what a good unit shows; before a CN was taken there is no user to be shown anything
+-- the indications of a good unit; before a CN was taken there is no user to receive any
 abbrev pub shown_for : State → Meaning → List Shown
 shown_for s (CN version_2 requirements serial wishes from to sizes octets) =
     if is_acceptable version_2 requirements sizes then Connect requirements serial wishes sizes octets ∷ [] else []
@@ -205,7 +205,7 @@ shown_for s (AB bits octets) =
     if is_wait_cn s.phase then [] else (if names bits 2 then Aborted octets else PeerAbort bits) ∷ []
 shown_for s AA = []
 
--- what a good unit is answered by: a CN that cannot be accepted by RF, AB by AA
+-- the answer to a good unit: RF to a CN that can't be accepted, AA to AB
 abbrev pub reply_for : Meaning → Option Meaning
 reply_for (CN version_2 requirements serial wishes from to sizes octets) =
     if not version_2 then Some (RF 132 [])
@@ -221,7 +221,7 @@ closes_for _ = false
 abbrev pub good : State → Meaning → Outcome
 good s u = record { next = becomes s u; shown = shown_for s u; reply = reply_for u; closes = closes_for u }
 
--- a bad unit: AB is sent, for a protocol error, and the transport connection is released
+-- a bad unit: AB is sent for a protocol error, and the transport connection is released
 abbrev pub bad : State → UnitFault → Outcome
 bad s fault = record {
   next = without_tokens Aborting s;
@@ -234,14 +234,14 @@ abbrev pub judged : State → Meaning → Option UnitFault → Outcome
 judged s u None = good s u
 judged s u (Some fault) = bad s fault
 
--- RS, RA and AB: an end that has asked for a restart discards all else
+-- RS, RA and AB: an end that has requested a restart discards all other units
 abbrev pub passes_restarting : Meaning → Bool
 passes_restarting (RS kind n wishes octets) = true
 passes_restarting (RA n sides octets) = true
 passes_restarting (AB bits octets) = true
 passes_restarting _ = false
 
--- what is discarded: a token item that names no token, and while a restart is awaited all but these three
+-- what is discarded: a token item that names no token, and while a restart is awaited all units but these three
 abbrev pub drops : State → Meaning → Bool
 drops s u = has_no_effect u || (is_restarting s.phase && not (passes_restarting u))
 
@@ -258,7 +258,7 @@ in_ended s _ = nothing s
 unfoldable pub take_expected : State → Meaning → Outcome
 take_expected s u = judged s u (first_fault (si u) (conditions s u))
 
--- a unit that comes while the connection lives, and that is not discarded
+-- a unit that arrives while the connection lives, and is not discarded
 abbrev pub in_phase : State → Meaning → Outcome
 in_phase s u = if not (is_expected s.phase u) then bad s (Unexpected (si u)) else take_expected s u
 
@@ -280,7 +280,7 @@ abbrev pub is_resynchronize : Meaning → Bool
 is_resynchronize (RS kind n wishes octets) = true
 is_resynchronize _ = false
 
--- a bad unit is the one that is answered by AB
+-- a unit is bad exactly if it is answered with AB
 abbrev pub replies_abort : Option Meaning → Bool
 replies_abort (Some (AB bits octets)) = true
 replies_abort _ = false
@@ -295,7 +295,7 @@ abbrev pub first_reply : Option Meaning → Option Meaning → Option Meaning
 first_reply None b = b
 first_reply (Some a) b = Some a
 
--- one outcome, and the one of what acts after it
+-- the result of one outcome followed by another
 abbrev pub and_then : Outcome → Outcome → Outcome
 and_then first second = record {
   next = second.next;
@@ -304,7 +304,7 @@ and_then first second = record {
   closes = first.closes || second.closes;
 }
 
--- what becomes of a unit: the connection is over; it is discarded; it is bad, by its first fault; it is good
+-- the verdict on a unit: the connection is over; it is discarded; it is bad, by its first fault; it is good
 pub data Verdict : Type 0 where
   over : Verdict
   dropped : Verdict
@@ -348,15 +348,15 @@ pub record IsGood (s : State) (u : Meaning) : Type 0 where
   pub expected : is_expected s.phase u ≡ true
   pub met : AllMet (conditions s u)
 
--- units, one after the other; the first that is bad is the last that acts
+-- units one after the other; the first bad one is the last that takes effect
 unfoldable pub respond_all : State → List Meaning → Outcome
 respond_all s [] = nothing s
 respond_all s (u ∷ us) =
     if is_faulty (verdict s u) then respond_unit s u
     else and_then (respond_unit s u) (respond_all (respond_unit s u).next us)
 
--- the units of a TSDU in the order in which they act: the first, a token item or a unit by itself, acts
--- after those behind it, and where one of these is an RS it does not act
+-- the units of a TSDU in the order in which they take effect: the first, a token item or a unit by itself, takes effect
+-- after those that follow it, and has no effect if one of them is an RS
 unfoldable pub acting : Said → List Meaning
 acting [] = []
 acting (first ∷ units) = if list_any is_resynchronize units then units else units ++ first ∷ []
@@ -365,15 +365,15 @@ acting (first ∷ units) = if list_any is_resynchronize units then units else un
 abbrev pub respond : State → Said → Outcome
 respond s said = respond_all s (acting said)
 
--- a TSDU that is no session units
+-- a TSDU that is not session units
 unfoldable pub respond_fault : State → SpduFault → Outcome
 respond_fault s fault = if is_over s.phase then nothing s else bad s (Spelling fault)
 
--- the transport connection was closed or broken, or had a fault; before a CN was taken there is no
--- user to be shown it, and after an abort he was shown enough
+-- the transport connection was closed or broken, or had a fault; before a CN was taken there is no user to be told, and
+-- after an abort he has been told enough
 abbrev pub lost : State → Outcome
 lost s = record (nothing (without_tokens Ended s)) { shown = if shows_loss s.phase then Lost ∷ [] else [] }
 
--- nothing is shown and nothing sent
+-- nothing is indicated and nothing sent
 abbrev pub is_silent : Outcome → Bool
 is_silent o = is_nil o.shown && is_none o.reply

@@ -1,4 +1,4 @@
--- Two sides of a connection that have each asked for a restart, before either has taken the other's.
+-- Two sides of a connection that have each requested a restart, before either has taken the other's.
 use Rattle.std.specs.Prelude.{◌≡◌, ◌≤◌, ℕ, true, false, List}
 use Rattle.osi_spdu.specs.declared.fields.ResyncType.TheVariants.{Restart}
 use Rattle.osi_spdu.specs.declared.settings.TokenSetting.{TokenSetting}
@@ -9,7 +9,7 @@ use Rattle.osi_message.specs.Meanings.{GT, RS}
 use Rattle.osi_message.specs.Reading.{behind}
 use Rattle.osi_session.specs.Respond.{respond}
 
--- a side that has asked for a restart; the number that it asked for is its V(M)
+-- a side that has requested a restart; its V(M) is the requested number
 pub record HasAsked (s : State) : Type 0 where
   pub phase : is_restarting s.phase ≡ true
   pub selected : s.units.resynchronize ≡ true

@@ -1,4 +1,4 @@
--- What a run of a session begins with, and the numbers in what happens to it.
+-- The state with which a run of a session begins, and the numbers in its inputs.
 use Rattle.std.specs.Prelude.{◌≡◌, ◌<◌, true, ◌||◌}
 use Rattle.osi_spdu.specs.Sizes.{are_sizes}
 use Rattle.osi_session.specs.declared.state.State.{State}

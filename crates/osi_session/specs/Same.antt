@@ -1,4 +1,4 @@
--- Whether two states are one.
+-- Comparing two states.
 use Rattle.std.specs.Prelude.{ℕ, ◌==◌, Bool, true, false, not, ◌&&◌}
 use Rattle.osi_spdu.specs.declared.settings.Wish.{Wish}
 use Rattle.osi_spdu.specs.declared.settings.Wish.TheVariants.{Asker, Answerer, Choice}
@@ -21,7 +21,7 @@ same_wish Answerer Answerer = true
 same_wish Choice Choice = true
 same_wish _ _ = false
 
--- the place of a phase among all
+-- the place of a phase in the order of all phases
 abbrev pub place_of : Phase → ℕ
 place_of WaitTransport = 0
 place_of WaitCn = 1

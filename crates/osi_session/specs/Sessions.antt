@@ -1,4 +1,4 @@
--- What a session begins with, and what its calls answer.
+-- The state with which a session begins, and the results of its calls.
 use Rattle.osi_spdu.specs.Fields.{unit_bits}
 use Rattle.osi_spdu.specs.Sizes.{named_by, no_sizes}
 use Rattle.std.specs.Prelude.{◌≡◌, ℕ, Bool, true, false, not, List, [], ◌∷◌, ◌++◌, length, map, Option, Some, None, option_map, Result, Ok, Err, IfOk, OnOk, OnErr, if◌then◌else◌, nat_le, nat_lt, is_none, ◌&&◌, ◌||◌}
@@ -41,18 +41,18 @@ abbrev pub RefusedBy : Bool → CallError → Option CallError → Type 0
 RefusedBy true e error = error ≡ None
 RefusedBy false e error = error ≡ Some e
 
--- an error of the table, or want of memory where the table has none
+-- an error of the table, or an allocation failure if the table has none
 abbrev pub Refused : CallError → Option CallError → Type 0
 Refused e error = RefusedBy (is_memory e) e error
 
--- where a unit is sent, it can be
+-- if a unit is sent, it can be
 abbrev pub CanBeSent : Option Meaning → Type 0
 CanBeSent None = Unit {0}
 CanBeSent (Some m) = IsSendable m
 
 -- ---- a plan
 
--- the state in which a call is planned, the state after it, and the octets of the TSDUs that it sends
+-- the state in which a call is planned, the state after it, and the octets of the TSDUs to send
 pub record Planned : Type 0 where
   pub was : State
   pub next : State
@@ -64,7 +64,7 @@ IsPlanOf c plan = (m : Meaning) × (allowed plan.was c ≡ Ok (record { next = p
 
 -- ---- what a session begins with
 
--- the calling end, before the transport connection is there
+-- the calling end, before the transport connection is open
 abbrev pub asking : Opening → State
 asking o = record {
   phase = WaitTransport;
@@ -78,7 +78,7 @@ asking o = record {
   sizes = named_by o.sizes;
 }
 
--- the error of an opening: functional units that cannot be selected together, or long user data
+-- the error of an opening: functional units that can't be selected together, or user data that is too long
 abbrev pub refusal_of : Opening → Option CallError
 refusal_of o =
     if not (is_profile (unit_bits o.requirements)) then Some error.NotSelected
@@ -116,27 +116,27 @@ abbrev pub lone_of : Result Units SpduFault → Option Meaning
 lone_of (Ok units) = lone (said_by_units units)
 lone_of (Err fault) = None
 
--- the unit that one TSDU is, where it is one unit alone
+-- the unit of a TSDU, if it is a single unit
 unfoldable pub unit_in : List (List ℕ) → Option Meaning
 unit_in (octets ∷ []) = lone_of (tsdu_at octets)
 unit_in _ = None
 
 -- ---- a TSDU that is taken
 
--- what the user is shown, in order
+-- the indications, in order
 abbrev pub shown_in : Taken → List Shown
 shown_in t = shown_list t.first ++ map shown_by t.more.items
 
--- nothing is shown and nothing sent
+-- nothing is indicated and nothing sent
 abbrev pub is_quiet : Move → Bool
 is_quiet m = is_nil m.shown && is_none m.reply
 
--- something is shown or sent, or more octets are joined than before
+-- something is indicated or sent, or more octets are joined than before
 abbrev pub takes_memory : Listener → Move → Bool
 takes_memory old m = not (is_quiet m) || nat_lt (length (joined_octets old.joined)) (length (joined_octets m.next.joined))
 
--- A TSDU that is taken makes this move; want of memory changes nothing, and comes only where something
--- is shown, sent or joined.
+-- A TSDU that is taken makes this move; an allocation failure changes nothing, and is possible only if something is
+-- indicated, sent or joined.
 pub record Takes {E : Type 0} (result : Result Taken E) (move : Move) (old new : Listener) : Type 0 where
   pub state : OnOk result (new ≡ move.next)
   pub shown : IfOk result (λ t. shown_in t ≡ move.shown)

@@ -1,4 +1,4 @@
--- What the user is shown; tokens by their octet.
+-- The indications of a user; tokens by their octet.
 use Rattle.osi_spdu.specs.Fields.{bits_of, unit_bits}
 use Rattle.std.specs.Prelude.{ℕ, Bool, true, false, List, [], ◌∷◌, Option}
 use Rattle.osi_spdu.specs.declared.settings.TokenSetting.{TokenSetting}
@@ -58,12 +58,12 @@ shown_by (indication.ReleaseRefused octets) = ReleaseRefused octets
 shown_by (indication.Aborted octets) = Aborted octets
 shown_by (indication.ProviderAbort cause) = abort_shown cause
 
--- the user is shown that a connection is asked for
+-- the user is told that a connection is requested
 abbrev pub is_connect : Shown → Bool
 is_connect (Connect requirements serial wishes sizes octets) = true
 is_connect _ = false
 
--- and this first
+-- and this is the first indication
 abbrev pub shows_connect : List Shown → Bool
 shows_connect [] = false
 shows_connect (shown ∷ more) = is_connect shown

@@ -1,4 +1,4 @@
--- The side that each token is wished for, stated for, and given to.
+-- The side that is wished for, stated for and given each token.
 use Rattle.std.specs.Prelude.{Bool, true, false, not, ◌&&◌, if◌then◌else◌}
 use Rattle.osi_spdu.specs.declared.settings.TokenSetting.{TokenSetting}
 use Rattle.osi_spdu.specs.declared.settings.Wish.{Wish}
@@ -30,13 +30,13 @@ sides_by f = record { data_token = f data_token; minor = f minor; major = f majo
 abbrev pub setting_by : (Token → Wish) → TokenSetting
 setting_by f = record { data_token = f data_token; minor = f minor; major = f major; release = f release }
 
--- the side that was asked for, and for a choice the one that the answer gives
+-- the requested side, or for a choice the one that the answer gives
 abbrev pub chosen : Wish → Side → Side
 chosen Asker answer = side.Asker
 chosen Answerer answer = side.Answerer
 chosen Choice answer = answer
 
--- a token that is not available is settled as the asker's, which is written 0
+-- a token that is not available is settled as the asker's, which is written as 0
 abbrev pub settled : Bool → Wish → Side → Side
 settled is_available wish answer = if is_available then chosen wish answer else side.Asker
 
@@ -72,7 +72,7 @@ allows is_available wish answer = if is_available then is_allowed wish answer el
 unfoldable pub answers_wishes : FunctionalUnits → TokenSetting → TokenSetting → Bool
 answers_wishes u wishes answer = each (λ t. allows (has (available u) t) (wish_for wishes t) (wish_for answer t))
 
--- a wish for a token that is not available is written 0
+-- a wish for a token that is not available is written as 0
 abbrev pub offered_wish : Bool → Wish → Wish
 offered_wish is_available wish = if is_available then wish else Asker
 

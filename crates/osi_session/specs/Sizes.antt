@@ -1,4 +1,4 @@
--- TSDU maximum sizes, in octets, 0 for no limit: what a CN and an AC agree on, and what it bounds.
+-- TSDU maximum sizes, in octets, 0 for no limit: what a CN and an AC agree, and what it limits.
 use Rattle.std.specs.Prelude.{ℕ, Bool, true, false, ◌||◌, if◌then◌else◌, ◌==◌, nat_le, length}
 use Rattle.osi_spdu.specs.declared.fields.TsduMaximumSize.{TsduMaximumSize}
 use Rattle.osi_message.specs.Meanings.{Meaning}
@@ -8,11 +8,11 @@ use Rattle.osi_session.specs.Calls.{Call, Accept, Refuse, Data}
 use Rattle.osi_session.specs.Numbers.{lower}
 use Rattle.osi_session.specs.Phases.{is_settled}
 
--- the smaller of two sizes, where 0 is no limit
+-- the smaller of two sizes; 0 is no limit
 abbrev pub smaller : ℕ → ℕ → ℕ
 smaller a b = if a == 0 then b else if b == 0 then a else lower a b
 
--- what an AC names, for the CN's size and the answerer's: 0 where the CN has 0
+-- what an AC names, for the CN's size and the answerer's: 0 if the CN has 0
 abbrev pub answered : ℕ → ℕ → ℕ
 answered a b = if a == 0 then 0 else smaller a b
 
@@ -23,7 +23,7 @@ smaller_sizes a b = record { from_asker = smaller a.from_asker b.from_asker; fro
 unfoldable pub answered_sizes : TsduMaximumSize → TsduMaximumSize → TsduMaximumSize
 answered_sizes a b = record { from_asker = answered a.from_asker b.from_asker; from_answerer = answered a.from_answerer b.from_answerer }
 
--- what this side's TSDUs have at most, once the CN is answered; 0 for no limit
+-- the most octets of this side's TSDUs, once the CN is answered; 0 for no limit
 abbrev pub limit_of : State → ℕ
 limit_of s = if is_settled s.phase then (if s.is_caller then s.sizes.from_asker else s.sizes.from_answerer) else 0
 

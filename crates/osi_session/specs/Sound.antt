@@ -1,4 +1,4 @@
--- What is true of a session at all times.
+-- The invariant of a session.
 use Rattle.std.specs.Prelude.{◌≡◌, ◌≤◌, ◌<◌, ℕ, true, false}
 use Rattle.osi_spdu.specs.Sizes.{are_sizes}
 use Rattle.osi_session.specs.declared.state.State.{State}
@@ -19,9 +19,9 @@ pub record IsSound (s : State) : Type 0 where
   pub first : s.proposed < 1000000
   -- a major point that is outstanding has a number
   pub major : in_major s.phase ≡ true → s.base < s.numbers.next
-  -- a restart that is to be answered has one
+  -- a restart that is to be answered has a number
   pub restart : is_restart_due s.phase ≡ true → s.numbers.next < 1000000
-  -- tokens are held in few phases
+  -- tokens are held only in few phases
   pub tokens : may_hold s.phase ≡ false → s.held ≡ no_token
   -- each size is one that a user may give
   pub sizes : are_sizes s.sizes ≡ true

@@ -1,4 +1,4 @@
--- The views of what calls and units give in memory, by which the tables say it.
+-- The results of calls and units in memory, as the tables have them.
 use Rattle.std.specs.Prelude.{◌≡◌, ℕ, Bool, true, false, not, ◌&&◌, ◌||◌, nat_lt, is_none, List, [], ◌∷◌, ◌++◌, length, Option, Some, None, map, option_map, Result, Ok, Err}
 use Rattle.osi_session.specs.declared.faults.CallError.{CallError}
 use Rattle.osi_session.specs.declared.calling.Step as memory
@@ -30,12 +30,12 @@ abbrev pub Answers : Result memory.Step CallError → Answer → Type 0
 Answers (Ok s) answer = answer ≡ Ok (step_of s)
 Answers (Err e) answer = answer ≡ Err e
 
--- what tests of a call find: that each holds, or the error of the first that fails
+-- the result of the tests of a call: each holds, or the error of the first that fails
 abbrev pub Finds : {A : Type 0} → Result A CallError → List Test → Type 0
 Finds (Ok x) tests = (a : Answer) → first_error tests a ≡ a
 Finds (Err e) tests = (a : Answer) → first_error tests a ≡ Err e
 
--- what is sent in answer to a unit
+-- the answer to a unit
 abbrev pub reply_of : Reply → Meaning
 reply_of replies.VersionNotSupported = RF 132 []
 reply_of replies.ImplementationRestriction = RF 134 []
@@ -49,7 +49,7 @@ shown_list (Some i) = shown_by i ∷ []
 abbrev pub outcome_of : Reaction → Outcome
 outcome_of r = record { next = r.next; shown = shown_list r.shown; reply = option_map reply_of r.reply; closes = r.closes }
 
--- The outcome of the table. Memory is wanted only where something is shown or sent.
+-- The outcome of the table. Memory is needed only if something is indicated or sent.
 abbrev pub Reacts : {E : Type 0} → Result Reaction E → Outcome → Type 0
 Reacts (Ok r) outcome = outcome ≡ outcome_of r
 Reacts (Err e) outcome = is_silent outcome ≡ false
@@ -72,14 +72,14 @@ abbrev pub word_by : memory_word.Word → Word
 word_by (word.Says message) = says (meant_by message)
 word_by (word.Part place octets) = part place octets.now
 
--- what is to be done with a part
+-- the verdict on a part
 abbrev pub told_of : Verdict → PartVerdict
 told_of over = part_is.Dropped
 told_of dropped = part_is.Dropped
 told_of (faulty fault) = part_is.Bad fault
 told_of fine = part_is.Good
 
--- what is joined after, of what was before
+-- the joined octets afterwards, from those before
 abbrev pub joined_after : Joined → Option (List ℕ) → Option (List ℕ)
 joined_after leaves.Kept joined = joined
 joined_after leaves.Dropped joined = None
@@ -96,11 +96,11 @@ hearing_of joined after o = record {
 abbrev pub hearing_of_all : Option (List ℕ) → Reactions → Hearing
 hearing_of_all joined r = hearing_of joined r.joined (outcome_of_all r)
 
--- Something is shown or sent, or more octets are joined than before.
+-- Something is indicated or sent, or more octets are joined than before.
 abbrev pub takes_room : Option (List ℕ) → Hearing → Bool
 takes_room joined h = not (is_nil h.shown && is_none h.reply) || nat_lt (length (joined_octets joined)) (length (joined_octets h.next.joined))
 
--- The hearing of the table. Memory is wanted only where something is shown, sent or joined.
+-- The hearing of the table. Memory is needed only if something is indicated, sent or joined.
 abbrev pub Hears : {E : Type 0} → Option (List ℕ) → Result Heard E → Hearing → Type 0
 Hears joined (Ok h) hearing = hearing ≡ hearing_of joined h.joined (outcome_of h.reaction)
 Hears joined (Err e) hearing = takes_room joined hearing ≡ true

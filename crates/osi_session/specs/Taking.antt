@@ -1,4 +1,4 @@
--- What a side that takes a TSDU comes to, as a count.
+-- The state of a side after it took a TSDU, as a count.
 use Rattle.std.specs.Prelude.{option_map}
 use Rattle.osi_session.specs.declared.standing.Taking.{Taking}
 use Rattle.osi_session.specs.Standing.{Count}

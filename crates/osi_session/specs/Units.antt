@@ -45,10 +45,10 @@ has_data u = u.half_duplex || u.duplex
 unfoldable pub has_points : FunctionalUnits → Bool
 has_points u = u.minor || (u.major || u.resynchronize)
 
--- half-duplex with any of minor, major, resynchronize and negotiated release (00B9), or duplex alone
+-- half-duplex with any of minor, major, resynchronize and negotiated release (00B9), or only duplex
 unfoldable pub is_profile : ℕ → Bool
 is_profile bits = (bits == 2) || ((bit_and bits 185 == bits) && names bits 1)
 
--- a token is available where its unit is selected
+-- a token is available if its unit is selected
 unfoldable pub available : FunctionalUnits → Tokens
 available u = record { data_token = u.half_duplex; minor = u.minor; major = u.major; release = u.negotiated_release }

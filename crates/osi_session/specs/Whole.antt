@@ -1,4 +1,4 @@
--- Whole messages as words, and a session that joins nothing: what it is over words, and what it does.
+-- Whole messages as words, and a session that joins nothing: its state over words, and its effects.
 use Rattle.std.specs.Prelude.{ℕ, Bool, true, false, List, map, Option, None}
 use Rattle.osi_message.specs.Words.{says}
 use Rattle.osi_session.specs.Joining.{kept_in}
@@ -21,12 +21,12 @@ in_words whole.opened = opened
 in_words (whole.refused reason) = refused reason
 in_words whole.broken = broken
 
--- all but the messages of a TSDU
+-- all inputs except the messages of a TSDU
 abbrev pub is_apart : whole.Input → Bool
 is_apart (whole.taken said) = false
 is_apart _ = true
 
--- the move of a session that has joined this, where its phase keeps it
+-- the move of a session that has joined this, if its phase keeps it
 abbrev pub joins : Option (List ℕ) → whole.Move → Move
 joins joined m = record {
   next = record { state = m.next.state; waiting = m.next.waiting; joined = kept_in m.next.state.phase joined };

@@ -1,29 +1,29 @@
-//! Why a side may not say what it said.
+//! Why a side may not send what it sent.
 
 use crate::faults::CallError;
 use thiserror::Error;
 
-/// Why no side that keeps the protocol says a unit where it stands (X.225 section 7).
+/// Why no side that keeps the protocol sends a unit in this place (X.225 section 7).
 #[derive(Clone, Copy, PartialEq, Eq, Debug, Error)]
 pub enum Breach {
     /// The call that would send it is refused.
     #[error("{0}")]
     Call(CallError),
-    /// A side of a token is not one that was asked for.
+    /// The side of a token is not one that the wish allows.
     #[error("bad tokens")]
     BadTokens,
-    /// A unit that begins anew within an unfinished SSDU, or a later part without one, or a part where
-    /// no size is agreed.
+    /// A unit that may not occur within an unfinished SSDU, a later part without a first one, or a part although no
+    /// size is agreed.
     #[error("bad enclosure")]
     BadEnclosure,
-    /// AB for a protocol error, where no unit was bad.
+    /// AB for a protocol error, although no unit was bad.
     #[error("no fault to abort for")]
     NoFault,
-    /// AA, where no AB was taken.
+    /// AA, although no AB was taken.
     #[error("nothing to answer")]
     NothingToAnswer,
-    /// What X.225 allows and a session here leaves out: a size from 1 to 63, version 1, and a
-    /// resynchronization that is no restart.
+    /// Something that X.225 allows and a session here leaves out: a size from 1 to 63, version 1, and a
+    /// resynchronization other than a restart.
     #[error("outside of the profile")]
     Outside,
 }

@@ -1,4 +1,4 @@
-//! What the units of a TSDU leave, with the octets of an unfinished SSDU counted in place of kept.
+//! The effect of the units of a TSDU, with the octets of an unfinished SSDU counted instead of kept.
 
 ghost use Rattle.std.specs.Prelude.{◌≡◌, ◌+◌, ◌++◌, ◌≤◌, ℕ, List, [], Option, Some, IfOk, OnOk, IfSome, OnSome, IfNone, option_map, option_copied, is_some, unwrap_or, length, None, ◌<◌, if◌then◌else◌};
 ghost use Rattle.osi_message.specs.Reading.{said_by_units, said_at};
@@ -24,18 +24,18 @@ use osi_message::{Message, Octets, Place};
 use osi_spdu::{Group, Kind, read_tsdu};
 use std::alloc::{AllocError, Global};
 
-/// What the units of a TSDU leave and answer.
+/// The state and the answer after the units of a TSDU.
 #[derive(Clone, Copy)]
 pub(crate) struct Counting {
     pub(crate) next: State,
-    /// How many octets are joined of an unfinished SSDU.
+    /// How many octets of an unfinished SSDU are joined.
     pub(crate) joined: Option<usize>,
     pub(crate) reply: Option<Reply>,
     pub(crate) closes: bool,
 }
 
 impl Counting {
-    /// What a reaction leaves, where so many octets are joined before its phase is looked at.
+    /// The result of a reaction, if this many octets are joined before its phase is considered.
     fn of(reaction: Reaction, joined: Option<usize>) -> Counting
         ensures { count_of result ≡ count_by joined (outcome_of reaction) }
     {
@@ -52,7 +52,7 @@ impl Counting {
     }
 }
 
-/// What stands for the octets that are joined, where it matters alone whether some are.
+/// A stand-in for the joined octets, where only their presence matters.
 fn placeholder(alloc: Global, joined: Option<usize>) -> Option<Octets>
     ensures { result ≡ no_octets joined }
 {
@@ -62,7 +62,7 @@ fn placeholder(alloc: Global, joined: Option<usize>) -> Option<Octets>
     }
 }
 
-/// What a message leaves.
+/// The effect of a message.
 fn count_message(
     alloc: Global,
     state: &State,
@@ -76,7 +76,7 @@ fn count_message(
     Ok(Counting::of(reaction, joined))
 }
 
-/// How many octets are joined behind a part, if they are no more than one Data may have.
+/// How many octets are joined after a part, if a Data may have so many.
 pub(crate) fn total(joined: Option<usize>, octets: usize) -> Option<usize>
     ensures some { IfSome result (λ n. n ≡ unwrap_or joined 0 + octets) }
     ensures few { OnSome result (unwrap_or joined 0 + octets ≤ most_data) }
@@ -89,7 +89,7 @@ pub(crate) fn total(joined: Option<usize>, octets: usize) -> Option<usize>
     Some(begun + octets)
 }
 
-/// What a good part leaves joined: nothing behind the last.
+/// What is joined after a good part: nothing after the last one.
 pub(crate) fn behind_part(place: Place, total: usize) -> Option<usize>
     ensures { result ≡ (if is_last place then None else Some total) }
 {
@@ -99,7 +99,7 @@ pub(crate) fn behind_part(place: Place, total: usize) -> Option<usize>
     }
 }
 
-/// What a part leaves.
+/// The effect of a part.
 fn count_part(
     alloc: Global,
     state: &State,
@@ -123,7 +123,7 @@ fn count_part(
     }
 }
 
-/// What a word leaves.
+/// The effect of a word.
 fn count_word(
     alloc: Global,
     state: &State,
@@ -146,7 +146,7 @@ impl Counting {
         matches!(self.reply, Some(Reply::ProtocolError))
     }
 
-    /// Nothing is done yet.
+    /// Nothing has happened yet.
     fn none(state: &State, joined: Option<usize>) -> Counting
         ensures { count_of result ≡ count_by_idle state.now joined }
     {
@@ -158,7 +158,7 @@ impl Counting {
         }
     }
 
-    /// What one word leaves, behind what was left so far; and whether the word is bad.
+    /// The effect of one more word, and whether the word is bad.
     fn then(&mut self, alloc: Global, word: Word<'_>) -> Result<bool, AllocError>
         ensures bad { IfOk result (λ b. (h : Hearing) → counted h ≡ count_of self.old → b ≡ is_faulty (word_verdict h.next (word_by word.entry))) }
         ensures left { OnOk result ((h : Hearing) → counted h ≡ count_of self.old → counted (heard_then h (respond_word h.next (word_by word.entry))) ≡ count_of self.new) }
@@ -175,8 +175,8 @@ impl Counting {
     }
 }
 
-/// What the units of a TSDU leave, one after the other: the first unit acts after those behind it, and
-/// does not act where one of these is an RS. A bad unit is the last that acts.
+/// The effect of the units of a TSDU, one after the other. The first unit takes effect after those that follow it, and
+/// has no effect if one of them is an RS. A bad unit is the last that takes effect.
 fn count_all(
     alloc: Global,
     state: &State,
@@ -204,7 +204,7 @@ fn count_all(
     Ok(counting)
 }
 
-/// What the octets of a TSDU leave.
+/// The effect of the octets of a TSDU.
 #[tactic(auto, unfolding(osi_message::specs::Reading::said_at))]
 pub(crate) fn count_tsdu(
     alloc: Global,

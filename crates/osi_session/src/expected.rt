@@ -1,5 +1,5 @@
-//! What a session makes of a TSDU that is tried as one that it expects; and minor points and confirmations
-//! that are expected: they change the numbers alone, so that no whole state is made.
+//! The fast path of a session: a TSDU that it expects; and minor points and confirmations that it expects, which change
+//! only the numbers, so that no whole state is built.
 
 ghost use Rattle.std.specs.Prelude.{◌≡◌, ◌==◌, [], None, false, true, IfSome, nat_le, nat_lt};
 ghost use Rattle.osi_message.specs.Meanings.{MIP, MIA};
@@ -16,21 +16,21 @@ use osi_message::{Octets, PlainUnit};
 use osi_spdu::Serial;
 use std::alloc::Global;
 
-/// What a session made of a TSDU that it tried as one that it expects ([`Session::take_expected`]).
+/// The result of trying a TSDU as one that the session expects ([`Session::take_expected`]).
 ///
 /// [`Session::take_expected`]: crate::Session::take_expected
 #[derive(Drop)]
 pub enum Expected {
-    /// It was expected: the user is shown this, and nothing is sent.
+    /// It was expected: the user receives this indication, and nothing is sent.
     Shown(Indication),
-    /// It was expected: a part of one Data that is not the last was joined. Nothing is shown or sent.
+    /// It was expected: a part of a Data that is not the last was joined. There is no indication, and nothing is sent.
     Joined,
-    /// It is any other, and the session is as it was. `Session::take_unexpected` takes it.
+    /// It was not expected, and the session is as it was. `Session::take_unexpected` takes it.
     Other,
 }
 
 impl Expected {
-    /// What was joined shows this, or nothing.
+    /// The result of a part that was joined: this indication, or none.
     pub(crate) fn behind(shown: Option<Indication>) -> Expected
         ensures { result ≡ met_by shown }
     {
@@ -41,14 +41,14 @@ impl Expected {
     }
 }
 
-/// What the user is shown by a point, and the numbers after it: nothing else changes.
+/// The indication of a point, and the numbers after it; nothing else changes.
 #[derive(Drop)]
 pub(crate) struct ExpectedPoint {
     pub(crate) shown: Indication,
     pub(crate) numbers: Numbers,
 }
 
-/// The numbers after a minor point that asks for its confirmation, where it is expected.
+/// The numbers after a minor point that asks for its confirmation, if it is expected.
 #[tactic(auto, using(crate::proofs::PointLaws::point_is_shown))]
 fn after_point(state: &State, number: Serial) -> Option<Numbers>
     ensures { IfSome result (λ n. respond_unit state.now (MIP true number.number []) ≡ shows (record state.now { numbers = n }) (Minor number.number true [])) }
@@ -65,7 +65,7 @@ fn after_point(state: &State, number: Serial) -> Option<Numbers>
     Some(state.numbers.point_taken())
 }
 
-/// The numbers after a confirmation, where it is expected, and no major point is outstanding.
+/// The numbers after a confirmation, if it is expected and no major point is outstanding.
 #[tactic(auto, using(crate::proofs::PointLaws::ack_is_shown))]
 fn after_ack(state: &State, number: Serial) -> Option<Numbers>
     ensures { IfSome result (λ n. respond_unit state.now (MIA number.number []) ≡ shows (record state.now { numbers = n }) (MinorConfirmed number.number [])) }
@@ -80,8 +80,7 @@ fn after_ack(state: &State, number: Serial) -> Option<Numbers>
     Some(numbers.minor_confirmed(number.number))
 }
 
-/// What a minor point or a confirmation shows that is expected, if nothing is unfinished; `None` for any
-/// other unit.
+/// The indication of an expected minor point or confirmation, if no SSDU is unfinished; `None` for any other unit.
 pub(crate) fn expected_point(
     alloc: Global,
     state: &State,

@@ -1,4 +1,4 @@
-//! What the units of a TSDU do, one after the other.
+//! The effect of the units of a TSDU, one after the other.
 
 ghost use Rattle.std.specs.Prelude.{◌≡◌, ℕ, ◌||◌, ◌++◌, List, [], true, false, Option, None, option_copied, IfOk, OnOk, OnErr};
 ghost use Rattle.osi_message.specs.Meanings.{DT};
@@ -19,23 +19,22 @@ use osi_message::Octets;
 use osi_spdu::{Group, SpduFault};
 use std::alloc::{AllocError, Global};
 
-/// What the units of a TSDU do: the state after them, what they leave of the octets that are joined,
-/// the indications in their order, at most one unit that is sent, and whether the transport connection
-/// is closed.
+/// The effect of the units of a TSDU: the state after them, the joined octets, the indications in order, at most one
+/// unit to send, and whether the transport connection is closed.
 #[derive(Drop)]
 pub(crate) struct Reactions {
     pub(crate) next: State,
     pub(crate) joined: Joined,
     /// The first indication.
     pub(crate) first: Option<Indication>,
-    /// Those after it.
+    /// The indications after it.
     pub(crate) more: Vec<Indication>,
     pub(crate) reply: Option<Reply>,
     pub(crate) closes: bool,
 }
 
 impl Reactions {
-    /// Those of a word that acts alone.
+    /// The effect of a word by itself.
     pub(crate) fn of(alloc: Global, heard: Heard) -> Reactions
         ensures outcome { outcome_of_all result ≡ outcome_of heard.reaction }
         ensures joined { result.joined ≡ heard.joined }
@@ -52,7 +51,7 @@ impl Reactions {
         }
     }
 
-    /// Nothing is done yet.
+    /// Nothing has happened yet.
     fn none(alloc: Global, state: &State) -> Reactions
         ensures heard { (joined : Option (List ℕ)) → hearing_of_all joined result ≡ idle (record { state = state.now; joined = joined }) }
         ensures ordered { result.more.items ≡ [] }
@@ -67,7 +66,7 @@ impl Reactions {
         }
     }
 
-    /// One indication more, if there is one.
+    /// Adds an indication, if there is one.
     fn show(&mut self, shown: Option<Indication>) -> Result<(), AllocError>
         requires { self.old.first ≡ None → self.old.more.items ≡ [] }
         ensures shown { OnOk result (all_shown self.new.first self.new.more.items ≡ all_shown self.old.first self.old.more.items ++ shown_list shown) }
@@ -88,7 +87,7 @@ impl Reactions {
 }
 
 impl Reactions {
-    /// What one word does, behind what was done so far; and whether the word is bad.
+    /// Adds the effect of one more word, and returns whether the word is bad.
     fn then(
         &mut self,
         alloc: Global,
@@ -117,8 +116,8 @@ impl Reactions {
     }
 }
 
-/// What the units of a TSDU do, one after the other: the first unit acts after those behind it, and
-/// does not act where one of these is an RS. A bad unit is the last that acts.
+/// The effect of the units of a TSDU, one after the other. The first unit takes effect after those that follow it, and
+/// has no effect if one of them is an RS. A bad unit is the last that takes effect.
 pub(crate) fn take_all(
     alloc: Global,
     state: &State,
@@ -157,7 +156,7 @@ pub(crate) fn either(one: bool, other: bool) -> bool
     one || other
 }
 
-/// A TSDU that is no session units: in Aborting and Ended it is discarded unread.
+/// A TSDU that is not session units. In Aborting and Ended it is discarded unread.
 #[tactic(auto, unfolding(crate::specs::Respond::respond_fault))]
 pub(crate) fn judge_unread(state: &State, fault: SpduFault) -> Reaction
     ensures { outcome_of result ≡ respond_fault state.now fault }
@@ -168,8 +167,7 @@ pub(crate) fn judge_unread(state: &State, fault: SpduFault) -> Reaction
     Reaction::bad(state, UnitFault::Spelling(fault))
 }
 
-/// Whether data that comes now is shown, and changes nothing: the phase expects it, and the peer has
-/// the data token.
+/// Whether data is indicated now and changes nothing: the phase expects it, and the peer has the data token.
 #[tactic(auto, using(crate::proofs::PointLaws::data_is_shown))]
 pub(crate) fn expects_data(state: &State) -> bool
     ensures { (octets : List ℕ) → result ≡ true → respond_unit state.now (DT octets) ≡ shows state.now (Data octets) }

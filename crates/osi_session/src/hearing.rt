@@ -1,4 +1,4 @@
-//! What a word does, and what it leaves of the octets that are joined.
+//! The effect of a word, and of the joined octets after it.
 
 ghost use Rattle.std.specs.Prelude.{◌≡◌, ◌<◌, ◌++◌, ℕ, ◌||◌, true, not, is_none, length, List, Option, Some, None, IfOk, OnErr, if◌then◌else◌, option_copied};
 ghost use Rattle.osi_message.specs.Meanings.{meant_by};
@@ -22,19 +22,19 @@ use osi_message::{Message, Octets, Place};
 use osi_spdu::Kind;
 use std::alloc::{AllocError, Global};
 
-/// What becomes of the octets of an unfinished SSDU.
+/// What happens to the octets of an unfinished SSDU.
 #[derive(Drop)]
 pub(crate) enum Joined {
     /// They stay.
     Kept,
-    /// There are none any more.
+    /// They are dropped.
     Dropped,
-    /// They are these.
+    /// They are replaced by these.
     Now(Octets),
 }
 
 impl Joined {
-    /// What is joined after this, of what was joined before.
+    /// The joined octets after this, from those before.
     pub(crate) fn after<'a>(&'a self, before: Option<&'a Octets>) -> Option<&'a Octets>
         ensures { option_copied result ≡ joined_after self.now (option_copied before.entry) }
     {
@@ -45,7 +45,7 @@ impl Joined {
         }
     }
 
-    /// Puts what is joined after this in place of what was joined before.
+    /// Replaces the joined octets by those after this.
     pub(crate) fn put(self, joined: &mut Option<Octets>)
         ensures { joined.new ≡ joined_after self joined.old }
     {
@@ -56,7 +56,7 @@ impl Joined {
         }
     }
 
-    /// What becomes of what this leaves.
+    /// Adds what happens next.
     pub(crate) fn go_on(&mut self, next: Joined)
         ensures { (joined : Option (List ℕ)) → joined_after self.new joined ≡ joined_after next (joined_after self.old joined) }
     {
@@ -67,7 +67,7 @@ impl Joined {
     }
 }
 
-/// What a word does, and what it leaves of the octets that are joined.
+/// The effect of a word, and what happens to the joined octets.
 #[derive(Drop)]
 pub(crate) struct Heard {
     pub(crate) reaction: Reaction,
@@ -75,7 +75,7 @@ pub(crate) struct Heard {
 }
 
 impl Heard {
-    /// An unfinished SSDU is kept or dropped by the phase that is left.
+    /// The phase afterwards decides whether an unfinished SSDU is kept or dropped.
     pub(crate) fn of(reaction: Reaction, joined: Joined) -> Heard
         ensures { (before : Option (List ℕ)) → hearing_of before result.joined (outcome_of result.reaction) ≡ heard (joined_after joined before) (outcome_of reaction) }
     {
@@ -87,7 +87,7 @@ impl Heard {
     }
 }
 
-/// The kind of a message that doesn't come within an SSDU.
+/// The kind of a message that may not occur within an SSDU.
 pub(crate) fn begins_anew(message: &Message) -> Option<Kind>
     ensures { result ≡ (if begins_anew (meant_by message.now) then Some (kind_of (meant_by message.now)) else None) }
 {
@@ -101,7 +101,7 @@ pub(crate) fn begins_anew(message: &Message) -> Option<Kind>
     }
 }
 
-/// The kind of a message that doesn't come within an SSDU, where one is unfinished.
+/// The kind of a message that may not occur within an SSDU, if one is unfinished.
 fn misplaced(joined: Option<&Octets>, message: &Message) -> Option<Kind>
     ensures { result ≡ (if is_none (option_copied joined.entry) || not (begins_anew (meant_by message.now)) then None else Some (kind_of (meant_by message.now))) }
 {
@@ -111,7 +111,7 @@ fn misplaced(joined: Option<&Octets>, message: &Message) -> Option<Kind>
     }
 }
 
-/// What a message does that doesn't come within an SSDU, within one: its own fault comes first.
+/// The effect of a message that may not occur within an SSDU, within one: its own fault comes first.
 #[inline(never)]
 #[tactic(auto, using(crate::proofs::JoiningLaws::misplaced_stays, crate::proofs::JoiningLaws::misplaced_turns, crate::proofs::JoiningLaws::misplaced_loud))]
 fn take_misplaced(
@@ -132,7 +132,7 @@ fn take_misplaced(
     Ok(Reaction::bad(state, UnitFault::BadEnclosure(kind.si())))
 }
 
-/// What a message does.
+/// The effect of a message.
 pub(crate) fn take_message(
     alloc: Global,
     state: &State,
@@ -148,7 +148,7 @@ pub(crate) fn take_message(
     }
 }
 
-/// What is joined behind a part that is not the last. `Err` comes only where the part has octets.
+/// The joined octets after a part that is not the last. `Err` is possible only if the part has octets.
 #[tactic(auto, using(crate::proofs::HearingLaws::grown_nothing, crate::proofs::HearingLaws::grown_first))]
 fn grown(alloc: Global, joined: Option<&Octets>, user_data: &[u8]) -> Result<Joined, AllocError>
     ensures ok { IfOk result (λ g. joined_after g (option_copied joined.entry) ≡ Some (joined_octets (option_copied joined.entry) ++ user_data.now)) }
@@ -183,7 +183,7 @@ fn take_early_part(
     }
 }
 
-/// The last part, if it is good, shows all that is joined.
+/// The last part, if it is good, indicates all the joined data.
 fn take_last_part(
     alloc: Global,
     state: &State,
@@ -202,7 +202,7 @@ fn take_last_part(
     }
 }
 
-/// What a good part does.
+/// The effect of a good part.
 fn take_good_part(
     alloc: Global,
     state: &State,
@@ -221,7 +221,7 @@ fn take_good_part(
     }
 }
 
-/// What a part does.
+/// The effect of a part.
 fn take_part(
     alloc: Global,
     state: &State,
@@ -239,7 +239,7 @@ fn take_part(
     }
 }
 
-/// What a message does, and that it leaves the octets that are joined.
+/// The effect of a message, which leaves the joined octets.
 fn take_says(
     alloc: Global,
     state: &State,
@@ -255,7 +255,7 @@ fn take_says(
     }
 }
 
-/// What one word does.
+/// The effect of one word.
 pub(crate) fn take_word(
     alloc: Global,
     state: &State,

@@ -1,38 +1,36 @@
-//! What the user of a session is shown.
+//! Indications: what the user of a session receives.
 
 use crate::faults::UnitFault;
 use crate::sides::Sides;
 use osi_message::Octets;
 use osi_spdu::{Requirements, TokenSet, TokenSetting, TsduMaximumSize};
 
-/// What the user of a session is shown (X.215 section 10, indications and confirms). User data may
-/// be empty.
+/// An indication for the user of a session (X.215 section 10, indications and confirms). User data may be empty.
 #[derive(Drop)]
 pub enum Indication {
     /// The peer asks for a connection (CN).
     Connect {
-        /// The functional units that it names.
+        /// The functional units that the CN names.
         requirements: Requirements,
-        /// The number that it proposes for the first point, 0 to 999,999.
+        /// The number that it proposes for the first point, 0 to 999,999; absent if it names none.
         serial: Option<u32>,
-        /// The side that it wishes for each token.
+        /// The side that it wishes as the holder of each token.
         wishes: TokenSetting,
-        /// The largest TSDU in each direction that it names, in octets, 0 for no limit, else 64 to
-        /// 65,535.
+        /// The largest TSDU in each direction that it names, in octets: 0 for no limit, or 64 to 65,535.
         sizes: TsduMaximumSize,
         /// User data.
         user_data: Octets,
     },
     /// The peer accepts the connection (AC).
     Connected {
-        /// The functional units that it names; those are selected that the CN names too.
+        /// The functional units that the AC names; those that the CN names too are selected.
         requirements: Requirements,
-        /// The number of the first point, where it names one, 0 to 999,999.
+        /// The number of the first point, 0 to 999,999; absent if it names none.
         serial: Option<u32>,
         /// The side that holds each token; a token that is not available is the asker's.
         sides: Sides,
-        /// The largest TSDU in each direction that it names, in octets, 0 for no limit, else 64 to
-        /// 65,535. The smaller of the CN's and this that is not 0 bounds what is sent.
+        /// The largest TSDU in each direction that it names, in octets: 0 for no limit, or 64 to 65,535. The smaller
+        /// one of the CN's and this that is not 0 bounds what is sent.
         sizes: TsduMaximumSize,
         /// User data.
         user_data: Octets,
@@ -44,9 +42,9 @@ pub enum Indication {
     },
     /// The peer refuses the connection (RF).
     RefusedBySession {
-        /// The reason code; 0, 1 and 2 are of the called user.
+        /// The reason code; 0, 1 and 2 are those of the called user.
         reason: u8,
-        /// The octets behind the reason code.
+        /// The octets after the reason code.
         user_data: Octets,
     },
     /// Data (DT).
@@ -70,7 +68,7 @@ pub enum Indication {
     Minor {
         /// Its number, 0 to 999,999.
         number: u32,
-        /// The peer asks for its confirmation.
+        /// Whether the peer asks for its confirmation.
         confirm: bool,
         /// User data.
         user_data: Octets,
@@ -96,16 +94,16 @@ pub enum Indication {
     },
     /// The peer restarts at a point (RS).
     Restart {
-        /// The number that the next point has, 0 to 999,999.
+        /// The number of the next point, 0 to 999,999.
         number: u32,
-        /// The side that it wishes for each token.
+        /// The side that it wishes as the holder of each token.
         wishes: TokenSetting,
         /// User data.
         user_data: Octets,
     },
     /// The peer answers the restart (RA).
     Restarted {
-        /// The number that the next point has, 0 to 999,999.
+        /// The number of the next point, 0 to 999,999.
         number: u32,
         /// The side that holds each token; a token that is not available is the asker's.
         sides: Sides,
@@ -134,7 +132,7 @@ pub enum Indication {
     },
     /// The connection is aborted by the provider.
     ProviderAbort {
-        /// Why.
+        /// The cause.
         cause: AbortCause,
     },
 }
@@ -146,6 +144,6 @@ pub enum AbortCause {
     Lost,
     /// The peer's provider aborts (AB without bit 02): the octet of its parameter 17.
     Peer(u8),
-    /// A unit that came is bad.
+    /// A received unit is bad.
     Unit(UnitFault),
 }

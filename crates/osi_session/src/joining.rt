@@ -1,4 +1,4 @@
-//! The parts of one Data, which are joined.
+//! Joining the parts of a Data.
 
 ghost use Rattle.std.specs.Prelude.{◌≡◌, ◌<◌, ◌++◌, ◌∷◌, [], if◌then◌else◌, ◌&&◌, is_some, None, Some, length, nat_le, option_copied, IfOk, OnOk, OnErr};
 ghost use Rattle.osi_message.specs.Words.{part};
@@ -15,10 +15,10 @@ use osi_message::{Octets, Place};
 use osi_spdu::Kind;
 use std::alloc::{AllocError, Global};
 
-/// What is to be done with a part.
+/// The verdict on a part.
 #[derive(Clone, Copy)]
 pub(crate) enum PartVerdict {
-    /// Nothing: the connection is over, or a restart is awaited.
+    /// It is ignored: the connection is over, or a restart is awaited.
     Dropped,
     /// It is answered by AB.
     Bad(UnitFault),
@@ -36,7 +36,7 @@ pub(crate) fn joined_octets(joined: Option<&Octets>) -> &[u8]
     }
 }
 
-/// A first part stands where nothing is unfinished, and a later one where something is.
+/// A first part is in place if nothing is unfinished, and a later one if something is.
 fn is_in_place(joined: Option<&Octets>, place: Place) -> bool
     ensures { result ≡ is_in_place (option_copied joined.entry) place }
 {
@@ -46,7 +46,7 @@ fn is_in_place(joined: Option<&Octets>, place: Place) -> bool
     }
 }
 
-/// Whether a part behind what is joined leaves at most as much as one Data may have.
+/// Whether a part after the joined octets leaves no more than a Data may have.
 #[tactic(auto, using(crate::proofs::JoiningLaws::length_both))]
 fn fits(joined: &[u8], user_data: &[u8]) -> bool
     ensures { result ≡ nat_le (length (joined.now ++ user_data.now)) most_data }
@@ -54,8 +54,7 @@ fn fits(joined: &[u8], user_data: &[u8]) -> bool
     joined.len() + user_data.len() <= MOST_DATA
 }
 
-/// What is to be done with a part: tried as a DT first, then whether it is in its place, then how much
-/// it leaves.
+/// The verdict on a part: first as a DT, then by its place, then by its length.
 #[tactic(auto, using(crate::proofs::JoiningLaws::part_verdict))]
 pub(crate) fn judge_part(
     state: &State,
@@ -84,8 +83,8 @@ pub(crate) fn judge_part(
     PartVerdict::Good
 }
 
-/// Joins a part to those before it; for the last no more room is made than it needs. `Err` changes nothing,
-/// and comes only where the part has octets.
+/// Joins a part to those before it; for the last one, no more room is made than it needs. `Err` changes nothing, and is
+/// possible only if the part has octets.
 pub(crate) fn join(
     alloc: Global,
     joined: &mut Option<Octets>,
@@ -108,7 +107,7 @@ pub(crate) fn join(
     Ok(())
 }
 
-/// The octets that a part leaves joined, as a copy.
+/// The joined octets after a part, as a copy.
 pub(crate) fn joined_with(
     alloc: Global,
     joined: Option<&Octets>,
@@ -122,8 +121,7 @@ pub(crate) fn joined_with(
     Ok(octets)
 }
 
-/// What the user is shown behind a part that was joined: behind the last all that is joined, which
-/// then is so no more.
+/// The indication after a part that was joined: after the last part all joined data, which is then no longer kept.
 pub(crate) fn shown_behind(place: Place, joined: &mut Option<Octets>) -> Option<Indication>
     ensures shown { shown_list result ≡ (if is_last place && is_some joined.old then Data (joined_octets joined.old) ∷ [] else []) }
     ensures joined { joined.new ≡ (if is_last place then None else joined.old) }

@@ -1,4 +1,4 @@
-//! What a caller asks for.
+//! A caller's request.
 
 ghost use Rattle.std.specs.Prelude.{◌≡◌};
 ghost use Rattle.osi_message.specs.Meanings.{meant_by};
@@ -10,20 +10,20 @@ use crate::sides::offered;
 use osi_message::Message;
 use osi_spdu::{Requirements, Selector, Serial, TokenSetting, TsduSizes};
 
-/// What a CN asks for (X.225 section 8, connect).
+/// The contents of a CN (X.225 section 8, connect).
 #[derive(Clone, Copy, Debug)]
 pub struct Opening<'a> {
     /// The functional units that are offered (X.225 section 8, session user requirements).
     pub requirements: Requirements,
-    /// The number of the first synchronization point, 0 to 999,999. It is sent where minor
-    /// synchronize, major synchronize or resynchronize is offered, and else left out.
+    /// The number of the first synchronization point, 0 to 999,999. It is sent if minor synchronize, major synchronize
+    /// or resynchronize is offered, and left out otherwise.
     pub serial: Serial,
-    /// The side that is to hold each token at first (X.225 section 8, token setting). A token
-    /// whose functional unit is not offered is written as the asker's.
+    /// The side wished for as the first holder of each token (X.225 section 8, token setting). For a token whose
+    /// functional unit is not offered, the asker is written.
     pub wishes: TokenSetting,
-    /// The address of the user that asks, 0 to 16 octets.
+    /// The address of the calling user, 0 to 16 octets.
     pub calling_selector: Option<Selector<'a>>,
-    /// The address of the user that is asked, 0 to 16 octets.
+    /// The address of the called user, 0 to 16 octets.
     pub called_selector: Option<Selector<'a>>,
     /// The largest TSDU in each direction (X.225 section 8, TSDU maximum size).
     pub sizes: TsduSizes,

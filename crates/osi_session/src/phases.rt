@@ -1,32 +1,32 @@
-//! Where a session connection stands.
+//! The phases of a session connection.
 
 ghost use Rattle.std.specs.Prelude.{◌≡◌};
 ghost use Rattle.osi_session.specs.Phases.{is_over, is_wait_transport, is_wait_cn, is_connecting, is_answering, is_ready, is_major_asked, is_major_due, is_releasing, is_release_due, is_restarting, is_restart_due, is_aborting, is_ended, is_settled, in_major, may_give, may_ask, may_confirm_minor, may_restart, takes_data, takes_give, takes_please, takes_minor_ack, takes_restart, may_abort, may_hold, shows_loss};
 
-/// Where a session connection stands (X.225 annex A, states).
+/// The phase of a session connection (X.225 annex A, states).
 #[derive(Clone, Copy, PartialEq, Eq, Debug)]
 pub enum Phase {
-    /// The transport connection is asked for, at the end that asks.
+    /// The transport connection is requested; at the caller.
     WaitTransport,
-    /// The transport connection is there, and a CN is awaited.
+    /// The transport connection is open, and a CN is awaited.
     WaitCn,
     /// CN was sent, and its answer is awaited.
     Connecting,
     /// CN was taken, and the user is to answer it.
     Answering,
-    /// Data, tokens and points go both ways.
+    /// Data, tokens and points may go both ways.
     Ready,
     /// A major point was sent, and its confirmation is awaited.
     MajorAsked,
     /// A major point was taken, and the user is to confirm it.
     MajorDue,
-    /// The release was asked for, and its answer is awaited.
+    /// Release was requested, and its answer is awaited.
     Releasing,
-    /// The release was asked for by the peer, and the user is to answer it.
+    /// The peer requested release, and the user is to answer.
     ReleaseDue,
-    /// A restart was asked for, and its answer is awaited.
+    /// A restart was requested, and its answer is awaited.
     Restarting,
-    /// A restart was asked for by the peer, and the user is to answer it.
+    /// The peer requested a restart, and the user is to answer.
     RestartDue,
     /// AB was sent, and AA is awaited.
     Aborting,
@@ -36,7 +36,7 @@ pub enum Phase {
 
 // Which calls and units each phase allows.
 impl Phase {
-    /// The connection is aborted, or gone.
+    /// The connection is aborted or gone.
     pub(crate) fn is_over(self) -> bool
         ensures { result ≡ is_over self }
     {
@@ -60,7 +60,7 @@ impl Phase {
         matches!(self, Phase::WaitTransport)
     }
 
-    /// A CN is awaited, so that there is no user yet.
+    /// A CN is awaited, so there is no user yet.
     pub(crate) fn is_wait_cn(self) -> bool
         ensures { result ≡ is_wait_cn self }
     {
@@ -158,7 +158,7 @@ impl Phase {
         matches!(self, Phase::Ready | Phase::MajorDue)
     }
 
-    /// Tokens may be asked for.
+    /// Tokens may be requested.
     pub(crate) fn may_ask(self) -> bool
         ensures { result ≡ may_ask self }
     {
@@ -172,7 +172,7 @@ impl Phase {
         matches!(self, Phase::Ready | Phase::ReleaseDue)
     }
 
-    /// A restart may be asked for.
+    /// A restart may be requested.
     pub(crate) fn may_restart(self) -> bool
         ensures { result ≡ may_restart self }
     {
@@ -203,7 +203,7 @@ impl Phase {
         matches!(self, Phase::Ready | Phase::Releasing)
     }
 
-    /// Tokens are taken: where they may be asked for.
+    /// Tokens are taken, in the phases in which they may be requested.
     pub(crate) fn takes_give(self) -> bool
         ensures { result ≡ takes_give self }
     {
@@ -252,7 +252,7 @@ impl Phase {
         )
     }
 
-    /// The user is shown that the transport connection is lost.
+    /// The user is told if the transport connection is lost.
     pub fn shows_loss(self) -> bool
         ensures { result ≡ shows_loss self }
     {

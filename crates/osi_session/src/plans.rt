@@ -7,8 +7,8 @@ use osi_message::Sent;
 use osi_spdu::Serial;
 use std::marker::Model;
 
-/// What a call would do: the state in which it was planned, the state after it, and the TSDUs that it
-/// sends. It is made by `Session::plan` and done by `Session::commit`.
+/// The plan of a call: the state in which it was made, the state after the call, and the TSDUs to send. `Session::plan`
+/// makes it, and `Session::commit` carries it out.
 #[derive(Drop)]
 pub struct Plan {
     pub(crate) was: State,
@@ -38,13 +38,13 @@ impl Plan {
     }
 }
 
-/// A minor point, or the confirmation of one, that may be sent: the numbers of the session are all that
-/// it changes. It is made by `Session::plan_minor` and `Session::plan_minor_confirm`.
+/// A minor point, or the confirmation of one, that may be sent; it changes only the numbers of the session.
+/// `Session::plan_minor` and `Session::plan_minor_confirm` make it.
 #[derive(Drop)]
 pub struct PlannedPoint {
     /// What is to be sent.
     pub sent: Sent,
-    /// What it is: the session goes on after it by `Session::advance`.
+    /// The point or confirmation. Once it is sent, `Session::advance` changes the numbers.
     pub point: SentPoint,
 }
 

@@ -1,4 +1,4 @@
-//! What a unit does, and what is sent in answer.
+//! The effect of a unit, and the answer to it.
 
 ghost use Rattle.std.specs.Prelude.{◌≡◌, [], Some};
 ghost use Rattle.osi_session.specs.Respond.{nothing, shows, bad, lost, replies_abort};
@@ -18,24 +18,23 @@ use crate::state::State;
 use osi_message::Message;
 use osi_spdu::Kind;
 
-/// The reason of an RF where the version is not supported.
+/// The reason of an RF if the version is not supported.
 const VERSION_NOT_SUPPORTED: u8 = 132;
 
 /// The reason of an RF for a restriction of the implementation.
 const IMPLEMENTATION_RESTRICTION: u8 = 134;
 
-/// The octet of an AB for a protocol error, which releases the transport connection too.
+/// The octet of an AB for a protocol error, which also releases the transport connection.
 const PROTOCOL_ERROR: u8 = 0x05;
 
-/// What is sent in answer to a unit, besides what the user sends.
+/// An automatic answer to a unit, apart from what the user sends.
 #[derive(Clone, Copy, Debug)]
 pub enum Reply {
-    /// RF with reason 132: the peer has not version 2.
+    /// RF with reason 132: the peer does not have version 2.
     VersionNotSupported,
-    /// RF with reason 134: there is neither half-duplex nor duplex, or a size is one that no user
-    /// gives.
+    /// RF with reason 134: there is neither half-duplex nor duplex, or a size is one that no user can give.
     ImplementationRestriction,
-    /// AB for a protocol error, which releases the transport connection too.
+    /// AB for a protocol error, which also releases the transport connection.
     ProtocolError,
     /// AA.
     AbortAccept,
@@ -66,8 +65,8 @@ impl Reply {
     }
 }
 
-/// What a unit does: the state after it, what the user is shown, what is sent, and whether the
-/// transport connection is closed.
+/// The effect of a unit: the state after it, the indication, the answer, and whether the transport connection is
+/// closed.
 #[derive(Drop)]
 pub(crate) struct Reaction {
     pub(crate) next: State,
@@ -89,7 +88,7 @@ impl Reaction {
         }
     }
 
-    /// The user is shown something, and nothing is sent.
+    /// An indication, and nothing is sent.
     pub(crate) fn showing(next: State, indication: Indication) -> Reaction
         ensures { outcome_of result ≡ shows next (shown_by indication) }
     {
@@ -99,7 +98,7 @@ impl Reaction {
         }
     }
 
-    /// A CN that cannot be accepted: RF is sent, and the user is shown nothing.
+    /// A CN that can't be accepted: RF is sent, and there is no indication.
     pub(crate) fn refusing(state: &State, reply: Reply) -> Reaction
         ensures { outcome_of result ≡ record (nothing (without_tokens Ended state.now)) { reply = Some (reply_of reply) } }
     {
@@ -109,7 +108,7 @@ impl Reaction {
         }
     }
 
-    /// A bad unit: AB is sent. Before a CN was taken there is no user to be shown it.
+    /// A bad unit: AB is sent. Before a CN was taken there is no user to be told.
     pub(crate) fn bad(state: &State, fault: UnitFault) -> Reaction
         ensures { outcome_of result ≡ bad state.now fault }
     {

@@ -6,20 +6,20 @@ ghost use Rattle.osi_session.specs.Calls.{refusal_by, refusal_octets, refusal_re
 use crate::sides::Sides;
 use osi_spdu::{Requirements, Serial, TokenSet, TokenSetting, TsduSizes};
 
-/// Why a user refuses a connection: the reasons of a called user that an RF has (X.225 section 8.3.5). User
-/// data goes with the last of them alone.
+/// Why a user refuses a connection: the reasons of a called user in an RF (X.225 section 8.3.5). Only the last one has
+/// user data.
 #[derive(Clone, Copy)]
 pub enum Refusal<'a> {
-    /// Reason 0: rejected by the called user, which gives no reason.
+    /// Reason 0: rejected by the called user, without a reason.
     Unspecified,
-    /// Reason 1: rejected by the called user, for congestion that passes.
+    /// Reason 1: rejected by the called user because of temporary congestion.
     Congestion,
     /// Reason 2: rejected by the called user, with this user data, which may be empty.
     WithData(&'a [u8]),
 }
 
 impl<'a> Refusal<'a> {
-    /// The refusal that hands on this user data, and gives no reason if there is none.
+    /// The refusal with this user data, or without a reason if there is none.
     pub fn with(user_data: &'a [u8]) -> Refusal<'a>
         ensures { refusal_by result ≡ refusal_with user_data.entry.now }
     {
@@ -29,7 +29,7 @@ impl<'a> Refusal<'a> {
         Refusal::WithData(user_data)
     }
 
-    /// The reason as the RF has it: 0, 1 or 2.
+    /// The reason in the RF: 0, 1 or 2.
     pub fn reason(self) -> u8
         ensures { result ≡ refusal_reason (refusal_by self.entry) }
     {
@@ -40,7 +40,7 @@ impl<'a> Refusal<'a> {
         }
     }
 
-    /// The user data; none but with [`Refusal::WithData`].
+    /// The user data; empty except for [`Refusal::WithData`].
     pub fn user_data(self) -> &'a [u8]
         ensures { result.now ≡ refusal_octets (refusal_by self.entry) }
     {
@@ -57,15 +57,14 @@ impl<'a> Refusal<'a> {
 pub enum Request<'a> {
     /// Accepts the connection (AC).
     Accept {
-        /// The functional units that are selected: some of those that the CN names, half-duplex
-        /// among them, or duplex alone.
+        /// The functional units to select: some of those that the CN names, half-duplex among them; or only duplex.
         requirements: Requirements,
-        /// The number of the first point, which is sent where points or restarts are selected.
+        /// The number of the first point, which is sent if points or restarts are selected.
         serial: Serial,
-        /// The side that holds each token whose wish was a choice.
+        /// The side that holds each token that the CN leaves to your choice.
         sides: Sides,
-        /// The largest TSDU in each direction. The AC names 0 where the CN does, else the smaller of
-        /// the CN's and this where it is not 0.
+        /// The largest TSDU in each direction. If the CN names 0, so does the AC; otherwise it names the smaller of the
+        /// CN's and this, unless this is 0.
         sizes: TsduSizes,
         /// User data.
         user_data: &'a [u8],
@@ -94,7 +93,7 @@ pub enum Request<'a> {
     },
     /// Sets a minor synchronization point (MIP).
     Minor {
-        /// Asks for its confirmation.
+        /// Whether it asks for its confirmation.
         confirm: bool,
         /// User data.
         user_data: &'a [u8],
@@ -118,16 +117,16 @@ pub enum Request<'a> {
     },
     /// Restarts at a point (RS).
     Restart {
-        /// The number that the next point then has.
+        /// The number that the next point will have.
         number: u32,
-        /// The side that is wished for each token.
+        /// The side wished for as the holder of each token.
         wishes: TokenSetting,
         /// User data.
         user_data: &'a [u8],
     },
     /// Answers a restart (RA).
     RestartConfirm {
-        /// The side that holds each token whose wish was a choice.
+        /// The side that holds each token that the RS leaves to your choice.
         sides: Sides,
         /// User data.
         user_data: &'a [u8],

@@ -1,4 +1,4 @@
-//! Whether two states are one.
+//! Comparing two states.
 
 ghost use Rattle.std.specs.Prelude.{◌≡◌, ◌≢◌, MatchBool};
 ghost use Rattle.osi_session.specs.Same.{same_bit, same_wish, place_of, same_setting, same_tokens, same_units, same_numbers, same_sizes, same_state};
@@ -26,7 +26,7 @@ fn same_wish(one: Wish, other: Wish) -> bool
     }
 }
 
-/// The place of a phase among all.
+/// The place of a phase in the order of all phases.
 fn place_of(phase: Phase) -> u8
     ensures { result ≡ place_of phase }
 {
@@ -112,7 +112,7 @@ fn same_state(one: &State, other: &State) -> bool
 }
 
 impl State {
-    /// Whether this is the other state.
+    /// Whether the states are equal.
     #[tactic(auto, using(crate::proofs::StateLaws::told))]
     pub(crate) fn is_same(&self, other: &State) -> bool
         ensures { MatchBool result (self.now ≡ other.now) (self.now ≢ other.now) }

@@ -1,4 +1,4 @@
-//! What a side may say: the calls that send it, and what a session of another kind may say beside them.
+//! What a side may send: what the calls send, and what a session of another make may send as well.
 
 ghost use Rattle.osi_spdu.specs.Fields.{unit_bits};
 ghost use Rattle.std.specs.Prelude.{◌≡◌, ◌==◌, true, is_ok, option_map};
@@ -36,7 +36,7 @@ impl State {
     }
 }
 
-/// The state that a call leaves. The size of its TSDU is looked at apart, as it was sent.
+/// The state after a call. The size of its TSDU is tested separately, as it was sent.
 #[tactic(auto, using(crate::proofs::SayingLaws::over_refuses))]
 fn calling(state: &State, request: &Request) -> Result<State, Breach>
     requires { IsSound state.now }
@@ -59,7 +59,7 @@ fn calling(state: &State, request: &Request) -> Result<State, Breach>
     }
 }
 
-/// CN, as the transport connection is there.
+/// CN, once the transport connection is open.
 fn connect(
     state: &State,
     requirements: Requirements,
@@ -93,7 +93,7 @@ fn connect(
     })
 }
 
-/// The first number of a connection: the AC's, or the CN's where the AC names none.
+/// The first number of a connection: the AC's, or the CN's if the AC names none.
 fn agreed_base(units: FunctionalUnits, serial: Option<Serial>, proposed: u32) -> u32
     ensures { result ≡ agreed_base units (option_map (λ s. s.number) serial) proposed }
 {
@@ -103,8 +103,8 @@ fn agreed_base(units: FunctionalUnits, serial: Option<Serial>, proposed: u32) ->
     }
 }
 
-/// AC: version 2, half-duplex or duplex among the units that both name, sizes that a user may give, and
-/// sides as they were wished.
+/// AC: version 2, half-duplex or duplex among the units that both name, sizes that a user may give, and sides that the
+/// wishes allow.
 fn accept(
     state: &State,
     version_2: bool,
@@ -143,7 +143,7 @@ fn accept(
     })
 }
 
-/// FN, of a side that has all tokens that are available; with duplex either has.
+/// FN, of a side that has all available tokens; with duplex, of either side.
 fn finish(state: &State, user_data: &[u8]) -> Result<State, Breach>
     ensures { Leaves result (finishing state.now user_data.now) }
 {
@@ -201,7 +201,7 @@ fn restart(
     Ok(left)
 }
 
-/// RA, with sides as they were wished.
+/// RA, with sides that the wishes allow.
 fn restart_ack(
     state: &State,
     number: Serial,
@@ -223,7 +223,7 @@ fn restart_ack(
     Ok(left)
 }
 
-/// AB, of a user or of a provider that gives up. A protocol error is said in answer to a bad unit alone.
+/// AB, of a user or of a provider that gives up. A protocol error is only sent in answer to a bad unit.
 fn abort(state: &State, bits: u8, user_data: &[u8]) -> Result<State, Breach>
     requires { IsSound state.now }
     ensures { Leaves result (said_message state.now (AB bits user_data.now)) }
@@ -245,7 +245,7 @@ fn major_ack(state: &State, number: Serial, user_data: &[u8]) -> Result<State, B
     numbered(state, number.number + 1, state.numbers.next, &request)
 }
 
-/// The state behind a message that opens a connection or names functional units.
+/// The state after a message that opens a connection or names functional units.
 fn said_opening(state: &State, message: &Message) -> Result<State, Breach>
     requires { has_terms (meant_by message.now) ≡ true }
     ensures { Leaves result (said_message state.now (meant_by message.now)) }
@@ -274,7 +274,7 @@ fn said_opening(state: &State, message: &Message) -> Result<State, Breach>
     }
 }
 
-/// The state behind a message that may be said.
+/// The state after a message that may be sent.
 pub(crate) fn said_message(state: &State, message: &Message) -> Result<State, Breach>
     requires { IsSound state.now }
     ensures { Leaves result (said_message state.now (meant_by message.now)) }
@@ -339,7 +339,7 @@ pub(crate) fn said_message(state: &State, message: &Message) -> Result<State, Br
     }
 }
 
-/// No size is agreed, or a TSDU of so many octets is within it.
+/// No size is agreed, or a TSDU of this many octets is within it.
 pub(crate) fn is_in_size(state: &State, tsdu_octets: usize) -> bool
     ensures { result ≡ is_in_size state.now tsdu_octets }
 {
@@ -347,7 +347,7 @@ pub(crate) fn is_in_size(state: &State, tsdu_octets: usize) -> bool
     limit == 0 || tsdu_octets <= limit as usize
 }
 
-/// So many octets of data may be sent.
+/// This many octets of data may be sent.
 pub(crate) fn may_send(state: &State, octets: usize) -> Result<(), Breach>
     ensures { is_ok result ≡ may_send state.now octets }
 {
@@ -369,7 +369,7 @@ pub(crate) fn may_send(state: &State, octets: usize) -> Result<(), Breach>
     Ok(())
 }
 
-/// A first part stands where nothing is unfinished, and a later one where something is.
+/// A first part is in place if nothing is unfinished, and a later one if something is.
 pub(crate) fn stands_in_place(sent: Option<usize>, place: Place) -> bool
     ensures { result ≡ stands_in_place sent place }
 {

@@ -1,4 +1,4 @@
-//! Functional units, and which go together.
+//! Functional units, and which of them go together.
 
 ghost use Rattle.osi_spdu.specs.Fields.{unit_bits};
 ghost use Rattle.std.specs.Prelude.{◌≡◌, option_map};
@@ -88,14 +88,14 @@ impl FunctionalUnits {
         self.minor || self.major || self.resynchronize
     }
 
-    /// The number of the first point, where there are points or restarts; else 0.
+    /// The number of the first point, if there are points or restarts; else 0.
     pub(crate) fn base(self, serial: u32) -> u32
         ensures { result ≡ base_for self serial }
     {
         if self.has_points() { serial } else { 0 }
     }
 
-    /// The number of the first point as it is written: where there are points or restarts.
+    /// The number of the first point as it is written: if there are points or restarts.
     pub(crate) fn initial_number(self, serial: Serial) -> Option<Serial>
         ensures { option_map (λ s. s.number) result ≡ serial_for self serial.number }
     {
@@ -105,7 +105,7 @@ impl FunctionalUnits {
         None
     }
 
-    /// The tokens that are available (X.225 section 5.8): a token is where its unit is.
+    /// The available tokens (X.225 section 5.8): a token is available if its unit is selected.
     #[tactic(auto, unfolding(crate::specs::Units::available))]
     pub(crate) fn available(self) -> Tokens
         ensures { result ≡ available self }
@@ -119,8 +119,8 @@ impl FunctionalUnits {
     }
 }
 
-/// These functional units can be selected together: half-duplex, with or without points, restart
-/// and negotiated release; or duplex alone.
+/// Whether these functional units can be selected together: half-duplex, with or without points, restart and negotiated
+/// release; or only duplex.
 #[tactic(auto, unfolding(crate::specs::Units::is_profile))]
 pub fn is_profile(requirements: Requirements) -> bool
     ensures { result ≡ is_profile (unit_bits requirements) }

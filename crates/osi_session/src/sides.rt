@@ -21,8 +21,8 @@ pub struct Sides {
     pub release: Side,
 }
 
-/// The side that was asked for; for a choice, the one that the answer gives. A token that is not
-/// available is settled as the asker's, which is written 0.
+/// The requested side, or for a choice the one that the answer gives. A token that is not available is settled as the
+/// asker's, which is written as 0.
 fn settled(is_available: bool, wish: Wish, answer: Side) -> Side
     ensures { result ≡ settled is_available wish answer }
 {
@@ -44,7 +44,7 @@ fn stated_side(is_available: bool, wish: Wish) -> Side
     }
 }
 
-/// Whether what an answer states is a side that the wish allows.
+/// Whether the side in an answer is one that the wish allows.
 fn allows(is_available: bool, wish: Wish, answer: Wish) -> bool
     ensures { result ≡ allows is_available wish answer }
 {
@@ -58,7 +58,7 @@ fn allows(is_available: bool, wish: Wish, answer: Wish) -> bool
     }
 }
 
-/// A wish for a token that is not available is written 0.
+/// A wish for a token that is not available is written as 0.
 fn offered_wish(is_available: bool, wish: Wish) -> Wish
     ensures { result ≡ offered_wish is_available wish }
 {
@@ -72,7 +72,7 @@ fn is_asker(side: Side) -> bool
 }
 
 impl Sides {
-    /// The sides that an answer settles: each as was asked, and for a choice as it says.
+    /// The sides that an answer settles: each as requested, or for a choice as the answer says.
     #[tactic(auto, unfolding(crate::specs::Sides::settle))]
     pub(crate) fn settle(self, units: FunctionalUnits, wishes: TokenSetting) -> Sides
         ensures { result ≡ settle units wishes self }
@@ -141,7 +141,7 @@ impl Sides {
     }
 }
 
-/// Whether an answer gives each available token a side that was asked for.
+/// Whether an answer gives each available token a side that the wish allows.
 #[tactic(auto, unfolding(crate::specs::Sides::answers_wishes))]
 pub(crate) fn answers_wishes(
     units: FunctionalUnits,
@@ -157,7 +157,7 @@ pub(crate) fn answers_wishes(
         && allows(there.release, wishes.release, answer.release)
 }
 
-/// The wishes for the available tokens; the others are written 0.
+/// The wishes for the available tokens; the others are written as 0.
 #[tactic(auto, unfolding(crate::specs::Sides::offered))]
 pub(crate) fn offered(units: FunctionalUnits, wishes: TokenSetting) -> TokenSetting
     ensures { result ≡ offered units wishes }

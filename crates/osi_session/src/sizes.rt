@@ -1,4 +1,4 @@
-//! The largest TSDU in each direction: what a CN and an AC agree on, and what it bounds.
+//! The largest TSDU in each direction: what a CN and an AC agree, and what it limits.
 
 ghost use Rattle.std.specs.Prelude.{◌≡◌, ◌<◌, ◌==◌, ◌||◌, nat_le, length};
 ghost use Rattle.osi_spdu.specs.Sizes.{are_sizes, size_of};
@@ -14,7 +14,7 @@ use crate::state::State;
 use osi_message::Message;
 use osi_spdu::{Serial, TsduMaximumSize, TsduSize};
 
-/// A user may give this size: no limit, or 64 octets and more.
+/// Whether a user may give this size: no limit, or at least 64 octets.
 fn is_size(octets: u16) -> bool
     ensures { result ≡ is_size octets }
 {
@@ -28,7 +28,7 @@ pub(crate) fn are_sizes(sizes: TsduMaximumSize) -> bool
     is_size(sizes.from_asker) && is_size(sizes.from_answerer)
 }
 
-/// The smaller of two sizes, where 0 is no limit.
+/// The smaller of two sizes; 0 is no limit.
 fn smaller(one: u16, other: u16) -> u16
     ensures { result ≡ smaller one other }
 {
@@ -41,7 +41,7 @@ fn smaller(one: u16, other: u16) -> u16
     other
 }
 
-/// What an AC names: 0 where the CN has 0, else the smaller of the CN's and the answerer's.
+/// What an AC names: 0 if the CN has 0, otherwise the smaller of the CN's and the answerer's.
 fn answered(asked: u16, given: u16) -> u16
     ensures { result ≡ answered asked given }
 {
@@ -73,8 +73,7 @@ pub(crate) fn answered_sizes(asked: TsduMaximumSize, given: TsduMaximumSize) -> 
     }
 }
 
-/// The most octets that a TSDU of this end has, 0 for no limit: once the CN is answered, the size of
-/// its direction.
+/// The most octets of a TSDU of this end, 0 for no limit: once the CN is answered, the size of its direction.
 pub(crate) fn limit_of(state: &State) -> u16
     ensures { result ≡ limit_of state.now }
 {
@@ -99,7 +98,7 @@ pub(crate) fn size_limit(state: &State) -> TsduSize
     }
 }
 
-/// Whether a message goes into a TSDU of so many octets.
+/// Whether a message fits a TSDU of this many octets.
 fn is_within(limit: u16, sent: &Message) -> bool
     requires { length (user_data_of (meant_by sent.now)) < 65000 }
     ensures { result ≡ nat_le (length (written (meant_by sent.now))) limit }
@@ -116,8 +115,7 @@ fn fits_limit_of(state: &State, sent: &Message) -> bool
     limit == 0 || is_within(limit, sent)
 }
 
-/// Whether the TSDU in which a call is sent is within the limit. Data may be longer, and so may an
-/// answer to the CN.
+/// Whether the TSDU of a call is within the limit. Data may be longer, and so may an answer to the CN.
 pub(crate) fn fits_limit(state: &State, request: &Request, sent: &Message) -> bool
     requires { length (user_data_of (meant_by sent.now)) < 65000 }
     ensures { result ≡ fits_limit state.now (called_by request.now) (meant_by sent.now) }
@@ -128,8 +126,8 @@ pub(crate) fn fits_limit(state: &State, request: &Request, sent: &Message) -> bo
     }
 }
 
-/// Whether a minor point of these octets goes into a TSDU of so many. It stands out of line: else the
-/// room for its message would be made where there is no limit, too.
+/// Whether a minor point with these octets fits a TSDU of this length. It is kept out of line: otherwise the room for
+/// its message would be made even without a limit.
 #[inline(never)]
 #[tactic(auto, unfolding(osi_message::specs::Written::user_data_of))]
 fn is_point_within(limit: u16, confirm: bool, number: Serial, user_data: &[u8]) -> bool

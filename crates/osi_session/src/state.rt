@@ -1,4 +1,4 @@
-//! What a session knows.
+//! The state of a session.
 
 ghost use Rattle.std.specs.Prelude.{◌≡◌};
 ghost use Rattle.osi_session.specs.Sessions.{asking};
@@ -11,19 +11,19 @@ use crate::sides::offered;
 use osi_message::Tokens;
 use osi_spdu::{TokenSetting, TsduMaximumSize, Wish};
 
-/// What a session knows, apart from octets.
+/// The state of a session, without octets.
 #[derive(Clone, Copy)]
 pub(crate) struct State {
     pub(crate) phase: Phase,
-    /// This end asked for the connection.
+    /// Whether this end requested the connection.
     pub(crate) is_caller: bool,
     /// The functional units that the CN names until it is answered, then the selected ones.
     pub(crate) units: FunctionalUnits,
-    /// The wishes of the CN or the RS that waits for its answer.
+    /// The wishes of the CN or RS that waits for its answer.
     pub(crate) wishes: TokenSetting,
     /// The tokens that this end holds.
     pub(crate) held: Tokens,
-    /// The first number that the CN proposes; 0 where it names none.
+    /// The first number that the CN proposes; 0 if it names none.
     pub(crate) proposed: u32,
     /// The first number of the connection; 0 until the CN is answered.
     pub(crate) base: u32,
@@ -56,7 +56,7 @@ impl State {
         sizes: TsduMaximumSize::NONE,
     };
 
-    /// The calling side, before the transport connection is there.
+    /// The calling side, before the transport connection is open.
     pub(crate) fn asking(opening: &Opening) -> State
         ensures { result ≡ asking opening.now }
     {

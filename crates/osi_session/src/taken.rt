@@ -1,4 +1,4 @@
-//! What a TSDU that was taken does.
+//! The effect of a TSDU.
 
 ghost use Rattle.std.specs.Prelude.{◌≡◌, [], None, false};
 
@@ -6,23 +6,22 @@ use crate::indications::Indication;
 use osi_message::Sent;
 use std::alloc::Global;
 
-/// What a taken TSDU does, besides the new state: the indications in their order, at most one for
-/// each unit, at most one TSDU to send, and whether the transport connection is closed, with reason
-/// 128.
+/// The effect of a TSDU apart from the new state: the indications in order, at most one for each unit; at most one TSDU
+/// to send; and whether the transport connection is closed, with reason 128.
 #[derive(Drop)]
 pub struct Taken {
-    /// What the user is shown first.
+    /// The first indication.
     pub first: Option<Indication>,
-    /// What the user is shown after it, in order: at most 16 indications.
+    /// The indications after it, in order, at most 16.
     pub more: Vec<Indication>,
-    /// The TSDU that is sent.
+    /// The TSDU to send.
     pub reply: Option<Sent>,
-    /// The transport connection is closed.
+    /// Whether the transport connection is closed.
     pub closes: bool,
 }
 
 impl Taken {
-    /// The user is shown at most this, and nothing is sent.
+    /// At most one indication, and nothing is sent.
     #[inline(always)]
     pub(crate) fn showing(alloc: Global, first: Option<Indication>) -> Taken
         ensures first { result.first ≡ first }

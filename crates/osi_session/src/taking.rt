@@ -33,7 +33,7 @@ pub(crate) fn has_no_effect(message: &Message) -> bool
     }
 }
 
-/// An end that has asked for a restart takes this unit; it discards all others.
+/// An end that has requested a restart takes this unit; it discards all others.
 fn passes_restarting(message: &Message) -> bool
     ensures { result ≡ passes_restarting (meant_by message.now) }
 {
@@ -51,14 +51,14 @@ pub(crate) fn drops(state: &State, message: &Message) -> bool
     has_no_effect(message) || (state.phase.is_restarting() && !passes_restarting(message))
 }
 
-/// RS: a token item in front of it has no effect.
+/// RS: a token item before it has no effect.
 pub(crate) fn is_restart(message: &Message) -> bool
     ensures { result ≡ is_resynchronize (meant_by message.now) }
 {
     matches!(message, Message::Restart { .. })
 }
 
-/// A unit that comes while the connection lives. Its row tests first whether the phase expects it.
+/// A unit that arrives while the connection lives. Its row first tests whether the phase expects it.
 #[tactic(auto, unfolding(crate::specs::Respond::take_expected))]
 fn take_live(alloc: Global, state: &State, message: Message<'_>) -> Result<Reaction, AllocError>
     ensures { Reacts result (in_phase state.now (meant_by message.entry)) }
@@ -103,7 +103,7 @@ fn take_live(alloc: Global, state: &State, message: Message<'_>) -> Result<React
     }
 }
 
-/// A unit that names no functional units. No phase of a connection that lives expects an AA.
+/// A unit that names no functional units. No phase of a live connection expects an AA.
 fn take_within(alloc: Global, state: &State, message: Message<'_>) -> Result<Reaction, AllocError>
     requires { has_terms (meant_by message) ≡ false }
     ensures { Reacts result (in_phase state.now (meant_by message.entry)) }
@@ -143,7 +143,7 @@ fn take_within(alloc: Global, state: &State, message: Message<'_>) -> Result<Rea
     }
 }
 
-/// A unit in Aborting: AB and AA end the phase, all else is discarded.
+/// A unit in Aborting: AB and AA end the phase, any other unit is discarded.
 fn take_aborting(state: &State, message: &Message) -> Reaction
     ensures { outcome_of result ≡ in_aborting state.now (meant_by message.now) }
 {
@@ -156,7 +156,7 @@ fn take_aborting(state: &State, message: &Message) -> Reaction
     }
 }
 
-/// A unit in Ended: AB is answered, all else is discarded.
+/// A unit in Ended: AB is answered, any other unit is discarded.
 fn take_ended(state: &State, message: &Message) -> Reaction
     ensures { outcome_of result ≡ in_ended state.now (meant_by message.now) }
 {
@@ -169,7 +169,7 @@ fn take_ended(state: &State, message: &Message) -> Reaction
     }
 }
 
-/// What one unit does.
+/// The effect of one unit.
 #[tactic(auto, unfolding(crate::specs::Respond::respond_unit))]
 pub(crate) fn take_unit(
     alloc: Global,

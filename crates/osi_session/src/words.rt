@@ -1,4 +1,4 @@
-//! What a unit of a TSDU says.
+//! The meaning of a unit of a TSDU.
 
 ghost use Rattle.std.specs.Prelude.{◌≡◌};
 ghost use Rattle.osi_session.specs.Joining.{is_restart_word};
@@ -10,7 +10,7 @@ use crate::taking::is_restart;
 use osi_message::{Message, Place};
 use osi_spdu::Spdu;
 
-/// What a unit says: a message, or a part of one Data.
+/// The meaning of a unit: a message, or a part of a Data.
 #[derive(Clone, Copy)]
 pub(crate) enum Word<'a> {
     /// A message.
@@ -20,7 +20,7 @@ pub(crate) enum Word<'a> {
 }
 
 impl<'a> Word<'a> {
-    /// What this unit says.
+    /// The meaning of this unit.
     #[tactic(auto, unfolding(osi_message::specs::Reading::word))]
     pub(crate) fn of(unit: &Spdu<'a>) -> Word<'a>
         ensures { word_by result ≡ word (said_by unit.now) }
@@ -31,7 +31,7 @@ impl<'a> Word<'a> {
         }
     }
 
-    /// RS: a token item in front of it has no effect.
+    /// RS: a token item before it has no effect.
     pub(crate) fn is_restart(&self) -> bool
         ensures { result ≡ is_restart_word (word_by self.now) }
     {
@@ -42,7 +42,7 @@ impl<'a> Word<'a> {
     }
 }
 
-/// Whether a unit is an RS: a token item in front of it has no effect.
+/// Whether a unit is an RS: a token item before it has no effect.
 pub fn is_restart_unit(unit: &Spdu) -> bool
     ensures { result ≡ is_restart_word (word (said_by unit.now)) }
 {

@@ -119,7 +119,7 @@ others_bad room at octets n f one some e h = behind_goes room at octets n one so
 pub others_read : (room at : ℕ) (octets : List ℕ) (n : Next) → 1 ≤ room → 1 ≤ length octets → next_at at octets ≡ Ok n → AreLeft (room - 1) n.end n.rest → behind_at room at octets ≡ Ok (n.unit ∷ left_at (room - 1) n.end n.rest)
 others_read room at octets n one some e left = behind_goes room at octets n one some e ∙ ap (with_first n) (left_read (room - 1) n.end n.rest left.readable)
 
--- ---- what stands together
+-- ---- which units may occur together
 
 pub joined_two : (first second : Kind) → is_joined first (Some second) ≡ true → category_of second ≡ Two
 unfolding is_joined

@@ -130,7 +130,7 @@ nothing_left : (room at : ℕ) (octets : List ℕ) → octets ≡ [] → left_at
 unfolding left_at behind_at
 nothing_left room at octets e = ap (left_at room at) e
 
--- a unit that may stand after another, with those after it
+-- a unit that may follow another, with those after it
 behind_stands : (kind : Kind) (room at : ℕ) (octets : List ℕ) → is_behind (Some kind) octets ≡ true → (category_of kind ≡ Two) × EndsTsdu kind (left_at room at octets)
 unfolding is_behind
 behind_stands kind room at octets e =

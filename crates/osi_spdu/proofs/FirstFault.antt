@@ -95,7 +95,7 @@ unfolding unit_at
 unit_fault_only second at [] f fits h = ap (λ (g : SpduFault). failed {A = Placed} g) (sym h)
 unit_fault_only second at (si ∷ octets) f fits h = named_only second at (kind_named second si) octets f (octets-tail si octets fits) h
 
--- ---- where a unit ends
+-- ---- the end of a unit
 
 indicator_octets : (long : Bool) (value rest : List ℕ) → length (length_octets long (length value) ++ value ++ rest) ≡ indicator_len long + (length value + length rest)
 indicator_octets true value rest = omega (arith, length-append value rest)

@@ -10,7 +10,7 @@ use Rattle.osi_spdu.proofs.FirstFault.{unit_end, unit_fault_found, unit_fault_on
 abbrev read : Units → Result Units SpduFault
 read units = Ok units
 
--- where a unit ends
+-- the end of a unit
 ends_at : (second : Bool) (at : ℕ) (octets : List ℕ) (p : Placed) → IsOctets octets → unit_at second at octets ≡ Ok p → (front : List ℕ) → octets ≡ front ++ p.rest → p.end ≡ at + length front
 ends_at second at octets p fits e front parts =
     let whole = unit_end second at octets p fits e in

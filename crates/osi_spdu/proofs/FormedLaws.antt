@@ -6,7 +6,7 @@ use Rattle.osi_spdu.proofs.StepLaws.{same_true, same_refl}
 use Rattle.osi_spdu.proofs.OwnerLaws.{among_named, any_weaker}
 use Rattle.osi_spdu.proofs.UnitsLaws.{unit_found}
 
--- ---- where a value comes from
+-- ---- the source of a value
 
 sole_of_head : (x : Option (List ℕ)) (xs : List (Option (List ℕ))) (o : Option (List ℕ)) (w : List ℕ) → x ≡ Some w → Sole (x ∷ xs) o → o ≡ Some w
 sole_of_head None xs o w e h = absurd cc
@@ -109,7 +109,7 @@ inner_source kind g value v inner d s e =
     let from = source (MeansInGroup kind (members_of kind g)) s.parts inner d v s.each s.once e in
     member_source kind g from.part.value v from.part.gives d (code_among (members_of kind g) from.part.code) from.part.code refl from.is_part.2 from.gives_it
 
--- where a value of a unit may come from: a code of the unit, or a group that is there
+-- the source of a value of a unit: a code of the unit, or a group that is there
 abbrev pub IsOwned : Kind → Known → Code → Type 0
 IsOwned kind raw d = (among (codes_of kind) d ≡ true) ⊎ ((g : Code) × (among (codes_of kind) g ≡ true) × (among (members_of kind g) d ≡ true) × (raw g ≡ Some []))
 

@@ -38,7 +38,7 @@ measured_rest : (at : ℕ) (octets : List ℕ) (m : Measured) → measured_at at
 unfolding measured_at
 measured_rest at octets m h0 = grind (arith, chosen, long_rest, counted_rest)
 
--- two results of steps that agree where the first did not fail
+-- two results of steps that agree if the first did not fail
 same_bind : {A B : Type 0} (r : Result A SpduFault) (f g : A → Result B SpduFault) → ((x : A) → r ≡ Ok x → f x ≡ g x) → (r >>= f) ≡ (r >>= g)
 same_bind (Ok x) f g h = h x refl
 same_bind (Err e) f g h = refl

@@ -1,4 +1,4 @@
--- What an end comes to, packet by packet, whatever was told and carried between.
+-- The account of an end, packet by packet, whatever was given and sent in between.
 use Rattle.std.proofs.Common.{◌≡◌, ℕ, false, List, [], ◌∷◌, ◌++◌, Option, Some, None, is_some, option_to_list, refl, sym, ap, ◌∙◌, append_assoc}
 use Rattle.osi_stack.proofs.Vocabulary.{Rows, Shown, first_shown, without_first, rest_by, stops, TakesPackets, after_packet, all_waiting, IsFirstOf, quieted, hushed, put_back, Account, account_of, with_packet, with_packets, Line, End, line_waits, waits}
 use Rattle.osi_stack.proofs.FirstShown.{quiet_line}
@@ -6,15 +6,15 @@ use Rattle.osi_stack.proofs.InFront.{apart_packet}
 use Rattle.osi_stack.proofs.Lifting.{or_first, or_second}
 use Rattle.osi_stack.proofs.Moves.{first_of_all, none_waiting}
 
--- an account of this end, with this told
+-- an account of this end, with these indications given
 abbrev pub made : End → List (ℕ × Shown) → Account
 made e told = record { end = e; told = told }
 
--- more was told, and more was carried, before
+-- more indications were given, and more octets sent, before
 abbrev pub after_more : List (ℕ × Shown) → List ℕ → Account → Account
 after_more told carried a = record { end = put_back carried a.end; told = told ++ a.told }
 
--- ---- nothing waits
+-- ---- nothing is pending
 
 abbrev row_with : ℕ → Line → List Shown → ℕ × Line
 row_with r line waiting = (r, record line { waiting = waiting })
@@ -46,7 +46,7 @@ told_first : (first : Option (ℕ × Shown)) (all others : List (ℕ × Shown)) 
 told_first None all others h = h.1 ∙ sym h.0
 told_first (Some first) all others h = sym h
 
--- what was told waits no longer, and nothing else changes
+-- an indication that was given is no longer pending, and nothing else changes
 pub account_told : (shown : Option (ℕ × Shown)) (e : End) → shown ≡ first_shown e.lines →
     account_of (option_to_list shown) [] (record e { lines = without_first e.lines }) ≡ account_of [] [] e
 account_told shown e is =
@@ -76,7 +76,7 @@ pub with_joined : (us vs : List (List ℕ)) (a : Account) → with_packets (us +
 with_joined [] vs a = refl
 with_joined (u ∷ us) vs a = with_joined us vs (with_packet a u)
 
--- a packet where nothing waits
+-- a packet if nothing is pending
 pub account_packet : (e : End) (unit : List ℕ) → stops e ≡ false → with_packet (account_of [] [] e) unit ≡ account_of [] [] (after_packet e unit)
 account_packet e unit quiet = ap (λ (a : Account). with_packet a unit) (account_quiet e (or_second (is_some e.carrier.ended) (waits e.lines) quiet))
 

@@ -1,4 +1,4 @@
--- The addresses of a connection: what was asked for, what came, and what keeps them.
+-- The addresses of a connection: those requested, those received, and what keeps them.
 use Rattle.std.proofs.Common.{◌≡◌, ◌≢◌, ℕ, ◌+◌, Bool, true, false, [], ◌∷◌, ◌++◌, Option, Some, None, is_some, option_map, refl, ap, ◌∙◌, arith, if◌then◌else◌}
 use Rattle.osi_carrier.specs.Named.{AreNamed}
 use Rattle.osi_stack.proofs.Vocabulary.{tsap_octets, tsaps_at, asks, value_at, Connection, asked, TsapIds, push_here, put_here, beyond, put_other, known_is, none_of, Input, Listener, react, addressed, selectors_in, addresses_at, asked_addresses, calls_with, connects, Soundness, kept_at, line_by, by_line, to_session, Selectors, selectors_told, shows_connect, Line, End, session_in, fresh_line, Connect}

@@ -1,11 +1,11 @@
--- What is seen of two ends that came to the same.
+-- What is seen of two ends with the same account.
 use Rattle.std.proofs.Common.{option_map, ◌≡◌, ℕ, ◌==◌, Bool, true, false, not, List, [], ◌∷◌, length, Option, Some, None, is_some, refl, sym, ap, ◌∙◌, if◌then◌else◌, arith}
 use Rattle.osi_session.specs.declared.faults.CallError.TheVariants.{BadState}
 use Rattle.osi_stack.specs.Runs.{Call, told_of}
 use Rattle.osi_stack.proofs.Vocabulary.{flat_map, kept_in, Rows, value_at, Call as SessionCall, Listener, NoSuchConnection, has_given, awaits_transport, disconnect_error, connect_error, call_error, session_refusal, phase_of, phase_at, quieted, hushed, put_back, carried_in, AreAlike, AreAlikeByReference, LookAlike, Line, End, Holding, session_in, session_at, joined_in}
 use Rattle.osi_stack.proofs.Keeps.{joined_quiet, kept_same}
 
--- a line for which nothing waits
+-- a line for which nothing is pending
 abbrev pub hush : Line → Line
 hush line = record line { waiting = [] }
 
@@ -18,7 +18,7 @@ pub quieted_value : (r : ℕ) (lines : Rows Line) → value_at r (quieted lines)
 quieted_value r [] = refl
 quieted_value r ((q, line) ∷ lines) = value_by r q line lines (q == r) refl (quieted_value r lines)
 
--- what waits is no matter to a session
+-- what is pending does not matter to a session
 hushed_in : (o : Option Line) → session_in (option_map hush o) ≡ session_in o
 hushed_in None = refl
 hushed_in (Some line) = refl
@@ -47,7 +47,7 @@ disconnect_same : (o : List ℕ) (r : ℕ) (e : End) → disconnect_error r (put
 disconnect_same o r e =
     ap (λ (s : Option Listener). if not (has_given r e.carrier) then Some NoSuchConnection else (if awaits_transport s then Some BadState else None)) (session_hushed r e)
 
--- also where what was told of several references stands in another order
+-- also if the indications of several references are in another order
 pub look_apart : (a b : Holding) (xs ys : List Call) → AreAlikeByReference a xs b ys → LookAlike a xs b ys
 look_apart a b xs ys h = record {
   phases = λ r. sym (phase_hushed r a.end) ∙ ap (phase_at r) h.end ∙ phase_hushed r b.end;

@@ -1,4 +1,4 @@
--- Which connections that were asked for are told to be agreed to, or denied.
+-- Which connections that were asked for are reported to be agreed to, or denied.
 use Rattle.std.proofs.Common.{◌≡◌, ◌≢◌, ℕ, ◌+◌, ◌==◌, Bool, true, false, ◌||◌, List, [], ◌∷◌, ◌++◌, refl, ◌∙◌, ◌⊎◌, arith}
 use Rattle.osi_stack.proofs.Vocabulary.{or_right, Happening, told_of, told_opened as opened, told_refused as refused}
 

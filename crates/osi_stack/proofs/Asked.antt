@@ -1,4 +1,4 @@
--- A connection is asked for, whatever waits: it is the same but for lines of connections that are gone.
+-- A connection is requested, whatever is pending: it is the same but for lines of connections that are gone.
 use Rattle.std.proofs.Common.{◌≡◌, ◌≢◌, ℕ, ◌+◌, ◌==◌, Bool, true, false, List, [], ◌∷◌, ◌++◌, is_some, refl, sym, ap, ◌∙◌, option_map, arith}
 use Rattle.osi_stack.proofs.Vocabulary.{eqb-true, eq-eqb, flat_map, beyond, push_here, push_other, asks, AreUpTo, Rows, value_at, Connection, asked, State as Carrier, Listener, Shown, calls_with, connects, shown_of, all_waiting, quieted, hushed, put_back, live_lines, pruned, told_in, carried_in, AreAlike, AreAlikeInLive, Line, End, Holding, line_waits, is_used, used_lines, fresh_line, Connect, tsap_octets, EndCall as Call}
 use Rattle.osi_stack.proofs.FirstShown.{quiet_line}
@@ -9,7 +9,7 @@ use Rattle.osi_stack.proofs.Pruning.{only, only_push}
 use Rattle.osi_stack.proofs.Reached.{reached, reached_live, reached_new, Within, only_less, known_live}
 use Rattle.osi_stack.proofs.Rounds.{connects_apart}
 
--- ---- what waits
+-- ---- what is pending
 
 waits_by : (live : Rows Connection) (p : ℕ) (y : Line) (rows more : Rows Line) (b : Bool) → is_used live (p, y) ≡ b → all_waiting (used_lines live rows) ≡ all_waiting more →
     all_waiting (used_lines live ((p, y) ∷ rows)) ≡ shown_of p y.waiting ++ all_waiting more
@@ -19,7 +19,7 @@ waits_by live p y rows more false e h =
     ap all_waiting (used_by live (p, y) rows false e) ∙ h
     ∙ sym (ap (λ (w : List Shown). shown_of p w ++ all_waiting more) (quiet_line y (or_second (is_some (value_at p live)) (line_waits y) e)))
 
--- nothing that waits is dropped
+-- no pending indication is dropped
 waits_still : (live : Rows Connection) (q : ℕ) (s : Listener) (lines : Rows Line) → all_waiting (used_lines live (joined_lines q s lines)) ≡ all_waiting lines
 waits_still live q s [] =
     waits_by live q (fresh_line s) [] [] (is_used live (q, fresh_line s)) refl refl
@@ -53,7 +53,7 @@ hushed_lines live q s lines =
     ap quieted (live_used live (joined_lines q s lines)) ∙ sym (quieted_live live (joined_lines q s lines)) ∙ ap (live_lines live) (joined_quieted q s lines)
     ∙ sym (live_used live (joined_lines q s (quieted lines)))
 
--- what waits is no matter to them
+-- what is pending does not matter to them
 pub connects_hushed : (c : Connect) (e : End) → hushed (pruned (connects c e)) ≡ pruned (connects c (hushed e))
 connects_hushed c e =
     let here = connects c e in

@@ -1,4 +1,5 @@
--- A connection is asked for while indications wait, for live connections alone: as where all was told.
+-- A connection is requested while indications are pending, but only for live connections: the same as if all had been
+-- given.
 use Rattle.std.proofs.Common.{◌≡◌, ℕ, ◌==◌, Bool, true, false, ◌||◌, not, List, [], ◌∷◌, ◌++◌, is_some, refl, sym, ap, ◌∙◌, arith}
 use Rattle.osi_stack.proofs.Vocabulary.{Rows, value_at, Connection, Listener, Shown, shown_of, all_waiting, WaitForLive, quieted, Line, line_waits, is_used, used_lines, fresh_line}
 use Rattle.osi_stack.proofs.Alike.{hush}
@@ -8,7 +9,7 @@ use Rattle.osi_stack.proofs.Linking.{used_by, joined_lines, mono_or}
 or_not : (b w : Bool) → b ≡ false → (b || not w) ≡ true → w ≡ false
 or_not b w e h = grind arith
 
--- ---- live connections stay so where one is asked for
+-- ---- live connections stay so when one is requested
 
 push_by : (r p q : ℕ) (c d : Connection) (live : Rows Connection) (b : Bool) → (p == r) ≡ b → is_some (value_at r ((p, d) ∷ live)) ≡ true →
     (is_some (value_at r live) ≡ true → is_some (value_at r (live ++ (q, c) ∷ [])) ≡ true) → is_some (value_at r ((p, d) ∷ (live ++ (q, c) ∷ []))) ≡ true
@@ -26,7 +27,7 @@ wait_push q c live ((r, line) ∷ lines) all =
 
 -- ---- the lines that are kept
 
--- a new line joins, where indications wait and where all was told
+-- a new line is added, if indications are pending and if all were given
 pub record Joins (live : Rows Connection) (q : ℕ) (s : Listener) (lines : Rows Line) : Type 0 where
   pub same : quieted (used_lines live (joined_lines q s lines)) ≡ quieted (used_lines live (joined_lines q s (quieted lines)))
   pub waiting : all_waiting (used_lines live (joined_lines q s lines)) ≡ all_waiting lines

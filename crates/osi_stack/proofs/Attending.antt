@@ -1,4 +1,4 @@
--- An end that has not ended has heard all that its carrier told.
+-- An end that has not ended has handled all events of its carrier.
 use Rattle.std.proofs.Common.{◌≡◌, ℕ, ◌||◌, List, ◌∷◌, ◌∙◌, ◌⊎◌, if◌then◌else◌, []}
 use Rattle.osi_stack.proofs.Vocabulary.{Fed, Input, connects, breaks, Feeds, to_session, End, Holding, IsAttended, Connect}
 use Rattle.osi_stack.proofs.Keeping.{session_keeps}

@@ -1,4 +1,4 @@
--- Each session that waits for its transport connection has one that was asked for.
+-- Each session that waits for its transport connection has one that was requested.
 use Rattle.std.proofs.Common.{◌≡◌, ◌≢◌, ℕ, ◌+◌, ◌==◌, Bool, true, false, ◌||◌, List, ◌∷◌, ◌++◌, length, Option, Some, None, is_some, refl, sym, ap, subst, ◌∙◌, inl, inr, ◌⊎◌, arith, if◌then◌else◌, []}
 use Rattle.osi_carrier.specs.Happenings as told
 use Rattle.osi_carrier.specs.Packets as carriers
@@ -15,7 +15,7 @@ use Rattle.osi_stack.proofs.Soundness.{concludes_lasting, hale_kept, IsHale}
 use Rattle.osi_stack.proofs.Stepwise.{session_carried, broken_end}
 use Rattle.osi_stack.proofs.Throughout.{feeds_beside, over_beside}
 
--- what waits for its transport connection did so before
+-- a session that waits for its transport connection did so before
 abbrev pub StillWaits : Type 0
 StillWaits = (s : Listener) (input : Input) → is_wait_transport (react s input).next.state.phase ≡ true → is_wait_transport s.state.phase ≡ true
 
@@ -42,7 +42,7 @@ pub asked_closed : (r q : ℕ) (o : Option (ℕ × Link)) (c : Carrier) → open
 asked_closed r q None c e here over = here over
 asked_closed r q (Some (peer, link)) c e here over = asked_closes r q peer c.class c (λ lasts. other_link r q c (peer, link) (here lasts) e) here over
 
--- one that was asked for stays so while the carrier lasts
+-- one that was requested stays so while the carrier lasts
 asked_session : (r q : ℕ) (input : Input) (e : End) → (to_session q input e).carrier.ended ≡ None → value_at r e.carrier.live ≡ Some asked → value_at r (to_session q input e).carrier.live ≡ Some asked
 asked_session r q input e over here =
     session_carried (λ c. c.ended ≡ None → value_at r c.live ≡ Some asked) (record {
@@ -52,11 +52,11 @@ asked_session r q input e over here =
 
 -- ---- while events wait
 
--- a session that waits, whose connection none of the events answers, has one that was asked for
+-- a session that waits, whose connection none of the events answers, has one that was requested
 abbrev pub AllAsked : List Happening → End → Type 0
 AllAsked events e = (r : ℕ) (s : Listener) → kept_at r e.lines ≡ Some s → is_wait_transport s.state.phase ≡ true → answered r events ≡ false → value_at r e.carrier.live ≡ Some asked
 
--- an event answers no connection of a session that waits behind it
+-- an event answers no connection of a session that waits after it
 abbrev Unanswered : ℕ → Input → Happening → List Happening → Type 0
 Unanswered q input event rest = (s : Listener) → is_wait_transport (react s input).next.state.phase ≡ true → answered q (event ∷ rest) ≡ answered q rest
 

@@ -1,4 +1,4 @@
--- A break while indications wait: of each reference the same is told.
+-- A break while indications are pending: of each reference the same is reported.
 use Rattle.std.proofs.Common.{◌≡◌, ℕ, ◌==◌, Bool, true, false, List, [], ◌∷◌, ◌++◌, Option, None, is_some, refl, sym, ap, subst, ◌∙◌, append_assoc, if◌then◌else◌}
 use Rattle.osi_stack.specs.Runs.{Call, told_of}
 use Rattle.osi_stack.proofs.Vocabulary.{eqb-true, append-nil, filter-append, flat_map, Rows, value_at, Broken, Listener, Shown, breaks, ends, shown_at_loss, all_lost, AreApart, kept_at, waiting_of, waiting_at, shown_of, all_waiting, quieted, hushed, put_back, told_in, carried_in, AreAlike, AreAlikeByReference, IsSettled, Line, End, Holding, none_of}
@@ -6,7 +6,7 @@ use Rattle.osi_stack.proofs.Alike.{quieted_at}
 use Rattle.osi_stack.proofs.Linking.{apart_lost}
 use Rattle.osi_stack.proofs.Moves.{are_lost}
 
--- ---- what is told of one reference
+-- ---- the indications of one reference
 
 told_join : (r : ℕ) (a b : List (ℕ × Shown)) → told_of r (a ++ b) ≡ told_of r a ++ told_of r b
 told_join r a b = filter-append (λ (first : ℕ × Shown). first.0 == r) a b
@@ -33,7 +33,7 @@ told_row r q line lines false e alone more =
     ap (λ (l : List (ℕ × Shown)). l ++ told_of r (all_waiting lines)) (told_other r q line.waiting e)
     ∙ more ∙ ap (shown_of r) (sym (rw e refl))
 
--- where each reference has one line
+-- if each reference has one line
 told_at : (r : ℕ) (lines : Rows Line) → AreApart lines → told_of r (all_waiting lines) ≡ shown_of r (waiting_at r lines)
 told_at r [] apart = refl
 told_at r ((q, line) ∷ lines) apart =
@@ -43,7 +43,7 @@ shown_join : (r : ℕ) (a b : List Shown) → shown_of r (a ++ b) ≡ shown_of r
 shown_join r [] b = refl
 shown_join r (x ∷ a) b = ap (λ (l : List (ℕ × Shown)). (r, x) ∷ l) (shown_join r a b)
 
--- that it is lost is told behind all else
+-- the loss is indicated last
 pub lost_told : (r : ℕ) (t : List (ℕ × Shown)) (lines : Rows Line) → AreApart lines →
     told_of r (t ++ all_waiting (all_lost lines)) ≡ told_of r (t ++ all_waiting lines) ++ shown_of r (shown_at_loss (kept_at r lines))
 lost_told r t lines apart =
@@ -91,7 +91,7 @@ breaks_by false a b xs ys over s t h =
     let same = ap (λ (e : End). is_some e.carrier.ended) h.end in
     broken_apart a b xs ys (s.sound (none_of a.end.carrier.ended over)).apart (t.sound (none_of b.end.carrier.ended (sym same ∙ over))).apart h
 
--- where a break is found, whatever waits
+-- if a break is found, whatever is pending
 pub breaks_alike : (a b : Holding) (xs ys : List Call) → IsSettled a.end → IsSettled b.end → AreAlike a xs b ys →
     AreAlikeByReference (record a { end = breaks a.end }) xs (record b { end = breaks b.end }) ys
 breaks_alike a b xs ys s t h =

@@ -107,7 +107,7 @@ runs_dry old new outgoing coming k used less c h =
       coming_then = λ lasts. subst (λ n. AreComing new.held.octets (drop n outgoing) f.left) (sym all) f.rest;
     }
 
--- where the end has not ended, an indication waits
+-- if the end has not ended, an indication is pending
 pub uses_within : (e : End) (all within used : ℕ) → stops e ≡ true → e.carrier.ended ≡ None → used ≡ (if uses_all e then all else within) → used ≡ within
 uses_within e all within used stopped lasts uses = cc
 

@@ -1,5 +1,5 @@
--- A connection is given up in two runs that are in step: they come to the same, whatever the pieces, also but for
--- lines of connections that are gone.
+-- A connection is given up in two runs that are in step: they reach the same state, whatever the pieces; also if they
+-- differ in lines of connections that are gone.
 use Rattle.std.proofs.Common.{◌≡◌, ℕ, ◌==◌, Bool, true, false, List, [], ◌∷◌, Option, Some, None, is_some, option_map, refl, sym, ap, subst, ◌∙◌, if◌then◌else◌}
 use Rattle.osi_carrier.specs.Runs.UserCall.{closes}
 use Rattle.osi_stack.specs.Disconnecting.{given_up, gives_up_by, gives_up, disconnects}

@@ -1,5 +1,4 @@
--- One connection is given up: what is true of every end's carrier, of its sessions and of each of its lines stays
--- so.
+-- One connection is given up: the invariant of every end's carrier, of its sessions and of each of its lines stays so.
 use Rattle.std.proofs.Common.{◌≡◌, ◌≢◌, ℕ, ◌==◌, Bool, true, false, not, ◌&&◌, [], Option, Some, None, get_or, set, IsSome, option_map, refl, sym, ap, subst, ◌∙◌}
 use Rattle.osi_stack.specs.Disconnecting.{given_up, gives_up_by, gives_up, disconnects}
 use Rattle.osi_stack.proofs.Vocabulary.{IfSome, eqb-true, eq-eqb, and-true, open_link, closed_with, AreUpTo, RiseFrom, IsOrderly, Rows, value_at, State as Carrier, is_open, here_is, placed, place_of, put_here, put_other, put_rise, put_up, orderly_closed, closed_opens, Listener, after_input, broken, react, IsNamed, CameAbout, AllCameAbout, OfLines, OfSession, OfSessions, loses, needs_link, AreApart, Soundness, IsSound, kept_at, IsOrdered, Line, End, IsAttended, session_in}
@@ -84,7 +83,7 @@ disconnect_carrier r e = concluded_carrier (closed_and_given r e)
 pub disconnect_lasts : (r : ℕ) (e : End) → (disconnects r e).carrier.ended ≡ None → (closed_with r 128 e.carrier).ended ≡ None
 disconnect_lasts r e over = ap (λ (c : Carrier). c.ended) (sym (disconnect_carrier r e)) ∙ over
 
--- where the end goes on
+-- if the end goes on
 pub disconnect_is : (r : ℕ) (e : End) → (disconnects r e).carrier.ended ≡ None → disconnects r e ≡ closed_and_given r e
 disconnect_is r e over = let lasts = disconnect_lasts r e over in concludes_lasting (closed_with r 128 e.carrier).ended (closed_and_given r e) lasts
 

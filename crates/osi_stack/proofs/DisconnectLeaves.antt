@@ -1,5 +1,5 @@
--- One connection is given up: the others keep all that is theirs, a DR is written in class 2 and the end ends in
--- class 0, and nothing waits for the user of that connection.
+-- One connection is given up: the others keep all that is theirs, a DR is written in class 2 and the end ends in class
+-- 0, and nothing is pending for the user of that connection.
 use Rattle.std.proofs.Common.{◌≡◌, ◌≢◌, ℕ, Bool, true, false, [], ◌∷◌, ◌++◌, Option, Some, None, is_some, option_map, refl, sym, ap, subst, ◌∙◌, if◌then◌else◌}
 use Rattle.osi_carrier.specs.State.{writes, moves}
 use Rattle.osi_carrier.specs.declared.ends.EndReason.TheVariants.{Closed}
@@ -63,7 +63,7 @@ lasts_by r (Some (peer, link)) c other lasts = ap (λ (d : Carrier). d.ended) (a
 pub goes_on : (r : ℕ) (e : End) → e.carrier.ended ≡ None → (e.carrier.class ≡ Some Zero → ⊥) → (disconnects r e).carrier.ended ≡ None
 goes_on r e lasts other = ap (λ (c : Carrier). c.ended) (disconnect_carrier r e) ∙ lasts_by r (open_link r e.carrier) e.carrier other lasts
 
--- ---- what is shown
+-- ---- the indications
 
 unseen : (o : Option Listener) → shown_at_loss (option_map (λ s. after_input s broken) o) ≡ []
 unfolding react

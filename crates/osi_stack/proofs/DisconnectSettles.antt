@@ -1,5 +1,5 @@
--- One connection is given up: each session that waits for its transport connection still has one that was asked for,
--- and what is true of every end between any two calls stays so.
+-- One connection is given up: each session that waits for its transport connection still has one that was requested,
+-- and the invariant of every end between any two calls is kept.
 use Rattle.std.proofs.Common.{◌≡◌, ◌≢◌, ℕ, ◌==◌, Bool, true, false, Option, Some, None, option_map, refl, sym, ap, ◌∙◌}
 use Rattle.osi_stack.specs.Disconnecting.{gives_up, disconnects}
 use Rattle.osi_stack.proofs.Vocabulary.{eqb-true, eq-eqb, open_link, closed_with, value_at, asked, Listener, after_input, broken, react, is_wait_transport, HasProfile, IsProfiled, IsNamed, HasAsked, kept_at, IsSettled, End, session_in}

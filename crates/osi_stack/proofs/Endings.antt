@@ -1,5 +1,5 @@
--- How a list of calls ends an end for which there is memory: behind a packet, or at a fault of the stream. Two
--- lists with the same octets end it alike.
+-- How a list of calls ends an end for which there is memory: after a packet, or at a fault of the stream. Two lists
+-- with the same octets end it alike.
 use Rattle.std.proofs.Common.{◌≡◌, ℕ, ◌+◌, ◌-◌, ◌<◌, ◌^◌, ◌||◌, Bool, true, false, List, ◌∷◌, ◌++◌, length, take, Option, Some, None, is_some, refl, sym, ap, subst, ◌∙◌, ◌⊎◌, inl, inr, arith, append_assoc, length-append, []}
 use Rattle.osi_tpkt.proofs.Fronts.{one_fault}
 use Rattle.osi_carrier.proofs.Outcomes.{Compared, compare, init_front, no_further, at_same, offsets_join}
@@ -12,7 +12,7 @@ use Rattle.osi_stack.proofs.Runs.{ReadsOne, reads_one}
 
 -- ---- how it ends
 
--- the stream has a fault where nothing waits
+-- the stream has a fault if nothing is pending
 abbrev pub faulted : TpktFault → Account → Account
 faulted fault a = account_of a.told [] (ends (Fault (Tpkt fault)) a.end)
 
@@ -26,7 +26,7 @@ pub record InPacket (old : Account) (s : List ℕ) (final : Account) : Type 0 wh
   pub over : is_some (with_packets (before ++ last ∷ []) old).end.carrier.ended ≡ true
   pub account : final ≡ with_packets (before ++ last ∷ []) old
 
--- behind these packets the stream has a fault
+-- after these packets the stream has a fault
 pub record InFault (old : Account) (at : ℕ) (s : List ℕ) (final : Account) : Type 0 where
   pub before : List (List ℕ)
   pub rest : List ℕ
@@ -183,7 +183,7 @@ ends_one old (feeding piece fed) new later quiet h room over = ends_feed old pie
 ends_one old (telling shown) new later quiet h room over = never new.end over (ap (λ (x : Holding). x.end.carrier.ended) h.1 ∙ quiet)
 ends_one old (carrying octets) new later quiet h room over = never new.end over (ap (λ (x : Holding). x.end.carrier.ended) (sym h) ∙ quiet)
 
--- ---- behind the end
+-- ---- after the end
 
 pub record Stays (old : Holding) (told : List (ℕ × Shown)) (carried : List ℕ) (new : Holding) : Type 0 where
   pub account : account_of told carried new.end ≡ account_of [] [] old.end
@@ -209,13 +209,13 @@ pub in_room : (old : Holding) (calls : List Call) (new : Holding) → CallsInRoo
 in_room old [] new h = h
 in_room old (call ∷ calls) new h = (h.0, h.1, in_room h.0 calls new h.3)
 
--- what packets did behind the call
+-- what packets did after the call
 behind_call : (told : List (ℕ × Shown)) (carried : List ℕ) (vs more us : List (List ℕ)) (old mid : End) → us ≡ vs ++ more →
     account_of told carried mid ≡ with_packets vs (account_of [] [] old) → with_packets us (account_of [] [] old) ≡ after_more told carried (with_packets more (account_of [] [] mid))
 behind_call told carried vs more us old mid all e =
     with_parts us vs more (account_of [] [] old) all ∙ ap (with_packets more) (sym e) ∙ packets_apart told carried more (account_of [] [] mid)
 
--- a fault ends it so whatever was told and carried before
+-- a fault ends it so whatever was reported and carried before
 faulted_apart : (told : List (ℕ × Shown)) (carried : List ℕ) (fault : TpktFault) (a : Account) → faulted fault (after_more told carried a) ≡ after_more told carried (faulted fault a)
 faulted_apart told carried fault a =
     ap (made (put_back carried (hushed (ends (Fault (Tpkt fault)) a.end)))) (append_assoc told a.told (all_waiting (all_lost a.end.lines)))
@@ -296,7 +296,7 @@ outcome_along nothing old (call ∷ calls) new quiet bound h over =
     outcome_by nothing old call h.0 calls new (is_some h.0.end.carrier.ended) refl quiet bound h.1 h.2 h.3
     (λ alive small. outcome_along nothing h.0 calls new alive small h.3 over)
 
--- ---- what was told and carried before
+-- ---- what was reported and carried before
 
 pub ending_apart : (told : List (ℕ × Shown)) (carried : List ℕ) (old : Account) (at : ℕ) (s : List ℕ) (final : Account) → Ending old at s final →
     Ending (after_more told carried old) at s (after_more told carried final)

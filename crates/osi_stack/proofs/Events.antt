@@ -1,4 +1,4 @@
--- The events that wait, heard one after the other.
+-- The events that are pending, heard one after the other.
 use Rattle.std.proofs.Common.{◌≡◌, ℕ, ◌+◌, ◌<◌, ◌==◌, zero, suc, Bool, true, false, not, List, ◌∷◌, length, None, is_some, refl, sym, ap, subst, ◌∙◌, inl, inr, arith, if◌then◌else◌, []}
 use Rattle.osi_carrier.specs.Packets as carriers
 use Rattle.osi_stack.proofs.Vocabulary.{eqb-true, not-false, Fed, Tells, Happening, Carrying, is_spoilt, Rows, State as Carrier, Interrupted, LeftOff, Fetches, hears, hears_first, hears_next, hears_times, hears_all, with_events, with_carrier, all_lost, concludes, starves, RunsOut, needs_memory, Line, End, Holding, IsAttended, holding}
@@ -10,7 +10,7 @@ one_later : (n : ℕ) (e : End) → hears_times (suc n) e ≡ hears_next (hears_
 one_later zero e = refl
 one_later (suc n) e = one_later n (hears_next e)
 
--- an event that was told waits no longer
+-- an event that was reported is no longer queued
 record IsTaken (now : End) (event : Happening) (mid : Carrier) : Type 0 where
   first : now.carrier.events ≡ event ∷ mid.events
   rest : with_events mid.events now ≡ with_carrier mid now
@@ -18,11 +18,11 @@ record IsTaken (now : End) (event : Happening) (mid : Carrier) : Type 0 where
 taken_is : (now : End) (event : Happening) (mid : Carrier) → now.carrier ≡ record mid { events = event ∷ mid.events } → IsTaken now event mid
 taken_is now event mid h = grind arith
 
--- the carrier of an end, and the packet under way
+-- the carrier of an end, and the unfinished packet
 abbrev pub carrying_of : Holding → Carrying
 carrying_of h = record { state = h.end.carrier; held = h.held }
 
--- so many events were heard
+-- this many events were heard
 pub record HasHeard (old now : Holding) : Type 0 where
   pub count : ℕ
   pub is : now.end ≡ hears_times count old.end
@@ -61,12 +61,12 @@ heard_left old now event mid new so_far h needed stopped =
     let t = taken_is now.end event mid h in
     search (ap (λ (e : End). e.carrier.events) (sym so_far.is) ∙ t.first, subst (λ (e : End). needs_memory event e ≡ true) (sym t.rest ∙ ap (with_events mid.events) so_far.is) needed, subst (λ (e : End). Interrupted e new) (sym t.rest ∙ ap (with_events mid.events) so_far.is) stopped)
 
--- ---- want of memory
+-- ---- an allocation failure
 
 pub starved_is : (old mid : End) → LeftOff old mid → RunsOut old (starves mid)
 starved_is old mid left = grind arith
 
--- ---- no event waits
+-- ---- no event is queued
 
 pub no_events : {A : Type 0} (events : List A) → not (length events == 0) ≡ false → events ≡ []
 no_events [] h = refl
@@ -79,7 +79,7 @@ times_quiet (suc n) e none = ap (hears_times n) (ap (λ l. hears_first l e) none
 pub all_quiet : (e : End) → e.carrier.events ≡ [] → hears_all e ≡ e
 all_quiet e none = times_quiet (length e.carrier.events) e none
 
--- where none waits there is memory
+-- if none is pending there is memory
 pub never_starved : {A : Type 0} (old new : End) → old.carrier.events ≡ [] → RunsOut old new → A
 never_starved old new none out = grind (arith, hears_times, times_quiet)
 
@@ -134,7 +134,7 @@ fetched old octets fed told heard carrier lines b feeds so_far none held over le
       attended = concluded_attended heard.end (holding carrier lines).end is none.0;
     }
 
--- the same where there was no memory for what one of them does
+-- the same if there was no memory for what one of them does
 pub fetched_not : (old : Holding) (octets : List ℕ) (fed : Fed) (told : Carrying) (heard new : Holding) → carriers.Feeds (carrying_of old) octets fed told →
     LeftOff (with_carrier told.state old.end) heard.end → heard.held ≡ told.held → new ≡ record heard { end = starves heard.end } → Fetches old octets (length octets) new
 fetched_not old octets fed told heard new feeds left held is = record {

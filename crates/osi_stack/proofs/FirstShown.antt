@@ -1,11 +1,11 @@
--- The first connection for which an indication waits.
+-- The first connection for which an indication is pending.
 use Rattle.std.proofs.Common.{◌≡◌, ℕ, ◌+◌, ◌<◌, ◌≤◌, ◌==◌, Bool, zero, suc, true, false, not, List, [], ◌∷◌, length, map, get_or, set, Option, Some, None, refl, sym, ap, ◌∙◌, arith}
 use Rattle.std.proofs.lemmas.List.Quantifiers.{position-Some}
 use Rattle.osi_stack.proofs.Vocabulary.{position, position_or_len, common_steps, Rows, Shown, shown_by, Indication, first_by, first_shown, rest_by, without_first, TellsOf, Line, line_waits, waits}
 use Rattle.osi_stack.proofs.Events.{no_events}
 use Rattle.osi_stack.proofs.Lifting.{or_first, or_second}
 
--- ---- nothing waits
+-- ---- nothing is pending
 
 pub quiet_line : (l : Line) → line_waits l ≡ false → l.waiting ≡ []
 quiet_line l e = no_events l.waiting e
@@ -33,9 +33,9 @@ quiet_none [] h = record { shown = refl; rest = refl }
 quiet_none ((r, l) ∷ rows) h =
     none_cons r l rows (quiet_line l (or_first (line_waits l) (waits rows) h)) (quiet_none rows (or_second (line_waits l) (waits rows) h))
 
--- ---- the first that waits
+-- ---- the first pending indication
 
--- the oldest of the first line that waits, which is at this place
+-- the oldest of the first line with one, which is at this place
 pub record IsFirst (rows : Rows Line) (i : ℕ) (d : ℕ × Line) : Type 0 where
   pub within : i < length rows
   pub shown : first_shown rows ≡ first_by (get_or rows i d).0 (get_or rows i d).1.waiting None
@@ -71,9 +71,9 @@ first_is rows i d e =
     let p = position-Some (λ row. line_waits row.1) rows i d e in
     first_at rows i d p.0 p.1 p.2
 
--- ---- it is told
+-- ---- it is reported
 
--- a line that waits has something to tell
+-- a line with a pending indication can give one
 pub never_popped : {A : Type 0} (items : List Indication) (n : ℕ) → n ≡ length items → n ≡ 0 → not (length (map shown_by items) == 0) ≡ true → A
 never_popped [] n len none waits = cc
 never_popped (x ∷ items) n len none waits = absurd (omega arith)

@@ -1,5 +1,5 @@
--- What is true of each session of an end stays so, whatever is called and fed: each is what its inputs made of
--- it, and its functional units can be selected together.
+-- What holds of each session of an end stays so, whatever is called and fed: each is what its inputs made of it, and
+-- its functional units can be selected together.
 use Rattle.std.proofs.Common.{◌≡◌, ℕ, List, [], ◌∷◌, ◌++◌, Option, Some, None, refl, ap, subst, ◌∙◌, inl, inr, arith}
 use Rattle.osi_stack.proofs.Vocabulary.{AllByRecursion, IfSome, Fed, Units, said_by_units, said_at, Rows, value_at, Call, HasSerial, Input, Listener, called, taken, opened, refused, broken, came, react, after_inputs, HasNumbersInWords, HasProfile, awaiting, awaits, calls_with, connects, breaks, without_first, Feeds, CameAbout, IsProfiled, OfSession, OfSessions, AllCameAbout, after_packet, line_by, to_session, Line, End, Holding, Connect}
 use Rattle.osi_stack.proofs.OfLines.{LinesStay, line_at, session_lines, packet_lines, feeds_lines, connect_lines, told_lines, breaks_lines}

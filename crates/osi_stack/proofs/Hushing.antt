@@ -1,4 +1,4 @@
--- An accepted call of a session does the same where indications wait as where all was told.
+-- An accepted call of a session does the same if indications are pending as if all had been given.
 use Rattle.std.proofs.Common.{◌≡◌, ℕ, ◌==◌, Bool, true, false, List, [], ◌∷◌, ◌++◌, Option, Some, None, option_map, refl, sym, ap, ◌∙◌, arith}
 use Rattle.osi_stack.proofs.Vocabulary.{append-nil, Rows, value_at, put, Call as SessionCall, Input, Listener, called, Shown, call_error, all_waiting, line_by, by_line, to_session, quieted, hushed, put_back, account_of, Line, End}
 use Rattle.osi_stack.proofs.Accounts.{made}
@@ -6,7 +6,7 @@ use Rattle.osi_stack.proofs.Alike.{call_hushed, hush, quieted_value}
 use Rattle.osi_stack.proofs.Moves.{says_is}
 use Rattle.osi_stack.proofs.InFront.{apart_session}
 
--- ---- the end but for what waits
+-- ---- the end but for what is pending
 
 quieted_twice : (lines : Rows Line) → quieted lines ≡ quieted (quieted lines)
 quieted_twice [] = refl
@@ -36,7 +36,7 @@ session_hushed : (r : ℕ) (input : Input) (e : End) → hushed (to_session r in
 session_hushed r input e =
     hushed_by r (value_at r e.lines) input e ∙ ap (λ (o : Option Line). hushed (by_line r o input (hushed e))) (sym (quieted_value r e.lines))
 
--- ---- what waits
+-- ---- what is pending
 
 waiting_by : (r q : ℕ) (x line y : Line) (lines : Rows Line) (b : Bool) → (q == r) ≡ b → x.waiting ≡ line.waiting → value_at r ((q, y) ∷ lines) ≡ Some line →
     (value_at r lines ≡ Some line → all_waiting (put r x lines) ≡ all_waiting lines) → all_waiting (put r x ((q, y) ∷ lines)) ≡ all_waiting ((q, y) ∷ lines)

@@ -1,5 +1,4 @@
--- What an end does hangs on no octet that is to be carried: it comes to the same with others in front of
--- these.
+-- What an end does does not depend on the octets to send: it is the same with others in front.
 use Rattle.std.proofs.Common.{◌≡◌, ℕ, zero, suc, Bool, true, false, List, [], ◌∷◌, length, Option, Some, None, is_some, refl, sym, ap, ◌∙◌, if◌then◌else◌}
 use Rattle.osi_carrier.specs.Happenings as told
 use Rattle.osi_carrier.specs.Packets as carriers
@@ -8,7 +7,7 @@ use Rattle.osi_carrier.specs.Runs.UserCall.{closes}
 use Rattle.osi_stack.proofs.Vocabulary.{apart_all, open_link, sent, closed_with, sent_all, send_all_error, Happening, value_at, put, packet, user, sends, State as Carrier, SendError, Input, Listener, opened, react, opens, hears, hears_first, hears_next, hears_times, hears_all, with_events, with_carrier, all_lost, concludes, attends, after_packet, line_by, carrier_by, by_line, to_session, put_back, Line, End, sent_unless, answers_by, told_of}
 use Rattle.osi_stack.proofs.Lifting.{packet_is}
 
--- these octets stand in front
+-- with these octets in front
 module _ (o : List ℕ) where
   -- ---- what sessions do to the carrier
 

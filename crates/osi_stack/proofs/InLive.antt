@@ -13,7 +13,7 @@ use Rattle.osi_stack.proofs.Pruning.{AreStill}
 use Rattle.osi_stack.proofs.Reached.{reached, unreached, SameInLive}
 use Rattle.osi_stack.proofs.Soundness.{packet_sound}
 
--- ---- what is true of an end, whatever waits and was carried
+-- ---- what is true of an end, whatever is pending and was carried
 
 pub record IsFit (e : End) : Type 0 where
   pub attended : IsAttended e
@@ -87,7 +87,7 @@ gone_quiet e r s lasts f kept none false true m shows =
 pub gone_shows : (e : End) (r : ℕ) (s : Listener) → e.carrier.ended ≡ None → IsFit e → kept_at r e.lines ≡ Some s → value_at r e.carrier.live ≡ None → (react s broken).shown ≡ []
 gone_shows e r s lasts f kept none = quiet_loss s (gone_quiet e r s lasts f kept none (may_abort s.state.phase) (shows_loss s.state.phase) refl refl)
 
--- ---- lines of connections that are gone, where nothing waits
+-- ---- lines of connections that are gone, if nothing is pending
 
 -- what the sessions of some references show when they are lost
 abbrev ShowNothing : (ℕ → Bool) → Rows Line → Type 0
@@ -139,7 +139,7 @@ account_alike t o a b h =
     account_view t o a ∙ ap (λ (e : End). made (put_back o (hushed e)) (t ++ all_waiting a.lines)) h.end ∙ ap (λ (w : List (ℕ × Shown)). made (put_back o (hushed (pruned b))) (t ++ w)) h.told
     ∙ sym (account_view t o b)
 
--- all was told of it
+-- all its indications were given
 pub none_waits : (lines : Rows Line) → waits (quieted lines) ≡ false
 none_waits [] = refl
 none_waits ((q, y) ∷ lines) = none_waits lines

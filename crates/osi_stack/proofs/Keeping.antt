@@ -1,4 +1,4 @@
--- What sessions leave of the carrier as it was: the events that wait, and how it ended.
+-- What sessions leave of the carrier as it was: the events that are pending, and how it ended.
 use Rattle.std.proofs.Common.{◌≡◌, ℕ, None, refl, if◌then◌else◌, ◌∙◌, ◌∷◌, [], arith}
 use Rattle.osi_carrier.specs.Happenings as told
 use Rattle.osi_stack.proofs.Vocabulary.{Happening, closed_with, is_spoilt, State as Carrier, Input, hears, to_session, End, told_of, input_of}

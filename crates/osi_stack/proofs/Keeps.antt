@@ -1,4 +1,4 @@
--- What sessions have joined of unfinished SSDUs: as much for each live connection, whatever waits.
+-- What sessions have joined of unfinished SSDUs: as much for each live connection, whatever is pending.
 use Rattle.std.proofs.Common.{◌≡◌, ◌≢◌, ℕ, ◌+◌, ◌≤◌, ◌<◌, ◌==◌, Bool, true, false, cond, [], ◌∷◌, length, Option, Some, None, is_some, IsSome, refl, ap, subst, arith, if◌then◌else◌}
 use Rattle.osi_stack.proofs.Vocabulary.{sum_by-cons, sum_by, kept_in, RiseFrom, Rows, value_at, without, Connection, without_other, quieted, Line, End, Holding, joined_live, joined_in, kept_octets}
 
@@ -54,7 +54,7 @@ live_few live n ((r, line) ∷ lines) rise = few_by r line live lines (value_at 
 
 -- ---- what is joined
 
--- what waits is no matter
+-- what is pending does not matter
 pub joined_quiet : (live : Rows Connection) (lines : Rows Line) → joined_in live (quieted lines) ≡ joined_in live lines
 joined_quiet live [] = refl
 joined_quiet live ((r, line) ∷ lines) =

@@ -5,7 +5,7 @@ use Rattle.osi_session.specs.Shown.{shows_connect}
 use Rattle.osi_stack.proofs.Vocabulary.{IfSome, tsaps_at, Rows, value_at, TsapIds, known_is, Call, Input, Listener, called, taken, opened, refused, broken, came, react, after_input, shows_loss, addressed, selectors_in, addresses_at, has_given, phase_of, phase_at, IsNamed, AllNamed, line_by, selectors_told, IsSettled, Line, End, session_in, session_at}
 use Rattle.osi_stack.proofs.OfLines.{LinesStay, line_at}
 
--- what a user is shown first
+-- the first indication of a user
 pub record ShownFirst : Type 0 where
   pub first : (s : Listener) (input : Input) → shows_loss s.state.phase ≡ false → shows_loss (after_input s input).state.phase ≡ true → shows_connect (react s input).shown ≡ true
   pub taken : (s : Listener) (input : Input) → shows_connect (react s input).shown ≡ true → is_taken input ≡ true
@@ -16,7 +16,7 @@ pub record ShownFirst : Type 0 where
 input_selectors : (input : Input) → asks_for_connection input ≡ true → IsSome (selectors_told input)
 input_selectors input h = grind arith
 
--- where this shows that a connection is asked for, it tells selectors
+-- if this shows that a connection is requested, it tells selectors
 abbrev TellsThem : Input → Type 0
 TellsThem input = (s : Listener) → shows_connect (react s input).shown ≡ true → IsSome (selectors_told input)
 
@@ -45,7 +45,7 @@ named_by : (r : ℕ) (lines : Rows Line) (o : Option Line) → value_at r lines 
 named_by r lines None at all = tt
 named_by r lines (Some line) at all = line_at IsNamed r line lines all at
 
--- said of the phase of a session, which is over where there is none
+-- said of the phase of a session, which is over if there is none
 abbrev Known : {X : Type 0} → Option Listener → Option X → Type 0
 Known session x = shows_loss (phase_of session) ≡ true → IsSome x
 

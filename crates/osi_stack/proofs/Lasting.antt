@@ -1,4 +1,4 @@
--- Where one list of pieces does not end an end, no other with the same octets does.
+-- If one list of pieces does not end an end, no other with the same octets does.
 use Rattle.std.proofs.Common.{◌≡◌, ℕ, ◌||◌, Bool, true, false, List, ◌∷◌, ◌++◌, take, Option, Some, None, is_some, refl, sym, ap, subst, ◌∙◌, ◌⊎◌, inl, inr, arith, append_assoc, []}
 use Rattle.osi_stack.specs.Feeding.{Refuses}
 use Rattle.osi_stack.proofs.Vocabulary.{append-nil, take_all, flat_map, IsPartial, IsFaultOf, ArePackets, Fed, TpktFault, PacketLaws, Parts, parts, no_fault, fault_behind, front_used, packets_over, packets_more, EndReason, NoMemory, uses_all, StopsBehind, FindsNoMemory, Goes, Feeds, after_packet, Account, account_of, with_packet, with_packets, Calls, CallsAlong, used_in, told_in, carried_in, feeding, telling, carrying, End, Holding, waits, none_of, EndCall as Call}
@@ -60,7 +60,7 @@ no_fault_ends laws old s vs r at fault lasts h is =
     let parted = front_parts laws old s vs r lasts h in
     no_fault laws at parted.more r [] lasts.rest fault is lasts.partial parted.packets
 
--- the octets of a call, and those behind them, are some in front of others
+-- the octets of a call, and those after them, are some in front of others
 pub in_front : (held used within front later : List ℕ) → used ≡ within ++ front → held ++ (used ++ later) ≡ (held ++ within) ++ (front ++ later)
 in_front held used within front later same =
     ap (λ l. held ++ (l ++ later)) same ∙ ap (λ l. held ++ l) (append_assoc within front later) ∙ sym (append_assoc held within (front ++ later))
@@ -87,7 +87,7 @@ over_refuses laws old piece fed new later lasts refused =
     no_fault_ends laws old (old.held.octets ++ (take fed.used piece ++ later)) refused.units (refused.cut.0 ++ later) _ refused.fault lasts packets
     (fault_behind _ refused.cut.0 later refused.fault refused.cut.2)
 
--- for want of memory it ends so, since the packet alone would not have ended it
+-- because memory ran out it ends so, since the packet alone would not have ended it
 over_starves : PacketLaws → (old : Holding) (piece : List ℕ) (fed : Fed) (new : Holding) (later : List ℕ) → Lasts old (old.held.octets ++ (take fed.used piece ++ later)) →
     FindsNoMemory old piece fed.used new → new.end.carrier.ended ≡ Some NoMemory
 over_starves laws old piece fed new later lasts starved = elim (starved.how) [
@@ -126,7 +126,7 @@ over_one laws old (feeding piece fed) new later quiet lasts h over = over_feed l
 over_one laws old (telling shown) new later quiet lasts h over = never new.end over (ap (λ (x : Holding). x.end.carrier.ended) h.1 ∙ quiet)
 over_one laws old (carrying octets) new later quiet lasts h over = never new.end over (ap (λ (x : Holding). x.end.carrier.ended) (sym h) ∙ quiet)
 
--- what is left of them does not end it behind a call
+-- what is left of them does not end it after a call
 lasts_on : PacketLaws → (old : Holding) (call : Call) (new : Holding) (later : List ℕ) → ReadsOne old call new →
     Lasts old (old.held.octets ++ (used_in call ++ later)) → Lasts new (new.held.octets ++ later)
 lasts_on laws old call new later one lasts =

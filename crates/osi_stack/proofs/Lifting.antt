@@ -16,7 +16,7 @@ pub lasting_of : (o : Option EndReason) (b : Bool) → (is_some o || b) ≡ fals
 lasting_of None b h = refl
 lasting_of (Some reason) b h = cc
 
--- ---- nothing is told
+-- ---- nothing is reported
 
 pub or_first : (a b : Bool) → (a || b) ≡ false → a ≡ false
 or_first false b e = refl
@@ -104,7 +104,7 @@ last_is c d [] h quiet stopped = both (carriers.stops c) (ap carriers.stops (sym
 last_is c d (u ∷ units) h quiet stopped =
     last_by c d u units (carriers.stops (carriers.after_packet c u)) refl quiet h.1 stopped (λ e. last_is (carriers.after_packet c u) d units h.1 e stopped)
 
--- ---- one list of packets behind another
+-- ---- one list of packets after another
 
 pub takes_append : (old mid new : End) (us vs : List (List ℕ)) → TakesPackets old us mid → TakesPackets mid vs new → TakesPackets old (us ++ vs) new
 takes_append old mid new [] vs h k = subst (λ (x : End). TakesPackets x vs new) h k

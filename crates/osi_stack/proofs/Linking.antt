@@ -397,7 +397,7 @@ times_last (suc n) e h = first_lasts e.carrier.events e (times_last n (hears_nex
 pub times_apart : (n : ℕ) (e : End) → AreApart e.lines → AreApart (hears_times n e).lines
 times_apart n e apart = events_heard (λ x. AreApart x.lines) (λ events x apart. apart) heard_apart n e apart
 
--- what a carrier has still to tell is no matter
+-- what a carrier has still to tell does not matter
 untold_linked : (rest : List Happening) (r : ℕ) (o : Option Listener) (events : List Happening) (c : Carrier) → IsLinked r o events c → IsLinked r o events (record c { events = rest })
 untold_linked rest r o events c l = grind arith
 

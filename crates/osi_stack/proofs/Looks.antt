@@ -1,5 +1,4 @@
--- What is seen of two ends that are the same but for lines of connections that are gone; and where a break is
--- found.
+-- What is seen of two ends that are the same except for lines of connections that are gone; and if a break is found.
 use Rattle.std.proofs.Common.{◌≡◌, ℕ, Bool, true, false, not, List, [], ◌∷◌, ◌++◌, length, Option, Some, None, is_some, IsSome, refl, sym, ap, subst, ◌∙◌, arith, if◌then◌else◌}
 use Rattle.osi_session.specs.declared.faults.CallError.TheVariants.{BadState}
 use Rattle.osi_stack.specs.Runs.{Call, told_of}
@@ -23,7 +22,7 @@ session_by r live lines true e = ap session_in (only_at (λ q. is_some (value_at
 session_pruned : (r : ℕ) (e : End) → session_at r (pruned e) ≡ session_at r e
 session_pruned r e = session_by r e.carrier.live e.lines (is_some (value_at r e.carrier.live)) refl
 
--- with all told and what was carried put back
+-- with all indications given, and what was sent put back
 session_view : (r : ℕ) (o : List ℕ) (e : End) → session_at r (put_back o (hushed (pruned e))) ≡ session_at r e
 session_view r o e =
     ap (λ (s : Option Listener). if is_some (value_at r e.carrier.live) then s else None) (quieted_at r (live_lines e.carrier.live e.lines)) ∙ session_pruned r e
@@ -65,7 +64,7 @@ joined_view e = sym (joined_quiet e.carrier.live (live_lines e.carrier.live e.li
 
 -- ---- two ends
 
--- of which the same was told of each reference
+-- with the same indications for each reference
 looks : (a b : Holding) (xs ys : List Call) → a.held.octets ≡ b.held.octets → put_back (flat_map carried_in xs) (hushed (pruned a.end)) ≡ put_back (flat_map carried_in ys) (hushed (pruned b.end)) →
     ((r : ℕ) → told_of r (flat_map told_in xs ++ all_waiting a.end.lines) ≡ told_of r (flat_map told_in ys ++ all_waiting b.end.lines)) → LookAlike a xs b ys
 looks a b xs ys octets same told =
@@ -100,7 +99,7 @@ ended_view o e = ap (λ (l : Rows Line). record (put_back o (ends Broken e)) { l
 ended_same : (o p : List ℕ) (a b : End) → put_back o (hushed (pruned a)) ≡ put_back p (hushed (pruned b)) → put_back o (hushed (pruned (ends Broken a))) ≡ put_back p (hushed (pruned (ends Broken b)))
 ended_same o p a b same = ended_view o a ∙ ap (λ (e : End). record (ends Broken e) { lines = [] }) same ∙ sym (ended_view p b)
 
--- what a session shows when it is lost, where it shows nothing
+-- the indications of a session that is lost, if it has none
 lost_none : (e : End) (r : ℕ) (o : Option Listener) → e.carrier.ended ≡ None → IsFit e → kept_at r e.lines ≡ o → value_at r e.carrier.live ≡ None → shown_at_loss o ≡ []
 lost_none e r None lasts f is none = refl
 lost_none e r (Some s) lasts f is none = gone_shows e r s lasts f is none
@@ -142,7 +141,7 @@ breaks_by false a b xs ys over f g h =
     looks (broken_by false a) (broken_by false b) xs ys h.octets (ended_same (flat_map carried_in xs) (flat_map carried_in ys) a.end b.end h.end)
     (λ r. broken_told a b xs ys r (none_of a.end.carrier.ended over) (none_of b.end.carrier.ended (sym same ∙ over)) f g h)
 
--- found whatever waits
+-- found whatever is pending
 pub looks_broken : (a b : Holding) (xs ys : List Call) → IsSettled a.end → IsSettled b.end → AreAlikeInLive a xs b ys →
     LookAlike (record a { end = breaks a.end }) xs (record b { end = breaks b.end }) ys
 looks_broken a b xs ys s t h =
@@ -150,7 +149,7 @@ looks_broken a b xs ys s t h =
     subst (λ (over : Bool). LookAlike (record a { end = breaks a.end }) xs (broken_by over b) ys) same
     (breaks_by (is_some a.end.carrier.ended) a b xs ys refl (settled_fit a.end s) (settled_fit b.end t) h)
 
--- ---- behind an end
+-- ---- after an end
 
 look_turned : (a b : Holding) (xs ys : List Call) → LookAlike a xs b ys → LookAlike b ys a xs
 look_turned a b xs ys h = record {
@@ -178,7 +177,7 @@ look_through a b c xs ys zs h k = record {
   disconnects = λ r. h.disconnects r ∙ k.disconnects r;
 }
 
--- one that has ended looks the same, whatever it is fed, and whatever is told and carried of it
+-- one that has ended looks the same, whatever it is fed, and whatever is reported and carried of it
 look_over : (a c : Holding) (xs zs : List Call) → is_some a.end.carrier.ended ≡ true → CallsAlong a zs c → LookAlike a xs c (xs ++ zs)
 look_over a c xs zs over h =
     let t = flat_map told_in xs in

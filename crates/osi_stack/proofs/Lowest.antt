@@ -1,4 +1,4 @@
--- What is told first, where the lines stand in the order of their references.
+-- The indication that is given first, if the lines are in the order of their references.
 use Rattle.std.proofs.Common.{◌≡◌, ℕ, ◌≤◌, ◌==◌, Bool, true, false, List, [], ◌∷◌, Option, Some, refl, ap, ◌∙◌, arith}
 use Rattle.osi_stack.proofs.Vocabulary.{eqb-true, eq-eqb, absent, RiseFrom, Rows, value_at, Shown, first_by, first_shown, rest_by, without_first, waiting_of, waiting_at, IsLowest, TellsLowest, Line}
 use Rattle.osi_stack.proofs.Linking.{unlike}
@@ -11,7 +11,7 @@ here_at q line lines = let e = eq-eqb q q refl in rw e refl
 behind_at : (q r : ℕ) (line : Line) (lines : Rows Line) → (q == r) ≡ false → value_at r ((q, line) ∷ lines) ≡ value_at r lines
 behind_at q r line lines e = rw e refl
 
--- nothing waits for a reference that no line has
+-- nothing is pending for a reference that no line has
 none_at : (m n : ℕ) (lines : Rows Line) → m ≤ n → RiseFrom n lines → waiting_at m lines ≡ []
 none_at m n lines le rise = ap waiting_of (absent m n lines le rise)
 
@@ -21,7 +21,7 @@ nothing_by q r line lines false e none more = rw e more
 
 -- ---- the first line has none
 
--- what is told is of a line behind it
+-- what is reported is of a line after it
 differ_by : (q r : ℕ) (shown : Shown) (rest : List Shown) (lines : Rows Line) (b : Bool) → (q == r) ≡ b → RiseFrom q lines → waiting_at r lines ≡ shown ∷ rest → (q == r) ≡ false
 differ_by q r shown rest lines b e rise oldest = grind (arith, none_at, waiting_at, eqb-true)
 

@@ -371,7 +371,7 @@ call_known r call e past allowed s k =
     subst (λ n. IsKnown n (past_called (calling r call) e past) (to_session r (called call) e).lines) (sym (session_carried (λ k. k.given ≡ e.carrier.given) (session_given e.carrier) r (called call) e refl))
     (given_known e.carrier.given r (called call) e past up k)
 
--- what is left of sessions where one is given up is what a break leaves of it
+-- what is left of sessions if one is given up is what a break leaves of it
 given_line : (r : ℕ) (line : Line) (o : Option Listener) (lines : Rows Line) → line.session ≡ o → value_at r lines ≡ Some line →
     ((q : ℕ) → kept_at q (put r (given_up line) lines) ≡ kept_at q (put r (line_by line o linked_down) lines))
 given_line r line o lines is here q = by (q == r) refl

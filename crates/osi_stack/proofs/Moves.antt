@@ -102,7 +102,7 @@ lost_waiting (Some line) = refl
 pub are_lost : (lines : Rows Line) → AreLost lines (all_lost lines)
 are_lost lines = grind (arith, session_in, lost_at, lost_none, value_at, waiting_of, lost_waiting)
 
--- ---- all that waits
+-- ---- all that is pending
 
 shown_first : (r : ℕ) (line : Line) (waiting : List Shown) (lines : Rows Line) → line.waiting ≡ waiting →
     IsFirstOf (first_shown lines) (all_waiting lines) (all_waiting (without_first lines)) →
@@ -113,7 +113,7 @@ pub first_of_all : (lines : Rows Line) → IsFirstOf (first_shown lines) (all_wa
 first_of_all [] = (refl, refl)
 first_of_all ((r, line) ∷ lines) = shown_first r line line.waiting lines refl (first_of_all lines)
 
--- what is true where the first that waits is told behind a line, and where it is told there
+-- what holds if the first pending indication is given after a line, and if it is given there
 pub first_keep : (Q : Rows Line → Type 0) (r : ℕ) (line : Line) (lines : Rows Line) → Q ((r, line) ∷ without_first lines) →
     ((left : List Shown) → Q ((r, record line { waiting = left }) ∷ lines)) → Q (without_first ((r, line) ∷ lines))
 first_keep Q r line lines behind here = grind arith
@@ -127,7 +127,7 @@ pub kept_first : (q : ℕ) (lines : Rows Line) → kept_at q (without_first line
 kept_first q [] = refl
 kept_first q ((r, line) ∷ lines) = kept_first_by q r line line.waiting lines (r == q) refl (kept_first q lines)
 
--- where nothing waits
+-- if nothing is pending
 pub none_waiting : (lines : Rows Line) → waits lines ≡ false → all_waiting lines ≡ []
 none_waiting [] h = refl
 none_waiting ((r, line) ∷ lines) h =
@@ -201,7 +201,7 @@ pub used_by : (live : Rows Connection) (row : ℕ × Line) (lines : Rows Line) (
     used_lines live (row ∷ lines) ≡ (if b then row ∷ used_lines live lines else used_lines live lines)
 used_by live row lines b e = ap (λ (c : Bool). if◌then◌else◌ {A = Rows Line} c (row ∷ used_lines live lines) (used_lines live lines)) e
 
--- what is true where a line is dropped, and where it stays
+-- what holds if a line is dropped, and if it stays
 pub used_keep : (Q : Rows Line → Type 0) (live : Rows Connection) (row : ℕ × Line) (lines : Rows Line) → Q (used_lines live lines) →
     (is_used live row ≡ true → Q (row ∷ used_lines live lines)) → Q (used_lines live (row ∷ lines))
 used_keep Q live row lines gone stays = grind arith

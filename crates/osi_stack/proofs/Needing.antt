@@ -21,7 +21,7 @@ closing_on r c (Some (peer, link)) e other = closing_in r peer c c.class other
 pub closing_needs : (r : ℕ) (c : Carrier) → close_error (open_link r c) ≡ None → (c.class ≡ Some Zero → ⊥) → grows c (closed_with r 128 c) ≡ true
 closing_needs r c e other = closing_on r c (open_link r c) e other
 
--- where memory is wanted, and there is no other error
+-- if memory is wanted, and there is no other error
 pub wants_memory : {A : Type 0} (result : Result A CallError) (grown : Bool) → OnErr result (grown ≡ true) → result ≡ Err OutOfMemory → grown ≡ true
 wants_memory (Ok x) grown h is = cc
 wants_memory (Err e) grown h is = h

@@ -1,4 +1,4 @@
--- What is true of each line of an end stays so, whatever is called and fed.
+-- What holds of each line of an end stays so, whatever is called and fed.
 use Rattle.std.proofs.Common.{◌≡◌, ℕ, ◌+◌, ◌==◌, Bool, true, false, ◌||◌, List, ◌∷◌, ◌++◌, length, Option, Some, None, refl, sym, subst, ◌∙◌, inl, inr, ◌⊎◌, if◌then◌else◌, [], arith}
 use Rattle.osi_carrier.specs.Happenings as told
 use Rattle.osi_carrier.specs.Packets as carriers
@@ -38,7 +38,7 @@ pub put_lines : (Q : Line → Type 0) (r : ℕ) (x : Line) (lines : Rows Line) �
 put_lines Q r x [] new all = tt
 put_lines Q r x ((q, y) ∷ lines) new all = put_by Q r q x y lines (q == r) refl new all.0 all.1 (put_lines Q r x lines new all.1)
 
--- behind one more
+-- after one more
 more_lines : (Q : Line → Type 0) (live : Rows Connection) (lines : Rows Line) (row : ℕ × Line) → Q row.1 → OfLines Q lines →
     OfLines Q (used_lines live (lines ++ row ∷ []))
 more_lines Q live [] row here all = used_keep (OfLines Q) live row [] tt (λ used. (here, tt))

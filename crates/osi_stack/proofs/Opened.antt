@@ -1,5 +1,5 @@
--- Which connections units open: those that were asked for, and at a called end new ones. One that was asked for is
--- so until its user is told that it is agreed to, or denied.
+-- Which connections units open: those that were requested, and at a called end new ones. A requested one stays so until
+-- its user is told that it is agreed to, or denied.
 use Rattle.std.proofs.Common.{◌≡◌, ◌≢◌, ℕ, ◌+◌, ◌<◌, ◌≤◌, ◌==◌, Bool, true, false, List, [], ◌∷◌, ◌++◌, take, Option, Some, None, Result, Ok, Err, is_some, IsSome, refl, sym, ap, subst, ◌∙◌, inl, inr, ◌⊎◌, arith, append_assoc, if◌then◌else◌}
 use Rattle.osi_tpdu.specs.Value.{Connect}
 use Rattle.osi_class.specs.Link.{taken}
@@ -69,7 +69,7 @@ opened_join [] b = refl
 opened_join (opened r ∷ a) b = ap (λ l. r ∷ l) (opened_join a b)
 opened_join (event ∷ a) b = opened_join a b
 
--- one that was asked for
+-- one that was requested
 record Agreed (old new : State) (told : List Happening) : Type 0 where
   reference : ℕ
   event : told ≡ opened reference ∷ []
@@ -84,13 +84,13 @@ record Accepted (old new : State) (told : List Happening) : Type 0 where
   given : new.given ≡ old.given + 1
   called : old.is_caller ≡ false
 
--- none; what is told is of a connection that is there
+-- none; what is reported is of a connection that is there
 record Unopened (old new : State) (told : List Happening) : Type 0 where
   is : opened_in told ≡ []
   about : AllByRecursion (λ event. IsSome (value_at (told_of event) old.live)) told
   given : new.given ≡ old.given
 
--- one that was asked for is so still, or that is answered, while the carrier lasts
+-- one that was requested is so still, or that is answered, while the carrier lasts
 abbrev pub StaysAsked : State → State → List Happening → Type 0
 StaysAsked old new told = (q : ℕ) → value_at q old.live ≡ Some asked → new.ended ≡ None → (value_at q new.live ≡ Some asked) ⊎ (answered q told ≡ true)
 
@@ -305,7 +305,7 @@ IsOf s event = IsSome (value_at (told_of event) s.live) ⊎ (s.given < told_of e
 abbrev pub IsGiven : ℕ → Happening → Type 0
 IsGiven g event = told_of event ≤ g
 
--- at a called end: each is new where it is opened, and was given before else
+-- at a called end: each is new when it is opened, and was given before otherwise
 abbrev pub Comes : ℕ → List Happening → ℕ → Type 0
 Comes g [] h = h ≡ g
 Comes g (opened r ∷ more) h = (g < r) × Comes r more h
@@ -321,7 +321,7 @@ comes_quiet g [] h same none all = same
 comes_quiet g (opened r ∷ more) h same none all = cc
 comes_quiet g (event ∷ more) h same none all = (all.0, comes_quiet g more h same none all.1)
 
--- what was told opens what a caller asked for, and at a called end what is new
+-- what was reported opens what a caller asked for, and at a called end what is new
 pub record OpensAlong (old new : State) : Type 0 where
   pub told : List Happening
   pub events : new.events ≡ old.events ++ told

@@ -1,4 +1,4 @@
--- The lines of an end stand in the order of their references, whatever packets come.
+-- The lines of an end are in the order of their references, whatever packets come.
 use Rattle.std.proofs.Common.{◌≡◌, ◌≢◌, ℕ, zero, suc, ◌+◌, ◌<◌, ◌≤◌, ◌==◌, Bool, true, false, ◌||◌, not, List, ◌∷◌, ◌++◌, length, Option, Some, None, Result, Ok, Err, is_some, IsSome, refl, sym, ap, subst, ◌∙◌, inl, inr, ◌⊎◌, arith, if◌then◌else◌, []}
 use Rattle.osi_carrier.specs.Packets as carriers
 use Rattle.osi_carrier.specs.declared.faults.OpenError.TheVariants.{NotCaller}
@@ -74,7 +74,7 @@ has_first r ((p, y) ∷ lines) h =
 has_used : (r : ℕ) (live : Rows Connection) (lines : Rows Line) → AreApart lines → value_at r live ≡ Some asked → IsSome (value_at r lines) → IsSome (value_at r (used_lines live lines))
 has_used r live lines apart here h = grind (arith, used_at, asked)
 
--- ---- what a caller hears
+-- ---- the events of a caller
 
 abbrev pub HaveLines : Rows Line → List ℕ → Type 0
 HaveLines lines [] = Unit {0}
@@ -118,7 +118,7 @@ times_heard (suc n) (event ∷ rest) e h all rise =
     let more = times_heard n rest (hears_next e) (rest_is event rest e h) (have_still e.lines (hears_next e).lines (opened_in rest) kept (have_rest event rest e.lines all)) risen in
     record { rise = more.rise; kept = λ r some. more.kept r (kept r some) }
 
--- ---- what a called end hears
+-- ---- the events of a called end
 
 up_push : (n r : ℕ) (line : Line) (lines : Rows Line) → n < r → AreUpTo n lines → AreUpTo r (lines ++ (r, line) ∷ [])
 up_push n r line [] above up = ((omega arith), tt)

@@ -29,13 +29,13 @@ times_over (suc n) e over =
 pub attends_over : (e : End) → is_some e.carrier.ended ≡ true → (attends e).carrier.ended ≡ e.carrier.ended
 attends_over e over = ap (λ (c : Carrier). c.ended) (concluded_carrier (hears_all e)) ∙ times_over (length e.carrier.events) e over
 
--- where all that waits leaves the carrier as it lasts, some of it does
+-- if all that is pending leaves the carrier as it lasts, some of it does
 times_within : (n : ℕ) (events : List Happening) (e : End) → e.carrier.events ≡ events → (hears_times (length events) e).carrier.ended ≡ None → (hears_times n e).carrier.ended ≡ None
 times_within zero events e is lasts = times_last (length events) e lasts
 times_within (suc n) [] e is lasts = ap (λ (x : End). x.carrier.ended) (times_quiet (suc n) e is) ∙ lasts
 times_within (suc n) (event ∷ events) e is lasts = times_within n events (hears_next e) (rest_is event events e is) lasts
 
--- ---- want of memory
+-- ---- an allocation failure
 
 starves_lasting : (e : End) → e.carrier.ended ≡ None → (starves e).carrier.ended ≡ Some NoMemory
 starves_lasting e lasts = ap (λ (o : Option EndReason). (if is_some o then e.carrier else states.ends NoMemory e.carrier).ended) lasts
@@ -60,7 +60,7 @@ out_by e new packet c (inl is) out lasts =
     (ap (λ (x : Carrier). (attends (with_carrier x e)).carrier.ended) is ∙ ap (λ (x : End). x.carrier.ended) (sym (packet_is e packet)) ∙ lasts)
 out_by e new packet c (inr starved) out lasts = out_full (with_carrier c e) new out (ap (λ (x : Carrier). x.ended) starved.2.ended)
 
--- where the packet does not end it, want of memory does
+-- if the packet does not end it, an allocation failure does
 pub starved_full : (e new : End) (packet : List ℕ) → Starves e packet new → (after_packet e packet).carrier.ended ≡ None → new.carrier.ended ≡ Some NoMemory
 starved_full e new packet (inl h) lasts =
     let full = ap (λ (x : Carrier). x.ended) h.1.2.ended in

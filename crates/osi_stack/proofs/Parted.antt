@@ -5,7 +5,7 @@ use Rattle.osi_stack.specs.Parted.{to_session_along}
 use Rattle.osi_stack.proofs.Vocabulary.{append-nil, Rows, value_at, put, State as Carrier, put_here, put_same, Meaning, part_octets, tsdus_sent, Input, Listener, Move, called, came, react, after_inputs, Act, comes, calls, act_in_octets, calls_in, IsSilent, AreSilent, Shown, limit_of, kept_at, limit_for, answers, line_by, by_line, to_session, Selectors, selectors_told, shows_connect, Line, End, session_in, answers_by}
 use Rattle.osi_stack.proofs.Handing.{hands_none}
 
--- ---- the end where a session stands at a reference
+-- ---- the end with a session at a reference
 
 put_twice_by : (r q : ℕ) (x y z : Line) (rows : Rows Line) (b : Bool) → (q == r) ≡ b → put r x (put r y rows) ≡ put r x rows →
     put r x (put r y ((q, z) ∷ rows)) ≡ put r x ((q, z) ∷ rows)
@@ -20,7 +20,7 @@ put_twice r x y ((q, z) ∷ rows) = put_twice_by r q x y z rows (q == r) refl (p
 abbrev at : ℕ → Carrier → Listener → List Shown → Option Selectors → Rows Line → End
 at r c l waiting selectors rows = record { carrier = c; lines = put r (record { session = Some l; waiting = waiting; selectors = selectors }) rows }
 
--- its selectors behind a move that shows this
+-- its selectors after a move that shows this
 abbrev names : List Shown → Option Selectors → Option Selectors → Option Selectors
 names shown told selectors = if shows_connect shown then told else selectors
 
@@ -53,7 +53,7 @@ alike_answers r m n a b c sizes same = cc
 
 -- ---- both runs
 
--- where the same was put and shown, with a session each
+-- if the same was put and shown, with a session each
 record Runs (r : ℕ) (rows : Rows Line) (l m : Listener) (a b : End) : Type 0 where
   carrier : Carrier
   waiting : List Shown

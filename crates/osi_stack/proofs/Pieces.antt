@@ -9,7 +9,7 @@ use Rattle.osi_stack.proofs.Events.{never_starved, concluded_carrier, all_keep_b
 use Rattle.osi_stack.proofs.Rooms.{room_stays, less_room, packet_faultless, first_part}
 use Rattle.osi_stack.proofs.Lifting.{both, or_second, IsQuiet, quiet_is, quiet_attends, quiet_stops, lift_dry, last_is, takes_append, packets_append, packets_part, lift_last}
 
--- ---- where reading a piece is
+-- ---- the progress of reading a piece
 
 -- the packets in front of `rest` have acted, and none of them stopped
 pub record IsRead (old : Holding) (piece : List ℕ) (now : Holding) (rest : List ℕ) : Type 0 where
@@ -40,14 +40,14 @@ read_first old piece quiet attended =
       first = inl refl;
     }
 
--- ---- a carrier on which nothing waits
+-- ---- a carrier on which nothing is pending
 
 pub quiet_end : (e : End) → stops e ≡ false → IsAttended e → carriers.stops e.carrier ≡ false
 quiet_end e quiet attended = grind arith
 
 -- ---- what was heard
 
--- the carrier ended with nothing told
+-- the carrier ended without an event
 ended_attends : (c d : Carrier) (lines : Rows Line) (reason : EndReason) → d ≡ states.ends reason c → IsQuiet c →
     attends (record { carrier = d; lines = lines }) ≡ ends reason (record { carrier = c; lines = lines })
 ended_attends c d lines reason h q = grind arith
@@ -80,14 +80,14 @@ looked piece front rest within cut =
     let behind = ap (drop (length (front ++ take within rest))) parts ∙ drop-append_seam (front ++ take within rest) (drop within rest) in
     grind arith
 
--- the packets so far, with more octets behind them
+-- the packets so far, with more octets after them
 more_packets : (old : Holding) (piece : List ℕ) (now : Holding) (rest more : List ℕ) (read : IsRead old piece now rest) →
     ArePackets read.units (old.held.octets ++ (read.front ++ more)) (now.held.octets ++ more)
 more_packets old piece now rest more read =
     subst (λ l. ArePackets read.units l (now.held.octets ++ more)) (append_assoc old.held.octets read.front more)
     (packets_more read.units (old.held.octets ++ read.front) now.held.octets more read.packets)
 
--- the place of octets of which so many are left
+-- the place of octets of which this many are left
 place_of_rest : (old : Holding) (piece : List ℕ) (now : Holding) (rest more : List ℕ) (left : ℕ) (read : IsRead old piece now rest) → left ≤ length (now.held.octets ++ more) →
     offset_of (now.held.offset + (length (now.held.octets ++ more) - left)) ≡ offset_of (old.held.offset + (length (old.held.octets ++ (read.front ++ more)) - left))
 place_of_rest old piece now rest more left read within = grind (arith, packets_leave, length-append, length, offset_of)
@@ -99,7 +99,7 @@ record IsDry (old : Holding) (piece rest : List ℕ) (used : ℕ) (new : Holding
   all : used ≡ length rest
   runs : RunsDry old piece (length piece) new
 
--- the last packet told something
+-- the last packet caused an event
 record IsBehind (old : Holding) (piece rest : List ℕ) (used : ℕ) (new : Holding) : Type 0 where
   within : ℕ
   front : List ℕ
@@ -116,7 +116,7 @@ record IsBehind (old : Holding) (piece rest : List ℕ) (used : ℕ) (new : Hold
   place : new.held.offset ≡ offset_of (old.held.offset + length (old.held.octets ++ front))
   room : old.held.room ≤ new.held.room
 
--- it ended by a fault or for want of memory
+-- it ended by a fault or because memory ran out
 record IsFinal (old : Holding) (piece rest : List ℕ) (used : ℕ) (new : Holding) : Type 0 where
   all : used ≡ length rest
   goes : Goes old piece (length piece) new
@@ -322,7 +322,7 @@ looks old piece now rest used new read fetch =
       ]
     ]
 
--- ---- where reading goes on, and where it ends
+-- ---- how reading goes on, and how it ends
 
 -- nothing is left of the piece
 all_used : (rest : List ℕ) (used : ℕ) → used ≡ length rest → length (drop used rest) ≡ 0
@@ -332,7 +332,7 @@ spoilt_ended : (o : Option EndReason) → is_some o ≡ false → is_spoilt o �
 spoilt_ended None e = refl
 spoilt_ended (Some reason) e = cc
 
--- how much is used where an indication waits
+-- how much is used if an indication is pending
 uses_waiting : (b w : Bool) (piece front rest : List ℕ) (used within : ℕ) → w ≡ true → piece ≡ front ++ drop within rest → within ≤ length rest →
     used ≡ (if b then length rest else within) → length piece - length (drop used rest) ≡ (if b || not w then length piece else length front)
 uses_waiting b w piece front rest used within w2 cut bound uses = grind (arith, all_used, length, length-append, drop)
@@ -366,7 +366,7 @@ read_ended old piece now rest used new read fetch none over = elim (looks old pi
   | inr f ↦ f.goes
 ]
 
--- it went on behind what told something
+-- it went on after the packet that caused an event
 uses_on : (b : Bool) (used all within : ℕ) → b ≡ false → used ≡ (if b then all else within) → used ≡ within
 uses_on false used all within e h = h
 uses_on true used all within e h = cc

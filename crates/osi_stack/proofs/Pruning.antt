@@ -1,4 +1,4 @@
--- The lines of some references alone: what happens to those is the same where the others are dropped.
+-- Only the lines of some references: what happens to those is the same if the others are dropped.
 use Rattle.std.proofs.Common.{◌≡◌, ℕ, zero, suc, ◌==◌, Bool, true, false, List, [], ◌∷◌, ◌++◌, length, Option, Some, None, is_some, refl, sym, ap, subst, ◌∙◌, if◌then◌else◌}
 use Rattle.osi_carrier.specs.Happenings as told
 use Rattle.osi_carrier.specs.Packets as carriers
@@ -12,7 +12,7 @@ use Rattle.osi_stack.proofs.Moves.{used_by, used_keep}
 abbrev row : ℕ → Line → Rows Line → Rows Line
 row q line lines = (q, line) ∷ lines
 
--- for which nothing waits, and whose session shows nothing when it is lost
+-- for which nothing is pending, and whose session shows nothing when it is lost
 pub record IsStill (line : Line) : Type 0 where
   pub waiting : line.waiting ≡ []
   pub lost : shown_at_loss line.session ≡ []
@@ -151,7 +151,7 @@ module _ (K : ℕ → Bool) where
   AreStill [] = Unit {0}
   AreStill ((q, line) ∷ lines) = (K q ≡ false → IsStill line) × AreStill lines
 
-  -- what is told is of these alone
+  -- what is reported is of these alone
   told_row : (q : ℕ) (y : Line) (lines : Rows Line) (b : Bool) → K q ≡ b → (K q ≡ false → IsStill y) → all_waiting (only lines) ≡ all_waiting lines →
       all_waiting (only ((q, y) ∷ lines)) ≡ all_waiting ((q, y) ∷ lines)
   told_row q y lines true e still more = ap all_waiting (only_row q y lines true e) ∙ ap (λ (l : List (ℕ × Shown)). shown_of q y.waiting ++ l) more
@@ -214,7 +214,7 @@ module _ (K : ℕ → Bool) where
       subst (λ (x : End). AreStill x.lines) (sym (packet_is e unit))
       (concluded_end (λ x. AreStill x.lines) (λ x still. still_lost x.lines still) (hears_all mid) (still_times (length mid.carrier.events) mid all still))
 
-  -- what a packet shows is the same where the others are dropped
+  -- the indications of a packet are the same if the others are dropped
   pub told_packet : (e : End) (unit : List ℕ) → AreOf (carriers.after_packet e.carrier unit).events → AreStill e.lines →
       all_waiting (after_packet (only_end e) unit).lines ≡ all_waiting (after_packet e unit).lines
   told_packet e unit all still =

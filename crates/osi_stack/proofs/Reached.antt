@@ -74,7 +74,7 @@ pub within_by : (o : Option Connection) (b : Bool) → (b ≡ false → o ≡ No
 within_by o true none here = refl
 within_by o false none here = both (is_some o) here (ap is_some (none refl))
 
--- what is live behind a packet, or behind what happens to a session
+-- what is live after a packet, or after what happens to a session
 pub packet_within : (e : End) (unit : List ℕ) → IsOrderly e.carrier → Within (is_live (after_packet e unit).carrier) (reached e.carrier)
 packet_within e unit orderly q here =
     within_by (value_at q (after_packet e unit).carrier.live) (reached e.carrier q) (λ no. gone_packet e unit q orderly (unreached e.carrier q no)) here
@@ -100,7 +100,7 @@ same_row K L q y lines false e f more = only_row K q y lines false e ∙ more �
 reached_known : (c : Carrier) (q : ℕ) → q ≤ c.given → reached c q ≡ is_live c q
 reached_known c q low = grind arith
 
--- where no line is new
+-- if no line is new
 pub known_live : (c : Carrier) (lines : Rows Line) → AreUpTo c.given lines → only (reached c) lines ≡ live_lines c.live lines
 known_live c [] up = refl
 known_live c ((q, y) ∷ lines) up = same_row (reached c) (is_live c) q y lines (is_live c q) (reached_known c q up.0) refl (known_live c lines up.1)
@@ -110,7 +110,7 @@ known_live c ((q, y) ∷ lines) up = same_row (reached c) (is_live c) q y lines 
 pub pruned_is : (e : End) → AreUpTo e.carrier.given e.lines → only_end (reached e.carrier) e ≡ pruned e
 pruned_is e known = ap (λ (l : Rows Line). record e { lines = l }) (known_live e.carrier e.lines known)
 
--- two ends that are the same but for these lines, for which nothing waits
+-- two ends that are the same but for these lines, for which nothing is pending
 pub record SameInLive (a b : End) : Type 0 where
   pub end : pruned a ≡ pruned b
   pub told : all_waiting a.lines ≡ all_waiting b.lines

@@ -1,4 +1,4 @@
--- The lines of an end stand in the order in which their references were given.
+-- The lines of an end are in the order in which their references were given.
 use Rattle.std.proofs.Common.{◌≡◌, ℕ, ◌+◌, ◌<◌, zero, suc, take, [], ◌∷◌, ◌++◌, Option, Some, None, option_map, refl, sym, subst, arith, if◌then◌else◌}
 use Rattle.osi_stack.proofs.Vocabulary.{Value, tsap_octets, asks, RiseFrom, AreUpTo, Rows, value_at, Connection, rise_lower, put_rise, Input, Listener, awaits, calls_with, connects, breaks, without_first, all_lost, Soundness, Effect, begins, happens, rests, Hears, Arrives, told_all, line_by, by_line, to_session, Line, End, used_lines, joins, fresh_line, Connect}
 use Rattle.osi_stack.proofs.Stepwise.{concluded_end, broken_end}

@@ -1,4 +1,4 @@
--- The room for the octets of a packet, and where it does not suffice.
+-- The room for the octets of a packet, and if it does not suffice.
 use Rattle.std.proofs.Common.{◌≡◌, ℕ, ◌≤◌, List, [], ◌∷◌, ◌++◌, length, take, sym, ap, subst, ◌∙◌, inl, inr, ◌⊎◌, arith, length-append, append_assoc}
 use Rattle.osi_tpkt.proofs.Streams.{fault_no_packet}
 use Rattle.osi_carrier.proofs.Parts.{empty_list}
@@ -25,7 +25,7 @@ pub first_part : (units : List (List ℕ)) (front held : List ℕ) (within : ℕ
     ArePackets units (held ++ take within rest) left → (length (front ++ take within rest) ≡ 0) ⊎ (left ≡ [])
 first_part units front held within rest left at_first h7 packets = grind (arith, length, take, none_left)
 
--- an end for want of memory: behind the packets that acted, or of what the next one does
+-- an end because memory runs out: after the packets that acted, or of what the next one does
 pub found_how : (old : Holding) (piece : List ℕ) (used : ℕ) (new : Holding) (h : FindsNoMemory old piece used new) →
     (new.end ≡ ends NoMemory h.before) ⊎ ((packet : List ℕ) × ArePackets (packet ∷ []) h.rest [] × Starves h.before packet new.end)
 found_how old piece used new h = elim (h.how) [ inl none ↦ inl none.ended | inr p ↦ inr p ]

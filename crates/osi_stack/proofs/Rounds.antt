@@ -1,4 +1,4 @@
--- Two runs in step come to the same, whatever the pieces.
+-- two runs in step reach the same state, whatever the pieces.
 use Rattle.std.proofs.Common.{◌≡◌, ℕ, ◌+◌, ◌-◌, ◌<◌, ◌^◌, Bool, true, false, List, ◌∷◌, ◌++◌, Option, Some, None, is_some, length, option_map, arith, refl, sym, ap, subst, ◌∙◌, append_assoc, if◌then◌else◌, []}
 use Rattle.osi_stack.proofs.Vocabulary.{append-nil, flat_map-append, flat_map, IsPartial, ArePackets, offset_of, TpktFault, tsap_octets, apart_all, OneCut, user, Rows, asked, State as Carrier, Broken, called, Shown, connects, calls_with, ends, all_waiting, UserCall, user_does, Round, WaitForLive, MayCall, IsCalled, RoundsBy, RoundsAlong, calls_of, AreInStep, connecting, calling, disconnecting, breaking, hushed, put_back, Account, account_of, with_packet, with_packets, CallsAlong, used_in, told_in, carried_in, account_along, AreAlike, Line, End, Holding, joins, waits, Connect, none_of, connects_call, EndCall as Call}
 use Rattle.osi_stack.proofs.Accounts.{made, after_more, account_quiet, account_joined, packets_apart}
@@ -40,12 +40,12 @@ packets_alike May Like l [] x y lasts like = like
 packets_alike May Like l (unit ∷ units) x y lasts like =
     packets_alike May Like l units (with_packet x unit) (with_packet y unit) lasts (l.packet x y unit (lasts_before (unit ∷ units) x lasts) like)
 
--- two ends, of which this was told and carried, that are alike
+-- two ends, of which this was reported and carried, that are alike
 pub record Same (Like : Account → Account → Type 0) (t : List (ℕ × Shown)) (o : List ℕ) (a : Holding) (u : List (ℕ × Shown)) (p : List ℕ) (b : Holding) : Type 0 where
   pub octets : a.held.octets ≡ b.held.octets
   pub account : Like (account_of t o a.end) (account_of u p b.end)
 
--- and whose packet under way stands at one place
+-- and whose unfinished packet is at the same place
 pub record Are (Like : Account → Account → Type 0) (t : List (ℕ × Shown)) (o : List ℕ) (a : Holding) (u : List (ℕ × Shown)) (p : List ℕ) (b : Holding) : Type 0 where
   pub same : Same Like t o a u p b
   pub partial : IsPartial a.held.octets
@@ -114,7 +114,7 @@ user_apart o (calling r call) e = apart_session o r (called call) e
 user_apart o (disconnecting r) e = disconnects_apart o r e
 user_apart o breaking e = breaks_apart o (is_some e.carrier.ended) e
 
--- the account where nothing waits
+-- the account if nothing is pending
 account_still : (t : List (ℕ × Shown)) (o : List ℕ) (e : End) → waits e.lines ≡ false → account_of t o e ≡ made (put_back o e) t
 account_still t o e quiet = ap (after_more t o) (account_quiet e quiet) ∙ ap (made (put_back o e)) (append-nil t)
 
@@ -122,7 +122,7 @@ account_still t o e quiet = ap (after_more t o) (account_quiet e quiet) ∙ ap (
 abbrev pub called_by : UserCall → Account → Account
 called_by call a = account_of a.told [] (user_does call a.end)
 
--- a connection is asked for while indications wait, of live connections alone
+-- a connection is requested while indications are pending, of live connections alone
 account_connecting : (t : List (ℕ × Shown)) (o : List ℕ) (c : Connect) (e : End) → WaitForLive e.carrier.live e.lines →
     account_of t o (connects c e) ≡ called_by (connecting c) (account_of t o e)
 account_connecting t o c e h =
@@ -154,7 +154,7 @@ exactly = record {
 
 -- ---- rounds
 
--- the packet under way stays as it is
+-- the unfinished packet stays as it is
 held_alike : (Like : Account → Account → Type 0) (t : List (ℕ × Shown)) (o : List ℕ) (a : Holding) (u : List (ℕ × Shown)) (p : List ℕ) (b c d : Holding) → Are Like t o a u p b → c.held ≡ a.held → d.held ≡ b.held →
     Like (account_of t o c.end) (account_of u p d.end) → Are Like t o c u p d
 held_alike Like t o a u p b c d are h k account = grind arith
@@ -167,11 +167,11 @@ called_lasts : (May : UserCall → End → Type 0) (old : Holding) (call : Optio
 called_lasts May old None new h = h.0
 called_lasts May old (Some call) new h = h.0
 
--- what was told, or carried, in front of the rounds and in them
+-- what was given, or sent, before the rounds and in them
 joined : {A : Type 0} (f : Call → List A) (front : List A) (calls rest : List Call) → (front ++ flat_map f calls) ++ flat_map f rest ≡ front ++ flat_map f (calls ++ rest)
 joined f front calls rest = append_assoc front (flat_map f calls) (flat_map f rest) ∙ ap (λ l. front ++ l) (sym (flat_map-append f calls rest))
 
--- the account behind more calls
+-- the account after more calls
 account_behind : (t : List (ℕ × Shown)) (o : List ℕ) (xs more : List Call) (e : End) →
     account_of (t ++ flat_map told_in (xs ++ more)) (o ++ flat_map carried_in (xs ++ more)) e
     ≡ account_of ((t ++ flat_map told_in xs) ++ flat_map told_in more) ((o ++ flat_map carried_in xs) ++ flat_map carried_in more) e

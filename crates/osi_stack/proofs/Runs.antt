@@ -1,4 +1,4 @@
--- Over every run of calls an end comes to what the packets of the octets used make of it.
+-- Over every run of calls an end is what the packets of the octets used make of it.
 use Rattle.std.proofs.Common.{◌≡◌, ℕ, ◌+◌, ◌-◌, ◌<◌, ◌^◌, ◌||◌, Bool, true, List, ◌∷◌, ◌++◌, length, take, Option, None, is_some, refl, sym, ap, subst, ◌∙◌, inl, inr, arith, append_assoc, length-append, []}
 use Rattle.osi_stack.proofs.Vocabulary.{append-nil, take_all, flat_map, IsPartial, ArePackets, offset_of, Fed, OneCut, packets_joined, packets_leave, Shown, RunsDry, StopsBehind, FindsNoMemory, Goes, Feeds, Account, account_of, with_packets, Calls, CallsAlong, used_in, told_in, carried_in, account_along, Reads, AreAlike, feeding, telling, carrying, End, Holding, waits, EndCall as Call}
 use Rattle.osi_stack.proofs.Accounts.{after_more, account_told, account_joined, packets_apart, with_joined, packets_done}
@@ -56,7 +56,7 @@ reads_stopped nothing old piece fed new stop lasts =
       offset = λ bound. omega arith;
     }
 
--- where memory was wanted the end has ended
+-- if memory ran out the end has ended
 pub none_ended : (old : Holding) (piece : List ℕ) (used : ℕ) (new : Holding) → FindsNoMemory old piece used new → is_some new.end.carrier.ended ≡ true
 none_ended old piece used new h = elim (h.how) [
   | inl none ↦ ap (λ (x : End). is_some x.carrier.ended) none.ended
@@ -87,7 +87,7 @@ reads_one nothing old (carrying octets) new h lasts =
 
 -- ---- calls one after the other
 
--- what was told and carried before them, and then what they told and carried
+-- what was given and sent before them, and then by them
 pub account_more : (call : Call) (calls : List Call) (us vs : List (List ℕ)) (old mid new : End) → account_of (told_in call) (carried_in call) mid ≡ with_packets us (account_of [] [] old) →
     account_along calls new ≡ with_packets vs (account_of [] [] mid) → account_along (call ∷ calls) new ≡ with_packets (us ++ vs) (account_of [] [] old)
 account_more call calls us vs old mid new one more =

@@ -9,7 +9,7 @@ pub record IsQuiet (move : Move) : Type 0 where
   pub reply : move.reply ≡ None
   pub closes : move.closes ≡ false
 
--- nothing is shown, and nothing closed
+-- nothing is indicated, and nothing closed
 pub record IsUnseen (move : Move) : Type 0 where
   pub shown : move.shown ≡ []
   pub closes : move.closes ≡ false
@@ -28,7 +28,7 @@ broken_is_quiet s = record { reply = refl; closes = refl }
 
 -- ---- what is taken
 
--- one thing is shown at most, with this answer
+-- at most one indication, with this answer
 pub quiet_takes : {E : Type 0} (t : Taken) (shown : Option Indication) (move : Move) (old new : Listener) → t.first ≡ shown → t.more.items ≡ [] →
     t.reply ≡ option_map in_one move.reply → t.closes ≡ move.closes → new ≡ move.next → shown_list shown ≡ move.shown → Takes {E = E} (Ok t) move old new
 quiet_takes t shown move old new first more reply closes next is = grind arith

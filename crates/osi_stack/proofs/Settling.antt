@@ -1,4 +1,4 @@
--- What is true of every end between any two calls stays so.
+-- the invariant of every end between any two calls stays so.
 use Rattle.std.proofs.Common.{◌≡◌, ℕ, ◌≤◌, ◌<◌, Bool, true, false, ◌||◌, not, List, ◌∷◌, length, drop, Option, Some, None, Result, Ok, Err, arith, is_some, IsSome, option_map, refl, sym, ap, subst, ◌∙◌, inl, inr, ◌⊎◌, if◌then◌else◌, []}
 use Rattle.osi_carrier.specs.Packets as carriers
 use Rattle.osi_session.specs.Units.{is_profile}
@@ -43,7 +43,7 @@ packet_orderly packet e f = search (arith, after_packet, packet_is, attends_orde
 fits_of : (e : End) → e.carrier.ended ≡ None → IsSound e → Fits e
 fits_of e lasts sound = let s = sound lasts in record { orderly = s.orderly; known = s.known }
 
--- ---- want of memory
+-- ---- an allocation failure
 
 record Grows (old new : Carrier) : Type 0 where
   orderly : IsOrderly new
@@ -94,7 +94,7 @@ pub feeds_orderly : SessionLaws → (old new : Holding) (piece : List ℕ) (fed 
 feeds_orderly laws old new piece fed h attended sound orderly =
     feeds_beside IsHale (λ e. IsOrderly e.carrier) (hale_kept laws) orderly_kept old new piece fed h (attended, sound) orderly
 
--- ---- what is true of every end
+-- ---- the invariant of every end
 
 -- which functional units a session has
 pub record Profiles : Type 0 where
@@ -113,7 +113,7 @@ pub record Steps : Type 0 where
 pub fresh_settled : (is_caller : Bool) (local : Local) → IsSettled (fresh_end is_caller local)
 fresh_settled is_caller local = grind (arith, orderly_fresh, fresh_sound, fresh_asked, fresh_ordered, lasting_gone, fresh_end)
 
--- a connection is asked for with units that can be selected together
+-- a connection is requested with units that can be selected together
 units_of_terms : (b : Bool) (error : Option ConnectError) → (if not b then Some NotSelected else error) ≡ None → b ≡ true
 units_of_terms true error h = refl
 units_of_terms false error h = cc

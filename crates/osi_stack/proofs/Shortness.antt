@@ -42,7 +42,7 @@ pub record SpduLaws : Type 0 where
   pub room : HaveRoom
   pub digits : HaveDigits
 
--- a unit with no octets behind it
+-- a unit with no octets after it
 pub sent_short : SpduLaws → (m : Meaning) → IsSendable m → (unit_of m).information ≡ [] → length (written m) ≤ 1048576
 sent_short law m h none = spelled_short m (is_second m) refl (spelled_fits law.room law.digits m h.numbered h.addressed h.short) none
 

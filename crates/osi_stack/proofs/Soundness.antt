@@ -1,4 +1,4 @@
--- What is true of every end, whatever is called and fed.
+-- the invariant of every end, whatever is called and fed.
 use Rattle.std.proofs.Common.{◌≡◌, ◌≢◌, ℕ, ◌+◌, ◌==◌, ◌<◌, ◌≤◌, Bool, true, false, ◌||◌, List, ◌∷◌, ◌++◌, length, nat_le, Option, Some, None, is_some, IsSome, option_map, Result, Ok, Err, refl, sym, ap, subst, ◌∙◌, inl, inr, ◌⊎◌, arith, if◌then◌else◌, []}
 use Rattle.osi_carrier.specs.Happenings as told
 use Rattle.osi_carrier.specs.Packets as carriers
@@ -50,7 +50,7 @@ or_none : (b : Bool) → (b || false) ≡ true → b ≡ true
 or_none true h = refl
 or_none false h = cc
 
--- a new line is kept only where its connection is live
+-- a new line is kept only if its connection is live
 up_joined : (n r : ℕ) (s : Listener) (live : Rows Connection) (lines : Rows Line) → AreUpTo n live → AreUpTo n lines → AreUpTo n (used_lines live (joined_lines r s lines))
 up_joined n r s live [] up known =
     used_keep (AreUpTo n) live (r, fresh_line s) [] tt (λ used. (up_at r n live up (or_none (is_some (value_at r live)) used), tt))
@@ -106,7 +106,7 @@ times_fits n e f =
 
 -- ---- links
 
--- where nothing is still to be heard
+-- if nothing is still to be heard
 links_linked : (e : End) → HasLinks e → e.carrier.ended ≡ None → AllLinked [] e
 links_linked e links over = λ r. record { needed = λ s is n h. links over r s is n; fresh = inl (λ h. cc) }
 
@@ -115,7 +115,7 @@ linked_links e l over r s is n = (l over r).needed s is n refl
 
 -- ---- a packet
 
--- what its carrier told is to be heard
+-- the events of its carrier are still to be handled
 packet_linked : (e : End) (packet : List ℕ) → IsOrderly e.carrier → e.carrier.events ≡ [] → AllLinked [] e → (carriers.after_packet e.carrier packet).ended ≡ None →
     AllLinked (carriers.after_packet e.carrier packet).events (with_carrier (carriers.after_packet e.carrier packet) e)
 packet_linked e packet orderly none l over =
@@ -251,7 +251,7 @@ breaks_sound e = breaks_by (is_some e.carrier.ended) e refl
 
 -- ---- feeding
 
--- while it lasts, an end has heard all that its carrier told
+-- while it lasts, an end has handled all events of its carrier
 abbrev pub IsHale : End → Type 0
 IsHale e = IsAttended e × IsSound e
 

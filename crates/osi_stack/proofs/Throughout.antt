@@ -7,11 +7,11 @@ use Rattle.osi_stack.proofs.Lifting.{lasting_of}
 use Rattle.osi_stack.proofs.Overs.{attends_over}
 use Rattle.osi_stack.proofs.Stepwise.{broken_end}
 
--- where memory was wanted the end has ended
+-- if memory ran out the end has ended
 pub starved_ended : (e new : End) (packet : List ℕ) → Starves e packet new → is_some new.carrier.ended ≡ true
 starved_ended e new packet h3 = grind (arith, is_some, attends_over, with_carrier, starved_over, with_events, hears_times)
 
--- a packet, the end of the carrier, and want of memory
+-- a packet, the end of the carrier, and an allocation failure
 pub record IsKept (P : End → Type 0) : Type 0 where
   pub each : (packet : List ℕ) (e : End) → e.carrier.ended ≡ None → P e → P (after_packet e packet)
   pub over : (reason : EndReason) (e : End) → P e → P (ends reason e)
@@ -58,7 +58,7 @@ pub record IsKeptBeside (P Q : End → Type 0) : Type 0 where
   pub over : (reason : EndReason) (e : End) → P e → Q e → Q (ends reason e)
   pub starved : (packet : List ℕ) (e new : End) → e.carrier.ended ≡ None → Starves e packet new → P e → Q e → Q new
 
--- where it is true of each end that has ended
+-- if it holds of each end that has ended
 pub over_beside : (P Q : End → Type 0) → ((packet : List ℕ) (e : End) → e.carrier.ended ≡ None → P e → Q e → Q (after_packet e packet)) →
     ((e : End) → is_some e.carrier.ended ≡ true → Q e) → IsKeptBeside P Q
 over_beside P Q each over = search (arith, ends, starved_ended)

@@ -1,4 +1,4 @@
--- Rounds in which connections are asked for whatever waits: two runs in step come to the same but for lines of
+-- Rounds in which connections are requested whatever is pending: two runs in step reach the same state but for lines of
 -- connections that are gone.
 use Rattle.std.proofs.Common.{◌≡◌, ℕ, ◌<◌, ◌^◌, true, false, List, [], ◌++◌, Option, Some, None, is_some, refl, sym, ap, ◌∙◌, if◌then◌else◌}
 use Rattle.osi_stack.proofs.Vocabulary.{flat_map, IsPartial, PacketLaws, OneCut, value_at, Connection, Tpkt, EndReason, Broken, Fault, Call as SessionCall, Listener, called, Shown, connects, connect_error, call_error, after_packet, ends, all_waiting, to_session, UserCall, user_does, Round, MayAsk, RoundsAsking, calls_of, AreInStep, connecting, calling, disconnecting, breaking, disconnects, hushed, put_back, pruned, Account, account_of, with_packet, CallsInRoom, used_in, told_in, carried_in, AreAlikeInLive, IsSettled, End, Holding, waits, Connect, EndCall as Call}
@@ -103,7 +103,7 @@ like_disconnect r x y lasts h =
       quiet_too = none_waits (disconnects r y.end).lines;
     }
 
--- ---- a connection is asked for
+-- ---- a connection is requested
 
 -- what that makes of an account
 abbrev asked_of : Connect → Account → Account

@@ -1,4 +1,4 @@
--- What comes last in two runs, also where it ends them.
+-- The last octets of two runs, also if they end them.
 use Rattle.std.proofs.Common.{◌≡◌, ℕ, ◌<◌, ◌^◌, Bool, true, false, List, [], ◌∷◌, ◌++◌, None, is_some, inl, inr, refl, sym, ap, subst, ◌∙◌}
 use Rattle.osi_stack.proofs.Vocabulary.{flat_map, Held, IsPartial, PacketLaws, OneCut, Shown, UserCall, Round, RoundsAlong, MayCall, RoundsBy, calls_of, AreInStep, Account, account_of, with_packet, with_packets, CallsInRoom, used_in, told_in, carried_in, account_along, AreAlike, End, Holding, none_of, EndCall as Call}
 use Rattle.osi_stack.proofs.Accounts.{after_more, account_joined, packets_apart, with_joined}

@@ -10,7 +10,7 @@ use Rattle.osi_stack.specs.State.{Line, End}
 use Rattle.osi_stack.specs.declared.addresses.Addresses.{Addresses as Held}
 use Rattle.osi_stack.specs.declared.connecting.Connect.{Connect}
 
--- the transport selectors of its CR, and the session selectors of its CN; each is there or not
+-- the transport selectors of its CR, and the session selectors of its CN; each may be absent
 pub record Addresses : Type 0 where
   pub calling_tsap : Option (List ℕ)
   pub called_tsap : Option (List ℕ)
@@ -31,13 +31,13 @@ abbrev pub selectors_in : Option Line → Option Selectors
 selectors_in None = None
 selectors_in (Some line) = line.selectors
 
--- Those of a live connection: of one that was asked for here, what was asked for; and of another one,
--- what came, once its CN was shown. None of a connection that is gone.
+-- Those of a live connection: if it was requested here, the requested ones; otherwise those received, once its CN was
+-- indicated. None for a connection that is gone.
 abbrev pub addresses_at : ℕ → End → Option Addresses
 addresses_at r e =
     if is_some (value_at r e.carrier.live) then addressed (tsaps_at r e.carrier) (selectors_in (value_at r e.lines)) else None
 
--- what is asked for
+-- the requested addresses
 abbrev pub asked_addresses : Connect → Addresses
 asked_addresses c = record {
   calling_tsap = option_map tsap_octets c.calling_tsap;

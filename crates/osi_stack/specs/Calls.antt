@@ -1,4 +1,4 @@
--- What the calls of a user of one end answer and do.
+-- The results and effects of the calls of a user of one end.
 use Rattle.std.specs.Prelude.{◌≡◌, ℕ, ◌+◌, Bool, true, false, not, ◌&&◌, ◌||◌, List, [], ◌∷◌, length, drop, nat_le, nat_lt, ◌==◌, Option, Some, None, is_some, option_map, if◌then◌else◌}
 use Rattle.osi_tpdu.specs.Limits.{tsap_octets}
 use Rattle.osi_carrier.specs.Calls.{may_connect, asks, send_all_error, open_link}
@@ -38,7 +38,7 @@ use Rattle.osi_stack.specs.declared.connecting.ConnectError.TheVariants.{Open, N
 
 -- ---- connect
 
--- the octets of an address, where one is given
+-- the octets of an address, if one is given
 abbrev pub calling_octets : Connect → Option (List ℕ)
 calling_octets c = option_map (λ s. s.now) c.calling_selector
 
@@ -53,7 +53,7 @@ is_long_address (Some octets) = nat_lt 16 (length octets)
 abbrev pub is_long : Connect → Bool
 is_long c = is_long_address (calling_octets c) || (is_long_address (called_octets c) || not (nat_le (length c.user_data.now) most_user_data))
 
--- the units are looked at before the lengths
+-- the units are tested before the lengths
 abbrev pub terms_error : Connect → Option ConnectError
 terms_error c = if not (is_profile (unit_bits c.requirements)) then Some NotSelected else (if is_long c then Some TooLong else None)
 
@@ -61,16 +61,16 @@ abbrev pub after_open : Option OpenError → Option ConnectError → Option Conn
 after_open None error = error
 after_open (Some e) error = Some (Open e)
 
--- why no connection is asked for, the first reason in the order of the errors
+-- why no connection is requested: the first reason in the order of the errors
 abbrev pub connect_error : Connect → End → Option ConnectError
 connect_error c e = after_open (may_connect e.carrier) (terms_error c)
 
--- an error as the rules give it: want of memory comes where they give none
+-- an error that the rules give; if they give none, it is an allocation failure
 abbrev pub refusal : ConnectError → Option ConnectError
 refusal (Open opening.OutOfMemory) = None
 refusal error = Some error
 
--- what is asked for, apart from the addresses
+-- the request without its addresses
 abbrev pub opening_of : Connect → Opening
 opening_of c = record {
   requirements = c.requirements;
@@ -108,7 +108,7 @@ send_refusal (Some sending.NotOpen) = Some error.Ended
 send_refusal (Some sending.TooLong) = Some error.TooLong
 send_refusal (Some sending.OutOfMemory) = Some error.OutOfMemory
 
--- where the carrier does not take what a call sends
+-- if the carrier does not take what a call sends
 abbrev pub reply_refusal : (r limit : ℕ) → Option Meaning → Carrier → Option CallError
 reply_refusal r limit None c = None
 reply_refusal r limit (Some unit) c = send_refusal (send_all_error (tsdus_of limit unit) (open_link r c))
@@ -120,7 +120,7 @@ or_else (Some e) other = Some e
 abbrev pub move_refusal : (r limit : ℕ) → Move → Carrier → Option CallError
 move_refusal r limit move c = or_else move.error (reply_refusal r limit move.reply c)
 
--- the error of the session, and where it has none that of the carrier
+-- the error of the session, or if there is none that of the carrier
 abbrev pub session_error : Option Listener → Call → Option CallError
 session_error None call = Some error.Ended
 session_error (Some session) call = (react session (called call)).error
@@ -133,12 +133,12 @@ abbrev pub RefusesBy : Bool → CallError → Option CallError → Option CallEr
 RefusesBy true e first all = first ≡ None
 RefusesBy false e first all = all ≡ Some e
 
--- a refused call: want of memory comes only where the session has no error
+-- a refused call; it is `OutOfMemory` only if the session has no error
 abbrev pub Refuses : CallError → Option CallError → Option CallError → Type 0
 Refuses e first all = RefusesBy (is_memory e) e first all
 
--- why a call is refused: a reference that was never given, a connection that is gone, as the session
--- says, and where the connection is not open
+-- why a call is refused: a reference that was never given, a connection that is gone, the session's error, and a
+-- connection that is not open
 abbrev pub call_error : ℕ → Call → End → Option CallError
 call_error r call e = if not (has_given r e.carrier) then Some error.NoSuchConnection else session_refusal r (session_at r e) call e.carrier
 
@@ -146,7 +146,7 @@ call_error r call e = if not (has_given r e.carrier) then Some error.NoSuchConne
 abbrev pub table_error : ℕ → Call → End → Option CallError
 table_error r call e = if not (has_given r e.carrier) then Some error.NoSuchConnection else session_error (session_at r e) call
 
--- an error as the rules give it: want of memory comes where they give none
+-- an error that the rules give; if they give none, it is an allocation failure
 abbrev pub by_rule : CallError → Option CallError
 by_rule e = if is_memory e then None else Some e
 
@@ -170,7 +170,7 @@ numbers_of (Some session) = session.state.numbers
 
 -- ---- the end, and indications
 
--- an end stays as it is
+-- an end that has ended stays as it is
 abbrev pub breaks : End → End
 breaks e = if is_some e.carrier.ended then e else ends Broken e
 
@@ -197,11 +197,11 @@ abbrev pub TellsOf : Option Shown → ℕ × Line → ℕ × Line → Type 0
 TellsOf None old new = (old.1.waiting ≡ []) × (new ≡ old)
 TellsOf (Some shown) old new = old ≡ (new.0, record new.1 { waiting = shown ∷ new.1.waiting })
 
--- Nothing is left to do on the byte connection: no octets are to be carried, and the end has ended, or there were
+-- Nothing is left to do on the byte connection: no octets are to be sent, and the end has ended, or there were
 -- connections and none is live.
 abbrev pub is_over : End → Bool
 is_over e = (length e.carrier.outgoing == 0) && (is_some e.carrier.ended || (nat_lt 0 e.carrier.given && (length e.carrier.live == 0)))
 
--- the first octets were carried
+-- the first octets were sent
 abbrev pub carried : ℕ → End → End
 carried octets e = record e { carrier = record e.carrier { outgoing = drop octets e.carrier.outgoing } }

@@ -1,4 +1,4 @@
--- One connection alone is given up (X.224 section 6.7).
+-- Giving up a single connection (X.224 section 6.7).
 use Rattle.std.specs.Prelude.{◌≡◌, ◌≢◌, ℕ, Bool, false, not, [], Option, Some, None, option_map, if◌then◌else◌}
 use Rattle.osi_carrier.specs.Calls.{closed_with}
 use Rattle.osi_carrier.specs.Rows.{Rows, value_at, put}
@@ -10,9 +10,9 @@ use Rattle.osi_stack.specs.Calls.{has_given}
 use Rattle.osi_stack.specs.Hearing.{concludes}
 use Rattle.osi_stack.specs.State.{Line, End, session_at}
 
--- ---- why it is not
+-- ---- why it is refused
 
--- a session that waits for its transport connection: no DR is sent before the CC has come
+-- a session that waits for its transport connection: no DR is sent before the CC has arrived
 abbrev pub awaits_transport : Option Listener → Bool
 awaits_transport None = false
 awaits_transport (Some session) = is_wait_transport session.state.phase
@@ -23,9 +23,9 @@ disconnect_error r e =
     if not (has_given r e.carrier) then Some error.NoSuchConnection
     else (if awaits_transport (session_at r e) then Some error.BadState else None)
 
--- ---- what that does
+-- ---- the effect
 
--- the session is lost as by a break, and its user is shown nothing more
+-- the session is lost as by a break, and its user receives nothing more
 abbrev pub given_up : Line → Line
 given_up line = record line { session = option_map (λ s. after_input s broken) line.session; waiting = [] }
 
@@ -37,15 +37,15 @@ gives_up_by r (Some line) lines = put r (given_up line) lines
 abbrev pub gives_up : ℕ → Rows Line → Rows Line
 gives_up r lines = gives_up_by r (value_at r lines) lines
 
--- The transport connection is closed with reason 128 where it is open, and the session is given up. Where that
--- ends the carrier, as in class 0, all sessions are lost.
+-- The transport connection is closed with reason 128 if it is open, and the session is given up. If that ends the
+-- carrier, as in class 0, all sessions are lost.
 abbrev pub disconnects : ℕ → End → End
 disconnects r e = concludes (record { carrier = closed_with r 128 e.carrier; lines = gives_up r e.lines })
 
--- ---- what it leaves
+-- ---- what stays
 
--- All other connections are as they were: their sessions, what waits for their users, their transport connections
--- with all that these keep and have to send, and their addresses.
+-- All other connections are as they were: their sessions, their pending indications, their transport connections with
+-- all that these keep and have to send, and their addresses.
 pub record LeavesOthers (r : ℕ) (old new : End) : Type 0 where
   pub lines : (q : ℕ) → q ≢ r → value_at q new.lines ≡ value_at q old.lines
   pub live : (q : ℕ) → q ≢ r → value_at q new.carrier.live ≡ value_at q old.carrier.live

@@ -1,4 +1,4 @@
--- What feeding a piece of the stream does.
+-- The effect of feeding a piece of the stream.
 use Rattle.std.specs.Prelude.{◌≡◌, ℕ, ◌+◌, ◌-◌, ◌≤◌, ◌<◌, ◌||◌, not, Bool, true, false, List, [], ◌∷◌, ◌++◌, length, take, drop, None, is_some, IsSome, ◌⊎◌, if◌then◌else◌}
 use Rattle.osi_tpkt.specs.Packet.{IsPartial, IsFaultOf}
 use Rattle.osi_tpkt.specs.Stream.{ArePackets, CutsFrom, offset_of}
@@ -12,11 +12,11 @@ use Rattle.osi_carrier.specs.declared.ends.EndReason.TheVariants.{Fault, NoMemor
 use Rattle.osi_stack.specs.Hearing.{after_packet, ends, Starves}
 use Rattle.osi_stack.specs.State.{End, Holding, waits}
 
--- feeding stops behind a packet that gave an indication, or ended the carrier
+-- feeding stops after a packet that caused an indication, or ended the carrier
 abbrev pub stops : End → Bool
 stops e = is_some e.carrier.ended || waits e.lines
 
--- packets one after the other, of which none stopped but perhaps the last
+-- packets one after the other, only the last of which may have stopped
 abbrev pub TakesPackets : End → List (List ℕ) → End → Type 0
 TakesPackets old units new = TakesAll after_packet stops old units new
 
@@ -32,11 +32,12 @@ pub record RunsDry (old : Holding) (piece : List ℕ) (used : ℕ) (new : Holdin
   -- the room stays
   pub room : old.held.room ≤ new.held.room
 
--- where nothing waits, or the carrier ended by a fault or for want of memory, the whole piece is used
+-- if no indication is pending, or the carrier ended because of a fault or because memory ran out, the whole piece is
+-- used
 abbrev pub uses_all : End → Bool
 uses_all e = is_spoilt e.carrier.ended || not (waits e.lines)
 
--- The piece up to `within` was cut into packets, of which the last stopped.
+-- The piece up to `within` was cut into packets, the last of which stopped.
 pub record StopsBehind (old : Holding) (piece : List ℕ) (used : ℕ) (new : Holding) : Type 0 where
   pub within : ℕ
   pub units : List (List ℕ)
@@ -49,7 +50,7 @@ pub record StopsBehind (old : Holding) (piece : List ℕ) (used : ℕ) (new : Ho
   pub offset : new.held.offset ≡ offset_of (old.held.offset + length (old.held.octets ++ take within piece))
   pub room : old.held.room ≤ new.held.room
 
--- What was held and the piece have a fault behind packets of which none stopped.
+-- The octets held and the piece have a fault after packets none of which stopped.
 pub record Refuses (old : Holding) (piece : List ℕ) (used : ℕ) (new : Holding) : Type 0 where
   pub units : List (List ℕ)
   pub fault : TpktFault
@@ -61,14 +62,14 @@ pub record Refuses (old : Holding) (piece : List ℕ) (used : ℕ) (new : Holdin
   pub ended : new.end ≡ ends (Fault (Tpkt fault)) before
   pub held : new.held.octets ≡ []
 
--- There was no memory to hold what is left of the piece. Behind a packet none of it is held yet.
+-- Memory ran out for what is left of the piece. After a packet, none of it is held yet.
 pub record FindsNoRoom (old : Holding) (piece : List ℕ) (within : ℕ) (rest : List ℕ) (before new : End) : Type 0 where
   pub ended : new ≡ ends NoMemory before
   pub first : (within ≡ 0) ⊎ (rest ≡ [])
   pub holds : HasToHold old.held.room rest (drop within piece)
 
--- There was no memory to hold what belongs to a packet, or for what the next packet does. What stands
--- behind the packets that acted has no fault: else the end would have ended by that.
+-- Memory ran out for what belongs to a packet, or for the effect of the next packet. What follows the packets that took
+-- effect has no fault; otherwise the end would have ended because of it.
 pub record FindsNoMemory (old : Holding) (piece : List ℕ) (used : ℕ) (new : Holding) : Type 0 where
   pub within : ℕ
   pub units : List (List ℕ)
@@ -83,19 +84,19 @@ pub record FindsNoMemory (old : Holding) (piece : List ℕ) (used : ℕ) (new : 
   pub held : new.held.octets ≡ []
   pub faultless : (at : ℕ) (fault : TpktFault) → IsFaultOf at (rest ++ drop within piece) fault → ⊥
 
--- feeding a piece where nothing waits and the carrier has not ended
+-- feeding a piece if no indication is pending and the carrier has not ended
 abbrev pub Goes : Holding → List ℕ → ℕ → Holding → Type 0
 Goes old piece used new =
     (RunsDry old piece used new ⊎ StopsBehind old piece used new) ⊎ (Refuses old piece used new ⊎ FindsNoMemory old piece used new)
 
 -- feeding a piece
 pub record Feeds (old : Holding) (piece : List ℕ) (fed : Fed) (new : Holding) : Type 0 where
-  -- after the end all is used, and nothing changes
+  -- after the end everything is used, and nothing changes
   pub over : IsSome old.end.carrier.ended → (fed.used ≡ length piece) × (new ≡ old)
-  -- while an indication waits nothing is used, and nothing changes
+  -- while an indication is pending nothing is used, and nothing changes
   pub waiting : old.end.carrier.ended ≡ None → waits old.end.lines ≡ true → (fed.used ≡ 0) × (new ≡ old)
   pub goes : stops old.end ≡ false → Goes old piece fed.used new
   pub whole : fed.whole ≡ waits new.end.lines
   pub bound : fed.used ≤ length piece
-  -- where nothing waits, some of a piece is used
+  -- if no indication is pending, some of a piece is used
   pub progress : waits old.end.lines ≡ false → 0 < length piece → 0 < fed.used

@@ -1,5 +1,5 @@
--- What one look at the stream does: the carrier takes packets up to one that tells something, and the
--- sessions hear it.
+-- The effect of one look at the stream: the carrier takes packets up to one that causes an event, and the sessions
+-- handle it.
 use Rattle.std.specs.Prelude.{◌≡◌, ℕ, true, List, ◌∷◌, length, ◌⊎◌}
 use Rattle.osi_carrier.specs.Happenings.{Happening}
 use Rattle.osi_carrier.specs.Packets.{Carrying}
@@ -9,12 +9,12 @@ use Rattle.osi_stack.specs.Needs.{needs_memory}
 use Rattle.osi_stack.specs.State.{End, Holding, IsAttended}
 use Rattle.osi_tpkt.specs.declared.cutting.Fed.{Fed}
 
--- for want of memory one session is lost, before the end is
+-- memory ran out, and one session was lost before the end is
 pub record Interrupted (old new : End) : Type 0 where
   pub lines : all_lost new.lines ≡ all_lost old.lines
   pub carrier : new.carrier ≡ old.carrier
 
--- the same for what one of the events does that waited: those before it were heard
+-- the same for one of the queued events; those before it were handled
 pub record LeftOff (old new : End) : Type 0 where
   pub heard : ℕ
   pub event : Happening
@@ -23,7 +23,7 @@ pub record LeftOff (old new : End) : Type 0 where
   pub needed : needs_memory event (with_events more (hears_times heard old)) ≡ true
   pub stopped : Interrupted (with_events more (hears_times heard old)) new
 
--- the events were heard, or there was no memory for what one of them does
+-- the events were handled, or memory ran out for one of them
 abbrev pub Attends : End → ℕ → ℕ → End → Type 0
 Attends old within used new = (new ≡ attends old) × (used ≡ within)
 

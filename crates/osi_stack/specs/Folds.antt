@@ -1,4 +1,4 @@
--- How the sessions of an end came about, and what is true of each of its lines.
+-- The history of each session of an end, and what holds of each of its lines.
 use Rattle.std.specs.Prelude.{◌≡◌, true, List, [], ◌∷◌, ◌⊎◌, IfSome, IsSome}
 use Rattle.std.specs.List.{AllByRecursion}
 use Rattle.osi_carrier.specs.Rows.{Rows}
@@ -11,7 +11,8 @@ use Rattle.osi_stack.specs.Calls.{calls_with}
 use Rattle.osi_stack.specs.State.{Line}
 use Rattle.osi_stack.specs.declared.connecting.Connect.{Connect}
 
--- A session that awaited a CN, or was to send one, after all that happened to it, one thing after the other.
+-- A session that began awaiting a CN, or with one to send, after everything that happened to it, one thing after the
+-- other.
 pub record CameAbout (s : Listener) : Type 0 where
   pub first : Listener
   pub fresh : (first ≡ awaits) ⊎ ((c : Connect) × (first ≡ calls_with c))
@@ -19,16 +20,16 @@ pub record CameAbout (s : Listener) : Type 0 where
   pub numbered : AllByRecursion HasNumbersInWords inputs
   pub is : after_inputs first inputs ≡ s
 
--- Its functional units are half-duplex with any of the others, or duplex alone, once they are agreed on.
+-- Once they are agreed, its functional units are half-duplex with any of the others, or only duplex.
 abbrev pub IsProfiled : Listener → Type 0
 IsProfiled s = HasProfile s.state
 
--- The session selectors of its CN are there, where it was sent here or shown: in each phase but that in which a
--- CN is awaited, and those of a session that is aborted or has ended.
+-- The session selectors of its CN are known if it was sent here or indicated: in each phase but the one in which a CN
+-- is awaited, and those of a session that is aborted or has ended.
 abbrev pub IsNamed : Line → Type 0
 IsNamed line = IfSome line.session (λ s. shows_loss s.state.phase ≡ true → IsSome line.selectors)
 
--- said of each line
+-- a statement about each line
 abbrev pub OfLines : (Line → Type 0) → Rows Line → Type 0
 OfLines Q [] = Unit {0}
 OfLines Q ((r, line) ∷ lines) = Q line × OfLines Q lines

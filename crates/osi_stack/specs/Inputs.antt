@@ -1,4 +1,4 @@
--- What happened to the sessions of an end, one thing after the other, and what that made of them.
+-- Everything that happened to the sessions of an end, in order, and what that made of them.
 use Rattle.std.specs.Prelude.{◌≡◌, ◌==◌, ◌+◌, ℕ, List, [], ◌∷◌, ◌++◌, map, Option, Some, None, if◌then◌else◌}
 use Rattle.osi_tpkt.specs.Stream.{ArePackets}
 use Rattle.osi_carrier.specs.Happenings.{Happening}
@@ -20,7 +20,7 @@ use Rattle.osi_stack.specs.declared.connecting.Connect.{Connect}
 
 -- ---- what happened
 
--- what an event is to the session of its connection
+-- an event as an input of the session of its connection
 abbrev pub input_of : Happening → Input
 input_of (told.opened r) = opened
 input_of (told.refused r reason) = refused reason
@@ -32,9 +32,9 @@ abbrev pub inputs_told : List Happening → List (ℕ × Input)
 inputs_told events = map (λ event. (told_of event, input_of event)) events
 
 pub record Past : Type 0 where
-  -- what the user asked for, by the reference that it was given
+  -- the requests of the user, by the reference that each was given
   pub asked : Rows Connect
-  -- the inputs of all sessions, with their references, in the order in which they came
+  -- the inputs of all sessions, with their references, in order
   pub inputs : List (ℕ × Input)
 
 abbrev pub no_past : Past
@@ -43,13 +43,13 @@ no_past = record { asked = []; inputs = [] }
 abbrev pub then_came : List (ℕ × Input) → Past → Past
 then_came inputs past = record past { inputs = past.inputs ++ inputs }
 
--- ---- what became of it
+-- ---- the result
 
 abbrev pub inputs_of : ℕ → List (ℕ × Input) → List Input
 inputs_of r [] = []
 inputs_of r ((q, input) ∷ inputs) = if q == r then input ∷ inputs_of r inputs else inputs_of r inputs
 
--- a session is to send the CN of the user that asked for its connection; or it awaits a CN
+-- a session has the CN of the user's request to send; or it awaits a CN
 abbrev pub begun_as : Option Connect → Listener
 begun_as None = awaits
 begun_as (Some c) = calls_with c
@@ -57,13 +57,13 @@ begun_as (Some c) = calls_with c
 abbrev pub made_at : ℕ → Past → Listener
 made_at r past = after_inputs (begun_as (value_at r past.asked)) (inputs_of r past.inputs)
 
--- each session of an end is what its own inputs made of what it began as
+-- each session of an end is what its own inputs made of its beginning
 abbrev pub AreMadeBy : Past → End → Type 0
 AreMadeBy past e = (r : ℕ) (s : Listener) → kept_at r e.lines ≡ Some s → s ≡ made_at r past
 
 -- ---- what happens in a call
 
--- packets came one after the other: this the carrier told
+-- packets arrived one after the other; these are the carrier's events
 abbrev pub told_along : End → List (List ℕ) → List (ℕ × Input)
 told_along e [] = []
 told_along e (packet ∷ packets) = inputs_told (carriers.after_packet e.carrier packet).events ++ told_along (after_packet e packet) packets
@@ -74,19 +74,19 @@ past_called (calling r call) e past = then_came ((r, called call) ∷ []) past
 past_called (disconnecting r) e past = then_came ((r, broken) ∷ []) past
 past_called breaking e past = past
 
--- the user's call is accepted; a break needs no leave
+-- the user's call is accepted; a break needs no acceptance
 abbrev pub IsAccepted : UserCall → End → Type 0
 IsAccepted (connecting c) e = connect_error c e ≡ None
 IsAccepted (calling r call) e = call_error r call e ≡ None
 IsAccepted (disconnecting r) e = disconnect_error r e ≡ None
 IsAccepted breaking e = Unit {0}
 
--- octets and indications come and go, in which these packets came whole; or the user calls
+-- octets and indications come and go, and these packets arrived whole; or the user makes a call
 pub data Step : Type 0 where
   serving : Call → List (List ℕ) → Step
   using : UserCall → Step
 
--- a step, and the past before and behind it
+-- a step, and the past before and after it
 abbrev pub Steps : Holding → Past → Step → Holding → Past → Type 0
 Steps old before (serving call packets) new behind =
     Calls old call new × ArePackets packets (old.held.octets ++ used_in call) new.held.octets × (behind ≡ then_came (told_along old.end packets) before)

@@ -1,4 +1,4 @@
--- Which sessions have a transport connection that is open.
+-- Which sessions have an open transport connection.
 use Rattle.std.specs.Prelude.{◌≡◌, ℕ, Bool, true, ◌||◌, [], ◌∷◌, None, Some}
 use Rattle.osi_carrier.specs.Orderly.{AreUpTo, IsOrderly}
 use Rattle.osi_carrier.specs.Rows.{Rows, value_at}
@@ -19,7 +19,7 @@ abbrev pub HasLinks : End → Type 0
 HasLinks e = e.carrier.ended ≡ None → (r : ℕ) (s : Listener) → kept_at r e.lines ≡ Some s → needs_link s.state.phase ≡ true →
     is_open r e.carrier ≡ true
 
--- And each session that waits for its transport connection has one that was asked for.
+-- And each session that waits for its transport connection has one that was requested.
 abbrev pub HasAsked : End → Type 0
 HasAsked e = e.carrier.ended ≡ None → (r : ℕ) (s : Listener) → kept_at r e.lines ≡ Some s → is_wait_transport s.state.phase ≡ true →
     value_at r e.carrier.live ≡ Some asked
@@ -29,8 +29,8 @@ abbrev pub AreApart : Rows Line → Type 0
 AreApart [] = Unit {0}
 AreApart ((r, line) ∷ lines) = (value_at r lines ≡ None) × AreApart lines
 
--- What is true of every end while its carrier lasts: its connections and its lines have references that
--- were given, each its own, and sessions have the transport connections that they need.
+-- The invariant of every end while its carrier lasts: its connections and its lines have references that were given,
+-- each its own, and sessions have the transport connections that they need.
 pub record Soundness (e : End) : Type 0 where
   pub orderly : IsOrderly e.carrier
   pub apart : AreApart e.lines

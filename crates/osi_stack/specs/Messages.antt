@@ -1,4 +1,4 @@
--- What an end takes, shows and puts for a connection, in messages.
+-- What an end takes, indicates and puts for a connection, in messages.
 use Rattle.std.specs.Prelude.{◌≡◌, ◌≢◌, ◌≤◌, ℕ, Bool, true, false, List, [], ◌∷◌, ◌++◌, length, map, Option, Some, None, IsSome, Ok}
 use Rattle.std.specs.List.{AllByRecursion}
 use Rattle.osi_message.specs.Meanings.{Meaning}
@@ -26,8 +26,8 @@ use Rattle.osi_stack.specs.Hearing.{with_events, concludes, shown_at_loss}
 use Rattle.osi_stack.specs.Moving.{limit_for, line_by}
 use Rattle.osi_stack.specs.State.{Line, End, session_in, session_at, joins}
 
--- a session unit, or a part of one Data; and of a transport connection that it is asked for, agreed to,
--- denied, or closed, and that a close is answered
+-- a session unit, or a part of a Data; or a message about the transport connection: it is requested, agreed to, denied
+-- or closed, or a close is answered
 pub data Message : Type 0 where
   unit : Meaning → Message
   part : (place : PartPlace) (octets : List ℕ) → Message
@@ -37,7 +37,7 @@ pub data Message : Type 0 where
   bye : (reason : ℕ) → Message
   over : Message
 
--- a unit is one that can be sent, so that its octets are read as it
+-- a unit can be written, so that its octets read back as the unit
 abbrev pub IsWhole : Message → Type 0
 IsWhole (unit m) = IsSendable m
 IsWhole (part place octets) = Unit {0}
@@ -53,14 +53,14 @@ abbrev pub message_of : Word → Message
 message_of (says m) = unit m
 message_of (words.part place octets) = part place octets
 
--- that its transport connection is closed, or a unit or the parts of one Data, or nothing: what closes a
--- connection is not answered
+-- a session closes its transport connection, or sends a unit or the parts of a Data, or puts nothing; a session that
+-- closes sends nothing
 abbrev pub put_by : Bool → (limit : ℕ) → Option Meaning → List Message
 put_by true limit reply = bye 128 ∷ []
 put_by false limit None = []
 put_by false limit (Some m) = map message_of (words_sent limit m)
 
--- what a session puts its carrier does; all else the carrier puts itself
+-- the carrier carries out what a session puts; everything else the carrier puts itself
 abbrev pub does : ℕ → Message → Carrier → Carrier
 does r (unit m) c = sent r (written m) c
 does r (part place octets) c = sent r (part_octets place octets) c
@@ -76,8 +76,8 @@ puts r (m ∷ messages) c = puts r messages (does r m c)
 
 -- ---- a move of one session
 
--- The session of a reference made its move: it is left so, its user is to be shown this more, and the
--- carrier did what it put. All other lines stand as they did.
+-- The session of a reference made its move: this is its new state, its user has these further pending indications, and
+-- the carrier carried out what it put. All other lines are as they were.
 pub record Acts (r : ℕ) (input : Input) (old new : End) : Type 0 where
   pub line : Line
   pub session : Listener
@@ -88,13 +88,13 @@ pub record Acts (r : ℕ) (input : Input) (old new : End) : Type 0 where
 
 -- ---- a message that arrives
 
--- what it does to the session of its connection: there is a new one, or this happens to it, or nothing
+-- the effect on the session of its connection: there is a new one, or this happens to it, or nothing
 pub data Effect : Type 0 where
   begins : Effect
   happens : Input → Effect
   rests : Effect
 
--- by where the connection stands
+-- by the state of the connection
 abbrev pub effect_at : Place → Message → Effect
 effect_at never ask = begins
 effect_at (was_given (Some asked)) agree = happens opened
@@ -104,7 +104,7 @@ effect_at (was_given (Some (linked peer link))) (part place octets) = happens (t
 effect_at (was_given (Some (linked peer link))) (bye reason) = happens broken
 effect_at place m = rests
 
--- what the carrier tells of it
+-- the carrier's events for it
 abbrev pub told_at : ℕ → Place → Message → List Happening
 told_at r never ask = told.opened r ∷ []
 told_at r (was_given (Some asked)) agree = told.opened r ∷ []
@@ -125,11 +125,11 @@ pub record HasSession (r : ℕ) (lines : Rows Line) : Type 0 where
 abbrev pub AreShort : List (List ℕ) → Type 0
 AreShort tsdus = AllByRecursion (λ tsdu. length tsdu ≤ 1048576) tsdus
 
--- what a session sends is no longer
+-- what a session sends is no longer than a TSDU may be
 abbrev pub IsShort : (limit : ℕ) → Option Meaning → Type 0
 IsShort limit reply = AreShort (tsdus_sent limit reply)
 
--- a new session stands where there is none, and other things happen to one that is there
+-- a new session begins only if there is none, and other things happen only to one that is there
 abbrev pub CanHear : ℕ → Effect → Rows Line → Type 0
 CanHear r begins lines = value_at r lines ≡ None
 CanHear r (happens input) lines = (s : HasSession r lines) × IsShort (limit_for s.session input) (react s.session input).reply
@@ -140,12 +140,12 @@ Hears r begins old new = new ≡ joins r awaits old
 Hears r (happens input) old new = Acts r input old new
 Hears r rests old new = new ≡ old
 
--- the carrier has acted on a unit, and what it told is heard
+-- the carrier has taken a unit, and its events are handled
 abbrev pub told_all : Value → End → End
 told_all tpdu e = with_events [] (carries_out tpdu e)
 
--- A unit acted with which a message arrived: the carrier did what it does, the session of the connection
--- heard of it, and where the carrier ended then all sessions are lost.
+-- A unit that brings a message took effect: the carrier carried it out, the session of the connection handled it, and
+-- if the carrier ended by it all sessions are lost.
 pub record Arrives (r : ℕ) (effect : Effect) (tpdu : Value) (old new : End) : Type 0 where
   pub heard : End
   pub hears : Hears r effect (told_all tpdu old) heard
@@ -172,7 +172,7 @@ pub record Says (r : ℕ) (call : Call) (old new : End) : Type 0 where
 
 -- ---- what is seen of connections
 
--- the session of a reference, also of one that is gone while its user has still to be shown something
+-- the session of a reference, also of a connection that is gone while indications are pending
 abbrev pub kept_at : ℕ → Rows Line → Option Listener
 kept_at r lines = session_in (value_at r lines)
 
@@ -180,23 +180,23 @@ abbrev pub waiting_of : Option Line → List Shown
 waiting_of None = []
 waiting_of (Some line) = line.waiting
 
--- what its user is still to be shown
+-- the pending indications of its user
 abbrev pub waiting_at : ℕ → Rows Line → List Shown
 waiting_at r lines = waiting_of (value_at r lines)
 
--- The session at a reference became this one, and its user is to be shown this more; all others are as
+-- The session at a reference is now this one, and its user has these further pending indications; all others are as
 -- they were.
 pub record Becomes (r : ℕ) (session : Listener) (shown : List Shown) (old new : Rows Line) : Type 0 where
   pub session_is : kept_at r new ≡ Some session
   pub waiting : waiting_at r new ≡ waiting_at r old ++ shown
   pub others : (q : ℕ) → q ≢ r → value_at q new ≡ value_at q old
 
--- No session is left, and the user of each was shown what it shows where it is lost.
+-- No session is left, and the user of each has the indications of its loss pending.
 pub record AreLost (old new : Rows Line) : Type 0 where
   pub none : (r : ℕ) → kept_at r new ≡ None
   pub waiting : (r : ℕ) → waiting_at r new ≡ waiting_at r old ++ shown_at_loss (kept_at r old)
 
--- all that waits, with its reference: line after line
+-- all pending indications with their references, line after line
 abbrev pub shown_of : ℕ → List Shown → List (ℕ × Shown)
 shown_of r [] = []
 shown_of r (shown ∷ waiting) = (r, shown) ∷ shown_of r waiting

@@ -1,4 +1,4 @@
--- What the move of a session does to the end that it belongs to.
+-- The effect of a session's move on its end.
 use Rattle.std.specs.Prelude.{ℕ, ◌++◌, Option, Some, None, if◌then◌else◌}
 use Rattle.osi_carrier.specs.Rows.{value_at, put}
 use Rattle.osi_carrier.specs.State.{State as Carrier}
@@ -9,21 +9,21 @@ use Rattle.osi_stack.specs.Selectors.{selectors_told, shows_connect}
 use Rattle.osi_stack.specs.State.{Line, End}
 use Rattle.osi_stack.specs.Transport.{answers_by}
 
--- the most octets of a TSDU, 0 for no limit: a call sends within the size of its session, and what a
--- session sends by itself is one TSDU
+-- the most octets of a TSDU, 0 for no limit: a call sends within the size of its session, and what a session sends by
+-- itself is one TSDU
 abbrev pub limit_for : Listener → Input → ℕ
 limit_for session (called call) = limit_of session.state
 limit_for session input = 0
 
--- what a move does to the carrier: the TSDUs that it sends are handed over, or the connection is closed
+-- the effect of a move on the carrier: the TSDUs that it sends are handed over, or the connection is closed
 abbrev pub answers : (r limit : ℕ) → Move → Carrier → Carrier
 answers r limit move c = answers_by move.closes r (tsdus_sent limit move.reply) c
 
--- what a move does to a line: what the session shows waits for its user
+-- the effect of a move on a line: the session's indications become pending
 abbrev pub line_after : Line → Move → Line
 line_after line move = record line { session = Some move.next; waiting = line.waiting ++ move.shown }
 
--- where the user is shown that a connection is asked for, its CN came
+-- if the user is told that a connection is requested, its CN has arrived
 abbrev pub noted : Listener → Input → Line → Line
 noted session input line = record line { selectors = if shows_connect (react session input).shown then selectors_told input else line.selectors }
 

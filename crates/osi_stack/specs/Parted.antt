@@ -1,4 +1,4 @@
--- What happens to the session of one connection, one thing after the other.
+-- Everything that happens to the session of one connection, in order.
 use Rattle.std.specs.Prelude.{ℕ, List, [], ◌∷◌}
 use Rattle.osi_session.specs.Listening.{Input}
 use Rattle.osi_stack.specs.Moving.{to_session}

@@ -1,5 +1,5 @@
--- Whole runs of an end: rounds in which octets come and go and indications are told, with its user's calls
--- between them.
+-- Whole runs of an end: rounds in which octets come and go and indications are fetched, with its user's calls in
+-- between.
 use Rattle.std.specs.Prelude.{◌≡◌, ℕ, true, false, ◌||◌, not, List, [], ◌∷◌, Option, Some, None, is_some}
 use Rattle.std.specs.List.{flat_map}
 use Rattle.osi_carrier.specs.Rows.{Rows, value_at}
@@ -13,8 +13,8 @@ use Rattle.osi_stack.specs.Runs.{Call, CallsAlong, used_in}
 use Rattle.osi_stack.specs.State.{Line, End, Holding, line_waits, waits}
 use Rattle.osi_stack.specs.declared.connecting.Connect.{Connect}
 
--- an accepted call of the user: it asks for a connection, calls the session of one, gives one up, or finds that
--- the byte connection broke
+-- an accepted call of the user: it requests a connection, calls the session of one, gives one up, or finds that the
+-- byte connection broke
 pub data UserCall : Type 0 where
   connecting : Connect → UserCall
   calling : ℕ → SessionCall → UserCall
@@ -27,32 +27,32 @@ user_does (calling r call) e = to_session r (called call) e
 user_does (disconnecting r) e = disconnects r e
 user_does breaking e = breaks e
 
--- some of the other calls, and then, perhaps, one of the user
+-- some of the other calls, and then perhaps one of the user
 pub record Round : Type 0 where
   pub calls : List Call
   pub user : Option UserCall
 
--- indications wait for live connections alone
+-- only live connections have pending indications
 abbrev pub WaitForLive : Rows Connection → Rows Line → Type 0
 WaitForLive live [] = Unit {0}
 WaitForLive live ((r, line) ∷ lines) = ((is_some (value_at r live) || not (line_waits line)) ≡ true) × WaitForLive live lines
 
--- A session is called whatever waits; a connection is asked for once all was told that waits for connections
--- that are gone; and a connection is given up, and a break found, once all was told that waits.
+-- A session is called whatever is pending; a connection is requested once no connection that is gone has pending
+-- indications; and a connection is given up, or a break found, once none is pending.
 abbrev pub MayCall : UserCall → End → Type 0
 MayCall (connecting c) e = WaitForLive e.carrier.live e.lines
 MayCall (calling r call) e = call_error r call e ≡ None
 MayCall (disconnecting r) e = waits e.lines ≡ false
 MayCall breaking e = waits e.lines ≡ false
 
--- The same, but a connection is asked for wherever that is accepted, whatever waits.
+-- The same, but a connection is requested whenever that is accepted, whatever is pending.
 abbrev pub MayAsk : UserCall → End → Type 0
 MayAsk (connecting c) e = connect_error c e ≡ None
 MayAsk (calling r call) e = call_error r call e ≡ None
 MayAsk (disconnecting r) e = waits e.lines ≡ false
 MayAsk breaking e = waits e.lines ≡ false
 
--- the user calls an end that lasts, as it may, or does not
+-- the user makes a call that is allowed at an end that lasts, or makes none
 abbrev pub IsCalled : (UserCall → End → Type 0) → Holding → Option UserCall → Holding → Type 0
 IsCalled May old None new = (old.end.carrier.ended ≡ None) × (new ≡ old)
 IsCalled May old (Some call) new = (old.end.carrier.ended ≡ None) × May call old.end × (new ≡ record old { end = user_does call old.end })
@@ -66,7 +66,7 @@ RoundsBy May old (round ∷ rounds) new =
 abbrev pub RoundsAlong : Holding → List Round → Holding → Type 0
 RoundsAlong old rounds new = RoundsBy MayCall old rounds new
 
--- also such as ask for connections whatever waits
+-- including rounds that request connections whatever is pending
 abbrev pub RoundsAsking : Holding → List Round → Holding → Type 0
 RoundsAsking old rounds new = RoundsBy MayAsk old rounds new
 

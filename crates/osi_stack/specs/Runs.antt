@@ -1,5 +1,5 @@
--- Runs of feeding, telling and carrying between two calls of an end's user, and what they say of the octets
--- that the end was fed.
+-- Runs of feeding, fetching and taking between two calls of an end's user, and what they did with the octets that the
+-- end was fed.
 use Rattle.std.specs.Prelude.{◌≡◌, ℕ, ◌+◌, ◌-◌, ◌<◌, ◌^◌, ◌==◌, false, List, [], ◌∷◌, ◌++◌, length, take, map, Option, is_some, option_to_list, ◌⊎◌}
 use Rattle.std.specs.List.{flat_map, filter}
 use Rattle.osi_tpkt.specs.Packet.{IsPartial}
@@ -17,31 +17,31 @@ use Rattle.osi_stack.specs.Messages.{all_waiting}
 use Rattle.osi_stack.specs.State.{Line, End, Holding, session_at, kept_octets}
 use Rattle.osi_stack.specs.declared.connecting.Connect.{Connect}
 
--- ---- what an end comes to
+-- ---- the account of an end
 
--- the same lines, for none of which anything waits
+-- the same lines without pending indications
 abbrev pub quieted : Rows Line → Rows Line
 quieted lines = map (λ row. (row.0, record row.1 { waiting = [] })) lines
 
--- all that waits was told
+-- all pending indications were fetched
 abbrev pub hushed : End → End
 hushed e = record e { lines = quieted e.lines }
 
--- octets that were carried, put back in front of those that are still to be
+-- octets that were sent, put back in front of those still to be sent
 abbrev pub put_back : List ℕ → End → End
 put_back carried e = record e { carrier = record e.carrier { outgoing = carried ++ e.carrier.outgoing } }
 
--- What an end comes to, whenever its user takes away indications and octets: the end as it is where nothing
--- waits and nothing was carried, and all that was told and waits, the oldest first.
+-- The account of an end, which does not depend on when its user takes indications and octets: the end without pending
+-- indications and with nothing sent, and all indications, given and pending, the oldest first.
 pub record Account : Type 0 where
   pub end : End
   pub told : List (ℕ × Shown)
 
--- that of an end of which this was told and carried
+-- the account of an end of which these indications were given and these octets sent
 abbrev pub account_of : List (ℕ × Shown) → List ℕ → End → Account
 account_of told carried e = record { end = put_back carried (hushed e); told = told ++ all_waiting e.lines }
 
--- a packet acts, and what it shows is told
+-- a packet takes effect, and its indications are given
 abbrev pub with_packet : Account → List ℕ → Account
 with_packet a packet = account_of a.told [] (after_packet a.end packet)
 
@@ -51,12 +51,12 @@ with_packets (packet ∷ packets) a = with_packets packets (with_packet a packet
 
 -- ---- calls
 
--- a call, with what it was given and what it answered
+-- a call, with its argument and its result
 pub data Call : Type 0 where
   feeding : List ℕ → Fed → Call
-  -- the oldest indication of the lowest reference was told, with this reference
+  -- the oldest indication of the lowest reference was given, with this reference
   telling : Option (ℕ × Shown) → Call
-  -- these octets were carried to the peer
+  -- these octets were sent to the peer
   carrying : List ℕ → Call
 
 abbrev pub Calls : Holding → Call → Holding → Type 0
@@ -64,7 +64,7 @@ Calls old (feeding piece fed) new = Feeds old piece fed new
 Calls old (telling shown) new = (shown ≡ first_shown old.end.lines) × (new ≡ record old { end = record old.end { lines = without_first old.end.lines } })
 Calls old (carrying octets) new = old ≡ record new { end = put_back octets new.end }
 
--- feeding found memory for all that it did
+-- feeding did not run out of memory
 abbrev pub HasRoom : Holding → Call → Holding → Type 0
 HasRoom old (feeding piece fed) new = stops old.end ≡ false → (RunsDry old piece fed.used new ⊎ StopsBehind old piece fed.used new) ⊎ Refuses old piece fed.used new
 HasRoom old (telling shown) new = Unit {0}
@@ -75,7 +75,7 @@ abbrev pub CallsAlong : Holding → List Call → Holding → Type 0
 CallsAlong old [] new = new ≡ old
 CallsAlong old (call ∷ calls) new = (mid : Holding) × Calls old call mid × CallsAlong mid calls new
 
--- the same, and for none of them memory was wanted
+-- the same, and none of them ran out of memory
 abbrev pub CallsInRoom : Holding → List Call → Holding → Type 0
 CallsInRoom old [] new = new ≡ old
 CallsInRoom old (call ∷ calls) new = (mid : Holding) × Calls old call mid × HasRoom old call mid × CallsInRoom mid calls new
@@ -98,12 +98,12 @@ carried_in (carrying octets) = octets
 
 -- ---- what calls did
 
--- what an end came to over these calls
+-- the account of an end after these calls
 abbrev pub account_along : List Call → End → Account
 account_along calls e = account_of (flat_map told_in calls) (flat_map carried_in calls) e
 
--- The packets of what was held and of the octets that were used acted, each whole and in order, each once all
--- that waited was told, and nothing else did; the octets behind the last packet are held.
+-- The packets of the octets held and of those used took effect, each whole and in order, each once no indication was
+-- pending, and nothing else did; the octets after the last packet are held.
 pub record Reads (old : Holding) (calls : List Call) (new : Holding) : Type 0 where
   pub packets : List (List ℕ)
   pub cut : ArePackets packets (old.held.octets ++ flat_map used_in calls) new.held.octets
@@ -111,8 +111,8 @@ pub record Reads (old : Holding) (calls : List Call) (new : Holding) : Type 0 wh
   pub partial : IsPartial old.held.octets → IsPartial new.held.octets
   pub offset : old.held.offset < 2 ^ 64 → new.held.offset ≡ offset_of (old.held.offset + (length (old.held.octets ++ flat_map used_in calls) - length new.held.octets))
 
--- Two ends that came to the same: the same is held of the packet under way; with what was carried put back,
--- and all told, they are one end; and what was told and waits is the same, in the same order.
+-- Two ends with the same account: the same is held of the unfinished packet; with what was sent put back and nothing
+-- pending, they are the same end; and all indications are the same, in the same order.
 pub record AreAlike (a : Holding) (xs : List Call) (b : Holding) (ys : List Call) : Type 0 where
   pub octets : a.held.octets ≡ b.held.octets
   pub end : put_back (flat_map carried_in xs) (hushed a.end) ≡ put_back (flat_map carried_in ys) (hushed b.end)
@@ -126,7 +126,7 @@ live_lines live lines = filter (λ row. is_some (value_at row.0 live)) lines
 abbrev pub pruned : End → End
 pruned e = record e { lines = live_lines e.carrier.live e.lines }
 
--- The same, but for lines of connections that are gone: one of two ends may have dropped some that the other keeps.
+-- The same, except for lines of connections that are gone: one of two ends may have dropped some that the other keeps.
 pub record AreAlikeInLive (a : Holding) (xs : List Call) (b : Holding) (ys : List Call) : Type 0 where
   pub octets : a.held.octets ≡ b.held.octets
   pub end : put_back (flat_map carried_in xs) (hushed (pruned a.end)) ≡ put_back (flat_map carried_in ys) (hushed (pruned b.end))
@@ -136,15 +136,15 @@ pub record AreAlikeInLive (a : Holding) (xs : List Call) (b : Holding) (ys : Lis
 abbrev pub told_of : ℕ → List (ℕ × Shown) → List (ℕ × Shown)
 told_of r told = filter (λ first. first.0 == r) told
 
--- The same, but for the order of what was told of several references: of each by itself it is the same.
+-- The same, except for the order of indications of several references; for each reference by itself it is the same.
 pub record AreAlikeByReference (a : Holding) (xs : List Call) (b : Holding) (ys : List Call) : Type 0 where
   pub octets : a.held.octets ≡ b.held.octets
   pub end : put_back (flat_map carried_in xs) (hushed a.end) ≡ put_back (flat_map carried_in ys) (hushed b.end)
   pub told : (r : ℕ) → told_of r (flat_map told_in xs ++ all_waiting a.end.lines) ≡ told_of r (flat_map told_in ys ++ all_waiting b.end.lines)
 
--- What is seen of two such ends: at each reference the same phase, the same session with its tokens and serial
--- numbers, and the same indications; the same octets for the peer, the same reason of the end, and as many
--- octets kept; and each call of the user is answered the same.
+-- What can be seen of two such ends: at each reference the same phase, the same session with its tokens and serial
+-- numbers, and the same indications; the same octets for the peer, the same reason of the end, and as many octets kept;
+-- and each call of the user gets the same answer.
 pub record LookAlike (a : Holding) (xs : List Call) (b : Holding) (ys : List Call) : Type 0 where
   pub phases : (r : ℕ) → phase_at r a.end ≡ phase_at r b.end
   pub sessions : (r : ℕ) → session_at r a.end ≡ session_at r b.end

@@ -11,7 +11,7 @@ pub record Selectors : Type 0 where
   pub calling : Option (List ℕ)
   pub called : Option (List ℕ)
 
--- those that a unit names: a CN does
+-- the selectors that a unit names; only a CN does
 abbrev pub selectors_of : Meaning → Option Selectors
 selectors_of (CN version requirements serial wishes calling called sizes octets) = Some (record { calling = calling; called = called })
 selectors_of _ = None
@@ -21,7 +21,7 @@ abbrev pub selectors_sent : Option Meaning → Option Selectors
 selectors_sent None = None
 selectors_sent (Some unit) = selectors_of unit
 
--- those of what comes: a CN is the first unit of its TSDU, and the only one
+-- the selectors of what arrives: a CN is the first and only unit of its TSDU
 abbrev pub selectors_said : Words → Option Selectors
 selectors_said [] = None
 selectors_said (word ∷ words) = selectors_of (as_message word)

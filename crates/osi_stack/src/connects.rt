@@ -1,4 +1,4 @@
-//! Asking for a connection.
+//! Requesting a connection.
 
 ghost use Rattle.std.specs.Prelude.{◌≡◌, ◌+◌, true, false, None, Some, OnOk, OnErr, IfOk, IfErr, option_map};
 ghost use Rattle.osi_message.specs.Meanings.{selector_octets};
@@ -14,7 +14,7 @@ use osi_session::{CallError, Opening, Session, is_profile};
 use osi_spdu::Selector;
 use std::alloc::Global;
 
-/// The address of these octets, where some are given.
+/// The address with these octets, if any are given.
 fn address(octets: Option<&[u8]>) -> Result<Option<Selector<'_>>, ConnectError>
     ensures ok { IfOk result (λ s. selector_octets s ≡ option_map (λ o. o.now) octets.entry) }
     ensures short { OnOk result (is_long_address (option_map (λ o. o.now) octets.entry) ≡ false) }
@@ -29,7 +29,7 @@ fn address(octets: Option<&[u8]>) -> Result<Option<Selector<'_>>, ConnectError>
     }
 }
 
-/// The session of a caller, with a CN that is to be sent, and the session selectors of that.
+/// The session of a caller with a CN to be sent, and the session selectors of that CN.
 fn session_for(
     alloc: Global,
     connect: &Connect,
@@ -63,7 +63,7 @@ fn session_for(
     }
 }
 
-/// Asks for a connection. All growths are made before anything changes.
+/// Requests a connection. All allocations are made before anything changes.
 pub fn ask(
     alloc: Global,
     carrier: &mut Carrier,

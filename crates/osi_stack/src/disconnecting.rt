@@ -1,4 +1,4 @@
-//! Giving up one connection alone.
+//! Giving up a single connection.
 
 ghost use Rattle.std.specs.Prelude.{◌≡◌, true, IfErr, OnOk, OnErr};
 ghost use Rattle.osi_carrier.specs.Calls.{closed_with};
@@ -11,8 +11,8 @@ use crate::transport::close;
 use osi_carrier::Carrier;
 use osi_session::CallError;
 
-/// Closes the transport connection of a reference where it is open, and gives up its session. Memory is
-/// needed for a DR alone, and want of it changes nothing.
+/// Closes the transport connection of a reference if it is open, and gives up its session. Memory is needed only for a
+/// DR; an allocation failure changes nothing.
 pub fn give_up(carrier: &mut Carrier, lines: &mut Lines, reference: u16) -> Result<(), CallError>
     ensures ok { OnOk result (holding carrier.new lines.new ≡ record (holding carrier.old lines.old) { end = disconnects reference (holding carrier.old lines.old).end }) }
     ensures err { OnErr result (holding carrier.new lines.new ≡ holding carrier.old lines.old) }

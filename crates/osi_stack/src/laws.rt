@@ -60,8 +60,8 @@ use osi_session::laws::{
 use osi_spdu::laws::{few_octets_fit, serial_digits};
 use osi_tpkt::laws::{a_prefix_of_a_packet, a_stream_has_one_cut, no_packet_begins_another};
 
-/// However many of the octets are fed that the other end wrote, what an end does is to take the units
-/// that these are, one after the other, up to one that stops it or finds no memory.
+/// However many octets are fed that the other end wrote, an end takes their units one after the other, up to one that
+/// stops it or that runs out of memory.
 pub fn what_was_written_is_heard()
     ensures unit { (e : End) (unit : Value) → IsSendable unit → after_packet e (written unit) ≡ after_unit e unit }
     ensures fed { (old new : Holding) (outgoing : List ℕ) (coming : List Value) (k : ℕ) (fed : Fed) → k ≤ length outgoing →
@@ -70,9 +70,9 @@ pub fn what_was_written_is_heard()
     ensures attended { (e : End) (unit : Value) → IsAttended (after_unit e unit) }
 {}
 
-/// A unit of the transport with which a message arrives does to the session of its connection what the
-/// message does there, by where the connection stands: a session begins, or makes its move, and what that
-/// shows waits for its user and what it puts is sent; all other sessions stay as they are.
+/// A transport unit that brings a message does to the session of its connection what the message does in the state of
+/// that connection: a session begins, or makes its move; its indications become pending, and what it puts is sent. All
+/// other sessions stay as they are.
 pub fn what_a_message_does()
     ensures arrives { (r : ℕ) (place : Place) (m : Message) (unit : Value) (e : End) → IsWhole m →
         (carrier_react unit e.carrier).events ≡ told_at r place m → CanHear r (effect_at place m) e.lines →
@@ -84,20 +84,20 @@ pub fn what_a_message_does()
     what_a_part_says();
 }
 
-/// A call that is accepted is one of the session's table, on an open connection: one unit is sent, or one
-/// Data in parts, and nothing is shown.
+/// A call that is accepted is one that the table of the session allows, on an open connection. One unit is sent, or one
+/// Data in parts, and nothing is indicated.
 pub fn what_a_call_says()
     ensures { (r : ℕ) (call : Call) (e : End) → call_error r call e ≡ None → Says r call e (to_session r (called call) e) }
 {}
 
-/// Where a carrier ends, each session is lost: its user is shown what it shows then.
+/// If a carrier ends, each session is lost, and its user receives the indication of a loss, if its state has one.
 pub fn what_an_end_shows()
     ensures { (lines : Rows Line) → AreLost lines (all_lost lines) }
 {}
 
-/// Indications are told in one order: line after line, and of one connection the oldest first. Telling one
-/// changes no session. Where lines stand in the order of their references, as those of each end do, what is
-/// told is the oldest indication of the lowest reference for which one waits.
+/// Indications are given in one order: line after line, and for one connection the oldest first. Giving one changes no
+/// session. If the lines are in the order of their references, as those of each end are, the next one is the oldest
+/// indication of the lowest reference for which one is pending.
 pub fn what_waits_is_told_in_order()
     ensures next { (lines : Rows Line) → IsFirstOf (first_shown lines) (all_waiting lines) (all_waiting (without_first lines)) }
     ensures lowest { (lines : Rows Line) → RiseFrom 0 lines → TellsLowest (first_shown lines) lines (without_first lines) }
@@ -107,9 +107,9 @@ pub fn what_waits_is_told_in_order()
         value_at r (used_lines live lines) ≡ value_at r lines }
 {}
 
-/// Whatever is called and fed, while the carrier of an end lasts: each live connection and each line has a
-/// reference of its own that was given, and each session that a call can be accepted by, or that awaits a
-/// CN, has an open transport connection.
+/// Whatever is called and fed, while the carrier of an end lasts: each live connection and each line has a reference of
+/// its own, which was given; and each session that can accept a call, or that awaits a CN, has an open transport
+/// connection.
 pub fn a_session_that_is_called_has_a_connection()
     ensures begins { (is_caller : Bool) (local : Local) → IsSound (fresh_end is_caller local) }
     ensures connects { (c : Connect) (e : End) → connect_error c e ≡ None → IsSound e → IsSound (connects c e) }
@@ -126,9 +126,9 @@ pub fn a_session_that_is_called_has_a_connection()
     where_a_call_is_accepted();
 }
 
-/// Each session of an end is what its inputs made of it: it awaited a CN, or was to send one, and then its
-/// calls, the TSDUs that came and what befell its transport connection acted one after the other, whatever
-/// is called and in whatever pieces octets come. So the laws of `osi_session` over lists of inputs hold.
+/// Each session of an end is what its inputs made of it: it began awaiting a CN, or with one to send; then its calls,
+/// the TSDUs that arrived and the events of its transport connection took effect one after the other. This holds
+/// whatever is called and in whatever pieces octets arrive. So the laws of `osi_session` over lists of inputs apply.
 pub fn a_session_is_what_its_inputs_made_it()
     ensures connects { (c : Connect) (e : End) → AllCameAbout e.lines → AllCameAbout (connects c e).lines }
     ensures called { (r : ℕ) (call : Call) (e : End) → HasSerial call → AllCameAbout e.lines → AllCameAbout (to_session r (called call) e).lines }
@@ -141,12 +141,12 @@ pub fn a_session_is_what_its_inputs_made_it()
     what_happens_has_numbers();
 }
 
-/// And these inputs are no others than its user's calls, the TSDUs that came for it and the other events that
-/// its carrier told of its connection, all of them, in the order in which they came; a connection that its user
-/// gave up is lost to its session there. Over every list of steps from a new end, in which octets come and go,
-/// indications are told and its user calls and gives up connections, while the end lasts:
-/// each session is what the inputs of its reference made of what it began as, at a caller with the CN of the
-/// `connect` that was given the reference, at a called end awaiting a CN.
+/// The inputs of a session are exactly its user's calls, the TSDUs that arrived for it and the other events of its
+/// carrier for its connection, all of them, in order; if its user gives the connection up, the session is lost at that
+/// point. Take any list of steps from a new end, in which octets arrive and leave, indications are fetched, and its
+/// user makes calls and gives up connections. While the end lasts, each session is what the inputs of its reference
+/// made of its beginning: at a caller with the CN of the `connect` that was given the reference, at a called end
+/// awaiting a CN.
 pub fn a_session_is_made_by_what_came_for_it()
     ensures { (is_caller : Bool) (local : Local) (steps : List Step) (new : Holding) (past : Past) →
         StepsAlong (record { end = fresh_end is_caller local; held = fresh }) no_past steps new past → new.end.carrier.ended ≡ None →
@@ -159,8 +159,8 @@ pub fn a_session_is_made_by_what_came_for_it()
     where_a_call_is_accepted();
 }
 
-/// So what a call is answered is what the table of its session says: a session by which it is accepted has an
-/// open transport connection, and what it sends is no longer than a TSDU may be.
+/// A call gets the answer of its session's table: a session that accepts it has an open transport connection, and what
+/// it sends is no longer than a TSDU may be.
 pub fn a_call_is_answered_by_its_session()
     ensures { (r : ℕ) (call : Call) (e : End) → HasSerial call → e.carrier.ended ≡ None → Soundness e → AllCameAbout e.lines →
         call_error r call e ≡ table_error r call e }
@@ -173,9 +173,9 @@ pub fn a_call_is_answered_by_its_session()
     where_a_call_is_accepted();
 }
 
-/// The lines of an end stand in the order in which their references were given, whatever is called, told and
-/// lost, and whatever message arrives: a connection that begins has a reference above those given before. So
-/// what is told first is that of the lowest reference.
+/// The lines of an end are in the order in which their references were given, whatever is called, indicated and lost,
+/// and whatever message arrives: a connection that begins has a reference above those given before. So the indication
+/// that is given first is that of the lowest reference.
 pub fn lines_rise_by_reference()
     ensures begins { (is_caller : Bool) (local : Local) → RiseFrom 0 (fresh_end is_caller local).lines }
     ensures connects { (c : Connect) (e : End) → Soundness e → RiseFrom 0 e.lines → RiseFrom 0 (connects c e).lines }
@@ -187,9 +187,8 @@ pub fn lines_rise_by_reference()
     ensures broken { (e : End) → RiseFrom 0 e.lines → RiseFrom 0 (breaks e).lines }
 {}
 
-/// The lines of an end stand in the order in which their references were given, whatever packets come, also such
-/// as have several units, and whatever is called, told and lost: so what is told first is that of the lowest
-/// reference.
+/// The same for whole packets, including those with several units: the lines of an end stay in the order in which their
+/// references were given, so the indication that is given first is that of the lowest reference.
 pub fn lines_rise_whatever_comes()
     ensures begins { (is_caller : Bool) (local : Local) → IsOrdered (fresh_end is_caller local) }
     ensures connects { (c : Connect) (e : End) → connect_error c e ≡ None → IsSound e → IsOrdered e → IsOrdered (connects c e) }
@@ -206,9 +205,9 @@ pub fn lines_rise_whatever_comes()
     where_a_call_is_accepted();
 }
 
-/// So between any two calls, whatever was called, fed, told and lost, what [`IsSettled`] says is true of an end:
-/// also once it has ended, when none of its connections is live and no session is left. A stack keeps it. So a
-/// connection has addresses as soon as its user has asked for it or is shown a `Connect` (`known`).
+/// Between any two calls, whatever was called, fed, indicated and lost, [`IsSettled`] holds of an end; also once it has
+/// ended, when none of its connections is live and no session is left. A stack keeps it as an invariant. So a
+/// connection has addresses as soon as its user has requested it or has received a `Connect` (`known`).
 ///
 /// [`IsSettled`]: ../specs/Settled.antt
 pub fn an_end_is_settled_between_calls()
@@ -233,8 +232,7 @@ pub fn an_end_is_settled_between_calls()
     what_a_user_is_shown_first();
 }
 
-/// So between any two calls, also once an end has ended, a call is answered as the table of its session says,
-/// and once it has ended none is accepted.
+/// So between any two calls, a call gets the answer of its session's table, and once an end has ended it accepts none.
 pub fn a_call_of_a_settled_end_is_answered_by_its_session()
     ensures answered { (r : ℕ) (call : Call) (e : End) → HasSerial call → IsSettled e → call_error r call e ≡ table_error r call e }
     ensures over { (r : ℕ) (call : Call) (e : End) → IsSettled e → IsSome e.carrier.ended → IsSome (call_error r call e) }
@@ -247,8 +245,8 @@ pub fn a_call_of_a_settled_end_is_answered_by_its_session()
     where_a_call_is_accepted();
 }
 
-/// So between any two calls, while an end lasts, a session that has joined octets of an unfinished SSDU may be
-/// called and has an open transport connection, and it has joined no more than one Data.
+/// So between any two calls, while an end lasts, a session that has joined octets of an unfinished SSDU may be called
+/// and has an open transport connection, and it has joined no more than one Data.
 pub fn what_is_joined_has_a_connection()
     ensures opened { (r : ℕ) (session : Listener) (e : End) → IsSettled e → e.carrier.ended ≡ None → kept_at r e.lines ≡ Some session →
         is_some session.joined ≡ true → is_open r e.carrier ≡ true }
@@ -258,10 +256,9 @@ pub fn what_is_joined_has_a_connection()
     what_is_joined();
 }
 
-/// A connection that is asked for has the addresses that were asked for, and one that was not those of the CN, as
-/// soon as its user is shown a `Connect`. Nothing else that happens to a session changes its selectors, and what
-/// happens to another session does not. (Of the transport selectors `osi_carrier` says the same; each carrier is
-/// `AreNamed`.)
+/// A connection that was requested here has the addresses of the request; any other has those of its CN, as soon as its
+/// user has received a `Connect`. Nothing else that happens to a session changes its selectors, nor does anything that
+/// happens to another session. (For the transport selectors `osi_carrier` says the same; each carrier is `AreNamed`.)
 pub fn what_addresses_a_connection_has()
     ensures asked { (c : Connect) (e : End) → Soundness e → AreNamed e.carrier → addresses_at (e.carrier.given + 1) (connects c e) ≡ Some (asked_addresses c) }
     ensures came { (r : ℕ) (input : Input) (session : Listener) (e : End) → kept_at r e.lines ≡ Some session → shows_connect (react session input).shown ≡ true →
@@ -271,10 +268,10 @@ pub fn what_addresses_a_connection_has()
     ensures others { (q r : ℕ) (input : Input) (e : End) → q ≢ r → selectors_in (value_at q (to_session r input e).lines) ≡ selectors_in (value_at q e.lines) }
 {}
 
-/// Data that comes in parts does to an end what it does in one TSDU: over the parts in their order, with any
-/// calls of the user of their session between, where nothing is unfinished and the whole Data is no fault. Behind
-/// the last part the end is the same as behind these calls and the whole Data: the session, what waits for its
-/// user, and what is put for the peer. Each session of a settled end has such functional units as are asked here
+/// Data in parts has the effect of the same data in one TSDU. Take the parts in order, with any calls of the session's
+/// user in between; nothing is unfinished before, and the whole Data is no fault. After the last part the end is the
+/// same as after these calls and the whole Data: the session, its pending indications, and what is put for the peer.
+/// The functional units that this needs are those of every session of a settled end
 /// ([`an_end_is_settled_between_calls`], `profile`).
 pub fn parts_are_one_data()
     ensures { (r : ℕ) (session : Listener) (acts : List Act) (front last : List ℕ) (e : End) → kept_at r e.lines ≡ Some session →
@@ -288,13 +285,13 @@ pub fn parts_are_one_data()
     what_a_part_says();
 }
 
-/// A connection that is given up takes nothing from the others: while the end goes on they are as they were, octet
-/// for octet of what they keep and have to send (`others`). In class 2 it goes on (`lasts`), and what is to be
-/// carried is what was, and behind it a DR with reason 128; what the connection had still to send is gone with its
-/// link (`asks`). In class 0 the end ends as by a close, and what is to be carried stays (`zero`). Where the
-/// transport connection is not open the carrier is left as it is (`rests`). Nothing of the connection waits to be
-/// shown (`hushed`), its session, if it has one still, has ended (`over`), and what has ended shows nothing, whatever
-/// happens to it (`silent`).
+/// Giving up a connection takes nothing from the others: while the end goes on, they are as they were, including every
+/// octet that they keep and have to send (`others`). In class 2 the end goes on (`lasts`); the octets to send are those
+/// before, followed by a DR with reason 128, and what the connection had still to send is dropped with its link
+/// (`asks`). In class 0 the end ends as by a close, and the octets to send stay (`zero`). If the transport connection
+/// is not open, the carrier stays as it is (`rests`). No indication of the connection is pending (`hushed`); its
+/// session, if there still is one, has ended (`over`); and a session that has ended indicates nothing, whatever happens
+/// to it (`silent`).
 pub fn what_a_disconnect_leaves()
     ensures others { (r : ℕ) (e : End) → (disconnects r e).carrier.ended ≡ None → LeavesOthers r e (disconnects r e) }
     ensures lasts { (r : ℕ) (e : End) → e.carrier.ended ≡ None → e.carrier.class ≢ Some Zero → (disconnects r e).carrier.ended ≡ None }
@@ -309,7 +306,7 @@ pub fn what_a_disconnect_leaves()
         waiting_at r (to_session r input e).lines ≡ waiting_at r e.lines }
 {}
 
-/// While the carrier of an end lasts, the sessions have heard all that it told, between any two calls.
+/// Between any two calls, while the carrier of an end lasts, the sessions have handled all its events.
 pub fn all_that_is_told_is_heard()
     ensures begins { (is_caller : Bool) (local : Local) → IsAttended (fresh_end is_caller local) }
     ensures connects { (c : Connect) (e : End) → IsAttended e → IsAttended (connects c e) }
@@ -319,15 +316,13 @@ pub fn all_that_is_told_is_heard()
     ensures broken { (e : End) → IsAttended e → IsAttended (breaks e) }
 {}
 
-/// Over every list of calls that feed an end, tell its indications and carry its octets away, after which it
-/// has not ended: the packets of the octets that it held and used acted, each whole and in order, each once
-/// all was told that waited, and nothing else did. So the pieces in which the octets came do not matter, nor
-/// when indications and octets were taken away: the same indications are told in the same order, those that
-/// wait counted in; the same octets are put for the peer, those not yet carried counted in; and each session,
-/// each connection and what is held of the packet under way are the same. Where the octets do not end an end
-/// in one list of pieces, they do in no other, but for want of memory. Where they end it and there is memory
-/// for all that they do, they end it for the same reason, leave it the same and have the same told, whatever
-/// the pieces.
+/// The pieces don't matter, nor when indications and octets are taken. Take any list of calls that feed an end, fetch
+/// its indications and take its octets, after which it has not ended. The packets of the octets that it held and used
+/// took effect, each whole and in order, each once no indication was pending, and nothing else did. So these are the
+/// same, whatever the pieces: the indications and their order, counting pending ones; the octets put for the peer,
+/// counting those not yet sent; and each session, each connection and the unfinished packet. If the octets don't end an
+/// end in one list of pieces, they don't in any other, unless memory runs out. If they end it and memory suffices, they
+/// end it for the same reason, in the same state and with the same indications, whatever the pieces.
 pub fn the_pieces_do_not_matter()
     ensures calls { (old new : Holding) (calls : List EndCall) → CallsAlong old calls new → new.end.carrier.ended ≡ None → Reads old calls new }
     ensures pieces { (old a b : Holding) (xs ys : List EndCall) → IsPartial old.held.octets → old.held.offset < 2 ^ 64 →
@@ -346,21 +341,23 @@ pub fn the_pieces_do_not_matter()
     no_packet_begins_another();
 }
 
-/// So over whole runs too, with the user's calls between: where in each round the same octets were used, in
-/// whatever pieces, and then the user made the same call, the ends come to the same, and the same was told and
-/// put. A session may be called while indications wait, a connection asked for while they wait for live
-/// connections, and one given up once all was told (`rounds`). Behind the rounds the same octets may end them, or
-/// they may have ended: where memory is not wanted there, they come to the same all the same (`last`). And the byte
-/// connection may break whatever waits: then the same is told of each reference, in the same order, if not of
-/// several (of 1 that it is lost before what waits of 2, where that was not yet told), and all else is the same
-/// (`broken`). Behind an end, as behind a break, there are no rounds: no packet acts and no call is accepted, and
-/// what is fed, told and carried there leaves what is seen the same (`behind`).
+/// The same over whole runs, with the user's calls in between. A run is a list of rounds: in each, octets are used and
+/// then the user makes a call. If two runs use the same octets in each round, in whatever pieces, and make the same
+/// calls, the ends reach the same state, with the same indications and the same octets put. A session may be called
+/// while indications are pending; a connection requested while only live connections have pending ones; and one given
+/// up once none is pending (`rounds`). After the rounds the same octets may end the ends, or they may have ended; if
+/// memory suffices there, the state is still the same (`last`). The byte connection may break whatever is pending: then
+/// the indications of each reference are the same, in the same order, but not necessarily those of several references
+/// (1 may be lost before a pending indication of 2), and everything else is the same (`broken`). After an end, as after
+/// a break, there are no rounds: no packet takes effect and no call is accepted, and feeding, fetching and taking there
+/// change nothing that can be seen (`behind`).
 ///
-/// `connect` drops the lines of connections that are gone and for which nothing waits. So where it is called
-/// whatever waits, one of two ends may keep such a line that the other has dropped (`asked`). From then on, where
-/// the runs began with a settled end, whatever comes and is called, they are the same but for lines of connections
-/// that are gone, and the same was told and put, in the same order (`asking`, `asking_last`). So what is seen of
-/// them is the same (`asking_seen`), also where then the byte connection breaks, whatever waits (`asking_broken`).
+/// `connect` drops the lines of connections that are gone and have no pending indications. So if it is called while
+/// some are pending, one of two ends may keep such a line that the other has dropped (`asked`). If the runs began with
+/// a settled end, the two are then the same from there on except for lines of connections that are gone, whatever
+/// arrives and is called, and with the same indications and octets in the same order (`asking`, `asking_last`). So what
+/// can be seen of them is the same (`asking_seen`), also if the byte connection breaks then, whatever is pending
+/// (`asking_broken`).
 pub fn whole_runs_do_not_hang_on_pieces()
     ensures rounds { (old a b : Holding) (xs ys : List Round) → IsPartial old.held.octets → old.held.offset < 2 ^ 64 →
         RoundsAlong old xs a → RoundsAlong old ys b → AreInStep xs ys → AreAlike a (calls_of xs) b (calls_of ys) }

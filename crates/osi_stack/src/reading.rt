@@ -11,8 +11,8 @@ use osi_carrier::Carrier;
 use osi_tpkt::laws::a_prefix_of_a_packet;
 use std::alloc::Global;
 
-/// Feeds octets up to those after which the carrier told something, and the sessions hear it, the oldest
-/// first. Where the carrier has ended then, all sessions are lost. Says how many octets were used.
+/// Feeds octets up to those that caused an event of the carrier, and the sessions handle it, the oldest event first. If
+/// the carrier has ended by then, all sessions are lost. Returns how many octets were used.
 fn fetch(alloc: Global, carrier: &mut Carrier, lines: &mut Lines, octets: &[u8]) -> usize
     ensures { Fetches (holding carrier.old lines.old) octets.now result (holding carrier.new lines.new) }
 {
@@ -29,8 +29,7 @@ fn fetch(alloc: Global, carrier: &mut Carrier, lines: &mut Lines, octets: &[u8])
     fed.used
 }
 
-/// Feeds a piece up to a packet that gave an indication, or the whole of it, and says how many octets were
-/// used.
+/// Feeds a piece up to a packet that caused an indication, or all of it, and returns how many octets were used.
 pub fn read(alloc: Global, carrier: &mut Carrier, lines: &mut Lines, piece: &[u8]) -> usize
     requires quiet { stops (holding carrier.old lines.old).end ≡ false }
     requires attended { IsAttended (holding carrier.old lines.old).end }

@@ -2,8 +2,7 @@
 
 ghost use Rattle.std.specs.Prelude.{◌≡◌, ◌≤◌, length};
 
-/// A session selector that is held in place, with no memory taken: the address of a session user, of 0
-/// to 16 octets.
+/// A session selector held inline, without an allocation: the address of a session user, 0 to 16 octets.
 #[derive(Clone, Copy)]
 pub struct SessionSelector {
     octets: [u8; 16],

@@ -19,8 +19,8 @@ use osi_tpkt::Fed;
 use std::alloc::Global;
 use std::marker::Model;
 
-/// One end of a byte connection: octets come in and go out, its user calls and is shown indications.
-/// Each connection has a reference of this end.
+/// One end of a byte connection: octets come in and go out, its user makes calls and receives indications. Each
+/// connection has a reference of this end.
 #[derive(Drop)]
 pub struct Stack {
     alloc: Global,
@@ -85,7 +85,7 @@ impl Stack {
         }
     }
 
-    /// Whether this end gave a reference.
+    /// Whether this end has given a reference.
     fn has_given(&self, reference: Ref) -> bool
         ensures { result ≡ has_given reference.0 self.now.end.carrier }
     {
@@ -102,8 +102,8 @@ impl Stack {
         self.lines.session(reference.0)
     }
 
-    /// Asks for a connection: the next reference is given, a CR is written, and the CN follows once
-    /// the transport connection is there. Each error changes nothing.
+    /// Requests a connection: the next reference is given and a CR is written; the CN follows once the transport
+    /// connection is open. An error changes nothing.
     pub fn connect(&mut self, connect: &Connect) -> Result<Ref, ConnectError>
         ensures ok { OnOk result (self.new ≡ record self.old { end = connects connect.now self.old.end }) }
         ensures reference { IfOk result (λ r. r.0 ≡ self.old.end.carrier.given + 1) }
@@ -116,9 +116,9 @@ impl Stack {
         ask(self.alloc, &mut self.carrier, &mut self.lines, connect)
     }
 
-    /// A call of the user of a connection (X.225 section 7), which the table of its session answers. Each
-    /// error changes nothing, and want of memory comes only where no other error does. Once the end has
-    /// ended no call is accepted.
+    /// A call of the user of a connection (X.225 section 7), answered by the table of its session. An error changes
+    /// nothing, and `OutOfMemory` is returned only if no other error applies. Once the end has ended it accepts no
+    /// call.
     pub fn call(&mut self, reference: Ref, request: Request) -> Result<(), CallError>
         ensures ok { OnOk result (self.new ≡ record self.old { end = to_session reference.0 (called (called_by request.entry)) self.old.end }) }
         ensures allowed { OnOk result (call_error reference.0 (called_by request.entry) self.old.end ≡ None) }
@@ -146,21 +146,19 @@ impl Stack {
         }
     }
 
-    /// Gives up one connection at once (X.224 section 6.7), whatever its session does and whatever of it
-    /// waits for credit, which is dropped. Afterwards nothing of this reference is shown any more: its
-    /// session has ended, and its pending indications are dropped. All other connections go on.
+    /// Gives up one connection at once (X.224 section 6.7), whatever its session does. What waits for credit is
+    /// dropped. Afterwards there are no more indications for this reference: its session has ended, and its pending
+    /// indications are dropped. All other connections go on.
     ///
-    /// In class 2 a DR with reason 128 is written where the transport connection is open, behind what
-    /// [`Stack::outgoing`] has already, and the peer's user is shown that the connection is lost. The
-    /// connection is live until the peer answers. In class 0 the end ends with [`EndReason::Closed`], as
-    /// the byte connection has no other: what is still to be carried stays, and then its owner closes it.
-    /// A connection that is closing or gone, and one of an end that has ended, loses its pending
-    /// indications.
+    /// In class 2, if the transport connection is open, a DR with reason 128 is written after what [`Stack::outgoing`]
+    /// already has, and the peer's user is told that the connection is lost. The connection is live until the peer
+    /// answers. In class 0 the end ends with [`EndReason::Closed`], because the byte connection has no other
+    /// connection: octets still to be sent stay, and then the owner closes the byte connection. A connection that is
+    /// closing or gone, and one of an end that has ended, loses its pending indications.
     ///
-    /// `NoSuchConnection` for a reference that was never given; `BadState` in the phase `WaitTransport`,
-    /// since X.224 waits for the CC before it sends a DR; and then `OutOfMemory`, only where a DR is to be
-    /// written: never in class 0, and never where the transport connection is not open. Each error changes
-    /// nothing.
+    /// Returns `NoSuchConnection` for a reference that was never given; `BadState` in the phase `WaitTransport`, since
+    /// X.224 waits for the CC before it sends a DR; and then `OutOfMemory`, only if a DR has to be written: never in
+    /// class 0, and never if the transport connection is not open. An error changes nothing.
     pub fn disconnect(&mut self, reference: Ref) -> Result<(), CallError>
         ensures ok { OnOk result (self.new ≡ record self.old { end = disconnects reference.0 self.old.end }) }
         ensures allowed { OnOk result (disconnect_error reference.0 self.old.end ≡ None) }
@@ -178,12 +176,11 @@ impl Stack {
         give_up(&mut self.carrier, &mut self.lines, reference.0)
     }
 
-    /// Feeds a piece of the stream that comes from the peer: its packets act one after the other, up
-    /// to one that gives an indication. The rest of the piece is to be fed again once the indications
-    /// were taken.
+    /// Feeds a piece of the stream from the peer. Its packets take effect one after the other, up to one that causes an
+    /// indication. Fetch the indications, then feed the rest of the piece again.
     ///
-    /// An empty piece changes nothing. While an indication waits nothing is used. All of the piece is used after the end, and where
-    /// the end comes now with a fault, for want of memory or with no indication.
+    /// An empty piece changes nothing. While an indication is pending, nothing is used. All of the piece is used once
+    /// the end has ended, and also if it ends now by a fault, because memory ran out, or without an indication.
     pub fn feed(&mut self, piece: &[u8]) -> Fed
         ensures feeds { Feeds self.old piece.now result self.new }
         ensures empty { piece.now ≡ [] → (result.used ≡ 0) × (self.new ≡ self.old) }
@@ -208,8 +205,8 @@ impl Stack {
         }
     }
 
-    /// The oldest indication of the lowest reference for which one waits, with this reference; all others wait
-    /// on. Takes no memory.
+    /// The oldest indication of the lowest reference for which one is pending, with this reference; all others stay
+    /// pending. Allocates nothing.
     pub fn next_indication(&mut self) -> Option<(Ref, Indication)>
         ensures shown { option_map (λ p. (p.0.0, shown_by p.1)) result ≡ first_shown self.old.end.lines }
         ensures lowest { TellsLowest (option_map (λ p. (p.0.0, shown_by p.1)) result) self.old.end.lines self.new.end.lines }
@@ -220,14 +217,14 @@ impl Stack {
         self.lines.next()
     }
 
-    /// The tokens that this end holds; none for a connection that is gone or never was, and none once the
-    /// end has ended.
+    /// The tokens that this end holds; none for a connection that is gone or never existed, and none once the end has
+    /// ended.
     pub fn held(&self, reference: Ref) -> TokenSet
         ensures octet { bits_of result ≡ token_octet (held_by (session_at reference.0 self.now.end)) }
         ensures set { named (bits_of result) ≡ held_by (session_at reference.0 self.now.end) }
         ensures over { IsSome self.now.end.carrier.ended → named (bits_of result) ≡ no_token }
     {
-        // What is true of each end is known behind the first use of a field.
+        // The first use of a field gives the invariant of the end.
         let _ = &self.lines;
         an_end_is_settled_between_calls();
         match self.session(reference) {
@@ -236,8 +233,7 @@ impl Stack {
         }
     }
 
-    /// Where a connection stands: none for a reference that was never given, and ended once the
-    /// connection is gone.
+    /// The phase of a connection: `None` for a reference that was never given, and `Ended` once the connection is gone.
     pub fn phase(&self, reference: Ref) -> Option<Phase>
         ensures { result ≡ phase_at reference.0 self.now.end }
     {
@@ -250,8 +246,7 @@ impl Stack {
         }
     }
 
-    /// V(M), the number of the next synchronization point; 0 for a connection that is gone or never
-    /// was.
+    /// V(M), the number of the next synchronization point; 0 for a connection that is gone or never existed.
     pub fn next_serial(&self, reference: Ref) -> u32
         ensures { result ≡ (numbers_of (session_at reference.0 self.now.end)).next }
     {
@@ -261,7 +256,7 @@ impl Stack {
         }
     }
 
-    /// V(A), the lowest number that is not confirmed; 0 for a connection that is gone or never was.
+    /// V(A), the lowest number that is not confirmed; 0 for a connection that is gone or never existed.
     pub fn confirmed_below(&self, reference: Ref) -> u32
         ensures { result ≡ (numbers_of (session_at reference.0 self.now.end)).confirmed }
     {
@@ -271,8 +266,7 @@ impl Stack {
         }
     }
 
-    /// V(R), the lowest number at which this end may restart; 0 for a connection that is gone or
-    /// never was.
+    /// V(R), the lowest number at which this end may restart; 0 for a connection that is gone or never existed.
     pub fn lowest_restart(&self, reference: Ref) -> u32
         ensures { result ≡ (numbers_of (session_at reference.0 self.now.end)).lowest }
     {
@@ -282,14 +276,14 @@ impl Stack {
         }
     }
 
-    /// The octets to be carried to the peer, the first of them first.
+    /// The octets to send to the peer, in order.
     pub fn outgoing(&self) -> &[u8]
         ensures { result.now ≡ self.now.end.carrier.outgoing }
     {
         self.carrier.outgoing()
     }
 
-    /// The first octets of [`Stack::outgoing`] were carried: at most as many as there are.
+    /// Says that this many octets of [`Stack::outgoing`] were sent, at most as many as there are.
     pub fn taken(&mut self, octets: usize)
         requires { octets ≤ length self.old.end.carrier.outgoing }
         ensures { self.new ≡ record self.old { end = carried octets self.old.end } }
@@ -298,7 +292,7 @@ impl Stack {
         self.carrier.taken(octets);
     }
 
-    /// The byte connection broke: all sessions are lost. Nothing changes where the end has ended.
+    /// Says that the byte connection broke: all sessions are lost. If the end has ended, nothing changes.
     pub fn broken(&mut self)
         ensures { self.new ≡ record self.old { end = breaks self.old.end } }
     {
@@ -310,17 +304,16 @@ impl Stack {
         self.lines.lose_all();
     }
 
-    /// Why this end has ended; none before it has.
+    /// Why this end has ended; `None` before it has.
     pub fn ended(&self) -> Option<EndReason>
         ensures { result ≡ self.now.end.carrier.ended }
     {
         self.carrier.ended()
     }
 
-    /// How many octets are held of what came: those of the packet under way, of the unfinished TSDUs of
-    /// open connections, and of data that came in parts of which the last is still to come. At most
-    /// 65,535, and 2,097,148 for each live connection: a TSDU of 1,048,576, and data of 1,048,572. Takes
-    /// a look at each connection.
+    /// How many received octets are kept: those of the unfinished packet, of the unfinished TSDUs of open connections,
+    /// and of data in parts whose last part has not arrived. At most 65,535, plus 2,097,148 for each live connection: a
+    /// TSDU of 1,048,576 and data of 1,048,572. Looks at each connection.
     pub fn kept(&self) -> usize
         ensures value { result ≡ kept_octets self.now }
         ensures at_most { result ≤ 65535 + 2097148 * length self.now.end.carrier.live }
@@ -328,11 +321,10 @@ impl Stack {
         self.carrier.kept() + self.lines.joined(&self.carrier)
     }
 
-    /// The addresses of a live connection: those that were asked for here, or those that the peer's CR
-    /// and CN name, from the time at which the CN makes a [`Indication::Connect`], be that fetched or not
-    /// (X.224 section 13.3.4, X.225 section 8). None of a connection that is gone, and none of a reference
-    /// that was never given. There are some in each phase but `WaitCn`, `Aborting` and `Ended`. Takes no
-    /// memory.
+    /// The addresses of a live connection: those requested here; or those that the peer's CR and CN name, from the time
+    /// at which the CN causes a [`Indication::Connect`], whether that is fetched or not (X.224 section 13.3.4, X.225
+    /// section 8). `None` for a connection that is gone, and for a reference that was never given. In each phase but
+    /// `WaitCn`, `Aborting` and `Ended` there are addresses. Allocates nothing.
     pub fn addresses(&self, reference: Ref) -> Option<Addresses>
         ensures value { option_map addresses result ≡ addresses_at reference.0 self.now.end }
         ensures known { IfSome (phase_at reference.0 self.now.end) (λ p. shows_loss p ≡ true → IsSome result) }
@@ -356,26 +348,23 @@ impl Stack {
         })
     }
 
-    /// How many octets of TSDUs were handed in at a connection and are not yet in [`Stack::outgoing`]:
-    /// what the peer's credit holds back in class 2. 0 where no open connection has this reference.
-    /// Takes no memory.
+    /// How many octets of TSDUs were handed in on a connection and are not yet in [`Stack::outgoing`], because in class
+    /// 2 they wait for the peer's credit. 0 if no open connection has this reference. Allocates nothing.
     pub fn unsent(&self, reference: Ref) -> usize
         ensures { result ≡ unsent_at (value_at reference.0 self.now.end.carrier.live) }
     {
         self.carrier.unsent(reference)
     }
 
-    /// The octets of [`Stack::unsent`] of all connections together, or `usize::MAX` where they are more.
-    /// Takes no memory.
+    /// The sum of [`Stack::unsent`] over all connections, or `usize::MAX` if it is more. Allocates nothing.
     pub fn backlog(&self) -> usize
         ensures { result ≡ min (backlog_of self.now.end.carrier.live) (2 ^ 64 - 1) }
     {
         self.carrier.backlog()
     }
 
-    /// Whether the byte connection may be closed now: nothing is to be carried, and the end has ended, or
-    /// there were connections and none is live. (Who wants to ask for another one keeps it open.) Takes no
-    /// memory.
+    /// Whether the byte connection may be closed now: nothing is to be sent, and the end has ended, or there were
+    /// connections and none is live. (To request another connection, keep it open.) Allocates nothing.
     pub fn is_over(&self) -> bool
         ensures { result ≡ is_over self.now.end }
     {
@@ -385,8 +374,8 @@ impl Stack {
         self.ended().is_some() || (self.carrier.given() > 0 && self.live() == 0)
     }
 
-    /// How many connections are live: those whose transport connection is asked for, open or closing. At
-    /// most 64. Takes no memory.
+    /// How many connections are live: those whose transport connection is requested, open or closing. At most 64.
+    /// Allocates nothing.
     pub fn live(&self) -> usize
         ensures value { result ≡ length self.now.end.carrier.live }
         ensures at_most { result ≤ 64 }

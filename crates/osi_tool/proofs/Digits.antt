@@ -15,7 +15,7 @@ pub has_lines : (text : List ℕ) → (line : List ℕ) × (lines : List (List �
 has_lines [] = ([], [], refl)
 has_lines (c ∷ text) = let e = has_lines text in more_lines (is_line_feed c) c (slice_split is_line_feed text) e.0 e.1 e.2
 
--- an octet that ends no line goes onto the first line
+-- an octet that does not end a line is added to the first line
 pub goes_on : (c : ℕ) (text : List ℕ) → is_line_feed c ≡ false →
     (line : List ℕ) × (lines : List (List ℕ)) × (slice_split is_line_feed text ≡ line ∷ lines) × (slice_split is_line_feed (c ∷ text) ≡ (c ∷ line) ∷ lines)
 goes_on c text h =
@@ -36,7 +36,7 @@ pub left_line_feed : (b : Bool) (c : ℕ) (text : List ℕ) → is_line_feed c �
 left_line_feed true c text h = ap (λ parts. digits_of_lines (later parts)) (slice_split-cons_yes is_line_feed c text h)
 left_line_feed false c text h = ap digits_of_lines (slice_split-cons_yes is_line_feed c text h)
 
--- its sign begins a comment, or stands in one
+-- its character begins a comment, or is within one
 pub left_sign : (b : Bool) (c : ℕ) (text : List ℕ) → is_line_feed c ≡ false → is_comment_sign c ≡ true → digits_left b (c ∷ text) ≡ digits_left true text
 left_sign true c text h k = let e = goes_on c text h in ap (λ parts. digits_of_lines (later parts)) e.3 ∙ sym (ap (λ parts. digits_of_lines (later parts)) e.2)
 left_sign false c text h k =
@@ -45,7 +45,7 @@ left_sign false c text h k =
     ∙ ap (λ x. filter (λ c. not (is_blank c)) (x ++ flat_map (before_first is_comment_sign) e.1)) (cut c e.0 k)
     ∙ sym (ap (λ parts. digits_of_lines (later parts)) e.2)
 
--- what stands in a comment is passed over
+-- comments are skipped
 pub left_comment : (c : ℕ) (text : List ℕ) → is_line_feed c ≡ false → digits_left true (c ∷ text) ≡ digits_left true text
 left_comment c text h =
     let e = goes_on c text h in ap (λ parts. digits_of_lines (later parts)) e.3 ∙ sym (ap (λ parts. digits_of_lines (later parts)) e.2)

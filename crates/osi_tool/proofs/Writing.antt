@@ -1,5 +1,5 @@
--- What a writer has taken of a text, and what is left of it; calls that fail change neither what a reader
--- has left nor what a writer holds.
+-- How much of a text a writer has taken, and what is left; calls that fail change neither what a reader has left nor
+-- what a writer holds.
 use Rattle.std.proofs.Common.{◌≡◌, ◌∙◌, ℕ, ◌+◌, Option, Some, None, List, [], ◌++◌, take, drop, refl, sym, ap}
 use Rattle.std.proofs.Math.Seq.{take-add}
 use Rattle.std.proofs.lemmas.List.{append_assoc, append-nil, drop-drop, take-append-drop}
@@ -49,7 +49,7 @@ same_appends None b xs ys e h = tt
 same_appends (Some x) None xs ys e h = absurd h
 same_appends (Some x) (Some y) xs ys e h = h ∙ ap (λ t. x ++ t) e
 
--- so many octets of a text were written, and these are left
+-- this many octets of a text were written, and these are left
 pub record IsWriting (old now : Option (List ℕ)) (text rest : List ℕ) : Type 0 where
   pub count : ℕ
   pub appended : Appends old now (take count text)

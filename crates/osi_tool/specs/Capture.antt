@@ -3,22 +3,22 @@ use Rattle.std.specs.Prelude.{◌≡◌, ℕ, ◌==◌, ◌||◌, not, Bool, tru
 use Rattle.std.specs.List.{before_first, flat_map, slice_split}
 use Rattle.hex.specs.Hex.{decode_of}
 
--- the sign that begins a comment, and the end of a line
+-- the character that begins a comment, and the end of a line
 abbrev pub is_comment_sign : ℕ → Bool
 is_comment_sign c = c == 35
 
 abbrev pub is_line_feed : ℕ → Bool
 is_line_feed c = c == 10
 
--- what stands between digits and means nothing: a blank, a tab, a carriage return
+-- characters that may occur between digits and mean nothing: a blank, a tab, a carriage return
 abbrev pub is_blank : ℕ → Bool
 is_blank c = (c == 32) || ((c == 9) || (c == 13))
 
--- what is left of lines without their comments and blanks
+-- lines without their comments and blanks
 abbrev pub digits_of_lines : List (List ℕ) → List ℕ
 digits_of_lines lines = filter (λ c. not (is_blank c)) (flat_map (before_first is_comment_sign) lines)
 
--- what is left of a text
+-- a text without them
 abbrev pub digits_of : List ℕ → List ℕ
 digits_of text = digits_of_lines (slice_split is_line_feed text)
 
@@ -30,12 +30,12 @@ Captures text octets = decode_of (digits_of text) ≡ Ok octets
 abbrev pub IsNoCapture : List ℕ → Type 0
 IsNoCapture text = IsErr (decode_of (digits_of text))
 
--- the lines but the first
+-- the lines after the first
 abbrev pub later : List (List ℕ) → List (List ℕ)
 later [] = []
 later (line ∷ lines) = lines
 
--- what is left of a text that begins in a comment, or outside
+-- the digits of a text that begins within a comment, or outside
 abbrev pub digits_left : Bool → List ℕ → List ℕ
 digits_left false text = digits_of text
 digits_left true text = digits_of_lines (later (slice_split is_line_feed text))

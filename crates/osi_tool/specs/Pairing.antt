@@ -1,4 +1,4 @@
--- What `pair` does, where the reader and the writer tell their octets.
+-- The effect of `pair`, for a reader and a writer that give access to their octets.
 use Rattle.std.specs.Prelude.{ℕ, ◌≤◌, List, length, Option}
 use Rattle.std.specs.Io.KnownBytes.{Appends}
 use Rattle.osi_script.specs.Scripts.{lines_of}
@@ -17,7 +17,7 @@ pub record Pairs (text : List ℕ) (old new : Option (List ℕ)) (status : ℕ) 
   pub tells : Tells text lines status
   pub written : Appends old new lines
 
--- the text has a transcript, of which a prefix is written, and nothing else
+-- the text has a transcript, of which a prefix is written and nothing else
 pub record PairsPart (text : List ℕ) (old new : Option (List ℕ)) : Type 0 where
   pub lines : List ℕ
   pub status : ℕ

@@ -1,4 +1,4 @@
-//! The text of a capture, read.
+//! Reading the text of a capture.
 
 ghost use Rattle.std.specs.Prelude.{◌≡◌, ◌∷◌, ◌++◌, ℕ, List, IfOk, Err};
 ghost use Rattle.osi_tool.specs.Capture.{digits_of, digits_left, is_blank, Captures, IsNoCapture};
@@ -7,9 +7,8 @@ use crate::faults::ToolFault;
 use hex::FromHexError;
 use std::alloc::{AllocError, Global};
 
-/// The octets that a text captures: two hexadecimal digits of either case for each. Blanks, tabs and
-/// line ends are skipped, also between the two digits of an octet, and so is what stands between `#`
-/// and the line's end.
+/// The octets that a text captures: two hexadecimal digits of either case for each. Blanks, tabs and line ends are
+/// skipped, also between the two digits of an octet, and so are comments from `#` to the end of the line.
 pub fn octets_of(alloc: Global, text: &[u8]) -> Result<Vec<u8>, ToolFault>
     ensures ok { IfOk result (λ octets. Captures text.now octets.items) }
     ensures bad_hex { result ≡ Err ToolFault.BadHex → IsNoCapture text.now }
@@ -26,7 +25,7 @@ pub fn octets_of(alloc: Global, text: &[u8]) -> Result<Vec<u8>, ToolFault>
     }
 }
 
-/// What is left of a text without comments and blanks.
+/// A text without its comments and blanks.
 fn digits_in(alloc: Global, text: &[u8]) -> Result<Vec<u8>, AllocError>
     ensures { IfOk result (λ digits. digits.items ≡ digits_of text.now) }
 {
@@ -38,8 +37,8 @@ fn digits_in(alloc: Global, text: &[u8]) -> Result<Vec<u8>, AllocError>
     Ok(digits)
 }
 
-/// Adds an octet of a text to its digits, unless it is a blank or stands in a comment, and answers
-/// whether a comment goes on behind it.
+/// Adds an octet of a text to its digits, unless it is a blank or in a comment, and returns whether a comment continues
+/// after it.
 fn push_digit(digits: &mut Vec<u8>, in_comment: bool, octet: u8) -> Result<bool, AllocError>
     ensures { IfOk result (λ goes_on. (rest : List ℕ) →
         digits.new.items ++ digits_left goes_on rest
@@ -61,7 +60,7 @@ fn push_digit(digits: &mut Vec<u8>, in_comment: bool, octet: u8) -> Result<bool,
     Ok(false)
 }
 
-/// Whether an octet stands between digits and means nothing.
+/// Whether an octet may occur between digits and means nothing.
 fn is_blank_octet(octet: u8) -> bool
     ensures { result ≡ is_blank octet }
 {

@@ -5,26 +5,26 @@
 pub enum ToolFault {
     /// A read failed, or the input has more than 16,777,216 octets.
     Input,
-    /// The input is no capture: it has another character than digits, blanks and comments, or an
-    /// odd number of digits.
+    /// The input is not a capture: it has a character other than digits, blanks and comments, or an odd number of
+    /// digits.
     BadHex,
     /// A write failed.
     Write,
-    /// There was no memory.
+    /// An allocation failed.
     OutOfMemory,
 }
 
 /// Why the program ends with status 2.
 #[derive(Clone, Copy)]
 pub enum ProgramFault {
-    /// The words that it was called with name no job.
+    /// The arguments of the program name no job.
     Words,
     /// The job failed.
     Tool(ToolFault),
 }
 
 impl ProgramFault {
-    /// What the program prints of it on standard error.
+    /// What the program prints on standard error.
     pub fn name(self) -> &'static str {
         match self {
             ProgramFault::Words => "Words",

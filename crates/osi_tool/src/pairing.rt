@@ -14,7 +14,7 @@ use std::io::{Read, Write};
 
 /// The transcript of a text. Nothing is read or written.
 ///
-/// [`ToolFault::Input`] is answered exactly for a text of more than 16,777,216 octets.
+/// Returns [`ToolFault::Input`] exactly for a text of more than 16,777,216 octets.
 fn transcript_of(alloc: Global, text: &[u8]) -> Result<Transcript, ToolFault>
     ensures told { IfOk result (λ t. Tells text.now t.lines.items t.status) }
     ensures status { IfOk result (λ t. t.status < 2) }
@@ -31,12 +31,12 @@ fn transcript_of(alloc: Global, text: &[u8]) -> Result<Transcript, ToolFault>
     }
 }
 
-/// Runs the script that a reader gives on two ends, and writes its transcript. The whole text is made
-/// before the first write.
+/// Runs the script that a reader gives on two ends, and writes its transcript. The whole text is made before the first
+/// write.
 ///
-/// [`ToolFault::Input`] means that a read failed or the input is too long, [`ToolFault::Write`] that a
-/// write failed, when what was written is a prefix of the transcript, and [`ToolFault::OutOfMemory`]
-/// that memory ran out anywhere, also where an end ended by that.
+/// [`ToolFault::Input`] means that a read failed or the input is too long. [`ToolFault::Write`] means that a write
+/// failed; what was written is a prefix of the transcript. [`ToolFault::OutOfMemory`] means that memory ran out
+/// anywhere, also in an end of the script.
 pub fn pair<R: Read, W: Write>(
     alloc: Global,
     reader: &mut WatchedReader<R>,

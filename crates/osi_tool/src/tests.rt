@@ -13,7 +13,7 @@ use std::io;
 use std::io::{Read, Write};
 use std::test::Fail;
 
-/// A reader that gives at most so many octets at a time, may fail behind them, and then has no more.
+/// A reader that gives at most this many octets at a time, may fail after them, and then has no more.
 #[derive(Drop)]
 struct Source<'a> {
     octets: &'a [u8],
@@ -54,7 +54,7 @@ impl Write for Broken {
     }
 }
 
-/// Octets that come as many at a time as are asked for.
+/// Octets that arrive as many at a time as are asked for.
 fn at_once(octets: &[u8]) -> Source<'_> {
     Source {
         octets,
@@ -63,7 +63,7 @@ fn at_once(octets: &[u8]) -> Source<'_> {
     }
 }
 
-/// Octets that come one at a time, before a read fails.
+/// Octets that arrive one at a time, before a read fails.
 fn broken_off(octets: &[u8]) -> Source<'_> {
     Source {
         octets,
@@ -100,7 +100,7 @@ fn ends_with(written: &[u8], lines: &str) -> Result<(), Fail> {
     Ok(())
 }
 
-/// What `show` answers.
+/// The result of `show`.
 fn shown(alloc: Global, source: &mut Source<'_>, out: &mut Vec<u8>) -> Result<u8, ToolFault> {
     show(
         alloc,
@@ -120,7 +120,7 @@ fn lists(
     is_text(out.as_slice(), lines)
 }
 
-/// `show` writes nothing, and answers a fault of this name.
+/// `show` writes nothing, and returns a fault with this name.
 fn refuses(
     alloc: Global,
     source: &mut Source<'_>,
@@ -214,7 +214,7 @@ fn a_write_or_a_flush_fails(rt: HostRuntime) -> Result<(), Fail> {
     Ok(())
 }
 
-/// Blanks, one more than the longest input has octets.
+/// Blanks, one more than the longest input.
 fn blanks(alloc: Global) -> Result<Vec<u8>, Fail> {
     let blanks = vec![in alloc; b' '; LONGEST_INPUT + 1]?;
     Ok(blanks)
@@ -266,7 +266,7 @@ fn an_octet_too_many_octet_by_octet(rt: HostRuntime) -> Result<(), Fail> {
     are_too_many(rt.alloc(), blanks(rt.alloc())?.as_slice(), 1)
 }
 
-/// What the program prints of each fault.
+/// What the program prints for each fault.
 const NAMES: [(ProgramFault, &str); 5] = [
     (ProgramFault::Words, "Words"),
     (ProgramFault::Tool(ToolFault::Input), "Input"),
@@ -282,7 +282,7 @@ fn faults_are_named(rt: HostRuntime) {
     }
 }
 
-/// Adds 128 packets of 65,535 octets, each with this data behind its units, and then blanks.
+/// Adds 128 packets of 65,535 octets, each with this data after its units, and then blanks.
 fn push_packets(text: &mut Vec<u8>, data: &[u8]) -> Result<(), Fail> {
     for _ in 0..128 {
         text.extend_from_slice(b"0300ffff02f08001000100")?;
@@ -368,7 +368,7 @@ left carried 14
 line 4 NotBroken
 ";
 
-/// What `pair` answers.
+/// The result of `pair`.
 fn told(alloc: Global, source: &mut Source<'_>, out: &mut Vec<u8>) -> Result<u8, ToolFault> {
     pair(
         alloc,
@@ -428,7 +428,7 @@ left 1 phase Ready held 01 next 0 below 0 lowest 0
 right 1 phase Ready held 00 next 0 below 0 lowest 0
 ";
 
-/// Adds a script of 100,007 lines: data that is shown, an octet at a time.
+/// Adds a script of 100,007 lines: data that is received, one octet at a time.
 fn push_long_script(script: &mut Vec<u8>) -> Result<(), Fail> {
     script.extend_from_slice(OPENED.as_bytes())?;
     for _ in 0..50_000 {

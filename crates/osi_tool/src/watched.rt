@@ -7,7 +7,7 @@ ghost use Rattle.osi_tool.specs.Show.{BeginsToAppend};
 use crate::faults::ToolFault;
 use std::io::{ErrorKind, Read, Write};
 
-/// How often a call that is interrupted is made again: so many interruptions in a row are a failure.
+/// How often an interrupted call is repeated: this many interruptions in a row are a failure.
 const TRIES: u32 = 16_777_216;
 
 /// A reader that remembers whether a read failed.
@@ -29,8 +29,8 @@ impl<R: Read> WatchedReader<R> {
         }
     }
 
-    /// Reads the next octets, and says how many; none at the end. A read that is interrupted is made
-    /// again. [`ToolFault::Input`] means that the inner reader failed.
+    /// Reads the next octets, and returns how many; none at the end. An interrupted read is repeated.
+    /// [`ToolFault::Input`] means that the inner reader failed.
     #[tactic(auto, using(crate::proofs::Writing::keeps_same, crate::proofs::Writing::keeps_both, crate::proofs::Writing::keeps_consumes))]
     pub(crate) fn read(&mut self, buf: &mut [u8]) -> Result<usize, ToolFault>
         ensures bound { IfOk result (λ count. count ≤ length buf.new) }
@@ -75,8 +75,8 @@ impl<W: Write> WatchedWriter<W> {
         }
     }
 
-    /// Writes some of these octets, and says how many, at least one. A write that is interrupted is made
-    /// again. [`ToolFault::Write`] means that the inner writer failed, or took nothing.
+    /// Writes some of these octets, and returns how many, at least one. An interrupted write is repeated.
+    /// [`ToolFault::Write`] means that the inner writer failed, or took nothing.
     #[tactic(auto, using(crate::proofs::Writing::keeps_same, crate::proofs::Writing::keeps_both, crate::proofs::Writing::keeps_appends))]
     fn write(&mut self, octets: &[u8]) -> Result<usize, ToolFault>
         ensures some { IfOk result (λ count. 0 < count) }
@@ -105,7 +105,7 @@ impl<W: Write> WatchedWriter<W> {
         Err(ToolFault::Write)
     }
 
-    /// Hands on what the inner writer keeps.
+    /// Passes on what the inner writer keeps.
     fn flush(&mut self) -> Result<(), ToolFault>
         ensures kept { Keeps (W.contents self.old.inner) (W.contents self.new.inner) }
         ensures failed { self.new.has_failed ≡ (self.old.has_failed || is_err result) }

@@ -6,7 +6,7 @@ use Rattle.osi_tpdu.proofs.StepLaws.{bind_ok, unless_ok, when_ok, chosen, ok_is,
 
 -- ---- what items add to a slot
 
--- the octets of a parameter's value, where it is there
+-- the octets of a parameter's value, if it is there
 abbrev pub slot : Parameter → Parameters → Option (List ℕ)
 slot Size p = single p.size
 slot Calling p = p.calling

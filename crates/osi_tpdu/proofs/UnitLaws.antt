@@ -71,7 +71,7 @@ number_read false n lt = omega arith
 
 -- ---- found: what the fields of a unit were read from
 
--- the header is one of the value, and the value's user data is what stands after it
+-- the header is one of the value, and the value's user data is what follows it
 pub record IsRead (v : Value) (header behind : List ℕ) : Type 0 where
   pub fields : IsHeader v header
   pub in_range : HasFieldsInRange v

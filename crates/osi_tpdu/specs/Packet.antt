@@ -20,7 +20,7 @@ abbrev pub AreLeads : List Value → List ℕ → Type 0
 AreLeads [] octets = octets ≡ []
 AreLeads (v ∷ vs) octets = IsTrue (may_be_followed v) × (x : List ℕ) × (y : List ℕ) × (octets ≡ x ++ y) × Spells v x × AreLeads vs y
 
--- what may stand after a unit: anything after AK, DC and ER, and else nothing
+-- what may follow a unit: anything after AK, DC and ER, otherwise nothing
 abbrev pub Follows : Value → List ℕ → Type 0
 Follows v octets = OnFalse (may_be_followed v) (octets ≡ [])
 

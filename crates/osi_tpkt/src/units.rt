@@ -12,7 +12,7 @@ use std::error::Error;
 /// A grammar of units: values that are read from octets, which they borrow, and written to octets.
 ///
 /// The meaning of a unit is its `value`, and `spells` says which octets spell a value. Often several spellings have the
-/// same value; one of them is the written form. Reading takes no memory.
+/// same value; one of them is the written form. Reading allocates nothing.
 pub trait Unit<'a>: Sized + Drop {
     /// Why octets hold no unit.
     type Fault: Error;

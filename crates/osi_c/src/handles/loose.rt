@@ -6,7 +6,7 @@ ghost use Rattle.std.specs.Box.Ownership.{box_owns};
 use std::alloc::Allocator;
 use std::marker::Model;
 
-/// The pointer of a box, and what it is freed by.
+/// The pointer of a box, and the allocator that frees it.
 pub(crate) struct Loose<T, A: Allocator> {
     pub(super) at: *mut T,
     pub(super) alloc: A,

@@ -1,4 +1,4 @@
-//! The octets of the stream, cut into packets that act one after the other (RFC 1006 section 6).
+//! The octets of the stream, cut into packets that take effect one after the other (RFC 1006 section 6).
 
 ghost use Rattle.std.specs.Prelude.{◌≡◌, ◌<◌, false, [], length};
 ghost use Rattle.osi_carrier.specs.Fetching.{Fetches, IsNoFront};
@@ -8,28 +8,27 @@ use super::Carrier;
 use osi_tpkt::Cutter;
 use osi_tpkt::laws::a_prefix_of_a_packet;
 
-/// What became of the octets that were looked at.
+/// The result of taking octets.
 #[derive(Clone, Copy, PartialEq, Eq, Debug)]
 pub(super) enum Fetched {
-    /// So many octets made a packet whole, which acted.
+    /// This many octets completed a packet, which took effect.
     Packet(usize),
-    /// All of them belong to a packet whose end has not come.
+    /// All of them belong to an unfinished packet.
     Part,
-    /// They are no packet, or there was no memory to hold them, and the carrier ended.
+    /// They are no packet, or memory ran out to hold them, and the carrier ended.
     Over,
 }
 
 impl Carrier {
-    /// Takes octets up to the end of the first packet that they make whole, and that packet acts: where
-    /// it lies whole in them, with no copy of it. Where the carrier ends by them, what was held of the
-    /// stream is dropped.
+    /// Takes octets up to the end of the first packet that they complete, and that packet takes effect; it is not
+    /// copied if it is complete within these octets. If the carrier ends by them, the held octets are dropped.
     #[inline(always)]
     pub(super) fn fetch(&mut self, octets: &[u8]) -> Fetched
         requires { stops self.old.state ≡ false }
         ensures { Fetches self.old octets.now result self.new }
     {
         a_prefix_of_a_packet();
-        // Named for the proof: what every cutter holds.
+        // Named for the proof: the invariant of every cutter.
         let _cutter = &self.cutter;
         if octets.is_empty() {
             return Fetched::Part;
@@ -41,7 +40,7 @@ impl Carrier {
         Fetched::Packet(4 + packet.len())
     }
 
-    /// The same, where octets are held or the packet goes on behind these.
+    /// The same if octets are held, or the packet continues after these octets.
     #[inline(never)]
     fn gather(&mut self, octets: &[u8]) -> Fetched
         requires quiet { stops self.old.state ≡ false }

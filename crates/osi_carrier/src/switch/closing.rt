@@ -18,8 +18,7 @@ use osi_tpdu::Tpdu;
 use std::alloc::AllocError;
 
 impl Switch {
-    /// A unit for a reference that is not live: a DR is answered, a DC is ignored, and all else ends
-    /// the carrier.
+    /// A unit for a reference that is not live: a DR is answered, a DC is ignored, and any other unit ends the carrier.
     pub fn to_unknown(&mut self, unit: &Tpdu<'_>) -> Result<(), AllocError>
         ensures ok { OnOk result (self.new ≡ to_unknown (value unit.now) self.old) }
         ensures err { OnErr result (ends NoMemory self.new ≡ ends NoMemory self.old) }
@@ -36,7 +35,7 @@ impl Switch {
         Ok(())
     }
 
-    /// A unit for a connection that is closing: a DC or a DR ends it, and all else is ignored.
+    /// A unit for a connection that is closing: a DC or a DR ends it, and any other unit is ignored.
     pub fn to_closing(&mut self, place: usize, reference: u16, unit: &Tpdu<'_>)
         requires { place_of reference self.old.live ≡ Some place }
         ensures { self.new ≡ to_closing reference (value unit.now) self.old }
@@ -48,7 +47,7 @@ impl Switch {
         }
     }
 
-    /// A connection that ends, of which the user is told.
+    /// Drops a connection, and reports it to the user.
     pub fn drop_telling(
         &mut self,
         place: usize,
@@ -66,7 +65,7 @@ impl Switch {
         Ok(())
     }
 
-    /// The peer refused a connection that was asked for.
+    /// The peer refused a requested connection.
     pub fn refuse(&mut self, place: usize, reference: u16, reason: u8) -> Result<(), AllocError>
         requires { place_of reference self.old.live ≡ Some place }
         ensures ok { OnOk result (self.new ≡ tells (refused reference reason) (drops reference self.old)) }

@@ -24,7 +24,7 @@ use std::alloc::AllocError;
 const PROTOCOL_ERROR: u8 = 133;
 
 impl Switch {
-    /// A unit for an open connection: a DR closes it, and all else is for its link.
+    /// A unit for an open connection: a DR closes it, and any other unit is for its link.
     pub fn to_linked(
         &mut self,
         place: usize,
@@ -50,7 +50,7 @@ impl Switch {
         }
     }
 
-    /// The link takes the unit or refuses it. Room for an event is made only where there is one.
+    /// The link takes the unit or refuses it. Room for an event is made only if there is one.
     #[inline(always)]
     pub fn take(
         &mut self,

@@ -32,7 +32,7 @@ const DUPLICATE_REFERENCE: u8 = 131;
 const REFUSED_HERE: u8 = 136;
 
 impl Switch {
-    /// Whether a connection can be asked for now, or the first reason why not.
+    /// Whether a connection can be requested now, or the first reason why not.
     pub fn may_connect(&self) -> Result<(), OpenError>
         ensures answer { MatchResult result (λ _. may_connect self.now ≡ None) (λ e. may_connect self.now ≡ Some e) }
         ensures known { IfErr result (λ e. open_error e ≡ Some e) }
@@ -57,7 +57,7 @@ impl Switch {
         Ok(())
     }
 
-    /// Asks for a connection, with these transport selectors. The CR is written.
+    /// Requests a connection with these transport selectors. The CR is written.
     pub fn connect(&mut self, calling: Option<Tsap>, called: Option<Tsap>) -> Result<Ref, OpenError>
         ensures ok { OnOk result (self.new ≡ asks (option_map tsap_octets calling) (option_map tsap_octets called) self.old) }
         ensures reference { IfOk result (λ r. r.0 ≡ self.old.given + 1) }
@@ -74,7 +74,7 @@ impl Switch {
         }
     }
 
-    /// Writes the CR for the next reference. Want of memory changes nothing.
+    /// Writes the CR for the next reference. An allocation failure changes nothing.
     fn ask(&mut self, calling: &Option<Tsap>, called: &Option<Tsap>) -> Result<(), AllocError>
         requires live { length self.old.live < 64 }
         requires given { self.old.given < 65535 }
@@ -114,7 +114,7 @@ impl Switch {
         self.answer_by(request, selected)
     }
 
-    /// Answers a CR by what negotiation selects.
+    /// Answers a CR with the result of negotiation.
     fn answer_by(
         &mut self,
         request: &ConnectRequest<'_>,
@@ -142,7 +142,7 @@ impl Switch {
         }
     }
 
-    /// Refuses a CR by a DR without a reference of this end.
+    /// Refuses a CR with a DR that has no reference of this end.
     fn deny(&mut self, peer: u16, reason: u8) -> Result<(), AllocError>
         ensures ok { OnOk result (self.new ≡ denies reason peer self.old) }
         ensures err { OnErr result (ends NoMemory self.new ≡ ends NoMemory self.old) }
@@ -151,7 +151,7 @@ impl Switch {
         put_disconnect(&mut self.outgoing, peer, 0, reason)
     }
 
-    /// Accepts a CR by a CC: the next reference is given, and the class holds from now on.
+    /// Accepts a CR with a CC: the next reference is given, and the class is agreed from now on.
     fn accept(
         &mut self,
         request: &ConnectRequest<'_>,

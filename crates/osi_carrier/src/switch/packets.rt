@@ -16,8 +16,8 @@ use osi_tpdu::{DataAcknowledgement, DataClass0, DataClass2, Tpdu, Units, read_un
 use osi_tpkt::TpktFault;
 
 impl Switch {
-    /// A packet with this transport unit: its units act in their order, or with a bad one none does.
-    /// Where it is one DT or AK for an open connection, that goes straight to its link.
+    /// A packet with this transport unit: its units take effect in order, or none does if one is bad. If it is a single
+    /// DT or AK for an open connection, this goes straight to its link.
     #[inline(always)]
     pub fn take_packet(&mut self, packet: &[u8])
         requires { self.old.ended ≡ None }
@@ -73,8 +73,8 @@ impl Switch {
         self.take_any(packet);
     }
 
-    /// The only unit of a packet, where it is for the link of the open connection of this reference.
-    /// `false` where there is none, and then nothing has changed.
+    /// The only unit of a packet, if it is for the link of the open connection with this reference. `false` if there is
+    /// no such connection; then nothing has changed.
     #[inline(always)]
     fn take_open(&mut self, reference: u16, unit: &Tpdu<'_>) -> bool
         requires lasts { self.old.ended ≡ None }
@@ -104,7 +104,7 @@ impl Switch {
         }
     }
 
-    /// Units, up to one that ends the carrier or for which there is no memory.
+    /// Units in order, up to one that ends the carrier or for which memory runs out.
     fn take_units(&mut self, mut units: Units<'_>)
         requires { self.old.ended ≡ None }
         ensures { Act self.old (units_left units.entry) self.new }
@@ -120,7 +120,7 @@ impl Switch {
         }
     }
 
-    /// The octets of the stream are no packet, or there was no memory to hold them.
+    /// The octets of the stream are not a packet, or memory ran out to hold them.
     pub fn end_for(&mut self, fault: TpktFault)
         ensures { self.new ≡ after_refusal fault self.old }
     {

@@ -1,5 +1,4 @@
-//! Which rule a unit falls under: by the class, by the connection of its reference, and by how far
-//! that is.
+//! Which rule applies to a unit: by the class, by the connection of its reference, and by that connection's phase.
 
 ghost use Rattle.std.specs.Prelude.{◌≡◌, Some, None, false, true, OnOk, OnErr};
 ghost use Rattle.osi_tpdu.specs.Value.{request};
@@ -38,7 +37,7 @@ impl Switch {
         }
     }
 
-    /// A CC for a connection that was asked for.
+    /// A CC for a requested connection.
     fn open(
         &mut self,
         place: usize,
@@ -59,7 +58,7 @@ impl Switch {
         }
     }
 
-    /// A CC that selects a class that was proposed.
+    /// A CC that selects a proposed class.
     fn open_with(
         &mut self,
         place: usize,
@@ -212,7 +211,7 @@ impl Switch {
         self.answer_request(cr)
     }
 
-    /// A unit that comes before the carrier has ended.
+    /// A unit that arrives before the carrier has ended.
     pub fn react(&mut self, unit: &Tpdu<'_>) -> Result<(), AllocError>
         ensures ok { OnOk result (self.new ≡ in_class self.old.class (value unit.now) self.old) }
         ensures err { OnErr result (ends NoMemory self.new ≡ ends NoMemory self.old) }

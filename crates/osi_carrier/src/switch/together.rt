@@ -13,7 +13,7 @@ use osi_class::LONGEST_TSDU;
 use std::alloc::Global;
 use std::borrow::CowSlice;
 
-/// Whether one of these TSDUs has over 1,048,576 octets.
+/// Whether one of these TSDUs has more than 1,048,576 octets.
 fn any_too_long(tsdus: &[Vec<u8>]) -> bool
     ensures { result ≡ list_any (λ tsdu. nat_lt 1048576 (length tsdu.items)) tsdus.now }
 {
@@ -21,8 +21,8 @@ fn any_too_long(tsdus: &[Vec<u8>]) -> bool
 }
 
 impl Switch {
-    /// Sends TSDUs together on an open connection, all or none: the first of them first, and all units that
-    /// may be sent now are written. An empty list sends none, and takes no memory.
+    /// Sends TSDUs together on an open connection, all or none, in order; all units that may be sent now are written.
+    /// An empty list sends none, and allocates nothing.
     pub fn send_all(
         &mut self,
         reference: u16,

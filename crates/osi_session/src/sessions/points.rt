@@ -1,4 +1,4 @@
-//! Calls for minor points and their confirmations: the numbers alone change, so that no whole state is made.
+//! Calls for minor points and their confirmations: only the numbers change, so that no whole state is built.
 
 use super::Session;
 use crate::calling::{allow_minor, allow_minor_confirm, numbers_after};
@@ -13,7 +13,7 @@ impl Session {
     ghost use Rattle.osi_session.specs.Points.{PlansPoint, advanced, may_advance};
     ghost use Rattle.osi_session.specs.Sessions.{Refused};
 
-    /// What a call of the user for a minor point would send, and the point; nothing changes.
+    /// What a call for a minor point would send, and the point; nothing changes.
     #[inline(always)]
     #[tactic(auto, using(crate::proofs::CallLaws::refused, crate::proofs::CallLaws::wanting))]
     pub fn plan_minor(&self, confirm: bool, user_data: &[u8]) -> Result<PlannedPoint, CallError>
@@ -51,9 +51,9 @@ impl Session {
         }
     }
 
-    /// Goes on after a planned point or confirmation that is sent: the numbers are those after it, and
-    /// nothing else changes. `false` if the session would not send it now, since it was done before, or the
-    /// tokens, the phase or the numbers are others: then nothing changes.
+    /// Continues after a planned point or confirmation was sent: the numbers are those after it, and nothing else
+    /// changes. Returns `false`, and changes nothing, if the session would not send it now, because it was already
+    /// sent, or because the tokens, the phase or the numbers have changed.
     #[inline(always)]
     pub fn advance(&mut self, point: SentPoint) -> bool
         ensures done { result ≡ may_advance self.old.state point }

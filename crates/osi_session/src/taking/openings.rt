@@ -22,8 +22,8 @@ use osi_message::Octets;
 use osi_spdu::{Kind, Requirements, Serial, TokenSetting, TsduMaximumSize};
 use std::alloc::{AllocError, Global};
 
-/// CN: one that has not version 2, or neither half-duplex nor duplex, or a size that no user gives, is
-/// refused, and the user is shown nothing.
+/// CN. It is refused, without an indication, if it does not have version 2, names neither half-duplex nor duplex, or
+/// names a size that no user can give.
 #[tactic(auto, unfolding(crate::specs::Respond::take_expected))]
 pub(super) fn connect(
     alloc: Global,
@@ -74,8 +74,8 @@ fn number_of(serial: Option<Serial>) -> Option<u32>
     Some(serial?.number)
 }
 
-/// AC: version 2, half-duplex or duplex among the units that both name, sizes that a user may give,
-/// and sides as they were wished.
+/// AC: version 2, half-duplex or duplex among the units that both name, sizes that a user may give, and sides that the
+/// wishes allow.
 #[tactic(auto, unfolding(crate::specs::Respond::take_expected))]
 pub(super) fn accept(
     alloc: Global,

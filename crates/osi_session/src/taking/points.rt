@@ -88,8 +88,8 @@ pub(super) fn minor_point(
     Ok(Reaction::showing(next, shown))
 }
 
-/// Whether the peer may confirm the minor points up to this one: those that were sent last and are
-/// not confirmed, without a major point that is outstanding.
+/// Whether the peer may confirm the minor points up to this one: they were sent last, are not confirmed, and no major
+/// point is outstanding.
 fn is_acknowledgeable(state: &State, number: u32) -> bool
     requires { number < 1000000 }
     ensures { result ≡ is_acknowledgeable state.now number }
@@ -160,7 +160,7 @@ pub(super) fn major_point(
     Ok(Reaction::showing(next, Indication::Major { number, user_data }))
 }
 
-/// MAA: its number is that of the major point that is outstanding, V(M) - 1.
+/// MAA: its number is that of the outstanding major point, V(M) - 1.
 #[tactic(auto, unfolding(crate::specs::Respond::take_expected))]
 pub(super) fn major_ack(
     alloc: Global,

@@ -17,7 +17,7 @@ use std::alloc::{AllocError, Global};
 /// The bit of a user's abort.
 const BY_USER: u8 = 0x02;
 
-/// FN: the peer holds all tokens, so this end none.
+/// FN: the peer holds all tokens, so this end holds none.
 #[tactic(auto, unfolding(crate::specs::Respond::take_expected))]
 pub(super) fn finish(alloc: Global, state: &State, user_data: &[u8]) -> Result<Reaction, AllocError>
     ensures { Reacts result (in_phase state.now (FN user_data.now)) }
@@ -58,7 +58,7 @@ pub(super) fn disconnect(
     })
 }
 
-/// NF, where the release may be refused.
+/// NF, if the release may be refused.
 #[tactic(auto, unfolding(crate::specs::Respond::take_expected))]
 pub(super) fn not_finished(
     alloc: Global,
@@ -81,8 +81,7 @@ pub(super) fn not_finished(
     Ok(Reaction::showing(next, Indication::ReleaseRefused { user_data }))
 }
 
-/// AB, of the peer's user or of its provider. Before a CN was taken there is no user to be shown
-/// it.
+/// AB, of the peer's user or of its provider. Before a CN was taken there is no user to be told.
 #[tactic(auto, unfolding(crate::specs::Respond::take_expected))]
 pub(super) fn abort(
     alloc: Global,

@@ -15,8 +15,8 @@ use osi_message::Octets;
 use osi_spdu::{Kind, ResyncType, Serial, TokenSetting};
 use std::alloc::{AllocError, Global};
 
-/// Whether a restart of the peer stands: this end has not asked for one, or for one at a higher
-/// number, or for one at the same number and is the called end.
+/// Whether a restart of the peer takes effect: this end has not requested one, or has requested one at a higher number,
+/// or one at the same number and is the called end.
 #[tactic(auto, unfolding(crate::specs::Respond::stands))]
 fn stands(state: &State, number: u32) -> bool
     ensures { result ≡ stands state.now number }
@@ -25,7 +25,7 @@ fn stands(state: &State, number: u32) -> bool
     !state.phase.is_restarting() || number < own || (number == own && !state.is_caller)
 }
 
-/// RS, at a number from the base to V(M); an end that has asked for a restart takes any above.
+/// RS, at a number from the base to V(M); an end that has itself requested a restart takes any number from the base on.
 #[tactic(auto, unfolding(crate::specs::Respond::take_expected))]
 pub(super) fn restart(
     alloc: Global,
@@ -66,7 +66,7 @@ pub(super) fn restart(
     Ok(Reaction::showing(next, shown))
 }
 
-/// RA: its number is that of the restart, and the sides are as they were wished.
+/// RA: its number is that of the restart, and the sides are ones that the wishes allow.
 #[tactic(auto, unfolding(crate::specs::Respond::take_expected))]
 pub(super) fn restart_ack(
     alloc: Global,

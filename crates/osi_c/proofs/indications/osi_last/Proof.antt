@@ -1,4 +1,4 @@
--- `osi_last` shows of the contents that are lent.
+-- `osi_last` describes the contents that are lent.
 use Rattle.std.proofs.Common.{◌≡◌, [], ◌∷◌, refl, ap, subst}
 use Rattle.std.proofs.raw_atomic.Walks.{proved}
 use mir.Syntax.{named}

@@ -1,4 +1,4 @@
--- `osi_outgoing` stores what `lent` answers.
+-- `osi_outgoing` stores what `lent` returns.
 use Rattle.std.proofs.Common.{◌≡◌, ℕ, List, [], ◌∷◌, refl}
 use Rattle.std.proofs.raw_atomic.Walks.{proved}
 use mir.Syntax.{named}

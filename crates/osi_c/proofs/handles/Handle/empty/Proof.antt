@@ -1,4 +1,4 @@
--- `empty` keeps null, and owns nothing.
+-- `empty` holds null, and owns nothing.
 use Rattle.std.proofs.Common.{[], ◌∷◌, refl, lit<}
 use Rattle.std.proofs.raw_atomic.Walks.{proved}
 use base.Logic.{emp}

@@ -1,4 +1,4 @@
--- `into_loose` puts the pointer beside what the box is freed by.
+-- `into_loose` puts the pointer next to the allocator of the box.
 use Rattle.std.proofs.Common.{◌≡◌, List, [], ◌∷◌, ◌++◌, refl, sym, ap, ◌∙◌, subst}
 use Rattle.std.proofs.raw_atomic.Walks.{proved_at}
 use mir.Val.{Val}
