@@ -26,7 +26,7 @@ use crate::selected::is_profile;
 use crate::sizes::{limit_of, size_limit};
 use crate::state::State;
 use crate::taken::Taken;
-use osi_message::{Message, Octets, PlainUnit, Sent, data_head, laws};
+use osi_message::{Message, Octets, Sent, data_head, laws};
 use osi_spdu::{Group, SpduFault, TokenSet, read_tsdu};
 use std::alloc::{AllocError, Global};
 use std::marker::Model;
@@ -346,30 +346,14 @@ impl Session {
         ensures err { OnErr result (self.new ≡ self.old) }
         ensures memory { OnErr result (takes_memory self.old (react self.old (came tsdu.now)) ≡ true) }
     {
-        if PlainUnit::data(tsdu).is_none() {
-            return self.take_no_data(tsdu);
-        }
-        self.take_tried(tsdu)
-    }
-
-    /// What is no whole data. It stands out of line: else what data shows would be made in the room for this
-    /// answer, and be copied from there.
-    #[inline(never)]
-    fn take_no_data(&mut self, tsdu: &[u8]) -> Result<Taken, AllocError>
-        ensures { Takes result (react self.old (came tsdu.now)) self.old self.new }
-    {
-        self.take_tried(tsdu)
-    }
-
-    /// Tries a TSDU as one that is expected; the general reader takes any other.
-    #[inline(always)]
-    fn take_tried(&mut self, tsdu: &[u8]) -> Result<Taken, AllocError>
-        ensures { Takes result (react self.old (came tsdu.now)) self.old self.new }
-    {
         match self.take_expected(tsdu) {
             Ok(Expected::Shown(indication)) => Ok(Taken::showing(self.alloc, Some(indication))),
             Ok(Expected::Joined) => Ok(Taken::showing(self.alloc, None)),
-            Ok(Expected::Other) => self.take_unexpected(tsdu),
+            Ok(Expected::Other) => {
+                // A value of its own: else data, too, would be answered in the room of this one.
+                let answer = self.take_unexpected(tsdu);
+                answer
+            }
             Err(error) => Err(error),
         }
     }

@@ -33,7 +33,9 @@ impl Session {
         ensures memory { OnErr result (takes_memory self.old (react self.old (came tsdu.now)) ≡ true) }
     {
         let Some(user_data) = PlainUnit::data(tsdu) else {
-            return self.take_plain(tsdu);
+            // A value of its own: else what data shows, too, would be made in the room of this one.
+            let answer = self.take_plain(tsdu);
+            return answer;
         };
         if self.joined.is_some() || !expects_data(&self.state) {
             return Ok(Expected::Other);
