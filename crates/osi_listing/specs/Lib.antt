@@ -3,4 +3,7 @@ pub mod SessionLines
 pub mod Streams
 pub mod Joins
 pub mod Listing
+pub mod Counting
 pub mod Says
+pub mod SoFar
+pub mod Fed

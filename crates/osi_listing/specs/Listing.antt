@@ -81,6 +81,11 @@ abbrev pub read_parts : Result (List Value) TpduFault → List Part
 read_parts (Ok vs) = parts_of vs
 read_parts (Err f) = []
 
+-- the data units of packets with these transport units
+abbrev pub all_parts : List (List ℕ) → List Part
+all_parts [] = []
+all_parts (u ∷ us) = read_parts (units_of u) ++ all_parts us
+
 -- packets with these transport units, of which the first stands at this offset, behind these data units
 abbrev pub packet_entries : ℕ → List Part → List (List ℕ) → List Entry
 packet_entries at earlier [] = []

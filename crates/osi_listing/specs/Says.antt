@@ -1,16 +1,18 @@
--- What a function that lists has added to a text, and what its streams hold.
-use Rattle.std.specs.Prelude.{◌≡◌, ℕ, Bool, List, ◌++◌, Some, None}
-use Rattle.std.specs.List.{flat_map, list_any}
+-- What a function that lists has added to a text and to counts, and what its streams hold.
+use Rattle.std.specs.Prelude.{◌≡◌, ℕ, List, ◌++◌, Some, None}
+use Rattle.std.specs.List.{flat_map}
+use Rattle.osi_listing.specs.declared.counting.Counts.{Counts}
 use Rattle.osi_listing.specs.declared.streams.Streams.{Streams}
+use Rattle.osi_listing.specs.Counting.{counted}
 use Rattle.osi_listing.specs.Streams.{Part, join_of}
 use Rattle.osi_listing.specs.Streams as streams
 use Rattle.osi_listing.specs.Joins.{join_value, join_at}
-use Rattle.osi_listing.specs.Listing.{Entry, line_of, is_refused}
+use Rattle.osi_listing.specs.Listing.{Entry, line_of}
 
--- the text has gained the lines of these entries; whether something was refused among them
-pub record Says (old new : List ℕ) (refused : Bool) (entries : List Entry) : Type 0 where
+-- the text has gained the lines of these entries, and the counts these entries
+pub record Says (old new : List ℕ) (was now : Counts) (entries : List Entry) : Type 0 where
   pub text : new ≡ old ++ flat_map line_of entries
-  pub told : refused ≡ list_any is_refused entries
+  pub told : now ≡ counted was entries
 
 -- joins of all streams, behind these data units
 pub record AreJoins (first : streams.Join) (others : ℕ → streams.Join) (earlier : List Part) : Type 0 where

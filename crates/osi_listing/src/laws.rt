@@ -1,7 +1,12 @@
 //! Laws of listings. Each function does nothing: its clauses are the laws.
 
 ghost use Rattle.std.specs.Prelude.{◌≡◌, ℕ, List};
+ghost use Rattle.std.specs.List.{flat_map};
+ghost use Rattle.osi_listing.specs.declared.counting.Counts.{Counts};
+ghost use Rattle.osi_listing.specs.declared.pieces.Lister.{Lister};
+ghost use Rattle.osi_listing.specs.Fed.{Feeds, FeedsAll};
 ghost use Rattle.osi_listing.specs.Listing.{IsListing};
+ghost use Rattle.osi_listing.specs.SoFar.{IsListedSoFar};
 
 use osi_tpkt::laws::a_stream_has_one_cut;
 
@@ -9,6 +14,17 @@ use osi_tpkt::laws::a_stream_has_one_cut;
 pub fn a_capture_has_one_listing()
     ensures { (octets lines others : List ℕ) (status other : ℕ) → IsListing octets lines status → IsListing octets others other →
         (lines ≡ others) × (status ≡ other) }
+{
+    a_stream_has_one_cut();
+}
+
+/// However a stream is cut into the pieces that a lister is fed, the lister does what it does where it is
+/// fed all at once; and the octets that came determine the lines so far and what is counted.
+pub fn the_pieces_do_not_matter()
+    ensures pieces { (old new : Lister) (pieces : List (List ℕ)) (before after : List ℕ) → FeedsAll old pieces before after new →
+        Feeds old (flat_map (λ piece. piece) pieces) before after new }
+    ensures lines { (octets lines others : List ℕ) (counts other : Counts) → IsListedSoFar octets lines counts →
+        IsListedSoFar octets others other → (lines ≡ others) × (counts ≡ other) }
 {
     a_stream_has_one_cut();
 }

@@ -1,11 +1,15 @@
 //! The listing of captured octets: packets, transport units, TSDUs and session units, a line for each.
 #![tactic(auto)]
 
+mod counting;
 pub mod laws;
 mod lines;
 mod listing;
+mod pieces;
 mod session_lines;
 mod streams;
 mod units;
+mod work;
 
-pub use listing::list;
+pub use counting::Counts;
+pub use pieces::{Lister, list};

@@ -1,88 +1,66 @@
-//! The listing of captured octets.
+//! The lines of a packet, of its transport units, and of what they bring to their streams.
 
-ghost use Rattle.std.specs.Prelude.{◌≡◌, ◌++◌, ◌∷◌, ℕ, List, option_to_list, IfOk, OnOk};
-ghost use Rattle.std.specs.List.{flat_map};
-ghost use Rattle.osi_tpkt.specs.Packet.{IsFaultOf};
+ghost use Rattle.std.specs.Prelude.{◌≡◌, ◌<◌, ◌+◌, ◌^◌, ◌++◌, ◌∷◌, ℕ, List, length, map, option_to_list, OnOk};
 ghost use Rattle.osi_tpdu.specs.Packet.{units_of};
 ghost use Rattle.osi_tpdu.specs.Units.{units_left};
 ghost use Rattle.osi_tpdu.specs.View.{value};
 ghost use Rattle.osi_spdu.specs.Groups.{units_of as units_in};
 ghost use Rattle.osi_spdu.specs.Reading.{tsdu_at};
 ghost use Rattle.osi_listing.specs.Joins.{outcome_value};
-ghost use Rattle.osi_listing.specs.Listing.{IsListing, session_entries, outcome_entries, part_entries, unit_entries, read_entries, read_parts};
-ghost use Rattle.osi_listing.specs.Listing.Entry.{TransportUnit, Tsdu};
-ghost use Rattle.osi_listing.specs.SessionLines.{session_line};
+ghost use Rattle.osi_listing.specs.Listing.{session_entries, outcome_entries, part_entries, unit_entries, read_entries, read_parts};
+ghost use Rattle.osi_listing.specs.Listing.Entry.{Packet, TransportUnit, Tsdu, SessionUnit};
 ghost use Rattle.osi_listing.specs.Says.{Says, Holds};
 ghost use Rattle.osi_listing.specs.Streams.{Part, part_of, parts_of};
 
-use crate::lines::{push_fault, push_packet, push_rest, push_too_long, push_tsdu, push_unit_fault};
+use crate::counting::Counts;
+use crate::lines::{push_packet, push_too_long, push_tsdu, push_unit_fault};
 use crate::session_lines::{push_session_fault, push_session_unit};
 use crate::streams::{Outcome, Streams};
 use crate::units::push_unit;
 use osi_spdu::{Group, read_tsdu};
 use osi_tpdu::{Tpdu, Units, read_units};
-use osi_tpkt::{Packet, TpktFault, Unit};
 use std::alloc::{AllocError, Global};
 
-/// Lists captured octets: a line for each packet, for each of its transport units, for each whole
-/// TSDU and each of its session units, and one for the fault or the rest behind the packets. The status is 1 where something was
-/// refused, else 0.
-pub fn list(alloc: Global, text: &mut Vec<u8>, octets: &[u8]) -> Result<u8, AllocError>
-    ensures { IfOk result (λ status. (lines : List ℕ) × (text.new.items ≡ text.old.items ++ lines)
-        × IsListing octets.now lines status) }
+/// Lists a packet, by its offset in the stream and its transport unit.
+pub(crate) fn list_packet(
+    alloc: Global,
+    text: &mut Vec<u8>,
+    streams: &mut Streams,
+    counts: &mut Counts,
+    offset: u64,
+    unit: &[u8],
+) -> Result<(), AllocError>
+    requires some { 1 < length unit.now }
+    requires fits { length unit.now + 4 < 2 ^ 64 }
+    ensures says { OnOk result ((earlier : List Part) → Holds streams.old earlier →
+        Says text.old.items text.new.items counts.old counts.new
+        (Packet offset unit.now ∷ read_entries earlier (units_of unit.now))) }
+    ensures holds { OnOk result ((earlier : List Part) → Holds streams.old earlier →
+        Holds streams.new (earlier ++ read_parts (units_of unit.now))) }
 {
-    let mut streams = Streams::new(alloc);
-    let mut rest = octets;
-    let mut refused = false;
-    'packets: loop {
-        let offset = (octets.len() - rest.len()) as u64;
-        let (packet, used) = match Packet::read(rest) {
-            Ok(Some(found)) => found,
-            Ok(None) => {
-                push_rest(text, rest.len() as u64)?;
-                return Ok(u8::from(refused));
-            }
-            Err(fault) => {
-                push_fault(text, at(fault, offset))?;
-                return Ok(1);
-            }
-        };
-        push_packet(text, offset, packet.unit())?;
-        let more = list_units(alloc, text, &mut streams, packet.unit())?;
-        refused = refused || more;
-        let (_, behind) = rest.split_at(used);
-        rest = behind;
-    }
+    push_packet(text, offset, unit)?;
+    counts.add_packet();
+    list_units(alloc, text, streams, counts, unit)
 }
 
-/// A fault of octets that stand at an offset.
-fn at(fault: TpktFault, offset: u64) -> TpktFault
-    ensures { (start : ℕ) (octets : List ℕ) → IsFaultOf start octets fault → IsFaultOf offset octets result }
-{
-    match fault {
-        TpktFault::BadVersion(_) => TpktFault::BadVersion(offset),
-        TpktFault::BadLength(_) => TpktFault::BadLength(offset),
-        TpktFault::OutOfMemory => TpktFault::OutOfMemory,
-    }
-}
-
-/// Lists the units of a packet, or their fault alone. Answers whether something was refused.
+/// Lists the units of a packet, or their fault alone.
 fn list_units(
     alloc: Global,
     text: &mut Vec<u8>,
     streams: &mut Streams,
+    counts: &mut Counts,
     unit: &[u8],
-) -> Result<bool, AllocError>
-    ensures says { IfOk result (λ refused. (earlier : List Part) → Holds streams.old earlier →
-        Says text.old.items text.new.items refused (read_entries earlier (units_of unit.now))) }
+) -> Result<(), AllocError>
+    ensures says { OnOk result ((earlier : List Part) → Holds streams.old earlier →
+        Says text.old.items text.new.items counts.old counts.new (read_entries earlier (units_of unit.now))) }
     ensures holds { OnOk result ((earlier : List Part) → Holds streams.old earlier →
         Holds streams.new (earlier ++ read_parts (units_of unit.now))) }
 {
     match read_units(unit) {
-        Ok(units) => list_each(alloc, text, streams, units),
+        Ok(units) => list_each(alloc, text, streams, counts, units),
         Err(fault) => {
-            push_unit_fault(text, fault)?;
-            Ok(true)
+            counts.add_refused();
+            push_unit_fault(text, fault)
         }
     }
 }
@@ -92,19 +70,18 @@ fn list_each(
     alloc: Global,
     text: &mut Vec<u8>,
     streams: &mut Streams,
+    counts: &mut Counts,
     mut units: Units,
-) -> Result<bool, AllocError>
-    ensures says { IfOk result (λ refused. (earlier : List Part) → Holds streams.old earlier →
-        Says text.old.items text.new.items refused (unit_entries earlier (units_left units.entry))) }
+) -> Result<(), AllocError>
+    ensures says { OnOk result ((earlier : List Part) → Holds streams.old earlier →
+        Says text.old.items text.new.items counts.old counts.new (unit_entries earlier (units_left units.entry))) }
     ensures holds { OnOk result ((earlier : List Part) → Holds streams.old earlier →
         Holds streams.new (earlier ++ parts_of (units_left units.entry))) }
 {
-    let mut refused = false;
     'units: while let Some(unit) = units.next() {
-        let more = list_unit(alloc, text, streams, &unit)?;
-        refused = refused || more;
+        list_unit(alloc, text, streams, counts, &unit)?;
     }
-    Ok(refused)
+    Ok(())
 }
 
 /// Lists one unit, and what it brings to its stream.
@@ -112,61 +89,78 @@ fn list_unit(
     alloc: Global,
     text: &mut Vec<u8>,
     streams: &mut Streams,
+    counts: &mut Counts,
     unit: &Tpdu,
-) -> Result<bool, AllocError>
-    ensures says { IfOk result (λ refused. (earlier : List Part) → Holds streams.old earlier →
-        Says text.old.items text.new.items refused
+) -> Result<(), AllocError>
+    ensures says { OnOk result ((earlier : List Part) → Holds streams.old earlier →
+        Says text.old.items text.new.items counts.old counts.new
         (TransportUnit (value unit.now) ∷ part_entries earlier (part_of (value unit.now)))) }
     ensures holds { OnOk result ((earlier : List Part) → Holds streams.old earlier →
         Holds streams.new (earlier ++ option_to_list (part_of (value unit.now)))) }
 {
     push_unit(alloc, text, unit)?;
+    counts.add_unit();
     let outcome = streams.take(alloc, unit)?;
-    list_outcome(alloc, text, &outcome)
+    list_outcome(alloc, text, counts, &outcome)
 }
 
-/// Lists what a unit brought to its stream. Answers whether something was refused.
-fn list_outcome(alloc: Global, text: &mut Vec<u8>, outcome: &Outcome) -> Result<bool, AllocError>
-    ensures { IfOk result (λ refused.
-        Says text.old.items text.new.items refused (outcome_entries (outcome_value outcome.now))) }
+/// Lists what a unit brought to its stream.
+fn list_outcome(
+    alloc: Global,
+    text: &mut Vec<u8>,
+    counts: &mut Counts,
+    outcome: &Outcome,
+) -> Result<(), AllocError>
+    ensures { OnOk result (Says text.old.items text.new.items counts.old counts.new
+        (outcome_entries (outcome_value outcome.now))) }
 {
     match outcome {
-        Outcome::Nothing => Ok(false),
-        Outcome::Whole(tsdu) => list_tsdu(alloc, text, tsdu.as_slice()),
+        Outcome::Nothing => Ok(()),
+        Outcome::Whole(tsdu) => list_tsdu(alloc, text, counts, tsdu.as_slice()),
         Outcome::TooLong => {
-            push_too_long(text)?;
-            Ok(true)
+            counts.add_refused();
+            push_too_long(text)
         }
     }
 }
 
-/// Lists a whole TSDU, and its session units or their fault alone. Answers whether it was refused.
-fn list_tsdu(alloc: Global, text: &mut Vec<u8>, tsdu: &[u8]) -> Result<bool, AllocError>
-    ensures { IfOk result (λ refused. Says text.old.items text.new.items refused
+/// Lists a whole TSDU, and its session units or their fault alone.
+fn list_tsdu(
+    alloc: Global,
+    text: &mut Vec<u8>,
+    counts: &mut Counts,
+    tsdu: &[u8],
+) -> Result<(), AllocError>
+    ensures { OnOk result (Says text.old.items text.new.items counts.old counts.new
         (Tsdu tsdu.now ∷ session_entries (tsdu_at tsdu.now))) }
 {
     push_tsdu(text, tsdu.len() as u64)?;
+    counts.add_tsdu();
     match read_tsdu(tsdu) {
-        Ok(group) => {
-            push_session_units(alloc, text, &group)?;
-            Ok(false)
-        }
+        Ok(group) => list_group(alloc, text, counts, &group),
         Err(fault) => {
-            push_session_fault(text, fault)?;
-            Ok(true)
+            counts.add_refused();
+            push_session_fault(text, fault)
         }
     }
 }
 
-/// Adds the lines of the session units of a TSDU.
-fn push_session_units(alloc: Global, text: &mut Vec<u8>, group: &Group) -> Result<(), AllocError>
-    ensures { OnOk result (text.new.items
-        ≡ text.old.items ++ flat_map session_line (units_in group.now)) }
+/// Lists the session units of a TSDU.
+fn list_group(
+    alloc: Global,
+    text: &mut Vec<u8>,
+    counts: &mut Counts,
+    group: &Group,
+) -> Result<(), AllocError>
+    ensures { OnOk result (Says text.old.items text.new.items counts.old counts.new
+        (map SessionUnit (units_in group.now))) }
 {
     push_session_unit(alloc, text, group.first())?;
+    counts.add_session_unit();
     let mut behind = group.behind();
     'units: while let Some(unit) = behind.next() {
         push_session_unit(alloc, text, &unit)?;
+        counts.add_session_unit();
     }
     Ok(())
 }

@@ -7,7 +7,7 @@ use Rattle.osi_listing.proofs.listing.list_each.Given as goal
 
 abbrev pub invariant-units : goal.invariant-units
 invariant-units l = (earlier : List Part) → Holds l.fn.streams earlier →
-    Advanced l.fn.text.items l.text.items l.refused l.streams (units_left l.units) earlier (units_left l.fn.units)
+    Advanced l.fn.text.items l.text.items l.fn.counts l.counts l.streams (units_left l.units) earlier (units_left l.fn.units)
 
 abbrev pub decreases-units : goal.decreases-units
 decreases-units l = length (units_left l.units)

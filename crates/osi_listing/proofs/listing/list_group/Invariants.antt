@@ -1,10 +1,10 @@
 use Rattle.std.proofs.Common.{length}
 use Rattle.osi_spdu.specs.Groups.{units_behind, units_of}
 use Rattle.osi_listing.proofs.Listings.{ListsUnits}
-use Rattle.osi_listing.proofs.listing.push_session_units.Given as goal
+use Rattle.osi_listing.proofs.listing.list_group.Given as goal
 
 abbrev pub invariant-units : goal.invariant-units
-invariant-units l = ListsUnits l.text.items (units_behind l.behind) l.fn.text.items (units_of l.group)
+invariant-units l = ListsUnits l.fn.text.items l.text.items l.fn.counts l.counts (units_behind l.behind) (units_of l.group)
 
 abbrev pub decreases-units : goal.decreases-units
 decreases-units l = length (units_behind l.behind)

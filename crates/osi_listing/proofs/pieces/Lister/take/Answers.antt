@@ -1,0 +1,16 @@
+use Rattle.std.proofs.Common.{◌+◌, length, refl, arith}
+use Rattle.osi_listing.specs.declared.pieces.Lister.{Lister}
+use Rattle.osi_listing.proofs.Standing.{feeds_by, feeds_on, on_behind}
+use Rattle.osi_listing.proofs.pieces.Lister.take.Goals as goal
+
+pub returns-in-Going-clause-fed : goal.returns-in-Going-clause-fed
+returns-in-Going-clause-fed c =
+    feeds_on c.list_on.result c.args.self.now c.list_on.new.self c.args.piece.now c.args.text.now.items c.list_on.new.text.items c.list_on.ensures.octets
+    (omega arith) (c.list_on.ensures.listed c.in-Going.is)
+
+pub returns-in-Faulty-clause-fed : goal.returns-in-Faulty-clause-fed
+returns-in-Faulty-clause-fed c =
+    let old = c.args.self.now in
+    let new : Lister = record { work = old.work; octets = old.octets + length c.args.piece.now; stage = old.stage } in
+    feeds_by old new c.args.piece.now c.args.text.now.items c.args.text.now.items refl (omega arith)
+    (λ octets lines few h. on_behind old.stage old.work c.args.text.now.items c.args.piece.now c.in-Faulty.is octets lines h)

@@ -1,0 +1,179 @@
+//! The listing of a stream that comes in pieces.
+
+ghost use Rattle.std.specs.Prelude.{◌≡◌, ◌++◌, ◌<◌, ◌^◌, ℕ, List, [], length, IsErr, IfOk, ◌==◌, if◌then◌else◌, IsTrue, ◌↔◌, OnOk, OnErr};
+ghost use Rattle.osi_tpkt.specs.Packet.{IsFaultOf};
+ghost use Rattle.osi_listing.specs.Fed.{IsFed, IsLost, Feeds, StandsAt};
+ghost use Rattle.osi_listing.specs.Listing.{IsListing};
+ghost use Rattle.osi_listing.specs.SoFar.{IsListedSoFar};
+
+use crate::counting::Counts;
+use crate::lines::{push_fault, push_rest};
+use crate::work::Work;
+use osi_tpkt::TpktFault;
+use std::alloc::{AllocError, Global};
+
+/// Lists captured octets: a line for each packet, for each of its transport units, for each whole
+/// TSDU and each of its session units, and one for the fault or the rest behind the packets. The status is 1 where something was
+/// refused, else 0.
+pub fn list(alloc: Global, text: &mut Vec<u8>, octets: &[u8]) -> Result<u8, AllocError>
+    ensures { IfOk result (λ status. (lines : List ℕ) × (text.new.items ≡ text.old.items ++ lines)
+        × IsListing octets.now lines status) }
+{
+    let mut lister = Lister::new(alloc);
+    lister.feed(alloc, text, octets)?;
+    lister.finish(text)
+}
+
+/// Whether a lister lists on.
+#[derive(Clone, Copy)]
+enum Stage {
+    /// Packets are listed as they become whole.
+    Going,
+    /// The stream had a fault, which no packet follows.
+    Faulty,
+    /// Memory was wanting.
+    Lost,
+}
+
+/// Lists the octets of one direction of a byte connection, in whatever pieces they come: what it writes
+/// is what [`list`] writes of all of them.
+///
+/// It keeps the octets of a packet that is not whole, at most 65,535, and those of the TSDU under way in each
+/// stream: at most 1,048,576 for class 0, and as many for each DST-REF of class 2 that came.
+#[derive(Drop)]
+pub struct Lister {
+    work: Work,
+    /// How many octets came.
+    octets: u64,
+    stage: Stage,
+}
+
+impl Lister {
+    /// A lister of a stream that has not begun. It takes no memory until it is fed.
+    pub fn new(alloc: Global) -> Self
+        ensures { IsFed result [] [] }
+    {
+        let work = Work::new(alloc);
+        Lister {
+            work,
+            octets: 0,
+            stage: Stage::Going,
+        }
+    }
+
+    /// Takes the next octets of the stream, and adds the lines of the packets that they make whole to a
+    /// text, and the line of the fault that ends the stream. Of octets behind a fault nothing is said.
+    ///
+    /// `Err` is answered where there is no memory, or where more than 2^64 - 1 octets have come. Then the
+    /// text may have gained some lines, and each further call answers `Err` and adds nothing.
+    pub fn feed(
+        &mut self,
+        alloc: Global,
+        text: &mut Vec<u8>,
+        piece: &[u8],
+    ) -> Result<(), AllocError>
+        ensures fed { OnOk result (Feeds self.old piece.now text.old.items text.new.items self.new) }
+        ensures lost { OnErr result (IsLost self.new) }
+        ensures again { IsLost self.old → IsErr result × (text.new.items ≡ text.old.items) }
+    {
+        match self.take(alloc, text, piece) {
+            Ok(()) => Ok(()),
+            Err(error) => {
+                self.stage = Stage::Lost;
+                Err(error)
+            }
+        }
+    }
+
+    /// What [`Lister::feed`] does, but that it does not keep that memory was wanting.
+    fn take(&mut self, alloc: Global, text: &mut Vec<u8>, piece: &[u8]) -> Result<(), AllocError>
+        ensures fed { OnOk result (Feeds self.old piece.now text.old.items text.new.items self.new) }
+        ensures again { IsLost self.old → IsErr result × (text.new.items ≡ text.old.items) }
+    {
+        if piece.len() as u64 > u64::MAX - self.octets {
+            return Err(AllocError);
+        }
+        self.octets += piece.len() as u64;
+        match self.stage {
+            Stage::Going => self.list_on(alloc, text, piece),
+            Stage::Faulty => Ok(()),
+            Stage::Lost => Err(AllocError),
+        }
+    }
+
+    /// Lists on, where the stream had no fault.
+    fn list_on(&mut self, alloc: Global, text: &mut Vec<u8>, piece: &[u8]) -> Result<(), AllocError>
+        ensures octets { self.new.octets ≡ self.old.octets }
+        ensures listed { self.old.stage ≡ Stage.Going → OnOk result ((octets lines : List ℕ) →
+            length (octets ++ piece.now) < 2 ^ 64 → StandsAt self.old.stage self.old.work octets lines →
+            (more : List ℕ) × (text.new.items ≡ text.old.items ++ more)
+            × StandsAt self.new.stage self.new.work (octets ++ piece.now) (lines ++ more)) }
+    {
+        match self.work.list_piece(alloc, text, piece)? {
+            None => Ok(()),
+            Some(fault) => {
+                self.stage = Stage::Faulty;
+                self.work.counts.add_refused();
+                push_fault(text, at(fault, self.work.offset))
+            }
+        }
+    }
+
+    /// Ends the listing where the stream is over: adds the line of the octets left over, unless the stream
+    /// had a fault. The status is 1 where something was refused, else 0.
+    ///
+    /// `Err` is answered where there is no memory, and always once [`Lister::feed`] has answered it.
+    pub fn finish(&self, text: &mut Vec<u8>) -> Result<u8, AllocError>
+        ensures listing { IfOk result (λ status. (octets lines : List ℕ) → IsFed self.now octets lines →
+            (last : List ℕ) × (text.new.items ≡ text.old.items ++ last) × IsListing octets (lines ++ last) status) }
+        ensures lost { IsLost self.now → IsErr result }
+    {
+        match self.stage {
+            Stage::Going => {
+                push_rest(text, self.work.cutter.rest_len() as u64)?;
+                Ok(self.status())
+            }
+            Stage::Faulty => Ok(self.status()),
+            Stage::Lost => Err(AllocError),
+        }
+    }
+
+    /// 1 where a line says that something was refused, else 0.
+    fn status(&self) -> u8
+        ensures { result ≡ (if self.now.work.counts.refused == 0 then 0 else 1) }
+    {
+        if self.work.counts.refused == 0 { 0 } else { 1 }
+    }
+
+    /// How many lines of each kind there are so far.
+    pub fn counts(&self) -> Counts
+        ensures { (octets lines : List ℕ) → IsFed self.now octets lines → IsListedSoFar octets lines result }
+    {
+        self.work.counts
+    }
+
+    /// How many octets have come.
+    pub fn octets(&self) -> u64
+        ensures { (octets lines : List ℕ) → IsFed self.now octets lines → result ≡ length octets }
+    {
+        self.octets
+    }
+
+    /// Whether memory was wanting, so that nothing is listed any more.
+    pub fn is_lost(&self) -> bool
+        ensures { IsTrue result ↔ IsLost self.now }
+    {
+        matches!(self.stage, Stage::Lost)
+    }
+}
+
+/// A fault of octets that stand at an offset.
+fn at(fault: TpktFault, offset: u64) -> TpktFault
+    ensures { (start : ℕ) (octets : List ℕ) → IsFaultOf start octets fault → IsFaultOf offset octets result }
+{
+    match fault {
+        TpktFault::BadVersion(_) => TpktFault::BadVersion(offset),
+        TpktFault::BadLength(_) => TpktFault::BadLength(offset),
+        TpktFault::OutOfMemory => TpktFault::OutOfMemory,
+    }
+}
