@@ -3,15 +3,16 @@ use Rattle.std.proofs.Common.{◌≡◌, ◌∙◌, refl, sym, ap, subst, ℕ, �
 use Rattle.osi_message.specs.Meanings.{Meaning}
 use Rattle.osi_message.specs.Words.{Word}
 use Rattle.osi_session.specs.Standing.{Seen, Count, CanSay, Takes, listens, after_count, answers_word}
+use Rattle.osi_session.specs.Steady.{Hears}
 use Rattle.osi_session.proofs.SayingLaws.{so_many, so_many_are}
 use Rattle.osi_judge.specs.declared.members.Member.{Member}
 use Rattle.osi_judge.specs.declared.walks.Walker.{Walker}
 use Rattle.osi_judge.specs.Explaining.{Remark, Explains, done, takes, answers, says}
 use Rattle.osi_judge.specs.Members.{SomeExplains, IsBehind}
-use Rattle.osi_judge.specs.Walking.{the_remark, SaidHere, Covers, WalkerCovers, Open, SaysIt, Answers, Follows, FollowsIn, MayFollow, Turns, Walked}
+use Rattle.osi_judge.specs.Walking.{the_remark, SaidHere, Covers, WalkerCovers, Open, SaysIt, Answers, MayFollow, Turns, Walked}
 
 -- what is taken leaves one count
-takes_one : (s : Seen) (u : List ℕ) (c d : Count) → Takes s u c → Takes s u d → c ≡ d
+pub takes_one : (s : Seen) (u : List ℕ) (c d : Count) → Takes s u c → Takes s u d → c ≡ d
 takes_one s u c d h k = sym (h (so_many s.joined) (so_many_are s.joined)) ∙ k (so_many s.joined) (so_many_are s.joined)
 
 -- ---- two ways to the next remark
@@ -35,13 +36,13 @@ split us m later j s w k (answers _ _ _ _ c reply v b l t r d a e) =
     inr (record { count = c; before = b; listening = l; taken = t; on = inr (reply, r, subst (λ (x : Word). answers_word reply x ≡ true) (same_word w v (k ∙ d)) a, e) })
 split us m later j s w k (says _ _ _ _ next v d a e) = inl (next, subst (λ (x : Word). CanSay s x m.octets next) (same_word w v (k ∙ d)) a, e)
 
-abbrev Ways : List (List ℕ) → List Remark → Word → ℕ → ℕ → Member → Type 0
+abbrev pub Ways : List (List ℕ) → List Remark → Word → ℕ → ℕ → Member → Type 0
 Ways us later w octets before at = SaidHere us later w octets at ⊎ TakenOn us later (the_remark w octets before) w at.taken at.standing
 
-ways : (us : List (List ℕ)) (later : List Remark) (w : Word) (octets before : ℕ) (at : Member) → Explains us (the_remark w octets before ∷ later) at.taken at.standing → Ways us later w octets before at
+pub ways : (us : List (List ℕ)) (later : List Remark) (w : Word) (octets before : ℕ) (at : Member) → Explains us (the_remark w octets before ∷ later) at.taken at.standing → Ways us later w octets before at
 ways us later w octets before at e = split us (the_remark w octets before) later at.taken at.standing w refl e
 
-said_on : (us : List (List ℕ)) (later : List Remark) (w : Word) (octets before : ℕ) (at : Member) → SaidHere us later w octets at → Explains us (the_remark w octets before ∷ later) at.taken at.standing
+pub said_on : (us : List (List ℕ)) (later : List Remark) (w : Word) (octets before : ℕ) (at : Member) → SaidHere us later w octets at → Explains us (the_remark w octets before ∷ later) at.taken at.standing
 said_on us later w octets before at h = says (the_remark w octets before) later at.taken at.standing h.0 w refl h.1 h.2
 
 -- ---- the end of a walk
@@ -96,7 +97,7 @@ to_next us ms at next c d k t e =
     subst (λ (x : Seen). Explains us ms next.taken x) (sym k.standing) (subst (λ (x : ℕ). Explains us ms x (after_count at.standing c)) (sym k.place)
     (subst (λ (x : Count). Explains us ms (at.taken + 1) (after_count at.standing x)) same e))
 
-none_or_some : (o : Option Meaning) (a : Meaning) → o ≡ None → o ≡ Some a → ⊥
+pub none_or_some : (o : Option Meaning) (a : Meaning) → o ≡ None → o ≡ Some a → ⊥
 none_or_some None a h k = cc
 none_or_some (Some b) a h k = cc
 
@@ -159,7 +160,7 @@ on_back us later w octets before old mid at next c k r b g (inr e) =
     inr (takes (the_remark w octets before) later at.taken at.standing c b k.listening k.taken r (from_next us (the_remark w octets before ∷ later) at next c k e))
 
 -- what a session explains that took a TSDU, it explains before
-before_it : (us : List (List ℕ)) (later : List Remark) (before j : ℕ) (s t : Seen) → j < before → IsBehind before later → Follows s (get_or us j []) t → Explains us later (j + 1) t → Explains us later j s
+pub before_it : (us : List (List ℕ)) (later : List Remark) (before j : ℕ) (s t : Seen) → j < before → IsBehind before later → Hears s (get_or us j []) t → Explains us later (j + 1) t → Explains us later j s
 before_it us [] before j s t b h f e = done j s
 before_it us (m ∷ ms) before j s t b h f e =
     takes m ms j s f.count (omega arith) f.listening f.taken f.quiet (subst (λ (x : Seen). Explains us (m ∷ ms) (j + 1) x) f.next e)
@@ -199,9 +200,6 @@ pub walked_last : (us : List (List ℕ)) (later : List Remark) (w : Word) (octet
 walked_last us later w octets before first old new from at to x h b =
     let s = stuck us later w octets before old new at to h x.covers (λ t. let l = t.before in absurd (omega arith)) in
     (λ k. s.0 (x.gives.0 k), λ k. x.gives.1 (s.1 k))
-
-pub follows : (x : Option Seen) (s t : Seen) (tsdu : List ℕ) (c : Count) → x ≡ Some s → listens s ≡ true → Takes s tsdu c → c.reply ≡ None → t ≡ after_count s c → FollowsIn x tsdu t
-follows x s t tsdu c e l k r n = subst (λ (y : Option Seen). FollowsIn y tsdu t) (sym e) (record { count = c; listening = l; taken = k; quiet = r; next = n })
 
 pub none_of : {A B : Type 0} (f : A → B) (o : Option A) → ((a : A) → o ≡ Some a → ⊥) → option_map f o ≡ None
 none_of f None h = refl

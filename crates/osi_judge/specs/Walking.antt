@@ -1,8 +1,11 @@
 -- How a session goes on to the next remark: it says it where it stands, or takes TSDUs first.
-use Rattle.std.specs.Prelude.{◌≡◌, ◌↔◌, ◌⊎◌, ℕ, true, List, ◌∷◌, Option, Some, None}
+use Rattle.std.specs.Prelude.{◌≡◌, ◌+◌, ◌↔◌, ◌⊎◌, ℕ, true, List, [], ◌∷◌, get_or, Option, Some, None}
 use Rattle.osi_message.specs.Meanings.{Meaning}
 use Rattle.osi_message.specs.Words.{Word}
-use Rattle.osi_session.specs.Standing.{Seen, Count, CanSay, Takes, listens, after_count, answers_word}
+use Rattle.osi_session.specs.Standing.{Seen, CanSay, answers_word}
+use Rattle.osi_session.specs.Steady.{Hears}
+use Rattle.osi_judge.specs.declared.first_places.Step.{Step}
+use Rattle.osi_judge.specs.declared.first_places.Step.TheVariants.{Said, On, Stuck}
 use Rattle.osi_judge.specs.declared.members.Member.{Member}
 use Rattle.osi_judge.specs.declared.walks.Walker.{Walker}
 use Rattle.osi_judge.specs.Explaining.{Remark, Explains}
@@ -49,17 +52,9 @@ pub record SaysIt (us : List (List ℕ)) (later : List Remark) (w : Word) (octet
 abbrev pub Answers : List (List ℕ) → List Remark → Word → Meaning → Member → List Member → List Member → Type 0
 Answers us later w reply at old new = (SomeExplains us old later ⊎ ((answers_word reply w ≡ true) × Explains us later at.taken at.standing)) ↔ SomeExplains us new later
 
--- a session takes this TSDU, sends nothing, and stands so
-pub record Follows (s : Seen) (tsdu : List ℕ) (t : Seen) : Type 0 where
-  pub count : Count
-  pub listening : listens s ≡ true
-  pub taken : Takes s tsdu count
-  pub quiet : count.reply ≡ None
-  pub next : t ≡ after_count s count
-
 abbrev pub FollowsIn : Option Seen → List ℕ → Seen → Type 0
 FollowsIn None tsdu t = ⊥
-FollowsIn (Some s) tsdu t = Follows s tsdu t
+FollowsIn (Some s) tsdu t = Hears s tsdu t
 
 abbrev pub MayFollow : Option Seen → List ℕ → Option Seen → Type 0
 MayFollow s tsdu None = Unit {0}
@@ -74,3 +69,35 @@ pub record Turns (us : List (List ℕ)) (later : List Remark) (m : Remark) (old 
 pub record Walked (us : List (List ℕ)) (later : List Remark) (m : Remark) (old new : List Member) (from now : Walker) : Type 0 where
   pub gives : Open us later m old (Some from) ↔ Open us later m new (Some now)
   pub covers : WalkerCovers us later new now
+
+-- ---- a steady remark is said at the first place where it may be
+
+-- it is said here by this member, or not at all
+abbrev pub SaysTo : Member → Word → ℕ → Option Member → Type 0
+SaysTo at w octets None = (next : Seen) → CanSay at.standing w octets next → ⊥
+SaysTo at w octets (Some said) = (said.taken ≡ at.taken) × (CanSay at.standing w octets said.standing)
+
+-- a session takes this TSDU and sends nothing, or does not
+abbrev pub HearsTo : Seen → List ℕ → Option Seen → Type 0
+HearsTo s tsdu None = (t : Seen) → Hears s tsdu t → ⊥
+HearsTo s tsdu (Some t) = Hears s tsdu t
+
+-- the next TSDU
+abbrev pub MovesTo : List (List ℕ) → Member → Option Member → Type 0
+MovesTo heard at None = (t : Seen) → Hears at.standing (get_or heard at.taken []) t → ⊥
+MovesTo heard at (Some on) = (on.taken ≡ at.taken + 1) × (Hears at.standing (get_or heard at.taken []) on.standing)
+
+-- one step on the way to the first place
+abbrev pub StepsTo : List (List ℕ) → Word → ℕ → Member → Step → Type 0
+StepsTo heard w octets at (Said said) = SaysTo at w octets (Some said)
+StepsTo heard w octets at (On on) = SaysTo at w octets None × MovesTo heard at (Some on)
+StepsTo heard w octets at Stuck = SaysTo at w octets None × MovesTo heard at None
+
+abbrev pub IsNext : Member → Step → Type 0
+IsNext at (On on) = on.taken ≡ at.taken + 1
+IsNext at _ = Unit {0}
+
+-- what one member explains, if there is one
+abbrev pub OneExplains : List (List ℕ) → List Remark → Option Member → Type 0
+OneExplains us later None = ⊥
+OneExplains us later (Some m) = Explains us later m.taken m.standing

@@ -3,6 +3,7 @@
 #![tactic(auto)]
 
 mod findings;
+mod first_places;
 mod members;
 mod sides;
 mod telling;

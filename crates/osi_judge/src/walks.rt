@@ -1,7 +1,7 @@
 //! How a session goes on to the next unit that its side said: it says it where it stands, or takes TSDUs of
 //! the other side first.
 
-ghost use Rattle.std.specs.Prelude.{◌≡◌, ◌<◌, ◌≤◌, ◌+◌, ◌↔◌, ◌⊎◌, ◌∷◌, IfOk, OnOk, IfSome, length, get_or, [], true, List, ℕ, Some};
+ghost use Rattle.std.specs.Prelude.{◌≡◌, ◌<◌, ◌≤◌, ◌+◌, ◌↔◌, ◌⊎◌, ◌∷◌, IfOk, OnOk, IfSome, length, true, List, ℕ, Some};
 ghost use Rattle.osi_message.specs.Reading.{word};
 ghost use Rattle.osi_session.specs.Steps.{reply_of};
 ghost use Rattle.osi_spdu.specs.Units.{said_by};
@@ -9,9 +9,10 @@ ghost use Rattle.osi_judge.specs.Explaining.{Remark, Explains};
 ghost use Rattle.osi_judge.specs.Members.{SomeExplains};
 ghost use Rattle.osi_judge.specs.Walking.{the_remark, SaysIt, Answers, MayFollow, Turns, Ever};
 
+use crate::first_places::{first_place, hears, tsdu_at};
 use crate::members::{Member, add};
 use osi_message::Octets;
-use osi_session::{Reply, Standing};
+use osi_session::{Reply, Standing, is_steady};
 use osi_spdu::Spdu;
 use std::alloc::{AllocError, Global};
 
@@ -82,25 +83,10 @@ fn follow(
 ) -> Result<Option<Standing>, AllocError>
     ensures { IfOk result (λ t. MayFollow said_before tsdu.now t) }
 {
-    let Some(standing) = said_before else {
-        return Ok(None);
-    };
-    if !standing.listens() {
-        return Ok(None);
+    match said_before {
+        Some(standing) => hears(alloc, standing, tsdu),
+        None => Ok(None),
     }
-    let taking = standing.take(alloc, tsdu)?;
-    match taking.reply {
-        None => Ok(Some(taking.next)),
-        Some(_) => Ok(None),
-    }
-}
-
-/// The octets of one of these TSDUs.
-fn tsdu_at(heard: &[Octets], place: usize) -> &[u8]
-    requires { place < length heard.now }
-    ensures { result.now ≡ get_or heard.now place [] }
-{
-    heard[place].as_slice()
 }
 
 /// One step of a walker that has not taken all that had passed: it says the unit, if it may, and takes the
@@ -137,10 +123,10 @@ fn turn(
     Ok(Some(Walker { at, said_before }))
 }
 
-/// The members behind a unit, of what one member explains: it says the unit where it stands, or takes TSDUs
-/// first, as many as had passed. A session that said the unit and then took what another took before
-/// it, and that stands as the other, stands for both.
-pub(crate) fn walk(
+/// The members behind a unit that is not steady, of what one member explains: it says the unit where it
+/// stands, or takes TSDUs first, as many as had passed. A session that said the unit and then took what
+/// another took before it, and that stands as the other, stands for both.
+fn walk_through(
     alloc: Global,
     heard: &[Octets],
     unit: &Spdu,
@@ -165,4 +151,27 @@ pub(crate) fn walk(
     }
     let _last = say_it(unit, octets, walker, next)?;
     Ok(())
+}
+
+/// The members behind a unit, of what one member explains.
+pub(crate) fn walk(
+    alloc: Global,
+    heard: &[Octets],
+    unit: &Spdu,
+    octets: usize,
+    before: usize,
+    member: Member,
+    next: &mut Vec<Member>,
+) -> Result<(), AllocError>
+    requires { before ≤ length heard.now }
+    ensures { OnOk result (Ever heard.now before (λ us later.
+        (SomeExplains us next.old.items later ⊎ Explains us (the_remark (word (said_by unit.now)) octets before ∷ later) member.taken member.standing) ↔ SomeExplains us next.new.items later)) }
+{
+    if !is_steady(unit) {
+        return walk_through(alloc, heard, unit, octets, before, member, next);
+    }
+    match first_place(alloc, heard, unit, octets, before, member)? {
+        Some(place) => add(next, place),
+        None => Ok(()),
+    }
 }

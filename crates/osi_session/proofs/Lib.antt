@@ -15,6 +15,10 @@ pub mod RunLaws
 pub mod SendableLaws
 pub mod CountingLaws
 pub mod SayingLaws
+pub mod SteadyLaws
+pub mod AheadLaws
+pub mod AheadWords
+pub mod SaidFirst
 pub mod SentLaws
 pub mod SessionLaws
 pub mod ShownLaws

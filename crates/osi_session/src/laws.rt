@@ -27,7 +27,7 @@ ghost use Rattle.osi_session.specs.Closing.{closes_alone, is_answer, awaits_clos
 ghost use Rattle.osi_session.specs.declared.phases.Phase.{Phase};
 ghost use Rattle.osi_session.specs.Phases.{is_wait_transport, is_wait_cn, is_aborting, is_over, is_ended, is_restarting, is_restart_due, may_abort, may_hold, shows_loss, takes_data};
 ghost use Rattle.osi_message.specs.Reading.{Said, alone, behind, said_by_units, said_at};
-ghost use Rattle.osi_message.specs.Words.{Words, says, part, part_octets};
+ghost use Rattle.osi_message.specs.Words.{Word, Words, says, part, part_octets};
 ghost use Rattle.osi_session.specs.Joining.{Taker, is_in_place, kept_in, heard, word_verdict, respond_word, respond_words, respond_tsdu};
 ghost use Rattle.osi_session.specs.Listening.{Input, is_opened, called, taken, unread, opened, refused, broken, came, rests, answered as call_move, moved, begun, denied, Listener, taker_of, in_state, react, after_input, after_inputs};
 ghost use Rattle.osi_session.specs.Moves as whole;
@@ -46,6 +46,8 @@ ghost use Rattle.osi_session.specs.Sessions.{awaiting, asking, Planned, IsPlanOf
 ghost use Rattle.osi_session.specs.Shown.{MinorConfirmed, shows_connect};
 ghost use Rattle.osi_session.specs.Sizes.{answered, smaller_sizes, answered_sizes, fits_limit, limit_of, is_data, is_bounded};
 ghost use Rattle.osi_session.specs.Sound.{IsSound};
+ghost use Rattle.osi_session.specs.Standing.{Seen, CanSay};
+ghost use Rattle.osi_session.specs.Steady.{is_steady, HearsAll};
 ghost use Rattle.osi_message.specs.Tokens.{Token, has, is_disjoint, token_octet};
 ghost use Rattle.osi_session.specs.Openings.{asked_for};
 ghost use Rattle.osi_message.specs.Sendable.{IsSendable, said_of, words_of};
@@ -415,4 +417,13 @@ pub fn what_is_refused_for_which_reason()
         (respond_unit s (CN true requirements serial wishes calling called sizes octets)).reply ≡ Some (RF 134 []) }
     ensures part { (t : Taker) (place : Place) (octets : List ℕ) → takes_data t.state.phase ≡ true → t.state.held.data_token ≡ false →
         is_in_place t.joined place ≡ false → word_verdict t (part place octets) ≡ faulty (BadEnclosure (si (DT octets))) }
+{}
+
+/// A side that may say a steady unit now, and may say it after it took some TSDUs of its peer without an
+/// answer, comes to the same if it says it now and takes them then, and it answers none of them then
+/// either. So who looks on need not ask whether it was said before or after they were taken.
+#[tactic(auto, using(crate::proofs::SaidFirst::may_be_first))]
+pub fn what_may_be_said_first()
+    ensures { (now later said said_later : Seen) (tsdus : List (List ℕ)) (w : Word) (n : ℕ) → is_steady w ≡ true →
+        CanSay now w n said → HearsAll now tsdus later → CanSay later w n said_later → HearsAll said tsdus said_later }
 {}

@@ -4,7 +4,7 @@ use Rattle.osi_spdu.specs.Units.{said_by}
 use Rattle.osi_judge.specs.declared.walks.Walker.{Walker}
 use Rattle.osi_judge.specs.Walking.{the_remark, Turns}
 use Rattle.osi_judge.proofs.WalkLaws.{walked_turn, walked_stop, walked_last}
-use Rattle.osi_judge.proofs.walks.walk.Goals as goal
+use Rattle.osi_judge.proofs.walks.walk_through.Goals as goal
 
 pub takes-preserved : goal.takes-preserved
 takes-preserved c = λ us later x h.

@@ -3,7 +3,7 @@ use Rattle.osi_message.specs.Reading.{word}
 use Rattle.osi_spdu.specs.Units.{said_by}
 use Rattle.osi_judge.specs.Explaining.{Remark}
 use Rattle.osi_judge.specs.Walking.{the_remark, Ever, Walked}
-use Rattle.osi_judge.proofs.walks.walk.Given as goal
+use Rattle.osi_judge.proofs.walks.walk_through.Given as goal
 
 abbrev pub invariant-takes : goal.invariant-takes
 invariant-takes l = Ever l.heard l.before (λ (us : List (List ℕ)) (later : List Remark).
