@@ -68,7 +68,7 @@ pub came_unbounded : (s : Listener) (octets : List ℕ) → limit_for s (came oc
 came_unbounded s octets = grind arith
 
 pub told_unbounded : (s : Listener) (told : Told) → limit_for s (told_input told) ≡ 0
-told_unbounded s (Tsdu octets) = came_unbounded s octets.now
+told_unbounded s (Tsdu octets) = came_unbounded s octets.items
 told_unbounded s _ = refl
 
 -- what is handed over of a session that hears something

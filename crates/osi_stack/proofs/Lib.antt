@@ -43,6 +43,7 @@ mod KeptCalls
 pub mod Parted
 pub mod Gone
 pub mod Handing
+pub mod Straight
 pub mod Needing
 pub mod Joinings
 pub mod Accounts

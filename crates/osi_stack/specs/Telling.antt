@@ -1,10 +1,19 @@
 -- What sessions are told in memory.
-use Rattle.osi_session.specs.Listening.{Input, opened, refused, broken, came}
+use Rattle.std.specs.Prelude.{◌≡◌, ℕ, List}
+use Rattle.osi_session.specs.Listening.{Input, opened, refused, broken, came, Listener, react}
+use Rattle.osi_session.specs.Points.{only_shows}
+use Rattle.osi_session.specs.Shown.{Shown, Data}
 use Rattle.osi_stack.specs.declared.told.Told.{Told}
 use Rattle.osi_stack.specs.declared.told.Told.TheVariants.{Opened, Refused, Tsdu, Lost}
 
 abbrev pub told_input : Told → Input
 told_input Opened = opened
 told_input (Refused reason) = refused reason
-told_input (Tsdu octets) = came octets.now
+told_input (Tsdu octets) = came octets.items
 told_input Lost = broken
+
+-- data is shown, and nothing else happens
+pub record ShowsData (session : Listener) (input : Input) (shown : Shown) : Type 0 where
+  pub octets : List ℕ
+  pub is : shown ≡ Data octets
+  pub shows : react session input ≡ only_shows session (Data octets)

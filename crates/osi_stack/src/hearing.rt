@@ -1,6 +1,6 @@
 //! A session hears what happens to it: the carrier gets what it sends, and its user what it shows.
 
-ghost use Rattle.std.specs.Prelude.{◌≡◌, [], ◌∷◌, None, Some, true, false, ◌<◌, ◌≤◌, ◌+◌, ◌++◌, map, length, IfOk, OnOk, OnErr};
+ghost use Rattle.std.specs.Prelude.{◌≡◌, [], ◌∷◌, None, Some, true, false, ◌<◌, ◌≤◌, ◌+◌, ◌++◌, map, length, IfOk, IfErr, OnOk, OnErr};
 ghost use Rattle.std.specs.Vec.{vec_len};
 ghost use Rattle.std.specs.VecDeque.{deque_len, deque_capacity};
 ghost use Rattle.osi_session.specs.Listening.{came, react};
@@ -9,7 +9,7 @@ ghost use Rattle.osi_session.specs.Shown.{shown_by};
 ghost use Rattle.osi_stack.specs.Moving.{limit_for, answers};
 ghost use Rattle.osi_stack.specs.Needs.{session_needs};
 ghost use Rattle.osi_stack.specs.Selectors.{is_connect, shows_connect};
-ghost use Rattle.osi_stack.specs.Telling.{told_input};
+ghost use Rattle.osi_stack.specs.Telling.{told_input, ShowsData};
 
 use crate::told::Told;
 use crate::transport::answer;
@@ -35,16 +35,16 @@ fn quiet(alloc: Global, shown: Option<Indication>) -> Taken
 
 /// What a session does; a TSDU is read by the general reader, and not tried as one that is expected. Want of
 /// memory changes nothing.
-fn listen(alloc: Global, session: &mut Session, told: Told<'_>) -> Result<Taken, AllocError>
-    ensures { Takes result (react session.old (told_input told.entry)) session.old session.new }
+fn listen(alloc: Global, session: &mut Session, told: &Told) -> Result<Taken, AllocError>
+    ensures { Takes result (react session.old (told_input told.now)) session.old session.new }
 {
     match told {
         Told::Opened => Ok(Taken {
             reply: session.opened(),
             ..quiet(alloc, None)
         }),
-        Told::Refused(reason) => Ok(quiet(alloc, session.refused(reason))),
-        Told::Tsdu(octets) => session.take_unexpected(octets),
+        Told::Refused(reason) => Ok(quiet(alloc, session.refused(*reason))),
+        Told::Tsdu(octets) => session.take_unexpected(octets.as_slice()),
         Told::Lost => Ok(quiet(alloc, session.broken())),
     }
 }
@@ -76,21 +76,21 @@ fn hear_any(
     alloc: Global,
     session: &mut Session,
     waiting: &mut VecDeque<Indication>,
-    told: Told<'_>,
+    told: &Told,
     carrier: &mut Carrier,
     reference: u16,
 ) -> Result<bool, AllocError>
     requires { deque_len waiting.old < deque_capacity waiting.old }
-    ensures connects { IfOk result (λ b. b ≡ shows_connect (react session.old (told_input told.entry)).shown) }
-    ensures session { OnOk result (session.new ≡ (react session.old (told_input told.entry)).next) }
-    ensures shown { OnOk result (map shown_by waiting.new.items ≡ map shown_by waiting.old.items ++ (react session.old (told_input told.entry)).shown) }
+    ensures connects { IfOk result (λ b. b ≡ shows_connect (react session.old (told_input told.now)).shown) }
+    ensures session { OnOk result (session.new ≡ (react session.old (told_input told.now)).next) }
+    ensures shown { OnOk result (map shown_by waiting.new.items ≡ map shown_by waiting.old.items ++ (react session.old (told_input told.now)).shown) }
     ensures room { OnOk result (deque_len waiting.new < deque_capacity waiting.new) }
-    ensures carrier { OnOk result (carrier.new ≡ record carrier.old { state = answers reference (limit_for session.old (told_input told.entry)) (react session.old (told_input told.entry)) carrier.old.state }) }
+    ensures carrier { OnOk result (carrier.new ≡ record carrier.old { state = answers reference (limit_for session.old (told_input told.now)) (react session.old (told_input told.now)) carrier.old.state }) }
     ensures kept { OnErr result (waiting.new.items ≡ waiting.old.items) }
     ensures len { OnErr result (deque_len waiting.new ≡ deque_len waiting.old) }
     ensures capacity { OnErr result (deque_capacity waiting.old ≤ deque_capacity waiting.new) }
     ensures err { OnErr result (carrier.new ≡ carrier.old) }
-    ensures needed { OnErr result (session_needs reference (Some session.old) (told_input told.entry) carrier.old.state ≡ true) }
+    ensures needed { OnErr result (session_needs reference (Some session.old) (told_input told.now) carrier.old.state ≡ true) }
 {
     let Taken {
         first,
@@ -109,6 +109,22 @@ fn hear_any(
     Ok(connects)
 }
 
+/// What the user is shown by data that a session expects, in the room of its TSDU: its octets are not copied,
+/// and no memory is taken. All else comes back.
+#[inline(always)]
+pub fn data_in(session: &Session, told: Told) -> Result<Indication, Told>
+    ensures shows { IfOk result (λ i. ShowsData session.now (told_input told) (shown_by i)) }
+    ensures other { IfErr result (λ t. t ≡ told) }
+{
+    match told {
+        Told::Tsdu(tsdu) => match session.show_data(tsdu) {
+            Ok(data) => Ok(data),
+            Err(tsdu) => Err(Told::Tsdu(tsdu)),
+        },
+        _ => Err(told),
+    }
+}
+
 /// A session hears what happens to it; says whether its user is shown that a connection is asked for.
 /// There is room for one indication, and behind it for one more. Memory is needed only where something is
 /// shown, sent or joined, or a DR is written; want of it leaves the indications that wait, and the carrier.
@@ -117,24 +133,24 @@ pub fn hear(
     alloc: Global,
     session: &mut Session,
     waiting: &mut VecDeque<Indication>,
-    told: Told<'_>,
+    told: &Told,
     carrier: &mut Carrier,
     reference: u16,
 ) -> Result<bool, AllocError>
     requires { deque_len waiting.old < deque_capacity waiting.old }
-    ensures connects { IfOk result (λ b. b ≡ shows_connect (react session.old (told_input told.entry)).shown) }
-    ensures session { OnOk result (session.new ≡ (react session.old (told_input told.entry)).next) }
-    ensures shown { OnOk result (map shown_by waiting.new.items ≡ map shown_by waiting.old.items ++ (react session.old (told_input told.entry)).shown) }
+    ensures connects { IfOk result (λ b. b ≡ shows_connect (react session.old (told_input told.now)).shown) }
+    ensures session { OnOk result (session.new ≡ (react session.old (told_input told.now)).next) }
+    ensures shown { OnOk result (map shown_by waiting.new.items ≡ map shown_by waiting.old.items ++ (react session.old (told_input told.now)).shown) }
     ensures room { OnOk result (deque_len waiting.new < deque_capacity waiting.new) }
-    ensures carrier { OnOk result (carrier.new ≡ record carrier.old { state = answers reference (limit_for session.old (told_input told.entry)) (react session.old (told_input told.entry)) carrier.old.state }) }
+    ensures carrier { OnOk result (carrier.new ≡ record carrier.old { state = answers reference (limit_for session.old (told_input told.now)) (react session.old (told_input told.now)) carrier.old.state }) }
     ensures kept { OnErr result (waiting.new.items ≡ waiting.old.items) }
     ensures len { OnErr result (deque_len waiting.new ≡ deque_len waiting.old) }
     ensures capacity { OnErr result (deque_capacity waiting.old ≤ deque_capacity waiting.new) }
     ensures err { OnErr result (carrier.new ≡ carrier.old) }
-    ensures needed { OnErr result (session_needs reference (Some session.old) (told_input told.entry) carrier.old.state ≡ true) }
+    ensures needed { OnErr result (session_needs reference (Some session.old) (told_input told.now) carrier.old.state ≡ true) }
 {
     if let Told::Tsdu(octets) = told {
-        match session.take_expected(octets)? {
+        match session.take_expected(octets.as_slice())? {
             Expected::Shown(indication) => {
                 let connects = is_connect(&indication);
                 waiting.reserve(2)?;

@@ -19,7 +19,7 @@ ghost use Rattle.osi_stack.specs.Selectors.{selectors_sent, selectors_told, sess
 ghost use Rattle.osi_stack.specs.Telling.{told_input};
 
 use crate::calls::make_call;
-use crate::hearing::hear;
+use crate::hearing::{data_in, hear};
 use crate::names::SessionSelectors;
 use crate::told::Told;
 use osi_carrier::lookup::{Referred, is_above, place_in};
@@ -92,8 +92,8 @@ fn forget(session: &mut Option<Session>, waiting: &mut VecDeque<Indication>, is_
 /// Keeps the session selectors of a CN. It stands out of line: else the room for them would be made on
 /// the way of data, too.
 #[inline(never)]
-fn note(selectors: &mut Option<SessionSelectors>, told: Told<'_>)
-    ensures { option_map session_selectors selectors.new ≡ selectors_told (told_input told.entry) }
+fn note(selectors: &mut Option<SessionSelectors>, told: &Told)
+    ensures { option_map session_selectors selectors.new ≡ selectors_told (told_input told.now) }
 {
     *selectors = SessionSelectors::told(told);
 }
@@ -166,19 +166,61 @@ impl Line {
         }
     }
 
-    /// The session hears what happens to it. For want of memory it is lost as it was before.
+    /// The session hears what happens to it: data that it expects is shown as it came. For want of memory
+    /// the session is lost as it was before.
+    #[inline(always)]
     fn hear(
         &mut self,
         alloc: Global,
-        told: Told<'_>,
+        told: Told,
         carrier: &mut Carrier,
     ) -> Result<(), AllocError>
         ensures reference { self.new.0 ≡ self.old.0 }
-        ensures ok { OnOk result (self.new ≡ (self.old.0, line_by self.old.1 self.old.1.session (told_input told.entry))) }
-        ensures carrier { OnOk result (carrier.new ≡ record carrier.old { state = carrier_by self.old.0 self.old.1.session (told_input told.entry) carrier.old.state }) }
+        ensures ok { OnOk result (self.new ≡ (self.old.0, line_by self.old.1 self.old.1.session (told_input told))) }
+        ensures carrier { OnOk result (carrier.new ≡ record carrier.old { state = carrier_by self.old.0 self.old.1.session (told_input told) carrier.old.state }) }
         ensures lost { OnErr result (self.new ≡ (self.old.0, loses self.old.1)) }
         ensures err { OnErr result (carrier.new ≡ carrier.old) }
-        ensures needed { OnErr result (session_needs self.old.0 self.old.1.session (told_input told.entry) carrier.old.state ≡ true) }
+        ensures needed { OnErr result (session_needs self.old.0 self.old.1.session (told_input told) carrier.old.state ≡ true) }
+    {
+        let Some(session) = &self.session else {
+            return Ok(());
+        };
+        match data_in(session, told) {
+            Ok(shown) => self.show(shown),
+            Err(told) => self.hear_any(alloc, &told, carrier),
+        }
+    }
+
+    /// The user is to be shown this, and there is room for one indication more. For want of memory the session is
+    /// lost.
+    #[inline(always)]
+    fn show(&mut self, shown: Indication) -> Result<(), AllocError>
+        requires { is_some self.old.1.session ≡ true }
+        ensures reference { self.new.0 ≡ self.old.0 }
+        ensures ok { OnOk result (self.new ≡ (self.old.0, record self.old.1 { waiting = self.old.1.waiting ++ shown_by shown ∷ [] })) }
+        ensures lost { OnErr result (self.new ≡ (self.old.0, loses self.old.1)) }
+    {
+        if self.waiting.reserve(2).is_err() {
+            self.lose();
+            return Err(AllocError);
+        }
+        self.waiting.push_back_reserved(shown);
+        Ok(())
+    }
+
+    /// The session hears what is no data that it expects. For want of memory it is lost as it was before.
+    fn hear_any(
+        &mut self,
+        alloc: Global,
+        told: &Told,
+        carrier: &mut Carrier,
+    ) -> Result<(), AllocError>
+        ensures reference { self.new.0 ≡ self.old.0 }
+        ensures ok { OnOk result (self.new ≡ (self.old.0, line_by self.old.1 self.old.1.session (told_input told.now))) }
+        ensures carrier { OnOk result (carrier.new ≡ record carrier.old { state = carrier_by self.old.0 self.old.1.session (told_input told.now) carrier.old.state }) }
+        ensures lost { OnErr result (self.new ≡ (self.old.0, loses self.old.1)) }
+        ensures err { OnErr result (carrier.new ≡ carrier.old) }
+        ensures needed { OnErr result (session_needs self.old.0 self.old.1.session (told_input told.now) carrier.old.state ≡ true) }
     {
         let Some(session) = &mut self.session else {
             return Ok(());
@@ -417,14 +459,14 @@ impl Lines {
         &mut self,
         alloc: Global,
         reference: u16,
-        told: Told<'_>,
+        told: Told,
         carrier: &mut Carrier,
     ) -> Result<(), AllocError>
-        ensures ok { OnOk result (record { carrier = carrier.new.state; lines = self.new } ≡ to_session reference (told_input told.entry) (record { carrier = carrier.old.state; lines = self.old })) }
+        ensures ok { OnOk result (record { carrier = carrier.new.state; lines = self.new } ≡ to_session reference (told_input told) (record { carrier = carrier.old.state; lines = self.old })) }
         ensures held { carrier.new.held ≡ carrier.old.held }
         ensures lost { OnErr result (all_lost self.new ≡ all_lost self.old) }
         ensures err { OnErr result (carrier.new ≡ carrier.old) }
-        ensures needed { OnErr result (session_needs reference (session_in (value_at reference self.old)) (told_input told.entry) carrier.old.state ≡ true) }
+        ensures needed { OnErr result (session_needs reference (session_in (value_at reference self.old)) (told_input told) carrier.old.state ≡ true) }
     {
         let Some(place) = self.find(reference) else {
             return Ok(());

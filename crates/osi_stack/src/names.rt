@@ -67,11 +67,11 @@ impl SessionSelectors {
     }
 
     /// Those of what happens to a session.
-    pub fn told(told: Told<'_>) -> Option<Self>
-        ensures { option_map session_selectors result ≡ selectors_told (told_input told.entry) }
+    pub fn told(told: &Told) -> Option<Self>
+        ensures { option_map session_selectors result ≡ selectors_told (told_input told.now) }
     {
         match told {
-            Told::Tsdu(octets) => SessionSelectors::read(octets),
+            Told::Tsdu(octets) => SessionSelectors::read(octets.as_slice()),
             Told::Opened | Told::Refused(_) | Told::Lost => None,
         }
     }

@@ -40,12 +40,12 @@ fn tell(
     carrier: &mut Carrier,
     lines: &mut Lines,
     reference: Ref,
-    told: Told<'_>,
+    told: Told,
 ) -> Result<(), AllocError>
-    ensures ok { OnOk result ((holding carrier.new lines.new).end ≡ to_session reference.0 (told_input told.entry) (holding carrier.old lines.old).end) }
+    ensures ok { OnOk result ((holding carrier.new lines.new).end ≡ to_session reference.0 (told_input told) (holding carrier.old lines.old).end) }
     ensures held { carrier.new.held ≡ carrier.old.held }
     ensures err { OnErr result (Interrupted (holding carrier.old lines.old).end (holding carrier.new lines.new).end) }
-    ensures needed { OnErr result (input_needs reference.0 (told_input told.entry) (holding carrier.old lines.old).end ≡ true) }
+    ensures needed { OnErr result (input_needs reference.0 (told_input told) (holding carrier.old lines.old).end ≡ true) }
 {
     lines.hear(alloc, reference.0, told, carrier)
 }
@@ -82,8 +82,8 @@ pub fn hear(
     ensures needed { OnErr result (needs_memory (happening event) (holding carrier.old lines.old).end ≡ true) }
 {
     match event {
-        Event::Tsdu(reference, octets) => {
-            let told = Told::Tsdu(octets.as_slice());
+        Event::Tsdu(reference, tsdu) => {
+            let told = Told::Tsdu(tsdu);
             lines.hear(alloc, reference.0, told, carrier)
         }
         Event::Opened(_) | Event::Refused(..) | Event::Closed(..) | Event::Faulted(..) => {
@@ -110,9 +110,8 @@ fn hear_any(
         Event::Refused(reference, reason) => {
             tell(alloc, carrier, lines, reference, Told::Refused(reason))
         }
-        Event::Tsdu(reference, octets) => {
-            let told = Told::Tsdu(octets.as_slice());
-            tell(alloc, carrier, lines, reference, told)
+        Event::Tsdu(reference, tsdu) => {
+            tell(alloc, carrier, lines, reference, Told::Tsdu(tsdu))
         }
         Event::Closed(reference, _) | Event::Faulted(reference, _) => {
             tell(alloc, carrier, lines, reference, Told::Lost)

@@ -1,14 +1,14 @@
 //! What happens to a session apart from its calls.
 
 /// What happens to a session, apart from the calls of its user.
-#[derive(Clone, Copy)]
-pub enum Told<'a> {
+#[derive(Drop)]
+pub enum Told {
     /// The transport connection that it asked for is there.
     Opened,
     /// There is no transport connection, for this reason.
     Refused(u8),
-    /// A TSDU came.
-    Tsdu(&'a [u8]),
+    /// A TSDU came, with the room that its octets are in.
+    Tsdu(Vec<u8>),
     /// The transport connection was closed, or had a fault.
     Lost,
 }

@@ -3,8 +3,8 @@ use Rattle.osi_stack.proofs.Vocabulary.{OnOk, IfErr, Call, Data, called_by, call
 use Rattle.osi_stack.proofs.Calling.{call_handed, call_allowed, call_refused}
 use Rattle.osi_stack.proofs.calls.make_call.Goals as goal
 
-pub returns-in-Data-clause-carrier : goal.returns-in-Data-clause-carrier
-returns-in-Data-clause-carrier c =
+pub returns-in-Some-clause-carrier : goal.returns-in-Some-clause-carrier
+returns-in-Some-clause-carrier c =
     let s = c.args.session.now in
     let limit = limit_of s.state in
     let sent = (c.in-Some.head.now ++ c.in-Data.user_data.now) ∷ [] in
@@ -13,8 +13,8 @@ returns-in-Data-clause-carrier c =
     (call_handed c.send_headed_call.result s (Data c.in-Data.user_data.now) sent sent c.args.reference limit c.args.carrier.now c.send_headed_call.new.carrier
     c.in-Some.ensures.accepted c.in-Some.ensures.sent refl c.send_headed_call.ensures.ok)
 
-pub returns-in-Data-clause-allowed : goal.returns-in-Data-clause-allowed
-returns-in-Data-clause-allowed c =
+pub returns-in-Some-clause-allowed : goal.returns-in-Some-clause-allowed
+returns-in-Some-clause-allowed c =
     let s = c.args.session.now in
     let limit = limit_of s.state in
     let sent = (c.in-Some.head.now ++ c.in-Data.user_data.now) ∷ [] in
@@ -22,8 +22,8 @@ returns-in-Data-clause-allowed c =
     (call_allowed c.send_headed_call.result s (Data c.in-Data.user_data.now) sent sent c.args.reference limit c.args.carrier.now.state
     c.in-Some.ensures.accepted c.in-Some.ensures.sent refl c.send_headed_call.ensures.allowed)
 
-pub returns-in-Data-clause-refused : goal.returns-in-Data-clause-refused
-returns-in-Data-clause-refused c =
+pub returns-in-Some-clause-refused : goal.returns-in-Some-clause-refused
+returns-in-Some-clause-refused c =
     let s = c.args.session.now in
     let limit = limit_of s.state in
     let sent = (c.in-Some.head.now ++ c.in-Data.user_data.now) ∷ [] in

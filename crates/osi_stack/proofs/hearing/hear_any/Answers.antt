@@ -5,18 +5,18 @@ use Rattle.osi_stack.proofs.hearing.hear_any.Goals as goal
 
 pub returns-clause-carrier : goal.returns-clause-carrier
 returns-clause-carrier c =
-    let move = react c.args.session.now (told_input c.args.told) in
+    let move = react c.args.session.now (told_input c.args.told.now) in
     let reply : c.in_ok-first.field-0.reply ≡ option_map in_one move.reply = search rules in
     let closes : c.in_ok-first.field-0.closes ≡ move.closes = search rules in
     c.in_ok-answer-2.ensures.ok
     ∙ ap (λ (x : Carrier). record c.args.carrier.now { state = x })
-    (answer_heard c.args.session.now c.args.told c.args.reference c.in_ok-first.field-0.reply c.in_ok-first.field-0.closes move c.args.carrier.now.state reply closes)
+    (answer_heard c.args.session.now c.args.told.now c.args.reference c.in_ok-first.field-0.reply c.in_ok-first.field-0.closes move c.args.carrier.now.state reply closes)
 
 pub returns-in_default-clause-carrier : goal.returns-in_default-clause-carrier
 returns-in_default-clause-carrier c =
-    let move = react c.args.session.now (told_input c.args.told) in
+    let move = react c.args.session.now (told_input c.args.told.now) in
     let reply : c.in_ok-first.field-0.reply ≡ option_map in_one move.reply = search rules in
     let closes : c.in_ok-first.field-0.closes ≡ move.closes = search rules in
     c.in_ok-answer.ensures.ok
     ∙ ap (λ (x : Carrier). record c.args.carrier.now { state = x })
-    (answer_heard c.args.session.now c.args.told c.args.reference c.in_ok-first.field-0.reply c.in_ok-first.field-0.closes move c.args.carrier.now.state reply closes)
+    (answer_heard c.args.session.now c.args.told.now c.args.reference c.in_ok-first.field-0.reply c.in_ok-first.field-0.closes move c.args.carrier.now.state reply closes)

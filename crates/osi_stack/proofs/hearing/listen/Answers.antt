@@ -8,7 +8,7 @@ pub returns-in-Opened : goal.returns-in-Opened
 returns-in-Opened c =
     let s = c.args.session.now in
     let quiet = opened_is_unseen s in
-    takes_if _ s opened (told_input c.args.told) s c.opened.new.self (ap told_input c.in-Opened.is)
+    takes_if _ s opened (told_input c.args.told.now) s c.opened.new.self (ap told_input c.in-Opened.is)
     (quiet_takes _ None (react s opened) s c.opened.new.self c.quiet.ensures.first c.quiet.ensures.more c.opened.ensures.sent
     (c.quiet.ensures.closes ∙ sym quiet.closes) c.opened.ensures.state (sym quiet.shown))
 
@@ -16,7 +16,7 @@ pub returns-in-Refused : goal.returns-in-Refused
 returns-in-Refused c =
     let s = c.args.session.now in
     let quiet = refused_is_quiet s c.in-Refused.reason in
-    takes_if _ s (refused c.in-Refused.reason) (told_input c.args.told) s c.refused.new.self (ap told_input c.in-Refused.is)
+    takes_if _ s (refused c.in-Refused.reason) (told_input c.args.told.now) s c.refused.new.self (ap told_input c.in-Refused.is)
     (quiet_takes _ c.refused.result (react s (refused c.in-Refused.reason)) s c.refused.new.self c.quiet-in-Refused.ensures.first c.quiet-in-Refused.ensures.more
     (c.quiet-in-Refused.ensures.reply ∙ ap (option_map in_one) (sym quiet.reply)) (c.quiet-in-Refused.ensures.closes ∙ sym quiet.closes)
     c.refused.ensures.state c.refused.ensures.shown)
@@ -25,7 +25,7 @@ pub returns-in-Lost : goal.returns-in-Lost
 returns-in-Lost c =
     let s = c.args.session.now in
     let quiet = broken_is_quiet s in
-    takes_if _ s broken (told_input c.args.told) s c.broken.new.self (ap told_input c.in-Lost.is)
+    takes_if _ s broken (told_input c.args.told.now) s c.broken.new.self (ap told_input c.in-Lost.is)
     (quiet_takes _ c.broken.result (react s broken) s c.broken.new.self c.quiet-in-Lost.ensures.first c.quiet-in-Lost.ensures.more
     (c.quiet-in-Lost.ensures.reply ∙ ap (option_map in_one) (sym quiet.reply)) (c.quiet-in-Lost.ensures.closes ∙ sym quiet.closes)
     c.broken.ensures.state c.broken.ensures.shown)

@@ -1,13 +1,19 @@
-use Rattle.std.proofs.Common.{◌≡◌, ℕ, [], ◌∷◌, ◌++◌, map, Option, None, ap, subst, ◌∙◌, option_map, if◌then◌else◌}
-use Rattle.osi_stack.proofs.Vocabulary.{Listener, shows_loss, Lost, shown_by, loses, session_selectors, Line}
-use Rattle.osi_stack.proofs.Losing.{lost_line}
+use Rattle.std.proofs.Common.{ℕ, sym, ap, ◌∙◌}
+use Rattle.osi_stack.proofs.Vocabulary.{shown_by, Line, told_input}
+use Rattle.osi_stack.proofs.Straight.{heard_line, heard_carrier, heard_needs}
 use Rattle.osi_stack.proofs.lines.Line.hear.Goals as goal
 
-pub returns-in_default-hear-clause-lost : goal.returns-in_default-hear-clause-lost
-returns-in_default-hear-clause-lost c =
-    let line : Line = record { session = c.self.inside.session; waiting = map shown_by c.self.inside.waiting.items; selectors = option_map session_selectors c.self.inside.selectors } in
-    ap (λ (o : Option Listener). (c.self.inside.reference, record line { session = o; waiting = map shown_by c.forget.new.waiting.items })) c.forget.ensures.session
-    ∙ subst (λ (v : ℕ × Line). (c.self.inside.reference, record line { session = None; waiting = map shown_by c.forget.new.waiting.items }) ≡ (v.0, loses v.1)) c.self.view_is
-    (ap (λ (l : Line). (c.self.inside.reference, l)) (lost_line c.in-Some.session line c.shows_loss.result (map shown_by c.forget.new.waiting.items) c.in-Some.is
-    (c.shows_loss.ensures ∙ ap shows_loss c.phase-phase.ensures.value)
-    (c.forget.ensures.waiting ∙ ap (λ (l : _). map shown_by l ++ (if c.shows_loss.result then Lost ∷ [] else [])) c.in_default-hear.ensures.kept)))
+pub returns-in-Ok-clause-ok : goal.returns-in-Ok-clause-ok
+returns-in-Ok-clause-ok c =
+    let here = ap (λ (r : ℕ × Line). r.1.session) (sym c.self.view_is) ∙ c.in-Some.is in
+    heard_line c.show.result c.args.self.now c.show.new.self c.in-Some.session (told_input c.args.told) (shown_by c.in-Ok.shown) here c.in-Ok.ensures.shows c.show.ensures.ok
+
+pub returns-in-Ok-clause-carrier : goal.returns-in-Ok-clause-carrier
+returns-in-Ok-clause-carrier c =
+    let here = ap (λ (r : ℕ × Line). r.1.session) (sym c.self.view_is) ∙ c.in-Some.is in
+    heard_carrier c.show.result c.args.self.now c.in-Some.session (told_input c.args.told) (shown_by c.in-Ok.shown) c.args.carrier.now here c.in-Ok.ensures.shows
+
+pub returns-in-Ok-clause-needed : goal.returns-in-Ok-clause-needed
+returns-in-Ok-clause-needed c =
+    let here = ap (λ (r : ℕ × Line). r.1.session) (sym c.self.view_is) ∙ c.in-Some.is in
+    heard_needs c.show.result c.args.self.now c.in-Some.session (told_input c.args.told) (shown_by c.in-Ok.shown) c.args.carrier.now.state here c.in-Ok.ensures.shows
