@@ -1,10 +1,10 @@
 -- What a lister has written is the listing so far of what it was fed.
-use Rattle.std.proofs.Common.{◌≡◌, ◌∙◌, ℕ, ◌+◌, ◌-◌, ◌<◌, ◌^◌, ◌==◌, Bool, if◌then◌else◌, ◌||◌, List, [], ◌∷◌, ◌++◌, length, refl, sym, ap, subst, arith, Option, Some, None, Result, Ok, Err, OnOk, IfOk}
+use Rattle.std.proofs.Common.{◌≡◌, ◌∙◌, ℕ, ◌+◌, ◌-◌, ◌<◌, ◌^◌, ◌==◌, Bool, if◌then◌else◌, List, [], ◌∷◌, ◌++◌, length, refl, sym, ap, subst, arith, Option, Some, None, Result, Ok, Err, OnOk}
 use Rattle.std.specs.List.{flat_map, list_any}
 use Rattle.std.proofs.lemmas.List.{append_assoc, append-nil, length-append}
 use Rattle.osi_tpkt.specs.Held.{Held, fresh}
-use Rattle.osi_tpkt.specs.Packet.{IsPartial, IsFaultOf, IsBadVersion, IsBadLength}
-use Rattle.osi_tpkt.specs.Stream.{ArePackets, EndsAt, Ending, offset_of}
+use Rattle.osi_tpkt.specs.Packet.{IsPartial, IsFaultOf}
+use Rattle.osi_tpkt.specs.Stream.{EndsAt, offset_of}
 use Rattle.osi_tpkt.specs.Stream.Ending.{Faulty, Rest}
 use Rattle.osi_tpkt.specs.declared.faults.TpktFault.{TpktFault}
 use Rattle.osi_tpkt.specs.declared.faults.TpktFault.TheVariants.{BadVersion, BadLength, OutOfMemory}
@@ -15,16 +15,16 @@ use Rattle.osi_listing.specs.declared.pieces.Stage.{Stage}
 use Rattle.osi_listing.specs.declared.pieces.Stage.TheVariants as stage
 use Rattle.osi_listing.specs.declared.streams.Streams.{Streams}
 use Rattle.osi_listing.specs.declared.work.Work.{Work}
-use Rattle.osi_listing.specs.Counting.{capped, none, counts_of, counted, one_more}
+use Rattle.osi_listing.specs.Counting.{capped, none, counts_of, one_more}
 use Rattle.osi_listing.specs.Lines.{fault_line, rest_line}
-use Rattle.osi_listing.specs.Listing.{Entry, line_of, is_refused, all_parts, packet_entries, ending_entry, IsListing}
+use Rattle.osi_listing.specs.Listing.{Entry, line_of, is_refused, packet_entries, ending_entry, IsListing}
 use Rattle.osi_listing.specs.Listing.Entry.{PacketFault, Left}
 use Rattle.osi_listing.specs.Says.{Says, Holds}
 use Rattle.osi_listing.specs.SoFar.{IsListedSoFar, entries_so_far}
-use Rattle.osi_listing.specs.Fed.{Listed, Moves, IsGoing, Leaves, Goes, StandsAt, IsFed, Feeds}
+use Rattle.osi_listing.specs.Fed.{Listed, IsGoing, Leaves, Goes, StandsAt, Feeds}
 use Rattle.osi_listing.proofs.Counted.{counted_is, status_of, refused_left}
 use Rattle.osi_listing.proofs.Listings.{says_none, says_both, says_one}
-use Rattle.osi_listing.proofs.Packets.{packets_total, packets_longer}
+use Rattle.osi_listing.proofs.Packets.{packets_longer}
 
 -- nothing has come
 pub nothing_fed : (work : Work) → work.cutter ≡ fresh → Holds work.streams [] → work.counts ≡ none → work.offset ≡ 0 → StandsAt stage.Going work [] []

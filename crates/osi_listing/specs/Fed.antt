@@ -1,5 +1,5 @@
 -- What a lister stands for, and what each of its calls does.
-use Rattle.std.specs.Prelude.{◌≡◌, ◌≢◌, ℕ, ◌-◌, ◌<◌, ◌≤◌, ◌^◌, List, [], ◌∷◌, ◌++◌, length, drop, Option, Some, None}
+use Rattle.std.specs.Prelude.{◌≡◌, ◌≢◌, ℕ, ◌-◌, ◌<◌, ◌^◌, List, [], ◌∷◌, ◌++◌, length, drop, Option, Some, None}
 use Rattle.osi_tpkt.specs.Held.{Held}
 use Rattle.osi_tpkt.specs.Packet.{IsPacket, IsPartial, IsFaultOf}
 use Rattle.osi_tpkt.specs.Stream.{ArePackets, offset_of}

@@ -1,5 +1,3 @@
-use Rattle.std.proofs.Common.{List, ℕ}
-use Rattle.osi_listing.specs.Fed.{Goes}
 use Rattle.osi_listing.proofs.Standing.{on_none, on_fault}
 use Rattle.osi_listing.proofs.pieces.Lister.list_on.Goals as goal
 

@@ -1,4 +1,4 @@
-use Rattle.std.proofs.Common.{◌≡◌, ◌++◌, ℕ, List, ◌∷◌, sym, subst}
+use Rattle.std.proofs.Common.{◌++◌, ℕ, List, sym, subst}
 use Rattle.osi_tpkt.specs.Packet.{IsPartial, IsFaultOf}
 use Rattle.osi_tpkt.proofs.Fronts.{empty_partial}
 use Rattle.osi_listing.proofs.Packets.{held_rest, fault_left}

@@ -1,4 +1,4 @@
-use Rattle.std.proofs.Common.{◌++◌, List, ℕ, sym, subst, drop}
+use Rattle.std.proofs.Common.{◌++◌, List, ℕ, sym, subst}
 use Rattle.osi_listing.specs.Fed.{Moves}
 use Rattle.osi_listing.proofs.Packets.{only_held, then_holds}
 use Rattle.osi_listing.proofs.work.Work.list_piece.Goals as goal
