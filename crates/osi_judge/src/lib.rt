@@ -2,11 +2,19 @@
 //! on, without a key, a clock or an end of its own.
 #![tactic(auto)]
 
+mod directions;
 mod findings;
+mod judge;
+mod lines;
 mod members;
 mod sides;
+mod steps;
+mod stops;
 mod telling;
 mod walks;
 
+pub use directions::Direction;
 pub use findings::Finding;
-pub use sides::Side;
+pub use judge::{Judge, Reading, Stopped};
+pub use sides::{Side, TellError};
+pub use stops::Stop;
