@@ -2,3 +2,9 @@ pub mod MemberLaws
 pub mod WalkLaws
 pub mod TellingLaws
 pub mod SideLaws
+pub mod CaptureLaws
+pub mod CountLaws
+pub mod UnitLaws
+pub mod FollowLaws
+pub mod JudgeLaws
+pub mod LineLaws

@@ -1,9 +1,15 @@
 -- What octets of a side do to what is kept of it.
-use Rattle.std.specs.Prelude.{◌≡◌, ◌≤◌, ◌<◌, ℕ, ◌+◌, List, [], ◌∷◌, ◌++◌, length, take, Option, Some, None}
+use Rattle.std.specs.Prelude.{◌≡◌, ◌≤◌, ◌<◌, ℕ, ◌+◌, List, [], ◌∷◌, ◌++◌, length, take, Bool, true, false, ◌||◌, Option, Some, None}
 use Rattle.osi_tpkt.specs.Packet.{IsPacket, IsPartial, IsFaultOf, stated_length}
 use Rattle.osi_tpkt.specs.Stream.{offset_of}
 use Rattle.osi_tpkt.specs.declared.faults.TpktFault.{TpktFault}
+use Rattle.osi_tpkt.specs.declared.faults.TpktFault.TheVariants.{BadVersion, BadLength, OutOfMemory}
 use Rattle.osi_judge.specs.declared.directions.Direction.{Direction}
+use Rattle.osi_judge.specs.declared.findings.Finding.{Finding}
+use Rattle.osi_judge.specs.declared.findings.Finding.TheVariants.{Broke}
+use Rattle.osi_judge.specs.declared.stops.Stop.TheVariants.{BadPacket}
+use Rattle.osi_judge.specs.declared.stops.Stopped.{Stopped as StoppedAt}
+use Rattle.osi_judge.specs.Stops.{breaks}
 use Rattle.osi_judge.specs.declared.lines.Progress.{Progress}
 use Rattle.osi_judge.specs.declared.lines.Progress.TheVariants.{Opening, Between, Within, Stopped}
 use Rattle.osi_judge.specs.declared.lines.Line.{Line}
@@ -50,7 +56,7 @@ since_at stage begun_since since = since
 pub record Tells (tsdu : List ℕ) (before : ℕ) (old new : Watched) : Type 0 where
   pub begin : new.begin ≡ old.begin
   pub heard : new.heard ≡ old.heard
-  pub before : new.before ≤ before
+  pub no_later : new.before ≤ before
   pub watches : (told : List Told) → Watches old told → Watches new (told ++ record { octets = tsdu; before = before } ∷ [])
 
 abbrev pub hears : Watched → List ℕ → Watched
@@ -75,7 +81,7 @@ pub record TakesPacket (d : Direction) (unit : List ℕ) (since : ℕ) (old new 
   pub held : new.held ≡ []
   pub fault : new.fault ≡ old.fault
   pub at : new.line.at ≡ offset_of (old.line.at + length old.held)
-  pub since : new.line.since ≡ since
+  pub counted : new.line.since ≡ since
   pub stage : new.line.stage ≡ stage_behind d old.line.stage old.line.at unit
   pub begun_since : new.line.begun_since ≡ since_at old.line.stage old.line.begun_since since
   pub passes : Passes (sent_by d old.line.stage old.line.at unit) (since_at old.line.stage old.line.begun_since since) old.side new.side other new_other
@@ -113,3 +119,29 @@ pub data Feeds (d : Direction) (octets : List ℕ) (old new : Tapped) (other new
   ignored : (f : TpktFault) → old.fault ≡ Some f → new ≡ old → new_other ≡ other → Feeds d octets old new other new_other
   -- they belong to the packet under way
   looked_at : old.fault ≡ None → IsWithin old.held (length octets) → Settles d (since_of old) (with_octets old octets) new other new_other → Feeds d octets old new other new_other
+
+-- ---- where it is looked at no further
+
+abbrev pub placed : ℕ → TpktFault → TpktFault
+placed at (BadVersion offset) = BadVersion at
+placed at (BadLength offset) = BadLength at
+placed at OutOfMemory = OutOfMemory
+
+abbrev pub stopped_packet : Option TpktFault → ℕ → Option StoppedAt
+stopped_packet None offset = None
+stopped_packet (Some fault) offset = Some (record { stop = BadPacket (placed offset fault); offset = offset })
+
+abbrev pub stopped_by : Stage → Option TpktFault → ℕ → Option StoppedAt
+stopped_by (stopped stop at) fault offset = Some (record { stop = stop; offset = at })
+stopped_by stage fault offset = stopped_packet fault offset
+
+abbrev pub stopped_of : Tapped → Option StoppedAt
+stopped_of t = stopped_by t.line.stage t.fault t.line.at
+
+-- by its session, or by its transport
+abbrev pub broke_session : Finding → Bool
+broke_session (Broke i) = true
+broke_session finding = false
+
+abbrev pub has_broken : Tapped → Bool
+has_broken t = broke_session t.side.finding || breaks (stopped_of t)

@@ -1,4 +1,5 @@
 pub mod Captures
+pub mod Stops
 pub mod Transport
 pub mod Explaining
 pub mod Members
@@ -7,3 +8,4 @@ pub mod Judging
 pub mod Sides
 pub mod Tapping
 pub mod Feeding
+pub mod Following

@@ -5,6 +5,7 @@
 mod directions;
 mod findings;
 mod judge;
+pub mod laws;
 mod lines;
 mod members;
 mod sides;
@@ -15,6 +16,6 @@ mod walks;
 
 pub use directions::Direction;
 pub use findings::Finding;
-pub use judge::{Judge, Reading, Stopped};
+pub use judge::{Judge, Reading};
 pub use sides::{Side, TellError};
-pub use stops::Stop;
+pub use stops::{Stop, Stopped};
