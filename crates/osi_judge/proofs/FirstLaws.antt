@@ -5,11 +5,11 @@ use Rattle.osi_judge.specs.declared.directions.Direction.{Direction}
 use Rattle.osi_judge.specs.declared.directions.Direction.TheVariants.{Left, Right}
 use Rattle.osi_judge.specs.declared.findings.Finding.{Finding}
 use Rattle.osi_judge.specs.declared.findings.Finding.TheVariants.{Kept}
-use Rattle.osi_judge.specs.Captures.{Capture, other, piece}
+use Rattle.osi_judge.specs.Captures.{Capture, other}
 use Rattle.osi_judge.specs.Judging.{Watched}
 use Rattle.osi_judge.specs.Stops.{breaks, broke_session}
 use Rattle.osi_judge.specs.Transport.{Sent}
-use Rattle.osi_judge.specs.Tapping.{StandsIn, FirstBreak, IsFirstIn}
+use Rattle.osi_judge.specs.Tapping.{StandsIn, IsFirstIn}
 use Rattle.osi_judge.specs.Feeding.{Tapped, Passes, Settles, goes_on, faulty, whole, Feeds, ignored, looked_at, stopped_of, has_broken}
 use Rattle.osi_judge.specs.Following.{Judged, half_of, Taps, first_after, BrokeFirst, FirstIs}
 use Rattle.osi_judge.proofs.JudgeLaws.{fresh_half, is_found, is_stopped}

@@ -1,6 +1,6 @@
 -- What is known of both sides of a capture stays known as octets pass: for what a judge is fed.
-use Rattle.std.proofs.Common.{◌≡◌, ◌∙◌, refl, sym, ap, subst, ℕ, suc, zero, ◌+◌, ◌-◌, ◌<◌, ◌≤◌, ◌⊎◌, inl, inr, min, leb, true, false, List, [], ◌∷◌, ◌++◌, length, map, take, drop, Option, Some, None, arith}
-use Rattle.std.proofs.lemmas.List.{append-nil, append_assoc, length-append, map-append, length-take-le, take-append-drop}
+use Rattle.std.proofs.Common.{◌≡◌, ◌∙◌, refl, sym, ap, subst, ℕ, suc, zero, ◌+◌, ◌-◌, ◌<◌, ◌≤◌, ◌⊎◌, inl, inr, min, leb, true, false, List, [], ◌∷◌, ◌++◌, length, take, drop, Option, Some, None, arith}
+use Rattle.std.proofs.lemmas.List.{append-nil, length-append, map-append, length-take-le, take-append-drop}
 use Rattle.std.proofs.lemmas.Bool.Decides.{leb_tells}
 use Rattle.osi_tpkt.specs.Packet.{IsPacket, IsPartial, IsBadVersion, IsBadLength, IsFaultOf, stated_length}
 use Rattle.osi_tpkt.specs.Stream.{ArePackets, offset_of}
@@ -13,13 +13,13 @@ use Rattle.osi_judge.specs.declared.directions.Direction.TheVariants.{Left, Righ
 use Rattle.osi_judge.specs.Captures.{Capture, other, piece, stream}
 use Rattle.osi_judge.specs.Explaining.{Told}
 use Rattle.osi_judge.specs.Judging.{Watched, Watches}
-use Rattle.osi_judge.specs.Transport.{Stage, opening, between, within, stopped, first_of, stage_behind, Sent, packet_length, sent_by, stage_from, sent_from}
+use Rattle.osi_judge.specs.Transport.{Stage, opening, between, within, stopped, first_of, stage_behind, Sent, packet_length, sent_by, stage_from}
 use Rattle.osi_judge.specs.Tapping.{begin_of, had_passed, octets_of, heard, tell, told}
-use Rattle.osi_judge.specs.Feeding.{Lined, Tapped, since_at, Tells, hears, Passes, TakesPacket, Settles, goes_on, faulty, whole, since_in, since_of, IsWithin, with_octets, Feeds, ignored, looked_at}
+use Rattle.osi_judge.specs.Feeding.{Tapped, since_at, Tells, hears, Passes, TakesPacket, Settles, goes_on, faulty, whole, since_in, since_of, IsWithin, with_octets, Feeds, ignored, looked_at}
 use Rattle.osi_judge.specs.Following.{shown, IsRest, BeginBefore, EndBy, IsSince, Follows, Judged, Taps}
 use Rattle.osi_judge.proofs.CaptureLaws.{stream_fed, stream_beside}
 use Rattle.osi_judge.proofs.CountLaws.{stays_passed, not_yet_passed, all_had_passed, told_stays, told_beside, begin_later, end_later, begin_more, end_more}
-use Rattle.osi_judge.proofs.UnitLaws.{packets_on, packet_on, offset_from, packet_octets, offset_of_rest, stage_more, sent_more, shown_behind, heard_shown, since_shown, IsEnded, OneOrNone, sent_one, since_behind}
+use Rattle.osi_judge.proofs.UnitLaws.{packets_on, packet_on, offset_from, packet_octets, offset_of_rest, stage_more, sent_more, shown_behind, heard_shown, since_shown, OneOrNone, sent_one, since_behind}
 use Rattle.osi_judge.proofs.SideLaws as side
 
 -- ---- positions

@@ -1,19 +1,17 @@
 -- What is known of a judge, and what is found of a capture.
-use Rattle.std.proofs.Common.{◌≡◌, ◌∙◌, refl, sym, ap, subst, ℕ, ◌-◌, ◌+◌, ◌≤◌, ◌<◌, List, [], ◌++◌, ◌∷◌, length, Option, Some, None, arith}
-use Rattle.osi_tpkt.specs.Packet.{IsPartial, IsFaultOf}
-use Rattle.osi_tpkt.specs.Stream.{ArePackets, Cuts, Ending, EndsAt, offset_of}
+use Rattle.std.proofs.Common.{◌≡◌, ◌∙◌, refl, sym, ap, subst, ℕ, ◌-◌, ◌+◌, List, [], length, Option, Some, None, arith}
+use Rattle.osi_tpkt.specs.Packet.{IsFaultOf}
+use Rattle.osi_tpkt.specs.Stream.{Ending, EndsAt, offset_of}
 use Rattle.osi_tpkt.specs.Stream.Ending.{Faulty, Rest}
 use Rattle.osi_tpkt.specs.declared.faults.TpktFault.{TpktFault}
 use Rattle.osi_tpkt.specs.declared.faults.TpktFault.TheVariants.{BadVersion, BadLength, OutOfMemory}
 use Rattle.osi_tpkt.proofs.Fronts.{empty_partial}
 use Rattle.osi_judge.specs.declared.directions.Direction.{Direction}
 use Rattle.osi_judge.specs.declared.directions.Direction.TheVariants.{Left, Right}
-use Rattle.osi_judge.specs.declared.findings.Finding.{Finding}
 use Rattle.osi_session.specs.Standing.{Seen}
-use Rattle.osi_judge.specs.Captures.{Capture, other, piece, stream}
-use Rattle.osi_judge.specs.Explaining.{Told}
+use Rattle.osi_judge.specs.Captures.{Capture, other, stream}
 use Rattle.osi_judge.specs.Judging.{Watched, Watches, IsFound}
-use Rattle.osi_judge.specs.Transport.{Stage, opening, between, within, stopped, Sent, stage_from, sent_from, IsSent}
+use Rattle.osi_judge.specs.Transport.{Stage, opening, between, within, stopped, Sent, stage_from, IsSent}
 use Rattle.osi_judge.specs.Tapping.{begin_of, heard, told, IsFoundIn, stop_in, IsStoppedIn}
 use Rattle.osi_judge.specs.Feeding.{Tapped, stopped_by, stopped_of}
 use Rattle.osi_judge.specs.Following.{shown, IsRest, Follows, Judged, half_of, Taps}

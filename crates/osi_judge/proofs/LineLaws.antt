@@ -1,5 +1,5 @@
 -- What a line of a capture keeps, as packets and TSDUs pass: for what a judge is fed.
-use Rattle.std.proofs.Common.{◌≡◌, ◌∙◌, refl, sym, ap, subst, ℕ, suc, zero, ◌+◌, ◌<◌, ◌≤◌, min, Bool, true, false, List, [], ◌∷◌, ◌++◌, length, take, Option, Some, None, arith}
+use Rattle.std.proofs.Common.{◌≡◌, ◌∙◌, refl, sym, ap, subst, ℕ, suc, zero, ◌+◌, ◌<◌, ◌≤◌, min, List, [], ◌∷◌, ◌++◌, length, take, Option, Some, None, arith}
 use Rattle.std.proofs.lemmas.List.{length-take-le}
 use Rattle.osi_tpkt.specs.Packet.{IsPacket, stated_length}
 use Rattle.osi_tpkt.specs.Stream.{offset_of}
@@ -10,7 +10,7 @@ use Rattle.osi_judge.specs.declared.stops.Stop.{Stop}
 use Rattle.osi_judge.specs.declared.lines.Progress.{Progress}
 use Rattle.osi_judge.specs.declared.lines.Progress.TheVariants.{Opening, Between, Within, Stopped}
 use Rattle.osi_judge.specs.Judging.{Watched}
-use Rattle.osi_judge.specs.Transport.{Move, adds, step_of, Stage, opening, between, within, stopped, is_open, moved, stage_behind, Sent, brought, sent_by}
+use Rattle.osi_judge.specs.Transport.{Move, step_of, opening, between, within, is_open, moved, stage_behind, Sent, brought, sent_by}
 use Rattle.osi_judge.specs.Feeding.{stage_in, Lined, Tapped, since_at, hears, Passes, TakesUnit, Settles, whole, since_of, IsWithin, with_octets, Feeds, looked_at}
 
 -- ---- a TSDU that is heard no more

@@ -1,15 +1,14 @@
 -- A side of which one packet more passes: how it stands, and the TSDU that the packet ends.
-use Rattle.std.proofs.Common.{◌≡◌, ◌∙◌, refl, sym, ap, subst, ℕ, suc, zero, ◌+◌, ◌-◌, ◌<◌, ◌≤◌, ◌⊎◌, inl, inr, Bool, true, false, if◌then◌else◌, List, [], ◌∷◌, ◌++◌, length, map, arith}
+use Rattle.std.proofs.Common.{◌≡◌, ◌∙◌, refl, sym, ap, ℕ, ◌+◌, ◌<◌, ◌⊎◌, inl, inr, Bool, true, false, if◌then◌else◌, List, [], ◌∷◌, ◌++◌, length, arith}
 use Rattle.std.proofs.lemmas.List.{append-nil, append_assoc, length-append}
 use Rattle.osi_tpkt.specs.Packet.{IsPacket}
 use Rattle.osi_tpkt.specs.Stream.{ArePackets, offset_of}
 use Rattle.osi_tpdu.specs.Packet.{units_of}
 use Rattle.osi_judge.specs.declared.directions.Direction.{Direction}
-use Rattle.osi_judge.specs.declared.stops.Stop.{Stop}
 use Rattle.osi_judge.specs.declared.stops.Stop.TheVariants.{TsduTooLong}
 use Rattle.osi_judge.specs.Captures.{Capture, stream}
-use Rattle.osi_judge.specs.Transport.{Move, opens, adds, stops, step_of, Stage, opening, between, within, stopped, is_open, begun, first_of, is_too_long, added, moved, stage_behind, Sent, packet_length, ended, brought, sent_by, stage_from, sent_from}
-use Rattle.osi_judge.specs.Tapping.{had_passed, octets_of, heard}
+use Rattle.osi_judge.specs.Transport.{Move, opens, adds, stops, step_of, Stage, opening, between, within, stopped, begun, first_of, is_too_long, added, moved, stage_behind, Sent, packet_length, ended, brought, sent_by, stage_from, sent_from}
+use Rattle.osi_judge.specs.Tapping.{had_passed, heard}
 use Rattle.osi_judge.specs.Feeding.{since_at}
 use Rattle.osi_judge.specs.Following.{shown, IsSince}
 

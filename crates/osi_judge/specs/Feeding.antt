@@ -1,5 +1,5 @@
 -- What octets of a side do to what is kept of it.
-use Rattle.std.specs.Prelude.{◌≡◌, ◌≤◌, ◌<◌, ℕ, ◌+◌, List, [], ◌∷◌, ◌++◌, length, take, Bool, true, false, ◌||◌, Option, Some, None}
+use Rattle.std.specs.Prelude.{◌≡◌, ◌≤◌, ◌<◌, ℕ, ◌+◌, List, [], ◌∷◌, ◌++◌, length, take, Bool, ◌||◌, Option, Some, None}
 use Rattle.osi_tpkt.specs.Packet.{IsPacket, IsPartial, IsFaultOf, stated_length}
 use Rattle.osi_tpkt.specs.Stream.{offset_of}
 use Rattle.osi_tpkt.specs.declared.faults.TpktFault.{TpktFault}

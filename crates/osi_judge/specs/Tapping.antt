@@ -1,5 +1,5 @@
 -- What is judged of a capture: each side by its TSDUs, and by those of the other that had passed before them.
-use Rattle.std.specs.Prelude.{◌≡◌, ◌≤◌, ℕ, List, [], ◌∷◌, ◌++◌, length, map, filter, nat_le, Bool, true, false, ◌||◌, Option, Some, None}
+use Rattle.std.specs.Prelude.{◌≡◌, ℕ, List, ◌++◌, length, map, filter, nat_le, Bool, true, false, ◌||◌, Option, Some, None}
 use Rattle.osi_session.specs.Standing.{Seen, seen_calling, seen_called}
 use Rattle.osi_judge.specs.declared.directions.Direction.{Direction}
 use Rattle.osi_judge.specs.declared.directions.Direction.TheVariants.{Left, Right}

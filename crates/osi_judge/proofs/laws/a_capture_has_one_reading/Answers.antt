@@ -1,4 +1,4 @@
-use Rattle.std.proofs.Common.{◌≡◌, ◌∙◌, sym, ap, List, ℕ}
+use Rattle.std.proofs.Common.{◌∙◌, sym, ap, List, ℕ}
 use Rattle.std.proofs.lemmas.List.{map-append}
 use Rattle.osi_tpkt.proofs.Streams.{one_cut}
 use Rattle.osi_judge.specs.Captures.{of, stream}

@@ -1,4 +1,4 @@
-use Rattle.std.proofs.Common.{◌≡◌, ◌∙◌, ◌+◌, ◌<◌, ◌≤◌, refl, ap, subst, List, ℕ, take, length}
+use Rattle.std.proofs.Common.{◌∙◌, ◌+◌, ◌<◌, ◌≤◌, refl, ap, subst, List, ℕ, take, length}
 use Rattle.osi_tpkt.specs.Packet.{stated_length}
 use Rattle.osi_judge.specs.Sides.{watched}
 use Rattle.osi_judge.specs.Feeding.{tapped, ignored, since_in}

@@ -1,4 +1,3 @@
-use Rattle.std.proofs.Common.{◌∙◌, sym, ap}
 use Rattle.osi_judge.specs.Sides.{watched}
 use Rattle.osi_judge.proofs.LineLaws.{unheard}
 use Rattle.osi_judge.proofs.lines.pass.Goals as goal
