@@ -11,7 +11,7 @@
 //! - `links`: credit, numbers that wrap around, the longest TSDU;
 //! - `carriers`: an end of neither class, all references, sending if nothing is open;
 //! - `sessions`: plans, the greatest lengths of user data, a first part that is too long;
-//! - `sides`: which side first broke the protocol;
+//! - `sides`, `captures`: which side first broke the protocol;
 //! - `stacks`: a selector that is too long, a called end that asks for a connection, two connections distinguished by
 //!   the address they ask for, one of which is given up;
 //! - `listings`: TSDUs of 1,048,576 octets and more.
@@ -19,6 +19,8 @@
 //! A public function that allocates is called here, or in a file of `osi_runs`.
 #![tactic(auto)]
 
+#[cfg(test)]
+mod captures;
 #[cfg(test)]
 mod carriers;
 #[cfg(test)]

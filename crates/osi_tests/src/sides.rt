@@ -240,11 +240,10 @@ const RUNS: &[Run] = &[
 
 /// A side sends a TSDU, when all but this many of those sent to it had arrived.
 fn says(side: &mut Side, missed: usize, tsdu: &[u8]) -> Result<(), Fail> {
-    let heard = side.heard();
-    if heard < missed || heard - missed < side.before() {
+    let Some(before) = side.heard().checked_sub(missed) else {
         return Err(Fail::from("a TSDU passes too early"));
-    }
-    side.tell(tsdu, heard - missed)?;
+    };
+    side.tell(tsdu, before)?;
     Ok(())
 }
 
