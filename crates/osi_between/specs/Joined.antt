@@ -109,8 +109,8 @@ pub record OthersStay (n : ℕ) (this other next : State) (going coming behind r
   pub back : (q : ℕ) → q ≢ n → under_way_for q other this coming ≡ under_way_for q other next rest
   pub places : (q : ℕ) → q ≢ n → place_at q next ≡ place_at q this
 
--- `going` are the units in flight from it and `coming` those to it; then `behind` and `rest`. It gave a reference for
--- each connection that it requested or accepted, and agreed the class.
+-- Before, `going` are the units in flight from it and `coming` those to it; after, `behind` and `rest`. It assigned a
+-- reference to each connection that it requested or accepted, and agreed the class.
 pub record ActsFor (n : ℕ) (this other next : State) (going coming behind rest : List Value) (put : List Message) : Type 0 where
   pub takes : TakenFor n this other next coming rest put
   pub writes : WrittenFor n this other next going behind put

@@ -34,7 +34,7 @@ some_belongs proper held octets zero true partial some h = absurd (proper held p
 some_belongs proper held octets (suc n) true partial some h = omega arith
 some_belongs proper held octets used false partial some h = let all = h.1 in omega arith
 
--- it does not lie whole in them
+-- if the octets hold no complete packet, the piece is not complete
 parted_belongs : (octets : List ℕ) (used : ℕ) (whole : Bool) → IsNoFront octets →
     MatchBool whole (IsOnePacket (take used octets)) (IsPartial (take used octets) × (used ≡ length octets)) → whole ≡ false
 parted_belongs octets used true apart h = absurd (apart h.0 (take used octets) (drop used octets) h.1 (sym (take-append-drop used octets)))

@@ -156,7 +156,7 @@ closed_names : (r reason : ℕ) (link : Option (ℕ × Standing)) (s : State) �
 closed_names r reason None s = stays refl refl
 closed_names r reason (Some (peer, link)) s = closes_names r peer reason s.class s
 
--- ---- what that says
+-- ---- references stay named
 
 pub named : (s t : State) → Naming s t → AreNamed s → AreNamed t
 named s t h h_ = grind (arith, drop_named, join_named)

@@ -1,4 +1,4 @@
--- The events that a carrier reports, wherever the octets of a TSDU lie.
+-- The events that a carrier reports, independent of how the octets of a TSDU are stored.
 use Rattle.std.specs.Prelude.{ℕ, List}
 use Rattle.osi_class.specs.declared.faults.LinkFault.{LinkFault}
 use Rattle.osi_carrier.specs.declared.events.Event.{Event}

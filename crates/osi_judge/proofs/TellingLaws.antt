@@ -61,7 +61,7 @@ last_so_far us later m members next i l s = (λ h. there (subst (λ (y : List Me
 
 -- ---- units
 
--- what a TSDU says further, with these words
+-- the remarks of a TSDU with these words, followed by `later`
 abbrev pub further : ℕ → ℕ → Words → List Remark → List Remark
 further octets before ws later = map (remarked octets before) ws ++ later
 

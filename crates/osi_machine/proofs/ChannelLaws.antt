@@ -42,7 +42,7 @@ due_heard s (u ∷ us) h f =
     let more = due_heard (next s u) us (subst (λ (r : State). is_restart_due r.phase ≡ true) (sym e) h) f.1 ∙ e in
     rw (due_stops s u h f.0) more
 
--- ---- if no restart takes effect, all is heard
+-- ---- if no restart takes effect, everything is received
 
 no_stop : (s : State) (u : Meaning) (us : List Meaning) → AllFit s (u ∷ us) → is_restart_due (flush s (u ∷ us)).phase ≡ false → stops s u ≡ false
 no_stop s u us f n = search (arith, restart_due, due_end)

@@ -82,7 +82,7 @@ stood s n w e = ap (λ (b : Bool). if b then record (without_tokens RestartDue s
 pub yielded_view : (s : State) (k : ResyncType) (n : ℕ) (w : TokenSetting) (o : List ℕ) (v : List Item) → stands s n ≡ false → view_next s (RS k n w o) v ≡ v
 yielded_view s k n w o v e = grind arith
 
--- what its taker has heard before it
+-- what its receiver has taken before the restart
 pub heard_restart : (s : State) (us : List Meaning) (k : ResyncType) (n : ℕ) (w : TokenSetting) (o : List ℕ) → AllFit s us → is_restart_due (flush s us).phase ≡ false
     → heard s (us ++ RS k n w o ∷ []) ≡ flush s us
 heard_restart s us k n w o f due = search (arith, heard_append, restart_next, yielded)

@@ -1,5 +1,5 @@
--- What a side will have seen when it has heard everything before a restart that takes effect, and what is confirmed
--- then.
+-- What a side will have received when it has taken everything before a restart that takes effect, and what is then
+-- confirmed.
 use Rattle.std.proofs.Common.{◌≡◌, refl, sym, ◌∙◌, ap, subst, ℕ, ◌+◌, ◌≤◌, true, false, List, [], ◌∷◌, ◌++◌, append_assoc, arith}
 use Rattle.osi_machine.proofs.Vocabulary.{append-nil, State, Meaning, DT, MIP, MAP, RS, point_taken, minor_confirmed, major_confirmed, becomes, drops, Good, next, Item, Octets, Point, minor_kind, major_point, points, Begins, seen, is_plain, Fits, AllFit, stops, heard, hears, view_next, heard_view, Party, is_opening, IsConsistent}
 use Rattle.osi_machine.proofs.Records.{hearing, Views}
@@ -57,7 +57,7 @@ heard_grown a s (u ∷ us) h f = by_test (stops s u)
 
 -- ---- a listener
 
--- V(M) of a side that listens counts the history, when it has heard all
+-- V(M) of a side that has received everything counts the points of the history
 pub listener_count : (h : List Item) (x y : Party) → IsConsistent x → AllFit x.session y.sent → Views h x y → hears (hearing x y).phase ≡ true
     → (hearing x y).numbers.next ≡ (hearing x y).base + points h
 listener_count h x y c f v l = search (arith, heard_counted)

@@ -294,7 +294,7 @@ not_2 terms h = grind arith
 not_denied : (terms : Terms) (class : Class) → by_terms terms (Some class) ≡ true → is_denial terms ≡ true → ⊥
 not_denied terms class h d = grind arith
 
--- m is the machine with what the taker was shown, v what is left of the connection
+-- `m` is the machine after the receiver's indications are recorded, `v` the connection after them
 over_calm : (m : Machine) (side : Side) (r : ℕ) (keep : ℕ → ℕ) (w v : World) → connection_at r m.worlds ≡ Some w → is_some (end_of side m) ≡ false → m.known ≡ Some class_0
     → (IsDead w → ⊥) → shows_loss v.own.kept.phase ≡ false → IsCalm m → IsCalm (after_end side closed_here keep (stays m side r v))
 over_calm m side r keep w v e i known n q c =

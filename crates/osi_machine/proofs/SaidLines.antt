@@ -15,7 +15,7 @@ pub lost_ends : (s : Standing) → is_ended (after_input s broken_off).state.pha
 unfolding react
 lost_ends s = refl
 
--- what a side has said and heard
+-- what a side has sent and received
 pub record Words : Type 0 where
   pub said : List Meaning
   pub heard : List Meaning

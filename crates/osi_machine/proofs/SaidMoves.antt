@@ -82,7 +82,7 @@ goes_told : (b : Bool) (l : Line) (own' : Seat) (x y : Words) → is_parting own
     → units_in own'.channel ≡ units_in l.own.channel → Told b l x y → Told b (record l { own = own' }) x y
 goes_told b l own' x y p e o u h = search (arith, parts_told, same_units)
 
--- a side whose transport connection is there, or comes, says a unit or none, while the other's is there too or closes
+-- a side that has a transport connection, or gets one, sends one unit or none; the other side has one too, or is closing
 says_told : (b : Bool) (l : Line) (s : Standing) (r : Option Meaning) (x y : Words) → is_parting l.own.transport ≡ false → is_early l.peer.transport ≡ false → Told b l x y
     → Told b (record l { own = record { transport = linked; session = s; channel = put b (replied r) l.own.channel } }) (says_more x (one_or_none r)) y
 says_told b l s r x y p e h = search (arith, opened_fits, past, begins_more, reply_said)
@@ -167,7 +167,7 @@ popped : (b : Bool) (l : Line) (m : Message) (xs : List Message) (x y : Words) �
     → Told b (without_first l xs) x y
 popped b l m xs x y e n h = grind (arith, rest_fits, same_units)
 
--- it is a unit, and is heard
+-- the message is a unit, and is received
 heard_first : (b : Bool) (l : Line) (u : Meaning) (xs : List Message) (x y : Words) → l.peer.channel ≡ unit u ∷ xs → is_parting l.own.transport ≡ false → Told b l x y
     → Told b (without_first l xs) (hears_more x (u ∷ [])) y
 heard_first b l u xs x y e p h =

@@ -112,7 +112,7 @@ refused_tabled broken w a b c r s = search (arith, refused_call)
 
 -- ---- a unit is taken
 
--- what a TSDU says that has one unit
+-- the message of a TSDU that has one unit
 abbrev pub SaysItsUnit : Type 0
 SaysItsUnit = (s : State) (u : Meaning) → respond s (said_of u) ≡ respond_unit s u
 

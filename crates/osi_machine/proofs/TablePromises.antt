@@ -144,7 +144,7 @@ sides_of_runs laws says P all t h =
     (subst (λ (x : Tables). Follows x (run (start h.agreed) h.steps)) h.reached (all_follow laws says h.agreed h.steps h.numbered))
     (all (run (start h.agreed) h.steps) (record { agreed = h.agreed; steps = h.steps; numbered = h.numbered; reached = refl }))
 
--- ---- what the whole journal says
+-- ---- the whole journal
 
 pub table_faultless : SessionLaws → SaysItsUnit → (t : Tables) → IsTableRun t → TellsNoFault t
 table_faultless laws says t h =

@@ -69,7 +69,7 @@ nothing_to_see s (u ∷ us) v h f =
     (λ e. rw e)
     (λ e. rw e (let more : (stops s u ≡ false → heard_view (next s u) us (view_next s u v) ≡ view_next s u v) = (λ e. nothing_to_see (next s u) us (view_next s u v) (next_holds data_token s u f.0 e h) f.1) in more e ∙ same_view s u v f.0 e h.held))
 
--- it still holds it when it has heard all before a restart
+-- it still holds the token after it has taken everything before a restart
 pub heard_holds : (t : Token) (s : State) (us : List Meaning) → Holds t s → AllFit s us → Holds t (heard s us)
 heard_holds t s [] h f = h
 heard_holds t s (u ∷ us) h f = by_test (stops s u)

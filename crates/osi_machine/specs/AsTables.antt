@@ -93,7 +93,7 @@ offers_in [] = []
 offers_in (connect_answered o None ∷ es) = o ∷ offers_in es
 offers_in (e ∷ es) = offers_in es
 
--- tables that came about from empty ones
+-- tables that are reached from empty ones
 pub record IsTableRun (t : Tables) : Type 0 where
   pub agreed : Terms
   pub steps : List Step

@@ -26,7 +26,7 @@ abbrev pub flush : State → List Meaning → State
 flush s [] = s
 flush s (u ∷ us) = flush (next s u) us
 
--- a restart that takes effect erases what came before it
+-- a restart that takes effect erases what is ahead of it in the channel
 abbrev pub stops : State → Meaning → Bool
 stops s (RS kind n wishes octets) = stands s n
 stops s u = false

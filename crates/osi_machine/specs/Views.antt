@@ -6,7 +6,7 @@ use Rattle.osi_machine.specs.Histories.{Item, Octets, Point, PointKind, minor_ki
 use Rattle.osi_machine.specs.Core.{Core, CoreStep, call_at, take_at, Side, Left, Right, Offer, stays_in_core, core_step, core_run, core_start}
 use Rattle.osi_machine.specs.Machine.{Entry, call_answered, shown_at, error_of}
 
--- What a record has told so far: the units and the first number that its side proposed, if it requested the connection;
+-- What a record shows so far: the units and the first number that its side proposed, if it requested the connection;
 -- whether duplex is selected; the first number; what was seen of the history; the data that was to be sent, and the
 -- data that was received; whether the answer to a restart is awaited; and whether a fault was indicated, of this side
 -- or of the other.

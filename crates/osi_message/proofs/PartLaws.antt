@@ -34,7 +34,7 @@ part_written : (place : Place) (octets : List ℕ) → tsdu_octets (behind_token
 unfolding tsdu_octets unit_octets body_octets written_code is_group codes_of si_of number_of
 part_written place octets = ap (part_octets place) (append-nil octets)
 
--- ---- what it says
+-- ---- the word of a part
 
 part_says : (place : Place) (octets : List ℕ) → word (part_unit place octets) ≡ part place octets
 unfolding word number_of

@@ -1,4 +1,4 @@
--- Data, points and confirmations as they are written straight.
+-- Data, points and confirmations in the form of the fast path.
 use Rattle.std.proofs.Common.{◌≡◌, ◌∙◌, refl, sym, ap, subst, ◌&&◌, nat_le, nat_lt, take, drop, if◌then◌else◌, ℕ, ◌+◌, ◌/◌, ◌%◌, ◌≤◌, ◌<◌, Bool, true, false, List, [], ◌∷◌, ◌++◌, length, Some, None, Result, Ok, eqb, arith}
 use Rattle.osi_message.specs.declared.plain.PlainUnit.{PlainUnit}
 use Rattle.osi_message.specs.declared.plain.PlainUnit.TheVariants as plain

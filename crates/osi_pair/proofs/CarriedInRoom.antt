@@ -165,7 +165,7 @@ carried_none_yet s old new same = record {
   over = λ reason over. (ap (λ (c : Crossing). c.to) same, refl);
 }
 
--- what the journal says of both
+-- the journal entries of both ends
 says_then : (s : Side) (first mid last : List Entry) (xs ys : List (ℕ × Shown)) (o m n : Option EndReason) →
     mid ≡ first ++ told_entries s o m xs → last ≡ mid ++ told_entries s m n ys →
     (m ≡ None → o ≡ None) → ((reason : EndReason) → m ≡ Some reason → (n ≡ m) × (ys ≡ [])) → last ≡ first ++ told_entries s o n (xs ++ ys)

@@ -1,5 +1,5 @@
 -- Two carries of equally many octets, between pairs of ends in the same state, lead to the same state if memory
--- suffices, wherever the pieces are cut.
+-- suffices, however the octets are cut into pieces.
 use Rattle.std.proofs.Common.{◌≡◌, ℕ, ◌<◌, ◌^◌, List, [], ◌∷◌, ◌++◌, min, take, Option, Some, None, refl, sym, ap, subst, ◌∙◌, ◌⊎◌, inl, inr, arith}
 use Rattle.osi_carrier.proofs.Lasting.{PacketLaws}
 use Rattle.osi_stack.proofs.Endings.{in_room, pieces_end}

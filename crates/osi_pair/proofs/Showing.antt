@@ -1,10 +1,10 @@
--- Indications are shown one after the other.
+-- Users receive indications one after the other.
 use Rattle.std.proofs.Common.{◌≡◌, ◌∙◌, ℕ, ◌+◌, List, [], ◌∷◌, ◌++◌, length, Option, Some, None, sym, ap, ap₂, subst, inl}
 use Rattle.osi_stack.specs.Calls.{without_first}
 use Rattle.osi_pair.proofs.Vocabulary.{append_assoc, length-append, map-append, Rows, EndReason, Shown, first_shown, Holding, Entry, shows, waiting_in, quieted, shown_entries, end_entries, told_entries, Tells, Side, EndLine as Line}
 use Rattle.osi_pair.proofs.Waiting.{none_waits, none_taken, next_is}
 
--- this many were shown
+-- a user received this many indications
 pub record HasShown (side : Side) (old : Holding) (before : List Entry) (count : ℕ) (new : Holding) (after : List Entry) : Type 0 where
   pub first : List (ℕ × Shown)
   pub many : length first ≡ count
@@ -33,7 +33,7 @@ shown_more side old before count mid new after p h e is =
           ∙ ap (λ l. before ++ l) (sym (map-append (λ (q : ℕ × Shown). shows side q.0 q.1) h.first (p ∷ [])));
     }
 
--- all were shown
+-- a user received all pending indications
 pub shown_all : (side : Side) (old : Holding) (before : List Entry) (count : ℕ) (new : Holding) (after : List Entry) →
     HasShown side old before count new after → first_shown new.end.lines ≡ None → Tells side old before new after
 shown_all side old before count new after h e = record {
@@ -42,7 +42,7 @@ shown_all side old before count new after h e = record {
   says = h.says;
 }
 
--- what was shown, and then the end
+-- the indications, and then the end
 pub says_all : (side : Side) (before said after : List Entry) (first : List (ℕ × Shown)) (was is was_then is_then : Option EndReason) →
     said ≡ before ++ shown_entries side first → after ≡ said ++ end_entries side was is → was ≡ was_then → is ≡ is_then →
     after ≡ before ++ told_entries side was_then is_then first
@@ -50,7 +50,7 @@ says_all side before said after first was is was_then is_then h k e f =
     k ∙ ap (λ (l : List Entry). l ++ end_entries side was is) h ∙ append_assoc before (shown_entries side first) (end_entries side was is)
     ∙ ap₂ (λ (a b : Option EndReason). before ++ told_entries side a b first) e f
 
--- nothing is left to be shown
+-- no indication is pending
 pub shown_end : (side : Side) (old : Holding) (before : List Entry) (count : ℕ) (mid new : Holding) (after : List Entry) →
     HasShown side old before count mid after → first_shown mid.end.lines ≡ None →
     new ≡ record mid { end = record mid.end { lines = without_first mid.end.lines } } → Tells side old before new after

@@ -101,7 +101,7 @@ pub there : NoneBeyond → (r : ℕ) (p : TwoEnds) (b : Between) (t : Tables) (l
 there none zero p b t l s at = absurd cc
 there none (suc k) p b t l s at = there_by k p b t l (nat_le (suc k) (length t.lines)) refl (none (suc k) t.lines) s at
 
--- ---- the journal says more
+-- ---- a longer journal
 
 says_more : (es : List entries.Entry) (js : List Entry) (x : entries.Entry) (e : Entry) → map Some es ≡ map entry_in js → entry_in e ≡ Some x →
     map Some (es ++ x ∷ []) ≡ map entry_in (js ++ e ∷ [])

@@ -80,7 +80,7 @@ table_at none r side p b t call (Some l) s at =
     let h = there none r p b t l s at in
     seat_at r (end_at side p) (seen_from (side_in side) l).own call (nat_le r (end_at side p).end.carrier.given) h.some refl (seen side r p b l h.is).here
 
--- what the carrier says makes no difference
+-- an error of the carrier makes no difference
 abbrev pub Answered : Type 0
 Answered = (r : ℕ) (call : Call) (e : End) → HasSerial call → e.carrier.ended ≡ None → Soundness e → AllCameAbout e.lines → call_error r call e ≡ table_error r call e
 

@@ -141,7 +141,7 @@ pub record EndsOn (s : Side) (p : TwoEnds) (c : Between) (ending : Ending) (u : 
   pub keep : ℕ → ℕ
   pub stands : Stands p c (after_end (side_in s) ending keep u)
 
--- An end comes: its users receive what they have lost, and the journal says so.
+-- An end stops: its users receive their losses, and the journal records it.
 pub ended_stands : (s : Side) (p : TwoEnds) (b : Between) (t u : Tables) (e : End) (h : Held) (c : Between) (reason : EndReason) (ending : Ending) (lines : Rows stack.Line) (held : Held)
     (first : List (ℕ × Shown)) (journal : List Entry) → Stands p b t → MayEnd s p t u e h c → ending_in reason ≡ Some ending → ((n : ℕ) → kept_at n lines ≡ None) → SaysAll s lines first u →
     journal ≡ p.journal ++ (shown_entries s first ++ ends s reason ∷ []) →
@@ -195,7 +195,7 @@ may_end Right p b t s takes none =
     let lines : (n : ℕ) → 0 < n → n ≤ length t.lines → EndingLine Right p t p.right.end p.right.held b n = λ n a x. (let l = s.lines n a x in still_line Right p b t n (turned l.line) l.found (seen Right n p b l.line l.is) l.is.leftward) in
     grind arith
 
--- what its users are shown then
+-- what its users then receive
 pub shown_then : (s : Side) (p : TwoEnds) (b : Between) (t : Tables) (lines : Rows stack.Line) (first : List (ℕ × Shown)) → Stands p b t → (end_at s p).end.carrier.ended ≡ None →
     IsTold (end_at s p) lines first → SaysAll s lines first t
 shown_then Left p b t lines first s none told =

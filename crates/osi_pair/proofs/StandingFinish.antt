@@ -22,7 +22,7 @@ given_not_new n s b e le h = grind arith
 
 -- ---- what is left to say
 
--- the tables have this line, and their users were shown this
+-- the tables have this line, and their users received these indications
 pub record TablesAfter (s : Side) (n : ℕ) (t u : Tables) (shown : List Shown) (line : Line) : Type 0 where
   pub terms : u.terms ≡ t.terms
   pub broken : u.broken ≡ t.broken
@@ -126,7 +126,7 @@ finish s p b t u e h n shown l x channel back old alive d lasts local role named
 
 -- ---- the class
 
--- if no CC came the class is known as before
+-- if no CC has arrived, the class is known as before
 pub known_then : (s : Side) (p : TwoEnds) (b : Between) (t : Tables) (e : End) (h : Held) (n : ℕ) → Stands p b t → (end_at s p).end.carrier.ended ≡ None → (d : DidAt s p b e h n) → e.carrier.ended ≡ None →
     n ≤ b.caller.given → is_agree d.row ≡ false → t.known ≡ option_map class_in (with_holding s e h p).left.end.carrier.class
 known_then Left p b t e h n old alive d lasts named row =

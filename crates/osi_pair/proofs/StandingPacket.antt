@@ -146,7 +146,7 @@ quiet_packet laws s p b t packet h old alive pa q =
       stands = turned_stands s p b t e h d.now t n [] old alive x;
     }
 
--- the message that came is the first of those that the tables have in flight
+-- the message that arrived is the first that the tables have in flight
 abbrev BackThen : (s : Side) (p : TwoEnds) (b : Between) (packet : List ℕ) (h : Held) → (pa : PacketActs (terms_at p) (is_caller s) (carriers_of p) b packet h.octets) → SessionState → List Message → Type 0
 BackThen s p b packet h pa x ms =
     Goes (other s) s (reference_of pa.unit) (with_holding s (acted_end pa.unit (end_at s p).end.lines (end_at s p).end) h p) (did_at s p b packet h (end_at s p).end.lines pa).now
@@ -179,7 +179,7 @@ rest_packet laws s p b t packet h old alive pa q at first others parts kind back
       stands = turned_stands s p b t e h d.now (step t (delivers (side_in s) n (λ r. 0))) n [] old alive x;
     }
 
--- a part of one Data came to an end that ignores it: the tables have it in flight until its last part comes
+-- a part of a Data arrived at an end that ignores it: the tables have it in flight until its last part arrives
 ignored_packet : PacketLaws → (s : Side) (p : TwoEnds) (b : Between) (t : Tables) (packet : List ℕ) (h : Held) → Stands p b t → (end_at s p).end.carrier.ended ≡ None →
     (pa : PacketActs (terms_at p) (is_caller s) (carriers_of p) b packet h.octets) → (octets : List ℕ) → pa.did.row ≡ ignores octets → (at : FoundLine s (reference_of pa.unit) p b t) → BackThen s p b packet h pa at.line.own.session.state at.line.peer.channel →
     StandsBehind s p t packet h
@@ -377,7 +377,7 @@ numbered_behind s xs ys a d = search
 pub terms_then : (s : Side) (p : TwoEnds) (a : End) (h : Held) → a.carrier.local ≡ (end_at s p).end.carrier.local → terms_at (with_holding s a h p) ≡ terms_at p
 terms_then s p a h e = grind arith
 
--- nothing was shown
+-- no user received an indication
 shown_nothing : (s : Side) (p : TwoEnds) (a e : End) (h : Held) (n : ℕ) → a ≡ e → turned_pair s e h n [] p ≡ with_holding s a h p
 shown_nothing Left p a e h n same =
     ap (λ (j : List Entry). record (with_holding Left e h p) { journal = j }) (append-nil p.journal) ∙ ap (λ (x : End). with_holding Left x h p) (sym same)

@@ -33,7 +33,7 @@ pub record FewWait : Type 0 where
   pub ended : (p : TwoEnds) (steps : List Step) (s : Side) → StandsAt p steps → (end_at s p).end.carrier.ended ≡ None →
       length (waiting_in (ends NoMemory (end_at s p).end).lines) ≤ 81
 
--- an end is this, and its users are shown all pending indications at once
+-- the end is this one, and its users receive all pending indications at once
 pub record StandsFew (s : Side) (p : TwoEnds) (steps : List Step) (e : End) (h : Held) : Type 0 where
   pub stands : StandsAtArrivals s (shown_pair s e h p) steps
   pub few : length (waiting_in e.lines) ≤ 81

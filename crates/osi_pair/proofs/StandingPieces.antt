@@ -266,7 +266,7 @@ crossed_reach f c o = grind arith
 pub crossed_same : (f : Side) (p : TwoEnds) → crossed f (crossing f p) p.reach ≡ p
 crossed_same f p = grind arith
 
--- what was carried and shown
+-- what was carried, and what the users received
 shown_crossing : (f : Side) (p : TwoEnds) (used : ℕ) (e : End) (h g : Held) → crossed f (record {
   from = record (end_at f p) { end = carried used (end_at f p).end };
   to = record { end = record e { lines = quieted e.lines }; held = h };

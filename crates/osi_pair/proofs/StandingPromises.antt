@@ -94,7 +94,7 @@ journal_fine (word ∷ words) (x ∷ journal) e h =
 pub no_fault : ((t : Tables) → IsTableRun t → TellsNoFault t) → (p : TwoEnds) (steps : List Step) → StandsAt p steps → HasNoFault p
 no_fault all p steps h = journal_fine (tables_at p steps).journal p.journal h.stands.journal (all (tables_at p steps) (is_run p steps h))
 
--- ---- what an end says of a connection
+-- ---- what an end reports of a connection
 
 -- a reference that was not given has no session
 no_session : (r : ℕ) (h : Holding) → value_at r h.end.carrier.live ≡ None → session_at r h.end ≡ None
@@ -114,7 +114,7 @@ outside Right r p steps h out = no_session r p.right
     (outside_by r p.left.end.carrier.given p.right p.right.end.carrier.ended refl h.stands.over_right h.stands.order_right
     (let back = h.stands.given_back in let same = h.stands.given in omega arith) out)
 
--- what an end says is what the tables have, or nothing
+-- an end reports what the tables have, or nothing
 data Says (n : ℕ) (h : Holding) (s : Standing) : Type 0 where
   of_none : session_at n h.end ≡ None → Says n h s
   of_some : (joined : Option (List ℕ)) → session_at n h.end ≡ Some (joining joined s) → Says n h s
@@ -154,7 +154,7 @@ one_holder holder offered p steps h r t = by (within r p.left.end.carrier.given)
 
 -- ---- confirmed points
 
--- V(A) as an end says it is that of the tables, or 0
+-- V(A) as an end reports it is that of the tables, or 0
 no_more : (n : ℕ) (h : Holding) (s : Standing) → Says n h s → (numbers_of (session_at n h.end)).confirmed ≤ s.state.numbers.confirmed
 no_more n h s h3 = grind arith
 

@@ -2,7 +2,7 @@
 use Rattle.osi_pair.proofs.Vocabulary.{◌≡◌, List, None, Held, Between, Step, Tables, run, End, TwoEnds, end_at, noted, side_in, AreArrivals, Stands, waiting_in, quieted, told_entries, Side}
 use Rattle.osi_pair.proofs.StandingTurned.{with_holding}
 
--- The end of a side, which had not ended, is this; its users were shown all pending indications, and the journal says
+-- The end of a side, which had not ended, is this one; its users received all pending indications, and the journal says
 -- so.
 abbrev pub shown_pair : Side → End → Held → TwoEnds → TwoEnds
 shown_pair s e h p = noted (told_entries s None e.carrier.ended (waiting_in e.lines)) (with_holding s (record e { lines = quieted e.lines }) h p)

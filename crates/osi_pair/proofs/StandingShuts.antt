@@ -46,7 +46,7 @@ shown_apart s before first second last =
     ap (λ (es : List Entry). before ++ (es ++ last)) (map-append _ first second) ∙ ap (λ (es : List Entry). before ++ es) (append_assoc (shown_entries s first) (shown_entries s second) last)
     ∙ sym (append_assoc before (shown_entries s first) (shown_entries s second ++ last))
 
--- what they were shown, in two parts
+-- what they received, in two parts
 says_so : (s : Side) (before : List Entry) (n : ℕ) (shown : List Shown) (lines : Rows Line) (last : List Entry) → waiting_in lines ≡ map (λ x. (n, x)) shown → IsAlone lines →
     before ++ (shown_entries s (waiting_in (all_lost lines)) ++ last) ≡ (before ++ shown_entries s (map (λ x. (n, x)) shown)) ++ (shown_entries s (waiting_in (all_lost (quieted lines))) ++ last)
 says_so s before n shown lines last waits alone =

@@ -31,7 +31,7 @@ use Rattle.osi_pair.proofs.StandingLeaves.{out_leaves}
 
 -- ---- what the tables say of the other side
 
--- tables that came about take one delivery more
+-- after one more delivery, tables that are reached are still reached
 pub run_more : (t u : Tables) (who : machine.Side) (n : ℕ) (cut : ℕ → ℕ) → step t (delivers who n cut) ≡ u → IsTableRun t → IsTableRun u
 run_more t u who n cut is run = record {
   agreed = run.agreed;
@@ -173,7 +173,7 @@ channel_leaves : (broken : Bool) (r : Option Meaning) (channel : List Message) �
 channel_leaves broken r channel e =
     ap (λ (o : Option Meaning). put broken (over ∷ []) (put broken (replied o) channel)) e ∙ ap (put broken (over ∷ [])) (put_nothing broken channel) ∙ put_unless broken (over ∷ []) channel
 
--- no loss was shown to a side that lasts
+-- a side that has not ended has received no loss
 abbrev pub LosesLate : Type 0
 LosesLate = (t : Tables) → IsTableRun t → LosesAsItEnds t
 

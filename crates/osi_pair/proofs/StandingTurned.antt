@@ -121,8 +121,8 @@ says_more s n shown before journal e =
 
 -- ---- two ends
 
--- An end (`e`, with what it holds) acted for a connection, and lasts; its user was shown this; and the tables
--- are these.
+-- An end (`e`, with what it holds) acted for a connection and goes on; its user received `shown`; and the tables
+-- are `u`.
 pub record Turned (s : Side) (p : TwoEnds) (b : Between) (t : Tables) (e : End) (h : Held) (c : Between) (u : Tables) (n : ℕ) (shown : List Shown) : Type 0 where
   pub between : AreBetween (terms_of p.left.end.carrier.local p.right.end.carrier.local) (carriers_of (with_holding s e h p)) c
   pub lasts : e.carrier.ended ≡ None

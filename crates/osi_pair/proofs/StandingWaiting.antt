@@ -16,7 +16,7 @@ calls_at : (s : machine.Side) (l : Line) (o : Option World) → At (Some l) o �
 calls_at s l (Some w) h e = grind arith
 calls_at s l None h e = absurd h
 
--- in tables that came about, seen from either side
+-- in tables that are reached, seen from either side
 pub is_calling : SessionLaws → SaysItsUnit → (s : machine.Side) (r : ℕ) (l : Line) (t : Tables) → IsTableRun t → connection_at r t.lines ≡ Some (seen_from s l) → l.own.transport ≡ waiting → IsCalling l.own
 is_calling laws says s r l t h found e =
     let f = all_follow laws says h.agreed h.steps h.numbered in

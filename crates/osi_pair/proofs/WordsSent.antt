@@ -47,7 +47,7 @@ word_alone : (limit : ℕ) (m : Meaning) → is_parted limit m ≡ false → wor
 unfolding words_sent
 word_alone limit m h = grind arith
 
--- what the crate below says of parts
+-- what the parts mean by the crate below
 pub record PartLaws : Type 0 where
   pub parts : (limit : ℕ) (octets : List ℕ) → is_size limit ≡ true → is_parted limit (DT octets) ≡ true → AreParts (words_sent limit (DT octets))
   pub joined : (limit : ℕ) (octets : List ℕ) → joined (words_sent limit (DT octets)) ≡ octets

@@ -12,8 +12,8 @@ use Rattle.osi_session.proofs.RunLaws.{input_over}
 use Rattle.osi_session.proofs.VerdictLaws.{enacts}
 use Rattle.osi_session.proofs.WordCases.{acts_alike, outcome_in, word_does}
 
--- there is no indication while a CN is awaited; and the first one is a Connect, if the user would be told of a loss
--- afterwards
+-- While a CN is awaited there is no indication. If the user would afterwards be told of a loss, the first indication
+-- is a Connect.
 record Begins (o : Outcome) : Type 0 where
   waits : is_wait_cn o.next.phase ≡ true → o.shown ≡ []
   shows : shows_loss o.next.phase ≡ true → shows_connect o.shown ≡ true

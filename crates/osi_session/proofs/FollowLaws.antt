@@ -14,7 +14,7 @@ reply_again : (a b c : Option Meaning) → first_reply a (first_reply b c) ≡ f
 reply_again None b c = refl
 reply_again (Some m) b c = refl
 
--- what is heard one after the other
+-- messages that are received one after the other
 then_again : (o p q : Hearing) → heard_then o (heard_then p q) ≡ heard_then (heard_then o p) q
 then_again o p q =
     let shown = sym (append_assoc o.shown p.shown q.shown) in

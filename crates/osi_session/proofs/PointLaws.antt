@@ -105,7 +105,7 @@ point_leaves s w j b v i word small n h sound kept few =
     (sym (ap (λ (x : Option (List ℕ)). respond_word (record { state = s; joined = x }) word) (none_joined j b n h.0) ∙ h.1))
     (leaves_word l word (holds l s w j refl sound kept few) small)).sound
 
--- the numbers in a unit that is read straight
+-- the numbers in a unit that the fast path reads
 pub plain_numbered : (p : PlainUnit) → IsNumberedWord (unit_word p)
 plain_numbered p = grind arith
 

@@ -150,7 +150,7 @@ word_takes t w ws h = either_takes (is_faulty (word_verdict t w)) t.joined (resp
 
 -- ---- so far
 
--- what was heard so far joined no less unless it was loud, and is kept
+-- unless it led to an indication, a reply or a close, what was received so far left no less joined; and it is kept
 pub record SoFar (j : Option (List ℕ)) (h : Hearing) : Type 0 where
   pub grows : quiet h ≡ true → size j ≤ size h.next.joined
   pub phase : InPhase h.next

@@ -4,7 +4,7 @@ use Rattle.osi_session.proofs.Vocabulary.{AllByRecursion, list_any, cases_Bool, 
 use Rattle.osi_session.proofs.VerdictLaws.{enacts}
 use Rattle.osi_session.proofs.WordLaws.{word_at}
 
--- what is heard, without what is joined
+-- the effect of a message, without the joined data
 abbrev pub outcome_in : Hearing → Outcome
 outcome_in h = record { next = h.next.state; shown = h.shown; reply = h.reply; closes = h.closes }
 

@@ -1,4 +1,4 @@
--- If nothing is joined, messages have the effect that the table of units says; and the effect of a TSDU of one word.
+-- If nothing is joined, messages have the effect that the table of units gives. Also the effect of a TSDU of one word.
 use Rattle.std.proofs.Common.{◌≡◌, refl, sym, ◌∙◌, ap, ℕ, Bool, true, false, not, ◌||◌, if◌then◌else◌, List, [], ◌∷◌, ◌++◌, map, Option, Some, None, Ok, Err, inl, inr, arith}
 use Rattle.osi_session.specs.Moves as whole
 use Rattle.osi_session.proofs.Vocabulary.{list_any, cases_Bool, append-nil, State, Phase, UnitFault, Unexpected, BadEnclosure, Answer, allowed, is_over, is_aborting, is_wait_transport, Outcome, nothing, Condition, si, conditions, first_fault, is_expected, drops, bad, is_resynchronize, first_reply, Verdict, over, dropped, faulty, fine, by_fault, verdict, is_faulty, enacted, respond_unit, respond_all, acting, respond, and_then, Meaning, GT, no_token, Said, alone, behind, words_of, is_second, Word, Words, says, as_message, Taker, drops_parts, kept_in, word_verdict, joined_by, good_word, Hearing, heard, enacted_word, respond_word, respond_words, heard_then, idle, is_restart_word, acting_words, respond_tsdu, Listener, Move, react, after_input, after_inputs, taken, answered, begun, denied, rests, listening, standing_of, in_words, is_apart, joins}

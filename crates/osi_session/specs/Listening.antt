@@ -56,7 +56,7 @@ abbrev pub answered : Listener → Answer → Move
 answered l (Ok step) = record (rests (in_state l step.next)) { reply = Some step.sent }
 answered l (Err e) = record (rests l) { error = Some e }
 
--- the move of what is heard
+-- the move for a received message
 abbrev pub moved : Listener → Hearing → Move
 moved l h = record {
   next = record { state = h.next.state; waiting = l.waiting; joined = h.next.joined };

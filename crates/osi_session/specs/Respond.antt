@@ -370,7 +370,7 @@ unfoldable pub respond_fault : State → SpduFault → Outcome
 respond_fault s fault = if is_over s.phase then nothing s else bad s (Spelling fault)
 
 -- the transport connection was closed or broken, or had a fault; before a CN was taken there is no user to be told, and
--- after an abort he has been told enough
+-- after an abort the user knows already
 abbrev pub lost : State → Outcome
 lost s = record (nothing (without_tokens Ended s)) { shown = if shows_loss s.phase then Lost ∷ [] else [] }
 

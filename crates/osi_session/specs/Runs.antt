@@ -16,7 +16,7 @@ HasNumbers (called c) = HasSerial c
 HasNumbers (taken said) = AreNumbered said
 HasNumbers _ = Unit {0}
 
--- and where it comes in words
+-- the same for an input given as words
 abbrev pub HasNumbersInWords : listening.Input → Type 0
 HasNumbersInWords (listening.called c) = HasSerial c
 HasNumbersInWords (listening.taken words) = AreNumberedWords words

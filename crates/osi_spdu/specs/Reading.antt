@@ -103,7 +103,7 @@ unfoldable pub all_there : ℕ → List Code → Known → Result Known SpduFaul
 all_there at [] known = Ok known
 all_there at (c ∷ codes) known = if is_some (known c) then all_there at codes known else Err (MissingParameter (number_of c) at)
 
--- a unit and where it ends, and the octets after it
+-- a unit, the offset of its end, and the octets after it
 pub record Placed : Type 0 where
   pub kind : Kind
   pub known : Known

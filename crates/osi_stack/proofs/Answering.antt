@@ -1,4 +1,4 @@
--- What a call is answered is what the table of its session says.
+-- The result of a call is the one that the table of its session gives.
 use Rattle.std.proofs.Common.{◌≡◌, ℕ, true, not, ◌||◌, List, Option, Some, None, is_some, Ok, Err, refl, sym, ap, subst, ◌∙◌, if◌then◌else◌, arith}
 use Rattle.osi_session.specs.declared.faults.CallError.TheVariants as error
 use Rattle.osi_stack.proofs.Vocabulary.{AllByRecursion, IfSome, or_right, open_link, send_all_error, value_at, Standing as Link, IsSendable, tsdus_of, Step, Answer, allowed, Passed, Call, HasSerial, Input, Listener, Move, called, answered, react, after_inputs, is_wait_cn, may_abort, HasNumbersInWords, IsFresh, awaiting, asking, limit_of, CallError, Opening, opening_of, has_given, send_refusal, move_refusal, session_refusal, session_error, call_error, table_error, CameAbout, AllCameAbout, needs_link, Soundness, AreShort, kept_at, End, session_in, session_at, IsSoundState, SessionState as State}

@@ -76,7 +76,7 @@ starved_over e left new h3 lasts = grind arith
 
 -- ---- attended along packets
 
--- all events were heard
+-- all events were handled
 all_heard : (l : List Happening) (e : End) → e.carrier.events ≡ l → (hears_times (length l) e).carrier.events ≡ []
 all_heard [] e h = h
 all_heard (x ∷ xs) e h =

@@ -23,7 +23,7 @@ nothing_by old used told quiet (inr (inr g)) same =
     ended_not old.end.carrier told.state g.before (or_first (is_some old.end.carrier.ended) (waits old.end.lines) quiet) (ap (λ (x : Carrying). x.state) same)
     (elim (g.how) [ inl none ↦ ap (λ (c : Carrier). is_some c.ended) none.ended | inr p ↦ ap (λ (c : Carrier). is_some c.ended) p.2.2.ended ])
 
--- nothing was used, nothing has changed, and it is what feeding says
+-- no octet was used, nothing has changed, and this is a result of feeding
 pub record IsIdle (old : Holding) (piece : List ℕ) (used : ℕ) (new : Holding) : Type 0 where
   pub same : new ≡ old
   pub none : used ≡ 0

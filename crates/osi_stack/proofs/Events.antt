@@ -1,4 +1,4 @@
--- The events that are pending, heard one after the other.
+-- Pending events are handled one after the other.
 use Rattle.std.proofs.Common.{◌≡◌, ℕ, ◌+◌, ◌<◌, ◌==◌, zero, suc, Bool, true, false, not, List, ◌∷◌, length, None, is_some, refl, sym, ap, subst, ◌∙◌, inl, inr, arith, if◌then◌else◌, []}
 use Rattle.osi_carrier.specs.Packets as carriers
 use Rattle.osi_stack.proofs.Vocabulary.{eqb-true, not-false, Fed, Tells, Happening, Carrying, is_spoilt, Rows, State as Carrier, Interrupted, LeftOff, Fetches, hears, hears_first, hears_next, hears_times, hears_all, with_events, with_carrier, all_lost, concludes, starves, RunsOut, needs_memory, Line, End, Holding, IsAttended, holding}
@@ -22,7 +22,7 @@ taken_is now event mid h = grind arith
 abbrev pub carrying_of : Holding → Carrying
 carrying_of h = record { state = h.end.carrier; held = h.held }
 
--- this many events were heard
+-- this many events were handled
 pub record HasHeard (old now : Holding) : Type 0 where
   pub count : ℕ
   pub is : now.end ≡ hears_times count old.end
@@ -117,7 +117,7 @@ concluded_lines : (b : Bool) (e : End) (lines : Rows Line) → is_some e.carrier
 concluded_lines true e lines is h = ap (λ (l : Rows Line). record e { lines = l }) h ∙ sym (ap (λ (c : Bool). if c then record e { lines = all_lost e.lines } else e) is)
 concluded_lines false e lines is h = ap (λ (l : Rows Line). record e { lines = l }) h ∙ sym (ap (λ (c : Bool). if c then record e { lines = all_lost e.lines } else e) is)
 
--- the carrier took packets, and its events were heard
+-- the carrier took packets, and its events were handled
 pub fetched : (old : Holding) (octets : List ℕ) (fed : Fed) (told : Carrying) (heard : Holding) (carrier : Carrying) (lines : Rows Line) (b : Bool) →
     carriers.Feeds (carrying_of old) octets fed told → HasHeard (holding told old.end.lines) heard → Tells None heard.end.carrier carrier.state → carrier.held ≡ heard.held →
     is_some carrier.state.ended ≡ b → lines ≡ (if b then all_lost heard.end.lines else heard.end.lines) → Fetches old octets fed.used (holding carrier lines)

@@ -10,7 +10,7 @@ found_by r rows (Some i) e = sym (ap is_some (placed r rows i (0, record { sessi
 pub found : (r : ℕ) (rows : Rows Line) → is_some (place_of r rows) ≡ is_some (value_at r rows)
 found r rows = found_by r rows (place_of r rows) refl
 
--- ---- what is heard at a place
+-- ---- an event for the line at a place
 
 pub same_end : (c d : Carrier) (l k : Rows Line) → c ≡ d → l ≡ k → ◌≡◌ {A = End} (record { carrier = c; lines = l }) (record { carrier = d; lines = k })
 same_end c d l k e f = ap (λ v. record { carrier = v; lines = l }) e ∙ ap (λ v. record { carrier = d; lines = v }) f

@@ -12,7 +12,7 @@ use Rattle.osi_stack.proofs.Throughout.{IsKept, feeds_kept, breaks_kept}
 pub lasting_gone : (e : End) → e.carrier.ended ≡ None → IsGone e
 lasting_gone e lasts over = let no : IsSome {T = EndReason} None = subst IsSome lasts over in cc
 
--- if all are lost none is left
+-- if all connections are lost, none remains
 lost_gone : (e new : End) → new.lines ≡ all_lost e.lines → IsGone new
 lost_gone e new is over r = ap (kept_at r) is ∙ (are_lost e.lines).none r
 

@@ -1,4 +1,4 @@
--- A live connection of which something may be shown has addresses.
+-- A live connection that may receive indications has addresses.
 use Rattle.std.proofs.Common.{◌≡◌, ℕ, Bool, true, false, List, [], ◌∷◌, Option, Some, None, IsSome, is_some, refl, sym, ◌∙◌, if◌then◌else◌, arith}
 use Rattle.osi_session.specs.Causes.{asks_for_connection, is_taken}
 use Rattle.osi_session.specs.Shown.{shows_connect}

@@ -1,4 +1,4 @@
--- Sessions keep transport connections that are open, whatever is heard.
+-- Sessions keep their open transport connections, whatever event is handled.
 use Rattle.std.proofs.Common.{◌≡◌, ◌≢◌, ℕ, zero, suc, ◌==◌, Bool, true, false, not, ◌&&◌, ◌||◌, List, ◌∷◌, ◌++◌, length, Option, Some, None, is_some, IsSome, option_map, Result, Ok, Err, refl, sym, ap, subst, ◌∙◌, inl, inr, ◌⊎◌, if◌then◌else◌, [], arith}
 use Rattle.osi_carrier.specs.Happenings as told
 use Rattle.osi_stack.proofs.Vocabulary.{ne_eqb, eqb-true, eq-eqb, or_right, and-true, open_link, link_of, sent, sent_on, closes, closed_on, closed_with, sent_all, send_all_error, Happening, Rows, value_at, put, Connection, closing, State as Carrier, is_open, open_after, SendError, put_here, push_here, put_other, push_other, put_none, put_same, told_of, sent_opens, closed_opens, Standing as Link, Class, Zero, Input, Listener, opened, refused, broken, came, came_as, react, said_at, Words, SpduFault, is_ended, awaits, Phase, opens, hears, hears_first, hears_next, hears_times, with_events, loses, all_lost, needs_link, AreApart, kept_at, tsdus_sent, limit_for, line_by, carrier_by, by_line, to_session, Line, End, session_in, is_used, used_lines, joins, fresh_line, sent_unless, answers_by, input_of}
@@ -91,7 +91,7 @@ answered_by : (q : ℕ) (closes : Bool) (tsdus : List (List ℕ)) (c : Carrier) 
 answered_by q true tsdus c = closed_answered q c
 answered_by q false tsdus c = hands_by q tsdus c (send_all_error tsdus (open_link q c))
 
--- ---- the events that are still to be heard
+-- ---- the events that are still to be handled
 
 pub mono_or : (a b x : Bool) → (a ≡ true → b ≡ true) → (a || x) ≡ true → (b || x) ≡ true
 mono_or true b x imp h = ap (λ y. y || x) (imp refl)
@@ -108,7 +108,7 @@ mono r (told.closed q reason ∷ events) a b imp h = mono r events (a && not (q 
 mono r (told.faulted q fault ∷ events) a b imp h = mono r events (a && not (q == r)) (b && not (q == r)) (mono_and a b (not (q == r)) imp) h
 mono r (event ∷ events) a b imp h = mono r events a b imp h
 
--- an event that is heard
+-- one event that is handled
 later_false : (r : ℕ) (event : Happening) (rest : List Happening) → open_after r false rest ≡ true → open_after r false (event ∷ rest) ≡ true
 later_false r (told.opened q) rest h = mono r rest false (false || (q == r)) (λ no. cc) h
 later_false r event rest h = h

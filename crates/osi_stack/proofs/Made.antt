@@ -282,7 +282,7 @@ served_goes laws nothing old piece fed new (inl (inr stop)) s lasts = served_by 
 served_goes laws nothing old piece fed new (inr (inl fault)) s lasts = never new.end (ap (λ (x : End). is_some x.carrier.ended) fault.ended) lasts
 served_goes laws nothing old piece fed new (inr (inr starved)) s lasts = never new.end (none_ended old piece fed.used new starved) lasts
 
--- nothing was used, and no session heard anything
+-- no octet was used, and no session received anything
 served_still : (old : Holding) (call : Call) (new : Holding) → used_in call ≡ [] → new.held.octets ≡ old.held.octets → new.end.carrier.given ≡ old.end.carrier.given →
     ((r : ℕ) → kept_at r new.end.lines ≡ kept_at r old.end.lines) → Served old call new
 served_still old call new none held given same = record {

@@ -61,7 +61,7 @@ pub record Readings : Type 0 where
   pub read : (m : Meaning) → IsSendable m → tsdu_at (written m) ≡ Ok (spelled m)
   pub said : (m : Meaning) → IsSendable m → said_by_units (spelled m) ≡ words_of m
 
--- what is sent comes as what it says
+-- a message arrives as the words that were sent
 pub came_is : Readings → (m : Meaning) → IsSendable m → came (written m) ≡ taken (words_of m)
 unfolding said_at
 came_is law m sendable = ap (λ (r : Result Units SpduFault). came_as (said_if_read r)) (law.read m sendable) ∙ ap taken (law.said m sendable)

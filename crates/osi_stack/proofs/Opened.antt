@@ -1,5 +1,5 @@
--- Which connections units open: those that were requested, and at a called end new ones. A requested one stays so until
--- its user is told that it is agreed to, or denied.
+-- The connections that units open: those that were requested, and new ones at a called end. A connection stays requested
+-- until its user is told that it is accepted or refused.
 use Rattle.std.proofs.Common.{◌≡◌, ◌≢◌, ℕ, ◌+◌, ◌<◌, ◌≤◌, ◌==◌, Bool, true, false, List, [], ◌∷◌, ◌++◌, take, Option, Some, None, Result, Ok, Err, is_some, IsSome, refl, sym, ap, subst, ◌∙◌, inl, inr, ◌⊎◌, arith, append_assoc, if◌then◌else◌}
 use Rattle.osi_tpdu.specs.Value.{Connect}
 use Rattle.osi_class.specs.Link.{taken}

@@ -144,7 +144,7 @@ opens_up n r None e above rise up = record {
 }
 opens_up n r (Some line) e above rise up = session_risen r r linked_up e rise (up_more n r e.lines (omega arith) up)
 
--- one more event was heard, and up to this reference lines were given then
+-- one more event was handled, and the references up to `reached` had lines by then
 record HasRisen (event : Happening) (rest : List Happening) (e : End) (last : ℕ) : Type 0 where
   reached : ℕ
   rises : Rises reached (opened_in rest) last
@@ -162,7 +162,7 @@ times_up (suc n) (event ∷ rest) e g h is rises rise up =
     let now = subst (HeardUpTo one.reached) (sym (first_is event rest e is)) one.heard in
     times_up n rest (hears_next e) one.reached h (rest_is event rest e is) one.rises now.rise now.up
 
--- ---- what is heard
+-- ---- events that are handled
 
 -- of connections that awaited a CC
 pub awaited_lines : (e : End) (l : List ℕ) → IsOrdered e → AreAwaited e.carrier.live l → HaveLines e.lines l

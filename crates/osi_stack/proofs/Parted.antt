@@ -53,7 +53,7 @@ alike_answers r m n a b c sizes same = cc
 
 -- ---- both runs
 
--- if the same was put and shown, with a session each
+-- the same was sent and indicated, with one session each
 record Runs (r : ℕ) (rows : Rows Line) (l m : Listener) (a b : End) : Type 0 where
   carrier : Carrier
   waiting : List Shown

@@ -45,7 +45,7 @@ read_first old piece quiet attended =
 pub quiet_end : (e : End) → stops e ≡ false → IsAttended e → carriers.stops e.carrier ≡ false
 quiet_end e quiet attended = grind arith
 
--- ---- what was heard
+-- ---- events that were handled
 
 -- the carrier ended without an event
 ended_attends : (c d : Carrier) (lines : Rows Line) (reason : EndReason) → d ≡ states.ends reason c → IsQuiet c →

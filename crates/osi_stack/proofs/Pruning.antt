@@ -91,7 +91,7 @@ module _ (K : ℕ → Bool) where
   only_lost [] = refl
   only_lost ((q, y) ∷ lines) = lost_row q y lines (K q) refl (only_lost lines)
 
-  -- ---- what is heard
+  -- ---- events that are handled
 
   only_line : (r : ℕ) (line : Option Line) (input : Input) (e : End) → K r ≡ true → by_line r line input (only_end e) ≡ only_end (by_line r line input e)
   only_line r None input e here = refl

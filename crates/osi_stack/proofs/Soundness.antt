@@ -106,7 +106,7 @@ times_fits n e f =
 
 -- ---- links
 
--- if nothing is still to be heard
+-- if no event is still to be handled
 links_linked : (e : End) → HasLinks e → e.carrier.ended ≡ None → AllLinked [] e
 links_linked e links over = λ r. record { needed = λ s is n h. links over r s is n; fresh = inl (λ h. cc) }
 

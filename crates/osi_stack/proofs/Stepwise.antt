@@ -1,4 +1,4 @@
--- What each step of a session keeps, all that the sessions of an end hear keeps.
+-- What each step of a session preserves, handling all events of an end preserves.
 use Rattle.std.proofs.Common.{◌≡◌, ℕ, zero, suc, Bool, true, false, List, ◌∷◌, Option, Some, None, is_some, refl, if◌then◌else◌, []}
 use Rattle.osi_carrier.specs.Happenings as told
 use Rattle.osi_stack.proofs.Vocabulary.{open_link, sent, send_all_error, closed_with, Happening, told_of, value_at, State as Carrier, Broken, SendError, Input, Listener, react, awaits, breaks, opens, hears, hears_first, hears_next, hears_times, with_events, concludes, ends, all_lost, input_of, carrier_by, by_line, to_session, Line, End, joins, sent_unless, answers_by}

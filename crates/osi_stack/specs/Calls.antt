@@ -142,7 +142,7 @@ Refuses e first all = RefusesBy (is_memory e) e first all
 abbrev pub call_error : ℕ → Call → End → Option CallError
 call_error r call e = if not (has_given r e.carrier) then Some error.NoSuchConnection else session_refusal r (session_at r e) call e.carrier
 
--- the same without what the carrier says
+-- the same without the errors of the carrier
 abbrev pub table_error : ℕ → Call → End → Option CallError
 table_error r call e = if not (has_given r e.carrier) then Some error.NoSuchConnection else session_error (session_at r e) call
 

@@ -1,4 +1,4 @@
--- What transport units mean, wherever their octets lie.
+-- The meaning of transport units, independent of how their octets are stored.
 use Rattle.std.specs.Prelude.{ℕ, ◌<◌, ◌≤◌, Bool, true, false, List, [], length, Option, Some, None, IfSome}
 use Rattle.osi_tpkt.specs.Octets.{IsOctets}
 

@@ -15,7 +15,7 @@ front_part r more octets version least within =
       within = λ h. let e = stated_length-append r more h in omega arith;
     }
 
--- no more is held than the header states, wherever the header comes from
+-- no more octets are held than the header states, whether it came whole or in pieces
 pub front_within : (held piece : List ℕ) → IsFront held → 7 ≤ stated_length (held ++ piece) → length held ≤ stated_length (held ++ piece)
 front_within held piece front least = elim (cases_lt (length held) 4) [
   | inl less ↦ omega arith
@@ -169,7 +169,7 @@ one_fault at s (BadLength a) (BadLength b) h k = ap BadLength (h.1 ∙ sym k.1)
 one_fault at s OutOfMemory g h k = absurd h
 one_fault at s _ OutOfMemory h k = absurd k
 
--- what the header says of a prefix, as a statement about packets
+-- a statement about a prefix and its header, restated about packets
 pub stood : (whole : Bool) (x : List ℕ) (P : Type 0) → IsFront x → MatchBool whole (IsFull x) (IsUnfinished x × P) → MatchBool whole (IsOnePacket x) (IsPartial x × P)
 stood true x P f g = (drop 4 x, full_packet x f g)
 stood false x P f g = (short_partial x f g.0, g.1)
@@ -239,7 +239,7 @@ whole_part : (whole : Bool) (held piece : List ℕ) (used : ℕ) → 7 ≤ state
 whole_part true held piece used least some h = omega (arith, length-append {A = ℕ}, length-take-le {A = ℕ}, stated_taken)
 whole_part false held piece used least some h = omega (arith, length-append {A = ℕ}, length-take-le {A = ℕ}, stated_taken)
 
--- what part_of says of a length and of counts, said of the octets that they count
+-- what `part_of` ensures about lengths, restated about the octets themselves
 pub part_front : (r : Result Fed HeaderFault) (held piece : List ℕ) → IsFront held → get_or (held ++ piece) 0 0 ≡ 3 → IsOctets piece → 4 ≤ length (held ++ piece) →
     OnOk r (7 ≤ stated_length (held ++ piece)) → IfOk r (λ fed. fed.used ≤ length piece) →
     IfOk r (λ fed. MatchBool fed.whole (length held + fed.used ≡ stated_length (held ++ piece))

@@ -10,10 +10,10 @@ pub record IsFront (h : List ℕ) : Type 0 where
   pub at_least : 4 ≤ length h → 7 ≤ stated_length h
   pub within : 4 ≤ length h → length h ≤ stated_length h
 
--- the header is there, and as many octets as it says
+-- the header is complete, and there are as many octets as it states
 abbrev pub IsFull : List ℕ → Type 0
 IsFull h = (4 ≤ length h) × (length h ≡ stated_length h)
 
--- fewer octets than the header says, or no whole header
+-- fewer octets than the header states, or no complete header
 abbrev pub IsUnfinished : List ℕ → Type 0
 IsUnfinished h = 4 ≤ length h → length h < stated_length h

@@ -1,4 +1,4 @@
--- What a `Packet` means, wherever its octets lie.
+-- The meaning of a `Packet`, independent of how its octets are stored.
 use Rattle.std.specs.Prelude.{ℕ, List}
 use Rattle.osi_tpkt.specs.declared.packets.Packet.{Packet}
 
