@@ -34,12 +34,14 @@ impl Octets {
         }
     }
 
-    /// All but the first octets of these, so many, where they are: none is copied.
+    /// These octets without the first `start` of them, in the same memory: none is copied. There is none if there
+    /// are no more than `start`.
     #[inline(always)]
+    #[tactic(auto, using(crate::proofs::Starts::none_beyond))]
     pub fn behind(items: Vec<u8>, start: usize) -> Octets
-        requires { start ≤ length items.items }
         ensures { result ≡ drop start items.items }
     {
+        let start = start.min(items.len());
         Octets { items, start }
     }
 
