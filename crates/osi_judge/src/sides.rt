@@ -1,6 +1,6 @@
 //! One side of a connection, judged by what it said and by what it may have heard.
 
-ghost use Rattle.std.specs.Prelude.{◌≡◌, ◌≤◌, ◌++◌, ◌∷◌, [], IfOk, OnOk, OnErr, List, length};
+ghost use Rattle.std.specs.Prelude.{◌≡◌, ◌<◌, ◌≤◌, ◌⊎◌, ◌++◌, ◌∷◌, [], Err, IfOk, OnOk, OnErr, List, length, take};
 ghost use Rattle.osi_session.specs.Standing.{seen_called, seen_calling};
 ghost use Rattle.osi_judge.specs.Explaining.{Told};
 ghost use Rattle.osi_judge.specs.Judging.{Watches, Keeps, IsFound};
@@ -8,13 +8,29 @@ ghost use Rattle.osi_judge.specs.Sides.{watched};
 
 use crate::findings::Finding;
 use crate::members::{Member, none_is_left};
+use crate::profiles::{leaves, selects_outside};
+use crate::rules::{Break, break_at, selection_at};
+use crate::standings::{Stands, foremost, stands_behind};
 use crate::telling::behind_tsdu;
 use osi_message::Octets;
 use osi_session::Standing;
 use std::alloc::{AllocError, Global};
+use thiserror::Error;
 
 /// The most sessions that are kept of one side.
 const MOST_MEMBERS: usize = 4096;
+
+/// Why a TSDU was not told.
+#[derive(Clone, Copy, PartialEq, Eq, Debug, Error)]
+pub enum TellError {
+    /// Fewer TSDUs of the other side are said to have passed than before the last TSDU, or more than were
+    /// heard.
+    #[error("a TSDU out of its order")]
+    OutOfOrder,
+    /// There was no memory.
+    #[error("out of memory")]
+    OutOfMemory,
+}
 
 /// One side of a connection of class 0, whose TSDUs are told as they pass, between those of the other
 /// side (X.225). It keeps the sessions that explain all that the side said so far, each with how many
@@ -28,6 +44,15 @@ pub struct Side {
     told: usize,
     before: usize,
     finding: Finding,
+    by: Break,
+}
+
+/// What is found where no session says a TSDU.
+fn found_at(told: usize, tsdu: &[u8], by: &Break) -> Finding {
+    if leaves(tsdu, by) {
+        return Finding::Left(told);
+    }
+    Finding::Broke(told)
 }
 
 impl Side {
@@ -69,6 +94,7 @@ impl Side {
             told: 0,
             before: 0,
             finding: Finding::Kept,
+            by: Break::none(begin),
         })
     }
 
@@ -84,21 +110,38 @@ impl Side {
         Ok(())
     }
 
+    /// Forgets the TSDUs of the other side but for the first so many.
+    pub(crate) fn unhear(&mut self, count: usize)
+        ensures heard { (watched self.new).heard ≡ take count (watched self.old).heard }
+        ensures others { watched self.new ≡ record (watched self.old) { heard = take count (watched self.old).heard } }
+    {
+        self.heard.truncate(count);
+    }
+
     /// A TSDU of this side, before whose first octet so many TSDUs of the other side had passed whole: as
-    /// many as before the last, or more. `Err` changes nothing.
+    /// many as before the last, or more, and no more than were heard. Else it is [`TellError::OutOfOrder`].
+    /// `Err` changes nothing.
     #[tactic(auto, using(crate::proofs::SideLaws::broke_as, crate::proofs::SideLaws::too_many_as))]
-    pub fn tell(&mut self, tsdu: &[u8], before: usize) -> Result<(), AllocError>
-        requires order { (watched self.old).before ≤ before }
-        requires passed { before ≤ length (watched self.old).heard }
+    pub fn tell(&mut self, tsdu: &[u8], before: usize) -> Result<(), TellError>
         ensures others { OnOk result (((watched self.new).begin ≡ (watched self.old).begin) × ((watched self.new).heard ≡ (watched self.old).heard)) }
-        ensures order { OnOk result ((watched self.new).before ≤ before) }
+        ensures order { OnOk result (((watched self.old).before ≤ before) × (before ≤ length (watched self.old).heard)) }
+        ensures before { OnOk result ((watched self.new).before ≤ before) }
         ensures watches { OnOk result ((told : List Told) → Watches (watched self.old) told → Watches (watched self.new) (told ++ record { octets = tsdu.now; before = before } ∷ [])) }
         ensures err { OnErr result (watched self.new ≡ watched self.old) }
+        ensures out_of_order { result ≡ Err TellError.OutOfOrder → (before < (watched self.old).before) ⊎ (length (watched self.old).heard < before) }
     {
-        match self.finding {
+        if before < self.before || self.heard.len() < before {
+            return Err(TellError::OutOfOrder);
+        }
+        let told = match self.finding {
             Finding::Kept => self.tell_kept(tsdu, before),
             Finding::Broke(_) => Ok(()),
+            Finding::Left(_) => Ok(()),
             Finding::TooMany => Ok(()),
+        };
+        match told {
+            Ok(()) => Ok(()),
+            Err(_) => Err(TellError::OutOfMemory),
         }
     }
 
@@ -114,7 +157,14 @@ impl Side {
     {
         let members = behind_tsdu(self.alloc, &self.heard, tsdu, before, &self.members)?;
         if none_is_left(members.as_slice()) {
-            self.finding = Finding::Broke(self.told);
+            let by = break_at(self.alloc, &self.heard, tsdu, before, &self.members)?;
+            self.finding = found_at(self.told, tsdu, &by);
+            self.by = by;
+            return Ok(());
+        }
+        if selects_outside(&self.heard, tsdu) {
+            self.finding = Finding::Left(self.told);
+            self.by = selection_at(before, &self.members);
             return Ok(());
         }
         if members.len() > MOST_MEMBERS || self.told == usize::MAX {
@@ -139,6 +189,24 @@ impl Side {
         ensures { result ≡ (watched self.now).before }
     {
         self.before
+    }
+
+    /// By which rule the side broke the protocol, or left the profile. It says nothing of a side that did
+    /// neither.
+    pub fn by(&self) -> Break {
+        self.by
+    }
+
+    /// How many TSDUs it said before its break, or in all.
+    pub fn told(&self) -> usize {
+        self.told
+    }
+
+    /// How the side stands that kept the protocol, or kept it before its break: by the session that explains
+    /// it and has taken most, of these the one with the highest V(A), then with the flag on, which takes
+    /// what it can.
+    pub fn stands(&self) -> Result<Stands, AllocError> {
+        stands_behind(self.alloc, &self.heard, foremost(&self.members))
     }
 
     /// What is found of the side, by all that it said and by what it may have heard.

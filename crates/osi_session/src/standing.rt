@@ -1,6 +1,6 @@
 //! One side of a session as what passes shows it.
 
-ghost use Rattle.std.specs.Prelude.{◌≡◌, ◌≢◌, [], MatchBool, ◌+◌, ◌||◌, true, not, is_none, unwrap_or, IfOk};
+ghost use Rattle.std.specs.Prelude.{◌≡◌, ◌≢◌, [], MatchBool, ◌+◌, ◌||◌, true, false, not, is_none, unwrap_or, IfOk, IfSome, IfNone};
 ghost use Rattle.osi_message.specs.Reading.{word};
 ghost use Rattle.osi_session.specs.Standing.{Seen, seen_called, seen_calling, listens, Takes, after_count, answers, answers_word, goes, said, said_within, parting, SaysAs};
 ghost use Rattle.osi_session.specs.Joining.{begins_anew};
@@ -8,6 +8,8 @@ ghost use Rattle.osi_session.specs.Sound.{IsSound};
 ghost use Rattle.osi_session.specs.Steps.{reply_of, word_by};
 ghost use Rattle.osi_session.specs.Taking.{count_taken};
 ghost use Rattle.osi_message.specs.Meanings.{AB, meant_by};
+ghost use Rattle.osi_message.specs.Tokens.{token_octet};
+ghost use Rattle.osi_spdu.specs.Fields.{bits_of};
 ghost use Rattle.osi_message.specs.Words.{says};
 ghost use Rattle.osi_spdu.specs.Units.{said_by};
 
@@ -15,6 +17,7 @@ use crate::breaches::Breach;
 use crate::counting::{behind_part, count_tsdu, total};
 use crate::faults::CallError;
 use crate::hearing::begins_anew;
+use crate::numbers::Numbers;
 use crate::phases::Phase;
 use crate::reactions::Reply;
 use crate::saying::{is_in_size, may_send, said_message, stands_in_place};
@@ -23,7 +26,7 @@ use crate::state::State;
 use crate::taking::has_no_effect;
 use crate::words::Word;
 use osi_message::{Message, Place};
-use osi_spdu::Spdu;
+use osi_spdu::{Spdu, TokenSet};
 use std::alloc::{AllocError, Global};
 use std::marker::Model;
 
@@ -129,6 +132,28 @@ impl Standing {
         self.closed == other.closed
     }
 
+    /// Its phase.
+    pub fn phase(&self) -> Phase
+        ensures { result ≡ self.now.state.phase }
+    {
+        self.state.phase
+    }
+
+    /// The tokens that it holds.
+    pub fn held(&self) -> TokenSet
+        ensures { bits_of result ≡ token_octet self.now.state.held }
+    {
+        self.state.held.set()
+    }
+
+    /// V(M), V(A), V(R) and the answer flag, as they were left; 0 before the CN is accepted (X.225
+    /// section 5.9).
+    pub fn numbers(&self) -> Numbers
+        ensures { result ≡ self.now.state.numbers }
+    {
+        self.state.numbers
+    }
+
     /// The called side, which awaits a CN.
     #[tactic(auto, using(crate::proofs::SessionLaws::awaiting_sound))]
     pub fn called() -> Standing
@@ -162,16 +187,20 @@ impl Standing {
 
 impl Standing {
     /// A TSDU of the peer that is taken: what a session does that stands so, whatever octets it has joined,
-    /// as long as they are so many. Memory is wanted for what its user would be shown. `Err` changes
-    /// nothing.
-    pub fn take(&self, alloc: Global, tsdu: &[u8]) -> Result<Taking, AllocError>
-        requires { listens self.now ≡ true }
-        ensures counted { IfOk result (λ t. Takes self.now tsdu.now (count_taken t)) }
-        ensures sent { IfOk result (λ t. t.next ≡ after_count self.now (count_taken t)) }
+    /// as long as they are so many. `None` where it may take none ([`Standing::listens`]). Memory is wanted
+    /// for what its user would be shown. `Err` changes nothing.
+    pub fn take(&self, alloc: Global, tsdu: &[u8]) -> Result<Option<Taking>, AllocError>
+        ensures listens { IfOk result (λ t. IfSome t (λ _. listens self.now ≡ true)) }
+        ensures deaf { IfOk result (λ t. IfNone t (listens self.now ≡ false)) }
+        ensures counted { IfOk result (λ t. IfSome t (λ taking. Takes self.now tsdu.now (count_taken taking))) }
+        ensures sent { IfOk result (λ t. IfSome t (λ taking. taking.next ≡ after_count self.now (count_taken taking))) }
     {
+        if !self.listens() {
+            return Ok(None);
+        }
         let counting = count_tsdu(alloc, &self.state, self.joined, tsdu)?;
         let is_kept = counting.next.phase.may_hold();
-        Ok(Taking {
+        Ok(Some(Taking {
             next: Standing {
                 state: counting.next,
                 joined: counting.joined,
@@ -179,7 +208,7 @@ impl Standing {
                 closed: counting.closes,
             },
             reply: counting.reply,
-        })
+        }))
     }
 
     /// Whether a TSDU of the peer may be taken: the CN was said or is awaited, and the transport connection

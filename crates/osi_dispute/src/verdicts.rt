@@ -1,0 +1,178 @@
+//! What is told of a capture.
+
+use osi_judge::{Break, Direction, Finding, Judge, Reading, Stands, Stop, Stopped};
+use std::alloc::AllocError;
+
+/// What is told of the session of one side.
+#[derive(Clone, Copy)]
+pub enum Told {
+    /// It said so many TSDUs, and kept the protocol.
+    Kept(usize, Stands),
+    /// It broke the protocol by the packet at this offset, in which the TSDU ends.
+    Broke(u64, Break),
+    /// It left the profile by the packet at this offset: it said what X.225 allows and a session here
+    /// leaves out.
+    Left(u64, Break),
+    /// Too many sessions explain it.
+    TooMany,
+}
+
+/// What is told of the connection of one side.
+#[derive(Clone, Copy)]
+pub enum Connection {
+    /// There is none, or it is judged no further.
+    Silent,
+    /// It was asked for by this reference, and refused.
+    Refused(u16),
+    /// It was asked for by this reference, and not answered.
+    Unanswered(u16),
+    /// A session ran on it; the side gave it this reference.
+    Session(u16, Told),
+}
+
+/// What is told of one side.
+#[derive(Clone, Copy)]
+pub struct Account {
+    /// What was read.
+    pub reading: Reading,
+    /// Its connection.
+    pub connection: Connection,
+    /// Why and where its transport is looked at no further.
+    pub stopped: Option<Stopped>,
+}
+
+/// Why a capture is not judged.
+#[derive(Clone, Copy)]
+pub enum Unjudged {
+    /// The connection is none of those that are judged.
+    Transport(Stop),
+    /// Too many sessions explain a side.
+    TooMany,
+}
+
+/// Who broke the protocol first.
+#[derive(Clone, Copy)]
+pub enum Outcome {
+    /// Neither side did.
+    BothKept,
+    /// This side broke the protocol first, or left the profile.
+    First(Direction),
+    /// The capture was not judged, or not to its end.
+    NotJudged(Unjudged),
+}
+
+/// What is told of a capture.
+#[derive(Clone, Copy)]
+pub struct Verdict {
+    /// What is told of the calling side.
+    pub left: Account,
+    /// What is told of the called side.
+    pub right: Account,
+    /// Who broke the protocol first.
+    pub outcome: Outcome,
+}
+
+/// What is told of the session of a side.
+fn told_of(judge: &Judge, direction: Direction) -> Result<Told, AllocError> {
+    let side = judge.side(direction);
+    let offset = judge.offset(direction);
+    match side.finding() {
+        Finding::Kept => Ok(Told::Kept(side.told(), side.stands()?)),
+        Finding::Broke(_) => Ok(Told::Broke(offset, side.by())),
+        Finding::Left(_) => Ok(Told::Left(offset, side.by())),
+        Finding::TooMany => Ok(Told::TooMany),
+    }
+}
+
+fn is_refused(judge: &Judge) -> bool {
+    match judge.stopped(Direction::Right) {
+        Some(stopped) => matches!(stopped.stop, Stop::Refused),
+        None => false,
+    }
+}
+
+/// Whether a side left the profile first: then the other is judged no further.
+fn is_dropped(judge: &Judge, direction: Direction) -> bool {
+    match judge.first() {
+        None => false,
+        Some(first) => first != direction && is_left(judge, first),
+    }
+}
+
+fn is_left(judge: &Judge, direction: Direction) -> bool {
+    matches!(judge.side(direction).finding(), Finding::Left(_))
+}
+
+/// What is told of the connection of a side, which gave it this reference.
+fn connection_by(
+    judge: &Judge,
+    direction: Direction,
+    reference: u16,
+) -> Result<Connection, AllocError> {
+    if is_refused(judge) {
+        return Ok(Connection::Refused(reference));
+    }
+    if judge.reference(Direction::Right).is_none() {
+        return Ok(Connection::Unanswered(reference));
+    }
+    let told = told_of(judge, direction)?;
+    Ok(Connection::Session(reference, told))
+}
+
+fn connection_of(judge: &Judge, direction: Direction) -> Result<Connection, AllocError> {
+    if is_dropped(judge, direction) {
+        return Ok(Connection::Silent);
+    }
+    match judge.reference(direction) {
+        None => Ok(Connection::Silent),
+        Some(reference) => connection_by(judge, direction, reference),
+    }
+}
+
+fn account_of(judge: &Judge, direction: Direction) -> Result<Account, AllocError> {
+    Ok(Account {
+        reading: judge.reading(direction),
+        connection: connection_of(judge, direction)?,
+        stopped: judge.stopped(direction),
+    })
+}
+
+/// Why a side is not judged to the end of the capture.
+fn unjudged_at(judge: &Judge, direction: Direction) -> Option<Unjudged> {
+    if matches!(judge.side(direction).finding(), Finding::TooMany) {
+        return Some(Unjudged::TooMany);
+    }
+    match judge.stopped(direction) {
+        Some(Stopped {
+            stop: Stop::Refused,
+            ..
+        }) => None,
+        Some(stopped) => Some(Unjudged::Transport(stopped.stop)),
+        None => None,
+    }
+}
+
+fn outcome_of(judge: &Judge) -> Outcome {
+    if let Some(direction) = judge.first() {
+        return Outcome::First(direction);
+    }
+    if let Some(unjudged) = unjudged_at(judge, Direction::Left) {
+        return Outcome::NotJudged(unjudged);
+    }
+    match unjudged_at(judge, Direction::Right) {
+        Some(unjudged) => Outcome::NotJudged(unjudged),
+        None => Outcome::BothKept,
+    }
+}
+
+/// What is told of a capture that was fed to a judge. `Err` comes where there is no memory for what a
+/// session of a side takes.
+pub fn verdict_of(judge: &Judge) -> Result<Verdict, AllocError> {
+    let left = account_of(judge, Direction::Left)?;
+    let right = account_of(judge, Direction::Right)?;
+    Ok(Verdict {
+        left,
+        right,
+        outcome: outcome_of(judge),
+    })
+}

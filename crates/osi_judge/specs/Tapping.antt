@@ -1,0 +1,40 @@
+-- What is judged of a capture: each side by its TSDUs, and by those of the other that had passed before them.
+use Rattle.std.specs.Prelude.{◌≡◌, ◌≤◌, ℕ, List, [], ◌∷◌, ◌++◌, length, map, filter, nat_le}
+use Rattle.osi_session.specs.Standing.{Seen, seen_calling, seen_called}
+use Rattle.osi_judge.specs.declared.directions.Direction.{Direction}
+use Rattle.osi_judge.specs.declared.directions.Direction.TheVariants.{Left, Right}
+use Rattle.osi_judge.specs.declared.findings.Finding.{Finding}
+use Rattle.osi_judge.specs.Captures.{Capture, other, passed_before}
+use Rattle.osi_judge.specs.Transport.{Sent, IsSent}
+use Rattle.osi_judge.specs.Explaining.{Told}
+use Rattle.osi_judge.specs.Judging.{IsFound}
+
+-- left calls
+abbrev pub begin_of : Direction → Seen
+begin_of Left = seen_calling
+begin_of Right = seen_called
+
+-- how many of the other side's TSDUs had passed whole before octet k of a side
+abbrev pub had_passed : Direction → Capture → ℕ → List Sent → ℕ
+had_passed d capture k others = length (filter (λ t. nat_le t.behind (passed_before d capture k)) others)
+
+-- a TSDU is told with how many of the other side's had passed before its first packet began
+abbrev pub tell : Direction → Capture → List Sent → Sent → Told
+tell d capture others t = record { octets = t.octets; before = had_passed d capture t.first others }
+
+abbrev pub told : Direction → Capture → List Sent → List Sent → List Told
+told d capture mine others = map (tell d capture others) mine
+
+abbrev pub octets_of : Sent → List ℕ
+octets_of t = t.octets
+
+abbrev pub heard : List Sent → List (List ℕ)
+heard others = map octets_of others
+
+-- what is found of a side of a capture
+pub record IsFoundIn (d : Direction) (capture : Capture) (finding : Finding) : Type 0 where
+  pub mine : List Sent
+  pub others : List Sent
+  pub is_mine : IsSent d capture mine
+  pub is_others : IsSent (other d) capture others
+  pub found : IsFound (begin_of d) (heard others) (told d capture mine others) finding
