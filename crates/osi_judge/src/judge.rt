@@ -72,10 +72,13 @@ impl Judge {
             Some(stopped) => stopped.stop.is_break(),
             None => false,
         };
-        is_stopped || matches!(
-                self.side(direction).finding(),
-                Finding::Broke(_) | Finding::Left(_)
-            )
+        if is_stopped {
+            return true;
+        }
+        match self.side(direction).finding() {
+            Finding::Broke(_) | Finding::Left(_) => true,
+            Finding::Kept | Finding::TooMany => false,
+        }
     }
 
     /// What was read of a direction.
