@@ -1,6 +1,11 @@
 //! The text of a capture of both sides, read: each line is a piece of one side.
 
-use memchr::memchr;
+ghost use Rattle.std.specs.Prelude.{◌≡◌};
+ghost use Rattle.osi_listing.specs.Capture.{is_blank};
+ghost use Rattle.osi_dispute.specs.Rows.{is_tabbed, digits_on, begun_on, ends_within, left_is_tabbed};
+ghost use Rattle.osi_dispute.specs.Reading.{rows_left};
+
+use osi_script::first_line;
 
 /// A piece: the octets of which the first digit stands on one line.
 #[derive(Clone, Copy)]
@@ -20,8 +25,14 @@ pub(crate) struct Pieces<'a> {
 }
 
 impl<'a> Pieces<'a> {
+    ghost use Rattle.std.specs.Prelude.{◌≡◌, ◌∷◌, [], false, IfSome, IfNone};
+    ghost use Rattle.osi_dispute.specs.Rows.{rows_of, left_is_tabbed};
+    ghost use Rattle.osi_dispute.specs.Reading.{row, rows_left};
+
     /// All pieces of a text that captures these octets.
-    pub(crate) fn of(text: &'a [u8], octets: &'a [u8]) -> Pieces<'a> {
+    pub(crate) fn of(text: &'a [u8], octets: &'a [u8]) -> Pieces<'a>
+        ensures { rows_left result ≡ rows_of text.entry.now octets.entry.now }
+    {
         Pieces {
             lines: Some(text),
             octets,
@@ -29,30 +40,21 @@ impl<'a> Pieces<'a> {
         }
     }
 
-    /// Whether the first piece with an octet stands on a line that begins with a tab.
-    pub(crate) fn is_left_tabbed(self) -> bool {
-        let mut pieces = self;
-        'pieces: while let Some(piece) = pieces.next_piece() {
-            if !piece.octets.is_empty() {
-                return piece.is_tabbed;
-            }
-        }
-        false
-    }
-
     /// The next piece, by the next line.
-    pub(crate) fn next_piece(&mut self) -> Option<Piece<'a>> {
-        let (line, behind) = parted(self.lines?);
-        self.lines = behind;
-        let digits = digits_on(line);
-        let begun = if self.is_within {
-            digits / 2
-        } else {
-            digits - digits / 2
+    pub(crate) fn next_piece(&mut self) -> Option<Piece<'a>>
+        ensures some { IfSome result (λ piece. rows_left self.old ≡ row piece ∷ rows_left self.new) }
+        ensures none { IfNone result (rows_left self.old ≡ []) }
+    {
+        let Some(text) = self.lines else {
+            return None;
         };
-        self.is_within = self.is_within != (digits % 2 == 1);
-        let (octets, rest) = self.octets.split_at(begun.min(self.octets.len()));
+        let (line, behind) = first_line(text);
+        let digits = digits_on(line);
+        let count = begun_on(self.is_within, digits).min(self.octets.len());
+        let (octets, rest) = self.octets.split_at(count);
+        self.lines = behind;
         self.octets = rest;
+        self.is_within = ends_within(self.is_within, digits);
         Some(Piece {
             is_tabbed: is_tabbed(line),
             octets,
@@ -60,43 +62,67 @@ impl<'a> Pieces<'a> {
     }
 }
 
-/// The first line, and what stands behind its end, where it has one.
-fn parted(text: &[u8]) -> (&[u8], Option<&[u8]>) {
-    match memchr(b'\n', text) {
-        None => (text, None),
-        Some(index) => {
-            let (line, _) = text.split_at(index);
-            let (_, behind) = text.split_at(index + 1);
-            (line, Some(behind))
-        }
+/// How many octets begin on a line with so many digits.
+fn begun_on(is_within: bool, digits: usize) -> usize
+    ensures { result ≡ begun_on is_within digits }
+{
+    if is_within {
+        return digits / 2;
     }
+    digits - digits / 2
 }
 
-/// What stands before a comment.
-fn before_comment(line: &[u8]) -> &[u8] {
-    match memchr(b'#', line) {
-        None => line,
-        Some(index) => {
-            let (digits, _) = line.split_at(index);
-            digits
-        }
+/// Whether a line with so many digits ends within an octet.
+fn ends_within(is_within: bool, digits: usize) -> bool
+    ensures { result ≡ ends_within is_within digits }
+{
+    if is_within {
+        return digits % 2 == 0;
     }
+    digits % 2 == 1
 }
 
-/// How many digits a line has.
-fn digits_on(line: &[u8]) -> usize {
+/// What stands between digits and means nothing.
+fn is_blank_octet(octet: u8) -> bool
+    ensures { result ≡ is_blank octet }
+{
+    octet == b' ' || octet == b'\t' || octet == b'\r'
+}
+
+/// How many digits stand on a line.
+fn digits_on(line: &[u8]) -> usize
+    ensures { result ≡ digits_on line.now }
+{
     let mut count = 0;
-    'octets: for octet in before_comment(line) {
-        if !matches!(*octet, b' ' | b'\t' | b'\r') {
+    'octets: for octet in line {
+        if *octet == b'#' {
+            return count;
+        }
+        if !is_blank_octet(*octet) {
             count += 1;
         }
     }
     count
 }
 
-fn is_tabbed(line: &[u8]) -> bool {
-    match line.first() {
-        Some(octet) => *octet == b'\t',
-        None => false,
+fn is_tabbed(line: &[u8]) -> bool
+    ensures { result ≡ is_tabbed line.now }
+{
+    match line {
+        [] => false,
+        [first, ..] => *first == b'\t',
     }
+}
+
+/// Whether the first of these pieces with an octet stands on a line that begins with a tab.
+pub(crate) fn is_left_tabbed(pieces: Pieces<'_>) -> bool
+    ensures { result ≡ left_is_tabbed (rows_left pieces.entry) }
+{
+    let mut pieces = pieces;
+    'pieces: while let Some(piece) = pieces.next_piece() {
+        if !piece.octets.is_empty() {
+            return piece.is_tabbed;
+        }
+    }
+    false
 }

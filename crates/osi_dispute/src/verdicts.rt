@@ -1,5 +1,11 @@
 //! What is told of a capture.
 
+ghost use Rattle.std.specs.Prelude.{◌≡◌, true, IfOk};
+ghost use Rattle.osi_judge.specs.Captures.{Capture};
+ghost use Rattle.osi_judge.specs.Following.{judged, Taps};
+ghost use Rattle.osi_judge.specs.Tapping.{IsFoundIn};
+ghost use Rattle.osi_dispute.specs.Verdicts.{IsTold, IsTrueOf, IsOutcome, IsVerdict};
+
 use osi_judge::{Break, Direction, Finding, Judge, Reading, Stands, Stop, Stopped};
 use std::alloc::AllocError;
 
@@ -73,10 +79,12 @@ pub struct Verdict {
 }
 
 /// What is told of the session of a side.
-fn told_of(judge: &Judge, direction: Direction) -> Result<Told, AllocError> {
+fn told_of(judge: &Judge, direction: Direction) -> Result<Told, AllocError>
+    ensures { IfOk result (λ t. (capture : Capture) → Taps (judged judge.now) capture → IsTold direction capture t) }
+{
     let side = judge.side(direction);
     let offset = judge.offset(direction);
-    match side.finding() {
+    match judge.finding(direction) {
         Finding::Kept => Ok(Told::Kept(side.told(), side.stands()?)),
         Finding::Broke(_) => Ok(Told::Broke(offset, side.by())),
         Finding::Left(_) => Ok(Told::Left(offset, side.by())),
@@ -100,7 +108,7 @@ fn is_dropped(judge: &Judge, direction: Direction) -> bool {
 }
 
 fn is_left(judge: &Judge, direction: Direction) -> bool {
-    matches!(judge.side(direction).finding(), Finding::Left(_))
+    matches!(judge.finding(direction), Finding::Left(_))
 }
 
 /// What is told of the connection of a side, which gave it this reference.
@@ -108,7 +116,9 @@ fn connection_by(
     judge: &Judge,
     direction: Direction,
     reference: u16,
-) -> Result<Connection, AllocError> {
+) -> Result<Connection, AllocError>
+    ensures { IfOk result (λ c. (capture : Capture) → Taps (judged judge.now) capture → IsTrueOf direction capture c) }
+{
     if is_refused(judge) {
         return Ok(Connection::Refused(reference));
     }
@@ -119,7 +129,9 @@ fn connection_by(
     Ok(Connection::Session(reference, told))
 }
 
-fn connection_of(judge: &Judge, direction: Direction) -> Result<Connection, AllocError> {
+fn connection_of(judge: &Judge, direction: Direction) -> Result<Connection, AllocError>
+    ensures { IfOk result (λ c. (capture : Capture) → Taps (judged judge.now) capture → IsTrueOf direction capture c) }
+{
     if is_dropped(judge, direction) {
         return Ok(Connection::Silent);
     }
@@ -129,7 +141,9 @@ fn connection_of(judge: &Judge, direction: Direction) -> Result<Connection, Allo
     }
 }
 
-fn account_of(judge: &Judge, direction: Direction) -> Result<Account, AllocError> {
+fn account_of(judge: &Judge, direction: Direction) -> Result<Account, AllocError>
+    ensures { IfOk result (λ a. (capture : Capture) → Taps (judged judge.now) capture → IsTrueOf direction capture a.connection) }
+{
     Ok(Account {
         reading: judge.reading(direction),
         connection: connection_of(judge, direction)?,
@@ -137,11 +151,8 @@ fn account_of(judge: &Judge, direction: Direction) -> Result<Account, AllocError
     })
 }
 
-/// Why a side is not judged to the end of the capture.
+/// Why the transport of a side is not judged to the end of the capture.
 fn unjudged_at(judge: &Judge, direction: Direction) -> Option<Unjudged> {
-    if matches!(judge.side(direction).finding(), Finding::TooMany) {
-        return Some(Unjudged::TooMany);
-    }
     match judge.stopped(direction) {
         Some(Stopped {
             stop: Stop::Refused,
@@ -152,9 +163,22 @@ fn unjudged_at(judge: &Judge, direction: Direction) -> Option<Unjudged> {
     }
 }
 
-fn outcome_of(judge: &Judge) -> Outcome {
-    if let Some(direction) = judge.first() {
-        return Outcome::First(direction);
+/// Whether a side kept the protocol.
+fn keeps(judge: &Judge, direction: Direction) -> bool
+    ensures { result ≡ true → (capture : Capture) → Taps (judged judge.now) capture → IsFoundIn direction capture Finding.Kept }
+{
+    match judge.finding(direction) {
+        Finding::Kept => true,
+        _ => false,
+    }
+}
+
+/// The outcome where nobody broke the protocol, by what is not judged.
+fn kept_outcome(judge: &Judge) -> Outcome
+    ensures { (capture : Capture) → Taps (judged judge.now) capture → IsOutcome capture result }
+{
+    if !keeps(judge, Direction::Left) || !keeps(judge, Direction::Right) {
+        return Outcome::NotJudged(Unjudged::TooMany);
     }
     if let Some(unjudged) = unjudged_at(judge, Direction::Left) {
         return Outcome::NotJudged(unjudged);
@@ -165,9 +189,20 @@ fn outcome_of(judge: &Judge) -> Outcome {
     }
 }
 
+fn outcome_of(judge: &Judge) -> Outcome
+    ensures { (capture : Capture) → Taps (judged judge.now) capture → IsOutcome capture result }
+{
+    match judge.first() {
+        Some(direction) => Outcome::First(direction),
+        None => kept_outcome(judge),
+    }
+}
+
 /// What is told of a capture that was fed to a judge. `Err` comes where there is no memory for what a
 /// session of a side takes.
-pub fn verdict_of(judge: &Judge) -> Result<Verdict, AllocError> {
+pub fn verdict_of(judge: &Judge) -> Result<Verdict, AllocError>
+    ensures { IfOk result (λ v. (capture : Capture) → Taps (judged judge.now) capture → IsVerdict capture v) }
+{
     let left = account_of(judge, Direction::Left)?;
     let right = account_of(judge, Direction::Right)?;
     Ok(Verdict {

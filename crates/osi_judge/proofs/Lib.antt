@@ -2,3 +2,4 @@ pub mod MemberLaws
 pub mod WalkLaws
 pub mod TellingLaws
 pub mod SideLaws
+pub mod OnwardLaws

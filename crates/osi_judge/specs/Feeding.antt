@@ -50,7 +50,7 @@ since_at stage begun_since since = since
 pub record Tells (tsdu : List ℕ) (before : ℕ) (old new : Watched) : Type 0 where
   pub begin : new.begin ≡ old.begin
   pub heard : new.heard ≡ old.heard
-  pub before : new.before ≤ before
+  pub no_later : new.before ≤ before
   pub watches : (told : List Told) → Watches old told → Watches new (told ++ record { octets = tsdu; before = before } ∷ [])
 
 abbrev pub hears : Watched → List ℕ → Watched
@@ -75,7 +75,7 @@ pub record TakesPacket (d : Direction) (unit : List ℕ) (since : ℕ) (old new 
   pub held : new.held ≡ []
   pub fault : new.fault ≡ old.fault
   pub at : new.line.at ≡ offset_of (old.line.at + length old.held)
-  pub since : new.line.since ≡ since
+  pub counted : new.line.since ≡ since
   pub stage : new.line.stage ≡ stage_behind d old.line.stage old.line.at unit
   pub begun_since : new.line.begun_since ≡ since_at old.line.stage old.line.begun_since since
   pub passes : Passes (sent_by d old.line.stage old.line.at unit) (since_at old.line.stage old.line.begun_since since) old.side new.side other new_other

@@ -7,3 +7,4 @@ pub mod Judging
 pub mod Sides
 pub mod Tapping
 pub mod Feeding
+pub mod Onward

@@ -7,6 +7,7 @@ ghost use Rattle.osi_judge.specs.Transport.{opening, between, stopped, is_open, 
 ghost use Rattle.osi_judge.specs.Feeding.{stage_in, lined, tapped, since_at, since_in, Tells, hears, Passes, TakesUnit, Settles, Feeds};
 
 use crate::directions::Direction;
+use crate::findings::Finding;
 use crate::sides::Side;
 use crate::steps::{Step, read_step};
 use crate::stops::Stop;
@@ -189,9 +190,13 @@ fn end_part(
 {
     let begun = line.begun.len();
     line.begun.extend_from_slice(octets)?;
+    let was_kept = matches!(side.finding(), Finding::Kept);
     if pass(side, other, line.begun.as_slice(), since).is_err() {
         line.begun.truncate(begun);
         return Err(AllocError);
+    }
+    if was_kept {
+        line.last = line.at;
     }
     line.begun_since = since;
     line.progress = Progress::Between;

@@ -145,12 +145,12 @@ fn nearest_on(
     question: &Question,
     before: usize,
     member: Member,
-    best: Near,
+    best: &Near,
 ) -> Result<Near, AllocError>
     requires { before ≤ length heard.now }
 {
     let mut at = member;
-    let mut best = best;
+    let mut best = *best;
     'takes: while at.taken < before {
         best = nearer(question, best, at);
         match take_next(alloc, heard, &at)? {
@@ -173,7 +173,7 @@ fn nearest(
 {
     let mut best = far(members);
     'members: for member in members {
-        best = nearest_on(alloc, heard, question, before, *member, best)?;
+        best = nearest_on(alloc, heard, question, before, *member, &best)?;
     }
     Ok(Break {
         said: question.said(),

@@ -4,7 +4,7 @@ ghost use Rattle.std.specs.Prelude.{◌≡◌, ◌<◌, ◌≤◌, ◌⊎◌, �
 ghost use Rattle.osi_session.specs.Standing.{seen_called, seen_calling};
 ghost use Rattle.osi_judge.specs.Explaining.{Told};
 ghost use Rattle.osi_judge.specs.Judging.{Watches, Keeps, IsFound};
-ghost use Rattle.osi_judge.specs.Sides.{watched};
+ghost use Rattle.osi_judge.specs.Sides.{watched, EndsAt};
 
 use crate::findings::Finding;
 use crate::members::{Member, none_is_left};
@@ -45,14 +45,6 @@ pub struct Side {
     before: usize,
     finding: Finding,
     by: Break,
-}
-
-/// What is found where no session says a TSDU.
-fn found_at(told: usize, tsdu: &[u8], by: &Break) -> Finding {
-    if leaves(tsdu, by) {
-        return Finding::Left(told);
-    }
-    Finding::Broke(told)
 }
 
 impl Side {
@@ -121,7 +113,7 @@ impl Side {
     /// A TSDU of this side, before whose first octet so many TSDUs of the other side had passed whole: as
     /// many as before the last, or more, and no more than were heard. Else it is [`TellError::OutOfOrder`].
     /// `Err` changes nothing.
-    #[tactic(auto, using(crate::proofs::SideLaws::broke_as, crate::proofs::SideLaws::too_many_as))]
+    #[tactic(auto, using(crate::proofs::SideLaws::broke_as, crate::proofs::SideLaws::left_as, crate::proofs::SideLaws::too_many_as))]
     pub fn tell(&mut self, tsdu: &[u8], before: usize) -> Result<(), TellError>
         ensures others { OnOk result (((watched self.new).begin ≡ (watched self.old).begin) × ((watched self.new).heard ≡ (watched self.old).heard)) }
         ensures order { OnOk result (((watched self.old).before ≤ before) × (before ≤ length (watched self.old).heard)) }
@@ -157,14 +149,10 @@ impl Side {
     {
         let members = behind_tsdu(self.alloc, &self.heard, tsdu, before, &self.members)?;
         if none_is_left(members.as_slice()) {
-            let by = break_at(self.alloc, &self.heard, tsdu, before, &self.members)?;
-            self.finding = found_at(self.told, tsdu, &by);
-            self.by = by;
-            return Ok(());
+            return self.end(tsdu, before);
         }
         if selects_outside(&self.heard, tsdu) {
-            self.finding = Finding::Left(self.told);
-            self.by = selection_at(before, &self.members);
+            self.leave(before);
             return Ok(());
         }
         if members.len() > MOST_MEMBERS || self.told == usize::MAX {
@@ -175,6 +163,31 @@ impl Side {
         self.told += 1;
         self.before = before;
         Ok(())
+    }
+
+    /// A TSDU of this side that no session says.
+    fn end(&mut self, tsdu: &[u8], before: usize) -> Result<(), AllocError>
+        requires { before ≤ length (watched self.old).heard }
+        ensures ends { OnOk result (EndsAt (watched self.old) (watched self.new)) }
+        ensures err { OnErr result (watched self.new ≡ watched self.old) }
+    {
+        let by = break_at(self.alloc, &self.heard, tsdu, before, &self.members)?;
+        if leaves(tsdu, &by) {
+            self.finding = Finding::Left(self.told);
+            self.by = by;
+            return Ok(());
+        }
+        self.finding = Finding::Broke(self.told);
+        self.by = by;
+        Ok(())
+    }
+
+    /// An AC of this side that selects what is not selected here.
+    fn leave(&mut self, before: usize)
+        ensures { watched self.new ≡ record (watched self.old) { finding = Finding.Left (watched self.old).told } }
+    {
+        self.finding = Finding::Left(self.told);
+        self.by = selection_at(before, &self.members);
     }
 
     /// How many TSDUs of the other side it heard.

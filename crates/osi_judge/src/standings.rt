@@ -1,8 +1,10 @@
 //! How a side stands that kept the protocol.
 
-ghost use Rattle.std.specs.Prelude.{◌<◌, length};
+ghost use Rattle.std.specs.Prelude.{◌≡◌, ◌<◌, length, IfOk};
+ghost use Rattle.osi_judge.specs.Onward.{GoesOn, StandsBehind};
 
 use crate::members::Member;
+use crate::walks::tsdu_at;
 use osi_message::Octets;
 use osi_session::{Reply, Standing};
 use std::alloc::{AllocError, Global};
@@ -68,8 +70,9 @@ pub(crate) enum Turn {
 
 pub(crate) fn take_next(alloc: Global, heard: &[Octets], at: &Member) -> Result<Turn, AllocError>
     requires { at.now.taken < length heard.now }
+    ensures { IfOk result (λ turn. GoesOn heard.now at.now turn) }
 {
-    let tsdu = heard[at.taken].as_slice();
+    let tsdu = tsdu_at(heard, at.taken);
     let Some(taking) = at.standing.take(alloc, tsdu)? else {
         return Ok(Turn::Stops(None));
     };
@@ -88,6 +91,7 @@ pub(crate) fn stands_behind(
     heard: &[Octets],
     member: Member,
 ) -> Result<Stands, AllocError>
+    ensures { IfOk result (λ stands. StandsBehind heard.now member stands) }
 {
     let mut at = member;
     'takes: while at.taken < heard.len() {
@@ -99,7 +103,9 @@ pub(crate) fn stands_behind(
     Ok(stands_at(at, None))
 }
 
-fn stands_at(at: Member, owes: Option<Reply>) -> Stands {
+fn stands_at(at: Member, owes: Option<Reply>) -> Stands
+    ensures { result ≡ record { taken = at.taken; standing = at.standing; owes = owes } }
+{
     Stands {
         taken: at.taken,
         standing: at.standing,

@@ -1,6 +1,6 @@
 //! What a packet of a side is to its transport in class 0.
 
-ghost use Rattle.std.specs.Prelude.{◌≡◌, ◌==◌, Bool};
+ghost use Rattle.std.specs.Prelude.{◌≡◌, ◌==◌, ◌/◌};
 ghost use Rattle.std.specs.List.{list_any};
 ghost use Rattle.osi_class.specs.Negotiation.{proposes};
 ghost use Rattle.osi_tpdu.specs.Packet.{units_of};

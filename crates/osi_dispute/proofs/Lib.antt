@@ -1,0 +1,4 @@
+pub mod Feeds
+pub mod Digits
+pub mod OneFinding
+pub mod OneText
