@@ -2,10 +2,10 @@
 use Rattle.std.specs.Prelude.{ℕ, Bool, true, false, List, [], ◌∷◌, ◌++◌, codes, Option, Some, None}
 use Rattle.osi_judge.specs.declared.directions.Direction.{Direction}
 use Rattle.osi_judge.specs.declared.directions.Direction.TheVariants.{Left, Right}
-use Rattle.osi_judge.specs.declared.judge.Stopped.{Stopped}
+use Rattle.osi_judge.specs.declared.stops.Stopped.{Stopped}
 use Rattle.osi_judge.specs.declared.stops.Stop.{Stop}
 use Rattle.osi_judge.specs.declared.rules.Break.{Break}
-use Rattle.osi_judge.specs.Transport.{is_break}
+use Rattle.osi_judge.specs.Stops.{is_break}
 use Rattle.osi_dispute.specs.declared.verdicts.Told.{Told}
 use Rattle.osi_dispute.specs.declared.verdicts.Told.TheVariants as told
 use Rattle.osi_dispute.specs.declared.verdicts.Connection.{Connection}

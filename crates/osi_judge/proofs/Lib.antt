@@ -3,3 +3,9 @@ pub mod WalkLaws
 pub mod TellingLaws
 pub mod SideLaws
 pub mod OnwardLaws
+pub mod CaptureLaws
+pub mod CountLaws
+pub mod UnitLaws
+pub mod FollowLaws
+pub mod JudgeLaws
+pub mod LineLaws

@@ -1,9 +1,15 @@
 -- What octets of a side do to what is kept of it.
-use Rattle.std.specs.Prelude.{◌≡◌, ◌≤◌, ◌<◌, ℕ, ◌+◌, List, [], ◌∷◌, ◌++◌, length, take, Option, Some, None}
+use Rattle.std.specs.Prelude.{◌≡◌, ◌≤◌, ◌<◌, ℕ, ◌+◌, List, [], ◌∷◌, ◌++◌, length, take, Bool, true, false, ◌||◌, Option, Some, None}
 use Rattle.osi_tpkt.specs.Packet.{IsPacket, IsPartial, IsFaultOf, stated_length}
 use Rattle.osi_tpkt.specs.Stream.{offset_of}
 use Rattle.osi_tpkt.specs.declared.faults.TpktFault.{TpktFault}
+use Rattle.osi_tpkt.specs.declared.faults.TpktFault.TheVariants.{BadVersion, BadLength, OutOfMemory}
 use Rattle.osi_judge.specs.declared.directions.Direction.{Direction}
+use Rattle.osi_judge.specs.declared.findings.Finding.{Finding}
+use Rattle.osi_judge.specs.declared.findings.Finding.TheVariants.{Broke, Left}
+use Rattle.osi_judge.specs.declared.stops.Stop.TheVariants.{BadPacket}
+use Rattle.osi_judge.specs.declared.stops.Stopped.{Stopped as StoppedAt}
+use Rattle.osi_judge.specs.Stops.{breaks}
 use Rattle.osi_judge.specs.declared.lines.Progress.{Progress}
 use Rattle.osi_judge.specs.declared.lines.Progress.TheVariants.{Opening, Between, Within, Stopped}
 use Rattle.osi_judge.specs.declared.lines.Line.{Line}
@@ -113,3 +119,30 @@ pub data Feeds (d : Direction) (octets : List ℕ) (old new : Tapped) (other new
   ignored : (f : TpktFault) → old.fault ≡ Some f → new ≡ old → new_other ≡ other → Feeds d octets old new other new_other
   -- they belong to the packet under way
   looked_at : old.fault ≡ None → IsWithin old.held (length octets) → Settles d (since_of old) (with_octets old octets) new other new_other → Feeds d octets old new other new_other
+
+-- ---- where it is looked at no further
+
+abbrev pub placed : ℕ → TpktFault → TpktFault
+placed at (BadVersion offset) = BadVersion at
+placed at (BadLength offset) = BadLength at
+placed at OutOfMemory = OutOfMemory
+
+abbrev pub stopped_packet : Option TpktFault → ℕ → Option StoppedAt
+stopped_packet None offset = None
+stopped_packet (Some fault) offset = Some (record { stop = BadPacket (placed offset fault); offset = offset })
+
+abbrev pub stopped_by : Stage → Option TpktFault → ℕ → Option StoppedAt
+stopped_by (stopped stop at) fault offset = Some (record { stop = stop; offset = at })
+stopped_by stage fault offset = stopped_packet fault offset
+
+abbrev pub stopped_of : Tapped → Option StoppedAt
+stopped_of t = stopped_by t.line.stage t.fault t.line.at
+
+-- by its session, or by its transport
+abbrev pub broke_session : Finding → Bool
+broke_session (Broke i) = true
+broke_session (Left i) = true
+broke_session finding = false
+
+abbrev pub has_broken : Tapped → Bool
+has_broken t = broke_session t.side.finding || breaks (stopped_of t)

@@ -1,4 +1,5 @@
 pub mod Captures
+pub mod Stops
 pub mod Transport
 pub mod Explaining
 pub mod Members
@@ -8,3 +9,4 @@ pub mod Sides
 pub mod Tapping
 pub mod Feeding
 pub mod Onward
+pub mod Following

@@ -1,11 +1,17 @@
 -- What is judged of a capture: each side by its TSDUs, and by those of the other that had passed before them.
-use Rattle.std.specs.Prelude.{◌≡◌, ◌≤◌, ℕ, List, [], ◌∷◌, ◌++◌, length, map, filter, nat_le}
+use Rattle.std.specs.Prelude.{◌≡◌, ◌≤◌, ℕ, List, [], ◌∷◌, ◌++◌, length, map, filter, nat_le, Option, Some, None}
 use Rattle.osi_session.specs.Standing.{Seen, seen_calling, seen_called}
 use Rattle.osi_judge.specs.declared.directions.Direction.{Direction}
 use Rattle.osi_judge.specs.declared.directions.Direction.TheVariants.{Left, Right}
 use Rattle.osi_judge.specs.declared.findings.Finding.{Finding}
-use Rattle.osi_judge.specs.Captures.{Capture, other, passed_before}
-use Rattle.osi_judge.specs.Transport.{Sent, IsSent}
+use Rattle.osi_tpkt.specs.Stream.{Cuts, Ending, offset_of}
+use Rattle.osi_tpkt.specs.Stream.Ending.{Faulty, Rest}
+use Rattle.osi_tpkt.specs.declared.faults.TpktFault.{TpktFault}
+use Rattle.osi_tpkt.specs.declared.faults.TpktFault.TheVariants.{BadVersion, BadLength, OutOfMemory}
+use Rattle.osi_judge.specs.declared.stops.Stop.TheVariants.{BadPacket}
+use Rattle.osi_judge.specs.declared.stops.Stopped.{Stopped as StoppedAt}
+use Rattle.osi_judge.specs.Captures.{Capture, other, stream, passed_before}
+use Rattle.osi_judge.specs.Transport.{Stage, opening, stopped, Sent, stage_from, IsSent}
 use Rattle.osi_judge.specs.Explaining.{Told}
 use Rattle.osi_judge.specs.Judging.{IsFound}
 
@@ -38,3 +44,21 @@ pub record IsFoundIn (d : Direction) (capture : Capture) (finding : Finding) : T
   pub is_mine : IsSent d capture mine
   pub is_others : IsSent (other d) capture others
   pub found : IsFound (begin_of d) (heard others) (told d capture mine others) finding
+
+-- Where the transport of a side of a capture is looked at no further: at a packet that has no place in class 0, or where no
+-- packet begins.
+abbrev pub fault_offset : TpktFault → ℕ
+fault_offset (BadVersion at) = at
+fault_offset (BadLength at) = at
+fault_offset OutOfMemory = 0
+
+abbrev pub stop_in : Stage → Ending → Option StoppedAt
+stop_in (stopped stop at) ending = Some (record { stop = stop; offset = offset_of at })
+stop_in stage (Faulty fault) = Some (record { stop = BadPacket fault; offset = fault_offset fault })
+stop_in stage (Rest n) = None
+
+pub record IsStoppedIn (d : Direction) (capture : Capture) (result : Option StoppedAt) : Type 0 where
+  pub units : List (List ℕ)
+  pub ending : Ending
+  pub cut : Cuts (stream d capture) units ending
+  pub stops : result ≡ stop_in (stage_from d opening 0 units) ending

@@ -1,10 +1,17 @@
 //! A capture of one connection of class 0, judged as it passes.
 
+ghost use Rattle.std.specs.Prelude.{◌≡◌, ◌≤◌, ◌<◌, ◌++◌, [], None, IfOk, OnOk, OnErr, length, take};
+ghost use Rattle.osi_judge.specs.Captures.{Capture, piece};
+ghost use Rattle.osi_judge.specs.Feeding.{tapped, has_broken};
+ghost use Rattle.osi_judge.specs.Following.{judged, both, half_of, first_in, first_after, Taps};
+ghost use Rattle.osi_judge.specs.Sides.{watched};
+ghost use Rattle.osi_judge.specs.Tapping.{IsFoundIn, IsStoppedIn};
+
 use crate::directions::Direction;
 use crate::findings::Finding;
-use crate::lines::{Half, Progress, feed};
+use crate::lines::{Half, feed};
 use crate::sides::Side;
-use crate::stops::Stop;
+use crate::stops::Stopped;
 use std::alloc::{AllocError, Global};
 
 /// What was read of a direction.
@@ -18,14 +25,6 @@ pub struct Reading {
     pub rest: u64,
 }
 
-/// Why and where the transport of a side is looked at no further.
-#[derive(Clone, Copy, PartialEq, Eq, Debug)]
-pub struct Stopped {
-    pub stop: Stop,
-    /// The offset of the packet in its direction.
-    pub offset: u64,
-}
-
 /// A capture of one connection of class 0, judged as it passes (RFC 1006, X.224 class 0, X.225). It is fed
 /// pieces of both directions in the order in which they passed.
 #[derive(Drop)]
@@ -35,9 +34,54 @@ pub struct Judge {
     first: Option<Direction>,
 }
 
+/// The side whose break passed first, by that of which more passed.
+fn first_after(
+    first: Option<Direction>,
+    direction: Direction,
+    has_broken: bool,
+) -> Option<Direction>
+    ensures { result ≡ first_after first direction has_broken }
+{
+    match first {
+        Some(first) => Some(first),
+        None => {
+            if has_broken {
+                Some(direction)
+            } else {
+                None
+            }
+        }
+    }
+}
+
+/// Octets of left pass.
+fn feed_left(left: &mut Half, right: &mut Half, octets: &[u8]) -> Result<usize, AllocError>
+    ensures used { IfOk result (λ n. n ≤ length octets.now) }
+    ensures some { IfOk result (λ n. 0 < length octets.now → 0 < n) }
+    ensures taps { IfOk result (λ n. (capture : Capture) → Taps (both left.old right.old) capture → Taps (both left.new right.new) (capture ++ piece Direction.Left (take n octets.now))) }
+    ensures err { OnErr result (both left.new right.new ≡ both left.old right.old) }
+{
+    let used = feed(Direction::Left, left, &mut right.side, octets)?;
+    Ok(used)
+}
+
+/// Octets of right pass.
+fn feed_right(left: &mut Half, right: &mut Half, octets: &[u8]) -> Result<usize, AllocError>
+    ensures used { IfOk result (λ n. n ≤ length octets.now) }
+    ensures some { IfOk result (λ n. 0 < length octets.now → 0 < n) }
+    ensures taps { IfOk result (λ n. (capture : Capture) → Taps (both left.old right.old) capture → Taps (both left.new right.new) (capture ++ piece Direction.Right (take n octets.now))) }
+    ensures err { OnErr result (both left.new right.new ≡ both left.old right.old) }
+{
+    let used = feed(Direction::Right, right, &mut left.side, octets)?;
+    Ok(used)
+}
+
 impl Judge {
     /// Nothing has passed.
-    pub fn new(alloc: Global) -> Result<Judge, AllocError> {
+    pub fn new(alloc: Global) -> Result<Judge, AllocError>
+        ensures taps { IfOk result (λ j. Taps (judged j) []) }
+        ensures first { IfOk result (λ j. first_in j ≡ None) }
+    {
         let left = Side::caller(alloc)?;
         let right = Side::called(alloc)?;
         Ok(Judge {
@@ -49,35 +93,38 @@ impl Judge {
 
     /// Octets of a side pass: those of the piece up to the end of the header or of the packet under way.
     /// Says how many these are, none only of an empty piece. `Err` changes nothing.
-    pub fn feed(&mut self, direction: Direction, piece: &[u8]) -> Result<usize, AllocError> {
-        let used = match direction {
-            Direction::Left => feed(direction, &mut self.left, &mut self.right.side, piece)?,
-            Direction::Right => feed(direction, &mut self.right, &mut self.left.side, piece)?,
-        };
-        if self.first.is_none() && self.is_broken(direction) {
-            self.first = Some(direction);
-        }
+    pub fn feed(&mut self, direction: Direction, octets: &[u8]) -> Result<usize, AllocError>
+        ensures used { IfOk result (λ n. n ≤ length octets.now) }
+        ensures some { IfOk result (λ n. 0 < length octets.now → 0 < n) }
+        ensures taps { IfOk result (λ n. (capture : Capture) → Taps (judged self.old) capture → Taps (judged self.new) (capture ++ piece direction (take n octets.now))) }
+        ensures first { OnOk result (first_in self.new ≡ first_after (first_in self.old) direction (has_broken (half_of direction (judged self.new)))) }
+        ensures err { OnErr result ((judged self.new ≡ judged self.old) × (first_in self.new ≡ first_in self.old)) }
+    {
+        let used = self.take(direction, octets)?;
+        let has_broken = self.half(direction).has_broken();
+        self.first = first_after(self.first, direction, has_broken);
         Ok(used)
     }
 
-    fn half(&self, direction: Direction) -> &Half {
+    fn take(&mut self, direction: Direction, octets: &[u8]) -> Result<usize, AllocError>
+        ensures used { IfOk result (λ n. n ≤ length octets.now) }
+        ensures some { IfOk result (λ n. 0 < length octets.now → 0 < n) }
+        ensures taps { IfOk result (λ n. (capture : Capture) → Taps (judged self.old) capture → Taps (judged self.new) (capture ++ piece direction (take n octets.now))) }
+        ensures first { first_in self.new ≡ first_in self.old }
+        ensures err { OnErr result (judged self.new ≡ judged self.old) }
+    {
         match direction {
-            Direction::Left => &self.left,
-            Direction::Right => &self.right,
+            Direction::Left => feed_left(&mut self.left, &mut self.right, octets),
+            Direction::Right => feed_right(&mut self.left, &mut self.right, octets),
         }
     }
 
-    fn is_broken(&self, direction: Direction) -> bool {
-        let is_stopped = match self.stopped(direction) {
-            Some(stopped) => stopped.stop.is_break(),
-            None => false,
-        };
-        if is_stopped {
-            return true;
-        }
-        match self.side(direction).finding() {
-            Finding::Broke(_) | Finding::Left(_) => true,
-            Finding::Kept | Finding::TooMany => false,
+    fn half(&self, direction: Direction) -> &Half
+        ensures { tapped result.now ≡ half_of direction (judged self.now) }
+    {
+        match direction {
+            Direction::Left => &self.left,
+            Direction::Right => &self.right,
         }
     }
 
@@ -97,8 +144,17 @@ impl Judge {
     }
 
     /// The session of a side.
-    pub fn side(&self, direction: Direction) -> &Side {
+    pub fn side(&self, direction: Direction) -> &Side
+        ensures { watched result.now ≡ (half_of direction (judged self.now)).side }
+    {
         &self.half(direction).side
+    }
+
+    /// What is found of a side, by all that was fed.
+    pub fn finding(&self, direction: Direction) -> Finding
+        ensures { (capture : Capture) → Taps (judged self.now) capture → IsFoundIn direction capture result }
+    {
+        self.side(direction).finding()
     }
 
     /// Where the session of a side broke the protocol: the offset of the last packet of that TSDU.
@@ -107,22 +163,16 @@ impl Judge {
     }
 
     /// Why and where the transport of a side is looked at no further; none where it is.
-    pub fn stopped(&self, direction: Direction) -> Option<Stopped> {
-        let half = self.half(direction);
-        if let Progress::Stopped(stop, offset) = half.line.progress {
-            return Some(Stopped { stop, offset });
-        }
-        match half.fault {
-            Some(fault) => Some(Stopped {
-                stop: Stop::BadPacket(fault),
-                offset: half.line.at,
-            }),
-            None => None,
-        }
+    pub fn stopped(&self, direction: Direction) -> Option<Stopped>
+        ensures { (capture : Capture) → Taps (judged self.now) capture → IsStoppedIn direction capture result }
+    {
+        self.half(direction).stopped()
     }
 
     /// The side whose break, of session or of transport, passed first.
-    pub fn first(&self) -> Option<Direction> {
+    pub fn first(&self) -> Option<Direction>
+        ensures { result ≡ first_in self.now }
+    {
         self.first
     }
 }

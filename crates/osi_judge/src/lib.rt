@@ -5,6 +5,7 @@
 mod directions;
 mod findings;
 mod judge;
+pub mod laws;
 mod lines;
 mod members;
 mod profiles;
@@ -18,8 +19,8 @@ mod walks;
 
 pub use directions::Direction;
 pub use findings::Finding;
-pub use judge::{Judge, Reading, Stopped};
+pub use judge::{Judge, Reading};
 pub use rules::{Break, Rule};
 pub use sides::{Side, TellError};
 pub use standings::Stands;
-pub use stops::Stop;
+pub use stops::{Stop, Stopped};

@@ -2,15 +2,16 @@
 
 ghost use Rattle.std.specs.Prelude.{◌≡◌, ◌≤◌, ◌<◌, ◌+◌, ◌++◌, ℕ, List, [], None, false, IfOk, OnOk, OnErr, length, take};
 ghost use Rattle.osi_tpkt.specs.Packet.{stated_length};
+ghost use Rattle.osi_tpkt.specs.Stream.{offset_of};
 ghost use Rattle.osi_judge.specs.Sides.{watched};
 ghost use Rattle.osi_judge.specs.Transport.{opening, between, stopped, is_open, begun, first_of, added, moved, adds, brought};
-ghost use Rattle.osi_judge.specs.Feeding.{stage_in, lined, tapped, since_at, since_in, Tells, hears, Passes, TakesUnit, Settles, Feeds};
+ghost use Rattle.osi_judge.specs.Feeding.{stage_in, lined, tapped, since_at, since_in, Tells, hears, Passes, TakesUnit, Settles, Feeds, placed, stopped_packet, stopped_of, has_broken};
 
 use crate::directions::Direction;
 use crate::findings::Finding;
 use crate::sides::Side;
 use crate::steps::{Step, read_step};
-use crate::stops::Stop;
+use crate::stops::{Stop, Stopped, breaks};
 use osi_class::LONGEST_TSDU;
 use osi_tpkt::{Packet, TpktFault, Unit};
 use std::alloc::{AllocError, Global};
@@ -147,6 +148,30 @@ fn since_packet(held: &[u8], heard: usize, since: usize) -> usize
     if held.is_empty() { heard } else { since }
 }
 
+/// A fault of octets that stand at an offset.
+fn placed(fault: TpktFault, offset: u64) -> TpktFault
+    ensures { result ≡ placed offset fault }
+{
+    match fault {
+        TpktFault::BadVersion(_) => TpktFault::BadVersion(offset),
+        TpktFault::BadLength(_) => TpktFault::BadLength(offset),
+        TpktFault::OutOfMemory => TpktFault::OutOfMemory,
+    }
+}
+
+/// The stop where no packet begins at an offset.
+fn stopped_packet(fault: Option<TpktFault>, offset: u64) -> Option<Stopped>
+    ensures { result ≡ stopped_packet fault offset }
+{
+    match fault {
+        None => None,
+        Some(fault) => Some(Stopped {
+            stop: Stop::BadPacket(placed(fault, offset)),
+            offset,
+        }),
+    }
+}
+
 /// A TSDU of a side passes whole. `Err` changes nothing.
 fn pass(side: &mut Side, other: &mut Side, tsdu: &[u8], before: usize) -> Result<(), AllocError>
     ensures tells { OnOk result (Tells tsdu.now before (watched side.old) (watched side.new)) }
@@ -155,11 +180,13 @@ fn pass(side: &mut Side, other: &mut Side, tsdu: &[u8], before: usize) -> Result
 {
     let heard = other.heard();
     other.hear(tsdu)?;
-    if side.tell(tsdu, before).is_err() {
-        other.unhear(heard);
-        return Err(AllocError);
+    match side.tell(tsdu, before) {
+        Ok(()) => Ok(()),
+        Err(_) => {
+            other.unhear(heard);
+            Err(AllocError)
+        }
     }
-    Ok(())
 }
 
 /// A part of a TSDU passes, whose end has not come. `Err` changes nothing.
@@ -172,6 +199,16 @@ fn add_part(line: &mut Line, octets: &[u8], since: usize) -> Result<(), AllocErr
     line.progress = Progress::Within(line.progress.first(line.at));
     line.begun_since = since;
     Ok(())
+}
+
+/// The packet that ended the TSDU at which a side broke the protocol, or the last while it keeps it.
+fn last_place(finding: Finding, at: u64, last: u64) -> u64 {
+    match finding {
+        Finding::Kept => at,
+        Finding::Broke(_) => last,
+        Finding::Left(_) => last,
+        Finding::TooMany => last,
+    }
 }
 
 /// The last part of a TSDU passes. `Err` changes nothing.
@@ -189,18 +226,20 @@ fn end_part(
     ensures err { OnErr result ((lined line.new ≡ lined line.old) × (watched side.new ≡ watched side.old) × (watched other.new ≡ watched other.old)) }
 {
     let begun = line.begun.len();
+    let last = last_place(side.finding(), line.at, line.last);
     line.begun.extend_from_slice(octets)?;
-    let was_kept = matches!(side.finding(), Finding::Kept);
-    if pass(side, other, line.begun.as_slice(), since).is_err() {
-        line.begun.truncate(begun);
-        return Err(AllocError);
+    match pass(side, other, line.begun.as_slice(), since) {
+        Ok(()) => {
+            line.begun_since = since;
+            line.progress = Progress::Between;
+            line.last = last;
+            Ok(())
+        }
+        Err(refused) => {
+            line.begun.truncate(begun);
+            Err(refused)
+        }
     }
-    if was_kept {
-        line.last = line.at;
-    }
-    line.begun_since = since;
-    line.progress = Progress::Between;
-    Ok(())
 }
 
 /// A DT of a side passes. `Err` changes nothing.
@@ -256,7 +295,10 @@ fn take_unit(
             line.stop(stop, since);
             Ok(())
         }
-        Step::Adds(end, octets) => add(line, side, other, end, octets, since),
+        Step::Adds(end, octets) => {
+            add(line, side, other, end, octets, since)?;
+            Ok(())
+        }
     }
 }
 
@@ -272,24 +314,29 @@ fn settle(
     ensures err { OnErr result ((tapped half.new ≡ tapped half.old) × (watched other.new ≡ watched other.old)) }
 {
     match Packet::read(half.held.as_slice()) {
-        Ok(None) => {}
-        Err(fault) => half.fault = Some(fault),
-        Ok(Some((packet, _))) => {
+        Ok(None) => {
+            half.line.since = since;
+            Ok(())
+        }
+        Err(fault) => {
+            half.fault = Some(fault);
+            half.line.since = since;
+            Ok(())
+        }
+        Ok(Some(found)) => {
+            let unit = found.0.unit();
             take_unit(
                 direction,
                 &mut half.line,
                 &mut half.side,
                 other,
-                packet.unit(),
+                unit,
                 since,
             )?;
-            half.line.packets = half.line.packets.saturating_add(1);
-            half.line.at = half.line.at.saturating_add(half.held.len() as u64);
-            half.held.clear();
+            half.advance(since);
+            Ok(())
         }
     }
-    half.line.since = since;
-    Ok(())
 }
 
 impl Half {
@@ -304,6 +351,40 @@ impl Half {
             line: Line::new(alloc),
             side,
         }
+    }
+
+    /// Why and where its transport is looked at no further.
+    pub(crate) fn stopped(&self) -> Option<Stopped>
+        ensures { result ≡ stopped_of (tapped self.now) }
+    {
+        match self.line.progress {
+            Progress::Stopped(stop, offset) => Some(Stopped { stop, offset }),
+            Progress::Opening => stopped_packet(self.fault, self.line.at),
+            Progress::Between => stopped_packet(self.fault, self.line.at),
+            Progress::Within(_) => stopped_packet(self.fault, self.line.at),
+        }
+    }
+
+    /// Whether it broke the protocol, by its session or its transport.
+    pub(crate) fn has_broken(&self) -> bool
+        ensures { result ≡ has_broken (tapped self.now) }
+    {
+        match self.side.finding() {
+            Finding::Broke(_) => true,
+            Finding::Left(_) => true,
+            Finding::Kept => breaks(self.stopped()),
+            Finding::TooMany => breaks(self.stopped()),
+        }
+    }
+
+    /// The packet that was held is behind, before which so many TSDUs of the other side had passed.
+    fn advance(&mut self, since: usize)
+        ensures { tapped self.new ≡ record (tapped self.old) { held = []; line = record (tapped self.old).line { at = offset_of ((tapped self.old).line.at + length (tapped self.old).held); since = since } } }
+    {
+        self.line.packets = self.line.packets.saturating_add(1);
+        self.line.at = self.line.at.saturating_add(self.held.len() as u64);
+        self.line.since = since;
+        self.held.clear();
     }
 }
 
@@ -320,7 +401,7 @@ pub(crate) fn feed(
     ensures feeds { IfOk result (λ n. Feeds direction (take n piece.now) (tapped half.old) (tapped half.new) (watched other.old) (watched other.new)) }
     ensures err { OnErr result ((tapped half.new ≡ tapped half.old) × (watched other.new ≡ watched other.old)) }
 {
-    if half.fault.is_some() {
+    if let Some(_fault) = half.fault {
         half.octets = half.octets.saturating_add(piece.len() as u64);
         return Ok(piece.len());
     }
@@ -328,10 +409,14 @@ pub(crate) fn feed(
     let used = wanted(half.held.as_slice()).min(piece.len());
     let since = since_packet(half.held.as_slice(), half.side.heard(), half.line.since);
     half.held.extend_from_slice(&piece[..used])?;
-    if settle(direction, half, other, since).is_err() {
-        half.held.truncate(held);
-        return Err(AllocError);
+    match settle(direction, half, other, since) {
+        Ok(()) => {
+            half.octets = half.octets.saturating_add(used as u64);
+            Ok(used)
+        }
+        Err(refused) => {
+            half.held.truncate(held);
+            Err(refused)
+        }
     }
-    half.octets = half.octets.saturating_add(used as u64);
-    Ok(used)
 }

@@ -92,6 +92,7 @@ impl Side {
 
     /// A TSDU of the other side, which has passed whole. `Err` changes nothing.
     pub fn hear(&mut self, tsdu: &[u8]) -> Result<(), AllocError>
+        ensures all { OnOk result (watched self.new ≡ record (watched self.old) { heard = (watched self.old).heard ++ tsdu.now ∷ [] }) }
         ensures heard { OnOk result ((watched self.new).heard ≡ (watched self.old).heard ++ tsdu.now ∷ []) }
         ensures others { OnOk result (((watched self.new).begin ≡ (watched self.old).begin) × ((watched self.new).before ≡ (watched self.old).before)) }
         ensures watches { OnOk result ((told : List Told) → Watches (watched self.old) told → Watches (watched self.new) told) }
@@ -104,8 +105,7 @@ impl Side {
 
     /// Forgets the TSDUs of the other side but for the first so many.
     pub(crate) fn unhear(&mut self, count: usize)
-        ensures heard { (watched self.new).heard ≡ take count (watched self.old).heard }
-        ensures others { watched self.new ≡ record (watched self.old) { heard = take count (watched self.old).heard } }
+        ensures { watched self.new ≡ record (watched self.old) { heard = take count (watched self.old).heard } }
     {
         self.heard.truncate(count);
     }
@@ -113,27 +113,40 @@ impl Side {
     /// A TSDU of this side, before whose first octet so many TSDUs of the other side had passed whole: as
     /// many as before the last, or more, and no more than were heard. Else it is [`TellError::OutOfOrder`].
     /// `Err` changes nothing.
-    #[tactic(auto, using(crate::proofs::SideLaws::broke_as, crate::proofs::SideLaws::left_as, crate::proofs::SideLaws::too_many_as))]
     pub fn tell(&mut self, tsdu: &[u8], before: usize) -> Result<(), TellError>
         ensures others { OnOk result (((watched self.new).begin ≡ (watched self.old).begin) × ((watched self.new).heard ≡ (watched self.old).heard)) }
-        ensures order { OnOk result (((watched self.old).before ≤ before) × (before ≤ length (watched self.old).heard)) }
-        ensures before { OnOk result ((watched self.new).before ≤ before) }
+        ensures order { OnOk result ((watched self.new).before ≤ before) }
         ensures watches { OnOk result ((told : List Told) → Watches (watched self.old) told → Watches (watched self.new) (told ++ record { octets = tsdu.now; before = before } ∷ [])) }
-        ensures err { OnErr result (watched self.new ≡ watched self.old) }
+        ensures in_order { OnOk result (((watched self.old).before ≤ before) × (before ≤ length (watched self.old).heard)) }
         ensures out_of_order { result ≡ Err TellError.OutOfOrder → (before < (watched self.old).before) ⊎ (length (watched self.old).heard < before) }
+        ensures err { OnErr result (watched self.new ≡ watched self.old) }
     {
-        if before < self.before || self.heard.len() < before {
+        if before < self.before {
             return Err(TellError::OutOfOrder);
         }
-        let told = match self.finding {
+        if self.heard.len() < before {
+            return Err(TellError::OutOfOrder);
+        }
+        match self.tell_in_order(tsdu, before) {
+            Ok(()) => Ok(()),
+            Err(_) => Err(TellError::OutOfMemory),
+        }
+    }
+
+    #[tactic(auto, using(crate::proofs::SideLaws::broke_as, crate::proofs::SideLaws::left_as, crate::proofs::SideLaws::too_many_as))]
+    fn tell_in_order(&mut self, tsdu: &[u8], before: usize) -> Result<(), AllocError>
+        requires order { (watched self.old).before ≤ before }
+        requires passed { before ≤ length (watched self.old).heard }
+        ensures others { OnOk result (((watched self.new).begin ≡ (watched self.old).begin) × ((watched self.new).heard ≡ (watched self.old).heard)) }
+        ensures order { OnOk result ((watched self.new).before ≤ before) }
+        ensures watches { OnOk result ((told : List Told) → Watches (watched self.old) told → Watches (watched self.new) (told ++ record { octets = tsdu.now; before = before } ∷ [])) }
+        ensures err { OnErr result (watched self.new ≡ watched self.old) }
+    {
+        match self.finding {
             Finding::Kept => self.tell_kept(tsdu, before),
             Finding::Broke(_) => Ok(()),
             Finding::Left(_) => Ok(()),
             Finding::TooMany => Ok(()),
-        };
-        match told {
-            Ok(()) => Ok(()),
-            Err(_) => Err(TellError::OutOfMemory),
         }
     }
 
@@ -224,7 +237,8 @@ impl Side {
 
     /// What is found of the side, by all that it said and by what it may have heard.
     pub fn finding(&self) -> Finding
-        ensures { (told : List Told) → Watches (watched self.now) told → IsFound (watched self.now).begin (watched self.now).heard told result }
+        ensures value { result ≡ (watched self.now).finding }
+        ensures found { (told : List Told) → Watches (watched self.now) told → IsFound (watched self.now).begin (watched self.now).heard told result }
     {
         self.finding
     }

@@ -1,5 +1,8 @@
 //! Why the transport of a side is read no further.
 
+ghost use Rattle.std.specs.Prelude.{◌≡◌};
+ghost use Rattle.osi_judge.specs.Stops.{is_break, breaks};
+
 use osi_tpdu::TpduFault;
 use osi_tpkt::TpktFault;
 
@@ -29,11 +32,31 @@ pub enum Stop {
 
 impl Stop {
     /// Whether the side broke the rules of transport. Else the connection is one that is not judged.
-    pub fn is_break(self) -> bool {
+    pub fn is_break(self) -> bool
+        ensures { result ≡ is_break self }
+    {
         match self {
             Stop::NoOpening | Stop::OtherClass | Stop::Refused | Stop::MoreConnections => false,
             Stop::BadPacket(_) | Stop::BadUnit(_) => true,
             Stop::UnexpectedUnit | Stop::WrongForm | Stop::TsduTooLong => true,
         }
+    }
+}
+
+/// Why and where the transport of a side is looked at no further.
+#[derive(Clone, Copy, PartialEq, Eq, Debug)]
+pub struct Stopped {
+    pub stop: Stop,
+    /// The offset of the packet in its direction.
+    pub offset: u64,
+}
+
+/// Whether a side that may have been stopped broke the rules of transport.
+pub(crate) fn breaks(stopped: Option<Stopped>) -> bool
+    ensures { result ≡ breaks stopped }
+{
+    match stopped {
+        None => false,
+        Some(stopped) => stopped.stop.is_break(),
     }
 }

@@ -51,5 +51,5 @@ returns-clause-turns c = λ before b us later x h.
       standing = at_some (λ (y : Taking). y.next ≡ after_count at.standing (count_taken y)) o t e k.sent;
     } in
     goes_on us later (word (said_by c.args.unit.now)) c.args.octets before c.args.next.now.items c.say_it.new.next.items c.args.walker c.in_ok-said.said now
-    (count_taken t) (c.in_ok-said.ensures us later) took (none_of reply_of t.reply (λ r z. c.in_default-2.not-Some r z)) b h
+    (count_taken t) (c.in_ok-said.ensures us later) took (none_of reply_of t.reply (λ r z. c.in_default-reply.not-Some r z)) b h
     (subst (λ (u : List ℕ). MayFollow c.in_ok-said.said.said_before u c.in_ok-said_before.said_before) (sym tsdu) c.in_ok-said_before.ensures)
