@@ -2,3 +2,4 @@ pub mod Feeds
 pub mod Digits
 pub mod OneFinding
 pub mod OneText
+pub mod RowLaws

@@ -1,11 +1,13 @@
 -- What a verdict says of a capture.
-use Rattle.std.specs.Prelude.{◌≡◌, ℕ}
+use Rattle.std.specs.Prelude.{◌≡◌, ℕ, false, Option}
 use Rattle.osi_judge.specs.declared.directions.Direction.{Direction}
 use Rattle.osi_judge.specs.declared.directions.Direction.TheVariants.{Left, Right}
 use Rattle.osi_judge.specs.declared.findings.Finding.{Finding}
 use Rattle.osi_judge.specs.declared.findings.Finding.TheVariants as finding
 use Rattle.osi_judge.specs.Captures.{Capture}
-use Rattle.osi_judge.specs.Tapping.{IsFoundIn}
+use Rattle.osi_judge.specs.Tapping.{IsFoundIn, IsStoppedIn}
+use Rattle.osi_judge.specs.Stops.{breaks}
+use Rattle.osi_judge.specs.declared.stops.Stopped.{Stopped}
 use Rattle.osi_dispute.specs.declared.verdicts.Told.{Told}
 use Rattle.osi_dispute.specs.declared.verdicts.Told.TheVariants as told
 use Rattle.osi_dispute.specs.declared.verdicts.Connection.{Connection}
@@ -31,9 +33,13 @@ IsTrueOf d capture (Refused reference) = Unit {0}
 IsTrueOf d capture (Unanswered reference) = Unit {0}
 IsTrueOf d capture (Session reference t) = IsTold d capture t
 
+-- it was found that the session of this side kept the protocol, and its transport was not stopped by a break
+abbrev pub KeepsIn : Direction → Capture → Type 0
+KeepsIn d capture = IsFoundIn d capture finding.Kept × ((s : Option Stopped) × IsStoppedIn d capture s × (breaks s ≡ false))
+
 -- where the verdict is that both kept the protocol, both did
 abbrev pub IsOutcome : Capture → Outcome → Type 0
-IsOutcome capture BothKept = IsFoundIn Left capture finding.Kept × IsFoundIn Right capture finding.Kept
+IsOutcome capture BothKept = KeepsIn Left capture × KeepsIn Right capture
 IsOutcome capture (First d) = Unit {0}
 IsOutcome capture (NotJudged why) = Unit {0}
 
@@ -41,4 +47,6 @@ IsOutcome capture (NotJudged why) = Unit {0}
 pub record IsVerdict (capture : Capture) (v : Verdict) : Type 0 where
   pub left : IsTrueOf Left capture v.left.connection
   pub right : IsTrueOf Right capture v.right.connection
+  pub left_stop : IsStoppedIn Left capture v.left.stopped
+  pub right_stop : IsStoppedIn Right capture v.right.stopped
   pub outcome : IsOutcome capture v.outcome

@@ -1,6 +1,6 @@
 //! The text of a capture of both sides, read: each line is a piece of one side.
 
-ghost use Rattle.std.specs.Prelude.{◌≡◌};
+ghost use Rattle.std.specs.Prelude.{◌≡◌, take, drop};
 ghost use Rattle.osi_listing.specs.Capture.{is_blank};
 ghost use Rattle.osi_dispute.specs.Rows.{is_tabbed, digits_on, begun_on, ends_within, left_is_tabbed};
 ghost use Rattle.osi_dispute.specs.Reading.{rows_left};
@@ -50,8 +50,7 @@ impl<'a> Pieces<'a> {
         };
         let (line, behind) = first_line(text);
         let digits = digits_on(line);
-        let count = begun_on(self.is_within, digits).min(self.octets.len());
-        let (octets, rest) = self.octets.split_at(count);
+        let (octets, rest) = parted(self.octets, begun_on(self.is_within, digits));
         self.lines = behind;
         self.octets = rest;
         self.is_within = ends_within(self.is_within, digits);
@@ -60,6 +59,18 @@ impl<'a> Pieces<'a> {
             octets,
         })
     }
+}
+
+/// The first so many octets, or all where there are fewer, and the others.
+#[tactic(auto, using(std::proofs::lemmas::List::take_all, std::proofs::lemmas::List::drop_all))]
+fn parted(octets: &[u8], count: usize) -> (&[u8], &[u8])
+    ensures first { result.0.now ≡ take count octets.now }
+    ensures others { result.1.now ≡ drop count octets.now }
+{
+    if octets.len() < count {
+        return (octets, &[]);
+    }
+    octets.split_at(count)
 }
 
 /// How many octets begin on a line with so many digits.

@@ -3,8 +3,9 @@
 ghost use Rattle.std.specs.Prelude.{◌≡◌, true, IfOk};
 ghost use Rattle.osi_judge.specs.Captures.{Capture};
 ghost use Rattle.osi_judge.specs.Following.{judged, Taps};
-ghost use Rattle.osi_judge.specs.Tapping.{IsFoundIn};
-ghost use Rattle.osi_dispute.specs.Verdicts.{IsTold, IsTrueOf, IsOutcome, IsVerdict};
+ghost use Rattle.osi_judge.specs.Stops.{breaks};
+ghost use Rattle.osi_judge.specs.Tapping.{IsStoppedIn};
+ghost use Rattle.osi_dispute.specs.Verdicts.{IsTold, IsTrueOf, KeepsIn, IsOutcome, IsVerdict};
 
 use osi_judge::{Break, Direction, Finding, Judge, Reading, Stands, Stop, Stopped};
 use std::alloc::AllocError;
@@ -142,7 +143,8 @@ fn connection_of(judge: &Judge, direction: Direction) -> Result<Connection, Allo
 }
 
 fn account_of(judge: &Judge, direction: Direction) -> Result<Account, AllocError>
-    ensures { IfOk result (λ a. (capture : Capture) → Taps (judged judge.now) capture → IsTrueOf direction capture a.connection) }
+    ensures connection { IfOk result (λ a. (capture : Capture) → Taps (judged judge.now) capture → IsTrueOf direction capture a.connection) }
+    ensures stopped { IfOk result (λ a. (capture : Capture) → Taps (judged judge.now) capture → IsStoppedIn direction capture a.stopped) }
 {
     Ok(Account {
         reading: judge.reading(direction),
@@ -163,10 +165,23 @@ fn unjudged_at(judge: &Judge, direction: Direction) -> Option<Unjudged> {
     }
 }
 
-/// Whether a side kept the protocol.
-fn keeps(judge: &Judge, direction: Direction) -> bool
-    ensures { result ≡ true → (capture : Capture) → Taps (judged judge.now) capture → IsFoundIn direction capture Finding.Kept }
+/// Whether the transport of a side was stopped by a break.
+fn has_broken(stopped: Option<Stopped>) -> bool
+    ensures { result ≡ breaks stopped }
 {
+    match stopped {
+        None => false,
+        Some(stopped) => stopped.stop.is_break(),
+    }
+}
+
+/// Whether a side kept the protocol, in its session and in its transport.
+fn keeps(judge: &Judge, direction: Direction) -> bool
+    ensures { result ≡ true → (capture : Capture) → Taps (judged judge.now) capture → KeepsIn direction capture }
+{
+    if has_broken(judge.stopped(direction)) {
+        return false;
+    }
     match judge.finding(direction) {
         Finding::Kept => true,
         _ => false,
