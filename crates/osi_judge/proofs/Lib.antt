@@ -9,3 +9,4 @@ pub mod UnitLaws
 pub mod FollowLaws
 pub mod JudgeLaws
 pub mod LineLaws
+pub mod FirstLaws

@@ -5,11 +5,9 @@ use Rattle.osi_tpkt.specs.Stream.{offset_of}
 use Rattle.osi_tpkt.specs.declared.faults.TpktFault.{TpktFault}
 use Rattle.osi_tpkt.specs.declared.faults.TpktFault.TheVariants.{BadVersion, BadLength, OutOfMemory}
 use Rattle.osi_judge.specs.declared.directions.Direction.{Direction}
-use Rattle.osi_judge.specs.declared.findings.Finding.{Finding}
-use Rattle.osi_judge.specs.declared.findings.Finding.TheVariants.{Broke, Left}
 use Rattle.osi_judge.specs.declared.stops.Stop.TheVariants.{BadPacket}
 use Rattle.osi_judge.specs.declared.stops.Stopped.{Stopped as StoppedAt}
-use Rattle.osi_judge.specs.Stops.{breaks}
+use Rattle.osi_judge.specs.Stops.{breaks, broke_session}
 use Rattle.osi_judge.specs.declared.lines.Progress.{Progress}
 use Rattle.osi_judge.specs.declared.lines.Progress.TheVariants.{Opening, Between, Within, Stopped}
 use Rattle.osi_judge.specs.declared.lines.Line.{Line}
@@ -139,10 +137,5 @@ abbrev pub stopped_of : Tapped → Option StoppedAt
 stopped_of t = stopped_by t.line.stage t.fault t.line.at
 
 -- by its session, or by its transport
-abbrev pub broke_session : Finding → Bool
-broke_session (Broke i) = true
-broke_session (Left i) = true
-broke_session finding = false
-
 abbrev pub has_broken : Tapped → Bool
 has_broken t = broke_session t.side.finding || breaks (stopped_of t)

@@ -1,5 +1,5 @@
 -- What is known of a judge that was fed a capture.
-use Rattle.std.specs.Prelude.{◌≡◌, ◌≤◌, ◌<◌, ◌-◌, ℕ, List, [], ◌∷◌, length, Bool, true, false, Option, Some, None}
+use Rattle.std.specs.Prelude.{◌≡◌, ◌≤◌, ◌<◌, ◌-◌, ℕ, List, [], ◌∷◌, ◌++◌, length, Bool, true, false, Option, Some, None}
 use Rattle.osi_tpkt.specs.Packet.{IsPartial, IsFaultOf}
 use Rattle.osi_tpkt.specs.Stream.{ArePackets, offset_of}
 use Rattle.osi_tpkt.specs.declared.faults.TpktFault.{TpktFault}
@@ -10,7 +10,7 @@ use Rattle.osi_judge.specs.declared.lines.Half.{Half}
 use Rattle.osi_judge.specs.Captures.{Capture, other, stream}
 use Rattle.osi_judge.specs.Transport.{Stage, opening, between, within, stopped, Sent, stage_from, sent_from}
 use Rattle.osi_judge.specs.Tapping.{begin_of, had_passed, heard, told}
-use Rattle.osi_judge.specs.Feeding.{Tapped, tapped}
+use Rattle.osi_judge.specs.Feeding.{Tapped, tapped, has_broken}
 use Rattle.osi_judge.specs.Judging.{Watches}
 
 pub record Judged : Type 0 where
@@ -86,3 +86,18 @@ pub record Taps (j : Judged) (capture : Capture) : Type 0 where
   pub right : List Sent
   pub of_left : Follows Left capture j.left left right
   pub of_right : Follows Right capture j.right right left
+
+-- a side had broken the protocol behind some front part of the capture, and the other had not
+pub record BrokeFirst (d : Direction) (capture : Capture) : Type 0 where
+  pub by_then : Judged
+  pub front : Capture
+  pub back : Capture
+  pub parts : capture ≡ front ++ back
+  pub taps : Taps by_then front
+  pub broke : has_broken (half_of d by_then) ≡ true
+  pub kept : has_broken (half_of (other d) by_then) ≡ false
+
+-- what is known of the first break
+abbrev pub FirstIs : Option Direction → Judged → Capture → Type 0
+FirstIs None j capture = (has_broken j.left ≡ false) × (has_broken j.right ≡ false)
+FirstIs (Some d) j capture = BrokeFirst d capture

@@ -1,5 +1,7 @@
--- Which stops are breaks of transport.
+-- Which findings and which stops are breaks of the protocol.
 use Rattle.std.specs.Prelude.{Bool, true, false, Option, Some, None}
+use Rattle.osi_judge.specs.declared.findings.Finding.{Finding}
+use Rattle.osi_judge.specs.declared.findings.Finding.TheVariants.{Broke, Left}
 use Rattle.osi_judge.specs.declared.stops.Stop.{Stop}
 use Rattle.osi_judge.specs.declared.stops.Stop.TheVariants.{NoOpening, OtherClass, Refused, MoreConnections, BadPacket, BadUnit, UnexpectedUnit, WrongForm, TsduTooLong}
 use Rattle.osi_judge.specs.declared.stops.Stopped.{Stopped}
@@ -19,3 +21,8 @@ is_break TsduTooLong = true
 abbrev pub breaks : Option Stopped → Bool
 breaks None = false
 breaks (Some s) = is_break s.stop
+
+abbrev pub broke_session : Finding → Bool
+broke_session (Broke i) = true
+broke_session (Left i) = true
+broke_session finding = false

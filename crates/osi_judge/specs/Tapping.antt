@@ -1,5 +1,5 @@
 -- What is judged of a capture: each side by its TSDUs, and by those of the other that had passed before them.
-use Rattle.std.specs.Prelude.{◌≡◌, ◌≤◌, ℕ, List, [], ◌∷◌, ◌++◌, length, map, filter, nat_le, Option, Some, None}
+use Rattle.std.specs.Prelude.{◌≡◌, ◌≤◌, ℕ, List, [], ◌∷◌, ◌++◌, length, map, filter, nat_le, Bool, true, false, ◌||◌, Option, Some, None}
 use Rattle.osi_session.specs.Standing.{Seen, seen_calling, seen_called}
 use Rattle.osi_judge.specs.declared.directions.Direction.{Direction}
 use Rattle.osi_judge.specs.declared.directions.Direction.TheVariants.{Left, Right}
@@ -10,6 +10,7 @@ use Rattle.osi_tpkt.specs.declared.faults.TpktFault.{TpktFault}
 use Rattle.osi_tpkt.specs.declared.faults.TpktFault.TheVariants.{BadVersion, BadLength, OutOfMemory}
 use Rattle.osi_judge.specs.declared.stops.Stop.TheVariants.{BadPacket}
 use Rattle.osi_judge.specs.declared.stops.Stopped.{Stopped as StoppedAt}
+use Rattle.osi_judge.specs.Stops.{breaks, broke_session}
 use Rattle.osi_judge.specs.Captures.{Capture, other, stream, passed_before}
 use Rattle.osi_judge.specs.Transport.{Stage, opening, stopped, Sent, stage_from, IsSent}
 use Rattle.osi_judge.specs.Explaining.{Told}
@@ -62,3 +63,26 @@ pub record IsStoppedIn (d : Direction) (capture : Capture) (result : Option Stop
   pub ending : Ending
   pub cut : Cuts (stream d capture) units ending
   pub stops : result ≡ stop_in (stage_from d opening 0 units) ending
+
+-- ---- the first break
+
+-- a side of a capture has broken the protocol by its session or by its transport, or by neither
+pub record StandsIn (d : Direction) (capture : Capture) (has_broken : Bool) : Type 0 where
+  pub finding : Finding
+  pub stop : Option StoppedAt
+  pub found : IsFoundIn d capture finding
+  pub is_stopped : IsStoppedIn d capture stop
+  pub broken : has_broken ≡ (broke_session finding || breaks stop)
+
+-- some front part of a capture has the break of this side, and none of the other
+pub record FirstBreak (d : Direction) (capture : Capture) : Type 0 where
+  pub front : Capture
+  pub back : Capture
+  pub parts : capture ≡ front ++ back
+  pub broke : StandsIn d front true
+  pub kept : StandsIn (other d) front false
+
+-- the side whose break passed first, or none broke the protocol
+abbrev pub IsFirstIn : Capture → Option Direction → Type 0
+IsFirstIn capture None = StandsIn Left capture false × StandsIn Right capture false
+IsFirstIn capture (Some d) = FirstBreak d capture

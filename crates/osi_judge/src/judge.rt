@@ -1,11 +1,11 @@
 //! A capture of one connection of class 0, judged as it passes.
 
 ghost use Rattle.std.specs.Prelude.{◌≡◌, ◌≤◌, ◌<◌, ◌++◌, [], None, IfOk, OnOk, OnErr, length, take};
-ghost use Rattle.osi_judge.specs.Captures.{Capture, piece};
+ghost use Rattle.osi_judge.specs.Captures.{Capture, other, piece};
 ghost use Rattle.osi_judge.specs.Feeding.{tapped, has_broken};
-ghost use Rattle.osi_judge.specs.Following.{judged, both, half_of, first_in, first_after, Taps};
+ghost use Rattle.osi_judge.specs.Following.{judged, both, half_of, first_in, first_after, Taps, FirstIs};
 ghost use Rattle.osi_judge.specs.Sides.{watched};
-ghost use Rattle.osi_judge.specs.Tapping.{IsFoundIn, IsStoppedIn};
+ghost use Rattle.osi_judge.specs.Tapping.{IsFoundIn, IsStoppedIn, IsFirstIn};
 
 use crate::directions::Direction;
 use crate::findings::Finding;
@@ -38,14 +38,14 @@ pub struct Judge {
 fn first_after(
     first: Option<Direction>,
     direction: Direction,
-    has_broken: bool,
+    broke: bool,
 ) -> Option<Direction>
-    ensures { result ≡ first_after first direction has_broken }
+    ensures { result ≡ first_after first direction broke }
 {
     match first {
         Some(first) => Some(first),
         None => {
-            if has_broken {
+            if broke {
                 Some(direction)
             } else {
                 None
@@ -59,6 +59,7 @@ fn feed_left(left: &mut Half, right: &mut Half, octets: &[u8]) -> Result<usize, 
     ensures used { IfOk result (λ n. n ≤ length octets.now) }
     ensures some { IfOk result (λ n. 0 < length octets.now → 0 < n) }
     ensures taps { IfOk result (λ n. (capture : Capture) → Taps (both left.old right.old) capture → Taps (both left.new right.new) (capture ++ piece Direction.Left (take n octets.now))) }
+    ensures beside { OnOk result (has_broken (tapped right.new) ≡ has_broken (tapped right.old)) }
     ensures err { OnErr result (both left.new right.new ≡ both left.old right.old) }
 {
     let used = feed(Direction::Left, left, &mut right.side, octets)?;
@@ -70,6 +71,7 @@ fn feed_right(left: &mut Half, right: &mut Half, octets: &[u8]) -> Result<usize,
     ensures used { IfOk result (λ n. n ≤ length octets.now) }
     ensures some { IfOk result (λ n. 0 < length octets.now → 0 < n) }
     ensures taps { IfOk result (λ n. (capture : Capture) → Taps (both left.old right.old) capture → Taps (both left.new right.new) (capture ++ piece Direction.Right (take n octets.now))) }
+    ensures beside { OnOk result (has_broken (tapped left.new) ≡ has_broken (tapped left.old)) }
     ensures err { OnErr result (both left.new right.new ≡ both left.old right.old) }
 {
     let used = feed(Direction::Right, right, &mut left.side, octets)?;
@@ -80,7 +82,7 @@ impl Judge {
     /// Nothing has passed.
     pub fn new(alloc: Global) -> Result<Judge, AllocError>
         ensures taps { IfOk result (λ j. Taps (judged j) []) }
-        ensures first { IfOk result (λ j. first_in j ≡ None) }
+        ensures first { IfOk result (λ j. FirstIs (first_in j) (judged j) []) }
     {
         let left = Side::caller(alloc)?;
         let right = Side::called(alloc)?;
@@ -97,12 +99,13 @@ impl Judge {
         ensures used { IfOk result (λ n. n ≤ length octets.now) }
         ensures some { IfOk result (λ n. 0 < length octets.now → 0 < n) }
         ensures taps { IfOk result (λ n. (capture : Capture) → Taps (judged self.old) capture → Taps (judged self.new) (capture ++ piece direction (take n octets.now))) }
-        ensures first { OnOk result (first_in self.new ≡ first_after (first_in self.old) direction (has_broken (half_of direction (judged self.new)))) }
+        ensures first { IfOk result (λ n. (capture : Capture) → Taps (judged self.old) capture → FirstIs (first_in self.old) (judged self.old) capture
+            → FirstIs (first_in self.new) (judged self.new) (capture ++ piece direction (take n octets.now))) }
         ensures err { OnErr result ((judged self.new ≡ judged self.old) × (first_in self.new ≡ first_in self.old)) }
     {
         let used = self.take(direction, octets)?;
-        let has_broken = self.half(direction).has_broken();
-        self.first = first_after(self.first, direction, has_broken);
+        let broke = self.half(direction).has_broken();
+        self.first = first_after(self.first, direction, broke);
         Ok(used)
     }
 
@@ -110,6 +113,7 @@ impl Judge {
         ensures used { IfOk result (λ n. n ≤ length octets.now) }
         ensures some { IfOk result (λ n. 0 < length octets.now → 0 < n) }
         ensures taps { IfOk result (λ n. (capture : Capture) → Taps (judged self.old) capture → Taps (judged self.new) (capture ++ piece direction (take n octets.now))) }
+        ensures beside { OnOk result (has_broken (half_of (other direction) (judged self.new)) ≡ has_broken (half_of (other direction) (judged self.old))) }
         ensures first { first_in self.new ≡ first_in self.old }
         ensures err { OnErr result (judged self.new ≡ judged self.old) }
     {
@@ -171,7 +175,7 @@ impl Judge {
 
     /// The side whose break, of session or of transport, passed first.
     pub fn first(&self) -> Option<Direction>
-        ensures { result ≡ first_in self.now }
+        ensures { (capture : Capture) → Taps (judged self.now) capture → FirstIs (first_in self.now) (judged self.now) capture → IsFirstIn capture result }
     {
         self.first
     }

@@ -52,6 +52,7 @@ impl Side {
     pub fn caller(alloc: Global) -> Result<Side, AllocError>
         ensures begin { IfOk result (λ s. (watched s).begin ≡ seen_calling) }
         ensures heard { IfOk result (λ s. ((watched s).heard ≡ []) × ((watched s).before ≡ 0)) }
+        ensures kept { IfOk result (λ s. (watched s).finding ≡ Finding.Kept) }
         ensures watches { IfOk result (λ s. Watches (watched s) []) }
     {
         let side = Side::beginning(alloc, Standing::calling())?;
@@ -62,6 +63,7 @@ impl Side {
     pub fn called(alloc: Global) -> Result<Side, AllocError>
         ensures begin { IfOk result (λ s. (watched s).begin ≡ seen_called) }
         ensures heard { IfOk result (λ s. ((watched s).heard ≡ []) × ((watched s).before ≡ 0)) }
+        ensures kept { IfOk result (λ s. (watched s).finding ≡ Finding.Kept) }
         ensures watches { IfOk result (λ s. Watches (watched s) []) }
     {
         let side = Side::beginning(alloc, Standing::called())?;
@@ -71,6 +73,7 @@ impl Side {
     fn beginning(alloc: Global, begin: Standing) -> Result<Side, AllocError>
         ensures begin { IfOk result (λ s. (watched s).begin ≡ begin) }
         ensures heard { IfOk result (λ s. ((watched s).heard ≡ []) × ((watched s).before ≡ 0)) }
+        ensures kept { IfOk result (λ s. (watched s).finding ≡ Finding.Kept) }
         ensures watches { IfOk result (λ s. Watches (watched s) []) }
     {
         let mut members = Vec::new(alloc);
