@@ -5,7 +5,9 @@ use Rattle.osi_judge.specs.declared.directions.Direction.TheVariants.{Left, Righ
 use Rattle.osi_judge.specs.declared.findings.Finding.{Finding}
 use Rattle.osi_judge.specs.declared.findings.Finding.TheVariants as finding
 use Rattle.osi_judge.specs.Captures.{Capture}
-use Rattle.osi_judge.specs.Tapping.{IsFoundIn, IsStoppedIn}
+use Rattle.osi_judge.specs.Tapping.{IsFoundIn, IsStoppedIn, FirstBreak}
+use Rattle.osi_judge.specs.Following.{judged, first_in, Taps, FirstIs}
+use Rattle.osi_judge.specs.declared.judge.Judge.{Judge}
 use Rattle.osi_judge.specs.Stops.{breaks}
 use Rattle.osi_judge.specs.declared.stops.Stopped.{Stopped}
 use Rattle.osi_dispute.specs.declared.verdicts.Told.{Told}
@@ -15,6 +17,11 @@ use Rattle.osi_dispute.specs.declared.verdicts.Connection.TheVariants.{Silent, R
 use Rattle.osi_dispute.specs.declared.verdicts.Outcome.{Outcome}
 use Rattle.osi_dispute.specs.declared.verdicts.Outcome.TheVariants.{BothKept, First, NotJudged}
 use Rattle.osi_dispute.specs.declared.verdicts.Verdict.{Verdict}
+
+-- what is known of a judge that was fed this capture
+pub record Knows (j : Judge) (capture : Capture) : Type 0 where
+  pub taps : Taps (judged j) capture
+  pub first : FirstIs (first_in j) (judged j) capture
 
 -- what is told is what was found
 abbrev pub Tells : Told → Finding → Type 0
@@ -37,10 +44,11 @@ IsTrueOf d capture (Session reference t) = IsTold d capture t
 abbrev pub KeepsIn : Direction → Capture → Type 0
 KeepsIn d capture = IsFoundIn d capture finding.Kept × ((s : Option Stopped) × IsStoppedIn d capture s × (breaks s ≡ false))
 
--- where the verdict is that both kept the protocol, both did
+-- where the verdict is that both kept the protocol, both did; where it is that one broke it first, some front part of the
+-- capture has a break of this side and none of the other
 abbrev pub IsOutcome : Capture → Outcome → Type 0
 IsOutcome capture BothKept = KeepsIn Left capture × KeepsIn Right capture
-IsOutcome capture (First d) = Unit {0}
+IsOutcome capture (First d) = FirstBreak d capture
 IsOutcome capture (NotJudged why) = Unit {0}
 
 -- what is told of each side was found of it

@@ -2,13 +2,12 @@
 
 ghost use Rattle.std.specs.Prelude.{◌≡◌, ◌++◌, ◌⊎◌, ◌<◌, Err, IfOk, OnOk, List};
 ghost use Rattle.osi_judge.specs.Captures.{Capture, piece};
-ghost use Rattle.osi_judge.specs.Following.{judged, Taps};
 ghost use Rattle.osi_listing.specs.Capture.{IsNoCapture};
 ghost use Rattle.osi_dispute.specs.Disputes.{IsJudgement, Judged};
 ghost use Rattle.osi_dispute.specs.Rows.{side_of, passed_by, capture_of, rows_of};
 ghost use Rattle.osi_dispute.specs.Reading.{rows_left};
 ghost use Rattle.osi_dispute.specs.Texts.{verdict_text, verdict_status};
-ghost use Rattle.osi_dispute.specs.Verdicts.{IsVerdict};
+ghost use Rattle.osi_dispute.specs.Verdicts.{Knows, IsVerdict};
 
 use crate::pieces::{Pieces, is_left_tabbed};
 use crate::texts::{push_verdict, status_of};
@@ -29,7 +28,7 @@ pub struct Judgement {
 
 /// Feeds a piece whole.
 fn feed_all(judge: &mut Judge, direction: Direction, octets: &[u8]) -> Result<(), AllocError>
-    ensures { OnOk result ((capture : Capture) → Taps (judged judge.old) capture → Taps (judged judge.new) (capture ++ piece direction octets.now)) }
+    ensures { OnOk result ((capture : Capture) → Knows judge.old capture → Knows judge.new (capture ++ piece direction octets.now)) }
 {
     let mut rest = octets;
     'rest: while !rest.is_empty() {
@@ -53,7 +52,7 @@ fn direction_of(is_tabbed: bool, left_is_tabbed: bool) -> Direction
 
 /// Feeds pieces, by whether those of left stand on lines that begin with a tab.
 fn feed_pieces(judge: &mut Judge, pieces: Pieces<'_>, left_is_tabbed: bool) -> Result<(), AllocError>
-    ensures { OnOk result ((capture : Capture) → Taps (judged judge.old) capture → Taps (judged judge.new) (capture ++ passed_by left_is_tabbed (rows_left pieces.entry))) }
+    ensures { OnOk result ((capture : Capture) → Knows judge.old capture → Knows judge.new (capture ++ passed_by left_is_tabbed (rows_left pieces.entry))) }
 {
     let mut pieces = pieces;
     'pieces: while let Some(piece) = pieces.next_piece() {

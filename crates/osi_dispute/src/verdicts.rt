@@ -2,10 +2,9 @@
 
 ghost use Rattle.std.specs.Prelude.{◌≡◌, true, IfOk};
 ghost use Rattle.osi_judge.specs.Captures.{Capture};
-ghost use Rattle.osi_judge.specs.Following.{judged, Taps};
 ghost use Rattle.osi_judge.specs.Stops.{breaks};
 ghost use Rattle.osi_judge.specs.Tapping.{IsStoppedIn};
-ghost use Rattle.osi_dispute.specs.Verdicts.{IsTold, IsTrueOf, KeepsIn, IsOutcome, IsVerdict};
+ghost use Rattle.osi_dispute.specs.Verdicts.{Knows, IsTold, IsTrueOf, KeepsIn, IsOutcome, IsVerdict};
 
 use osi_judge::{Break, Direction, Finding, Judge, Reading, Stands, Stop, Stopped};
 use std::alloc::AllocError;
@@ -81,7 +80,7 @@ pub struct Verdict {
 
 /// What is told of the session of a side.
 fn told_of(judge: &Judge, direction: Direction) -> Result<Told, AllocError>
-    ensures { IfOk result (λ t. (capture : Capture) → Taps (judged judge.now) capture → IsTold direction capture t) }
+    ensures { IfOk result (λ t. (capture : Capture) → Knows judge.now capture → IsTold direction capture t) }
 {
     let side = judge.side(direction);
     let offset = judge.offset(direction);
@@ -118,7 +117,7 @@ fn connection_by(
     direction: Direction,
     reference: u16,
 ) -> Result<Connection, AllocError>
-    ensures { IfOk result (λ c. (capture : Capture) → Taps (judged judge.now) capture → IsTrueOf direction capture c) }
+    ensures { IfOk result (λ c. (capture : Capture) → Knows judge.now capture → IsTrueOf direction capture c) }
 {
     if is_refused(judge) {
         return Ok(Connection::Refused(reference));
@@ -131,7 +130,7 @@ fn connection_by(
 }
 
 fn connection_of(judge: &Judge, direction: Direction) -> Result<Connection, AllocError>
-    ensures { IfOk result (λ c. (capture : Capture) → Taps (judged judge.now) capture → IsTrueOf direction capture c) }
+    ensures { IfOk result (λ c. (capture : Capture) → Knows judge.now capture → IsTrueOf direction capture c) }
 {
     if is_dropped(judge, direction) {
         return Ok(Connection::Silent);
@@ -143,8 +142,8 @@ fn connection_of(judge: &Judge, direction: Direction) -> Result<Connection, Allo
 }
 
 fn account_of(judge: &Judge, direction: Direction) -> Result<Account, AllocError>
-    ensures connection { IfOk result (λ a. (capture : Capture) → Taps (judged judge.now) capture → IsTrueOf direction capture a.connection) }
-    ensures stopped { IfOk result (λ a. (capture : Capture) → Taps (judged judge.now) capture → IsStoppedIn direction capture a.stopped) }
+    ensures connection { IfOk result (λ a. (capture : Capture) → Knows judge.now capture → IsTrueOf direction capture a.connection) }
+    ensures stopped { IfOk result (λ a. (capture : Capture) → Knows judge.now capture → IsStoppedIn direction capture a.stopped) }
 {
     Ok(Account {
         reading: judge.reading(direction),
@@ -177,7 +176,7 @@ fn has_broken(stopped: Option<Stopped>) -> bool
 
 /// Whether a side kept the protocol, in its session and in its transport.
 fn keeps(judge: &Judge, direction: Direction) -> bool
-    ensures { result ≡ true → (capture : Capture) → Taps (judged judge.now) capture → KeepsIn direction capture }
+    ensures { result ≡ true → (capture : Capture) → Knows judge.now capture → KeepsIn direction capture }
 {
     if has_broken(judge.stopped(direction)) {
         return false;
@@ -190,7 +189,7 @@ fn keeps(judge: &Judge, direction: Direction) -> bool
 
 /// The outcome where nobody broke the protocol, by what is not judged.
 fn kept_outcome(judge: &Judge) -> Outcome
-    ensures { (capture : Capture) → Taps (judged judge.now) capture → IsOutcome capture result }
+    ensures { (capture : Capture) → Knows judge.now capture → IsOutcome capture result }
 {
     if !keeps(judge, Direction::Left) || !keeps(judge, Direction::Right) {
         return Outcome::NotJudged(Unjudged::TooMany);
@@ -205,7 +204,7 @@ fn kept_outcome(judge: &Judge) -> Outcome
 }
 
 fn outcome_of(judge: &Judge) -> Outcome
-    ensures { (capture : Capture) → Taps (judged judge.now) capture → IsOutcome capture result }
+    ensures { (capture : Capture) → Knows judge.now capture → IsOutcome capture result }
 {
     match judge.first() {
         Some(direction) => Outcome::First(direction),
@@ -216,7 +215,7 @@ fn outcome_of(judge: &Judge) -> Outcome
 /// What is told of a capture that was fed to a judge. `Err` comes where there is no memory for what a
 /// session of a side takes.
 pub fn verdict_of(judge: &Judge) -> Result<Verdict, AllocError>
-    ensures { IfOk result (λ v. (capture : Capture) → Taps (judged judge.now) capture → IsVerdict capture v) }
+    ensures { IfOk result (λ v. (capture : Capture) → Knows judge.now capture → IsVerdict capture v) }
 {
     let left = account_of(judge, Direction::Left)?;
     let right = account_of(judge, Direction::Right)?;
