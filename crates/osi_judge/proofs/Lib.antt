@@ -3,6 +3,7 @@ pub mod WalkLaws
 pub mod FirstPlaceLaws
 pub mod TellingLaws
 pub mod SideLaws
+pub mod OnwardLaws
 pub mod CaptureLaws
 pub mod CountLaws
 pub mod UnitLaws
