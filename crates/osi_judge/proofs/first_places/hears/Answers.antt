@@ -18,12 +18,12 @@ returns-in-None c =
     (at_some (λ (x : Taking). Takes s c.args.tsdu.now (count_taken x)) o t e k.counted) (ap (option_map reply_of) c.in-None.is)
     (at_some (λ (x : Taking). x.next ≡ after_count s (count_taken x)) o t e k.sent)
 
-pub returns-in-Some : goal.returns-in-Some
-returns-in-Some c =
+pub returns-in-Some-reply : goal.returns-in-Some-reply
+returns-in-Some-reply c =
     let s = c.args.standing in
     let o = c.in_ok-taking.field-0 in
     let k = c.in_ok-taking.ensures in
     let t = c.in-Some.taking in
     let e = c.in-Some.is in
-    answers_it s c.args.tsdu.now (count_taken t) (reply_of c.in-Some-2.field-0) (at_some (λ (x : Taking). Takes s c.args.tsdu.now (count_taken x)) o t e k.counted)
-    (ap (option_map reply_of) c.in-Some-2.is)
+    answers_it s c.args.tsdu.now (count_taken t) (reply_of c.in-Some-reply.field-0) (at_some (λ (x : Taking). Takes s c.args.tsdu.now (count_taken x)) o t e k.counted)
+    (ap (option_map reply_of) c.in-Some-reply.is)
