@@ -95,8 +95,7 @@ make_packages() {
     symbols >"$room/libosi-session$abi/DEBIAN/symbols"
     echo "activate-noawait ldconfig" >"$room/libosi-session$abi/DEBIAN/triggers"
     local long="An end of a byte connection takes the octets that came and returns those that are to be sent. It speaks X.225 version 2 over
-the transport classes 0 and 2 of X.224 in TPKT packets (RFC 1006), opens no socket, and is proved. It wants a processor of x86-64-v2
-(SSE4.2)."
+the transport classes 0 and 2 of X.224 in TPKT packets (RFC 1006), opens no socket, and is proved."
     control osi amd64 "libc6 (>= $(libc_of "$room/osi/usr/bin/osi")), python3 (>= 3.9)" net "Recommends: tshark" \
         "lister of captures of the OSI session protocol" \
         "It lists captures of X.225 version 2 over the transport classes 0 and 2 of X.224 in TPKT packets (RFC 1006), also those that tshark
