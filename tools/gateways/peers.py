@@ -18,9 +18,9 @@ def packet(octets):
     return b"\3\0" + (len(octets) + 4).to_bytes(2, "big") + octets
 
 
-def connect_request(reference, kind):
-    """A CR for class 0 or 2, which gives no credit."""
-    return packet(b"\6\xe0\0\0" + reference.to_bytes(2, "big") + (b"\x20" if kind == 2 else b"\0"))
+def connect_request(reference, kind, credit=0):
+    """A CR for class 0 or 2, which gives credit for so many units."""
+    return packet(bytes([6, 0xE0 | credit, 0, 0]) + reference.to_bytes(2, "big") + (b"\x20" if kind == 2 else b"\0"))
 
 
 def connect_confirm(reference, own):
@@ -55,7 +55,7 @@ def units(octets):
         at += length
 
 
-CC, DR = 0xD0, 0x80
+CC, DR, DT = 0xD0, 0x80, 0xF0
 
 
 class Reader(threading.Thread):
@@ -84,17 +84,19 @@ class Reader(threading.Thread):
 
 
 def asks_without_credit(port, sessions, points, seconds):
-    """A peer of class 2 that reads all and gives no credit: it opens so many sessions, and sets so many points in each, whose
-    confirmations it asks for. What hangs up on the server, and which of its references this disconnected."""
+    """A peer of class 2 that reads all and gives credit for the answer to a CN alone: it opens so many sessions, and sets so
+    many points in each, whose confirmations it asks for. What hangs up on the server, and which of its references this
+    disconnected."""
     connection = socket.create_connection((LOOPBACK, int(port)))
     reader = Reader(connection)
     reader.start()
     own = range(1, sessions + 1)
-    connection.sendall(b"".join(connect_request(reference, 2) for reference in own))
+    connection.sendall(b"".join(connect_request(reference, 2, 1) for reference in own))
     reader.wait_for(lambda came: sum(code == CC for code, _, _ in came) == sessions, seconds)
     theirs = {first: second for code, first, second in units(reader.octets) if code == CC}
     try:
         connection.sendall(b"".join(data_in_class_2(theirs[reference], 0, CN) for reference in own))
+        reader.wait_for(lambda came: sum(code == DT for code, _, _ in came) == sessions, seconds)
         for begins in range(0, points, 100):
             for reference in own:
                 numbers = range(begins, min(begins + 100, points))

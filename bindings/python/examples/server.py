@@ -1,11 +1,12 @@
 #!/usr/bin/env python3
-"""The called side of a gateway over asyncio: it takes one byte connection, accepts what is asked for, confirms each
-point, answers when it is given the tokens, and releases the connection.
+"""The called side of a gateway over asyncio: for many peers at once it accepts what is asked for, confirms each point,
+answers when it is given the tokens, and releases the connection.
 
-    server.py [--port 4000] [--classes 0|2|20] [--window 1..15] [--tsdu OCTETS] [--wait SECONDS] [--log FILE]
+    server.py [--port 4000] [--peers COUNT] [--classes 0|2|20] [--window 1..15] [--tsdu OCTETS] [--wait SECONDS]
+              [--log FILE]
 
-It prints the port that it listens on (0 takes a free one), and at the end how much data it took. A peer that sends
-nothing for --wait seconds is given up.
+It prints the port that it listens on (0 takes a free one). With --peers it ends when so many peers have come and gone,
+and prints how much data it took. A peer that sends nothing for --wait seconds is given up.
 """
 import argparse
 import asyncio
@@ -15,6 +16,10 @@ from client import words
 from osi_session import Classes, Data, Given, Minor, SessionError, Sizes, Terms, Units, aio
 
 UNITS = Units.HALF_DUPLEX | Units.MINOR_SYNC | Units.NEGOTIATED_RELEASE
+# A connection whose peer gives no credit for so many octets of answers gets no more of them, and is given up.
+MOST_UNSENT = 16_384
+# The sessions of more byte connections are answered once one of these is gone.
+MOST_PEERS = 64
 
 
 class Watched(aio.EndProtocol):
@@ -44,20 +49,22 @@ class Watched(aio.EndProtocol):
         self.watching = asyncio.get_running_loop().call_later(self.patience, self.look)
 
 
-class Server:
-    def __init__(self, sizes, log):
-        self.sizes, self.log = sizes, log
-        self.messages = self.octets = 0
-        self.shown, self.done = set(), asyncio.Event()
+class Peer:
+    """One byte connection, and the sessions that its peer asks for."""
+
+    def __init__(self, line, server):
+        self.line, self.server = line, server
+        self.shown, self.messages = set(), 0
+        line.silent = self.silent
 
     def tell(self, text):
-        print(f"right {text}", file=self.log, flush=True)
+        print(f"right {text}", file=self.server.log, flush=True)
 
-    def silent(self, line):
+    def silent(self):
         self.tell("gives up: the peer is silent")
-        for reference in range(1, line.end.live() + 1):
+        for reference in range(1, self.line.end.live() + 1):
             if reference not in self.shown:
-                self.tell(f"{reference} was never shown, OSI_PHASE_{line.end.phase(reference).name}")
+                self.tell(f"{reference} was never shown, OSI_PHASE_{self.line.end.phase(reference).name}")
 
     async def did(self, session, verb, call):
         """Awaits a call, and writes its line."""
@@ -68,17 +75,18 @@ class Server:
             self.tell(f"{session.reference} {verb} refused: {error}")
             raise
 
-    async def serve(self, line):
-        line.silent = lambda: self.silent(line)
-        try:
-            await line.answer_sessions(self.answer)
-        finally:
-            self.done.set()
+    def may_answer(self, session):
+        """Whether a session may be answered. One whose peer asks on and gives no credit for the answers is given up;
+        the next indication of it is GivenUp."""
+        if session.end.unsent(session.reference) <= MOST_UNSENT:
+            return True
+        self.line.give_up(session.reference)
+        return False
 
     async def answer(self, session):
         self.shown.add(session.reference)
         self.tell(f"{session.reference} {words(session.asked)}")
-        accepted = session.accept(session.asked.requirements & UNITS, 0, sizes=self.sizes)
+        accepted = session.accept(session.asked.requirements & UNITS, 0, sizes=self.server.sizes)
         await self.did(session, "accept", accepted)
         try:
             async for shown in session:
@@ -90,17 +98,45 @@ class Server:
     async def react(self, session, shown):
         if isinstance(shown, Data):
             self.messages += 1
-            self.octets += len(shown.user_data)
-        elif isinstance(shown, Minor) and shown.confirm:
+            self.server.took(shown)
+        elif isinstance(shown, Minor) and shown.confirm and self.may_answer(session):
             await self.did(session, "minorconfirm", session.minor_confirm(shown.number))
-        elif isinstance(shown, Given):
+        elif isinstance(shown, Given) and self.may_answer(session):
             await self.did(session, "data", session.data(f"{self.messages} messages".encode()))
             await self.did(session, "release", session.release())
+
+
+class Server:
+    """All peers."""
+
+    def __init__(self, options):
+        self.sizes, self.log, self.awaited = Sizes(options.tsdu, options.tsdu), options.log, options.peers
+        self.messages = self.octets = self.here = 0
+        self.room, self.done = asyncio.Semaphore(MOST_PEERS), asyncio.Event()
+
+    def took(self, data):
+        self.messages += 1
+        self.octets += len(data.user_data)
+
+    async def serve(self, line):
+        if self.awaited == 0:
+            line.abort()
+            return
+        self.awaited -= 1
+        self.here += 1
+        try:
+            async with self.room:
+                await line.answer_sessions(Peer(line, self).answer)
+        finally:
+            self.here -= 1
+            if self.awaited == self.here == 0:
+                self.done.set()
 
 
 async def main():
     options = argparse.ArgumentParser(description=__doc__.splitlines()[0])
     options.add_argument("--port", type=int, default=4000)
+    options.add_argument("--peers", type=int, default=sys.maxsize)
     options.add_argument("--classes", default="20")
     options.add_argument("--window", type=int, default=15)
     options.add_argument("--tsdu", type=int, default=0)
@@ -109,7 +145,7 @@ async def main():
     options = options.parse_args()
     classes = Classes(("0" in options.classes) | ("2" in options.classes) << 1)
     Watched.patience = options.wait
-    server = Server(Sizes(options.tsdu, options.tsdu), options.log)
+    server = Server(options)
     terms = Terms(classes, window=options.window)
     listener = await aio.serve(server.serve, "127.0.0.1", options.port, terms, Watched)
     print(f"port {listener.sockets[0].getsockname()[1]}", flush=True)

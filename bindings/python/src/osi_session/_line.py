@@ -234,7 +234,7 @@ class EndProtocol(asyncio.Protocol):
 
     def give_up(self, reference: int) -> None:
         """Ends one connection at once, and no other. What is pending of it is dropped, and its user is shown GivenUp.
-        Its peer is shown an abort; in class 2 the abort waits for credit behind what is unsent."""
+        Its peer is shown an abort; if octets of it wait for credit, it is disconnected, and the peer is shown Lost."""
         self.end_alone(reference)
         self._drop(reference)
         if reference in self._open:
