@@ -2,6 +2,7 @@ pub mod MemberLaws
 pub mod WalkLaws
 pub mod TellingLaws
 pub mod SideLaws
+pub mod OnwardLaws
 pub mod CaptureLaws
 pub mod CountLaws
 pub mod UnitLaws

@@ -1,5 +1,5 @@
 -- What is known of a side, as it hears and tells.
-use Rattle.std.proofs.Common.{◌≡◌, ◌∙◌, refl, sym, ap, subst, ℕ, suc, zero, ◌+◌, ◌<◌, ◌≤◌, ◌↔◌, ◌==◌, true, false, inl, inr, List, [], ◌∷◌, ◌++◌, length, map, take, get_or, Result, Ok, Err, arith}
+use Rattle.std.proofs.Common.{◌≡◌, ◌∙◌, refl, sym, ap, subst, ℕ, suc, zero, ◌+◌, ◌<◌, ◌≤◌, ◌↔◌, ◌⊎◌, ◌==◌, true, false, inl, inr, List, [], ◌∷◌, ◌++◌, length, map, take, get_or, Result, Ok, Err, OnOk, arith}
 use Rattle.std.proofs.lemmas.List.{append-nil, append_assoc, length-append}
 use Rattle.osi_spdu.specs.declared.faults.SpduFault.{SpduFault}
 use Rattle.osi_message.specs.Reading.{said_at}
@@ -8,11 +8,12 @@ use Rattle.osi_session.specs.Joining.{acting_words}
 use Rattle.osi_session.specs.Standing.{Seen}
 use Rattle.osi_judge.specs.declared.members.Member.{Member}
 use Rattle.osi_judge.specs.declared.findings.Finding.{Finding}
-use Rattle.osi_judge.specs.declared.findings.Finding.TheVariants.{Kept, Broke, TooMany}
+use Rattle.osi_judge.specs.declared.findings.Finding.TheVariants.{Kept, Broke, Left, TooMany}
 use Rattle.osi_judge.specs.Explaining.{Remark, remark, Told, read_as, remarks_of, remarks, Explains, done, IsExplained}
 use Rattle.osi_judge.specs.Members.{SomeExplains, Extends, IsBehind}
 use Rattle.osi_judge.specs.Walking.{Ever}
-use Rattle.osi_judge.specs.Judging.{Watched, is_empty, BrokeFor, AreAll, Keeps, WatchesBy, Watches, IsFound}
+use Rattle.osi_judge.specs.Sides.{EndsAt}
+use Rattle.osi_judge.specs.Judging.{Watched, is_empty, BrokeFor, LeftFor, AreAll, Keeps, WatchesBy, Watches, IsFound}
 
 -- ---- what was heard goes on
 
@@ -27,6 +28,7 @@ extends_less us heard x h = λ i l. let n = length-append heard (x ∷ []) in h 
 heard_by : (f : Finding) (w : Watched) (x : List ℕ) (told : List Told) → WatchesBy f w told → WatchesBy f (record w { heard = w.heard ++ x ∷ [] }) told
 heard_by Kept w x told k = record { count = k.count; all = λ us later e h. k.all us later (extends_less us w.heard x e) h; some = k.some }
 heard_by (Broke i) w x told k = (k.0, λ us e. k.1 us (extends_less us w.heard x e))
+heard_by (Left i) w x told k = (k.0, λ us e. k.1 us (extends_less us w.heard x e))
 heard_by TooMany w x told k = tt
 
 pub hears : (w : Watched) (x : List ℕ) (told : List Told) → Watches w told → Watches (record w { heard = w.heard ++ x ∷ [] }) told
@@ -65,6 +67,19 @@ pub broke_as : (w n : Watched) (told : List Told) (x : Told) (i : ℕ) → w.fin
 broke_as w n told x i f e k =
     subst (λ (y : Watched). Watches y (told ++ x ∷ [])) (sym e)
     (subst (λ (g : Finding). WatchesBy g w (told ++ x ∷ [])) (sym f) (broke_stays w.begin w.heard told x i (subst (λ (g : Finding). WatchesBy g w told) f k)))
+
+-- so does a side that left the profile
+left_stays : (begin : Seen) (heard : List (List ℕ)) (told : List Told) (x : Told) (i : ℕ) → LeftFor begin heard told i → LeftFor begin heard (told ++ x ∷ []) i
+left_stays begin heard told x i k =
+    let n = length-append told (x ∷ []) in
+    let there = k.0 in
+    let a = take_front told (x ∷ []) i (omega arith) in
+    (omega arith, λ us e. subst (λ (z : List Told). IsExplained begin us z) (sym a) (k.1 us e))
+
+pub left_as : (w n : Watched) (told : List Told) (x : Told) (i : ℕ) → w.finding ≡ Left i → n ≡ w → Watches w told → Watches n (told ++ x ∷ [])
+left_as w n told x i f e k =
+    subst (λ (y : Watched). Watches y (told ++ x ∷ [])) (sym e)
+    (subst (λ (g : Finding). WatchesBy g w (told ++ x ∷ [])) (sym f) (left_stays w.begin w.heard told x i (subst (λ (g : Finding). WatchesBy g w told) f k)))
 
 pub too_many_as : (n : Watched) (told : List Told) → n.finding ≡ TooMany → Watches n told
 too_many_as n told f = subst (λ (g : Finding). WatchesBy g n told) (sym f) tt
@@ -135,6 +150,27 @@ pub breaks_as : (w n : Watched) (told : List Told) (x : Told) (new : List Member
     → Watches n (told ++ x ∷ [])
 breaks_as w n told x new e l g z k = subst (λ (y : Watched). Watches y (told ++ x ∷ [])) (sym e) (broke_here w told x new l g z k)
 
+-- ---- a side that leaves the profile
+
+pub left_here : (w : Watched) (told : List Told) (x : Told) → Keeps w told → LeftFor w.begin w.heard (told ++ x ∷ []) w.told
+left_here w told x k =
+    let m = length-append told (x ∷ []) in let c = k.count in
+    let front = take_front told (x ∷ []) w.told (omega arith) ∙ take_whole told w.told (omega arith) in
+    (omega arith, λ us e. subst (λ (y : List Told). IsExplained w.begin us y) (sym front) (explained_so_far w told us e k))
+
+pub leaves_as : (w n : Watched) (told : List Told) (x : Told) → n ≡ record w { finding = Left w.told } → Keeps w told → Watches n (told ++ x ∷ [])
+leaves_as w n told x e k = subst (λ (y : Watched). Watches y (told ++ x ∷ [])) (sym e) (left_here w told x k)
+
+pub ends_as : (w n : Watched) (told : List Told) (x : Told) (new : List Member) → EndsAt w n → w.before ≤ x.before → Gives w x new → new ≡ [] → Keeps w told
+    → Watches n (told ++ x ∷ [])
+ends_as w n told x new (inl e) l g z k = breaks_as w n told x new e l g z k
+ends_as w n told x new (inr e) l g z k = leaves_as w n told x e k
+
+pub ends_ok : {A E : Type 0} (r : Result A E) (w n : Watched) (x : Told) (new : List Member) → w.before ≤ x.before → Gives w x new → new ≡ [] → OnOk r (EndsAt w n)
+    → OnOk r ((told : List Told) → Keeps w told → Watches n (told ++ x ∷ []))
+ends_ok (Ok u) w n x new l g z e = λ told k. ends_as w n told x new e l g z k
+ends_ok (Err f) w n x new l g z e = tt
+
 -- ---- the beginning, and what is found
 
 pub begins : (w : Watched) (m : Member) → w.heard ≡ [] → w.members ≡ m ∷ [] → m.taken ≡ 0 → m.standing ≡ w.begin → w.told ≡ 0 → w.finding ≡ Kept → Watches w []
@@ -156,6 +192,7 @@ begins w m h s t b o f = subst (λ (y : Finding). WatchesBy y w []) (sym f) (rec
 found_by : (f : Finding) (w : Watched) (told : List Told) → WatchesBy f w told → IsFound w.begin w.heard told f
 found_by Kept w told k = explained_so_far w told w.heard (λ i l. refl) k
 found_by (Broke i) w told k = let y = k.1 w.heard (λ j l. refl) in record { there = k.0; so_far = y.0; broke = y.1 }
+found_by (Left i) w told k = (k.0, k.1 w.heard (λ j l. refl))
 found_by TooMany w told k = tt
 
 pub found_as : (w : Watched) (told : List Told) → Watches w told → IsFound w.begin w.heard told w.finding

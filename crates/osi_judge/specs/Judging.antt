@@ -3,7 +3,7 @@ use Rattle.std.specs.Prelude.{◌≡◌, ◌<◌, ◌↔◌, ◌++◌, ◌+◌, 
 use Rattle.osi_session.specs.Standing.{Seen}
 use Rattle.osi_judge.specs.declared.members.Member.{Member}
 use Rattle.osi_judge.specs.declared.findings.Finding.{Finding}
-use Rattle.osi_judge.specs.declared.findings.Finding.TheVariants.{Kept, Broke, TooMany}
+use Rattle.osi_judge.specs.declared.findings.Finding.TheVariants.{Kept, Broke, Left, TooMany}
 use Rattle.osi_judge.specs.Explaining.{Told, Explains, remarks, IsExplained, IsBlamed}
 use Rattle.osi_judge.specs.Members.{SomeExplains, Extends}
 use Rattle.osi_judge.specs.Walking.{Ever}
@@ -26,6 +26,10 @@ is_empty (m ∷ members) = false
 abbrev pub BrokeFor : Seen → List (List ℕ) → List Told → ℕ → Type 0
 BrokeFor begin heard told i = (i < length told) × ((us : List (List ℕ)) → Extends us heard → IsExplained begin us (take i told) × (IsExplained begin us (take (i + 1) told) → ⊥))
 
+-- whatever the other side says later, the side is explained up to its i-th TSDU, at which it left the profile
+abbrev pub LeftFor : Seen → List (List ℕ) → List Told → ℕ → Type 0
+LeftFor begin heard told i = (i < length told) × ((us : List (List ℕ)) → Extends us heard → IsExplained begin us (take i told))
+
 -- the members explain what is said from here on just where the side is explained up to there
 abbrev pub AreAll : Seen → List (List ℕ) → ℕ → List Member → List Told → Type 0
 AreAll begin heard before members told = Ever heard before (λ us later. Explains us (remarks told ++ later) 0 begin ↔ SomeExplains us members later)
@@ -40,6 +44,7 @@ pub record Keeps (w : Watched) (told : List Told) : Type 0 where
 abbrev pub WatchesBy : Finding → Watched → List Told → Type 0
 WatchesBy Kept w told = Keeps w told
 WatchesBy (Broke i) w told = BrokeFor w.begin w.heard told i
+WatchesBy (Left i) w told = LeftFor w.begin w.heard told i
 WatchesBy TooMany w told = Unit {0}
 
 abbrev pub Watches : Watched → List Told → Type 0
@@ -49,4 +54,6 @@ Watches w told = WatchesBy w.finding w told
 abbrev pub IsFound : Seen → List (List ℕ) → List Told → Finding → Type 0
 IsFound begin heard told Kept = IsExplained begin heard told
 IsFound begin heard told (Broke i) = IsBlamed begin heard told i
+-- it left the profile at its i-th TSDU: those before it are explained
+IsFound begin heard told (Left i) = (i < length told) × IsExplained begin heard (take i told)
 IsFound begin heard told TooMany = Unit {0}

@@ -8,4 +8,5 @@ pub mod Judging
 pub mod Sides
 pub mod Tapping
 pub mod Feeding
+pub mod Onward
 pub mod Following

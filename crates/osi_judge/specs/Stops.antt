@@ -1,7 +1,7 @@
 -- Which findings and which stops are breaks of the protocol.
 use Rattle.std.specs.Prelude.{Bool, true, false, Option, Some, None}
 use Rattle.osi_judge.specs.declared.findings.Finding.{Finding}
-use Rattle.osi_judge.specs.declared.findings.Finding.TheVariants.{Broke}
+use Rattle.osi_judge.specs.declared.findings.Finding.TheVariants.{Broke, Left}
 use Rattle.osi_judge.specs.declared.stops.Stop.{Stop}
 use Rattle.osi_judge.specs.declared.stops.Stop.TheVariants.{NoOpening, OtherClass, Refused, MoreConnections, BadPacket, BadUnit, UnexpectedUnit, WrongForm, TsduTooLong}
 use Rattle.osi_judge.specs.declared.stops.Stopped.{Stopped}
@@ -24,4 +24,5 @@ breaks (Some s) = is_break s.stop
 
 abbrev pub broke_session : Finding → Bool
 broke_session (Broke i) = true
+broke_session (Left i) = true
 broke_session finding = false

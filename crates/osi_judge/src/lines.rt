@@ -206,6 +206,7 @@ fn last_place(finding: Finding, at: u64, last: u64) -> u64 {
     match finding {
         Finding::Kept => at,
         Finding::Broke(_) => last,
+        Finding::Left(_) => last,
         Finding::TooMany => last,
     }
 }
@@ -370,6 +371,7 @@ impl Half {
     {
         match self.side.finding() {
             Finding::Broke(_) => true,
+            Finding::Left(_) => true,
             Finding::Kept => breaks(self.stopped()),
             Finding::TooMany => breaks(self.stopped()),
         }

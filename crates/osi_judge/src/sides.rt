@@ -4,10 +4,13 @@ ghost use Rattle.std.specs.Prelude.{◌≡◌, ◌<◌, ◌≤◌, ◌⊎◌, �
 ghost use Rattle.osi_session.specs.Standing.{seen_called, seen_calling};
 ghost use Rattle.osi_judge.specs.Explaining.{Told};
 ghost use Rattle.osi_judge.specs.Judging.{Watches, Keeps, IsFound};
-ghost use Rattle.osi_judge.specs.Sides.{watched};
+ghost use Rattle.osi_judge.specs.Sides.{watched, EndsAt};
 
 use crate::findings::Finding;
 use crate::members::{Member, none_is_left};
+use crate::profiles::{leaves, selects_outside};
+use crate::rules::{Break, break_at, selection_at};
+use crate::standings::{Stands, foremost, stands_behind};
 use crate::telling::behind_tsdu;
 use osi_message::Octets;
 use osi_session::Standing;
@@ -41,6 +44,7 @@ pub struct Side {
     told: usize,
     before: usize,
     finding: Finding,
+    by: Break,
 }
 
 impl Side {
@@ -85,6 +89,7 @@ impl Side {
             told: 0,
             before: 0,
             finding: Finding::Kept,
+            by: Break::none(begin),
         })
     }
 
@@ -131,7 +136,7 @@ impl Side {
         }
     }
 
-    #[tactic(auto, using(crate::proofs::SideLaws::broke_as, crate::proofs::SideLaws::too_many_as))]
+    #[tactic(auto, using(crate::proofs::SideLaws::broke_as, crate::proofs::SideLaws::left_as, crate::proofs::SideLaws::too_many_as))]
     fn tell_in_order(&mut self, tsdu: &[u8], before: usize) -> Result<(), AllocError>
         requires order { (watched self.old).before ≤ before }
         requires passed { before ≤ length (watched self.old).heard }
@@ -143,6 +148,7 @@ impl Side {
         match self.finding {
             Finding::Kept => self.tell_kept(tsdu, before),
             Finding::Broke(_) => Ok(()),
+            Finding::Left(_) => Ok(()),
             Finding::TooMany => Ok(()),
         }
     }
@@ -159,7 +165,10 @@ impl Side {
     {
         let members = behind_tsdu(self.alloc, &self.heard, tsdu, before, &self.members)?;
         if none_is_left(members.as_slice()) {
-            self.finding = Finding::Broke(self.told);
+            return self.end(tsdu, before);
+        }
+        if selects_outside(&self.heard, tsdu) {
+            self.leave(before);
             return Ok(());
         }
         if members.len() > MOST_MEMBERS || self.told == usize::MAX {
@@ -170,6 +179,31 @@ impl Side {
         self.told += 1;
         self.before = before;
         Ok(())
+    }
+
+    /// A TSDU of this side that no session says.
+    fn end(&mut self, tsdu: &[u8], before: usize) -> Result<(), AllocError>
+        requires { before ≤ length (watched self.old).heard }
+        ensures ends { OnOk result (EndsAt (watched self.old) (watched self.new)) }
+        ensures err { OnErr result (watched self.new ≡ watched self.old) }
+    {
+        let by = break_at(self.alloc, &self.heard, tsdu, before, &self.members)?;
+        if leaves(tsdu, &by) {
+            self.finding = Finding::Left(self.told);
+            self.by = by;
+            return Ok(());
+        }
+        self.finding = Finding::Broke(self.told);
+        self.by = by;
+        Ok(())
+    }
+
+    /// An AC of this side that selects what is not selected here.
+    fn leave(&mut self, before: usize)
+        ensures { watched self.new ≡ record (watched self.old) { finding = Finding.Left (watched self.old).told } }
+    {
+        self.finding = Finding::Left(self.told);
+        self.by = selection_at(before, &self.members);
     }
 
     /// How many TSDUs of the other side it heard.
@@ -184,6 +218,24 @@ impl Side {
         ensures { result ≡ (watched self.now).before }
     {
         self.before
+    }
+
+    /// By which rule the side broke the protocol, or left the profile. It says nothing of a side that did
+    /// neither.
+    pub fn by(&self) -> Break {
+        self.by
+    }
+
+    /// How many TSDUs it said before its break, or in all.
+    pub fn told(&self) -> usize {
+        self.told
+    }
+
+    /// How the side stands that kept the protocol, or kept it before its break: by the session that explains
+    /// it and has taken most, of these the one with the highest V(A), then with the flag on, which takes
+    /// what it can.
+    pub fn stands(&self) -> Result<Stands, AllocError> {
+        stands_behind(self.alloc, &self.heard, foremost(&self.members))
     }
 
     /// What is found of the side, by all that it said and by what it may have heard.

@@ -17,7 +17,7 @@ use osi_spdu::{Group, Spdu, read_tsdu};
 use std::alloc::{AllocError, Global};
 
 /// The members behind a unit of a TSDU of so many octets.
-fn behind_unit(
+pub(crate) fn behind_unit(
     alloc: Global,
     heard: &[Octets],
     unit: &Spdu,

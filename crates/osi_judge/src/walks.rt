@@ -95,7 +95,7 @@ fn follow(
 }
 
 /// The octets of one of these TSDUs.
-fn tsdu_at(heard: &[Octets], place: usize) -> &[u8]
+pub(crate) fn tsdu_at(heard: &[Octets], place: usize) -> &[u8]
     requires { place < length heard.now }
     ensures { result.now ≡ get_or heard.now place [] }
 {

@@ -8,7 +8,8 @@
 //! listings; behind `damaged` captures whose packets are damaged and fed to ends, of which is said how
 //! many did what they should. Behind `long` stand scripts and transcripts that are written short, as the
 //! files behind `octets` may be, behind `together` those whose events are given in one list, and behind
-//! `texts` files with the text of each fault and error.
+//! `texts` files with the text of each fault and error, and behind `judge` captures of both sides, with what is
+//! found of each.
 #![tactic(auto)]
 
 mod again;
@@ -16,6 +17,7 @@ mod asked;
 mod calls;
 mod damaged;
 mod digits;
+mod disputes;
 mod long;
 mod octets;
 mod texts;
@@ -25,6 +27,7 @@ mod ways;
 use again::{Replay, replayed};
 use damaged::runs_of;
 use digits::octets_in;
+use disputes::disputed;
 use long::written_out;
 use octets::played;
 use osi_listing::list;
@@ -51,6 +54,7 @@ enum Kind {
     Long,
     Together,
     Texts,
+    Judge,
 }
 
 impl Kind {
@@ -66,6 +70,7 @@ impl Kind {
             "long" => Some(Kind::Long),
             "together" => Some(Kind::Together),
             "texts" => Some(Kind::Texts),
+            "judge" => Some(Kind::Judge),
             _ => None,
         }
     }
@@ -77,6 +82,7 @@ impl Kind {
             Kind::Octets => "octets",
             Kind::Show | Kind::Damaged => "hex",
             Kind::Texts => "texts",
+            Kind::Judge => "disputes",
         }
     }
 
@@ -85,7 +91,7 @@ impl Kind {
         match self {
             Kind::Pair | Kind::EachWay | Kind::Again | Kind::Long => Some("transcript"),
             Kind::Show => Some("listing"),
-            Kind::Octets | Kind::Damaged | Kind::Together | Kind::Texts => None,
+            Kind::Octets | Kind::Damaged | Kind::Together | Kind::Texts | Kind::Judge => None,
         }
     }
 }
@@ -136,6 +142,7 @@ fn judged_alone(alloc: Global, kind: Kind, given: &str) -> io::Result<String> {
         Kind::Octets => judged_octets(alloc, given),
         Kind::Damaged => judged_damage(alloc, given),
         Kind::Together => judged_together(alloc, given),
+        Kind::Judge => judged_disputes(alloc, given),
         _ => judged_texts(alloc, given),
     }
 }
@@ -263,6 +270,11 @@ fn said_of_both(alloc: Global, came: &Together) -> io::Result<String> {
         Some(error) => Ok(format!(in alloc; "as one by one, up to {error}")?),
         None => words(alloc, "as one by one"),
     }
+}
+
+fn judged_disputes(alloc: Global, wanted: &str) -> io::Result<String> {
+    let came = disputed(alloc, wanted)?;
+    compared(alloc, came.as_slice(), wanted, 0)
 }
 
 fn judged_texts(alloc: Global, wanted: &str) -> io::Result<String> {

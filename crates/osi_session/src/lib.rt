@@ -55,6 +55,7 @@ pub use breaches::Breach;
 pub use expected::Expected;
 pub use faults::{CallError, UnitFault};
 pub use indications::{AbortCause, Indication};
+pub use numbers::Numbers;
 pub use opening::Opening;
 pub use phases::Phase;
 pub use plans::{Plan, PlannedPoint, SentPoint};

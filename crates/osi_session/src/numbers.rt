@@ -8,13 +8,13 @@ ghost use Rattle.osi_session.specs.Numbers.{from_base, point_sent, point_taken, 
 #[derive(Clone, Copy, PartialEq, Eq, Debug)]
 pub struct Numbers {
     /// V(M): the number of the next point.
-    pub(crate) next: u32,
+    pub next: u32,
     /// V(A): the lowest number that is not yet confirmed.
-    pub(crate) confirmed: u32,
+    pub confirmed: u32,
     /// V(R): the lowest number at which this end may restart.
-    pub(crate) lowest: u32,
+    pub lowest: u32,
     /// The answer flag: a point was taken after the last one that was sent.
-    pub(crate) answers: bool,
+    pub answers: bool,
 }
 
 #[tactic(auto, unfolding(crate::specs::Numbers::point_sent, crate::specs::Numbers::point_taken, crate::specs::Numbers::minor_confirmed, crate::specs::Numbers::major_confirmed, crate::specs::Numbers::restarted_at))]

@@ -8,6 +8,8 @@ ghost use Rattle.osi_session.specs.Sound.{IsSound};
 ghost use Rattle.osi_session.specs.Steps.{reply_of, word_by};
 ghost use Rattle.osi_session.specs.Taking.{count_taken};
 ghost use Rattle.osi_message.specs.Meanings.{AB, meant_by};
+ghost use Rattle.osi_message.specs.Tokens.{token_octet};
+ghost use Rattle.osi_spdu.specs.Fields.{bits_of};
 ghost use Rattle.osi_message.specs.Words.{says};
 ghost use Rattle.osi_spdu.specs.Units.{said_by};
 
@@ -15,6 +17,7 @@ use crate::breaches::Breach;
 use crate::counting::{behind_part, count_tsdu, total};
 use crate::faults::CallError;
 use crate::hearing::begins_anew;
+use crate::numbers::Numbers;
 use crate::phases::Phase;
 use crate::reactions::Reply;
 use crate::saying::{is_in_size, may_send, said_message, stands_in_place};
@@ -23,7 +26,7 @@ use crate::state::State;
 use crate::taking::has_no_effect;
 use crate::words::Word;
 use osi_message::{Message, Place};
-use osi_spdu::Spdu;
+use osi_spdu::{Spdu, TokenSet};
 use std::alloc::{AllocError, Global};
 use std::marker::Model;
 
@@ -127,6 +130,28 @@ impl Standing {
             return false;
         }
         self.closed == other.closed
+    }
+
+    /// Its phase.
+    pub fn phase(&self) -> Phase
+        ensures { result ≡ self.now.state.phase }
+    {
+        self.state.phase
+    }
+
+    /// The tokens that it holds.
+    pub fn held(&self) -> TokenSet
+        ensures { bits_of result ≡ token_octet self.now.state.held }
+    {
+        self.state.held.set()
+    }
+
+    /// V(M), V(A), V(R) and the answer flag, as they were left; 0 before the CN is accepted (X.225
+    /// section 5.9).
+    pub fn numbers(&self) -> Numbers
+        ensures { result ≡ self.now.state.numbers }
+    {
+        self.state.numbers
     }
 
     /// The called side, which awaits a CN.

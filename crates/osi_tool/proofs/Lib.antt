@@ -1,4 +1,3 @@
 pub mod Consumption
-pub mod Digits
 pub mod Names
 pub mod Writing

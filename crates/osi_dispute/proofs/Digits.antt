@@ -1,0 +1,36 @@
+-- How many digits stand on a line, octet by octet: for `digits_on`.
+use Rattle.std.proofs.Common.{◌≡◌, ◌∙◌, refl, sym, ap, ℕ, suc, take, Bool, true, false, cond, not, List, [], ◌∷◌, length, arith, ◌+◌, ◌==◌, filter, inl, inr}
+use Rattle.std.specs.List.{before_first, prefix_len}
+use Rattle.std.proofs.lemmas.Bool.Decides.{eqb_tells}
+use Rattle.osi_listing.specs.Capture.{is_comment_sign, is_blank}
+use Rattle.osi_dispute.specs.Rows.{digits_on}
+
+kept : (c : ℕ) (line : List ℕ) → is_comment_sign c ≡ false → before_first is_comment_sign (c ∷ line) ≡ c ∷ before_first is_comment_sign line
+kept c line h =
+    let n : ℕ = prefix_len (λ x. not (is_comment_sign x)) line in
+    let one : 1 + n ≡ suc n = omega arith in
+    rw h (ap (λ k. take k (c ∷ line)) one)
+
+cut : (c : ℕ) (line : List ℕ) → is_comment_sign c ≡ true → before_first is_comment_sign (c ∷ line) ≡ []
+cut c line h = rw h refl
+
+other : (a b : ℕ) → (a ≡ b → ⊥) → (a == b) ≡ false
+other a b h = elim (eqb_tells a b) [ inl same ↦ absurd (h same.1) | inr differ ↦ differ.0 ]
+
+same_as : (a b : ℕ) → a ≡ b → (a == b) ≡ true
+same_as a b e = elim (eqb_tells a b) [ inl same ↦ same.0 | inr differ ↦ absurd (differ.1 e) ]
+
+-- a comment ends the digits
+pub digits_end : (c : ℕ) (line : List ℕ) → c ≡ 35 → digits_on (c ∷ line) ≡ 0
+digits_end c line e = ap (λ (x : List ℕ). length (filter (λ c. not (is_blank c)) x)) (cut c line (same_as c 35 e))
+
+by_blank : (c : ℕ) (line : List ℕ) → (c ≡ 35 → ⊥) → digits_on (c ∷ line) ≡ length (cond (not (is_blank c)) (c ∷ filter (λ c. not (is_blank c)) (before_first is_comment_sign line)) (filter (λ c. not (is_blank c)) (before_first is_comment_sign line)))
+by_blank c line e = ap (λ (x : List ℕ). length (filter (λ c. not (is_blank c)) x)) (kept c line (other c 35 e))
+
+pub digits_blank : (c : ℕ) (line : List ℕ) → (c ≡ 35 → ⊥) → is_blank c ≡ true → digits_on (c ∷ line) ≡ digits_on line
+digits_blank c line e b = by_blank c line e ∙ ap (λ (x : Bool). length (cond (not x) (c ∷ filter (λ c. not (is_blank c)) (before_first is_comment_sign line)) (filter (λ c. not (is_blank c)) (before_first is_comment_sign line)))) b
+
+pub digits_more : (c : ℕ) (line : List ℕ) → (c ≡ 35 → ⊥) → is_blank c ≡ false → digits_on (c ∷ line) ≡ digits_on line + 1
+digits_more c line e b =
+    let one = by_blank c line e ∙ ap (λ (x : Bool). length (cond (not x) (c ∷ filter (λ c. not (is_blank c)) (before_first is_comment_sign line)) (filter (λ c. not (is_blank c)) (before_first is_comment_sign line)))) b in
+    omega (arith, one)

@@ -1,0 +1,5 @@
+pub mod Feeds
+pub mod Digits
+pub mod OneFinding
+pub mod OneText
+pub mod RowLaws

@@ -1,0 +1,48 @@
+-- How a session goes on by what it takes of the other side, without a word of its own.
+use Rattle.std.specs.Prelude.{◌≡◌, ◌<◌, ◌+◌, ◌⊎◌, ℕ, true, false, List, [], length, get_or, Option, Some, None}
+use Rattle.osi_session.specs.declared.reactions.Reply.{Reply}
+use Rattle.osi_session.specs.Steps.{reply_of}
+use Rattle.osi_session.specs.Standing.{Seen, Count, Takes, listens}
+use Rattle.osi_judge.specs.declared.members.Member.{Member}
+use Rattle.osi_judge.specs.declared.standings.Stands.{Stands}
+use Rattle.osi_judge.specs.declared.standings.Turn.{Turn}
+use Rattle.osi_judge.specs.declared.standings.Turn.TheVariants.{Goes, Stops}
+use Rattle.osi_judge.specs.Walking.{Follows}
+
+-- it takes the next TSDU, and sends nothing
+pub record Quietly (us : List (List ℕ)) (m t : Member) : Type 0 where
+  pub taken : t.taken ≡ m.taken + 1
+  pub follows : Follows m.standing (get_or us m.taken []) t.standing
+
+-- it takes the next TSDU, and sends this at once
+pub record OwesTo (s : Seen) (tsdu : List ℕ) (reply : Reply) : Type 0 where
+  pub count : Count
+  pub listening : listens s ≡ true
+  pub taken : Takes s tsdu count
+  pub sent : count.reply ≡ Some (reply_of reply)
+
+-- it stops before the next TSDU, which it would answer, or takes nothing any more
+abbrev pub StopsBy : Seen → List ℕ → Option Reply → Type 0
+StopsBy s tsdu None = listens s ≡ false
+StopsBy s tsdu (Some reply) = OwesTo s tsdu reply
+
+abbrev pub GoesOn : List (List ℕ) → Member → Turn → Type 0
+GoesOn us m (Goes t) = Quietly us m t
+GoesOn us m (Stops owes) = StopsBy m.standing (get_or us m.taken []) owes
+
+-- it comes to stand so
+pub data Comes (us : List (List ℕ)) : Member → Member → Type 0 where
+  stays : (m : Member) → Comes us m m
+  goes : (m n t : Member) → Quietly us m n → Comes us n t → Comes us m t
+
+-- all of these are taken, or it stops before one
+abbrev pub IsAtEnd : List (List ℕ) → Member → Option Reply → Type 0
+IsAtEnd us m owes = ((length us < m.taken + 1) × (owes ≡ None)) ⊎ ((m.taken < length us) × StopsBy m.standing (get_or us m.taken []) owes)
+
+abbrev pub standing_of : Stands → Member
+standing_of s = record { taken = s.taken; standing = s.standing }
+
+-- How a session stands that took what it could of these TSDUs, and what it has still to answer.
+pub record StandsBehind (us : List (List ℕ)) (m : Member) (s : Stands) : Type 0 where
+  pub comes : Comes us m (standing_of s)
+  pub ends : IsAtEnd us (standing_of s) s.owes

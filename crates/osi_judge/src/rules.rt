@@ -1,0 +1,262 @@
+//! Which session came nearest to what its side said, and why it may not say it.
+
+ghost use Rattle.std.specs.Prelude.{◌≤◌, length};
+
+use crate::members::Member;
+use crate::standings::{Turn, first_of, foremost, is_before, take_next};
+use crate::telling::behind_unit;
+use osi_message::Octets;
+use osi_session::{Breach, CallError, Standing};
+use osi_spdu::{Group, Kind, Spdu, SpduFault, read_tsdu};
+use std::alloc::{AllocError, Global};
+
+/// Why a side may not say what it said (X.225 sections 7 and 8).
+#[derive(Clone, Copy, PartialEq, Eq, Debug)]
+pub enum Rule {
+    /// No session that stands so says the unit.
+    Breach(Breach),
+    /// The TSDU is no session units.
+    Fault(SpduFault),
+}
+
+/// A break of the protocol: what the side said, by which rule it may not, and the session that came
+/// nearest to it.
+#[derive(Clone, Copy)]
+pub struct Break {
+    /// The unit; none where the TSDU is no session units.
+    pub said: Option<Kind>,
+    /// Why no session may say it: the rule of the session that came nearest.
+    pub rule: Rule,
+    /// How many TSDUs of the other side had passed before it.
+    pub before: usize,
+    /// How many of them that session had taken.
+    pub taken: usize,
+    /// How that session stood.
+    pub standing: Standing,
+}
+
+impl Break {
+    /// Nothing was said yet.
+    pub(crate) fn none(standing: Standing) -> Break {
+        Break {
+            said: None,
+            rule: Rule::Breach(Breach::Call(CallError::NoSuchConnection)),
+            before: 0,
+            taken: 0,
+            standing,
+        }
+    }
+}
+
+/// What no session says: a unit of a TSDU of so many octets, or a TSDU that is no session units.
+#[derive(Clone, Copy)]
+enum Question<'a> {
+    Unit(Spdu<'a>, usize),
+    Fault(SpduFault),
+}
+
+impl Question<'_> {
+    /// Which unit it is.
+    fn said(&self) -> Option<Kind> {
+        match self {
+            Question::Unit(unit, _) => Some(unit.kind()),
+            Question::Fault(_) => None,
+        }
+    }
+
+    /// Why a session that stands so does not say it; none where it does.
+    fn refused_by(&self, standing: &Standing) -> Option<Rule> {
+        match self {
+            Question::Unit(unit, octets) => match standing.say(unit, *octets) {
+                Ok(_) => None,
+                Err(breach) => Some(Rule::Breach(breach)),
+            },
+            Question::Fault(fault) => Some(Rule::Fault(*fault)),
+        }
+    }
+}
+
+/// A session that does not say what its side said, and why.
+#[derive(Clone, Copy)]
+struct Near {
+    at: Member,
+    rule: Rule,
+}
+
+/// The place of a rule among those that are tried, one after the other.
+fn place(rule: Rule) -> u8 {
+    match rule {
+        Rule::Breach(Breach::Call(error)) => place_of_call(error),
+        Rule::Breach(Breach::NothingToAnswer) => 12,
+        Rule::Breach(Breach::NoFault) => 13,
+        Rule::Breach(Breach::BadTokens) => 14,
+        Rule::Breach(Breach::BadEnclosure) => 15,
+        Rule::Breach(Breach::Outside) => 16,
+        Rule::Fault(_) => 17,
+    }
+}
+
+fn place_of_call(error: CallError) -> u8 {
+    match error {
+        CallError::NoSuchConnection => 0,
+        CallError::Ended => 1,
+        CallError::BadState => 2,
+        CallError::NotSelected => 3,
+        CallError::TokenNotHeld => 4,
+        CallError::TokenAlreadyHeld => 5,
+        CallError::BadNumber => 6,
+        CallError::SerialsUsedUp => 7,
+        CallError::Empty => 8,
+        CallError::TooLong => 9,
+        CallError::OutOfMemory => 10,
+    }
+}
+
+/// Whether one came nearer than the other: by a later rule, or by the same and before it.
+fn is_nearer(one: &Near, other: &Near) -> bool {
+    let (here, there) = (place(one.rule), place(other.rule));
+    if here != there {
+        return here > there;
+    }
+    is_before(&one.at, &other.at)
+}
+
+/// The nearer of two; the first where neither is, and where the member says what is asked.
+fn nearer(question: &Question, best: Near, at: Member) -> Near {
+    let Some(rule) = question.refused_by(&at.standing) else {
+        return best;
+    };
+    let other = Near { at, rule };
+    if is_nearer(&other, &best) { other } else { best }
+}
+
+/// How far a session is that was never asked.
+fn far(members: &[Member]) -> Near {
+    Near {
+        at: first_of(members),
+        rule: Rule::Breach(Breach::Call(CallError::NoSuchConnection)),
+    }
+}
+
+/// The nearest of the sessions that one member comes to, and of those before.
+fn nearest_on(
+    alloc: Global,
+    heard: &[Octets],
+    question: &Question,
+    before: usize,
+    member: Member,
+    best: &Near,
+) -> Result<Near, AllocError>
+    requires { before ≤ length heard.now }
+{
+    let mut at = member;
+    let mut best = *best;
+    'takes: while at.taken < before {
+        best = nearer(question, best, at);
+        match take_next(alloc, heard, &at)? {
+            Turn::Goes(next) => at = next,
+            Turn::Stops(_) => return Ok(best),
+        }
+    }
+    Ok(nearer(question, best, at))
+}
+
+/// The nearest of the sessions that these members come to.
+fn nearest(
+    alloc: Global,
+    heard: &[Octets],
+    question: &Question,
+    before: usize,
+    members: &[Member],
+) -> Result<Break, AllocError>
+    requires { before ≤ length heard.now }
+{
+    let mut best = far(members);
+    'members: for member in members {
+        best = nearest_on(alloc, heard, question, before, *member, &best)?;
+    }
+    Ok(Break {
+        said: question.said(),
+        rule: best.rule,
+        before,
+        taken: best.at.taken,
+        standing: best.at.standing,
+    })
+}
+
+/// What is left behind a unit: members, or a break.
+enum Behind {
+    Members(Vec<Member>),
+    Break(Break),
+}
+
+fn behind_or_break(
+    alloc: Global,
+    heard: &[Octets],
+    unit: &Spdu,
+    octets: usize,
+    before: usize,
+    members: &[Member],
+) -> Result<Behind, AllocError>
+    requires { before ≤ length heard.now }
+{
+    let next = behind_unit(alloc, heard, unit, octets, before, members)?;
+    if !next.is_empty() {
+        return Ok(Behind::Members(next));
+    }
+    let question = Question::Unit(*unit, octets);
+    let found = nearest(alloc, heard, &question, before, members)?;
+    Ok(Behind::Break(found))
+}
+
+/// The break at the first unit, in the order in which they act, that no session says.
+fn break_in(
+    alloc: Global,
+    heard: &[Octets],
+    group: &Group,
+    octets: usize,
+    before: usize,
+    members: &[Member],
+) -> Result<Break, AllocError>
+    requires { before ≤ length heard.now }
+{
+    let first = *group.first();
+    let mut behind = group.behind();
+    let mut now = Vec::from_slice(alloc, members)?;
+    'units: while let Some(unit) = behind.next() {
+        match behind_or_break(alloc, heard, &unit, octets, before, &now)? {
+            Behind::Members(next) => now = next,
+            Behind::Break(found) => return Ok(found),
+        }
+    }
+    let question = Question::Unit(first, octets);
+    nearest(alloc, heard, &question, before, &now)
+}
+
+/// The break at a TSDU that no session says that explains what the side said before.
+pub(crate) fn break_at(
+    alloc: Global,
+    heard: &[Octets],
+    tsdu: &[u8],
+    before: usize,
+    members: &[Member],
+) -> Result<Break, AllocError>
+    requires { before ≤ length heard.now }
+{
+    match read_tsdu(tsdu) {
+        Ok(group) => break_in(alloc, heard, &group, tsdu.len(), before, members),
+        Err(fault) => nearest(alloc, heard, &Question::Fault(fault), before, members),
+    }
+}
+
+/// The AC of a selection that is outside of the profile, by the foremost of these members.
+pub(crate) fn selection_at(before: usize, members: &[Member]) -> Break {
+    let at = foremost(members);
+    Break {
+        said: Some(Kind::Accept),
+        rule: Rule::Breach(Breach::Outside),
+        before,
+        taken: at.taken,
+        standing: at.standing,
+    }
+}

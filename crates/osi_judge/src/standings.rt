@@ -1,0 +1,114 @@
+//! How a side stands that kept the protocol.
+
+ghost use Rattle.std.specs.Prelude.{◌≡◌, ◌<◌, length, IfOk};
+ghost use Rattle.osi_judge.specs.Onward.{GoesOn, StandsBehind};
+
+use crate::members::Member;
+use crate::walks::tsdu_at;
+use osi_message::Octets;
+use osi_session::{Reply, Standing};
+use std::alloc::{AllocError, Global};
+
+/// How a side stands, by a session that explains all that it said and took what it could: up to the first
+/// TSDU that it has still to answer, or all that passed.
+#[derive(Clone, Copy)]
+pub struct Stands {
+    /// How many TSDUs of the other side it has taken.
+    pub taken: usize,
+    /// How it stands.
+    pub standing: Standing,
+    /// What it has still to answer to the next TSDU, if it takes it.
+    pub owes: Option<Reply>,
+}
+
+/// Whether a session comes before another that has taken as many: by the higher V(A), then by the flag.
+fn is_ahead(one: &Standing, other: &Standing) -> bool {
+    let one = one.numbers();
+    let other = other.numbers();
+    if one.confirmed != other.confirmed {
+        return one.confirmed > other.confirmed;
+    }
+    one.answers && !other.answers
+}
+
+/// Whether a member comes before another: it has taken more, or as much and is ahead.
+pub(crate) fn is_before(one: &Member, other: &Member) -> bool {
+    if one.taken != other.taken {
+        return one.taken > other.taken;
+    }
+    is_ahead(&one.standing, &other.standing)
+}
+
+/// The member that comes before all others: it has taken most, and of these it has the highest V(A), then
+/// the flag on.
+pub(crate) fn foremost(members: &[Member]) -> Member {
+    let mut best = first_of(members);
+    'members: for member in members {
+        if is_before(member, &best) {
+            best = *member;
+        }
+    }
+    best
+}
+
+/// The first member; where there is none, a session that has just begun.
+pub(crate) fn first_of(members: &[Member]) -> Member {
+    match members.first() {
+        Some(member) => *member,
+        None => Member {
+            taken: 0,
+            standing: Standing::called(),
+        },
+    }
+}
+
+/// One more TSDU that a session takes: where it stands then, or that it stops there.
+pub(crate) enum Turn {
+    Goes(Member),
+    Stops(Option<Reply>),
+}
+
+pub(crate) fn take_next(alloc: Global, heard: &[Octets], at: &Member) -> Result<Turn, AllocError>
+    requires { at.now.taken < length heard.now }
+    ensures { IfOk result (λ turn. GoesOn heard.now at.now turn) }
+{
+    let tsdu = tsdu_at(heard, at.taken);
+    let Some(taking) = at.standing.take(alloc, tsdu)? else {
+        return Ok(Turn::Stops(None));
+    };
+    if taking.reply.is_some() {
+        return Ok(Turn::Stops(taking.reply));
+    }
+    Ok(Turn::Goes(Member {
+        taken: at.taken + 1,
+        standing: taking.next,
+    }))
+}
+
+/// How a member stands behind all that was heard.
+pub(crate) fn stands_behind(
+    alloc: Global,
+    heard: &[Octets],
+    member: Member,
+) -> Result<Stands, AllocError>
+    ensures { IfOk result (λ stands. StandsBehind heard.now member stands) }
+{
+    let mut at = member;
+    'takes: while at.taken < heard.len() {
+        match take_next(alloc, heard, &at)? {
+            Turn::Goes(next) => at = next,
+            Turn::Stops(owes) => return Ok(stands_at(at, owes)),
+        }
+    }
+    Ok(stands_at(at, None))
+}
+
+fn stands_at(at: Member, owes: Option<Reply>) -> Stands
+    ensures { result ≡ record { taken = at.taken; standing = at.standing; owes = owes } }
+{
+    Stands {
+        taken: at.taken,
+        standing: at.standing,
+        owes,
+    }
+}
