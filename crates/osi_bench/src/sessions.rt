@@ -57,7 +57,7 @@ fn tell(from: &mut Session, request: Request, to: &mut Session) -> Option<usize>
     hand(&sent, to)
 }
 
-/// The length of the TSDU, which is handed to nobody.
+/// The length of the TSDU, which is not delivered.
 fn length_of(sent: &Sent) -> Option<usize> {
     match sent.tsdus() {
         [tsdu] => Some(tsdu.len()),

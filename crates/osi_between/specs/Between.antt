@@ -38,7 +38,7 @@ pub record Both : Type 0 where
   pub called : Side
   pub reach : Option (ℕ × ℕ)
 
--- In all that follows, the argument that says which end comes first; `true` is the caller.
+-- Below, the first argument says which end is meant; `true` is the caller.
 abbrev pub side : Bool → Both → Side
 side true both = both.caller
 side false both = both.called
@@ -102,7 +102,7 @@ AreJoinedBy by_zero caller called going coming = AreJoinedZero caller called goi
 AreJoinedBy (refusing reason) caller called going coming = AreRefusing reason caller called going coming
 
 -- The invariant of two carriers. An end that has not ended is in its last state. The last states are joined by all
--- units, as if those that were discarded would still arrive: so what was discarded needs no case of its own. It says
+-- units, as if those that were discarded would still arrive, so discarded units need no case of their own. It says
 -- nothing of what arrives at an end that has ended.
 pub record AreBetween (terms : Terms) (both : Both) (b : Between) : Type 0 where
   pub lives : (end : Bool) → (side end both).state.ended ≡ None → (side end both).state ≡ last_of end b
@@ -175,7 +175,7 @@ pub record Carries (terms : Terms) (end : Bool) (n : ℕ) (old new : Both) (b c 
   pub local : (last_of end c).local ≡ (last_of end b).local
   -- something in flight from it is discarded only if the connection is no longer open
   pub keeps : leaves_use (progress_of (place_at n (last_of end b))) (progress_of (place_at n (last_of end c))) ≡ false → gone ≡ []
-  -- the other end is as it was; the units in flight to it are those after what it took
+  -- the other end is unchanged; the units in flight to it are those after the units it took
   pub there : last_of (not end) c ≡ last_of (not end) b
   pub cut : units_from (not end) b ≡ taken ++ units_from (not end) c
   pub lost_still : lost_from (not end) c ≡ lost_from (not end) b
@@ -245,7 +245,7 @@ ended_at false reason both = record both { called = record both.called { state =
 abbrev pub broken_at : ℕ → ℕ → Both → Both
 broken_at k l both = record both { reach = Some (k, l) }
 
--- What is in flight from an end is as before, except that its last part may be discarded.
+-- What is in flight from an end is unchanged, except that its last part may be discarded.
 pub record Loses (end : Bool) (n : ℕ) (old new : Both) (b c : Between) : Type 0 where
   pub gone : List Message
   pub all : under_way end n old b ≡ under_way end n new c ++ gone

@@ -191,7 +191,7 @@ answers_at (was_given connection) unit = answers_of connection unit
 -- One end (`this`, then `next`) acted for a connection in the state `old`: these units in flight to it were taken (one,
 -- or none), `asked` references were given, and `put` follows what is in flight from it.
 pub record CourseMoves (end : Bool) (n : ℕ) (old : Course) (this other next : State) (taken : List Value) (asked : ℕ) (put : List Message) : Type 0 where
-  -- the new state; the other end is as it was
+  -- the new state; the other end is unchanged
   pub new : Course
   pub place : place_at n next ≡ at_end end n new
   pub there : at_end (not end) n new ≡ at_end (not end) n old

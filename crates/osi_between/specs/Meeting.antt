@@ -27,7 +27,7 @@ pub data Meeting : Type 0 where
   left_there : LinkPair → List Given → ℕ → Meeting
   -- DRs are in flight both ways, each with the units before it and its reason
   left_both : List Given → ℕ → List Given → ℕ → Meeting
-  -- gone there; after units that are ignored, a DC arrives, or the DR that crossed the one from here
+  -- gone there; in flight to here: units that are ignored, then a DC, or the DR that crossed the one from here
   waiting_here : List Given → Option ℕ → Meeting
   -- gone here
   waiting_there : List Given → Option ℕ → Meeting
@@ -109,7 +109,7 @@ abbrev pub rows_with : ℕ → Option Connection → Rows Connection → Rows Co
 rows_with n None live = without n live
 rows_with n (Some connection) live = put n connection live
 
--- Only this connection changed: `after` is what is left of it, these units were written and these events reported.
+-- Only this connection changed: its new state is `after`. These units were written, and these events reported.
 pub record Changes (n : ℕ) (old new : State) (after : Option Connection) (units : List Value) (told : List Happening) : Type 0 where
   pub here : value_at n new.live ≡ after
   pub live : new.live ≡ rows_with n after old.live

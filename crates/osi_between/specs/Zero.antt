@@ -79,7 +79,7 @@ class_in (was_given (Some asked)) = None
 class_in (was_given (Some (linked peer link))) = Some Zero
 class_in (was_given (Some (closing peer))) = Some Zero
 
--- a carrier that has this and nothing else
+-- a carrier with this one connection and no other
 pub record HasOne (s : State) (place : Place) : Type 0 where
   pub live : s.live ≡ rows_in place
   pub given : s.given ≡ given_in place

@@ -96,9 +96,9 @@ pub fn two_carriers_stay_joined()
 {}
 
 /// Two carriers that both support class 2, with the octets between them, seen from an end. New ones are linked. They
-/// stay linked however many of the octets that one has to hand over are fed to the other, wherever these are cut,
-/// unless that carrier runs out of memory; and also after each call of [`two_carriers_stay_joined`], and when an event
-/// is reported. Feeding takes units, one after the other.
+/// stay linked after any number of octets of one is fed to the other, however they are cut into pieces, unless that
+/// carrier runs out of memory. They also stay linked after each call of [`two_carriers_stay_joined`], and after an
+/// event is reported. Feeding takes units, one after the other.
 pub fn two_carriers_stay_linked()
     ensures begins { (caller called : Carrying) (a b : Local) → a.class2 ≡ true → b.class2 ≡ true → caller.state ≡ fresh_state true a →
         called.state ≡ fresh_state false b → caller.held.octets ≡ [] → called.held.octets ≡ [] → AreLinked true caller called [] [] }

@@ -86,7 +86,7 @@ phases =
 abbrev pub phase_of : ℕ → Option (Option Phase)
 phase_of = coded phases
 
--- the reasons of an end, by the detail that goes with the number
+-- the reasons of an end, by number; `detail` is the number that comes with the reason
 abbrev pub reasons : ℕ → List (ℕ × Option EndReason)
 reasons detail =
     (0, None) ∷ (1, Some end.Broken) ∷ (2, Some end.Closed) ∷ (3, Some (end.PeerClosed detail)) ∷ (4, Some end.NoMemory)

@@ -9,7 +9,7 @@ use Rattle.osi_carrier.proofs.Reacts.{react_over}
 
 -- ---- how the live connections change
 
--- the rows are as they were, or one reference has another value, or it is dropped
+-- the rows are unchanged, or one reference has another value, or it is dropped
 abbrev pub Touched : ℕ → Rows Connection → Rows Connection → Type 0
 Touched r old new = (new ≡ old) ⊎ (((c : Connection) × (new ≡ put r c old)) ⊎ (new ≡ without r old))
 
@@ -50,7 +50,7 @@ silent r old new same how = record { told = []; events = same ∙ sym (append-ni
 telling : (r : ℕ) (old new : State) (event : Happening) → told_of event ≡ r → new.events ≡ old.events ++ event ∷ [] → How r old new → Effect r old new
 telling r old new event about same how = record { told = event ∷ []; events = same; about = (about, tt); one = omega arith; how = how }
 
--- the live connections, the references and the end are as they were
+-- the live connections, the references and the end are unchanged
 still : (r : ℕ) (old new : State) → new.given ≡ old.given → new.ended ≡ old.ended → new.live ≡ old.live → How r old new
 still r old new given ended live = inl (record { given = given; ended = ended; live = inl live })
 

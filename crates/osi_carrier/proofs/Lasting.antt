@@ -142,7 +142,7 @@ over_one laws old (telling event) new later none quiet lasts h over = never new.
 over_one laws old (carrying octets) new later none quiet lasts h over = never new.state over (ap (λ (x : Carrying). x.state.ended) (sym h) ∙ quiet)
 over_one laws old (calling call) new later none quiet lasts h over = absurd cc
 
--- what is left of them does not end the carrier after a call
+-- the later octets do not end the carrier after a call either
 lasts_on : PacketLaws → (old : Carrying) (call : Call) (new : Carrying) (later : List ℕ) → called_in call ≡ [] → ReadsOne old call new →
     Lasts old (old.held.octets ++ (used_in call ++ later)) → Lasts new (new.held.octets ++ later)
 lasts_on laws old call new later none one lasts =

@@ -96,7 +96,7 @@ set_rise n ((p, y) ∷ rows) zero row new here same h =
     subst (λ (q : ℕ). (n < q) × RiseFrom q rows) named h
 set_rise n ((p, y) ∷ rows) (suc i) row new here same h = (h.0, set_rise p rows i row new here same h.1)
 
--- what is true of the rows of a table: at most 64, that rise as long as they are said to
+-- the rows of a table: at most 64, with rising numbers if `rises` is set
 abbrev pub AreKept : {X : Type 0} → Bool → Rows X → Type 0
 AreKept rises rows = (length rows ≤ 64) × (rises ≡ true → RiseFrom 0 rows)
 

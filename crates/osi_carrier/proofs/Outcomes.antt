@@ -224,7 +224,7 @@ stays_along old (call ∷ calls) new none over h =
 
 -- ---- calls one after the other
 
--- an offset after octets of which these are held, and after more
+-- the offset after two runs of octets, each with some octets held
 pub offsets_join : (at mid s m t r : ℕ) → mid ≡ offset_of (at + (s - m)) → m ≤ s → r ≤ m + t → offset_of (mid + ((m + t) - r)) ≡ offset_of (at + ((s + t) - r))
 offsets_join at mid s m t r e less few = omega arith
 

@@ -78,7 +78,7 @@ leaves_told : (r q : ℕ) (b : Bool) (old new : State) (event : Happening) → (
     ((was : Bool) → open_after r was (event ∷ []) ≡ (was && not (q == r))) → open_in r new.live ≡ (if b then false else open_in r old.live) → Told r old new
 leaves_told r q b old new event e events means is = grind (arith, and_false, and_true)
 
--- one that was not open, or stays open, of which nothing is reported
+-- a connection that was not open, or stays open: no event is reported of it
 stays_told : (r q : ℕ) (b was : Bool) (old : Rows Connection) (now : Bool) → (q == r) ≡ b → ((q == r) ≡ true → open_in r old ≡ was) →
     now ≡ (if b then was else open_in r old) → now ≡ open_in r old
 stays_told r q b was old now e here is = grind arith

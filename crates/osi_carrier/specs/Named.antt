@@ -9,6 +9,6 @@ use Rattle.osi_carrier.specs.State.{State}
 abbrev pub AreNamed : State → Type 0
 AreNamed s = references s.tsaps ≡ references s.live
 
--- the selectors of a connection that was live and still is are as they were
+-- the selectors of a connection that was live and still is are unchanged
 abbrev pub KeepsTsaps : State → State → Type 0
 KeepsTsaps old new = (r : ℕ) → r ≤ old.given → IsSome (value_at r new.live) → tsaps_at r new ≡ tsaps_at r old

@@ -59,7 +59,7 @@ told_of (tsdu r octets) = r
 told_of (closed r reason) = r
 told_of (faulted r fault) = r
 
--- All other connections are as they were, and at most one event is reported, of this connection.
+-- All other connections are unchanged, and at most one event is reported, of this connection.
 pub record ChangesOne (r : ℕ) (old new : State) : Type 0 where
   pub others : (q : ℕ) → q ≢ r → value_at q new.live ≡ value_at q old.live
   pub told : List Happening

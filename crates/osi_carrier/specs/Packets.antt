@@ -61,7 +61,7 @@ after_refusal (BadLength offset) s = fails (Tpkt (BadLength offset)) s
 
 -- ---- a piece of the stream
 
--- what contracts say that a carrier holds
+-- the state of a carrier in contracts
 pub record Carrying : Type 0 where
   pub state : State
   -- the unfinished packet

@@ -43,7 +43,7 @@ pub fn is_above<R: Referred>(rows: &[R], reference: u16) -> bool
 }
 
 /// The place of a reference among rows. If the caller says that they rise, the search begins at the place that the
-/// distance from the first reference suggests, and goes on by binary search. As with any binary search, the result is
+/// distance from the first reference suggests, and continues by binary search. As with any binary search, the result is
 /// the place only if the rows do rise.
 #[inline]
 pub fn place_in<R: Referred>(rows: &[R], rises: bool, reference: u16) -> Option<usize>

@@ -4,7 +4,7 @@ use Rattle.osi_class.proofs.Vocabulary.{Ends, Flow, ack_number, after_acked, Dra
 use Rattle.osi_class.proofs.Ending.{giving_lowers}
 use Rattle.osi_class.proofs.Order.{choose_some, at_some}
 
--- what giving leaves alone, and of which class it is
+-- giving a unit leaves the receiving state unchanged; and the class of the unit
 pub record LeavesTaking (e : Ends) (flow : Option Flow) (g : Given) (new : Standing) : Type 0 where
   pub limit : new.ends.limit ≡ e.limit
   pub joining : new.ends.joining ≡ e.joining

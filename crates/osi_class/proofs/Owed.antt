@@ -1,4 +1,4 @@
--- The law of what is owed: each step keeps the two ends in step.
+-- Acks that are owed: after each step the counts of the two ends still agree.
 use Rattle.std.proofs.Common.{◌≡◌, ℕ, suc, ◌+◌, ◌-◌, ◌%◌, ◌<◌, ◌≤◌, true, ◌==◌, List, [], ◌∷◌, ◌++◌, length, Ok, refl, sym, ◌∙◌, ap, subst, arith, nat_lt, eq-eqb}
 use Rattle.osi_class.proofs.Vocabulary.{lt-ltb, Sender, steps_before, after_sent, acknowledged, is_awaited, after_taken, ack_number, after_acked, numbers, restoring, Direction, unknown, owed, InStep, CreditStep, write_unit, take_unit, write_ack, take_ack, CreditSteps, known_after, StepsAlong, opened, restored}
 use Rattle.osi_class.proofs.Numbers.{earlier_number, steps_between, numbers_snoc, restoring_snoc, acknowledged_is}

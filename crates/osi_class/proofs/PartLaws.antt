@@ -12,11 +12,11 @@ some_rest s (octet ∷ rest) h = refl
 abbrev nothing_unsent : Ends → Option Flow → Standing
 nothing_unsent e flow = record { ends = record e { unsent = [] }; flow = flow }
 
--- what is given first of one TSDU, and what is left of it
+-- the first part of a TSDU, and the rest of the TSDU
 abbrev first_of : ℕ → List ℕ → Bool → Option (Part × List (List ℕ))
 first_of limit t longer = if longer then Some ((false, take limit t), drop limit t ∷ []) else Some ((true, t), [])
 
--- this many octets of it, and what is left after them
+-- a part with the first `n` octets, and the octets after them
 abbrev given_first : Option ℕ → Standing → List ℕ → Bool → ℕ → Option (Given × Standing)
 given_first number s t end n = Some (part_under number end (take n t), with_rest s (drop (length (take n t)) t))
 

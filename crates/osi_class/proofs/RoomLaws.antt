@@ -8,7 +8,7 @@ use Rattle.osi_class.proofs.Nothing.{class_0, class_2}
 abbrev Counts : List Given → ℕ → ℕ → Type 0
 Counts units count octets = (length units ≡ count) × (octets_in units ≡ octets)
 
--- a TSDU that is longer than a unit has one part more than what is left of it
+-- a TSDU that is longer than a unit has one part more than its rest
 pub parts_cut : (limit octets : ℕ) → 0 < limit → limit < octets → parts_needed limit octets ≡ parts_needed limit (octets - limit) + 1
 parts_cut limit octets room longer =
     let before : octets - 1 ≡ (octets - limit - 1) + limit = omega arith in

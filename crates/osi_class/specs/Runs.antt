@@ -1,5 +1,5 @@
--- Calls of one link that succeeded, and what goes in and comes out in them. Calls that were refused or that gave none
--- change nothing, and are left out.
+-- Calls of one link that succeeded, with their input and output. Calls that were refused or that had no result change
+-- nothing, and are left out.
 use Rattle.std.specs.Prelude.{◌≡◌, ℕ, List, [], ◌∷◌, Some, Ok}
 use Rattle.std.specs.List.{flat_map}
 use Rattle.osi_tpdu.specs.Value.{Value, data0, data2}

@@ -111,9 +111,9 @@ pub fn giving_ends()
     ensures joining { (old new : Standing) (given : Given) → next old ≡ Some (given, new) → new.ends.joining ≡ old.ends.joining }
 {}
 
-/// All that a link gives, and the link after that (`drained`): nothing if `next_out` gives nothing, otherwise the next
-/// unit and what is given after it. After that it gives nothing more. These are the results of calling `next_out`, and
-/// the receiving side stays as it is.
+/// All units that a link has to give, and the link after them (`drained`): none if `next_out` has no result, otherwise
+/// its unit and all units after it. Then the link has no more to give. These are the results of repeated calls of
+/// `next_out`, and the receiving side does not change.
 pub fn all_is_given()
     ensures none { (s : Standing) → next s ≡ None → drained s ≡ record { units = []; link = s } }
     ensures some { (s t : Standing) (unit : Given) → 0 < s.ends.limit → next s ≡ Some (unit, t) →
@@ -198,7 +198,7 @@ pub fn the_oldest_is_taken()
 {}
 
 /// Take two links that agree. If no unit is in flight, neither link has a unit to give, and no complete TSDU waits to
-/// be handed out, then nothing is left behind: over every list of calls, what was handed in at the left is what was
+/// be handed out, then everything has arrived: over every list of calls, what was handed in at the left is what was
 /// handed out at the right, nothing is unsent, and no TSDU is unfinished.
 pub fn all_arrives()
     ensures handed { (old new : LinkPair) (turns : List Turn) → HasWholeTsdus old → under_way old ≡ [] → TurnsAlong old turns new →

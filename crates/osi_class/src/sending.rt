@@ -7,7 +7,7 @@ use std::alloc::{AllocError, Global};
 use std::collections::VecDeque;
 use std::marker::Model;
 
-/// The TSDUs to be sent, each kept as it was handed in, with the offset of the next octet of the first one.
+/// The TSDUs to be sent, each kept whole, with the offset of the next octet of the first one.
 #[derive(Drop)]
 pub struct Outgoing {
     alloc: Global,
@@ -22,7 +22,7 @@ pub struct Outgoing {
     to: usize,
     /// Whether more of it is to be given.
     has_more: bool,
-    /// The TSDUs of which nothing was given yet.
+    /// The TSDUs of which no part was given yet.
     queue: VecDeque<Vec<u8>>,
     /// Their octets. Together with those of `current` they fit a `usize`.
     queued: usize,

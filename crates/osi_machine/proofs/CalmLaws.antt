@@ -62,7 +62,7 @@ pub over_calm : (s : State) (ms : List Message) → is_over s.phase ≡ true →
 over_calm s [] o = λ calls small octets. unit_when_over (after_calls s calls) (DT octets) (over_calls s calls o)
 over_calm s (m ∷ ms) o = λ calls small. over_calm (after_message (after_calls s calls) m) ms (over_message (after_calls s calls) m (over_calls s calls o))
 
--- ---- a CN that waits makes no difference
+-- ---- a CN that is still to be sent makes no difference
 
 pub left_is : (x : Standing) (input : Input) → left_by x.state input ≡ (react x input).next.state
 unfolding react
@@ -77,7 +77,7 @@ call_first s c (m ∷ ms) small calm = λ calls numbered. calm (c ∷ calls) (sm
 pub called_calm : (x : Standing) (c : Call) (ms : List Message) → HasSerial c → StaysCalm x.state ms → StaysCalm (react x (called c)).next.state ms
 called_calm x c ms small calm = subst (λ (s : State). StaysCalm s ms) (left_is x (called c)) (call_first x.state c ms small calm)
 
--- ---- a side of a connection of which nothing is lost
+-- ---- a side of a connection on which nothing is lost
 
 record HasCore (s : State) (sent : List Meaning) : Type 0 where
   core : Core

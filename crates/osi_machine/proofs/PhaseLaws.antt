@@ -20,7 +20,7 @@ implied f g h p k = cut_or (f p) (g p) (every_is (λ p. not (f p) || g p) h p) k
 cut_not : (a b : Bool) → (not a || not b) ≡ true → a ≡ true → b ≡ false
 cut_not a b h k = grind arith
 
--- two tests of which no phase passes both
+-- two tests that no phase passes together
 pub excluded : (f g : Phase → Bool) → every (λ p. not (f p) || not (g p)) ≡ true → (p : Phase) → f p ≡ true → g p ≡ false
 excluded f g h p k = cut_not (f p) (g p) (every_is (λ p. not (f p) || not (g p)) h p) k
 
@@ -44,7 +44,7 @@ pub by_test : {A : Type 0} → (b : Bool) → (b ≡ true → A) → (b ≡ fals
 by_test true h k = h refl
 by_test false h k = k refl
 
--- by which of two holds
+-- one of two statements holds
 pub by_either : {A B C : Type 0} → A ⊎ B → (A → C) → (B → C) → C
 by_either (inl a) f g = f a
 by_either (inr b) f g = g b

@@ -268,7 +268,7 @@ minor_sending w confirm octets a sel right h = record {
   one_way = λ d. point_one_way w (MIP confirm w.own.session.numbers.next octets) a h;
 }
 
--- the phase is as it was
+-- the phase is unchanged
 same_phase : (s : State) → s.phase ≡ Ready → after s (Minor false []) ≡ sent_in Ready s
 same_phase s e = λ i. record s { phase = e i; numbers = point_sent s.numbers }
 

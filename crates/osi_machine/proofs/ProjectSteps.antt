@@ -12,7 +12,7 @@ use Rattle.osi_machine.proofs.PhaseLaws.{by_test}
 same_core : (broken broken' : Bool) (w v : World) (t u : Told) (h : Repeats broken w t u) → Projects broken' v h.core → Repeats broken' v t u
 same_core broken broken' w v t u h p = record { core = h.core; stands = h.stands; projects = p; own = h.own; peer = h.peer }
 
--- an indication of a loss tells nothing else
+-- an indication of a loss shows nothing else
 pub loss_told : (t : Told) (s : State) → told_all t (lost s).shown ≡ t
 loss_told t s = by_test (shows_loss s.phase) (λ e. rw e) (λ e. rw e)
 

@@ -1,5 +1,5 @@
--- How a connection on which nothing is lost simulates a whole connection. A side that is over stays as it was; for the
--- other side, an abort, an end, a break or a loss is a side that has gone silent.
+-- How a connection on which nothing is lost simulates a whole connection. A side that is over stays unchanged; for the
+-- other side, an abort, an end, a break or a loss means that its peer has gone silent.
 use Rattle.std.proofs.Common.{◌≡◌, sym, ◌∙◌, ap, ℕ, ◌+◌, Bool, true, false, not, ◌||◌, List, [], ◌∷◌, ◌++◌, map, length, take, ◌⊎◌, arith}
 use Rattle.osi_machine.specs.Core.{turned}
 use Rattle.osi_machine.proofs.Vocabulary.{take-append_seam, list_any, State, Meaning, RF, DN, AB, Token, is_over, is_answering, is_release_due, Item, points, Begins, is_own, owned, is_plain, Party, Core, Message, unit, bye, over, Transport, not_yet, waiting, linked, kept_of, End, World, session_of, turned as turned_world}
@@ -81,7 +81,7 @@ pub record Projects (broken : Bool) (w : World) (c : Core) : Type 0 where
   pub own : OneSide broken w c
   pub peer : OneSide broken (turned_world w) (turned c)
 
--- ---- if both sides are over, only that is said
+-- ---- if both sides are over, this alone is stated
 
 pub not_both : {A : Type 0} (b : Bool) → b ≡ true → b ≡ false → A
 not_both b p q = absurd (cc)

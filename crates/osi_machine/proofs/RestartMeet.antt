@@ -80,7 +80,7 @@ pub flows : (w : Core) (n : ℕ) (t : TokenSetting) → Restarts w n → Stands 
 flows w n t q s = restart_flow w.own.session (asked w.own.session n t) w.peer.sent
     (record { lives = implied may_restart is_lively refl w.own.session.phase q.phase; asked = refl; units = refl; base = refl }) s.own.fits
 
--- the other will owe it no answer
+-- the other side will owe it no answer
 pub not_due : (w : Core) (n : ℕ) → Restarts w n → Stands w → is_restart_due (flushed w.peer w.own).phase ≡ false
 not_due w n q s = none_owed w.owner w.own w.peer s.own (listens w n q)
 

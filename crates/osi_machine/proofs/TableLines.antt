@@ -20,7 +20,7 @@ seat_of w a = record { transport = w.own.transport; session = record { state = s
 abbrev pub line_of : World → Option Meaning → Option Meaning → Line
 line_of w a b = record { own = seat_of w a; peer = seat_of (turned w) b }
 
--- what is also true of a side: before the connection is agreed to it is as it was made, and owns nothing
+-- also true of a side: until the connection is accepted it is in its first state and owns nothing
 pub record IsSeated (w : World) (a : Option Meaning) : Type 0 where
   pub calls : w.own.transport ≡ waiting → a ≡ Some (offer_sent w.offer)
   pub called : w.own.transport ≡ waiting → w.own.kept ≡ kept_of (without_tokens WaitTransport (offering w.offer))

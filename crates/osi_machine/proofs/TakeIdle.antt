@@ -89,7 +89,7 @@ please_got x k octets us = ap (λ (r : List (List ℕ)). r ++ data_of us) (by_te
     (λ e. rw e)
     (λ e. rw e (append-nil x.got)))
 
--- ---- all that is said of both sides
+-- ---- everything that is stated of both sides
 
 -- the connection after such a unit
 abbrev after_take : Core → Meaning → List Meaning → Core

@@ -1,4 +1,4 @@
--- What the record of a side tells is what the side has seen, and whether it awaits the answer to a restart.
+-- The record of a side shows what the side has seen, and whether it awaits the answer to a restart.
 use Rattle.std.proofs.Common.{◌≡◌, refl, sym, ◌∙◌, ap, ℕ, ◌+◌, Bool, true, false, not, ◌||◌, if◌then◌else◌, List, [], ◌∷◌, ◌++◌, arith}
 use Rattle.osi_machine.specs.Floor.{agreed_base}
 use Rattle.osi_machine.proofs.Vocabulary.{append-nil, Shown, State, FunctionalUnits, Call, Accept, Data, Give, Please, Minor, MinorConfirm, Major, MajorConfirm, Restart, RestartConfirm, Release, ReleaseRefuse, Meaning, CN, AC, DT, GT, PT, MIP, MIA, MAP, MAA, RS, RA, FN, NF, Phase, is_over, is_wait_cn, is_connecting, is_answering, is_ready, is_major_asked, is_major_due, is_releasing, is_release_due, is_restarting, is_restart_due, takes_restart, takes_data, stands, is_acceptable, becomes, shown_for, after, may_call, both_units, functional_units, Good, Item, Octets, Point, PointKind, points, cutat, minor_kind, major_point, seen, got_in, is_plain, view_called, speaks, stays_in_core, is_opening, Told, told_call, told_shown}

@@ -2,7 +2,7 @@
 use Rattle.std.specs.Prelude.{Bool, true, false, if◌then◌else◌}
 use Rattle.osi_machine.specs.Floor.{Token, has, set_of, Tokens, available, State, is_over}
 
--- this side or the other; in flight to either; nobody, until a restart is answered or for good; and nobody, since the
+-- this side or the other; in flight to either; no owner, until a restart is answered or for good; and no owner, since the
 -- token is not available
 pub data Owner : Type 0 where
   Own : Owner
@@ -63,11 +63,11 @@ abbrev pub all_to_pool : Owner → Owner
 all_to_pool Absent = Absent
 all_to_pool o = Pool
 
--- what this side owned is now nobody's
+-- what this side owned now has no owner
 abbrev pub given_up : Owners → Owners
 given_up owner t = own_to_pool (owner t)
 
--- every available token is nobody's
+-- every available token loses its owner
 abbrev pub pooled : Owners → Owners
 pooled owner t = all_to_pool (owner t)
 

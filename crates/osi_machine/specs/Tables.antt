@@ -25,11 +25,11 @@ pub record Line : Type 0 where
 abbrev pub turned : Line → Line
 turned l = record { own = l.peer; peer = l.own }
 
--- the session of a caller, whose CN waits for the transport connection
+-- the session of a caller, which sends its CN once the transport connection is open
 abbrev pub calling : Offer → Standing
 calling o = record { state = without_tokens WaitTransport (offering o); waiting = Some (offer_sent o) }
 
--- that of a called end, which awaits a CN
+-- the session of a called end, which awaits a CN
 abbrev pub awaits : Standing
 awaits = record { state = awaiting; waiting = None }
 

@@ -174,9 +174,9 @@ pub fn what_stands_at_a_reference()
     ensures broken_count { (left right : ℕ → ℕ) (lines : List Line) → length (tables.cut_channels left right 1 lines) ≡ length lines }
 {}
 
-/// Over every list of steps, whatever is lost: each unit in flight can be written, so that it is read back as it was
-/// meant, and so can the CN that waits for the transport connection. V(A) and V(R) of each session are between the base
-/// and V(M), which is at most 1,000,000, and tokens are held only in few phases.
+/// Over every list of steps, whatever is lost: each unit in flight can be written, and is read back with the same
+/// meaning; so can a CN that is to be sent once the transport connection is open. V(A) and V(R) of each session are
+/// between the base and V(M), which is at most 1,000,000, and tokens are held only in few phases.
 pub fn what_is_under_way_can_be_sent()
     ensures { (t : Tables) → IsTableRun t → AreSoundLines t }
 {
@@ -258,10 +258,10 @@ pub fn what_is_heard_was_said()
     session::what_closes_sends_nothing();
 }
 
-/// Worked examples. A token that is given, and not yet taken when the other side requests a restart, is nobody's until
-/// the restart is answered. Of two restarts that cross, the lower one wins; if they are equal, the caller's. A restart
-/// may go below a major point that was confirmed. There is no number above 999,999. If the answer to a release is lost,
-/// nobody holds a token in the end. With duplex both sides send.
+/// Worked examples. A token that was given and is still in flight when the other side requests a restart has no owner
+/// until the restart is answered. Of two restarts that cross, the lower one wins; if they are equal, the caller's. A
+/// restart may go below a major point that was confirmed. There is no number above 999,999. If the answer to a release
+/// is lost, no side holds a token in the end. With duplex both sides send.
 pub fn examples()
     ensures lost_give { after_lost_give.journal ≡ lost_give_seen }
     ensures lost_give_before { (held_in (stands_at Left after_lost_give) ≡ no_token) × (held_in (stands_at Right after_lost_give) ≡ no_token) }

@@ -121,13 +121,13 @@ point_parts si tsdu head rest digits h r e d =
     ∙ (let two : length rest + 2 ≡ 2 + length rest = omega arith in ap (λ (n : ℕ). 1 ∷ 0 ∷ si ∷ n ∷ 42 ∷ length rest ∷ rest) two)
     ∙ ap (point_octets si) (sym d)
 
--- ---- what they say
+-- ---- the words of plain units
 
 plain_sendable : (p : PlainUnit) → IsSendable (as_message (plain_word p))
 unfolding user_data_of
 plain_sendable p = grind arith
 
--- octets that are the written form of one of these say it
+-- octets in the written form of a message have its words
 said_whole : ((m : Meaning) → IsSendable m → tsdu_at (written m) ≡ Ok (spelled m)) → ((m : Meaning) → IsSendable m → said_by_units (spelled m) ≡ words_of m)
     → (m : Meaning) → IsSendable m → said_at (written m) ≡ Ok (words_of m)
 unfolding said_at

@@ -80,7 +80,7 @@ unfolding word unit_of
 says_it (CN version_2 requirements serial wishes calling called sizes octets) = refl
 says_it _ = refl
 
--- what is said by the units of a meaning
+-- the words of the units of a meaning
 pub said_again : HaveDigits → (m : Meaning) → is_of_version_2 m ≡ true → IsNumbered m → said_by_units (spelled m) ≡ words_of m
 unfolding spelled
 said_again digits m v small = said_with_place (is_second m) m (meaning_again digits m v small) (says_it m)

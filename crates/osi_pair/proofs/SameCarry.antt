@@ -45,9 +45,9 @@ same_carried : (octets : ℕ) (a b : Holding) → IsSameEnd a b →
     IsSameEnd (record a { end = carried octets a.end }) (record b { end = carried octets b.end })
 same_carried octets a b h = record { end = ap (carried octets) h.end; octets = h.octets; offset = h.offset; counted = h.counted }
 
--- ---- room decides nothing else
+-- ---- room affects nothing else
 
--- an end without what is said of room, and of faults that were answered
+-- an end without its room and its fault
 abbrev plain : Holding → Holding
 plain h = record h { held = record h.held { fault = None; room = 0 } }
 

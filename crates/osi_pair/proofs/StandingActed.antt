@@ -1,4 +1,4 @@
--- The carrier of an end acts for a connection that is open there: nothing is taken, and its session makes no move. The
+-- The carrier of an end acts for a connection that is open there: it takes no unit, and its session makes no move. The
 -- state of two ends then.
 use Rattle.std.proofs.Common.{◌≡◌, ◌≢◌, ℕ, ◌<◌, ◌≤◌, Bool, true, false, nat_lt, if◌then◌else◌, List, [], ◌++◌, Option, Some, None, option_map, refl, sym, ap, subst, ◌∙◌, arith, not}
 use Rattle.osi_between.specs.Messages as carrier
@@ -12,7 +12,7 @@ use Rattle.osi_pair.proofs.StandingCut.{end_back}
 
 -- ---- the carrier
 
--- Its connection is this far now; all other connections are as they were.
+-- Its connection has the progress `g`; all other connections are unchanged.
 pub record ActsOn (n : ℕ) (g : Progress) (old new : State) : Type 0 where
   pub is_caller : new.is_caller ≡ old.is_caller
   pub local : new.local ≡ old.local
@@ -134,7 +134,7 @@ seen_acts s p b t n g c put channel l old alive a order i x out =
 lines_stay : (s : Side) (n : ℕ) (l line : Line) (t : Tables) → connection_at n t.lines ≡ Some (seen_from (side_in s) l) → LinesAfter s n line t (stays t (side_in s) n line)
 lines_stay s n l line t found = grind (arith, with_count, with_same, with_other)
 
--- An end that lasts has acted for a connection: of its carrier no more is said than that it keeps this.
+-- An end that goes on has acted for a connection: of its carrier only this is used.
 pub record Keeps (old new : State) : Type 0 where
   pub is_caller : new.is_caller ≡ old.is_caller
   pub local : new.local ≡ old.local

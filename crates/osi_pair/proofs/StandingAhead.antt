@@ -23,7 +23,7 @@ pub takes_here : TakeLaws → (s : Side) (t : Tables) → IsTableRun t → (n : 
 takes_here laws Left t run n l found = record { behind = laws.behind t run machine.Left n l found; left = laws.left t run machine.Left n l found }
 takes_here laws Right t run n l found = record { behind = laws.behind t run machine.Right n (turned l) found; left = laws.left t run machine.Right n (turned l) found }
 
--- ---- a side has moved, of which nothing was put
+-- ---- a side has moved and sent nothing
 
 one_of : (a b : Line) → Some a ≡ Some b → a ≡ b
 one_of a b e = let same : a ≡ b = cc in same

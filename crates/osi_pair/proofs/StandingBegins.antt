@@ -11,7 +11,7 @@ use Rattle.osi_pair.proofs.StandingRows.{Row, begins, before, after, arrived_in}
 use Rattle.osi_pair.proofs.StandingSeats.{transport_by, lives_in, live_there, HasSession}
 use Rattle.osi_pair.proofs.StandingQuiet.{none_first, none_second}
 
--- ---- lines with a new one, of which those are dropped that are of no use
+-- ---- the lines with a new one; unused lines are dropped
 
 abbrev pub new_line : Line
 new_line = fresh_line awaits

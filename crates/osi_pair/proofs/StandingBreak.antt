@@ -25,13 +25,13 @@ cut_line left right l = record {
 pub still_seated : (n : ℕ) (h : Holding) (seat : Seat) (ms : List Message) → IsSeated n h seat → IsSeated n h (record seat { channel = ms })
 still_seated n h seat ms s = record { joined = s.joined; transport = s.transport; live = s.live; kept = s.kept; over_now = s.over_now; awaiting = s.awaiting; octets = s.octets }
 
--- what is left of a line
+-- a line after the break
 record HasCut (n k l : ℕ) (p : TwoEnds) (c : Between) (left right : ℕ) (lines : List Line) : Type 0 where
   line : Line
   found : connection_at n lines ≡ Some line
   is : IsLine n (after_break k l p) c (cut_line left right line)
 
--- so much is left of it each way
+-- the numbers of messages that remain in flight, each way
 record Breaks (n k l : ℕ) (p : TwoEnds) (b : Between) (most : ℕ) (c : Between) (lines : List Line) : Type 0 where
   left : ℕ
   right : ℕ

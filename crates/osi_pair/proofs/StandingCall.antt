@@ -20,7 +20,7 @@ use Rattle.osi_pair.proofs.WordLaws.{AreWords}
 use Rattle.osi_pair.proofs.WordsSent.{PartLaws, word_of, carried_words}
 use Rattle.osi_pair.proofs.StandingTurned.{IsSeen, seen_twice, Others, still_there}
 
--- what the crates below say
+-- the laws of the crates below
 pub record CallLaws : Type 0 where
   pub handed_in_all : (terms : Terms) (end : Bool) (both : Both) (b : Between) (n : ℕ) (tsdus : List (List ℕ)) → AreBetween terms both b →
       (two.side end both).state.ended ≡ None → progress_of (place_at n (last_of end b)) ≡ in_use → AllByRecursion IsShortTsdu tsdus → AllByRecursion IsOctets tsdus →
@@ -286,7 +286,7 @@ acted_at laws side r call p b t c s within octets are =
 pub lasts_now : (r : ℕ) (call : Call) (h : Holding) → Called r call h → (now_of r call h).end.carrier.ended ≡ None
 lasts_now r call h c = c.kept.ended ∙ c.opened.lasts
 
--- the end that acted is as it last was
+-- the end that acted is in its last state
 pub lives_now : (side : Side) (r : ℕ) (call : Call) (p : TwoEnds) (b : Between) (words : List Word) (m : Meaning) (a : MayAct side r call p b words m) → (now_of r call (end_at side p)).end.carrier.ended ≡ None →
     (now_of r call (end_at side p)).end.carrier ≡ last_of (is_caller side) a.now
 lives_now side r call p b words m a e = grind arith
@@ -329,7 +329,7 @@ line_acts side r call p b t x c a serial o broken within h =
 abbrev pub tables_now : Tables → Side → ℕ → Call → Line → Tables
 tables_now t side r call l = stays t (side_in side) r (after_call t.broken call (seen_from (side_in side) l))
 
--- all others are as they were
+-- all other connections are unchanged
 pub others_left : (side : Side) (r : ℕ) (call : Call) (p : TwoEnds) (b : Between) (words : List Word) (m : Meaning) → Called r call (end_at side p) → (a : MayAct side r call p b words m) →
     Others side p b (now_of r call (end_at side p)).end (end_at side p).held a.now r
 others_left side r call p b words m c a = grind (arith, put_other, if◌then◌else◌, nat_lt, still_there)

@@ -46,7 +46,7 @@ close_acts laws s p b t n peer link old alive two at =
 
 -- ---- what is in flight from it
 
--- so much of it is left, and the close is put after
+-- `keep` messages of it remain, followed by the close
 record OutCloses (s : Side) (p : TwoEnds) (b : Between) (t : Tables) (n : ℕ) (l : Line) (a : CloseActs s p b n) : Type 0 where
   keep : ℕ
   way : OutNow s n p b (pair_with s (closed_with n 128 (end_at s p).end.carrier) p) a.now l.peer.session.state (put t.broken (bye 128 ∷ []) (take keep l.own.channel))

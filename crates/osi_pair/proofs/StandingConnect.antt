@@ -14,7 +14,7 @@ use Rattle.osi_pair.proofs.StandingRefusal.{Awaits, refusal_same}
 use Rattle.osi_pair.proofs.StandingWays.{none_under_way, same_alike, alike_trans, like_alike}
 use Rattle.osi_pair.proofs.StandingTurned.{seen, unseen, Others, other_seen}
 
--- what the crates below say
+-- the laws of the crates below
 pub record ConnectLaws : Type 0 where
   pub asked : (terms : Terms) (both : Both) (b : Between) (calling to : Option (List ℕ)) → AreBetween terms both b → both.caller.state.ended ≡ None → may_connect both.caller.state ≡ None → IsTsap calling → IsTsap to →
       Acted terms true (both.caller.state.given + 1) both (becomes true (asks calling to both.caller.state) both.caller.held both) b [] (carrier.ask ∷ [])

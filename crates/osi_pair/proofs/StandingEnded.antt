@@ -17,9 +17,9 @@ use Rattle.osi_pair.proofs.StandingAhead.{TakesFrom}
 use Rattle.osi_pair.proofs.StandingWays.{over_way}
 use Rattle.osi_pair.proofs.StandingCut.{IsWithin, outside_not, within_or}
 
--- ---- two ends of which one has ended
+-- ---- two ends, one of which has ended
 
--- what it holds then matters to nobody
+-- what it still holds has no effect any more
 abbrev pub ended_holding : EndReason → State → Rows stack.Line → Held → Holding
 ended_holding reason a lines held = record { end = record { carrier = carriers.ends reason a; lines = lines }; held = held }
 
@@ -40,8 +40,7 @@ pub record EndingLine (s : Side) (p : TwoEnds) (u : Tables) (e : End) (h : Held)
   pub whole : is_given line.own.transport ≡ false → more ≡ []
   pub out : IsUnderWay s (other s) n (with_holding s e h p) c (record line.own { channel = kept }) line.peer
 
--- What is said of an end that is going to end: its carrier may have acted for what arrived, that none of its sessions
--- has received.
+-- An end that is about to stop: its carrier may have acted on units of which its sessions have not yet been informed.
 pub record MayEnd (s : Side) (p : TwoEnds) (t u : Tables) (e : End) (h : Held) (c : Between) : Type 0 where
   pub between : AreBetween (terms_at p) (carriers_of (with_holding s e h p)) c
   pub lasts : e.carrier.ended ≡ None
@@ -70,7 +69,7 @@ record HasEnds (s : Side) (p : TwoEnds) (u : Tables) (c : Between) (keep n : ℕ
   found : connection_at n u.lines ≡ Some (seen_from (side_in s) line)
   is : IsLine n p c (seen_from (side_in s) (ended_line keep line))
 
--- so much is left of what is in flight from it
+-- `keep` messages remain in flight from it
 record Ends (s : Side) (p : TwoEnds) (u : Tables) (c : Between) (most : ℕ) (n : ℕ) : Type 0 where
   keep : ℕ
   is : 0 < n → n ≤ most → HasEnds s p u c keep n
@@ -225,7 +224,7 @@ none_left n lines = none_kept n lines (quieted (all_lost lines)) (quiet_twice (a
 abbrev pub lost_end : EndReason → State → Rows stack.Line → End
 lost_end reason a lines = record { carrier = carriers.ends reason a; lines = all_lost lines }
 
--- A carrier that may have acted ends, and the sessions are lost that are there; the tables say so.
+-- A carrier that may have acted ends, and all its sessions are lost; the tables do the same.
 pub lost_stands : (s : Side) (p : TwoEnds) (b : Between) (t u : Tables) (e : End) (h : Held) (c : Between) (reason : EndReason) (ending : Ending) (lines : Rows stack.Line) (held : Held) → Stands p b t →
     MayEnd s p t u e h c → ending_in reason ≡ Some ending → SaysAll s (quieted (all_lost lines)) (waiting_in (all_lost lines)) u →
     EndsOn s (shown_pair s (lost_end reason e.carrier lines) held p) c ending u

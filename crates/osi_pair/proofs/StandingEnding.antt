@@ -115,12 +115,12 @@ way_none end n old new b none = grind arith
 pub never_given : (n : ℕ) (c : State) → nat_lt c.given n ≡ true → connection_in (place_at n c) ≡ None
 never_given n c e = ap (λ (b : Bool). connection_in (if◌then◌else◌ {A = Place} b never (was_given (value_at n c.live)))) e
 
--- what is left of it, of whatever was put after
+-- the first k messages, whatever was sent after them
 take_front : (k : ℕ) (xs ys : List Message) → k ≤ length xs → take k (xs ++ ys) ≡ take k xs
 take_front (suc k) (x ∷ xs) ys h = ap (λ (l : List Message). x ∷ l) (take_front k xs ys (omega arith))
 take_front k xs ys h = grind arith
 
--- so much of it is left
+-- `keep` messages of it remain
 pub record EndsWith (o : Option EndReason) (g : Progress) (H : Option (List ℕ) → Type 0) (x : Session) (given : Bool) (seat : Seat) (new : List between.Message) : Type 0 where
   pub keep : ℕ
   pub way : AreUnderWay o g true H x (ended_seat given keep seat).channel new

@@ -1,4 +1,4 @@
--- An end took a unit of a connection: what remains to be said of its carrier, if its session is known.
+-- An end took a unit of a connection: what remains to be proved of its carrier, if its session is known.
 use Rattle.std.proofs.Common.{◌≡◌, ◌≢◌, ℕ, ◌<◌, ◌≤◌, Bool, true, false, nat_lt, if◌then◌else◌, List, [], ◌++◌, map, Some, None, is_some, option_map, refl, sym, ap, subst, ◌∙◌, arith, length}
 use Rattle.osi_between.specs.Messages as carrier
 use Rattle.osi_pair.proofs.Vocabulary.{Held, place_at, value_at, State, Between, last_of, progress_of, Progress, not_yet, references_for, Terms, accepts_in, terms_of, shown_at, Line, Tables, Message, Listener, Standing, Shown, kept_at, End, Holding, TwoEnds, end_at, other, side_in, is_caller, class_in, carriers_of, Goes, IsSeated, IsInOrder, Stands, waiting_in, Side, Left, Right}
@@ -20,7 +20,7 @@ is_agree row = false
 pub given_not_new : (n : ℕ) (s : State) (b : Bool) → nat_lt s.given n ≡ b → n ≤ s.given → progress_of (place_at n s) ≡ not_yet → ⊥
 given_not_new n s b e le h = grind arith
 
--- ---- what is left to say
+-- ---- what remains to be proved
 
 -- the tables have this line, and their users received these indications
 pub record TablesAfter (s : Side) (n : ℕ) (t u : Tables) (shown : List Shown) (line : Line) : Type 0 where
@@ -112,7 +112,7 @@ given_after Right p b t e h n old alive d lasts named behind =
     let count = old.given in
     grind arith
 
--- of an end that took a unit all that is said of one that acted
+-- for an end that took a unit, everything that is stated of an end that acted
 pub finish : (s : Side) (p : TwoEnds) (b : Between) (t u : Tables) (e : End) (h : Held) (n : ℕ) (shown : List Shown) (l : Line) (x : Standing) (channel back : List Message) → Stands p b t →
     (end_at s p).end.carrier.ended ≡ None → (d : DidAt s p b e h n) → e.carrier.ended ≡ None → e.carrier.local ≡ (end_at s p).end.carrier.local → e.carrier.is_caller ≡ (end_at s p).end.carrier.is_caller →
     n ≤ b.caller.given → d.now.called.given ≤ d.now.caller.given → IsInOrder e → waiting_in e.lines ≡ [] → OtherSessions s p e n → HasSession n e.lines (after d.row) x → IsSeen s n p b l →

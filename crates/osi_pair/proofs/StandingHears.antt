@@ -56,8 +56,8 @@ one_in row heard = one_by row (as_heard row heard)
 abbrev pub IsTaker : Standing → Option (List ℕ) → Type 0
 IsTaker x joined = IsKeptIn x.state.phase joined
 
--- The carrier tells one thing, which happens to the session; what the session sends goes. If the connection is gone
--- then, the session has ended, and sends and closes nothing.
+-- The carrier reports one event, which the session handles; what the session sends can be sent. If the connection is
+-- then gone, the session has ended, and sends and closes nothing.
 pub record HearsBy (n : ℕ) (row : Row) (m : Message) (joined : Option (List ℕ)) (x : Standing) : Type 0 where
   pub event : Happening
   pub told : told_for n row ≡ event ∷ []

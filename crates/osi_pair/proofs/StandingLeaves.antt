@@ -60,7 +60,7 @@ taken_leaves broken terms keep reason l m xs tr e =
 
 -- ---- what is in flight from it
 
--- so much of it is left, and the answer is put after
+-- `keep` messages of it remain, followed by the answer
 pub record OutLeaves (s : Side) (p : TwoEnds) (b : Between) (t : Tables) (e : End) (h : Held) (n : ℕ) (l : TableLine) (d : DidAt s p b e h n) : Type 0 where
   pub keep : ℕ
   pub way : Goes s (other s) n (with_holding s e h p) d.now (progress_of (place_at n (last_of (is_caller (other s)) d.now))) l.peer.session.state (left_channel t.broken keep l.own.channel)

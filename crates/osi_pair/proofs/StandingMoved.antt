@@ -107,16 +107,16 @@ pub record HasMoved (s : Side) (p : TwoEnds) (t : Tables) (packet : List ℕ) (h
   pub now : Between
   pub stands : Stands (turned_pair s (moved_end s p unit m) h m.n (move_of m).shown p) now (moved_tables s t m)
   pub found_now : connection_at m.n (moved_tables s t m).lines ≡ Some (seen_from (side_in s) (moved_line m))
-  -- it is open, and what is sent can be; or it is gone, and the session sends and closes nothing
+  -- it is open, and can send the reply; or it is gone, and the session sends and closes nothing
   pub opened : after m.row ≡ in_use → IsLinkedAt m.n (moved_end s p unit m).carrier
   -- its class is known
   pub agreed : after m.row ≡ in_use → known_by t m ≡ option_map class_in (class_of (terms_at p))
   pub silent : after m.row ≡ gone → ((move_of m).reply ≡ None) × ((move_of m).closes ≡ false)
   pub sends : (x : Meaning) → (move_of m).reply ≡ Some x → CanGo x
-  -- what the tables say of the session to which it sends
+  -- the session to which it sends, as the tables have it
   pub takes : TakesFrom s (moved_tables s t m)
 
--- ---- how it comes about
+-- ---- how the move arises
 
 -- what is proved of the crates below
 pub record MovingLaws : Type 0 where
@@ -198,7 +198,7 @@ next_at : MovingLaws → (s : Side) (t : Tables) (n : ℕ) (l : TableLine) → I
     l.peer.channel ≡ unit (DT octets) ∷ ms → IsNoFault l.own.session.state octets
 next_at laws s t n l run found octets ms e = (takes_here laws.takes s t run n l found).behind [] octets ms e [] tt octets
 
--- the Data of which a part comes
+-- the Data to which an arriving part belongs
 record FineData (s : Standing) : Type 0 where
   all : List ℕ
   fine : IsNoFault s.state all
@@ -384,7 +384,7 @@ opened_then s p b e h n row d lasts same open_now =
     linked_by n e.carrier (nat_lt e.carrier.given n) refl
     (ap (λ (c : Carrier). progress_of (place_at n c)) (sym (last_is s p b e h n d lasts)) ∙ d.stands ∙ ap after same ∙ open_now)
 
--- its connections but this one are as they were
+-- its other connections are unchanged
 pub lives_then : (s : Side) (p : TwoEnds) (b : Between) (t : Tables) (e : End) (h : Held) (n : ℕ) → Stands p b t → (end_at s p).end.carrier.ended ≡ None → (d : DidAt s p b e h n) → e.carrier.ended ≡ None → IsOrderly e.carrier →
     (q : ℕ) → q ≢ n → value_at q e.carrier.live ≡ value_at q (end_at s p).end.carrier.live
 lives_then s p b t e h n old alive d lasts orderly q apart =

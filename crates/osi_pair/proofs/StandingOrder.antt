@@ -8,7 +8,7 @@ use Rattle.osi_pair.proofs.StandingListens.{as_made}
 
 -- ---- what happens to a session of an end
 
--- its session was this, and makes this move; what that sends goes within the size of the session
+-- its session was this one, and makes this move; its reply is sent within the size of the session
 pub session_moves : (n : ℕ) (heard : words.Input) (e : End) (line : Line) (l : Listener) (m : words.Move) → value_at n e.lines ≡ Some line → line.session ≡ Some l → words.react l heard ≡ m →
     to_session n heard e ≡ record { carrier = answers n (limit_for l heard) m e.carrier; lines = put n (line_after (noted l heard line) m) e.lines }
 session_moves n heard e line l m here is so = cc

@@ -62,7 +62,7 @@ order_then laws s p b t u e old alive sendable is lasts heard rising = grind ari
 
 -- ---- no session acts
 
--- if the lines are as they were
+-- if the lines are unchanged
 rest_end : PacketLaws → (s : Side) (p : TwoEnds) (b : Between) (t : Tables) (packet : List ℕ) (h : Held) → Stands p b t → (end_at s p).end.carrier.ended ≡ None →
     (pa : PacketActs (terms_at p) (is_caller s) (carriers_of p) b packet h.octets) → after_packet (end_at s p).end packet ≡ acted_end pa.unit (end_at s p).end.lines (end_at s p).end →
     attends (carries_out pa.unit (end_at s p).end) ≡ acted_end pa.unit (end_at s p).end.lines (end_at s p).end → (carrier_react pa.unit (end_at s p).end.carrier).ended ≡ None →

@@ -132,7 +132,7 @@ no_fault laws s p steps place fault at alive is = grind arith
 
 -- ---- a piece is fed
 
--- the piece, of which this many octets were used
+-- the piece: the first `most` octets that the end has to send
 abbrev pub piece_of : Side → ℕ → TwoEnds → List ℕ
 piece_of f most p = take most (end_at f p).end.carrier.outgoing
 
@@ -252,7 +252,7 @@ all_shown old first new s few = grind (arith, none_left, append-nil, quiet_same)
 
 -- ---- a piece is carried
 
--- two ends, of which octets of this side cross
+-- two ends while octets of this side are carried
 abbrev pub crossed : Side → Crossing → Option Reach → TwoEnds
 crossed Left c o = record { left = c.from; right = c.to; reach = o; journal = c.journal }
 crossed Right c o = record { left = c.to; right = c.from; reach = o; journal = c.journal }

@@ -47,7 +47,7 @@ legal_journal legal p steps h = record {
 
 -- ---- connections
 
--- what is said of the tables by reference, of the journal that two ends have
+-- the line of a reference, in the tables that match the journal of two ends
 pub line_at : (r : ℕ) (p : TwoEnds) (steps : List Step) (h : StandsAt p steps) → 0 < r → r ≤ p.left.end.carrier.given → HasLine r p h.now (tables_at p steps)
 line_at r p steps h above within = h.stands.lines r above (let same = h.stands.given in omega arith)
 
@@ -60,7 +60,7 @@ all_asked offered p steps h r above within =
       found = ap (λ (l : List entries.Entry). connection_at r (offers_in l)) (journal_at p steps h) ∙ offer.found;
     }
 
--- what the tables say of each connection is so of the two ends
+-- a statement about each connection of the tables holds for the two ends
 of_each : (P : State → State → Told → Told → Type 0) (Q : ℕ → Told → Told → Type 0) (p : TwoEnds) (steps : List Step) (h : StandsAt p steps) →
     ((r : ℕ) (line : HasLine r p h.now (tables_at p steps)) (left right : Told) → P line.line.own.session.state line.line.peer.session.state left right → Q r left right) →
     OfEachLine P (tables_at p steps) → OfEachConnection Q p
@@ -79,7 +79,7 @@ duplex all p steps h = of_each tables.IsShownAsAsked IsShownAsAsked p steps h (�
 
 -- ---- faults
 
--- an entry of which the tables have a word that is no fault; they have none for an end with a fault
+-- an entry whose counterpart in the tables is no fault; an end with a fault has no counterpart
 entry_fine : (word : entries.Entry) (x : Entry) → Some word ≡ entry_in x → runs.is_fault word ≡ false → is_fault x ≡ false
 entry_fine word x e h = grind arith
 

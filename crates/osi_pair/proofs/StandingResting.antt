@@ -143,7 +143,7 @@ back_then s p c e h n g begun x y ms way held calms =
     (behind_first e.carrier.ended g (is_cut (is_caller (other s)) (carriers_of (with_holding s e h p))) (HasJoined n (record { end = e; held = h })) begun x y ms
     (under_way (is_caller (other s)) n (carriers_of (with_holding s e h p)) c) way held calms)
 
--- its lines make no difference to what is in flight
+-- the lines of the end have no effect on what is in flight
 pub other_lines : (s : Side) (p : TwoEnds) (b : Between) (packet : List ℕ) (h : Held) (n : ℕ) (lines more : Rows Line) → (pa : PacketActs (terms_at p) (is_caller s) (carriers_of p) b packet h.octets) → (g : Progress)
     (begun : Option (List ℕ)) (x : SessionState) (ms : List Message) →
     BehindFirst g (is_cut (is_caller (other s)) (carriers_of (with_holding s (acted_end pa.unit lines (end_at s p).end) h p))) begun x ms
@@ -168,7 +168,7 @@ over_holds s p n g x begun order h parts y at =
 pub over_stays : (x : Standing) (ms : List Message) → is_ended x.state.phase ≡ true → StaysCalm x.state ms
 over_stays x ms ended = over_calm x.state ms (implied is_ended is_over refl x.state.phase ended)
 
--- what is said of the end that took it beside its connection
+-- what is stated of the end that took it, apart from its connection
 pub record EndThen (s : Side) (p : TwoEnds) (e : End) : Type 0 where
   pub lasts : e.carrier.ended ≡ None
   pub local : e.carrier.local ≡ (end_at s p).end.carrier.local

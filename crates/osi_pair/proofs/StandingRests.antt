@@ -35,7 +35,7 @@ tables_delivered s n old t known turn found =
     let lines = lines_after s n old turn.line t (delivered t (side_in s) n known turn) refl found in
     grind arith
 
--- the tables are as they were
+-- the tables are unchanged
 pub tables_rest : (s : Side) (n : ℕ) (line : Line) (t : Tables) → connection_at n t.lines ≡ Some (seen_from (side_in s) line) → TablesAfter s n t t [] line
 tables_rest s n line t found = grind (arith, append-nil)
 

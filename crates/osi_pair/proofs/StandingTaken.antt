@@ -17,7 +17,7 @@ are_arrivals : (s : machine.Side) (xs : List Step) → AreDeliveries s xs → Ar
 are_arrivals s (delivers q r keep ∷ xs) d = (d.0, are_arrivals s xs d.1)
 are_arrivals s xs d = search
 
--- an end that lasts, and of which nothing is pending
+-- an end that goes on, with no indication pending
 pub shown_nothing : (s : Side) (p : TwoEnds) (e : End) (h : Held) (n : ℕ) → e.carrier.ended ≡ None → waiting_in e.lines ≡ [] → shown_pair s e h p ≡ turned_pair s e h n [] p
 shown_nothing s p e h n lasts waits =
     ap (λ (o : Option EndReason). noted (told_entries s None o (waiting_in e.lines)) (with_holding s (record e { lines = quieted e.lines }) h p)) lasts

@@ -51,7 +51,7 @@ like_alike p xs ys h = alike_like p xs xs ys (same_alike (progress_of p) xs xs r
 
 -- ---- the same words
 
--- what is said of the taker by what has begun
+-- a statement about the receiver, given the octets of a Data that has begun
 abbrev pub About : Type 1
 About = Option (List ℕ) → Type 0
 
@@ -73,7 +73,7 @@ none_under_way q g c H x xs held alike =
 no_begun : {A : Type 0} (b : Option (List ℕ)) → b ≡ None → IsBegun b → A
 no_begun b e h = grind arith
 
--- to a taker that has ended it matters no more in which words it goes
+-- if the receiver has ended, the words in which messages are sent no longer matter
 pub over_way : (q : Option EndReason) (g : Progress) (c : Bool) (H : About) (x : State) (ms : List Message) (xs : Sent) → H None → (q ≡ None → ⊥) → AreUnderWay q g c H x ms xs
 over_way q g c H x ms xs held shut = record {
   words = map whole ms;
@@ -125,8 +125,8 @@ out_keeps o p c d H x ms puts old new stays gone put w spare cut before after no
 
 -- ---- the last of it is lost
 
--- What the tables say of a session to which this is in flight: data is no fault there after what is ahead of it; and
--- the session is over if its peer has left.
+-- A session of the tables with these messages in flight to it: data is no fault after the messages before it; and the
+-- session is over if its peer has left.
 pub record Takes (x : State) (ms : List Message) : Type 0 where
   pub behind : IsNoFaultBehind x ms
   pub left : IsOverWhenLeft x ms
@@ -283,7 +283,7 @@ pub record Split (g h : Progress) (d : Bool) (H : About) (x : State) (ms : List 
   pub how : IsAlone g H first m ⊎ IsLast g H first m
   pub stays : BehindFirst h d None (after_message x first) others rest
 
--- a part that begins a Data, or goes on with one
+-- a part that begins a Data, or continues one
 pub record Begins (H : About) (place : PartPlace) (octets now : List ℕ) : Type 0 where
   pub place_is : place ≡ First
   pub now_is : now ≡ octets
@@ -295,8 +295,8 @@ pub record GoesOn (H : About) (place : PartPlace) (octets now : List ℕ) : Type
   pub now_is : now ≡ front ++ octets
   pub held : H (Some front)
 
--- what is known of the Data of which a part comes: the rest of it is after it; or its sender has left; or the rest was
--- cut off, and data is no fault
+-- the Data to which an arriving part belongs: its rest follows; or its sender has left; or the rest was cut off, and
+-- data is no fault
 abbrev pub NextOf : State → List ℕ → List Message → Type 0
 NextOf x now ms = IsRest now ms ⊎ ((list_any is_leaving ms ≡ true) ⊎ IsCalm x)
 

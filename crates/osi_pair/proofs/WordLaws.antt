@@ -1,4 +1,4 @@
--- What is put after words, what is cut from them, and what then is left of their messages.
+-- Words that are added, words that are cut off, and the messages that they then make.
 use Rattle.std.proofs.Common.{◌≡◌, refl, ◌∙◌, ap, subst, sym, ℕ, ◌≤◌, List, [], ◌∷◌, ◌++◌, length, take, map, Option, Some, None, append_assoc, ◌⊎◌, inl, inr, true, arith}
 use Rattle.osi_pair.proofs.Vocabulary.{take-append_seam, append-nil, length-append, Message, unit, ask, agree, deny, bye, over, DT, First, Middle, Last, Word, whole, part, begun_octets, joins, left_of, MayFollow, IsBegun, AreInOrder, list_any, is_leaving}
 
@@ -53,8 +53,8 @@ whole_left (m ∷ ms) = whole_left ms
 
 -- ---- after what has begun of a Data
 
--- what comes after it: the rest of the Data; or a message by which its sender leaves; or parts of it alone, of which
--- the last was cut off
+-- what follows it: the rest of the Data; or a message by which its sender leaves; or only some of its parts, if the
+-- last was cut off
 pub record IsRest (b : List ℕ) (ms : List Message) : Type 0 where
   pub rest : List ℕ
   pub others : List Message
@@ -82,7 +82,7 @@ next_is b _ h = let no : Some b ≡ None = h.0 in cc
 
 -- ---- what is in flight
 
--- what is left of words that lose a suffix is what is left of their messages
+-- the words without a suffix make the messages without a suffix
 pub cut_behind : (b : Option (List ℕ)) (kept gone : List Word) → AreInOrder b (kept ++ gone) →
     (take (length (joins b kept)) (joins b (kept ++ gone)) ≡ joins b kept) × AreInOrder b kept
 cut_behind b kept gone h =
@@ -106,12 +106,12 @@ no_words = record { joined = refl; left = refl; order = tt }
 pub wholes : (ms : List Message) → AreWords (map whole ms) ms
 wholes ms = record { joined = joins_whole ms; left = whole_left ms; order = whole_order ms }
 
--- they are put after words of which none is lost
+-- words are added after words that are complete
 pub put_words : (b : Option (List ℕ)) (words more : List Word) (ms : List Message) → AreInOrder b words → left_of b words ≡ None → AreWords more ms →
     (joins b (words ++ more) ≡ joins b words ++ ms) × (left_of b (words ++ more) ≡ None) × AreInOrder b (words ++ more)
 put_words b words more ms h e are = grind (arith, joins_append, left_append, order_append)
 
--- a message by which the sender leaves, after a front of them
+-- a message by which the sender leaves, after a prefix of them
 abbrev pub MayLeave : Message → Type 0
 MayLeave m = (b : Option (List ℕ)) → MayFollow b m
 

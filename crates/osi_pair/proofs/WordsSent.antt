@@ -10,7 +10,7 @@ abbrev pub word_of : sent.Word → Word
 word_of (sent.says m) = whole (unit m)
 word_of (sent.part place octets) = part place octets
 
--- each goes as a TSDU
+-- each word is sent as one TSDU
 pub carried_words : (words : Words) → map carrier.message (map word_octets words) ≡ map word_in (map word_of words)
 carried_words [] = refl
 carried_words (sent.says m ∷ words) = ap (λ l. word_in (whole (unit m)) ∷ l) (carried_words words)

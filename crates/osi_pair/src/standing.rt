@@ -78,11 +78,11 @@ pub fn how_two_ends_are_called()
     what_two_carriers_have();
 }
 
-/// If two ends match a list of steps and octets of a side are carried, however many and wherever they are cut, they
-/// match that list followed by deliveries to the other side: one for each message that arrives, and none for a part of
-/// one. If that side runs out of memory, its end follows.
+/// If two ends match a list of steps and any number of octets of a side is carried, cut in any way, they match that
+/// list followed by deliveries to the other side: one for each message that arrives, and none for a part of one. If
+/// that side runs out of memory, its end follows.
 ///
-/// The same number of octets has the same effect, wherever they are cut into pieces, unless a side ends because memory
+/// The same number of octets has the same effect, however they are cut into pieces, unless a side ends because memory
 /// runs out.
 pub fn how_two_ends_carry()
     ensures carries { (side : Side) (most : ℕ) (old new : TwoEnds) (octets : ℕ) (steps : List Step) → StandsAt old steps →

@@ -283,7 +283,7 @@ fn push_carried(alloc: Global, out: &mut Vec<u8>, side: Side, octets: u64)
     *out = put_carried(text, side, octets);
 }
 
-/// Adds the line of an answer to a transcript; if memory runs out, the transcript stays as it was.
+/// Adds the line of an answer to a transcript; if memory runs out, the transcript is unchanged.
 #[inline(always)]
 pub fn push_answer(alloc: Global, out: &mut Vec<u8>, answer: &Answer) -> Result<(), AllocError>
     ensures ok { OnOk result (out.new.items ≡ out.old.items ++ answer_line answer.now) }

@@ -50,7 +50,7 @@ pub(crate) enum Front<'l> {
         /// The words after the verb.
         words: Words<'l>,
     },
-    /// A frequent call, all of which was read except the user data.
+    /// A frequent call, which was read except for the user data.
     Frequent {
         /// The side of the user.
         side: Side,
@@ -61,7 +61,7 @@ pub(crate) enum Front<'l> {
         /// The text of the user data, up to the end of the line.
         text: &'l [u8],
     },
-    /// A line of which nothing was read.
+    /// A line that was not read.
     Unread(&'l [u8]),
 }
 
@@ -245,7 +245,7 @@ fn call(line: &[u8]) -> Option<Front<'_>>
     })
 }
 
-/// A line with a call by any verb, or one of which nothing is read.
+/// A line with a call by any verb, or a line that is not read.
 #[inline(never)]
 #[tactic(auto, unfolding(crate::specs::Commands::command_of))]
 fn any_call<'l>(line: &'l [u8]) -> Front<'l>

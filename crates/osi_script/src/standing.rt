@@ -61,7 +61,7 @@ fn put_numbers(text: Vec<u8>, standing: &Standing) -> Vec<u8>
     put_decimal(text, u64::from(standing.lowest_restart))
 }
 
-/// Adds the line of the state of a connection to a transcript; if memory runs out, the transcript stays as it was.
+/// Adds the line of the state of a connection to a transcript; if memory runs out, the transcript is unchanged.
 #[tactic(auto, unfolding(crate::specs::Standing::standing_line))]
 pub fn push_standing(
     alloc: Global,

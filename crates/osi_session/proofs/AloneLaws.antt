@@ -70,7 +70,7 @@ read_alone : (p : Meaning → Bool) (read : Result Units SpduFault) (words : Wor
 read_alone p (Ok units) words h e = let same : said_by_units units ≡ words = cc in subst (λ (x : Words). stands_alone p x ≡ true) same (h units refl)
 read_alone p (Err fault) words h e = absurd (cc)
 
--- in what octets say
+-- the same for octets
 pub alone_in_octets : (p : Meaning → Bool) → StandsAlone p → (octets : List ℕ) (words : Words) → said_at octets ≡ Ok words → stands_alone p words ≡ true
 unfolding said_at
 alone_in_octets p a octets words e = read_alone p (tsdu_at octets) words (units_alone p a octets) e

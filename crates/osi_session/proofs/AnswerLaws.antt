@@ -121,7 +121,7 @@ unfolding react
 read_answers s (Ok words) = (all_answer (taker_of s) (acting_words words)).last
 read_answers s (Err fault) = (fault_answers s.state fault).last
 
--- whoever answers a TSDU is over
+-- a session that answers a TSDU is over
 pub octets_answered : (s : Listener) (octets : List ℕ) (m : Meaning) → (react s (came octets)).reply ≡ Some m
     → (is_answer m ≡ true) × (is_over (react s (came octets)).next.state.phase ≡ true)
 octets_answered s octets = read_answers s (said_at octets)

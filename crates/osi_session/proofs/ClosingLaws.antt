@@ -141,7 +141,7 @@ acting_none p (w ∷ ws) h =
     either_none p (list_any is_restart_word ws) ws (ws ++ w ∷ []) q.1
     (list_any-append p ws (w ∷ []) ∙ none_closes _ _ q.1 (none_closes (p w) false q.0 refl))
 
--- ---- what is said in a TSDU
+-- ---- the words of a TSDU
 
 pub words_open : (t : Taker) (words : Words) → list_any may_close_word words ≡ false → (respond_tsdu t words).closes ≡ false
 words_open t words h = all_open t (acting_words words) (acting_none may_close_word words h)

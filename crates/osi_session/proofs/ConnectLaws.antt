@@ -1,4 +1,4 @@
--- A side that awaits a CN shows nothing before a Connect, and this by a CN alone.
+-- The first indication of a side that awaits a CN is a Connect, and only a CN leads to it.
 use Rattle.std.proofs.Common.{◌⊎◌, inl, inr, ◌≡◌, refl, sym, ◌∙◌, ap, subst, ℕ, Bool, true, false, not, List, [], ◌∷◌, ◌++◌, Option, Some, None, Result, Ok, Err, if◌then◌else◌, arith}
 use Rattle.osi_spdu.specs.declared.kinds.Kind.TheVariants as kind
 use Rattle.osi_session.specs.Shown.{Restart}

@@ -176,7 +176,7 @@ last_moves s waiting joined front last st short =
 some_is : (a b : List ℕ) → Some a ≡ Some b → a ≡ b
 some_is a b h = cc
 
--- what has begun is no longer than the front of all
+-- the octets that have begun are no longer than all octets
 grows : (acts : List Act) (b front : List ℕ) → AreParts (Some b) acts front → length b ≤ length front
 grows [] b front h = let e : b ≡ front = some_is b front h in let l = ap length e in omega arith
 grows (calls c ∷ acts) b front h = grows acts b front h

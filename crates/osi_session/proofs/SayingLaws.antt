@@ -23,7 +23,7 @@ either_way true o h k = let e = k refl in absurd (cc)
 pub over_refuses : (c : Call) (p : Phase) → is_over p ≡ true → may_call p c ≡ false
 over_refuses c p h = either_way (may_call p c) (is_over p) h (over_calls c p)
 
--- ---- the state after what is said is sound
+-- ---- the state after sending is sound
 
 if_some : (b : Bool) (o : Option State) (n : State) → (if b then o else None) ≡ Some n → (b ≡ true) × (o ≡ Some n)
 if_some true o n h = (refl, h)
@@ -130,7 +130,7 @@ calling_sound = at_first seen_calling.state refl refl (omega arith) refl refl re
 pub message_sound : (s : State) (m : Message) (n : State) → said_message s (meant_by m) ≡ Some n → IsSound s → IsSound n
 message_sound s m n e h = said_sound s (meant_by m) n (meant_numbered m) e h
 
--- ---- a message that may be said
+-- ---- a message that may be sent
 
 pub said_by_message : (s x : Seen) (v n : State) (m : Meaning) (a b : Bool) → v ≡ s.state → a ≡ has_no_effect m → a ≡ false → b ≡ not (is_none s.sent || not (begins_anew m)) → b ≡ false
     → said_message v m ≡ Some n → x ≡ goes s n → said_within s (says m) ≡ Some x

@@ -86,7 +86,7 @@ pub said_alone : (s : State) (u : Meaning) → respond s (alone u) ≡ respond_u
 unfolding acting
 said_alone s u = one s u
 
--- what is said of a unit does what the unit does
+-- a unit as a word has the effect of the unit
 pub of_said : (s : State) (u : Meaning) → respond s (said_of u) ≡ respond_unit s u
 of_said s u = grind (arith, in_front, empty_item, said_alone)
 

@@ -205,6 +205,6 @@ pub word_behind : (t : Taker) (w : Word) → respond_tsdu t (says (GT no_token) 
 unfolding acting_words
 word_behind t w = either_words (is_restart_word w || false) t (w ∷ []) (w ∷ says (GT no_token) ∷ []) (respond_word t w) (one_word t w) (two_words t w)
 
--- what is said of a message does what it does as a word
+-- a message as a word has the effect of the message
 pub words_of_message : (t : Taker) (m : Meaning) → respond_tsdu t (words_of m) ≡ respond_word t (says m)
 words_of_message t m = grind (arith, word_behind, word_alone)

@@ -1,4 +1,4 @@
--- What requests and what opens a connection, what gives a token to this side, and what sets the numbers anew.
+-- What requests or opens a connection, what gives a token to this side, and what resets the numbers.
 use Rattle.std.specs.Prelude.{Bool, true, false, not, ◌&&◌, ◌||◌, if◌then◌else◌, [], ◌∷◌}
 use Rattle.std.specs.List.{list_any}
 use Rattle.osi_session.specs.declared.state.State.{State}
@@ -105,7 +105,7 @@ unit_holds s (DN octets) t = false
 unit_holds s (AB bits octets) t = false
 unit_holds s _ t = has s.held t
 
--- ---- the numbers start anew, or continue from the number of a restart
+-- ---- the numbers are reset, or continue from the number of a restart
 
 abbrev pub call_renews : Call → Bool
 call_renews (Accept requirements serial sides sizes octets) = true

@@ -76,7 +76,7 @@ fn count_message(
     Ok(Counting::of(reaction, joined))
 }
 
-/// How many octets are joined after a part, if a Data may have so many.
+/// How many octets are joined after a part, if that many are allowed in one Data.
 pub(crate) fn total(joined: Option<usize>, octets: usize) -> Option<usize>
     ensures some { IfSome result (λ n. n ≡ unwrap_or joined 0 + octets) }
     ensures few { OnSome result (unwrap_or joined 0 + octets ≤ most_data) }

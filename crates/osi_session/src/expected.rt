@@ -25,7 +25,7 @@ pub enum Expected {
     Shown(Indication),
     /// It was expected: a part of a Data that is not the last was joined. There is no indication, and nothing is sent.
     Joined,
-    /// It was not expected, and the session is as it was. `Session::take_unexpected` takes it.
+    /// It was not expected, and the session is unchanged. `Session::take_unexpected` takes it.
     Other,
 }
 

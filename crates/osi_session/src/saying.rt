@@ -36,7 +36,7 @@ impl State {
     }
 }
 
-/// The state after a call. The size of its TSDU is tested separately, as it was sent.
+/// The state after a call. The size of its TSDU is tested separately.
 #[tactic(auto, using(crate::proofs::SayingLaws::over_refuses))]
 fn calling(state: &State, request: &Request) -> Result<State, Breach>
     requires { IsSound state.now }

@@ -5,7 +5,7 @@ use Rattle.osi_spdu.proofs.OptionLaws.{Joins, merged, first, sole_one, sole_same
 use Rattle.osi_spdu.proofs.StepLaws.{bind_ok, bind_of, ok_is, guard_ok, is_none_of, none_is, same_true, same_refl}
 use Rattle.osi_spdu.proofs.LengthLaws.{octets-tail, measured_ok, measured_again, indicator_len}
 
--- each slot is as before, with what is given added
+-- each slot is unchanged, or has the given value added
 abbrev pub JoinsAll : Known → Known → Known → Type 0
 JoinsAll gives before after = (c : Code) → Joins (gives c) (before c) (after c)
 

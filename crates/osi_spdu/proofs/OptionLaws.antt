@@ -1,8 +1,8 @@
--- Adding an option to what is there, and a list of options of which at most one is there.
+-- Adding an option to another, if at most one of them is Some; the same for a list of options.
 use Rattle.std.proofs.Common.{◌≡◌, ℕ, Bool, true, false, cond, List, [], ◌∷◌, Option, Some, None, refl, sym, subst, arith}
 use Rattle.osi_spdu.specs.Spelling.{Sole}
 
--- after is before with this option, of which not both are there
+-- `after` is `before` with this option; at most one of the two is Some
 abbrev pub Joins : Option (List ℕ) → Option (List ℕ) → Option (List ℕ) → Type 0
 Joins None before after = after ≡ before
 Joins (Some v) before after = (before ≡ None) × (after ≡ Some v)

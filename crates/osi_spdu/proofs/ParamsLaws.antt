@@ -121,7 +121,7 @@ some_again None = refl
 some_again (Some []) = refl
 some_again (Some (b ∷ v)) = refl
 
--- a token item with the same octets, and the user data that has octets, say the same
+-- parameters that differ only in how they keep the token item and the user data have the same meaning
 pub settled_known : (p q : Params) → q ≡ (let r : Params = record p { token_item = q.token_item; user_data = q.user_data } in r) → option_map token_octets q.token_item ≡ option_map token_octets p.token_item
     → option_map (λ s. s.now) q.user_data ≡ some_octets (option_map (λ s. s.now) p.user_data) → known_of q ≡ known_of p
 unfolding known_of slots_of cells_of place_of number_of

@@ -11,14 +11,14 @@ pieces_end f codes i le = ap (flat_map f) (drop_all i codes le)
 pub piece_len : (f : Code → List ℕ) (codes : List Code) (i : ℕ) (c : Code) → i < length codes → length (flat_map f (drop i codes)) ≡ length (f (get_or codes i c)) + length (flat_map f (drop (i + 1) codes))
 piece_len f codes i c lt = ap length (piece_next f codes i c lt) ∙ length-append (f (get_or codes i c)) (flat_map f (drop (i + 1) codes))
 
--- a length so far, and the length of what is left
+-- the length so far, and the length of the rest
 pub record IsCounting (f : Code → List ℕ) (codes : List Code) (i len : ℕ) : Type 0 where
   pub counted : len + length (flat_map f (drop i codes)) ≡ length (flat_map f codes)
 
 pub counting_end : (f : Code → List ℕ) (codes : List Code) (i len : ℕ) → length codes ≤ i → IsCounting f codes i len → len ≡ length (flat_map f codes)
 counting_end f codes i len le so_far = (let e = ap length (pieces_end f codes i le) in let s = so_far.counted in omega arith)
 
--- what is written so far, followed by what is left, is what was there followed by all; and so is the room
+-- what is written so far, followed by the rest, is what was there before, followed by all; the same for the room
 pub record IsPutting (f : Code → List ℕ) (codes : List Code) (i : ℕ) (items : List ℕ) (spare : ℕ) (before : List ℕ) (room : ℕ) : Type 0 where
   pub put : items ++ flat_map f (drop i codes) ≡ before ++ flat_map f codes
   pub left : spare + length (flat_map f codes) ≡ room + length (flat_map f (drop i codes))

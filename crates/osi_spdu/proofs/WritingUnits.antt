@@ -83,7 +83,7 @@ counting_end units len all e so_far = (let n = ap length (octets_none units e) i
 
 -- ---- putting
 
--- what is put so far, followed by what is left, is what was there followed by all; and so is the room
+-- what is put so far, followed by the rest, is what was there before, followed by all; the same for the room
 pub record IsPuttingUnits (units : Units) (items : List ℕ) (spare : ℕ) (all : Units) (before : List ℕ) (room : ℕ) : Type 0 where
   pub put : items ++ tsdu_octets units ≡ before ++ tsdu_octets all
   pub fits : TsduFits units

@@ -15,7 +15,7 @@ units_from (Some unit) others = said_by unit ∷ others
 abbrev pub units_behind : Behind → Units
 units_behind b = units_from b.next (left_at b.room b.at b.rest.now)
 
--- one call of `next` gives the first unit that is left, or no unit was left
+-- one call of `next` gives the first remaining unit, or no unit remains
 abbrev pub GivesBehind : Behind → Option Spdu → Behind → Type 0
 GivesBehind old (Some unit) new = units_behind old ≡ said_by unit ∷ units_behind new
 GivesBehind old None new = (units_behind old ≡ []) × (units_behind new ≡ [])

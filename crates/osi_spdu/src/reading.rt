@@ -20,7 +20,7 @@ use crate::levels::{check_there, measured_at, read_parameters};
 use crate::params::Params;
 use crate::units::Spdu;
 
-/// A unit and where it ends, apart from its parameters, and the octets after it.
+/// A unit and the offset of its end, apart from its parameters, and the octets after it.
 #[derive(Clone, Copy)]
 struct Found<'a> {
     kind: Kind,

@@ -285,7 +285,7 @@ pub fn parts_are_one_data()
     what_a_part_says();
 }
 
-/// Giving up a connection takes nothing from the others: while the end goes on, they are as they were, including every
+/// Giving up a connection does not affect the others: as long as the end goes on, they are unchanged, including every
 /// octet that they keep and have to send (`others`). In class 2 the end goes on (`lasts`); the octets to send are those
 /// before, followed by a DR with reason 128, and what the connection had still to send is dropped with its link
 /// (`asks`). In class 0 the end ends as by a close, and the octets to send stay (`zero`). If the transport connection

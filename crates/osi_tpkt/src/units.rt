@@ -17,7 +17,7 @@ pub trait Unit<'a>: Sized + Drop {
     /// Why octets hold no unit.
     type Fault: Error;
 
-    /// What the units of this grammar mean, wherever their octets lie.
+    /// What the units of this grammar mean, independent of how their octets are stored.
     ghost Value: { Type 0 };
 
     /// What a unit means.

@@ -1,4 +1,4 @@
--- `of_loose` moves the pointer, and what the box owned goes with it.
+-- `of_loose` moves the pointer, and the ownership of its contents with it.
 use Rattle.std.proofs.Common.{List, [], ◌∷◌, ◌++◌, refl, sym, subst}
 use Rattle.std.proofs.raw_atomic.Walks.{proved_at}
 use mir.Val.{Val}
