@@ -51,7 +51,11 @@ fn direction_of(is_tabbed: bool, left_is_tabbed: bool) -> Direction
 }
 
 /// Feeds pieces, by whether those of left stand on lines that begin with a tab.
-fn feed_pieces(judge: &mut Judge, pieces: Pieces<'_>, left_is_tabbed: bool) -> Result<(), AllocError>
+fn feed_pieces(
+    judge: &mut Judge,
+    pieces: Pieces<'_>,
+    left_is_tabbed: bool,
+) -> Result<(), AllocError>
     ensures { OnOk result ((capture : Capture) → Knows judge.old capture → Knows judge.new (capture ++ passed_by left_is_tabbed (rows_left pieces.entry))) }
 {
     let mut pieces = pieces;

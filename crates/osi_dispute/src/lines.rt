@@ -23,11 +23,7 @@ pub(crate) fn push_side(text: &mut Vec<u8>, direction: Direction) -> Result<(), 
 }
 
 /// Adds a side and its own reference.
-fn push_own(
-    text: &mut Vec<u8>,
-    direction: Direction,
-    reference: u16,
-) -> Result<(), AllocError>
+fn push_own(text: &mut Vec<u8>, direction: Direction, reference: u16) -> Result<(), AllocError>
     ensures { OnOk result (text.new.items ≡ text.old.items ++ own_text direction reference) }
 {
     push_side(text, direction)?;

@@ -119,11 +119,7 @@ fn push_stopped_first(
 }
 
 /// The line of the side that broke the protocol first, or left the profile.
-fn push_whose(
-    text: &mut Vec<u8>,
-    direction: Direction,
-    account: &Account,
-) -> Result<(), AllocError>
+fn push_whose(text: &mut Vec<u8>, direction: Direction, account: &Account) -> Result<(), AllocError>
     ensures { OnOk result (text.new.items ≡ text.old.items ++ first_line direction account.now) }
 {
     match account.connection {

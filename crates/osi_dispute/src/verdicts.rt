@@ -155,10 +155,12 @@ fn account_of(judge: &Judge, direction: Direction) -> Result<Account, AllocError
 /// Why the transport of a side is not judged to the end of the capture.
 fn unjudged_at(judge: &Judge, direction: Direction) -> Option<Unjudged> {
     match judge.stopped(direction) {
-        Some(Stopped {
-            stop: Stop::Refused,
-            ..
-        }) => None,
+        Some(
+            Stopped {
+                stop: Stop::Refused,
+                ..
+            },
+        ) => None,
         Some(stopped) => Some(Unjudged::Transport(stopped.stop)),
         None => None,
     }

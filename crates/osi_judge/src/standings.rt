@@ -3,8 +3,8 @@
 ghost use Rattle.std.specs.Prelude.{◌≡◌, ◌<◌, length, IfOk};
 ghost use Rattle.osi_judge.specs.Onward.{GoesOn, StandsBehind};
 
-use crate::members::Member;
 use crate::first_places::tsdu_at;
+use crate::members::Member;
 use osi_message::Octets;
 use osi_session::{Reply, Standing};
 use std::alloc::{AllocError, Global};

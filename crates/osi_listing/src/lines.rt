@@ -42,11 +42,7 @@ pub fn push_octet(text: &mut Vec<u8>, octet: u8) -> Result<(), AllocError>
 }
 
 /// Adds a word and a number.
-pub fn push_number_field(
-    text: &mut Vec<u8>,
-    word: &str,
-    number: u64,
-) -> Result<(), AllocError>
+pub fn push_number_field(text: &mut Vec<u8>, word: &str, number: u64) -> Result<(), AllocError>
     ensures { OnOk result (text.new.items ≡ text.old.items ++ number_field word.now number) }
 {
     push_words(text, word)?;

@@ -107,7 +107,9 @@ fn bare_command<'a>(alloc: Global) -> Result<Command<'a>, AllocError>
     ensures { IfOk result (λ command. app_of command ≡ top) }
 {
     let command = Command::new(alloc, "osi")
-        .about("Read and judge captures of the OSI session protocol over TPKT, and run scripts on two ends")
+        .about(
+            "Read and judge captures of the OSI session protocol over TPKT, and run scripts on two ends",
+        )
         .version(VERSION)
         .bin_name("osi")?;
     Ok(command.subcommand_required(true))
