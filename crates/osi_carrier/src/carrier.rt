@@ -120,12 +120,7 @@ impl Carrier {
     /// a header and what follows it. What may go now is written straight from them. Where not all of it may,
     /// the rest is kept.
     #[inline(always)]
-    pub fn send_headed(
-        &mut self,
-        reference: Ref,
-        head: &[u8],
-        body: &[u8],
-    ) -> Result<(), SendError>
+    pub fn send_headed(&mut self, reference: Ref, head: &[u8], body: &[u8]) -> Result<(), SendError>
         ensures ok { OnOk result (self.new ≡ record self.old { state = sent reference.0 (head.now ++ body.now) self.old.state }) }
         ensures allowed { OnOk result (send_error (head.now ++ body.now) (open_link reference.0 self.old.state) ≡ None) }
         ensures refused { IfErr result (λ e. call_error e ≡ send_error (head.now ++ body.now) (open_link reference.0 self.old.state)) }

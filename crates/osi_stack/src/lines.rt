@@ -169,12 +169,7 @@ impl Line {
     /// The session hears what happens to it: data that it expects is shown as it came. For want of memory
     /// the session is lost as it was before.
     #[inline(always)]
-    fn hear(
-        &mut self,
-        alloc: Global,
-        told: Told,
-        carrier: &mut Carrier,
-    ) -> Result<(), AllocError>
+    fn hear(&mut self, alloc: Global, told: Told, carrier: &mut Carrier) -> Result<(), AllocError>
         ensures reference { self.new.0 ≡ self.old.0 }
         ensures ok { OnOk result (self.new ≡ (self.old.0, line_by self.old.1 self.old.1.session (told_input told))) }
         ensures carrier { OnOk result (carrier.new ≡ record carrier.old { state = carrier_by self.old.0 self.old.1.session (told_input told) carrier.old.state }) }

@@ -154,12 +154,7 @@ impl Switch {
     /// [`Switch::send`] does.
     #[inline(always)]
     #[tactic(auto, using(crate::proofs::SentAll::open_here))]
-    pub fn send_headed(
-        &mut self,
-        reference: u16,
-        head: &[u8],
-        body: &[u8],
-    ) -> Result<(), SendError>
+    pub fn send_headed(&mut self, reference: u16, head: &[u8], body: &[u8]) -> Result<(), SendError>
         ensures ok { OnOk result (self.new ≡ sent reference (head.now ++ body.now) self.old) }
         ensures allowed { OnOk result (send_error (head.now ++ body.now) (open_link reference self.old) ≡ None) }
         ensures refused { IfErr result (λ e. call_error e ≡ send_error (head.now ++ body.now) (open_link reference self.old)) }
@@ -182,7 +177,8 @@ impl Switch {
             head,
             body,
             &mut self.outgoing,
-        ) else {
+        )
+        else {
             return Err(SendError::OutOfMemory);
         };
         Ok(())
