@@ -110,7 +110,7 @@ fn hear_any(
         Event::Refused(reference, reason) => {
             tell(alloc, carrier, lines, reference, Told::Refused(reason))
         }
-        Event::Tsdu(reference, tsdu) => { tell(alloc, carrier, lines, reference, Told::Tsdu(tsdu)) }
+        Event::Tsdu(reference, tsdu) => tell(alloc, carrier, lines, reference, Told::Tsdu(tsdu)),
         Event::Closed(reference, _) | Event::Faulted(reference, _) => {
             tell(alloc, carrier, lines, reference, Told::Lost)
         }
