@@ -14,7 +14,7 @@
 //! - `sides`: which side first said what no session could have said there;
 //! - `stacks`: a selector that is too long, a called end that asks for a connection, two connections that
 //!   are told apart by whom they ask for, and of which one is given up;
-//! - `listings`: TSDUs of 1,048,576 octets and more.
+//! - `listings`: TSDUs of 1,048,576 octets and more, and octets that come one by one.
 //!
 //! A public function that takes memory is called here, or in a file of `osi_runs`.
 #![tactic(auto)]
