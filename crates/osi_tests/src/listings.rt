@@ -1,6 +1,6 @@
-//! Listings of TSDUs that are too long for a capture of `osi_runs`.
+//! Listings of TSDUs that are too long for a capture of `osi_runs`, and of octets that come one by one.
 
-use osi_listing::list;
+use osi_listing::{Counts, Lister, list};
 use std::alloc::{AllocError, Global};
 use std::test::Fail;
 
@@ -92,4 +92,75 @@ fn a_tsdu_has_at_most_1_048_576_octets(rt: HostRuntime) -> Result<(), Fail> {
 #[test]
 fn what_is_too_long_is_dropped_up_to_its_end(rt: HostRuntime) -> Result<(), Fail> {
     ends_so(rt.alloc(), &DROPPED)
+}
+
+/// A packet of two session units, one with a bad transport unit, and two octets more.
+const MIXED: [u8; 22] = [
+    3, 0, 0, 13, 2, 0xF0, 0x80, 1, 0, 1, 0, 0x41, 0x42, 3, 0, 0, 7, 2, 0, 0x80, 3, 0,
+];
+
+/// Feeds a lister octets, one by one.
+fn feed_singly(
+    alloc: Global,
+    lister: &mut Lister,
+    text: &mut Vec<u8>,
+    octets: &[u8],
+) -> Result<(), AllocError> {
+    for octet in octets {
+        lister.feed(alloc, text, [*octet].as_slice())?;
+    }
+    Ok(())
+}
+
+/// The answer of `Lister::finish`.
+fn finished(lister: &Lister, text: &mut Vec<u8>) -> Result<u8, AllocError> {
+    lister.finish(text)
+}
+
+/// What `MIXED` has is counted.
+fn is_counted(lister: &Lister) -> Result<(), Fail> {
+    let counts = Counts {
+        packets: 2,
+        units: 1,
+        tsdus: 1,
+        session_units: 2,
+        refused: 1,
+    };
+    if lister.counts() != counts {
+        return Err(Fail::from("other counts"));
+    }
+    if lister.octets() != 22 {
+        return Err(Fail::from("another number of octets"));
+    }
+    if lister.is_lost() {
+        return Err(Fail::from("lost"));
+    }
+    Ok(())
+}
+
+/// The listing of octets that come one by one, and its status.
+fn listed_singly(alloc: Global, text: &mut Vec<u8>, octets: &[u8]) -> Result<u8, Fail> {
+    let mut lister = Lister::new(alloc);
+    feed_singly(alloc, &mut lister, text, octets)?;
+    is_counted(&lister)?;
+    Ok(finished(&lister, text)?)
+}
+
+#[test]
+fn octets_that_come_one_by_one_are_listed_as_all_at_once(rt: HostRuntime) -> Result<(), Fail> {
+    let alloc = rt.alloc();
+    let mut singly = Vec::new(alloc);
+    let mut at_once = Vec::new(alloc);
+    let one = listed_singly(alloc, &mut singly, &MIXED)?;
+    let other = listed(alloc, &mut at_once, &MIXED)?;
+    if one != 1 {
+        return Err(Fail::from("another status"));
+    }
+    if one != other {
+        return Err(Fail::from("two statuses"));
+    }
+    if singly.as_slice() != at_once.as_slice() {
+        return Err(Fail::from("two listings"));
+    }
+    Ok(())
 }
