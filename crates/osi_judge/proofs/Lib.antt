@@ -3,3 +3,10 @@ pub mod WalkLaws
 pub mod FirstPlaceLaws
 pub mod TellingLaws
 pub mod SideLaws
+pub mod CaptureLaws
+pub mod CountLaws
+pub mod UnitLaws
+pub mod FollowLaws
+pub mod JudgeLaws
+pub mod LineLaws
+pub mod FirstLaws

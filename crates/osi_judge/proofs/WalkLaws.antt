@@ -1,5 +1,5 @@
 -- A walk to the next remark loses no explanation, and finds none that is not.
-use Rattle.std.proofs.Common.{◌≡◌, ◌∙◌, refl, sym, ap, subst, ℕ, ◌+◌, ◌<◌, ◌≤◌, ◌⊎◌, ◌↔◌, inl, inr, true, false, Bool, List, [], ◌∷◌, get_or, Option, Some, None, option_map, arith}
+use Rattle.std.proofs.Common.{◌≡◌, ◌∙◌, refl, sym, ap, subst, ℕ, ◌+◌, ◌<◌, ◌≤◌, ◌⊎◌, ◌↔◌, inl, inr, true, false, Bool, List, [], ◌∷◌, get_or, Option, Some, None, IfSome, IfNone, option_map, arith}
 use Rattle.osi_message.specs.Meanings.{Meaning}
 use Rattle.osi_message.specs.Words.{Word}
 use Rattle.osi_session.specs.Standing.{Seen, Count, CanSay, Takes, listens, after_count, answers_word}
@@ -204,3 +204,12 @@ walked_last us later w octets before first old new from at to x h b =
 pub none_of : {A B : Type 0} (f : A → B) (o : Option A) → ((a : A) → o ≡ Some a → ⊥) → option_map f o ≡ None
 none_of f None h = refl
 none_of f (Some a) h = absurd (h a refl)
+
+-- what an option that is known gives
+pub at_some : {A : Type 0} (P : A → Type 0) (o : Option A) (a : A) → o ≡ Some a → IfSome o P → P a
+at_some P None a e h = absurd (cc)
+at_some P (Some b) a e h = let same : b ≡ a = cc in subst P same h
+
+pub at_none : {A : Type 0} (P : Type 0) (o : Option A) → ((a : A) → o ≡ Some a → ⊥) → IfNone o P → P
+at_none P None n h = h
+at_none P (Some a) n h = absurd (n a refl)

@@ -1,5 +1,11 @@
+pub mod Captures
+pub mod Stops
+pub mod Transport
 pub mod Explaining
 pub mod Members
 pub mod Walking
 pub mod Judging
 pub mod Sides
+pub mod Tapping
+pub mod Feeding
+pub mod Following

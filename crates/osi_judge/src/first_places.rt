@@ -29,10 +29,9 @@ pub(crate) fn hears(
 ) -> Result<Option<Standing>, AllocError>
     ensures { IfOk result (λ t. HearsTo standing tsdu.now t) }
 {
-    if !standing.listens() {
+    let Some(taking) = standing.take(alloc, tsdu)? else {
         return Ok(None);
-    }
-    let taking = standing.take(alloc, tsdu)?;
+    };
     match taking.reply {
         None => Ok(Some(taking.next)),
         Some(_) => Ok(None),

@@ -1,6 +1,6 @@
 //! One side of a connection, judged by what it said and by what it may have heard.
 
-ghost use Rattle.std.specs.Prelude.{◌≡◌, ◌≤◌, ◌++◌, ◌∷◌, [], IfOk, OnOk, OnErr, List, length};
+ghost use Rattle.std.specs.Prelude.{◌≡◌, ◌<◌, ◌≤◌, ◌⊎◌, ◌++◌, ◌∷◌, [], Err, IfOk, OnOk, OnErr, List, length, take};
 ghost use Rattle.osi_session.specs.Standing.{seen_called, seen_calling};
 ghost use Rattle.osi_judge.specs.Explaining.{Told};
 ghost use Rattle.osi_judge.specs.Judging.{Watches, Keeps, IsFound};
@@ -12,9 +12,22 @@ use crate::telling::behind_tsdu;
 use osi_message::Octets;
 use osi_session::Standing;
 use std::alloc::{AllocError, Global};
+use thiserror::Error;
 
 /// The most sessions that are kept of one side.
 const MOST_MEMBERS: usize = 4096;
+
+/// Why a TSDU was not told.
+#[derive(Clone, Copy, PartialEq, Eq, Debug, Error)]
+pub enum TellError {
+    /// Fewer TSDUs of the other side are said to have passed than before the last TSDU, or more than were
+    /// heard.
+    #[error("a TSDU out of its order")]
+    OutOfOrder,
+    /// There was no memory.
+    #[error("out of memory")]
+    OutOfMemory,
+}
 
 /// One side of a connection of class 0, whose TSDUs are told as they pass, between those of the other
 /// side (X.225). It keeps the sessions that explain all that the side said so far, each with how many
@@ -35,6 +48,7 @@ impl Side {
     pub fn caller(alloc: Global) -> Result<Side, AllocError>
         ensures begin { IfOk result (λ s. (watched s).begin ≡ seen_calling) }
         ensures heard { IfOk result (λ s. ((watched s).heard ≡ []) × ((watched s).before ≡ 0)) }
+        ensures kept { IfOk result (λ s. (watched s).finding ≡ Finding.Kept) }
         ensures watches { IfOk result (λ s. Watches (watched s) []) }
     {
         let side = Side::beginning(alloc, Standing::calling())?;
@@ -45,6 +59,7 @@ impl Side {
     pub fn called(alloc: Global) -> Result<Side, AllocError>
         ensures begin { IfOk result (λ s. (watched s).begin ≡ seen_called) }
         ensures heard { IfOk result (λ s. ((watched s).heard ≡ []) × ((watched s).before ≡ 0)) }
+        ensures kept { IfOk result (λ s. (watched s).finding ≡ Finding.Kept) }
         ensures watches { IfOk result (λ s. Watches (watched s) []) }
     {
         let side = Side::beginning(alloc, Standing::called())?;
@@ -54,6 +69,7 @@ impl Side {
     fn beginning(alloc: Global, begin: Standing) -> Result<Side, AllocError>
         ensures begin { IfOk result (λ s. (watched s).begin ≡ begin) }
         ensures heard { IfOk result (λ s. ((watched s).heard ≡ []) × ((watched s).before ≡ 0)) }
+        ensures kept { IfOk result (λ s. (watched s).finding ≡ Finding.Kept) }
         ensures watches { IfOk result (λ s. Watches (watched s) []) }
     {
         let mut members = Vec::new(alloc);
@@ -74,6 +90,7 @@ impl Side {
 
     /// A TSDU of the other side, which has passed whole. `Err` changes nothing.
     pub fn hear(&mut self, tsdu: &[u8]) -> Result<(), AllocError>
+        ensures all { OnOk result (watched self.new ≡ record (watched self.old) { heard = (watched self.old).heard ++ tsdu.now ∷ [] }) }
         ensures heard { OnOk result ((watched self.new).heard ≡ (watched self.old).heard ++ tsdu.now ∷ []) }
         ensures others { OnOk result (((watched self.new).begin ≡ (watched self.old).begin) × ((watched self.new).before ≡ (watched self.old).before)) }
         ensures watches { OnOk result ((told : List Told) → Watches (watched self.old) told → Watches (watched self.new) told) }
@@ -84,10 +101,38 @@ impl Side {
         Ok(())
     }
 
+    /// Forgets the TSDUs of the other side but for the first so many.
+    pub(crate) fn unhear(&mut self, count: usize)
+        ensures { watched self.new ≡ record (watched self.old) { heard = take count (watched self.old).heard } }
+    {
+        self.heard.truncate(count);
+    }
+
     /// A TSDU of this side, before whose first octet so many TSDUs of the other side had passed whole: as
-    /// many as before the last, or more. `Err` changes nothing.
+    /// many as before the last, or more, and no more than were heard. Else it is [`TellError::OutOfOrder`].
+    /// `Err` changes nothing.
+    pub fn tell(&mut self, tsdu: &[u8], before: usize) -> Result<(), TellError>
+        ensures others { OnOk result (((watched self.new).begin ≡ (watched self.old).begin) × ((watched self.new).heard ≡ (watched self.old).heard)) }
+        ensures order { OnOk result ((watched self.new).before ≤ before) }
+        ensures watches { OnOk result ((told : List Told) → Watches (watched self.old) told → Watches (watched self.new) (told ++ record { octets = tsdu.now; before = before } ∷ [])) }
+        ensures in_order { OnOk result (((watched self.old).before ≤ before) × (before ≤ length (watched self.old).heard)) }
+        ensures out_of_order { result ≡ Err TellError.OutOfOrder → (before < (watched self.old).before) ⊎ (length (watched self.old).heard < before) }
+        ensures err { OnErr result (watched self.new ≡ watched self.old) }
+    {
+        if before < self.before {
+            return Err(TellError::OutOfOrder);
+        }
+        if self.heard.len() < before {
+            return Err(TellError::OutOfOrder);
+        }
+        match self.tell_in_order(tsdu, before) {
+            Ok(()) => Ok(()),
+            Err(_) => Err(TellError::OutOfMemory),
+        }
+    }
+
     #[tactic(auto, using(crate::proofs::SideLaws::broke_as, crate::proofs::SideLaws::too_many_as))]
-    pub fn tell(&mut self, tsdu: &[u8], before: usize) -> Result<(), AllocError>
+    fn tell_in_order(&mut self, tsdu: &[u8], before: usize) -> Result<(), AllocError>
         requires order { (watched self.old).before ≤ before }
         requires passed { before ≤ length (watched self.old).heard }
         ensures others { OnOk result (((watched self.new).begin ≡ (watched self.old).begin) × ((watched self.new).heard ≡ (watched self.old).heard)) }
@@ -143,7 +188,8 @@ impl Side {
 
     /// What is found of the side, by all that it said and by what it may have heard.
     pub fn finding(&self) -> Finding
-        ensures { (told : List Told) → Watches (watched self.now) told → IsFound (watched self.now).begin (watched self.now).heard told result }
+        ensures value { result ≡ (watched self.now).finding }
+        ensures found { (told : List Told) → Watches (watched self.now) told → IsFound (watched self.now).begin (watched self.now).heard told result }
     {
         self.finding
     }

@@ -105,12 +105,11 @@ fn turn(
     ensures moved { IfOk result (λ r. IfSome r (λ w. w.at.taken ≡ walker.at.taken + 1)) }
 {
     let said = say_it(unit, octets, walker, next)?;
-    if !walker.at.standing.listens() {
-        return Ok(None);
-    }
     let taken = walker.at.taken;
     let tsdu = tsdu_at(heard, taken);
-    let taking = walker.at.standing.take(alloc, tsdu)?;
+    let Some(taking) = walker.at.standing.take(alloc, tsdu)? else {
+        return Ok(None);
+    };
     let at = Member {
         taken: taken + 1,
         standing: taking.next,

@@ -1,6 +1,6 @@
 //! One side of a session as what passes shows it.
 
-ghost use Rattle.std.specs.Prelude.{◌≡◌, ◌≢◌, [], MatchBool, ◌+◌, ◌||◌, true, not, is_none, unwrap_or, IfOk};
+ghost use Rattle.std.specs.Prelude.{◌≡◌, ◌≢◌, [], MatchBool, ◌+◌, ◌||◌, true, false, not, is_none, unwrap_or, IfOk, IfSome, IfNone};
 ghost use Rattle.osi_message.specs.Reading.{word};
 ghost use Rattle.osi_session.specs.Standing.{Seen, seen_called, seen_calling, listens, Takes, after_count, answers, answers_word, goes, said, said_within, parting, SaysAs};
 ghost use Rattle.osi_session.specs.Joining.{begins_anew};
@@ -162,16 +162,20 @@ impl Standing {
 
 impl Standing {
     /// A TSDU of the peer that is taken: what a session does that stands so, whatever octets it has joined,
-    /// as long as they are so many. Memory is wanted for what its user would be shown. `Err` changes
-    /// nothing.
-    pub fn take(&self, alloc: Global, tsdu: &[u8]) -> Result<Taking, AllocError>
-        requires { listens self.now ≡ true }
-        ensures counted { IfOk result (λ t. Takes self.now tsdu.now (count_taken t)) }
-        ensures sent { IfOk result (λ t. t.next ≡ after_count self.now (count_taken t)) }
+    /// as long as they are so many. `None` where it may take none ([`Standing::listens`]). Memory is wanted
+    /// for what its user would be shown. `Err` changes nothing.
+    pub fn take(&self, alloc: Global, tsdu: &[u8]) -> Result<Option<Taking>, AllocError>
+        ensures listens { IfOk result (λ t. IfSome t (λ _. listens self.now ≡ true)) }
+        ensures deaf { IfOk result (λ t. IfNone t (listens self.now ≡ false)) }
+        ensures counted { IfOk result (λ t. IfSome t (λ taking. Takes self.now tsdu.now (count_taken taking))) }
+        ensures sent { IfOk result (λ t. IfSome t (λ taking. taking.next ≡ after_count self.now (count_taken taking))) }
     {
+        if !self.listens() {
+            return Ok(None);
+        }
         let counting = count_tsdu(alloc, &self.state, self.joined, tsdu)?;
         let is_kept = counting.next.phase.may_hold();
-        Ok(Taking {
+        Ok(Some(Taking {
             next: Standing {
                 state: counting.next,
                 joined: counting.joined,
@@ -179,7 +183,7 @@ impl Standing {
                 closed: counting.closes,
             },
             reply: counting.reply,
-        })
+        }))
     }
 
     /// Whether a TSDU of the peer may be taken: the CN was said or is awaited, and the transport connection

@@ -11,7 +11,7 @@
 //! - `links`: credit, numbers that go round, the longest TSDU;
 //! - `carriers`: an end of neither class, all references, what is sent where nothing is open;
 //! - `sessions`: plans, the greatest lengths of what is sent, a first part that is too long;
-//! - `sides`: which side first said what no session could have said there;
+//! - `sides`, `captures`: which side first said what no session could have said there;
 //! - `stacks`: a selector that is too long, a called end that asks for a connection, two connections that
 //!   are told apart by whom they ask for, and of which one is given up;
 //! - `listings`: TSDUs of 1,048,576 octets and more.
@@ -19,6 +19,8 @@
 //! A public function that takes memory is called here, or in a file of `osi_runs`.
 #![tactic(auto)]
 
+#[cfg(test)]
+mod captures;
 #[cfg(test)]
 mod carriers;
 #[cfg(test)]

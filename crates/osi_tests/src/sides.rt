@@ -240,11 +240,10 @@ const RUNS: &[Run] = &[
 
 /// A side says a TSDU, before which all that it heard had passed, but for so many.
 fn says(side: &mut Side, missed: usize, tsdu: &[u8]) -> Result<(), Fail> {
-    let heard = side.heard();
-    if heard < missed || heard - missed < side.before() {
+    let Some(before) = side.heard().checked_sub(missed) else {
         return Err(Fail::from("a TSDU passes too early"));
-    }
-    side.tell(tsdu, heard - missed)?;
+    };
+    side.tell(tsdu, before)?;
     Ok(())
 }
 

@@ -1,0 +1,166 @@
+-- A side of which one packet more passes: how it stands, and the TSDU that the packet ends.
+use Rattle.std.proofs.Common.{◌≡◌, ◌∙◌, refl, sym, ap, ℕ, ◌+◌, ◌<◌, ◌⊎◌, inl, inr, Bool, true, false, if◌then◌else◌, List, [], ◌∷◌, ◌++◌, length, arith}
+use Rattle.std.proofs.lemmas.List.{append-nil, append_assoc, length-append}
+use Rattle.osi_tpkt.specs.Packet.{IsPacket}
+use Rattle.osi_tpkt.specs.Stream.{ArePackets, offset_of}
+use Rattle.osi_tpdu.specs.Packet.{units_of}
+use Rattle.osi_judge.specs.declared.directions.Direction.{Direction}
+use Rattle.osi_judge.specs.declared.stops.Stop.TheVariants.{TsduTooLong}
+use Rattle.osi_judge.specs.Captures.{Capture, stream}
+use Rattle.osi_judge.specs.Transport.{Move, opens, adds, stops, step_of, Stage, opening, between, within, stopped, begun, first_of, is_too_long, added, moved, stage_behind, Sent, packet_length, ended, brought, sent_by, stage_from, sent_from}
+use Rattle.osi_judge.specs.Tapping.{had_passed, heard}
+use Rattle.osi_judge.specs.Feeding.{since_at}
+use Rattle.osi_judge.specs.Following.{shown, IsSince}
+
+-- ---- packets of a stream
+
+pub packets_on : (us : List (List ℕ)) (s r more : List ℕ) → ArePackets us s r → ArePackets us (s ++ more) (r ++ more)
+packets_on [] s r more h = ap (λ (x : List ℕ). x ++ more) h
+packets_on (u ∷ us) s r more (b, t, p, e, h) = (b, t ++ more, p, ap (λ (x : List ℕ). x ++ more) e ∙ append_assoc b t more, packets_on us t r more h)
+
+pub packet_on : (us : List (List ℕ)) (s r more u : List ℕ) → ArePackets us s r → IsPacket u (r ++ more) → ArePackets (us ++ u ∷ []) (s ++ more) []
+packet_on [] s r more u h p = (r ++ more, [], p, ap (λ (x : List ℕ). x ++ more) h ∙ sym (append-nil (r ++ more)), refl)
+packet_on (v ∷ us) s r more u (b, t, q, e, h) p = (b, t ++ more, q, ap (λ (x : List ℕ). x ++ more) e ∙ append_assoc b t more, packet_on us t r more u h p)
+
+-- the offset behind packets, of which the first stands at this offset
+abbrev pub offset_from : ℕ → List (List ℕ) → ℕ
+offset_from at [] = at
+offset_from at (u ∷ us) = offset_from (at + packet_length u) us
+
+pub packet_octets : (u b : List ℕ) → IsPacket u b → length b ≡ packet_length u
+packet_octets u b p = let e = ap (λ (x : List ℕ). length x) p.spelled in omega (arith, e)
+
+pub offset_of_rest : (at : ℕ) (us : List (List ℕ)) (s r : List ℕ) → ArePackets us s r → offset_from at us + length r ≡ at + length s
+offset_of_rest at [] s r h = ap (λ (x : List ℕ). at + length x) (sym h)
+offset_of_rest at (u ∷ us) s r (b, t, p, e, h) =
+    let n = packet_octets u b p in let m = ap (λ (x : List ℕ). length x) e in let k = length-append b t in
+    offset_of_rest (at + packet_length u) us t r h ∙ omega (arith, n, m, k)
+
+-- ---- one unit more
+
+pub stage_more : (d : Direction) (s : Stage) (at : ℕ) (us : List (List ℕ)) (u : List ℕ) → stage_from d s at (us ++ u ∷ []) ≡ stage_behind d (stage_from d s at us) (offset_from at us) u
+stage_more d s at [] u = refl
+stage_more d s at (v ∷ us) u = stage_more d (stage_behind d s at v) (at + packet_length v) us u
+
+pub sent_more : (d : Direction) (s : Stage) (at : ℕ) (us : List (List ℕ)) (u : List ℕ)
+    → sent_from d s at (us ++ u ∷ []) ≡ sent_from d s at us ++ sent_by d (stage_from d s at us) (offset_from at us) u
+sent_more d s at [] u = append-nil (sent_by d s at u)
+sent_more d s at (v ∷ us) u =
+    ap (λ (x : List Sent). sent_by d s at v ++ x) (sent_more d (stage_behind d s at v) (at + packet_length v) us u)
+    ∙ sym (append_assoc (sent_by d s at v) (sent_from d (stage_behind d s at v) (at + packet_length v) us) (sent_by d (stage_from d (stage_behind d s at v) (at + packet_length v) us) (offset_from (at + packet_length v) us) u))
+
+-- ---- offsets as they are kept
+
+shown_if : (long : Bool) (s t s2 t2 : Stage) → shown s ≡ s2 → shown t ≡ t2 → shown (if long then s else t) ≡ (if long then s2 else t2)
+shown_if true s t s2 t2 e f = e
+shown_if false s t s2 t2 e f = f
+
+shown_added : (s : Stage) (at : ℕ) (end : Bool) (octets : List ℕ) → shown (added s at end octets) ≡ added (shown s) (offset_of at) end octets
+shown_added s at true octets = refl
+shown_added opening at false octets = refl
+shown_added between at false octets = refl
+shown_added (within first begun) at false octets = refl
+shown_added (stopped stop packet) at false octets = refl
+
+shown_moved : (s : Stage) (at : ℕ) (m : Move) → shown (moved s at m) ≡ moved (shown s) (offset_of at) m
+shown_moved s at (opens reference) = refl
+shown_moved s at (stops stop) = refl
+shown_moved opening at (adds end octets) =
+    shown_if (is_too_long opening octets) (stopped TsduTooLong at) (added opening at end octets) (stopped TsduTooLong (offset_of at)) (added opening (offset_of at) end octets) refl (shown_added opening at end octets)
+shown_moved between at (adds end octets) =
+    shown_if (is_too_long between octets) (stopped TsduTooLong at) (added between at end octets) (stopped TsduTooLong (offset_of at)) (added between (offset_of at) end octets) refl (shown_added between at end octets)
+shown_moved (within first begun) at (adds end octets) =
+    shown_if (is_too_long (within first begun) octets) (stopped TsduTooLong at) (added (within first begun) at end octets) (stopped TsduTooLong (offset_of at))
+    (added (within (offset_of first) begun) (offset_of at) end octets) refl (shown_added (within first begun) at end octets)
+shown_moved (stopped stop packet) at (adds end octets) =
+    shown_if (is_too_long (stopped stop packet) octets) (stopped TsduTooLong at) (added (stopped stop packet) at end octets) (stopped TsduTooLong (offset_of at))
+    (added (stopped stop (offset_of packet)) (offset_of at) end octets) refl (shown_added (stopped stop packet) at end octets)
+
+pub shown_behind : (d : Direction) (s : Stage) (at : ℕ) (u : List ℕ) → shown (stage_behind d s at u) ≡ stage_behind d (shown s) (offset_of at) u
+shown_behind d opening at u = shown_moved opening at (step_of d false (units_of u))
+shown_behind d between at u = shown_moved between at (step_of d true (units_of u))
+shown_behind d (within first octets) at u = shown_moved (within first octets) at (step_of d true (units_of u))
+shown_behind d (stopped stop packet) at u = refl
+
+-- the octets of a TSDU are the same
+heard_if : (long : Bool) (x y : List Sent) → heard x ≡ heard y → heard (if long then [] else x) ≡ heard (if long then [] else y)
+heard_if true x y e = refl
+heard_if false x y e = e
+
+heard_ended : (s : Stage) (at : ℕ) (u : List ℕ) (end : Bool) (octets : List ℕ) → heard (ended s at u end octets) ≡ heard (ended (shown s) (offset_of at) u end octets)
+heard_ended s at u false octets = refl
+heard_ended opening at u true octets = refl
+heard_ended between at u true octets = refl
+heard_ended (within first begun) at u true octets = refl
+heard_ended (stopped stop packet) at u true octets = refl
+
+heard_brought : (s : Stage) (at : ℕ) (u : List ℕ) (m : Move) → heard (brought s at u m) ≡ heard (brought (shown s) (offset_of at) u m)
+heard_brought s at u (opens reference) = refl
+heard_brought s at u (stops stop) = refl
+heard_brought opening at u (adds end octets) = heard_if (is_too_long opening octets) (ended opening at u end octets) (ended opening (offset_of at) u end octets) (heard_ended opening at u end octets)
+heard_brought between at u (adds end octets) = heard_if (is_too_long between octets) (ended between at u end octets) (ended between (offset_of at) u end octets) (heard_ended between at u end octets)
+heard_brought (within first begun) at u (adds end octets) =
+    heard_if (is_too_long (within first begun) octets) (ended (within first begun) at u end octets) (ended (within (offset_of first) begun) (offset_of at) u end octets) (heard_ended (within first begun) at u end octets)
+heard_brought (stopped stop packet) at u (adds end octets) =
+    heard_if (is_too_long (stopped stop packet) octets) (ended (stopped stop packet) at u end octets) (ended (stopped stop (offset_of packet)) (offset_of at) u end octets)
+    (heard_ended (stopped stop packet) at u end octets)
+
+pub heard_shown : (d : Direction) (s : Stage) (at : ℕ) (u : List ℕ) → heard (sent_by d s at u) ≡ heard (sent_by d (shown s) (offset_of at) u)
+heard_shown d opening at u = heard_brought opening at u (step_of d false (units_of u))
+heard_shown d between at u = heard_brought between at u (step_of d true (units_of u))
+heard_shown d (within first octets) at u = heard_brought (within first octets) at u (step_of d true (units_of u))
+heard_shown d (stopped stop packet) at u = refl
+
+pub since_shown : (s : Stage) (begun_since since : ℕ) → since_at (shown s) begun_since since ≡ since_at s begun_since since
+since_shown opening b n = refl
+since_shown between b n = refl
+since_shown (within first octets) b n = refl
+since_shown (stopped stop packet) b n = refl
+
+-- ---- the TSDU that a packet ends
+
+-- it is none, or this one
+pub record IsEnded (s : Stage) (at : ℕ) (u : List ℕ) (t : Sent) : Type 0 where
+  pub first : t.first ≡ first_of s at
+  pub behind : t.behind ≡ at + packet_length u
+
+abbrev pub OneOrNone : Stage → ℕ → List ℕ → List Sent → Type 0
+OneOrNone s at u sent = (sent ≡ []) ⊎ ((t : Sent) × (sent ≡ t ∷ []) × IsEnded s at u t)
+
+ended_one : (s : Stage) (at : ℕ) (u : List ℕ) (long end : Bool) (octets : List ℕ) → OneOrNone s at u (if long then [] else ended s at u end octets)
+ended_one s at u true end octets = inl refl
+ended_one s at u false false octets = inl refl
+ended_one s at u false true octets =
+    inr (record { octets = begun s ++ octets; first = first_of s at; last = at; behind = at + packet_length u }, refl, record { first = refl; behind = refl })
+
+brought_one : (s : Stage) (at : ℕ) (u : List ℕ) (m : Move) → OneOrNone s at u (brought s at u m)
+brought_one s at u (opens reference) = inl refl
+brought_one s at u (stops stop) = inl refl
+brought_one s at u (adds end octets) = ended_one s at u (is_too_long s octets) end octets
+
+pub sent_one : (d : Direction) (s : Stage) (at : ℕ) (u : List ℕ) → OneOrNone s at u (sent_by d s at u)
+sent_one d opening at u = brought_one opening at u (step_of d false (units_of u))
+sent_one d between at u = brought_one between at u (step_of d true (units_of u))
+sent_one d (within first octets) at u = brought_one (within first octets) at u (step_of d true (units_of u))
+sent_one d (stopped stop packet) at u = inl refl
+
+-- ---- how many had passed before the TSDU under way
+
+since_added : (d : Direction) (c : Capture) (others : List Sent) (s : Stage) (at since : ℕ) (long end : Bool) (octets : List ℕ) → first_of s at < length (stream d c)
+    → since ≡ had_passed d c (first_of s at) others → IsSince d c others (if long then stopped TsduTooLong at else added s at end octets) since
+since_added d c others s at since true end octets l e = tt
+since_added d c others s at since false true octets l e = tt
+since_added d c others s at since false false octets l e = (l, e)
+
+since_moved : (d : Direction) (c : Capture) (others : List Sent) (s : Stage) (at since : ℕ) (m : Move) → first_of s at < length (stream d c)
+    → since ≡ had_passed d c (first_of s at) others → IsSince d c others (moved s at m) since
+since_moved d c others s at since (opens reference) l e = tt
+since_moved d c others s at since (stops stop) l e = tt
+since_moved d c others s at since (adds end octets) l e = since_added d c others s at since (is_too_long s octets) end octets l e
+
+pub since_behind : (d : Direction) (c : Capture) (others : List Sent) (s : Stage) (at since : ℕ) (u : List ℕ) → first_of s at < length (stream d c)
+    → since ≡ had_passed d c (first_of s at) others → IsSince d c others (stage_behind d s at u) since
+since_behind d c others opening at since u l e = since_moved d c others opening at since (step_of d false (units_of u)) l e
+since_behind d c others between at since u l e = since_moved d c others between at since (step_of d true (units_of u)) l e
+since_behind d c others (within first octets) at since u l e = since_moved d c others (within first octets) at since (step_of d true (units_of u)) l e
+since_behind d c others (stopped stop packet) at since u l e = tt

@@ -1,0 +1,16 @@
+use Rattle.std.proofs.Common.{take}
+use Rattle.osi_judge.specs.Sides.{watched}
+use Rattle.osi_judge.specs.Feeding.{tapped}
+use Rattle.osi_judge.specs.Following.{both}
+use Rattle.osi_judge.specs.declared.directions.Direction.TheVariants.{Left}
+use Rattle.osi_judge.proofs.FirstLaws.{broken_beside}
+use Rattle.osi_judge.proofs.FollowLaws.{fed_left}
+use Rattle.osi_judge.proofs.judge.feed_left.Goals as goal
+
+pub returns-clause-taps : goal.returns-clause-taps
+returns-clause-taps c = λ capture t.
+    fed_left capture (take c.in_ok-used.used c.args.octets.now) (both c.args.left.now c.args.right.now) (tapped c.feed.new.half) (watched c.feed.new.other) c.in_ok-used.ensures.feeds t
+
+pub returns-clause-beside : goal.returns-clause-beside
+returns-clause-beside c =
+    broken_beside Left (take c.in_ok-used.used c.args.octets.now) (tapped c.args.left.now) (tapped c.feed.new.half) (tapped c.args.right.now) (watched c.feed.new.other) c.in_ok-used.ensures.feeds

@@ -1,0 +1,16 @@
+use Rattle.std.proofs.Common.{take}
+use Rattle.osi_judge.specs.Sides.{watched}
+use Rattle.osi_judge.specs.Feeding.{tapped}
+use Rattle.osi_judge.specs.Following.{both}
+use Rattle.osi_judge.specs.declared.directions.Direction.TheVariants.{Right}
+use Rattle.osi_judge.proofs.FirstLaws.{broken_beside}
+use Rattle.osi_judge.proofs.FollowLaws.{fed_right}
+use Rattle.osi_judge.proofs.judge.feed_right.Goals as goal
+
+pub returns-clause-taps : goal.returns-clause-taps
+returns-clause-taps c = λ capture t.
+    fed_right capture (take c.in_ok-used.used c.args.octets.now) (both c.args.left.now c.args.right.now) (tapped c.feed.new.half) (watched c.feed.new.other) c.in_ok-used.ensures.feeds t
+
+pub returns-clause-beside : goal.returns-clause-beside
+returns-clause-beside c =
+    broken_beside Right (take c.in_ok-used.used c.args.octets.now) (tapped c.args.right.now) (tapped c.feed.new.half) (tapped c.args.left.now) (watched c.feed.new.other) c.in_ok-used.ensures.feeds

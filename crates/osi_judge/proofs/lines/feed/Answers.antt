@@ -1,0 +1,21 @@
+use Rattle.std.proofs.Common.{◌∙◌, ◌+◌, ◌<◌, ◌≤◌, refl, ap, subst, List, ℕ, take, length}
+use Rattle.osi_tpkt.specs.Packet.{stated_length}
+use Rattle.osi_judge.specs.Sides.{watched}
+use Rattle.osi_judge.specs.Feeding.{tapped, ignored, since_in}
+use Rattle.osi_judge.proofs.LineLaws.{none_here, within_wanted, looked}
+use Rattle.osi_judge.proofs.lines.feed.Goals as goal
+
+pub returns-in-Some-clause-feeds : goal.returns-in-Some-clause-feeds
+returns-in-Some-clause-feeds c = ignored c.in-Some._fault c.in-Some.is refl refl
+
+pub returns-in-Ok-clause-feeds : goal.returns-in-Ok-clause-feeds
+returns-in-Ok-clause-feeds c =
+    let half = c.args.half.now in
+    let used = c.min-used.result in
+    let w = c.wanted.result in
+    let seen = c.as_slice.ensures.value in
+    let header = subst (λ (x : List ℕ). length x < 4 → length x + w ≤ 4) seen c.wanted.ensures.header in
+    let packet = subst (λ (x : List ℕ). 4 ≤ length x → length x < stated_length x → length x + w ≤ stated_length x) seen c.wanted.ensures.packet in
+    let since = c.since_packet-since.ensures ∙ ap (λ (x : List ℕ). since_in x c.heard.result half.line.since) c.as_slice-2.ensures.value ∙ ap (λ (x : ℕ). since_in half.held.items x half.line.since) c.heard.ensures in
+    looked c.args.direction (take used c.args.piece.now) c.extend_from_slice.new.self.items c.since_packet-since.result (tapped half) (tapped c.settle.new.half) (watched c.args.other.now) (watched c.settle.new.other)
+    (none_here half.fault c.in_default.not-Some) c.in_ok-extend_from_slice.ensures.items since (within_wanted half.held.items c.args.piece.now w used c.min-used.ensures header packet) c.in-Ok.ensures.ok

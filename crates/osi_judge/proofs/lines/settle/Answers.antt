@@ -1,0 +1,26 @@
+use Rattle.std.proofs.Common.{refl, sym, ap, subst, List, ℕ, ◌≤◌, length, take, Ok}
+use Rattle.osi_tpkt.specs.Packet.{IsPacket, IsPartial, IsFaultOf}
+use Rattle.osi_judge.specs.Sides.{watched}
+use Rattle.osi_judge.specs.Feeding.{lined, tapped, goes_on, faulty}
+use Rattle.osi_judge.proofs.LineLaws.{settled_whole}
+use Rattle.osi_judge.proofs.lines.settle.Goals as goal
+
+pub returns-in-Ok-None-clause-ok : goal.returns-in-Ok-None-clause-ok
+returns-in-Ok-None-clause-ok c =
+    goes_on (subst (λ (x : List ℕ). IsPartial x) c.as_slice.ensures.value (c.in-Ok-None.ensures.begun.0 (ap Ok c.in-Ok-None.field-0-is))) refl refl
+
+pub returns-in-Err-clause-ok : goal.returns-in-Err-clause-ok
+returns-in-Err-clause-ok c =
+    let f = c.in-Err.fault in
+    faulty f (subst (λ (x : List ℕ). IsFaultOf 0 x f) c.as_slice.ensures.value ((c.in-Err.ensures.refused f).0 refl)) refl refl
+
+pub returns-in_ok-take_unit-in-Ok-Some-clause-ok : goal.returns-in_ok-take_unit-in-Ok-Some-clause-ok
+returns-in_ok-take_unit-in-Ok-Some-clause-ok c =
+    let half = c.args.half.now in
+    let found = rw c.in-Ok-Some.field-0-is at c.in-Ok-Some.ensures.found in
+    let n = c.in-Ok-Some.found.1 in
+    let packet = subst (λ (u : List ℕ). IsPacket u (take n c.as_slice.result.now)) (sym c.unit-unit.ensures.value) found.spelled in
+    settled_whole c.args.direction c.unit-unit.result.now c.args.since n (tapped half)
+    (record { held = half.held.items; fault = half.fault; line = lined c.take_unit.new.line; side = watched c.take_unit.new.side }) (tapped c.advance.new.self) (watched c.args.other.now) (watched c.take_unit.new.other)
+    (subst (λ (x : List ℕ). n ≤ length x) c.as_slice.ensures.value found.within) (subst (λ (x : List ℕ). IsPacket c.unit-unit.result.now (take n x)) c.as_slice.ensures.value packet)
+    refl refl c.in_ok-take_unit-in-Ok-Some.ensures.ok c.advance.ensures

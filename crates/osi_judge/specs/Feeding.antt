@@ -1,0 +1,141 @@
+-- What octets of a side do to what is kept of it.
+use Rattle.std.specs.Prelude.{◌≡◌, ◌≤◌, ◌<◌, ℕ, ◌+◌, List, [], ◌∷◌, ◌++◌, length, take, Bool, ◌||◌, Option, Some, None}
+use Rattle.osi_tpkt.specs.Packet.{IsPacket, IsPartial, IsFaultOf, stated_length}
+use Rattle.osi_tpkt.specs.Stream.{offset_of}
+use Rattle.osi_tpkt.specs.declared.faults.TpktFault.{TpktFault}
+use Rattle.osi_tpkt.specs.declared.faults.TpktFault.TheVariants.{BadVersion, BadLength, OutOfMemory}
+use Rattle.osi_judge.specs.declared.directions.Direction.{Direction}
+use Rattle.osi_judge.specs.declared.stops.Stop.TheVariants.{BadPacket}
+use Rattle.osi_judge.specs.declared.stops.Stopped.{Stopped as StoppedAt}
+use Rattle.osi_judge.specs.Stops.{breaks, broke_session}
+use Rattle.osi_judge.specs.declared.lines.Progress.{Progress}
+use Rattle.osi_judge.specs.declared.lines.Progress.TheVariants.{Opening, Between, Within, Stopped}
+use Rattle.osi_judge.specs.declared.lines.Line.{Line}
+use Rattle.osi_judge.specs.declared.lines.Half.{Half}
+use Rattle.osi_judge.specs.Explaining.{Told}
+use Rattle.osi_judge.specs.Judging.{Watched, Watches}
+use Rattle.osi_judge.specs.Sides.{watched}
+use Rattle.osi_judge.specs.Transport.{Stage, opening, between, within, stopped, stage_behind, Sent, sent_by}
+
+abbrev pub stage_in : Progress → List ℕ → Stage
+stage_in Opening octets = opening
+stage_in Between octets = between
+stage_in (Within first) octets = within first octets
+stage_in (Stopped stop at) octets = stopped stop at
+
+-- the TSDUs of a side as far as they were read: the offset of the packet under way, how many of the other side's TSDUs had
+-- passed before it, how the side stands, and how many had passed before the first packet of the TSDU under way
+pub record Lined : Type 0 where
+  pub at : ℕ
+  pub since : ℕ
+  pub stage : Stage
+  pub begun_since : ℕ
+
+abbrev pub lined : Line → Lined
+lined l = record { at = l.at; since = l.since; stage = stage_in l.progress l.begun.items; begun_since = l.begun_since }
+
+pub record Tapped : Type 0 where
+  pub held : List ℕ
+  pub fault : Option TpktFault
+  pub line : Lined
+  pub side : Watched
+
+abbrev pub tapped : Half → Tapped
+tapped h = record { held = h.held.items; fault = h.fault; line = lined h.line; side = watched h.side }
+
+-- ---- a TSDU
+
+-- how many TSDUs had passed before the TSDU to which a packet adds, by how many had passed before the packet
+abbrev pub since_at : Stage → ℕ → ℕ → ℕ
+since_at (within first octets) begun_since since = begun_since
+since_at stage begun_since since = since
+
+-- a side is told a TSDU
+pub record Tells (tsdu : List ℕ) (before : ℕ) (old new : Watched) : Type 0 where
+  pub begin : new.begin ≡ old.begin
+  pub heard : new.heard ≡ old.heard
+  pub no_later : new.before ≤ before
+  pub watches : (told : List Told) → Watches old told → Watches new (told ++ record { octets = tsdu; before = before } ∷ [])
+
+abbrev pub hears : Watched → List ℕ → Watched
+hears w tsdu = record w { heard = w.heard ++ tsdu ∷ [] }
+
+-- a TSDU that a packet ends passes, or there is none
+abbrev pub Passes : List Sent → ℕ → Watched → Watched → Watched → Watched → Type 0
+Passes [] before old new other new_other = (new ≡ old) × (new_other ≡ other)
+Passes (t ∷ sent) before old new other new_other = Tells t.octets before old new × (new_other ≡ hears other t.octets)
+
+-- ---- a packet
+
+-- A packet with this transport unit, before which so many TSDUs of the other side had passed.
+pub record TakesUnit (d : Direction) (unit : List ℕ) (since : ℕ) (old new : Lined) (side new_side other new_other : Watched) : Type 0 where
+  pub at : new.at ≡ old.at
+  pub stage : new.stage ≡ stage_behind d old.stage old.at unit
+  pub begun_since : new.begun_since ≡ since_at old.stage old.begun_since since
+  pub passes : Passes (sent_by d old.stage old.at unit) (since_at old.stage old.begun_since since) side new_side other new_other
+
+-- the packet under way stands whole, and passes
+pub record TakesPacket (d : Direction) (unit : List ℕ) (since : ℕ) (old new : Tapped) (other new_other : Watched) : Type 0 where
+  pub held : new.held ≡ []
+  pub fault : new.fault ≡ old.fault
+  pub at : new.line.at ≡ offset_of (old.line.at + length old.held)
+  pub counted : new.line.since ≡ since
+  pub stage : new.line.stage ≡ stage_behind d old.line.stage old.line.at unit
+  pub begun_since : new.line.begun_since ≡ since_at old.line.stage old.line.begun_since since
+  pub passes : Passes (sent_by d old.line.stage old.line.at unit) (since_at old.line.stage old.line.begun_since since) old.side new.side other new_other
+
+-- The octets that are held of the packet under way are looked at.
+pub data Settles (d : Direction) (since : ℕ) (old new : Tapped) (other new_other : Watched) : Type 0 where
+  -- the packet goes on
+  goes_on : IsPartial old.held → new ≡ record old { line = record old.line { since = since } } → new_other ≡ other → Settles d since old new other new_other
+  -- no packet begins so
+  faulty : (f : TpktFault) → IsFaultOf 0 old.held f → new ≡ record old { fault = Some f; line = record old.line { since = since } } → new_other ≡ other
+      → Settles d since old new other new_other
+  -- a packet stands at their front
+  whole : (unit : List ℕ) (n : ℕ) → n ≤ length old.held → IsPacket unit (take n old.held) → TakesPacket d unit since old new other new_other
+      → Settles d since old new other new_other
+
+-- how many had passed before the packet under way: all, if it is yet to begin
+abbrev pub since_in : List ℕ → ℕ → ℕ → ℕ
+since_in [] heard since = heard
+since_in (octet ∷ held) heard since = since
+
+abbrev pub since_of : Tapped → ℕ
+since_of t = since_in t.held (length t.side.heard) t.line.since
+
+-- so many octets go no further than the header or the packet under way
+pub record IsWithin (held : List ℕ) (n : ℕ) : Type 0 where
+  pub header : length held < 4 → length held + n ≤ 4
+  pub packet : 4 ≤ length held → length held < stated_length held → length held + n ≤ stated_length held
+
+abbrev pub with_octets : Tapped → List ℕ → Tapped
+with_octets t octets = record t { held = t.held ++ octets }
+
+-- Octets of a side pass.
+pub data Feeds (d : Direction) (octets : List ℕ) (old new : Tapped) (other new_other : Watched) : Type 0 where
+  -- they are not looked at
+  ignored : (f : TpktFault) → old.fault ≡ Some f → new ≡ old → new_other ≡ other → Feeds d octets old new other new_other
+  -- they belong to the packet under way
+  looked_at : old.fault ≡ None → IsWithin old.held (length octets) → Settles d (since_of old) (with_octets old octets) new other new_other → Feeds d octets old new other new_other
+
+-- ---- where it is looked at no further
+
+abbrev pub placed : ℕ → TpktFault → TpktFault
+placed at (BadVersion offset) = BadVersion at
+placed at (BadLength offset) = BadLength at
+placed at OutOfMemory = OutOfMemory
+
+abbrev pub stopped_packet : Option TpktFault → ℕ → Option StoppedAt
+stopped_packet None offset = None
+stopped_packet (Some fault) offset = Some (record { stop = BadPacket (placed offset fault); offset = offset })
+
+abbrev pub stopped_by : Stage → Option TpktFault → ℕ → Option StoppedAt
+stopped_by (stopped stop at) fault offset = Some (record { stop = stop; offset = at })
+stopped_by stage fault offset = stopped_packet fault offset
+
+abbrev pub stopped_of : Tapped → Option StoppedAt
+stopped_of t = stopped_by t.line.stage t.fault t.line.at
+
+-- by its session, or by its transport
+abbrev pub has_broken : Tapped → Bool
+has_broken t = broke_session t.side.finding || breaks (stopped_of t)

@@ -1,0 +1,103 @@
+-- What is known of a judge that was fed a capture.
+use Rattle.std.specs.Prelude.{◌≡◌, ◌≤◌, ◌<◌, ◌-◌, ℕ, List, [], ◌∷◌, ◌++◌, length, Bool, true, false, Option, Some, None}
+use Rattle.osi_tpkt.specs.Packet.{IsPartial, IsFaultOf}
+use Rattle.osi_tpkt.specs.Stream.{ArePackets, offset_of}
+use Rattle.osi_tpkt.specs.declared.faults.TpktFault.{TpktFault}
+use Rattle.osi_judge.specs.declared.directions.Direction.{Direction}
+use Rattle.osi_judge.specs.declared.directions.Direction.TheVariants.{Left, Right}
+use Rattle.osi_judge.specs.declared.judge.Judge.{Judge}
+use Rattle.osi_judge.specs.declared.lines.Half.{Half}
+use Rattle.osi_judge.specs.Captures.{Capture, other, stream}
+use Rattle.osi_judge.specs.Transport.{Stage, opening, between, within, stopped, Sent, stage_from, sent_from}
+use Rattle.osi_judge.specs.Tapping.{begin_of, had_passed, heard, told}
+use Rattle.osi_judge.specs.Feeding.{Tapped, tapped, has_broken}
+use Rattle.osi_judge.specs.Judging.{Watches}
+
+pub record Judged : Type 0 where
+  pub left : Tapped
+  pub right : Tapped
+
+abbrev pub both : Half → Half → Judged
+both left right = record { left = tapped left; right = tapped right }
+
+abbrev pub judged : Judge → Judged
+judged j = both j.left j.right
+
+abbrev pub half_of : Direction → Judged → Tapped
+half_of Left j = j.left
+half_of Right j = j.right
+
+-- the side whose break passed first
+abbrev pub first_in : Judge → Option Direction
+first_in j = j.first
+
+-- the first stays; else it is the side of which octets passed, if it has broken the protocol by now
+abbrev pub first_after : Option Direction → Direction → Bool → Option Direction
+first_after (Some first) d has_broken = Some first
+first_after None d true = Some d
+first_after None d false = None
+
+-- offsets as they are kept
+abbrev pub shown : Stage → Stage
+shown opening = opening
+shown between = between
+shown (within first octets) = within (offset_of first) octets
+shown (stopped stop at) = stopped stop (offset_of at)
+
+-- the octets behind the last whole packet of a stream: they are held, or no packet begins so
+abbrev pub IsRest : Option TpktFault → List ℕ → List ℕ → Type 0
+IsRest None held rest = (held ≡ rest) × IsPartial rest
+IsRest (Some fault) held rest = IsFaultOf 0 rest fault
+
+-- each TSDU begins before this offset, or ends no later
+abbrev pub BeginBefore : ℕ → List Sent → Type 0
+BeginBefore n [] = Unit {0}
+BeginBefore n (t ∷ sent) = (t.first < n) × BeginBefore n sent
+
+abbrev pub EndBy : ℕ → List Sent → Type 0
+EndBy n [] = Unit {0}
+EndBy n (t ∷ sent) = (t.behind ≤ n) × EndBy n sent
+
+-- of a TSDU under way, how many of the other side's had passed before its first packet
+abbrev pub IsSince : Direction → Capture → List Sent → Stage → ℕ → Type 0
+IsSince d capture others (within first octets) since = (first < length (stream d capture)) × (since ≡ had_passed d capture first others)
+IsSince d capture others stage since = Unit {0}
+
+-- what is kept of a side of a capture whose TSDUs are these
+pub record Follows (d : Direction) (capture : Capture) (t : Tapped) (mine others : List Sent) : Type 0 where
+  pub units : List (List ℕ)
+  pub rest : List ℕ
+  pub packets : ArePackets units (stream d capture) rest
+  pub is_rest : IsRest t.fault t.held rest
+  pub at : t.line.at ≡ offset_of (length (stream d capture) - length rest)
+  pub sent : mine ≡ sent_from d opening 0 units
+  pub stage : t.line.stage ≡ shown (stage_from d opening 0 units)
+  pub since : t.fault ≡ None → 0 < length rest → t.line.since ≡ had_passed d capture (length (stream d capture) - length rest) others
+  pub begun : IsSince d capture others (stage_from d opening 0 units) t.line.begun_since
+  pub begins : BeginBefore (length (stream d capture)) mine
+  pub ends : EndBy (length (stream d capture)) mine
+  pub begin : t.side.begin ≡ begin_of d
+  pub heard : t.side.heard ≡ heard others
+  pub watches : Watches t.side (told d capture mine others)
+
+-- the TSDUs of both sides, and what is kept of them
+pub record Taps (j : Judged) (capture : Capture) : Type 0 where
+  pub left : List Sent
+  pub right : List Sent
+  pub of_left : Follows Left capture j.left left right
+  pub of_right : Follows Right capture j.right right left
+
+-- a side had broken the protocol behind some front part of the capture, and the other had not
+pub record BrokeFirst (d : Direction) (capture : Capture) : Type 0 where
+  pub by_then : Judged
+  pub front : Capture
+  pub back : Capture
+  pub parts : capture ≡ front ++ back
+  pub taps : Taps by_then front
+  pub broke : has_broken (half_of d by_then) ≡ true
+  pub kept : has_broken (half_of (other d) by_then) ≡ false
+
+-- what is known of the first break
+abbrev pub FirstIs : Option Direction → Judged → Capture → Type 0
+FirstIs None j capture = (has_broken j.left ≡ false) × (has_broken j.right ≡ false)
+FirstIs (Some d) j capture = BrokeFirst d capture

@@ -1,0 +1,27 @@
+-- Which findings and which stops are breaks of the protocol.
+use Rattle.std.specs.Prelude.{Bool, true, false, Option, Some, None}
+use Rattle.osi_judge.specs.declared.findings.Finding.{Finding}
+use Rattle.osi_judge.specs.declared.findings.Finding.TheVariants.{Broke}
+use Rattle.osi_judge.specs.declared.stops.Stop.{Stop}
+use Rattle.osi_judge.specs.declared.stops.Stop.TheVariants.{NoOpening, OtherClass, Refused, MoreConnections, BadPacket, BadUnit, UnexpectedUnit, WrongForm, TsduTooLong}
+use Rattle.osi_judge.specs.declared.stops.Stopped.{Stopped}
+
+-- else the connection is one that is not judged
+abbrev pub is_break : Stop → Bool
+is_break NoOpening = false
+is_break OtherClass = false
+is_break Refused = false
+is_break MoreConnections = false
+is_break (BadPacket fault) = true
+is_break (BadUnit fault) = true
+is_break UnexpectedUnit = true
+is_break WrongForm = true
+is_break TsduTooLong = true
+
+abbrev pub breaks : Option Stopped → Bool
+breaks None = false
+breaks (Some s) = is_break s.stop
+
+abbrev pub broke_session : Finding → Bool
+broke_session (Broke i) = true
+broke_session finding = false

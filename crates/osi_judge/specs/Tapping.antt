@@ -1,0 +1,88 @@
+-- What is judged of a capture: each side by its TSDUs, and by those of the other that had passed before them.
+use Rattle.std.specs.Prelude.{◌≡◌, ℕ, List, ◌++◌, length, map, filter, nat_le, Bool, true, false, ◌||◌, Option, Some, None}
+use Rattle.osi_session.specs.Standing.{Seen, seen_calling, seen_called}
+use Rattle.osi_judge.specs.declared.directions.Direction.{Direction}
+use Rattle.osi_judge.specs.declared.directions.Direction.TheVariants.{Left, Right}
+use Rattle.osi_judge.specs.declared.findings.Finding.{Finding}
+use Rattle.osi_tpkt.specs.Stream.{Cuts, Ending, offset_of}
+use Rattle.osi_tpkt.specs.Stream.Ending.{Faulty, Rest}
+use Rattle.osi_tpkt.specs.declared.faults.TpktFault.{TpktFault}
+use Rattle.osi_tpkt.specs.declared.faults.TpktFault.TheVariants.{BadVersion, BadLength, OutOfMemory}
+use Rattle.osi_judge.specs.declared.stops.Stop.TheVariants.{BadPacket}
+use Rattle.osi_judge.specs.declared.stops.Stopped.{Stopped as StoppedAt}
+use Rattle.osi_judge.specs.Stops.{breaks, broke_session}
+use Rattle.osi_judge.specs.Captures.{Capture, other, stream, passed_before}
+use Rattle.osi_judge.specs.Transport.{Stage, opening, stopped, Sent, stage_from, IsSent}
+use Rattle.osi_judge.specs.Explaining.{Told}
+use Rattle.osi_judge.specs.Judging.{IsFound}
+
+-- left calls
+abbrev pub begin_of : Direction → Seen
+begin_of Left = seen_calling
+begin_of Right = seen_called
+
+-- how many of the other side's TSDUs had passed whole before octet k of a side
+abbrev pub had_passed : Direction → Capture → ℕ → List Sent → ℕ
+had_passed d capture k others = length (filter (λ t. nat_le t.behind (passed_before d capture k)) others)
+
+-- a TSDU is told with how many of the other side's had passed before its first packet began
+abbrev pub tell : Direction → Capture → List Sent → Sent → Told
+tell d capture others t = record { octets = t.octets; before = had_passed d capture t.first others }
+
+abbrev pub told : Direction → Capture → List Sent → List Sent → List Told
+told d capture mine others = map (tell d capture others) mine
+
+abbrev pub octets_of : Sent → List ℕ
+octets_of t = t.octets
+
+abbrev pub heard : List Sent → List (List ℕ)
+heard others = map octets_of others
+
+-- what is found of a side of a capture
+pub record IsFoundIn (d : Direction) (capture : Capture) (finding : Finding) : Type 0 where
+  pub mine : List Sent
+  pub others : List Sent
+  pub is_mine : IsSent d capture mine
+  pub is_others : IsSent (other d) capture others
+  pub found : IsFound (begin_of d) (heard others) (told d capture mine others) finding
+
+-- Where the transport of a side of a capture is looked at no further: at a packet that has no place in class 0, or where no
+-- packet begins.
+abbrev pub fault_offset : TpktFault → ℕ
+fault_offset (BadVersion at) = at
+fault_offset (BadLength at) = at
+fault_offset OutOfMemory = 0
+
+abbrev pub stop_in : Stage → Ending → Option StoppedAt
+stop_in (stopped stop at) ending = Some (record { stop = stop; offset = offset_of at })
+stop_in stage (Faulty fault) = Some (record { stop = BadPacket fault; offset = fault_offset fault })
+stop_in stage (Rest n) = None
+
+pub record IsStoppedIn (d : Direction) (capture : Capture) (result : Option StoppedAt) : Type 0 where
+  pub units : List (List ℕ)
+  pub ending : Ending
+  pub cut : Cuts (stream d capture) units ending
+  pub stops : result ≡ stop_in (stage_from d opening 0 units) ending
+
+-- ---- the first break
+
+-- a side of a capture has broken the protocol by its session or by its transport, or by neither
+pub record StandsIn (d : Direction) (capture : Capture) (has_broken : Bool) : Type 0 where
+  pub finding : Finding
+  pub stop : Option StoppedAt
+  pub found : IsFoundIn d capture finding
+  pub is_stopped : IsStoppedIn d capture stop
+  pub broken : has_broken ≡ (broke_session finding || breaks stop)
+
+-- some front part of a capture has the break of this side, and none of the other
+pub record FirstBreak (d : Direction) (capture : Capture) : Type 0 where
+  pub front : Capture
+  pub back : Capture
+  pub parts : capture ≡ front ++ back
+  pub broke : StandsIn d front true
+  pub kept : StandsIn (other d) front false
+
+-- the side whose break passed first, or none broke the protocol
+abbrev pub IsFirstIn : Capture → Option Direction → Type 0
+IsFirstIn capture None = StandsIn Left capture false × StandsIn Right capture false
+IsFirstIn capture (Some d) = FirstBreak d capture

@@ -1,0 +1,420 @@
+//! What is read of one direction of a capture.
+
+ghost use Rattle.std.specs.Prelude.{◌≡◌, ◌≤◌, ◌<◌, ◌+◌, ◌++◌, ℕ, List, [], None, false, IfOk, OnOk, OnErr, length, take};
+ghost use Rattle.osi_tpkt.specs.Packet.{stated_length};
+ghost use Rattle.osi_tpkt.specs.Stream.{offset_of};
+ghost use Rattle.osi_judge.specs.Sides.{watched};
+ghost use Rattle.osi_judge.specs.Transport.{opening, between, stopped, is_open, begun, first_of, added, moved, adds, brought};
+ghost use Rattle.osi_judge.specs.Feeding.{stage_in, lined, tapped, since_at, since_in, Tells, hears, Passes, TakesUnit, Settles, Feeds, placed, stopped_packet, stopped_of, has_broken};
+
+use crate::directions::Direction;
+use crate::findings::Finding;
+use crate::sides::Side;
+use crate::steps::{Step, read_step};
+use crate::stops::{Stop, Stopped, breaks};
+use osi_class::LONGEST_TSDU;
+use osi_tpkt::{Packet, TpktFault, Unit};
+use std::alloc::{AllocError, Global};
+
+/// How a side's transport stands between two packets.
+#[derive(Clone, Copy)]
+pub(crate) enum Progress {
+    /// The CR or CC is awaited.
+    Opening,
+    /// Between two TSDUs.
+    Between,
+    /// Within a TSDU, whose first packet stands at this offset.
+    Within(u64),
+    /// Nothing behind the packet at this offset is looked at.
+    Stopped(Stop, u64),
+}
+
+/// A side's TSDUs, as far as they were read.
+#[derive(Drop)]
+pub(crate) struct Line {
+    /// How many packets were read.
+    pub(crate) packets: u64,
+    /// The offset of the packet under way.
+    pub(crate) at: u64,
+    /// How many of the other side's TSDUs had passed before its first octet.
+    pub(crate) since: usize,
+    pub(crate) progress: Progress,
+    /// The octets of the TSDU under way.
+    pub(crate) begun: Vec<u8>,
+    /// How many of the other side's TSDUs had passed before its first packet.
+    pub(crate) begun_since: usize,
+    /// The reference in the CR or CC.
+    pub(crate) reference: Option<u16>,
+    /// The offset of the last packet of the TSDU at which the side broke the protocol.
+    pub(crate) last: u64,
+}
+
+/// One side of a capture.
+#[derive(Drop)]
+pub(crate) struct Half {
+    /// The octets of the packet under way.
+    pub(crate) held: Vec<u8>,
+    /// How many octets passed.
+    pub(crate) octets: u64,
+    /// No packet begins with those that are held.
+    pub(crate) fault: Option<TpktFault>,
+    pub(crate) line: Line,
+    pub(crate) side: Side,
+}
+
+impl Progress {
+    fn is_open(self) -> bool
+        ensures { result ≡ is_open (stage_in self []) }
+    {
+        !matches!(self, Progress::Opening)
+    }
+
+    /// The first packet of the TSDU to which the packet at an offset adds.
+    fn first(self, at: u64) -> u64
+        ensures { result ≡ first_of (stage_in self []) at }
+    {
+        match self {
+            Progress::Within(first) => first,
+            _ => at,
+        }
+    }
+
+    /// How many TSDUs had passed before that packet.
+    fn since(self, begun_since: usize, since: usize) -> usize
+        ensures { result ≡ since_at (stage_in self []) begun_since since }
+    {
+        match self {
+            Progress::Within(_) => begun_since,
+            _ => since,
+        }
+    }
+}
+
+impl Line {
+    fn new(alloc: Global) -> Line
+        ensures { lined result ≡ record { at = 0; since = 0; stage = opening; begun_since = 0 } }
+    {
+        Line {
+            packets: 0,
+            at: 0,
+            since: 0,
+            progress: Progress::Opening,
+            begun: Vec::new(alloc),
+            begun_since: 0,
+            reference: None,
+            last: 0,
+        }
+    }
+
+    /// Between two TSDUs no octets are begun.
+    fn begin(&mut self)
+        ensures same { lined self.new ≡ lined self.old }
+        ensures begun { self.new.begun.items ≡ begun (lined self.old).stage }
+    {
+        if let Progress::Within(_) = self.progress {
+            return;
+        }
+        self.begun.clear();
+    }
+
+    /// Nothing behind the packet under way is looked at.
+    fn stop(&mut self, stop: Stop, since: usize)
+        ensures { lined self.new ≡ record (lined self.old) { stage = stopped stop (lined self.old).at; begun_since = since } }
+    {
+        self.begun.clear();
+        self.begun_since = since;
+        self.progress = Progress::Stopped(stop, self.at);
+    }
+}
+
+/// How many octets more belong to the packet of which these are the first: up to the end of its header, or
+/// of itself.
+fn wanted(held: &[u8]) -> usize
+    ensures some { 0 < result }
+    ensures header { length held.now < 4 → length held.now + result ≤ 4 }
+    ensures packet { 4 ≤ length held.now → length held.now < stated_length held.now → length held.now + result ≤ stated_length held.now }
+{
+    let whole = match held {
+        [_, _, high, low, ..] => usize::from(*high) * 256 + usize::from(*low),
+        _ => 4,
+    };
+    whole.saturating_sub(held.len()).max(1)
+}
+
+/// How many TSDUs of the other side had passed before the packet of which these octets are held.
+fn since_packet(held: &[u8], heard: usize, since: usize) -> usize
+    ensures { result ≡ since_in held.now heard since }
+{
+    if held.is_empty() { heard } else { since }
+}
+
+/// A fault of octets that stand at an offset.
+fn placed(fault: TpktFault, offset: u64) -> TpktFault
+    ensures { result ≡ placed offset fault }
+{
+    match fault {
+        TpktFault::BadVersion(_) => TpktFault::BadVersion(offset),
+        TpktFault::BadLength(_) => TpktFault::BadLength(offset),
+        TpktFault::OutOfMemory => TpktFault::OutOfMemory,
+    }
+}
+
+/// The stop where no packet begins at an offset.
+fn stopped_packet(fault: Option<TpktFault>, offset: u64) -> Option<Stopped>
+    ensures { result ≡ stopped_packet fault offset }
+{
+    match fault {
+        None => None,
+        Some(fault) => Some(Stopped {
+            stop: Stop::BadPacket(placed(fault, offset)),
+            offset,
+        }),
+    }
+}
+
+/// A TSDU of a side passes whole. `Err` changes nothing.
+fn pass(side: &mut Side, other: &mut Side, tsdu: &[u8], before: usize) -> Result<(), AllocError>
+    ensures tells { OnOk result (Tells tsdu.now before (watched side.old) (watched side.new)) }
+    ensures hears { OnOk result (watched other.new ≡ hears (watched other.old) tsdu.now) }
+    ensures err { OnErr result ((watched side.new ≡ watched side.old) × (watched other.new ≡ watched other.old)) }
+{
+    let heard = other.heard();
+    other.hear(tsdu)?;
+    match side.tell(tsdu, before) {
+        Ok(()) => Ok(()),
+        Err(_) => {
+            other.unhear(heard);
+            Err(AllocError)
+        }
+    }
+}
+
+/// A part of a TSDU passes, whose end has not come. `Err` changes nothing.
+fn add_part(line: &mut Line, octets: &[u8], since: usize) -> Result<(), AllocError>
+    requires { line.old.begun.items ≡ begun (lined line.old).stage }
+    ensures ok { OnOk result (lined line.new ≡ record (lined line.old) { stage = added (lined line.old).stage (lined line.old).at false octets.now; begun_since = since }) }
+    ensures err { OnErr result (lined line.new ≡ lined line.old) }
+{
+    line.begun.extend_from_slice(octets)?;
+    line.progress = Progress::Within(line.progress.first(line.at));
+    line.begun_since = since;
+    Ok(())
+}
+
+/// The packet that ended the TSDU at which a side broke the protocol, or the last while it keeps it.
+fn last_place(finding: Finding, at: u64, last: u64) -> u64 {
+    match finding {
+        Finding::Kept => at,
+        Finding::Broke(_) => last,
+        Finding::TooMany => last,
+    }
+}
+
+/// The last part of a TSDU passes. `Err` changes nothing.
+fn end_part(
+    line: &mut Line,
+    side: &mut Side,
+    other: &mut Side,
+    octets: &[u8],
+    since: usize,
+) -> Result<(), AllocError>
+    requires { line.old.begun.items ≡ begun (lined line.old).stage }
+    ensures line { OnOk result (lined line.new ≡ record (lined line.old) { stage = between; begun_since = since }) }
+    ensures tells { OnOk result (Tells (begun (lined line.old).stage ++ octets.now) since (watched side.old) (watched side.new)) }
+    ensures hears { OnOk result (watched other.new ≡ hears (watched other.old) (begun (lined line.old).stage ++ octets.now)) }
+    ensures err { OnErr result ((lined line.new ≡ lined line.old) × (watched side.new ≡ watched side.old) × (watched other.new ≡ watched other.old)) }
+{
+    let begun = line.begun.len();
+    let last = last_place(side.finding(), line.at, line.last);
+    line.begun.extend_from_slice(octets)?;
+    match pass(side, other, line.begun.as_slice(), since) {
+        Ok(()) => {
+            line.begun_since = since;
+            line.progress = Progress::Between;
+            line.last = last;
+            Ok(())
+        }
+        Err(refused) => {
+            line.begun.truncate(begun);
+            Err(refused)
+        }
+    }
+}
+
+/// A DT of a side passes. `Err` changes nothing.
+fn add(
+    line: &mut Line,
+    side: &mut Side,
+    other: &mut Side,
+    end: bool,
+    octets: &[u8],
+    since: usize,
+) -> Result<(), AllocError>
+    ensures line { OnOk result (lined line.new ≡ record (lined line.old) { stage = moved (lined line.old).stage (lined line.old).at (adds end octets.now); begun_since = since }) }
+    ensures passes { (unit : List ℕ) → OnOk result (Passes (brought (lined line.old).stage (lined line.old).at unit (adds end octets.now)) since (watched side.old) (watched side.new) (watched other.old) (watched other.new)) }
+    ensures err { OnErr result ((lined line.new ≡ lined line.old) × (watched side.new ≡ watched side.old) × (watched other.new ≡ watched other.old)) }
+{
+    line.begin();
+    if line.begun.len().saturating_add(octets.len()) > LONGEST_TSDU {
+        line.stop(Stop::TsduTooLong, since);
+        return Ok(());
+    }
+    if !end {
+        return add_part(line, octets, since);
+    }
+    end_part(line, side, other, octets, since)
+}
+
+/// A packet of a side passes whole, before which so many TSDUs of the other side had passed. `Err` changes
+/// nothing.
+fn take_unit(
+    direction: Direction,
+    line: &mut Line,
+    side: &mut Side,
+    other: &mut Side,
+    unit: &[u8],
+    since: usize,
+) -> Result<(), AllocError>
+    ensures ok { OnOk result (TakesUnit direction unit.now since (lined line.old) (lined line.new) (watched side.old) (watched side.new) (watched other.old) (watched other.new)) }
+    ensures err { OnErr result ((lined line.new ≡ lined line.old) × (watched side.new ≡ watched side.old) × (watched other.new ≡ watched other.old)) }
+{
+    let since = line.progress.since(line.begun_since, since);
+    if let Progress::Stopped(..) = line.progress {
+        line.begun_since = since;
+        return Ok(());
+    }
+    match read_step(direction, line.progress.is_open(), unit) {
+        Step::Opens(reference) => {
+            line.reference = Some(reference);
+            line.begun_since = since;
+            line.progress = Progress::Between;
+            Ok(())
+        }
+        Step::Stops(stop) => {
+            line.stop(stop, since);
+            Ok(())
+        }
+        Step::Adds(end, octets) => {
+            add(line, side, other, end, octets, since)?;
+            Ok(())
+        }
+    }
+}
+
+/// The octets that are held of a packet are looked at, before which so many TSDUs of the other side had
+/// passed. `Err` changes nothing.
+fn settle(
+    direction: Direction,
+    half: &mut Half,
+    other: &mut Side,
+    since: usize,
+) -> Result<(), AllocError>
+    ensures ok { OnOk result (Settles direction since (tapped half.old) (tapped half.new) (watched other.old) (watched other.new)) }
+    ensures err { OnErr result ((tapped half.new ≡ tapped half.old) × (watched other.new ≡ watched other.old)) }
+{
+    match Packet::read(half.held.as_slice()) {
+        Ok(None) => {
+            half.line.since = since;
+            Ok(())
+        }
+        Err(fault) => {
+            half.fault = Some(fault);
+            half.line.since = since;
+            Ok(())
+        }
+        Ok(Some(found)) => {
+            let unit = found.0.unit();
+            take_unit(
+                direction,
+                &mut half.line,
+                &mut half.side,
+                other,
+                unit,
+                since,
+            )?;
+            half.advance(since);
+            Ok(())
+        }
+    }
+}
+
+impl Half {
+    /// Nothing has passed.
+    pub(crate) fn new(alloc: Global, side: Side) -> Half
+        ensures { tapped result ≡ record { held = []; fault = None; line = record { at = 0; since = 0; stage = opening; begun_since = 0 }; side = watched side } }
+    {
+        Half {
+            held: Vec::new(alloc),
+            octets: 0,
+            fault: None,
+            line: Line::new(alloc),
+            side,
+        }
+    }
+
+    /// Why and where its transport is looked at no further.
+    pub(crate) fn stopped(&self) -> Option<Stopped>
+        ensures { result ≡ stopped_of (tapped self.now) }
+    {
+        match self.line.progress {
+            Progress::Stopped(stop, offset) => Some(Stopped { stop, offset }),
+            Progress::Opening => stopped_packet(self.fault, self.line.at),
+            Progress::Between => stopped_packet(self.fault, self.line.at),
+            Progress::Within(_) => stopped_packet(self.fault, self.line.at),
+        }
+    }
+
+    /// Whether it broke the protocol, by its session or its transport.
+    pub(crate) fn has_broken(&self) -> bool
+        ensures { result ≡ has_broken (tapped self.now) }
+    {
+        match self.side.finding() {
+            Finding::Broke(_) => true,
+            Finding::Kept => breaks(self.stopped()),
+            Finding::TooMany => breaks(self.stopped()),
+        }
+    }
+
+    /// The packet that was held is behind, before which so many TSDUs of the other side had passed.
+    fn advance(&mut self, since: usize)
+        ensures { tapped self.new ≡ record (tapped self.old) { held = []; line = record (tapped self.old).line { at = offset_of ((tapped self.old).line.at + length (tapped self.old).held); since = since } } }
+    {
+        self.line.packets = self.line.packets.saturating_add(1);
+        self.line.at = self.line.at.saturating_add(self.held.len() as u64);
+        self.line.since = since;
+        self.held.clear();
+    }
+}
+
+/// Octets of a piece pass, up to the end of the header or of the packet that they belong to. `Err` changes
+/// nothing.
+pub(crate) fn feed(
+    direction: Direction,
+    half: &mut Half,
+    other: &mut Side,
+    piece: &[u8],
+) -> Result<usize, AllocError>
+    ensures used { IfOk result (λ n. n ≤ length piece.now) }
+    ensures some { IfOk result (λ n. 0 < length piece.now → 0 < n) }
+    ensures feeds { IfOk result (λ n. Feeds direction (take n piece.now) (tapped half.old) (tapped half.new) (watched other.old) (watched other.new)) }
+    ensures err { OnErr result ((tapped half.new ≡ tapped half.old) × (watched other.new ≡ watched other.old)) }
+{
+    if let Some(_fault) = half.fault {
+        half.octets = half.octets.saturating_add(piece.len() as u64);
+        return Ok(piece.len());
+    }
+    let held = half.held.len();
+    let used = wanted(half.held.as_slice()).min(piece.len());
+    let since = since_packet(half.held.as_slice(), half.side.heard(), half.line.since);
+    half.held.extend_from_slice(&piece[..used])?;
+    match settle(direction, half, other, since) {
+        Ok(()) => {
+            half.octets = half.octets.saturating_add(used as u64);
+            Ok(used)
+        }
+        Err(refused) => {
+            half.held.truncate(held);
+            Err(refused)
+        }
+    }
+}

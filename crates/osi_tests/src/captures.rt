@@ -1,0 +1,251 @@
+//! Captures of one connection of class 0, whose outcome was worked out by hand. Each is fed in the pieces
+//! that stand here, and octet by octet.
+
+use osi_judge::{Direction, Finding, Judge, Stop};
+use std::test::Fail;
+
+/// A CR for class 0 with the reference 1.
+const CR: &[u8] = &[
+    0x03, 0x00, 0x00, 0x0E, 0x09, 0xE0, 0x00, 0x00, 0x00, 0x01, 0x00, 0xC0, 0x01, 0x0A,
+];
+/// The CC for it, with the reference 1.
+const CC: &[u8] = &[
+    0x03, 0x00, 0x00, 0x0E, 0x09, 0xD0, 0x00, 0x01, 0x00, 0x01, 0x00, 0xC0, 0x01, 0x0A,
+];
+/// A CN: units 00B9, serial 1, each token for the asker.
+const CN: &[u8] = &[
+    0x03, 0x00, 0x00, 0x1B, 0x02, 0xF0, 0x80, 0x0D, 0x12, 0x05, 0x0C, 0x13, 0x01, 0x01, 0x16, 0x01,
+    0x02, 0x17, 0x01, 0x31, 0x1A, 0x01, 0x00, 0x14, 0x02, 0x00, 0xB9,
+];
+/// The AC that accepts it whole.
+const AC: &[u8] = &[
+    0x03, 0x00, 0x00, 0x1B, 0x02, 0xF0, 0x80, 0x0E, 0x12, 0x05, 0x0C, 0x13, 0x01, 0x01, 0x16, 0x01,
+    0x02, 0x17, 0x01, 0x31, 0x1A, 0x01, 0x00, 0x14, 0x02, 0x00, 0xB9,
+];
+/// DT with four octets.
+const DT: &[u8] = &[
+    0x03, 0x00, 0x00, 0x0F, 0x02, 0xF0, 0x80, 0x01, 0x00, 0x01, 0x00, 0x64, 0x61, 0x74, 0x61,
+];
+/// Its first octet.
+const DT_FRONT: &[u8] = &[0x03];
+
+const DT_BEHIND: &[u8] = &[
+    0x00, 0x00, 0x0F, 0x02, 0xF0, 0x80, 0x01, 0x00, 0x01, 0x00, 0x64, 0x61, 0x74, 0x61,
+];
+/// GT with the data token.
+const GT: &[u8] = &[
+    0x03, 0x00, 0x00, 0x0C, 0x02, 0xF0, 0x80, 0x01, 0x03, 0x10, 0x01, 0x01,
+];
+/// GT but for its last octet.
+const GT_FRONT: &[u8] = &[
+    0x03, 0x00, 0x00, 0x0C, 0x02, 0xF0, 0x80, 0x01, 0x03, 0x10, 0x01,
+];
+
+const GT_LAST: &[u8] = &[0x01];
+
+const MIP: &[u8] = &[
+    0x03, 0x00, 0x00, 0x0E, 0x02, 0xF0, 0x80, 0x01, 0x00, 0x31, 0x03, 0x2A, 0x01, 0x31,
+];
+/// AB for a protocol error.
+const AB_5: &[u8] = &[
+    0x03, 0x00, 0x00, 0x0C, 0x02, 0xF0, 0x80, 0x19, 0x03, 0x11, 0x01, 0x05,
+];
+
+const AA: &[u8] = &[0x03, 0x00, 0x00, 0x09, 0x02, 0xF0, 0x80, 0x1A, 0x00];
+/// FN in two data units, of which the second has no user data and EOT.
+const FN_IN_PARTS: &[u8] = &[
+    0x03, 0x00, 0x00, 0x09, 0x02, 0xF0, 0x00, 0x09, 0x00, 0x03, 0x00, 0x00, 0x07, 0x02, 0xF0, 0x80,
+];
+
+const NO_PACKET: &[u8] = &[0x04, 0x00, 0x00, 0x07];
+/// CR, CC, CN and AC in one piece of each side.
+const CR_AND_CN: &[u8] = &[
+    0x03, 0x00, 0x00, 0x0E, 0x09, 0xE0, 0x00, 0x00, 0x00, 0x01, 0x00, 0xC0, 0x01, 0x0A, 0x03, 0x00,
+    0x00, 0x1B, 0x02, 0xF0, 0x80, 0x0D, 0x12, 0x05, 0x0C, 0x13, 0x01, 0x01, 0x16, 0x01, 0x02, 0x17,
+    0x01, 0x31, 0x1A, 0x01, 0x00, 0x14, 0x02, 0x00, 0xB9,
+];
+
+const CC_AND_AC: &[u8] = &[
+    0x03, 0x00, 0x00, 0x0E, 0x09, 0xD0, 0x00, 0x01, 0x00, 0x01, 0x00, 0xC0, 0x01, 0x0A, 0x03, 0x00,
+    0x00, 0x1B, 0x02, 0xF0, 0x80, 0x0E, 0x12, 0x05, 0x0C, 0x13, 0x01, 0x01, 0x16, 0x01, 0x02, 0x17,
+    0x01, 0x31, 0x1A, 0x01, 0x00, 0x14, 0x02, 0x00, 0xB9,
+];
+
+use Direction::{Left, Right};
+
+/// What passes, what is found of both sides, whose break passed first, and why left's transport is read no
+/// further.
+struct Capture {
+    pieces: &'static [(Direction, &'static [u8])],
+    left: Finding,
+    right: Finding,
+    first: Option<Direction>,
+    stopped: Option<Stop>,
+}
+
+const KEPT: Finding = Finding::Kept;
+
+const CAPTURES: &[Capture] = &[
+    // a token that was given
+    Capture {
+        pieces: &[
+            (Left, CR),
+            (Right, CC),
+            (Left, CN),
+            (Right, AC),
+            (Left, GT),
+            (Right, DT),
+        ],
+        left: KEPT,
+        right: KEPT,
+        first: None,
+        stopped: None,
+    },
+    // and that was still under way as the data began
+    Capture {
+        pieces: &[
+            (Left, CR_AND_CN),
+            (Right, CC_AND_AC),
+            (Left, GT_FRONT),
+            (Right, DT_FRONT),
+            (Left, GT_LAST),
+            (Right, DT_BEHIND),
+        ],
+        left: KEPT,
+        right: Finding::Broke(1),
+        first: Some(Right),
+        stopped: None,
+    },
+    // a point without the token, and the abort for it
+    Capture {
+        pieces: &[
+            (Left, CR),
+            (Right, CC),
+            (Left, CN),
+            (Right, AC),
+            (Right, MIP),
+            (Left, AB_5),
+            (Right, AA),
+        ],
+        left: KEPT,
+        right: Finding::Broke(1),
+        first: Some(Right),
+        stopped: None,
+    },
+    // both sides break it, right first
+    Capture {
+        pieces: &[
+            (Left, CR),
+            (Right, CC),
+            (Left, CN),
+            (Right, AC),
+            (Right, MIP),
+            (Left, DT),
+            (Left, AB_5),
+            (Left, DT),
+        ],
+        left: Finding::Broke(3),
+        right: Finding::Broke(1),
+        first: Some(Right),
+        stopped: None,
+    },
+    // no packet
+    Capture {
+        pieces: &[
+            (Left, CR),
+            (Right, CC),
+            (Left, CN),
+            (Right, AC),
+            (Left, NO_PACKET),
+        ],
+        left: KEPT,
+        right: KEPT,
+        first: Some(Left),
+        stopped: Some(Stop::BadPacket(osi_tpkt::TpktFault::BadVersion(41))),
+    },
+    // a TSDU in two data units
+    Capture {
+        pieces: &[
+            (Left, CR),
+            (Right, CC),
+            (Left, CN),
+            (Right, AC),
+            (Left, FN_IN_PARTS),
+        ],
+        left: KEPT,
+        right: KEPT,
+        first: None,
+        stopped: None,
+    },
+    // the middle of a connection
+    Capture {
+        pieces: &[(Left, GT), (Right, DT)],
+        left: KEPT,
+        right: KEPT,
+        first: None,
+        stopped: Some(Stop::NoOpening),
+    },
+];
+
+fn feed(judge: &mut Judge, direction: Direction, octets: &[u8]) -> Result<(), Fail> {
+    let mut rest = octets;
+    'octets: for _octet in octets {
+        if rest.is_empty() {
+            return Ok(());
+        }
+        let used = judge.feed(direction, rest)?;
+        let (_, behind) = rest.split_at(used);
+        rest = behind;
+    }
+    Ok(())
+}
+
+fn feed_each(judge: &mut Judge, direction: Direction, octets: &[u8]) -> Result<(), Fail> {
+    for octet in octets {
+        feed(judge, direction, &[*octet])?;
+    }
+    Ok(())
+}
+
+fn stop_of(judge: &Judge) -> Option<Stop> {
+    match judge.stopped(Left) {
+        Some(stopped) => Some(stopped.stop),
+        None => None,
+    }
+}
+
+fn is_found(judge: &Judge, capture: &Capture) -> Result<(), Fail> {
+    if judge.finding(Left) != capture.left || judge.finding(Right) != capture.right {
+        return Err(Fail::from("something else is found"));
+    }
+    if judge.first() != capture.first {
+        return Err(Fail::from("another break is the first"));
+    }
+    if stop_of(judge) != capture.stopped {
+        return Err(Fail::from("left's transport stands otherwise"));
+    }
+    Ok(())
+}
+
+fn judge(rt: &HostRuntime) -> Result<Judge, Fail> {
+    Ok(Judge::new(rt.alloc())?)
+}
+
+fn judged(rt: &HostRuntime, capture: &Capture) -> Result<(), Fail> {
+    let mut whole = judge(rt)?;
+    let mut each = judge(rt)?;
+    for (direction, octets) in capture.pieces {
+        feed(&mut whole, *direction, *octets)?;
+        feed_each(&mut each, *direction, *octets)?;
+    }
+    is_found(&whole, capture)?;
+    is_found(&each, capture)
+}
+
+#[test]
+fn a_capture_is_judged_in_any_pieces(rt: HostRuntime) -> Result<(), Fail> {
+    for capture in CAPTURES {
+        judged(&rt, capture)?;
+    }
+    Ok(())
+}
