@@ -7,12 +7,12 @@ use Rattle.osi_judge.specs.declared.members.Member.{Member}
 use Rattle.osi_judge.specs.declared.standings.Stands.{Stands}
 use Rattle.osi_judge.specs.declared.standings.Turn.{Turn}
 use Rattle.osi_judge.specs.declared.standings.Turn.TheVariants.{Goes, Stops}
-use Rattle.osi_judge.specs.Walking.{Follows}
+use Rattle.osi_session.specs.Steady.{Hears}
 
 -- it takes the next TSDU, and sends nothing
 pub record Quietly (us : List (List ℕ)) (m t : Member) : Type 0 where
   pub taken : t.taken ≡ m.taken + 1
-  pub follows : Follows m.standing (get_or us m.taken []) t.standing
+  pub follows : Hears m.standing (get_or us m.taken []) t.standing
 
 -- it takes the next TSDU, and sends this at once
 pub record OwesTo (s : Seen) (tsdu : List ℕ) (reply : Reply) : Type 0 where

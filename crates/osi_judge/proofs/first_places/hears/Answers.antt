@@ -1,11 +1,16 @@
-use Rattle.std.proofs.Common.{◌≡◌, true, ap, option_map}
+use Rattle.std.proofs.Common.{◌≡◌, true, false, ap, option_map}
 use Rattle.osi_session.specs.declared.standing.Taking.{Taking}
 use Rattle.osi_session.specs.Standing.{listens, Takes, after_count}
 use Rattle.osi_session.specs.Steps.{reply_of}
 use Rattle.osi_session.specs.Taking.{count_taken}
-use Rattle.osi_judge.proofs.WalkLaws.{at_some}
-use Rattle.osi_judge.proofs.FirstPlaceLaws.{heard_one, answers_it}
+use Rattle.osi_judge.proofs.WalkLaws.{at_some, at_none}
+use Rattle.osi_judge.proofs.FirstPlaceLaws.{heard_one, not_heard, answers_it}
 use Rattle.osi_judge.proofs.first_places.hears.Goals as goal
+
+pub returns-in_default : goal.returns-in_default
+returns-in_default c =
+    not_heard c.args.standing c.args.tsdu.now
+    (at_none (listens c.args.standing ≡ false) c.in_ok-taking.field-0 c.in_default.not-Some c.in_ok-taking.ensures.deaf)
 
 pub returns-in-None : goal.returns-in-None
 returns-in-None c =
@@ -21,9 +26,7 @@ returns-in-None c =
 pub returns-in-Some-reply : goal.returns-in-Some-reply
 returns-in-Some-reply c =
     let s = c.args.standing in
-    let o = c.in_ok-taking.field-0 in
-    let k = c.in_ok-taking.ensures in
     let t = c.in-Some.taking in
-    let e = c.in-Some.is in
-    answers_it s c.args.tsdu.now (count_taken t) (reply_of c.in-Some-reply.field-0) (at_some (λ (x : Taking). Takes s c.args.tsdu.now (count_taken x)) o t e k.counted)
+    answers_it s c.args.tsdu.now (count_taken t) (reply_of c.in-Some-reply.field-0)
+    (at_some (λ (x : Taking). Takes s c.args.tsdu.now (count_taken x)) c.in_ok-taking.field-0 t c.in-Some.is c.in_ok-taking.ensures.counted)
     (ap (option_map reply_of) c.in-Some-reply.is)
