@@ -1,30 +1,30 @@
 /*
  * osi.hpp: one end of an OSI session (ITU-T X.225 version 2) over the transport classes 0 and 2 of
  * X.224 in TPKT packets (RFC 1006), for C++17 and later. It is osi.h with types of C++: an end that
- * frees itself and can be moved, views of octets, and enumerations in the place of numbers.
+ * frees itself and can be moved, views of octets, and enumerations instead of numbers.
  *
- *     osi::end end = *osi::end::caller();              // empty where there was no memory
+ *     osi::end end = *osi::end::caller();              // empty if memory ran out
  *     osi::opening asked;
  *     asked.user_data = "gateway";
  *     const auto connection = end.connect(asked);      // its reference, or connection.code says why not
  *     for (;;) {
- *         const osi::octets waiting = end.outgoing();  // to the socket ..
- *         (void)end.taken(written);                    // .. as many as it took
+ *         const osi::octets waiting = end.outgoing();  // write these to the socket
+ *         (void)end.taken(written);                    // how many octets the socket took
  *         (void)end.feed_all(piece, [&](const osi::indication &shown) {
  *             if (shown.tag == osi::tag::connected)
  *                 (void)end.data(shown.reference, "hello");
  *         });
  *     }                                                // until end.ended()
  *
- * Nothing here throws, and it compiles with -fno-exceptions and -fno-rtti. What a call answers is an
- * osi::code, or an osi::result that has one; the compiler warns where it is not looked at. Which codes
- * a call answers, and what each number means, stands at its function in osi.h.
+ * Nothing here throws, and it compiles with -fno-exceptions and -fno-rtti. A call answers an osi::code,
+ * or an osi::result that has one; the compiler warns if you ignore it. osi.h says at each function which
+ * codes it answers and what each number means.
  *
  * What the caller owes, and nothing checks:
  *   - An end is used by one thread at a time. Different ends share nothing.
- *   - Octets that an end has lent (end::outgoing, and user_data of an indication) are there until the
- *     next call with this end, whichever it is, and until the end is moved onto or goes.
- *   - An osi::octets does not own what it views.
+ *   - Octets that an end has lent (end::outgoing, and user_data of an indication) are valid until the
+ *     next call with this end, whichever it is, and until the end is assigned to or destroyed.
+ *   - An osi::octets does not own what it views. Keep the viewed octets alive while you use it.
  */
 #ifndef OSI_HPP
 #define OSI_HPP
@@ -114,7 +114,7 @@ public:
     /* The octet at a place below size(). */
     constexpr std::uint8_t operator[](std::size_t place) const noexcept { return at_[place]; }
 
-    /* The first octets, and those behind them: as many as there are. */
+    /* The first count octets, and the octets after them; fewer if there are fewer. */
     constexpr octets first(std::size_t count) const noexcept { return {at_, count < length_ ? count : length_}; }
     constexpr octets from(std::size_t count) const noexcept
     {
@@ -163,9 +163,9 @@ enum class [[nodiscard]] code : std::uint32_t {
     ok = OSI_OK,                                       /* done */
     slot_empty = OSI_SLOT_EMPTY,                       /* the osi::end holds no end */
     bad_argument = OSI_BAD_ARGUMENT,                   /* a number or a length is outside its range */
-    no_memory = OSI_NO_MEMORY,                         /* there is none; call again when there is some */
+    no_memory = OSI_NO_MEMORY,                         /* memory ran out; call again when there is some */
     in_use = OSI_IN_USE,                               /* a slot of osi.h holds an end already */
-    nothing = OSI_NOTHING,                             /* no indication waits */
+    nothing = OSI_NOTHING,                             /* no indication is pending */
     no_such_connection = OSI_NO_SUCH_CONNECTION,       /* this end never gave the reference */
     ended = OSI_ENDED,                                 /* the connection, or the end, is over */
     bad_state = OSI_BAD_STATE,                         /* not allowed in this phase (X.225 annex A) */
@@ -212,7 +212,7 @@ constexpr std::string_view text(code answer) noexcept
     return "a code without a name";
 }
 
-/* A code, and a value, which is that of T{} where the code is not ok. */
+/* A code and a value. If the code is not ok, the value is T{}. */
 template <class T>
 struct [[nodiscard]] result {
     osi::code code = osi::code::ok;
@@ -251,7 +251,7 @@ enum class units : std::uint16_t {
     negotiated_release = OSI_NEGOTIATED_RELEASE,
 };
 
-/* Tokens (X.215 section 7). Each is there where its unit is selected. */
+/* Tokens (X.215 section 7). Each is available if its functional unit is selected. */
 enum class tokens : std::uint8_t {
     none = 0,
     data = OSI_TOKEN_DATA,
@@ -295,30 +295,30 @@ constexpr bool has(T set, detail::if_set<T> part) noexcept
     return (set & part) == part;
 }
 
-/* The transport protocol of an end (X.224 section 6.5). A caller offers both classes where its peer is
- * known to have class 2: one that knows class 0 alone may leave a request that prefers class 2 without an
- * answer. A called end with both takes what the caller prefers. */
+/* The transport protocol of an end (X.224 section 6.5). A caller should offer both classes only to a peer
+ * that is known to have class 2: one that has only class 0 may leave a request that prefers class 2
+ * unanswered. A called end with both takes the class that the caller prefers. */
 struct terms {
     osi::classes classes = osi::classes::class_0; /* a caller with none takes class 0 */
     std::uint8_t size = 13;                       /* the exponent of the largest TPDU: 7 (128 octets) to 13 (8,192) */
-    std::uint8_t window = 15;                     /* units of class 2 that the peer may send ahead: 1 to 15 */
+    std::uint8_t window = 15;                     /* class 2: units that the peer may send unacknowledged, 1 to 15 */
 };
 
 /* A side of a connection or a restart. */
 enum class side : std::uint8_t {
     asker = OSI_ASKER,       /* the side that asks */
     answerer = OSI_ANSWERER, /* the side that answers */
-    choice = OSI_CHOICE,     /* in a wish alone: whom the answer names */
+    choice = OSI_CHOICE,     /* only in a wish: the answering side chooses */
 };
 
 /* Why a user refuses a connection (X.225 section 8.3.5). */
 enum class refusal : std::uint8_t {
     unspecified = OSI_REFUSAL_UNSPECIFIED, /* no reason is given */
-    congestion = OSI_REFUSAL_CONGESTION,   /* congestion that passes: the caller may ask again later */
+    congestion = OSI_REFUSAL_CONGESTION,   /* temporary congestion: the caller may ask again later */
     with_data = OSI_REFUSAL_WITH_DATA,     /* user data says why */
 };
 
-/* Who holds, or is to hold, each token at first. */
+/* Which side holds, or is to hold, each token at first. */
 struct sides {
     side data = side::asker;
     side minor = side::asker;
@@ -331,36 +331,35 @@ struct sides {
     }
 };
 
-/* How many octets a TSDU may have, of those that each side sends: 64 to 65,535, or 0 for no limit (X.225
- * section 8). */
+/* The most octets of a TSDU in each direction: 64 to 65,535, or 0 for no limit (X.225 section 8). */
 struct tsdu_sizes {
     std::uint16_t from_asker = 0;
     std::uint16_t from_answerer = 0;
 };
 
-/* A connection that is asked for. It views its octets: they are to be there until end::connect was called. */
+/* The parameters of a connection that you ask for. Its octets are views: keep them alive until end::connect returns. */
 struct opening {
     units requirements = units::half_duplex;
     std::uint32_t serial = 0;        /* the number of the first point, 0 to 999,999 */
-    sides wishes;                    /* who is to hold each token */
-    lasting_octets calling_tsap;     /* the transport address of this end, 1 to 32 octets; none: no address */
+    sides wishes;                    /* which side is to hold each token */
+    lasting_octets calling_tsap;     /* the transport address of this end, 1 to 32 octets; empty: no address */
     lasting_octets called_tsap;      /* that of the other end */
-    lasting_octets calling_selector; /* the session address of this user, 1 to 16 octets; none: no address */
+    lasting_octets calling_selector; /* the session address of this user, 1 to 16 octets; empty: no address */
     lasting_octets called_selector;  /* that of the other user */
     lasting_octets user_data;        /* at most 10,240 octets */
-    tsdu_sizes sizes;                /* the sizes that are asked for */
+    tsdu_sizes sizes;                /* the sizes that you ask for */
 };
 
 /* ---- what is shown ----------------------------------------------------------------------------------- */
 
-/* Which indication it is (X.215 section 10), and which fields it has beside its reference. */
+/* Which indication it is (X.215 section 10), and which fields it has in addition to its reference. */
 enum class tag : std::uint32_t {
     none = OSI_NONE,
     connect = OSI_CONNECT,                           /* requirements, perhaps number, sides as wishes, user_data, sizes */
     connected = OSI_CONNECTED,                       /* requirements, perhaps number, sides, user_data, sizes */
     refused_by_transport = OSI_REFUSED_BY_TRANSPORT, /* reason (X.224 section 13.5.3) */
-    refused_by_session = OSI_REFUSED_BY_SESSION,     /* reason (0, 1 and 2 are of the called user), user_data */
-    data = OSI_DATA,                                 /* user_data, an octet at least */
+    refused_by_session = OSI_REFUSED_BY_SESSION,     /* reason (0, 1 and 2 come from the called user), user_data */
+    data = OSI_DATA,                                 /* user_data, at least one octet */
     given = OSI_GIVEN,                               /* tokens */
     asked = OSI_ASKED,                               /* tokens, user_data */
     minor = OSI_MINOR,                               /* number, confirm, user_data */
@@ -373,9 +372,9 @@ enum class tag : std::uint32_t {
     released = OSI_RELEASED,                         /* user_data */
     release_refused = OSI_RELEASE_REFUSED,           /* user_data */
     aborted = OSI_ABORTED,                           /* by the peer's user: user_data */
-    lost = OSI_LOST,                                 /* the transport connection is gone, or had a fault */
+    lost = OSI_LOST,                                 /* the transport connection was closed, broke, or had a fault */
     peer_abort = OSI_PEER_ABORT,                     /* by the peer's provider: reason, its parameter 17 */
-    bad_unit = OSI_BAD_UNIT,                         /* by this end, since a unit that came is bad: fault */
+    bad_unit = OSI_BAD_UNIT,                         /* by this end, because it received a bad unit: fault */
 };
 
 /* What an indication is called, in a few words. */
@@ -407,7 +406,7 @@ constexpr std::string_view text(tag shown) noexcept
     return "an indication without a name";
 }
 
-/* Whether the connection is over with this indication. */
+/* Whether the connection is over after this indication. */
 constexpr bool is_over(tag shown) noexcept
 {
     switch (shown) {
@@ -422,16 +421,16 @@ constexpr bool is_over(tag shown) noexcept
     }
 }
 
-/* Why a unit that came is bad. */
+/* Why a received unit is bad. */
 enum class fault_kind : std::uint8_t {
     none = 0,
-    spelling = 1,       /* its octets are no unit: fault::spelling, and fault::offset */
-    unexpected = 2,     /* not in this phase */
+    spelling = 1,       /* its octets are no unit: see fault::spelling and fault::offset */
+    unexpected = 2,     /* it is not allowed in this phase */
     not_selected = 3,   /* its functional unit is not selected */
     token_not_held = 4, /* the peer does not hold a token that the unit needs */
-    bad_number = 5,     /* the number is of no point that the unit may name */
-    bad_tokens = 6,     /* its tokens or sides are not as they may be */
-    bad_enclosure = 7,  /* it does not come where it stands among the parts of one data */
+    bad_number = 5,     /* the unit may not name a point of this number */
+    bad_tokens = 6,     /* it names tokens or sides that it may not name */
+    bad_enclosure = 7,  /* it is a part of data that is out of its place */
     data_too_long = 8,  /* with it the parts of one data have more than 1,048,572 octets */
 };
 
@@ -449,25 +448,25 @@ enum class spelling : std::uint8_t {
 
 struct fault {
     fault_kind kind = fault_kind::none;
-    std::uint8_t si = 0; /* of all but spelling: the SI of the unit (X.225 section 8) */
+    std::uint8_t si = 0; /* of all kinds but spelling: the SI of the unit (X.225 section 8) */
     osi::spelling spelling = osi::spelling::none;
-    std::uint8_t parameter = 0; /* of the third to fifth spelling: the code of the parameter */
-    std::uint64_t offset = 0;   /* of a spelling: the place of the octet in the TSDU, from 0 */
+    std::uint8_t parameter = 0; /* of spellings 3 to 5: the code of the parameter */
+    std::uint64_t offset = 0;   /* of a spelling: the offset of the octet in the TSDU, from 0 */
 };
 
-/* What the user of a connection is shown. Fields that the tag does not have are as here. */
+/* An indication for the user of a connection. Fields that don't belong to the tag have the values given here. */
 struct indication {
     osi::tag tag = osi::tag::none;
     osi::reference reference = 0;
     units requirements = units::none;
     std::optional<std::uint32_t> number; /* of a point, 0 to 999,999 */
-    bool confirm = false;                /* the confirmation of the minor point is asked for */
+    bool confirm = false;                /* the peer asks for the confirmation of the minor point */
     osi::tokens tokens = osi::tokens::none;
     std::uint8_t reason = 0;
     osi::sides sides;
     osi::fault fault;
-    octets user_data; /* lent until the next call with the end: copy what is to be kept */
-    tsdu_sizes sizes; /* as the CN or AC names them */
+    octets user_data; /* lent until the next call with the end: copy it if you want to keep it */
+    tsdu_sizes sizes; /* those that the CN or AC names */
 };
 
 /* Why an end has ended. */
@@ -475,14 +474,14 @@ enum class ending : std::uint32_t {
     broken = OSI_END_BROKEN,           /* end::broken was called */
     closed = OSI_END_CLOSED,           /* its connection of class 0 was closed here */
     peer_closed = OSI_END_PEER_CLOSED, /* the peer closed it by a DR: detail is the reason */
-    no_memory = OSI_END_NO_MEMORY,     /* end::feed found no memory */
-    unknown_reference = OSI_END_UNKNOWN_REFERENCE, /* from here on: the peer broke a rule of X.224 or RFC 1006 */
+    no_memory = OSI_END_NO_MEMORY,     /* memory ran out in end::feed */
+    unknown_reference = OSI_END_UNKNOWN_REFERENCE, /* this and those below: the peer broke a rule of X.224 or RFC 1006 */
     bad_answer = OSI_END_BAD_ANSWER,
     unexpected_unit = OSI_END_UNEXPECTED_UNIT,
-    bad_version = OSI_END_BAD_VERSION, /* detail: the place in the stream of the packet's first octet */
+    bad_version = OSI_END_BAD_VERSION, /* detail: the offset of the packet's first octet in the stream */
     bad_length = OSI_END_BAD_LENGTH,   /* the same */
     no_memory_for_packet = OSI_END_NO_MEMORY_FOR_PACKET,
-    bad_li = OSI_END_BAD_LI, /* this one and the next four: detail is the place of the octet in the packet's units */
+    bad_li = OSI_END_BAD_LI, /* this one and the next four: detail is the offset of the octet in the packet's units */
     unknown_code = OSI_END_UNKNOWN_CODE,
     bad_parameter_length = OSI_END_BAD_PARAMETER_LENGTH,
     bad_parameter_value = OSI_END_BAD_PARAMETER_VALUE,
@@ -523,7 +522,7 @@ constexpr std::string_view text(ending why) noexcept
 }
 
 /* The addresses of a connection: the transport addresses of its CR (X.224 section 13.3.4) and the session
- * addresses of its CN (X.225 section 8). One of no octets is none. Its views are there as long as it is. */
+ * addresses of its CN (X.225 section 8). An empty one means that there is no address. Its views are valid while it lives. */
 class addresses {
 public:
     addresses() noexcept : held_() {}
@@ -544,13 +543,13 @@ private:
     osi_addressing held_;
 };
 
-/* That an end has ended. */
+/* Why an end has ended, with the detail. */
 struct ended {
     ending why = ending::broken;
-    std::uint64_t detail = 0; /* 0 where osi::ending says nothing of it */
+    std::uint64_t detail = 0; /* 0, unless osi::ending says what it is */
 };
 
-/* Where a connection stands (X.225 annex A, states). */
+/* The state of a connection (X.225 annex A). */
 enum class phase : std::uint32_t {
     none = OSI_PHASE_NONE,                     /* the reference was never given, or there is no end */
     wait_transport = OSI_PHASE_WAIT_TRANSPORT, /* the transport connection is awaited */
@@ -590,7 +589,7 @@ constexpr std::string_view text(phase stands) noexcept
     return "a phase without a name";
 }
 
-/* The name of a number in osi.h, as "OSI_BAD_STATE", and the version of the library. */
+/* The name of a number in osi.h, such as "OSI_BAD_STATE", and the version of the library. */
 inline std::string_view name(code answer) noexcept { return osi_code_name(detail::bits(answer)); }
 inline std::string_view name(tag shown) noexcept { return osi_indication_name(detail::bits(shown)); }
 inline std::string_view name(phase stands) noexcept { return osi_phase_name(detail::bits(stands)); }
@@ -599,8 +598,8 @@ inline std::string_view version() noexcept { return osi_version(); }
 
 /* What end::feed did. */
 struct fed {
-    std::size_t used = 0; /* so many octets of the piece were used, at most all */
-    bool waits = false;   /* an indication waits */
+    std::size_t used = 0; /* how many octets of the piece were used, from the first */
+    bool waits = false;   /* an indication is pending */
 };
 
 namespace detail {
@@ -651,12 +650,12 @@ inline indication indication_of(const osi_indication &said) noexcept
 
 /* ---- an end ----------------------------------------------------------------------------------------- */
 
-/* One end of a byte connection, or none. It frees what it holds, can be moved, and is not copied. One
- * that was moved from, or never made, holds none: its calls answer code::slot_empty, and it has nothing to
- * send and nothing to show.
+/* One end of a byte connection, or none. It frees the end that it holds; you can move it, but not copy it.
+ * An object that was moved from, or default-made, holds no end: its calls answer code::slot_empty, and it
+ * has nothing to send and no indications.
  *
- * No function of it is const, also where it only looks: each is a call with the end, and ends what the
- * end has lent. */
+ * No member function is const, not even one that only reads: after each of them the octets that the end
+ * had lent are no longer valid. */
 class end {
 public:
     /* Holds no end. */
@@ -669,15 +668,15 @@ public:
     /* Whether it holds an end. */
     explicit operator bool() const noexcept { return slot_ != nullptr; }
 
-    /* Frees the end that it holds, with all that was lent. */
+    /* Frees the end that it holds, with all octets that it has lent. */
     void reset() noexcept { slot_.reset(); }
 
-    /* The slot, for a function of osi.h; null where it holds no end. It is not to be freed. */
+    /* The slot, for a function of osi.h; null if it holds no end. Don't free it. */
     osi_end *get() noexcept { return slot_.get(); }
 
-    /* ---- connections and calls of their users, as osi.h has them (X.215 section 10) */
+    /* ---- connections and calls of their users, as in osi.h (X.215 section 10) */
 
-    /* Asks for a connection, and gives its reference. The answer comes as an indication. */
+    /* Asks for a connection, and answers its reference. The peer's answer comes as an indication. */
     result<osi::reference> connect(const opening &asked) noexcept
     {
         const osi_opening passed = {
@@ -690,8 +689,8 @@ public:
         return made;
     }
 
-    /* Answers tag::connect: with the units that are selected, the number of the first point, and the
-     * sides of the tokens that were this side's choice; or by a refusal. */
+    /* Answers tag::connect: accept names the selected units, the number of the first point, and who holds
+     * the tokens whose choice was left to this side; refuse refuses. */
     code accept(osi::reference of, units selected, std::uint32_t number = 0, sides holders = {},
                 octets data = {}) noexcept
     {
@@ -699,7 +698,7 @@ public:
         return call(osi_accept, of, detail::bits(selected), number, &passed, data.data(), data.size());
     }
 
-    /* The same with sizes of this side's own: where tag::connect names one, the smaller is agreed upon. */
+    /* accept with sizes of this side's own: if tag::connect names a size, the smaller one is agreed. */
     code accept_sized(osi::reference of, units selected, std::uint32_t number, sides holders, tsdu_sizes sizes,
                       octets data = {}) noexcept
     {
@@ -709,7 +708,7 @@ public:
     }
     code refuse(osi::reference of, octets data = {}) noexcept { return say(osi_refuse, of, data); }
 
-    /* The same for this reason: user data goes with refusal::with_data alone. */
+    /* refuse with a reason: only refusal::with_data may have user data. */
     code refuse_with(osi::reference of, refusal reason, octets data = {}) noexcept
     {
         return call(osi_refuse_with, of, static_cast<std::uint8_t>(reason), data.data(), data.size());
@@ -718,15 +717,15 @@ public:
     /* Sends data, 1 to 1,048,572 octets. */
     code data(osi::reference of, octets all) noexcept { return say(osi_data, of, all); }
 
-    /* Gives tokens that are held, or asks for tokens that are not. */
+    /* Gives tokens that this side holds, or asks for tokens that it doesn't hold. */
     code give(osi::reference of, osi::tokens given) noexcept { return call(osi_give, of, detail::bits(given)); }
     code please(osi::reference of, osi::tokens asked, octets data = {}) noexcept
     {
         return call(osi_please, of, detail::bits(asked), data.data(), data.size());
     }
 
-    /* Sets a minor point, whose number is next_serial before the call; confirms all up to a number.
-     * (Some systems have macros that are called minor and major.) */
+    /* minor_point sets a minor point, which has the number that next_serial answers before the call;
+     * minor_confirm confirms all minor points up to a number. (Some systems have macros called minor and major.) */
     code minor_point(osi::reference of, bool confirm = true, octets data = {}) noexcept
     {
         return call(osi_minor, of, static_cast<std::uint8_t>(confirm), data.data(), data.size());
@@ -736,11 +735,11 @@ public:
         return call(osi_minor_confirm, of, number, data.data(), data.size());
     }
 
-    /* Sets a major point; answers tag::major. */
+    /* major_point sets a major point; major_confirm answers tag::major. */
     code major_point(osi::reference of, octets data = {}) noexcept { return say(osi_major, of, data); }
     code major_confirm(osi::reference of, octets data = {}) noexcept { return say(osi_major_confirm, of, data); }
 
-    /* Restarts at a point, whose number the next one then has; answers tag::restart. */
+    /* restart restarts at this number, which the next point then has; restart_confirm answers tag::restart. */
     code restart(osi::reference of, std::uint32_t number, sides wishes = {}, octets data = {}) noexcept
     {
         const osi_sides passed = wishes;
@@ -752,7 +751,7 @@ public:
         return call(osi_restart_confirm, of, &passed, data.data(), data.size());
     }
 
-    /* Asks for the release; answers tag::release. */
+    /* release asks for the release; the other two answer tag::release. */
     code release(osi::reference of, octets data = {}) noexcept { return say(osi_release, of, data); }
     code release_accept(osi::reference of, octets data = {}) noexcept { return say(osi_release_accept, of, data); }
     code release_refuse(osi::reference of, octets data = {}) noexcept { return say(osi_release_refuse, of, data); }
@@ -760,14 +759,14 @@ public:
     /* Aborts the connection. */
     code abort(osi::reference of, octets data = {}) noexcept { return say(osi_abort, of, data); }
 
-    /* Gives up one connection at once, and shows nothing more of it: a DR in class 2, the end of the end in
-     * class 0. Other connections go on. */
+    /* Gives up one connection at once, and drops its indications. In class 2 it sends a DR; in class 0 the
+     * end ends. Other connections go on. */
     code disconnect(osi::reference of) noexcept { return call(osi_disconnect, of); }
 
     /* ---- octets */
 
-    /* Feeds octets that came from the peer, cut in any way. It stops behind a packet that gives an
-     * indication, and uses nothing while one waits. */
+    /* Feeds octets that you received from the peer, cut in any way. It stops after a packet that causes an
+     * indication, and uses nothing while one is pending. */
     result<fed> feed(octets piece) noexcept
     {
         osi_fed did = {0, false};
@@ -777,8 +776,8 @@ public:
         return answer;
     }
 
-    /* Feeds all of a piece, and hands each indication to a function, which may call this end: also those
-     * that waited before. It is ok, or slot_empty. */
+    /* Feeds all of a piece, and passes each indication to a function, which may call this end; indications
+     * that were pending before come first. Answers ok or slot_empty. */
     template <class Shown>
     code feed_all(octets piece, Shown &&shown) noexcept(noexcept(shown(std::declval<const indication &>())))
     {
@@ -794,7 +793,7 @@ public:
         }
     }
 
-    /* The octets that are to be carried to the peer, the first of them first. They are lent. */
+    /* Lends the octets to send to the peer, in their order. */
     octets outgoing() noexcept
     {
         osi_octets lent = OSI_NO_OCTETS;
@@ -803,17 +802,17 @@ public:
         return lent;
     }
 
-    /* Whether outgoing has an octet: wait until the socket can be written to. */
+    /* Whether outgoing lends an octet. If so, wait until you can write to the socket. */
     bool wants_write() noexcept { return slot_ && osi_wants_write(slot_.get()); }
 
-    /* So many of them, the first, have been carried: ok, slot_empty, bad_argument (more than there are). */
+    /* Says that you have sent this many of them, from the first: ok, slot_empty, bad_argument (it lends fewer). */
     code taken(std::size_t count) noexcept { return call(osi_taken, count); }
 
-    /* The byte connection broke, or the peer closed it: ok, slot_empty. Who has not been told the end of his
-     * connection is then shown tag::lost. */
+    /* Says that the byte connection broke, or that the peer closed it: ok, slot_empty. Each user who doesn't
+     * yet know that his connection is over then receives tag::lost. */
     code broken() noexcept { return call(osi_broken); }
 
-    /* Why it has ended; nothing while it goes on. Where it has, send what is outgoing, and close. */
+    /* Why the end has ended; std::nullopt if it has not. If it has, send what outgoing lends, and close. */
     std::optional<osi::ended> ended() noexcept
     {
         std::uint64_t more = 0;
@@ -823,25 +822,24 @@ public:
         return osi::ended{static_cast<ending>(why), more};
     }
 
-    /* Whether the byte connection may be closed now: nothing is outgoing, and the end has ended, or there were
-     * connections and none is live. */
+    /* Whether you may close the byte connection now: outgoing lends nothing, and either the end has ended, or
+     * there were connections and none is live. */
     bool is_over() noexcept { return slot_ && osi_is_over(slot_.get()); }
 
-    /* How many octets are kept of what is not whole yet: of a packet, of TSDUs, and of data that comes in
-     * parts. */
+    /* How many octets the end keeps of packets, of TSDUs and of data in parts that are not whole yet. */
     std::size_t kept() noexcept { return slot_ ? osi_kept(slot_.get()) : 0; }
 
-    /* How many octets of a connection were handed in and are not yet outgoing, since the peer gives no
-     * credit for them; and those of all connections together. */
+    /* How many octets of a connection's TSDUs the peer's credit holds back, so that outgoing doesn't lend
+     * them yet; and the sum over all connections. */
     std::size_t unsent(osi::reference of) noexcept { return look(osi_unsent, of); }
     std::size_t backlog() noexcept { return slot_ ? osi_backlog(slot_.get()) : 0; }
 
-    /* How many connections are live: those whose transport connection is asked for, open or closing. */
+    /* How many connections are live: those whose transport connection is being opened, open or closing. */
     std::size_t live() noexcept { return slot_ ? osi_live(slot_.get()) : 0; }
 
     /* ---- indications */
 
-    /* The oldest indication of the connection with the lowest reference that has one. */
+    /* Fetches the oldest indication of the connection with the lowest reference that has one. */
     std::optional<indication> next() noexcept
     {
         if (call(osi_fetch) != code::ok)
@@ -849,7 +847,7 @@ public:
         return last();
     }
 
-    /* The one that was fetched last; tag::none where there is none. */
+    /* The indication that was fetched last; tag::none if there is none. */
     indication last() noexcept
     {
         if (!slot_)
@@ -859,7 +857,7 @@ public:
         return detail::indication_of(said);
     }
 
-    /* ---- where a connection stands */
+    /* ---- the state of a connection */
 
     osi::phase phase(osi::reference of) noexcept { return static_cast<osi::phase>(look(osi_phase, of)); }
 
@@ -872,8 +870,8 @@ public:
     std::uint32_t confirmed_below(osi::reference of) noexcept { return look(osi_confirmed_below, of); }
     std::uint32_t lowest_restart(osi::reference of) noexcept { return look(osi_lowest_restart, of); }
 
-    /* The addresses of a connection: those that were asked for, or those that came, as soon as tag::connect waits;
-     * nothing for a connection that is gone or never was. */
+    /* The addresses of a connection: those that you asked for, or on the called side the peer's, from the moment
+     * tag::connect is pending; std::nullopt for a connection that is gone or never was. */
     std::optional<osi::addresses> addresses(osi::reference of) noexcept
     {
         osi_addressing shown;
