@@ -65,14 +65,14 @@ compare zero zero = inr (inr refl)
 compare zero (suc j) = inl (omega arith)
 compare (suc i) zero = inr (inl (omega arith))
 compare (suc i) (suc j) = elim (compare i j) [
-  inl l ↦ inl (omega (arith, l)) |
-  inr k ↦ elim k [ inl l ↦ inr (inl (omega (arith, l))) | inr e ↦ inr (inr (ap suc e)) ]
+  | inl l ↦ inl (omega (arith, l))
+  | inr k ↦ elim k [ inl l ↦ inr (inl (omega (arith, l))) | inr e ↦ inr (inr (ap suc e)) ]
 ]
 
 one_break : (begin : Seen) (us : List (List ℕ)) (said : List Told) (i j : ℕ) → IsBlamed begin us said i → IsBlamed begin us said j → i ≡ j
 one_break begin us said i j b c = elim (compare i j) [
-  inl l ↦ absurd (not_later begin us said i j b c l) |
-  inr k ↦ elim k [ inl l ↦ absurd (not_later begin us said j i c b l) | inr e ↦ e ]
+  | inl l ↦ absurd (not_later begin us said i j b c l)
+  | inr k ↦ elim k [ inl l ↦ absurd (not_later begin us said j i c b l) | inr e ↦ e ]
 ]
 
 one_found : (begin : Seen) (us : List (List ℕ)) (said : List Told) (f g : Finding) → IsDecided f → IsDecided g → IsFound begin us said f → IsFound begin us said g → f ≡ g
