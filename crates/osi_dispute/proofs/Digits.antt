@@ -3,7 +3,7 @@ use Rattle.std.proofs.Common.{◌≡◌, ◌∙◌, refl, sym, ap, ℕ, suc, tak
 use Rattle.std.specs.List.{before_first, prefix_len}
 use Rattle.std.proofs.lemmas.Bool.Decides.{eqb_tells}
 use Rattle.osi_listing.specs.Capture.{is_comment_sign, is_blank}
-use Rattle.osi_dispute.specs.Rows.{digits_on}
+use Rattle.osi_dispute.specs.Rows.{digits_on, digits_left}
 
 kept : (c : ℕ) (line : List ℕ) → is_comment_sign c ≡ false → before_first is_comment_sign (c ∷ line) ≡ c ∷ before_first is_comment_sign line
 kept c line h =
@@ -34,3 +34,21 @@ pub digits_more : (c : ℕ) (line : List ℕ) → (c ≡ 35 → ⊥) → is_blan
 digits_more c line e b =
     let one = by_blank c line e ∙ ap (λ (x : Bool). length (cond (not x) (c ∷ filter (λ c. not (is_blank c)) (before_first is_comment_sign line)) (filter (λ c. not (is_blank c)) (before_first is_comment_sign line)))) b in
     omega (arith, one)
+
+-- ---- by a counter
+
+pub in_comment : (b : Bool) (n c : ℕ) (rest : List ℕ) → b ≡ true → n + digits_left b rest ≡ n + digits_left b (c ∷ rest)
+in_comment true n c rest e = refl
+in_comment false n c rest e = absurd (cc)
+
+pub begins_comment : (b : Bool) (n c : ℕ) (rest : List ℕ) → b ≡ false → c ≡ 35 → n + 0 ≡ n + digits_left b (c ∷ rest)
+begins_comment true n c rest e s = absurd (cc)
+begins_comment false n c rest e s = ap (λ (x : ℕ). n + x) (sym (digits_end c rest s))
+
+pub at_blank : (b : Bool) (n c : ℕ) (rest : List ℕ) → b ≡ false → (c ≡ 35 → ⊥) → is_blank c ≡ true → n + digits_left b rest ≡ n + digits_left b (c ∷ rest)
+at_blank true n c rest e s k = absurd (cc)
+at_blank false n c rest e s k = ap (λ (x : ℕ). n + x) (sym (digits_blank c rest s k))
+
+pub at_digit : (b : Bool) (n c : ℕ) (rest : List ℕ) → b ≡ false → (c ≡ 35 → ⊥) → is_blank c ≡ false → (n + 1) + digits_on rest ≡ n + digits_left b (c ∷ rest)
+at_digit true n c rest e s k = absurd (cc)
+at_digit false n c rest e s k = let one = digits_more c rest s k in omega (arith, one)

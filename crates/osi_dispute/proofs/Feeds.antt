@@ -1,5 +1,5 @@
 -- What was fed to a judge, octet by octet and row by row: for `feed_all` and `feed_pieces`.
-use Rattle.std.proofs.Common.{◌≡◌, ◌∙◌, refl, sym, ap, subst, ℕ, Bool, List, [], ◌∷◌, ◌++◌, take, drop}
+use Rattle.std.proofs.Common.{◌≡◌, ◌∙◌, refl, sym, ap, subst, ℕ, ◌==◌, Bool, true, false, not, arith, length, List, [], ◌∷◌, ◌++◌, take, drop}
 use Rattle.std.specs.List.{flat_map}
 use Rattle.std.proofs.lemmas.List.{append-nil, append_assoc, map-append, take-append-drop}
 use Rattle.std.proofs.lemmas.Grind.{flat_map-append}
@@ -43,6 +43,14 @@ fed_more d old now new octets rest n (fed, e, p) q = (
 pub fed_all : (d : Direction) (old now : Judge) (octets rest : List ℕ) → rest ≡ [] → IsFed d old now octets rest → Passes old now (piece d octets)
 fed_all d old now octets rest n (fed, e, p) =
     subst (λ (z : List ℕ). Passes old now (piece d z)) (sym (e ∙ ap (λ (z : List ℕ). fed ++ z) n ∙ append-nil fed)) p
+
+pub empty_yes : (xs : List ℕ) (b : Bool) → b ≡ (length xs == 0) → b ≡ true → xs ≡ []
+empty_yes [] b e t = refl
+empty_yes (x ∷ xs) b e t = absurd (grind (arith, e, t))
+
+pub empty_not : (xs : List ℕ) (b : Bool) → b ≡ (length xs == 0) → not b ≡ false → xs ≡ []
+empty_not xs true e t = empty_yes xs true e refl
+empty_not xs false e t = absurd (cc)
 
 -- ---- rows
 

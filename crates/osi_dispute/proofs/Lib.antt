@@ -3,3 +3,4 @@ pub mod Digits
 pub mod OneFinding
 pub mod OneText
 pub mod RowLaws
+pub mod Appends

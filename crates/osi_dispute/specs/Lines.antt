@@ -68,16 +68,23 @@ fault_lines d reference (rule.Fault fault) =
     own_text d reference ++ number_field (codes " fault ") (session_fault_offset fault) ++ codes " " ++ session_fault_name fault
     ++ session_fault_code fault ++ codes "\n"
 
+-- a side, and at which packet it did something
+unfoldable pub place_text : Direction → (reference : ℕ) → (what : List ℕ) → (offset : ℕ) → List ℕ
+place_text d reference what offset = own_text d reference ++ number_field what offset ++ codes " "
+
 -- a side that broke the protocol, in the packet at this offset
+unfoldable pub broke_line : Direction → (reference offset : ℕ) → Break → List ℕ
+broke_line d reference offset by = place_text d reference (codes " broke packet ") offset ++ break_text by ++ codes "\n"
+
 unfoldable pub broke_lines : Direction → (reference offset : ℕ) → Break → List ℕ
-broke_lines d reference offset by =
-    own_text d reference ++ number_field (codes " broke packet ") offset ++ codes " " ++ break_text by ++ codes "\n"
-    ++ knew_line d reference by ++ fault_lines d reference by.rule
+broke_lines d reference offset by = broke_line d reference offset by ++ knew_line d reference by ++ fault_lines d reference by.rule
 
 -- a side that left the profile
+unfoldable pub outside_text : Break → List ℕ
+outside_text by = said_name by.said ++ codes " Outside\n"
+
 unfoldable pub leaves_line : Direction → (reference offset : ℕ) → Break → List ℕ
-leaves_line d reference offset by =
-    own_text d reference ++ number_field (codes " leaves packet ") offset ++ codes " " ++ said_name by.said ++ codes " Outside\n"
+leaves_line d reference offset by = place_text d reference (codes " leaves packet ") offset ++ outside_text by
 
 abbrev pub stop_text : Stop → List ℕ
 stop_text s = stopped_at_name s ++ codes " " ++ stop_name s

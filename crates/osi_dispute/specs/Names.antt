@@ -82,9 +82,9 @@ stop_name UnexpectedUnit = codes "UnexpectedUnit"
 stop_name WrongForm = codes "WrongForm"
 stop_name TsduTooLong = codes "TsduTooLong"
 
-abbrev pub unjudged_text : Unjudged → List ℕ
-unjudged_text TooMany = codes "too many sessions explain a side"
-unjudged_text (Transport NoOpening) = codes "the capture begins in the middle of a connection"
-unjudged_text (Transport OtherClass) = codes "the connection is not of class 0"
-unjudged_text (Transport MoreConnections) = codes "there is more than one connection"
-unjudged_text (Transport stop) = stop_name stop
+unfoldable pub unjudged_text : Unjudged → List ℕ
+unjudged_text TooMany = codes "not judged: too many sessions explain a side"
+unjudged_text (Transport NoOpening) = codes "not judged: the capture begins in the middle of a connection"
+unjudged_text (Transport OtherClass) = codes "not judged: the connection is not of class 0"
+unjudged_text (Transport MoreConnections) = codes "not judged: there is more than one connection"
+unjudged_text (Transport stop) = codes "not judged: there is no connection"

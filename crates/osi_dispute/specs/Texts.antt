@@ -13,10 +13,11 @@ use Rattle.osi_dispute.specs.declared.verdicts.Connection.TheVariants.{Silent, R
 use Rattle.osi_dispute.specs.declared.verdicts.Account.{Account}
 use Rattle.osi_dispute.specs.declared.verdicts.Outcome.{Outcome}
 use Rattle.osi_dispute.specs.declared.verdicts.Outcome.TheVariants.{BothKept, First, NotJudged}
+use Rattle.osi_dispute.specs.declared.verdicts.Unjudged.{Unjudged}
 use Rattle.osi_dispute.specs.declared.verdicts.Verdict.{Verdict}
 use Rattle.osi_listing.specs.Lines.{number_field}
 use Rattle.osi_dispute.specs.Names.{side_name, said_name, unjudged_text}
-use Rattle.osi_dispute.specs.Lines.{reading_line, kept_line, broke_lines, leaves_line, without_line, stopped_line, stop_text, break_text}
+use Rattle.osi_dispute.specs.Lines.{reading_line, kept_line, broke_lines, leaves_line, without_line, stopped_line, stop_text, break_text, outside_text}
 
 abbrev pub told_lines : Direction → (reference : ℕ) → Told → List ℕ
 told_lines d reference (told.Kept tsdus stands) = kept_line d reference tsdus stands
@@ -41,14 +42,23 @@ stopped_lines d (Some s) = break_lines d s (is_break s.stop)
 
 -- ---- the verdict
 
-abbrev pub first_text : Direction → (what : List ℕ) → (offset : ℕ) → List ℕ
-first_text d what offset = side_name d ++ what ++ number_field (codes " first, packet ") offset ++ codes ": "
+abbrev pub who_text : Direction → (what : List ℕ) → List ℕ
+who_text d what = side_name d ++ what
+
+abbrev pub where_text : (offset : ℕ) → List ℕ
+where_text offset = number_field (codes " first, packet ") offset ++ codes ": "
+
+unfoldable pub first_text : Direction → (what : List ℕ) → (offset : ℕ) → List ℕ
+first_text d what offset = who_text d what ++ where_text offset
+
+unfoldable pub unjudged_line : Unjudged → List ℕ
+unjudged_line why = unjudged_text why ++ codes "\n"
 
 unfoldable pub broke_first : Direction → (offset : ℕ) → Break → List ℕ
 broke_first d offset by = first_text d (codes " broke the protocol") offset ++ break_text by ++ codes "\n"
 
 unfoldable pub left_first : Direction → (offset : ℕ) → Break → List ℕ
-left_first d offset by = first_text d (codes " leaves the profile") offset ++ said_name by.said ++ codes " Outside\n"
+left_first d offset by = first_text d (codes " leaves the profile") offset ++ outside_text by
 
 unfoldable pub stopped_first : Direction → Option Stopped → List ℕ
 stopped_first d None = []
@@ -74,7 +84,7 @@ abbrev pub line_by : Verdict → Outcome → List ℕ
 line_by v BothKept = codes "both kept the protocol\n"
 line_by v (First Left) = first_line Left v.left
 line_by v (First Right) = first_line Right v.right
-line_by v (NotJudged why) = codes "not judged: " ++ unjudged_text why ++ codes "\n"
+line_by v (NotJudged why) = unjudged_line why
 
 abbrev pub outcome_line : Verdict → List ℕ
 outcome_line v = line_by v v.outcome

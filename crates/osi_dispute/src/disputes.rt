@@ -6,25 +6,14 @@ ghost use Rattle.osi_listing.specs.Capture.{IsNoCapture};
 ghost use Rattle.osi_dispute.specs.Disputes.{IsJudgement, Judged};
 ghost use Rattle.osi_dispute.specs.Rows.{side_of, passed_by, capture_of, rows_of};
 ghost use Rattle.osi_dispute.specs.Reading.{rows_left};
-ghost use Rattle.osi_dispute.specs.Texts.{verdict_text, verdict_status};
-ghost use Rattle.osi_dispute.specs.Verdicts.{Knows, IsVerdict};
+ghost use Rattle.osi_dispute.specs.Verdicts.{Knows};
 
 use crate::pieces::{Pieces, is_left_tabbed};
-use crate::texts::{push_verdict, status_of};
-use crate::verdicts::{Verdict, verdict_of};
+use crate::texts::Judgement;
+use crate::verdicts::judgement_of;
 use osi_judge::{Direction, Judge};
 use osi_listing::{CaptureFault, octets_of};
 use std::alloc::{AllocError, Global};
-
-/// The judgement of a text.
-#[derive(Drop)]
-pub struct Judgement {
-    /// Its lines.
-    pub lines: Vec<u8>,
-    /// 0 where both sides kept the protocol; 1 where one broke it or left the profile, or the capture was not
-    /// judged.
-    pub status: u8,
-}
 
 /// Feeds a piece whole.
 fn feed_all(judge: &mut Judge, direction: Direction, octets: &[u8]) -> Result<(), AllocError>
@@ -66,37 +55,15 @@ fn feed_pieces(
     Ok(())
 }
 
-/// The verdict on a text that captures these octets.
-fn verdict_on(alloc: Global, text: &[u8], octets: &[u8]) -> Result<Verdict, AllocError>
-    ensures { IfOk result (λ v. IsVerdict (capture_of (rows_of text.now octets.now)) v) }
-{
-    let mut judge = Judge::new(alloc)?;
-    let pieces = Pieces::of(text, octets);
-    feed_pieces(&mut judge, pieces, is_left_tabbed(pieces))?;
-    let verdict = verdict_of(&judge)?;
-    Ok(verdict)
-}
-
-fn written(alloc: Global, verdict: &Verdict) -> Result<Judgement, AllocError>
-    ensures lines { IfOk result (λ j. j.lines.items ≡ verdict_text verdict.now) }
-    ensures status { IfOk result (λ j. j.status ≡ verdict_status verdict.now.outcome) }
-    ensures small { IfOk result (λ j. j.status < 2) }
-{
-    let mut lines = Vec::new(alloc);
-    push_verdict(&mut lines, verdict)?;
-    Ok(Judgement {
-        lines,
-        status: status_of(verdict),
-    })
-}
-
 /// The judgement of a text that captures these octets.
 fn judge_octets(alloc: Global, text: &[u8], octets: &[u8]) -> Result<Judgement, AllocError>
     ensures judged { IfOk result (λ j. Judged (capture_of (rows_of text.now octets.now)) j.lines.items j.status) }
     ensures small { IfOk result (λ j. j.status < 2) }
 {
-    let verdict = verdict_on(alloc, text, octets)?;
-    let judgement = written(alloc, &verdict)?;
+    let mut judge = Judge::new(alloc)?;
+    let pieces = Pieces::of(text, octets);
+    feed_pieces(&mut judge, pieces, is_left_tabbed(pieces))?;
+    let judgement = judgement_of(alloc, &judge)?;
     Ok(judgement)
 }
 

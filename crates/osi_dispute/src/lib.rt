@@ -17,6 +17,6 @@ mod pieces;
 mod texts;
 mod verdicts;
 
-pub use disputes::{Judgement, judge_text};
-pub use texts::{push_verdict, status_of};
+pub use disputes::judge_text;
+pub use texts::{Judgement, push_verdict, status_of};
 pub use verdicts::{Account, Connection, Outcome, Told, Unjudged, Verdict, verdict_of};

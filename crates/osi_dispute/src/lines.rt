@@ -2,7 +2,7 @@
 
 ghost use Rattle.std.specs.Prelude.{◌≡◌, ◌++◌, OnOk};
 ghost use Rattle.osi_dispute.specs.Names.{side_name};
-ghost use Rattle.osi_dispute.specs.Lines.{own_text, reading_line, numbers_told, standing_text, owes_text, kept_line, break_text, broke_lines, leaves_line, knew_line, fault_lines, stop_text, stopped_line, without_line};
+ghost use Rattle.osi_dispute.specs.Lines.{own_text, reading_line, numbers_told, standing_text, owes_text, kept_line, break_text, place_text, outside_text, broke_line, broke_lines, leaves_line, knew_line, fault_lines, stop_text, stopped_line, without_line};
 
 use crate::names;
 use bitflags::Flags;
@@ -116,6 +116,38 @@ pub(crate) fn push_break(text: &mut Vec<u8>, by: &Break) -> Result<(), AllocErro
     push_words(text, names::rule(by.rule))
 }
 
+/// Adds a side, its own reference, and at which packet it did something.
+#[tactic(auto, unfolding(crate::specs::Lines::place_text))]
+fn push_place(
+    text: &mut Vec<u8>,
+    direction: Direction,
+    reference: u16,
+    what: &str,
+    offset: u64,
+) -> Result<(), AllocError>
+    ensures { OnOk result (text.new.items ≡ text.old.items ++ place_text direction reference what.now offset) }
+{
+    push_own(text, direction, reference)?;
+    push_number_field(text, what, offset)?;
+    push_words(text, " ")
+}
+
+/// Adds the line of where a side broke the protocol, and by which rule.
+#[tactic(auto, unfolding(crate::specs::Lines::broke_line))]
+fn push_broke_line(
+    text: &mut Vec<u8>,
+    direction: Direction,
+    reference: u16,
+    offset: u64,
+    by: &Break,
+) -> Result<(), AllocError>
+    ensures { OnOk result (text.new.items ≡ text.old.items ++ broke_line direction reference offset by.now) }
+{
+    push_place(text, direction, reference, " broke packet ", offset)?;
+    push_break(text, by)?;
+    push_words(text, "\n")
+}
+
 /// Adds the lines of a side that broke the protocol: where and by which rule, the session that came
 /// nearest, and the fault of a TSDU that is no session units.
 #[tactic(auto, unfolding(crate::specs::Lines::broke_lines))]
@@ -128,11 +160,7 @@ pub(crate) fn push_broke(
 ) -> Result<(), AllocError>
     ensures { OnOk result (text.new.items ≡ text.old.items ++ broke_lines direction reference offset by.now) }
 {
-    push_own(text, direction, reference)?;
-    push_number_field(text, " broke packet ", offset)?;
-    push_words(text, " ")?;
-    push_break(text, by)?;
-    push_words(text, "\n")?;
+    push_broke_line(text, direction, reference, offset, by)?;
     push_knew(text, direction, reference, by)?;
     push_fault(text, direction, reference, by.rule)
 }
@@ -172,6 +200,15 @@ fn push_fault(
     push_words(text, "\n")
 }
 
+/// Adds what was said that is outside of the profile.
+#[tactic(auto, unfolding(crate::specs::Lines::outside_text))]
+pub(crate) fn push_outside(text: &mut Vec<u8>, by: &Break) -> Result<(), AllocError>
+    ensures { OnOk result (text.new.items ≡ text.old.items ++ outside_text by.now) }
+{
+    push_words(text, names::said(by.said))?;
+    push_words(text, " Outside\n")
+}
+
 /// Adds the line of a side that left the profile.
 #[tactic(auto, unfolding(crate::specs::Lines::leaves_line))]
 pub(crate) fn push_leaves(
@@ -183,11 +220,8 @@ pub(crate) fn push_leaves(
 ) -> Result<(), AllocError>
     ensures { OnOk result (text.new.items ≡ text.old.items ++ leaves_line direction reference offset by.now) }
 {
-    push_own(text, direction, reference)?;
-    push_number_field(text, " leaves packet ", offset)?;
-    push_words(text, " ")?;
-    push_words(text, names::said(by.said))?;
-    push_words(text, " Outside\n")
+    push_place(text, direction, reference, " leaves packet ", offset)?;
+    push_outside(text, by)
 }
 
 /// Adds what a transport was stopped at, and the rule.

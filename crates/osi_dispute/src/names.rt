@@ -116,15 +116,20 @@ pub(crate) fn stop(stop: Stop) -> &'static str
 }
 
 /// Why a capture is not judged.
+#[tactic(auto, unfolding(crate::specs::Names::unjudged_text))]
 pub(crate) fn unjudged(unjudged: Unjudged) -> &'static str
     ensures { result.now ≡ unjudged_text unjudged }
 {
     match unjudged {
-        Unjudged::TooMany => "too many sessions explain a side",
-        Unjudged::Transport(Stop::NoOpening) => "the capture begins in the middle of a connection",
-        Unjudged::Transport(Stop::OtherClass) => "the connection is not of class 0",
-        Unjudged::Transport(Stop::MoreConnections) => "there is more than one connection",
-        Unjudged::Transport(found) => stop(found),
+        Unjudged::TooMany => "not judged: too many sessions explain a side",
+        Unjudged::Transport(Stop::NoOpening) => {
+            "not judged: the capture begins in the middle of a connection"
+        }
+        Unjudged::Transport(Stop::OtherClass) => "not judged: the connection is not of class 0",
+        Unjudged::Transport(Stop::MoreConnections) => {
+            "not judged: there is more than one connection"
+        }
+        Unjudged::Transport(_) => "not judged: there is no connection",
     }
 }
 

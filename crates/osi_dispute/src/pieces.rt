@@ -1,8 +1,8 @@
 //! The text of a capture of both sides, read: each line is a piece of one side.
 
-ghost use Rattle.std.specs.Prelude.{◌≡◌, take, drop};
+ghost use Rattle.std.specs.Prelude.{◌≡◌, ◌<◌, ◌≤◌, ◌+◌, ◌∷◌, ℕ, List, take, drop};
 ghost use Rattle.osi_listing.specs.Capture.{is_blank};
-ghost use Rattle.osi_dispute.specs.Rows.{is_tabbed, digits_on, begun_on, ends_within, left_is_tabbed};
+ghost use Rattle.osi_dispute.specs.Rows.{is_tabbed, digits_on, digits_left, begun_on, ends_within, left_is_tabbed};
 ghost use Rattle.osi_dispute.specs.Reading.{rows_left};
 
 use osi_script::first_line;
@@ -100,20 +100,50 @@ fn is_blank_octet(octet: u8) -> bool
     octet == b' ' || octet == b'\t' || octet == b'\r'
 }
 
+/// How many digits were counted on a line, and whether a comment goes on.
+#[derive(Clone, Copy)]
+struct Counter {
+    digits: usize,
+    in_comment: bool,
+}
+
+/// One octet more of a line.
+#[tactic(auto, using(crate::proofs::Digits::in_comment, crate::proofs::Digits::begins_comment, crate::proofs::Digits::at_blank, crate::proofs::Digits::at_digit))]
+fn counted(counter: Counter, octet: u8) -> Counter
+    requires { counter.digits < usize.MAX }
+    ensures left { (rest : List ℕ) → result.digits + digits_left result.in_comment rest ≡ counter.digits + digits_left counter.in_comment (octet ∷ rest) }
+    ensures most { result.digits ≤ counter.digits + 1 }
+{
+    if counter.in_comment {
+        return counter;
+    }
+    if octet == b'#' {
+        return Counter {
+            digits: counter.digits,
+            in_comment: true,
+        };
+    }
+    if is_blank_octet(octet) {
+        return counter;
+    }
+    Counter {
+        digits: counter.digits + 1,
+        in_comment: false,
+    }
+}
+
 /// How many digits stand on a line.
 fn digits_on(line: &[u8]) -> usize
     ensures { result ≡ digits_on line.now }
 {
-    let mut count = 0;
+    let mut counter = Counter {
+        digits: 0,
+        in_comment: false,
+    };
     'octets: for octet in line {
-        if *octet == b'#' {
-            return count;
-        }
-        if !is_blank_octet(*octet) {
-            count += 1;
-        }
+        counter = counted(counter, *octet);
     }
-    count
+    counter.digits
 }
 
 fn is_tabbed(line: &[u8]) -> bool

@@ -1,17 +1,27 @@
 //! The text of a judgement.
 
 ghost use Rattle.std.specs.Prelude.{◌≡◌, ◌++◌, ◌<◌, OnOk};
-ghost use Rattle.osi_dispute.specs.Texts.{told_lines, connection_lines, stopped_lines, first_text, broke_first, left_first, stopped_first, first_line, outcome_line, verdict_text, verdict_status};
+ghost use Rattle.osi_dispute.specs.Texts.{told_lines, connection_lines, stopped_lines, who_text, where_text, first_text, broke_first, left_first, stopped_first, first_line, unjudged_line, outcome_line, verdict_text, verdict_status};
 
 use crate::lines::{
-    push_break, push_broke, push_kept, push_leaves, push_reading, push_side, push_stop,
+    push_break, push_broke, push_kept, push_leaves, push_outside, push_reading, push_side, push_stop,
     push_stopped, push_without,
 };
 use crate::names;
-use crate::verdicts::{Account, Connection, Outcome, Told, Verdict};
+use crate::verdicts::{Account, Connection, Outcome, Told, Unjudged, Verdict};
 use osi_judge::{Break, Direction, Stopped};
 use osi_listing::{push_number_field, push_words};
 use std::alloc::AllocError;
+
+/// The judgement of a text.
+#[derive(Drop)]
+pub struct Judgement {
+    /// Its lines.
+    pub lines: Vec<u8>,
+    /// 0 where both sides kept the protocol; 1 where one broke it or left the profile, or the capture was not
+    /// judged.
+    pub status: u8,
+}
 
 fn push_told(
     text: &mut Vec<u8>,
@@ -59,7 +69,24 @@ fn push_stopped_of(
     }
 }
 
+/// Who did something first.
+fn push_who(text: &mut Vec<u8>, direction: Direction, what: &str) -> Result<(), AllocError>
+    ensures { OnOk result (text.new.items ≡ text.old.items ++ who_text direction what.now) }
+{
+    push_side(text, direction)?;
+    push_words(text, what)
+}
+
+/// Where it was.
+fn push_where(text: &mut Vec<u8>, offset: u64) -> Result<(), AllocError>
+    ensures { OnOk result (text.new.items ≡ text.old.items ++ where_text offset) }
+{
+    push_number_field(text, " first, packet ", offset)?;
+    push_words(text, ": ")
+}
+
 /// Who did something first, and where.
+#[tactic(auto, unfolding(crate::specs::Texts::first_text))]
 fn push_first(
     text: &mut Vec<u8>,
     direction: Direction,
@@ -68,10 +95,8 @@ fn push_first(
 ) -> Result<(), AllocError>
     ensures { OnOk result (text.new.items ≡ text.old.items ++ first_text direction what.now offset) }
 {
-    push_side(text, direction)?;
-    push_words(text, what)?;
-    push_number_field(text, " first, packet ", offset)?;
-    push_words(text, ": ")
+    push_who(text, direction, what)?;
+    push_where(text, offset)
 }
 
 #[tactic(auto, unfolding(crate::specs::Texts::broke_first))]
@@ -98,8 +123,7 @@ fn push_left_first(
     ensures { OnOk result (text.new.items ≡ text.old.items ++ left_first direction offset by.now) }
 {
     push_first(text, direction, " leaves the profile", offset)?;
-    push_words(text, names::said(by.said))?;
-    push_words(text, " Outside\n")
+    push_outside(text, by)
 }
 
 #[tactic(auto, unfolding(crate::specs::Texts::stopped_first))]
@@ -133,6 +157,14 @@ fn push_whose(text: &mut Vec<u8>, direction: Direction, account: &Account) -> Re
     }
 }
 
+#[tactic(auto, unfolding(crate::specs::Texts::unjudged_line))]
+fn push_unjudged(text: &mut Vec<u8>, why: Unjudged) -> Result<(), AllocError>
+    ensures { OnOk result (text.new.items ≡ text.old.items ++ unjudged_line why) }
+{
+    push_words(text, names::unjudged(why))?;
+    push_words(text, "\n")
+}
+
 fn push_outcome(text: &mut Vec<u8>, verdict: &Verdict) -> Result<(), AllocError>
     ensures { OnOk result (text.new.items ≡ text.old.items ++ outcome_line verdict.now) }
 {
@@ -140,11 +172,7 @@ fn push_outcome(text: &mut Vec<u8>, verdict: &Verdict) -> Result<(), AllocError>
         Outcome::BothKept => push_words(text, "both kept the protocol\n"),
         Outcome::First(Direction::Left) => push_whose(text, Direction::Left, &verdict.left),
         Outcome::First(Direction::Right) => push_whose(text, Direction::Right, &verdict.right),
-        Outcome::NotJudged(why) => {
-            push_words(text, "not judged: ")?;
-            push_words(text, names::unjudged(why))?;
-            push_words(text, "\n")
-        }
+        Outcome::NotJudged(why) => push_unjudged(text, why),
     }
 }
 

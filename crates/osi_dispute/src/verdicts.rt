@@ -1,13 +1,15 @@
 //! What is told of a capture.
 
-ghost use Rattle.std.specs.Prelude.{◌≡◌, true, IfOk};
+ghost use Rattle.std.specs.Prelude.{◌≡◌, ◌<◌, true, IfOk};
+ghost use Rattle.osi_dispute.specs.Disputes.{Judged};
 ghost use Rattle.osi_judge.specs.Captures.{Capture};
 ghost use Rattle.osi_judge.specs.Stops.{breaks};
 ghost use Rattle.osi_judge.specs.Tapping.{IsStoppedIn};
 ghost use Rattle.osi_dispute.specs.Verdicts.{Knows, IsTold, IsTrueOf, KeepsIn, IsOutcome, IsVerdict};
 
+use crate::texts::{Judgement, push_verdict, status_of};
 use osi_judge::{Break, Direction, Finding, Judge, Reading, Stands, Stop, Stopped};
-use std::alloc::AllocError;
+use std::alloc::{AllocError, Global};
 
 /// What is told of the session of one side.
 #[derive(Clone, Copy)]
@@ -225,5 +227,19 @@ pub fn verdict_of(judge: &Judge) -> Result<Verdict, AllocError>
         left,
         right,
         outcome: outcome_of(judge),
+    })
+}
+
+/// The judgement of what a judge was fed.
+pub(crate) fn judgement_of(alloc: Global, judge: &Judge) -> Result<Judgement, AllocError>
+    ensures judged { IfOk result (λ j. (capture : Capture) → Knows judge.now capture → Judged capture j.lines.items j.status) }
+    ensures small { IfOk result (λ j. j.status < 2) }
+{
+    let verdict = verdict_of(judge)?;
+    let mut lines = Vec::new(alloc);
+    push_verdict(&mut lines, &verdict)?;
+    Ok(Judgement {
+        lines,
+        status: status_of(&verdict),
     })
 }

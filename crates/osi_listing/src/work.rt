@@ -100,7 +100,8 @@ impl Work {
 
     /// Lists the packet that is held whole, and holds it no more.
     fn list_held(&mut self, alloc: Global, text: &mut Vec<u8>) -> Result<(), AllocError>
-        ensures moves { OnOk result ((rest : List ℕ) → IsOnePacket self.old.cutter.octets → Moves self.old text.old.items (self.old.cutter.octets ++ rest) self.new text.new.items rest) }
+        ensures moves { OnOk result ((rest : List ℕ) → IsOnePacket self.old.cutter.octets →
+            Moves self.old text.old.items (self.old.cutter.octets ++ rest) self.new text.new.items rest) }
         ensures ready { OnOk result (IsOnePacket self.old.cutter.octets → IsReady self.new.cutter) }
     {
         let Some(unit) = self.cutter.packet() else {

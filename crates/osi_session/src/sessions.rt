@@ -372,6 +372,7 @@ impl Session {
     }
 
     /// Sends the answer, if there is one, takes the new state, and what is then joined.
+    #[inline(always)]
     #[tactic(auto, using(crate::proofs::GroupLaws::loud_reply))]
     fn settle(&mut self, reactions: Reactions) -> Result<Taken, AllocError>
         requires sound { IsSound reactions.next }
