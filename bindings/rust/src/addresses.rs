@@ -4,7 +4,7 @@ use crate::ffi;
 use std::fmt;
 
 /// The addresses of a connection: the transport addresses of its CR (X.224 section 13.3.4) and the session
-/// addresses of its CN (X.225 section 8). One of no octets is none.
+/// addresses of its CN (X.225 section 8). An empty one means that there is no address.
 #[derive(Clone, Copy)]
 pub struct Addresses(pub(crate) ffi::osi_addressing);
 

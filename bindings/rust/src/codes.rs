@@ -1,56 +1,56 @@
-//! Why a call is refused, why an end has ended, and why a unit that came is bad.
+//! Why a call is refused, why an end has ended, and why a received unit is bad.
 
 use std::error;
 use std::fmt;
 
-/// Why a call is refused. The call has then changed nothing.
+/// Why a call is refused. A refused call has changed nothing.
 ///
-/// The order is that in which the library looks: a call answers the first that applies.
+/// The library tests for these in this order: a call answers the first that applies.
 #[derive(Clone, Copy, Debug, PartialEq, Eq, Hash)]
 #[non_exhaustive]
 pub enum Error {
-    /// A number or a length is outside its range: a mistake in the program that calls.
+    /// A number or a length is outside its range. The calling program has a bug.
     BadArgument,
-    /// `malloc` gave no memory. Call again when there is some, or close the socket and call
-    /// [`End::broken`](crate::End::broken), which wants none.
+    /// `malloc` or `realloc` failed. Call again when there is memory, or close the socket and call
+    /// [`End::broken`](crate::End::broken), which needs none.
     NoMemory,
     /// This end never gave the reference.
     NoSuchConnection,
-    /// The connection, or the end, is over. An indication has said or will say why.
+    /// The connection, or the end, is over. An indication has said why, or one that is pending will.
     Ended,
     /// The call is not allowed in this phase (X.225 annex A): see [`End::phase`](crate::End::phase).
     BadState,
-    /// A functional unit or a token is not there, or functional units do not go together.
+    /// A functional unit or a token isn't available, or functional units can't be combined.
     NotSelected,
-    /// The call needs a token that the other side holds: [`End::please`](crate::End::please).
+    /// The call needs a token that the other side holds. Ask for it by [`End::please`](crate::End::please).
     TokenNotHeld,
-    /// A token is asked for that is held.
+    /// The call asks for a token that this side holds.
     TokenAlreadyHeld,
-    /// The number is of no point that the call may name.
+    /// The call may not name a point of this number.
     BadNumber,
     /// All numbers of points, up to 999,999, are used.
     SerialsUsedUp,
-    /// No octet of data, or no token.
+    /// Data without an octet, or a set without a token.
     Empty,
-    /// Over 10,240 octets of user data, 1,048,572 of data, or 16 of a session address.
+    /// More than 10,240 octets of user data, 1,048,572 of data, or 16 of a session address.
     TooLong,
     /// Only the calling end asks for connections.
     NotCaller,
     /// The first connection is not answered yet, so the transport class is not known: ask again after
     /// [`Indication::Connected`](crate::Indication::Connected).
     Negotiating,
-    /// Class 0 holds, which has one connection.
+    /// The end uses class 0, which has one connection.
     OneConnection,
     /// 64 connections are live.
     TooMany,
-    /// All 65,535 references were given.
+    /// All 65,535 references are used.
     ReferencesUsedUp,
-    /// A code of the library for C that this crate has no name for. None that it knows answers one.
+    /// A code of the library for C that this crate doesn't know. The library that belongs to it has none.
     Other(u32),
 }
 
 impl Error {
-    /// What stands for a code that is not `OSI_OK`.
+    /// The error of a code; `None` for `OSI_OK`.
     pub(crate) fn of(code: u32) -> Error {
         match code {
             2 => Error::BadArgument,
@@ -126,76 +126,76 @@ impl fmt::Display for Error {
 
 impl error::Error for Error {}
 
-/// Why an end has ended. All but the first four say which rule of X.224 or RFC 1006 the peer broke, or
-/// that there was no memory for what it sent.
+/// Why an end has ended. After the first four, each names a rule of X.224 or RFC 1006 that the peer broke,
+/// or says that memory ran out for what the peer sent.
 #[derive(Clone, Copy, Debug, PartialEq, Eq, Hash)]
 #[non_exhaustive]
 pub enum Ending {
     /// [`End::broken`](crate::End::broken) was called.
     Broken,
-    /// Its connection of class 0 was closed here, which is how class 0 is closed.
+    /// Its connection of class 0 was closed here. In class 0 that ends the byte connection.
     Closed,
     /// The peer closed its connection by a DR.
     PeerClosed {
         /// X.224 section 13.5.3.
         reason: u8,
     },
-    /// There was no memory for what was fed.
+    /// Memory ran out in [`End::feed`](crate::End::feed).
     NoMemory,
-    /// A unit names a reference that is not known.
+    /// A unit names an unknown reference.
     UnknownReference,
-    /// A CC answers what was not asked for.
+    /// A CC doesn't fit the CR that it answers.
     BadAnswer,
-    /// A unit came that is not expected.
+    /// The peer sent a unit that is not expected.
     UnexpectedUnit,
     /// A packet is not of version 3 (RFC 1006 section 6).
     BadVersion {
-        /// The place in the stream of the packet's first octet, from 0.
+        /// The offset of the packet's first octet in the stream, from 0.
         offset: u64,
     },
     /// The length of a packet is out of range (RFC 1006 section 6).
     BadLength {
-        /// The place in the stream of the packet's first octet, from 0.
+        /// The offset of the packet's first octet in the stream, from 0.
         offset: u64,
     },
-    /// There was no memory for a packet.
+    /// Memory ran out for a packet.
     NoMemoryForPacket,
     /// The length indicator of a unit is bad (X.224 section 13).
     BadLi {
-        /// The place of the octet in the packet's units, from 0.
+        /// The offset of the octet in the packet's units, from 0.
         offset: u64,
     },
     /// The code of a unit is unknown (X.224 section 13).
     UnknownCode {
-        /// The place of the octet in the packet's units, from 0.
+        /// The offset of the octet in the packet's units, from 0.
         offset: u64,
     },
     /// The length of a parameter is bad (X.224 section 13).
     BadParameterLength {
-        /// The place of the octet in the packet's units, from 0.
+        /// The offset of the octet in the packet's units, from 0.
         offset: u64,
     },
     /// The value of a parameter is bad (X.224 section 13).
     BadParameterValue {
-        /// The place of the octet in the packet's units, from 0.
+        /// The offset of the octet in the packet's units, from 0.
         offset: u64,
     },
-    /// A parameter stands twice (X.224 section 13).
+    /// A parameter is present twice (X.224 section 13).
     DuplicateParameter {
-        /// The place of the octet in the packet's units, from 0.
+        /// The offset of the octet in the packet's units, from 0.
         offset: u64,
     },
     /// A unit has the form of another class.
     WrongForm,
     /// A data unit or an acknowledgement is out of sequence (X.224 section 6.16).
     OutOfSequence,
-    /// An acknowledgement takes credit back (X.224 section 6.16).
+    /// An acknowledgement reduces credit that was given (X.224 section 6.16).
     CreditReduced,
     /// A TSDU is longer than 1,048,576 octets.
     TsduTooLong,
-    /// There was no memory for a TSDU.
+    /// Memory ran out for a TSDU.
     NoMemoryForTsdu,
-    /// A reason of the library for C that this crate has no name for.
+    /// A reason of the library for C that this crate doesn't know.
     Other {
         /// What `osi_ended` answers.
         number: u32,
@@ -205,7 +205,7 @@ pub enum Ending {
 }
 
 impl Ending {
-    /// What stands for a number that is not `OSI_END_NONE`, and its detail.
+    /// The reason of a number and its detail; `None` for `OSI_END_NONE`.
     pub(crate) fn of(number: u32, detail: u64) -> Ending {
         let offset = detail;
         match number {
@@ -282,14 +282,14 @@ impl fmt::Display for Ending {
 
 impl error::Error for Ending {}
 
-/// Why a session unit that came is bad (X.225 section 8 and annex A).
+/// Why a received session unit is bad (X.225 section 8 and annex A).
 #[derive(Clone, Copy, Debug, PartialEq, Eq, Hash)]
 pub enum Fault {
     /// Its octets are no unit.
     Spelling {
         /// What is wrong with them.
         spelling: Spelling,
-        /// The place of the octet in the TSDU, from 0.
+        /// The offset of the octet in the TSDU, from 0.
         offset: u64,
     },
     /// The unit is not expected in this phase.
@@ -307,23 +307,23 @@ pub enum Fault {
         /// The SI of the unit.
         si: u8,
     },
-    /// The number is of no point that the unit may name.
+    /// The unit may not name a point of this number.
     BadNumber {
         /// The SI of the unit.
         si: u8,
     },
-    /// Its tokens, or its sides, are not as they may be.
+    /// It names tokens or sides that it may not name.
     BadTokens {
         /// The SI of the unit.
         si: u8,
     },
-    /// It does not come where it stands among the parts of one Data: a first part, whole data, a token
-    /// item with tokens, a point or a finish while one is unfinished, or a later part where none is.
+    /// It is out of its place among the parts of one Data: a first part, whole data, a token item with
+    /// tokens, a point or a finish before the last part has come, or a later part without a first one.
     BadEnclosure {
         /// The SI of the unit.
         si: u8,
     },
-    /// With it the parts of one Data have more than 1,048,572 octets.
+    /// With this part, the Data has more than 1,048,572 octets.
     DataTooLong {
         /// The SI of the unit.
         si: u8,
@@ -358,17 +358,17 @@ impl error::Error for Fault {}
 pub enum Spelling {
     /// No unit has this SI.
     UnknownSi,
-    /// A length reaches past the end of what it is in.
+    /// A length reaches past the end of the parameter, unit or TSDU around it.
     LengthPastEnd,
     /// A parameter with this code is missing.
     MissingParameter(u8),
-    /// The parameter with this code stands twice.
+    /// The parameter with this code is present twice.
     DuplicateParameter(u8),
     /// The value of the parameter with this code is bad.
     BadValue(u8),
-    /// The units do not stand in one TSDU together.
+    /// Units that may not be in one TSDU together.
     BadConcatenation,
-    /// Octets are left over behind the last unit.
+    /// Octets are left over after the last unit.
     OctetsLeftOver,
 }
 

@@ -13,23 +13,23 @@ use std::slice;
 #[derive(Clone, Copy, Debug, PartialEq, Eq, Hash)]
 #[must_use = "the octets that were not used are to be fed again"]
 pub struct Fed {
-    /// So many octets of the piece were used, at most all.
+    /// How many octets of the piece were used, from the first.
     pub used: usize,
-    /// An indication waits.
+    /// An indication is pending.
     pub waits: bool,
 }
 
 /// One end of a byte connection, with up to 64 session connections in transport class 2, and one in
 /// class 0. It is freed when it is dropped.
 ///
-/// It may be handed to another thread, and is used by one at a time. All calls take `&mut self`: octets
-/// that the end has lent are there until the next call, whichever it is.
+/// You may hand it to another thread, but only one thread uses it at a time. All calls take `&mut self`,
+/// because octets that the end has lent are valid only until the next call, whichever it is.
 ///
-/// User data of a call is at most 10,240 octets unless it is said, and is copied. A call that is refused
-/// changes nothing; it answers the first [`Error`] that applies.
+/// User data of a call has at most 10,240 octets, unless the call says otherwise, and is copied. A refused
+/// call changes nothing, and answers the first [`Error`] that applies.
 pub struct End {
-    /// The library is given the address of the slot, and nothing else touches what is in it. So it lies
-    /// in a box, and stays where it is while the `End` moves.
+    /// The library is given the address of the slot, and nobody else reads or writes it. So the slot is in a
+    /// box, and keeps its address while the `End` moves.
     slot: Box<ffi::osi_end>,
 }
 
@@ -44,31 +44,31 @@ fn answer(code: u32) -> Result<(), Error> {
     }
 }
 
-/// The octets that C lends.
+/// Octets that C lends.
 ///
 /// # Safety
-/// They are there for `'a`, and nobody writes to them.
+/// They are valid for `'a`, and nobody writes to them.
 unsafe fn lent<'a>(octets: ffi::osi_octets) -> &'a [u8] {
-    // SAFETY: the caller's; the pointer is never null (`osi.h`).
+    // SAFETY: by the condition on the caller; the pointer is never null (`osi.h`).
     unsafe { slice::from_raw_parts(octets.at, octets.length) }
 }
 
-// SAFETY, of each call below: `slot` began as `OSI_END`, and is at an address that does not change; no
-// pointer is null, and each points to what it says for the time of the call, and to no octet that the
-// end has lent, since a slice of those would hold the borrow of `self` that the call needs.
+// SAFETY, of each call below: `slot` began as `OSI_END`, and its address does not change. No pointer is
+// null. Each points to an object of its type for the time of the call, and to no octet that the end has
+// lent, since a slice of such octets would hold the borrow of `self` that the call needs.
 impl End {
-    /// The calling end of a byte connection. Nothing is written yet.
+    /// Makes the calling end of a byte connection. It has nothing to send yet.
     ///
     /// # Errors
-    /// [`Error::BadArgument`] where a number of the terms is outside its range, [`Error::NoMemory`].
+    /// [`Error::BadArgument`] if a number of the terms is outside its range, [`Error::NoMemory`].
     pub fn caller(terms: Terms) -> Result<End, Error> {
         End::make(ffi::osi_caller, terms)
     }
 
-    /// The called end of a byte connection. Nothing is written yet.
+    /// Makes the called end of a byte connection. It has nothing to send yet.
     ///
     /// # Errors
-    /// [`Error::BadArgument`] where a number of the terms is outside its range, [`Error::NoMemory`].
+    /// [`Error::BadArgument`] if a number of the terms is outside its range, [`Error::NoMemory`].
     pub fn called(terms: Terms) -> Result<End, Error> {
         End::make(ffi::osi_called, terms)
     }
@@ -91,15 +91,15 @@ impl End {
         answer(unsafe { call(self.at(), of.0, data.as_ptr(), data.len()) })
     }
 
-    /// Asks for a connection, and gives its reference. The answer comes as an indication:
-    /// [`Connected`](Indication::Connected), one of the two refusals, or why it is over.
+    /// Asks for a connection, and answers its reference. The peer's answer comes as an indication:
+    /// [`Connected`](Indication::Connected), one of the two refusals, or one that says why the connection is over.
     ///
     /// # Errors
     /// The first that applies of [`BadArgument`](Error::BadArgument) (the serial, a size of 1 to 63, a
-    /// transport address of over 32 octets), [`NotCaller`](Error::NotCaller), [`Ended`](Error::Ended),
+    /// transport address of more than 32 octets), [`NotCaller`](Error::NotCaller), [`Ended`](Error::Ended),
     /// [`Negotiating`](Error::Negotiating), [`OneConnection`](Error::OneConnection),
     /// [`TooMany`](Error::TooMany), [`ReferencesUsedUp`](Error::ReferencesUsedUp),
-    /// [`NotSelected`](Error::NotSelected) (units that do not go together),
+    /// [`NotSelected`](Error::NotSelected) (units that can't be combined),
     /// [`TooLong`](Error::TooLong) and [`NoMemory`](Error::NoMemory).
     pub fn connect(&mut self, asked: &Opening<'_>) -> Result<Reference, Error> {
         let passed = ffi::osi_opening {
@@ -120,9 +120,9 @@ impl End {
         Ok(Reference(reference))
     }
 
-    /// Answers [`Indication::Connect`]. The units are some of those that were offered, half-duplex among
-    /// them, or duplex alone; the number is that of the first point, 0 to 999,999; the sides hold the
-    /// tokens whose holder was this side's choice.
+    /// Answers [`Indication::Connect`]. Select some of the units that were offered: half-duplex, with or
+    /// without others, or duplex alone. The number is that of the first point, 0 to 999,999. The sides say
+    /// who holds the tokens whose choice was left to this side.
     ///
     /// # Errors
     /// [`BadArgument`](Error::BadArgument) (a number above 999,999, a side that is
@@ -143,8 +143,8 @@ impl End {
         answer(unsafe { ffi::osi_accept(self.at(), of.0, units, number, &sides, data, length) })
     }
 
-    /// The same as [`accept`](End::accept), with sizes of this side's own: where the CN names one, the
-    /// smaller is agreed upon, and where it names 0, there is no limit.
+    /// [`accept`](End::accept) with sizes of this side's own: if the CN names a size, the smaller of the two
+    /// is agreed; if it names 0, there is no limit.
     ///
     /// # Errors
     /// Those of [`accept`](End::accept), and [`BadArgument`](Error::BadArgument) for a size of 1 to 63.
@@ -165,7 +165,7 @@ impl End {
         })
     }
 
-    /// Refuses what [`Indication::Connect`] asks for.
+    /// Refuses the connection that [`Indication::Connect`] asks for.
     ///
     /// # Errors
     /// [`BadState`](Error::BadState), [`TooLong`](Error::TooLong), and those of every call.
@@ -173,7 +173,7 @@ impl End {
         self.say(ffi::osi_refuse, of, user_data)
     }
 
-    /// The same as [`refuse`](End::refuse), for this reason.
+    /// [`refuse`](End::refuse) with a reason.
     ///
     /// # Errors
     /// Those of [`refuse`](End::refuse).
@@ -192,19 +192,19 @@ impl End {
         self.say(ffi::osi_data, of, user_data)
     }
 
-    /// Gives tokens that are held, one at least.
+    /// Gives tokens that this side holds, at least one.
     ///
     /// # Errors
-    /// [`BadState`](Error::BadState), [`NotSelected`](Error::NotSelected) (a token is not there),
+    /// [`BadState`](Error::BadState), [`NotSelected`](Error::NotSelected) (a token isn't available),
     /// [`TokenNotHeld`](Error::TokenNotHeld), [`Empty`](Error::Empty), and those of every call.
     pub fn give(&mut self, of: Reference, tokens: Tokens) -> Result<(), Error> {
         answer(unsafe { ffi::osi_give(self.at(), of.0, tokens.bits()) })
     }
 
-    /// Asks for tokens that are not held, one at least.
+    /// Asks for tokens that this side doesn't hold, at least one.
     ///
     /// # Errors
-    /// [`BadState`](Error::BadState), [`NotSelected`](Error::NotSelected) (a token is not there),
+    /// [`BadState`](Error::BadState), [`NotSelected`](Error::NotSelected) (a token isn't available),
     /// [`TokenAlreadyHeld`](Error::TokenAlreadyHeld), [`Empty`](Error::Empty),
     /// [`TooLong`](Error::TooLong), and those of every call.
     pub fn please(&mut self, of: Reference, tokens: Tokens, user_data: &[u8]) -> Result<(), Error> {
@@ -212,8 +212,8 @@ impl End {
         answer(unsafe { ffi::osi_please(self.at(), of.0, tokens.bits(), data, length) })
     }
 
-    /// Sets a minor point, whose number is [`next_serial`](End::next_serial) before the call, and asks
-    /// for its confirmation or not.
+    /// Sets a minor point, with or without a request for its confirmation. The point has the number that
+    /// [`next_serial`](End::next_serial) answers before the call.
     ///
     /// # Errors
     /// [`BadState`](Error::BadState), [`NotSelected`](Error::NotSelected),
@@ -252,12 +252,12 @@ impl End {
         self.say(ffi::osi_major_confirm, of, user_data)
     }
 
-    /// Restarts at a point, whose number the next one then has.
+    /// Restarts at this number, which the next point then has.
     ///
     /// # Errors
     /// [`BadState`](Error::BadState), [`NotSelected`](Error::NotSelected),
-    /// [`BadNumber`](Error::BadNumber) (below [`lowest_restart`](End::lowest_restart), or above what the
-    /// next point would have), [`TooLong`](Error::TooLong), and those of every call.
+    /// [`BadNumber`](Error::BadNumber) (below [`lowest_restart`](End::lowest_restart), or above
+    /// [`next_serial`](End::next_serial)), [`TooLong`](Error::TooLong), and those of every call.
     pub fn restart(
         &mut self,
         of: Reference,
@@ -270,7 +270,7 @@ impl End {
         answer(unsafe { ffi::osi_restart(self.at(), of.0, number, &wishes, data, length) })
     }
 
-    /// Answers [`Indication::Restart`]. The sides hold the tokens whose holder was this side's choice.
+    /// Answers [`Indication::Restart`]. The sides say who holds the tokens whose choice was left to this side.
     ///
     /// # Errors
     /// [`BadArgument`](Error::BadArgument) (a side that is [`Choice`](crate::Side::Choice)),
@@ -284,8 +284,8 @@ impl End {
     /// Asks for the release.
     ///
     /// # Errors
-    /// [`BadState`](Error::BadState), [`TokenNotHeld`](Error::TokenNotHeld) (all tokens that are there,
-    /// and with duplex the side of the caller), [`TooLong`](Error::TooLong), and those of every call.
+    /// [`BadState`](Error::BadState), [`TokenNotHeld`](Error::TokenNotHeld) (it needs all tokens that are
+    /// available; with duplex it needs to be the caller), [`TooLong`](Error::TooLong), and those of every call.
     pub fn release(&mut self, of: Reference, user_data: &[u8]) -> Result<(), Error> {
         self.say(ffi::osi_release, of, user_data)
     }
@@ -316,11 +316,11 @@ impl End {
         self.say(ffi::osi_abort, of, user_data)
     }
 
-    /// Gives up one connection at once, whatever it waits for: what the peer's credit holds back is dropped,
-    /// and nothing of this connection is shown any more, its pending indications included. In class 2 a
-    /// disconnect request is [`outgoing`](End::outgoing), the peer's user is shown [`Indication::Lost`], and
-    /// all other connections go on. In class 0 the end ends with [`Ending::Closed`]. A connection that is
-    /// gone already loses its pending indications.
+    /// Gives up one connection at once, whatever it waits for. It drops the octets that the peer's credit
+    /// holds back, and the pending indications of this connection, which has no more of them. In class 2 it
+    /// appends a disconnect request to [`outgoing`](End::outgoing), the peer's user receives
+    /// [`Indication::Lost`], and all other connections go on. In class 0 the end ends with
+    /// [`Ending::Closed`]. If the connection is gone already, only its pending indications are dropped.
     ///
     /// # Errors
     /// [`NoSuchConnection`](Error::NoSuchConnection), [`BadState`](Error::BadState) (in
@@ -330,11 +330,11 @@ impl End {
         answer(unsafe { ffi::osi_disconnect(self.at(), of.0) })
     }
 
-    /// Feeds octets that came from the peer, in the order in which they came, cut in any way.
+    /// Feeds octets that you received from the peer, in their order, cut in any way.
     ///
-    /// It stops behind a packet that gives an indication, and uses nothing while one waits: fetch them
-    /// all, and then feed the rest of the piece. [`feed_next`](End::feed_next) does both. Once the end
-    /// has ended it uses all. Where it finds no memory the end ends with [`Ending::NoMemory`].
+    /// It stops after a packet that causes an indication, and uses nothing while one is pending: fetch all
+    /// indications, and then feed the rest of the piece. [`feed_next`](End::feed_next) does both. Once the
+    /// end has ended, it uses everything. If memory runs out, the end ends with [`Ending::NoMemory`].
     pub fn feed(&mut self, piece: &[u8]) -> Fed {
         let mut fed = ffi::osi_fed { used: 0, waits: false };
         // It answers OSI_OK, since the slot holds an end.
@@ -342,8 +342,9 @@ impl End {
         Fed { used: fed.used, waits: fed.waits }
     }
 
-    /// The next indication: one that waits, or else the first that the octets of the piece give. What it
-    /// uses it takes from the front of the piece. `None`: all of the piece is used, and nothing waits.
+    /// The next indication: a pending one, or else the first that the octets of the piece cause. It takes
+    /// the octets that it uses from the front of the piece. `None`: all of the piece is used, and no
+    /// indication is pending.
     ///
     /// ```
     /// # use osi_session::{End, Error, Indication, Sides};
@@ -371,11 +372,11 @@ impl End {
         self.last_indication()
     }
 
-    /// The octets that are to be carried to the peer, the first of them first. They stay until
-    /// [`taken`](End::taken) says that they have been.
+    /// Lends the octets to send to the peer, in their order. They stay until [`taken`](End::taken) says that
+    /// you have sent them.
     pub fn outgoing(&mut self) -> &[u8] {
         let mut octets = ffi::lend(&[]);
-        // SAFETY, beside that of each call: the octets are lent until the next call with this end,
+        // SAFETY, in addition to that of each call: the octets are lent until the next call with this end,
         // and the slice holds the borrow that a call needs.
         unsafe {
             ffi::osi_outgoing(self.at(), &mut octets);
@@ -383,28 +384,28 @@ impl End {
         }
     }
 
-    /// Whether [`outgoing`](End::outgoing) has an octet: wait until the socket can be written to.
+    /// Whether [`outgoing`](End::outgoing) lends an octet. If so, wait until you can write to the socket.
     pub fn wants_write(&mut self) -> bool {
         unsafe { ffi::osi_wants_write(self.at()) }
     }
 
-    /// So many octets of [`outgoing`](End::outgoing), the first, have been carried.
+    /// Says that you have sent this many octets of [`outgoing`](End::outgoing), from the first.
     ///
     /// # Errors
-    /// [`Error::BadArgument`] where there are not so many.
+    /// [`Error::BadArgument`] if it lends fewer.
     pub fn taken(&mut self, octets: usize) -> Result<(), Error> {
         answer(unsafe { ffi::osi_taken(self.at(), octets) })
     }
 
-    /// The byte connection is over: it broke, or the peer closed it. Each user that has not been told
-    /// the end of his connection is then shown [`Indication::Lost`]. Nothing where the end has ended.
+    /// Says that the byte connection is over: it broke, or the peer closed it. Each user who doesn't yet know
+    /// that his connection is over then receives [`Indication::Lost`]. If the end has ended, nothing changes.
     pub fn broken(&mut self) {
         // It answers OSI_OK, since the slot holds an end.
         unsafe { ffi::osi_broken(self.at()) };
     }
 
-    /// Why the end has ended; `None` while it goes on. Where it has, send what is still outgoing (unless
-    /// the byte connection broke), and close the byte connection.
+    /// Why the end has ended; `None` if it has not. If it has, send the rest of [`outgoing`](End::outgoing)
+    /// (unless the byte connection broke), and close the byte connection.
     pub fn ended(&mut self) -> Option<Ending> {
         let mut detail = 0;
         match unsafe { ffi::osi_ended(self.at(), &mut detail) } {
@@ -413,40 +414,40 @@ impl End {
         }
     }
 
-    /// Whether the byte connection may be closed now: nothing is [`outgoing`](End::outgoing), and the end
-    /// has ended, or there were connections and none is live. To ask for another connection, keep it open.
+    /// Whether you may close the byte connection now: [`outgoing`](End::outgoing) lends nothing, and either the
+    /// end has ended, or there were connections and none is live. To ask for another connection, keep it open.
     pub fn is_over(&mut self) -> bool {
         unsafe { ffi::osi_is_over(self.at()) }
     }
 
-    /// How many octets are kept of a packet, of TSDUs and of data in parts that are not whole yet: at
+    /// How many octets the end keeps of a packet, of TSDUs and of data in parts that are not whole yet: at
     /// most 65,535, and 2,097,148 for each live connection.
     pub fn kept(&mut self) -> usize {
         unsafe { ffi::osi_kept(self.at()) }
     }
 
-    /// How many octets of a connection were handed in and are not yet [`outgoing`](End::outgoing), since
-    /// the peer gives no credit for them; 0 for a connection that is gone or never was.
+    /// How many octets of a connection's TSDUs the peer's credit holds back, so that
+    /// [`outgoing`](End::outgoing) doesn't lend them yet; 0 for a connection that is gone or never was.
     pub fn unsent(&mut self, of: Reference) -> usize {
         unsafe { ffi::osi_unsent(self.at(), of.0) }
     }
 
-    /// The octets of [`unsent`](End::unsent) of all connections together.
+    /// The sum of [`unsent`](End::unsent) over all connections.
     pub fn backlog(&mut self) -> usize {
         unsafe { ffi::osi_backlog(self.at()) }
     }
 
-    /// How many connections are live, at most 64: those whose transport connection is asked for, open or
+    /// How many connections are live, at most 64: those whose transport connection is being opened, open or
     /// closing.
     pub fn live(&mut self) -> usize {
         unsafe { ffi::osi_live(self.at()) }
     }
 
-    /// The oldest indication of the connection with the lowest reference that has one. It takes no
-    /// memory.
+    /// Fetches the oldest indication of the connection with the lowest reference that has one. It allocates
+    /// nothing.
     ///
     /// # Panics
-    /// Where the library shows what this crate does not know, which none that it was made for does.
+    /// If the library returns an indication that this crate doesn't know. The library that belongs to it has none.
     pub fn next_indication(&mut self) -> Option<(Reference, Indication<&[u8]>)> {
         self.feed_next(&mut [].as_slice())
     }
@@ -458,7 +459,7 @@ impl End {
     /// The indication that was fetched last.
     fn last_indication(&mut self) -> Option<(Reference, Indication<&[u8]>)> {
         let mut shown = MaybeUninit::<ffi::osi_indication>::uninit();
-        // SAFETY, beside that of each call: an indication is filled in whole; its user data is lent
+        // SAFETY, in addition to that of each call: an indication is filled in completely; its user data is lent
         // until the next call with this end, and the slice holds the borrow that a call needs.
         let (shown, user_data) = unsafe {
             ffi::osi_last_with_size(self.at(), shown.as_mut_ptr(), size_of::<ffi::osi_indication>());
@@ -472,7 +473,7 @@ impl End {
         Some((Reference(shown.reference), indication))
     }
 
-    /// Where a connection stands; `None` for a reference that was never given.
+    /// The phase of a connection; `None` for a reference that was never given.
     pub fn phase(&mut self, of: Reference) -> Option<Phase> {
         Phase::of(unsafe { ffi::osi_phase(self.at(), of.0) })
     }
@@ -500,9 +501,9 @@ impl End {
         unsafe { ffi::osi_lowest_restart(self.at(), of.0) }
     }
 
-    /// The addresses of a connection: those that were asked for here, or those that came, as soon as
-    /// [`Indication::Connect`] waits. `None` for a connection that is gone or never was, and where no CN
-    /// came yet.
+    /// The addresses of a connection: those that you asked for, or on the called side the peer's, from the
+    /// moment [`Indication::Connect`] is pending. `None` for a connection that is gone or never was, and
+    /// before the CN has come.
     pub fn addresses(&mut self, of: Reference) -> Option<Addresses> {
         let mut shown = ffi::osi_addressing::default();
         let code = unsafe { ffi::osi_addresses(self.at(), of.0, &mut shown) };

@@ -1,5 +1,5 @@
-//! What `include/osi.h` declares, as it is laid out there. Its tests compare each struct
-//! and each number with what the C compiler says of them.
+//! The declarations of `include/osi.h`, with the same layout. The tests compare each struct and each number
+//! with what the C compiler says of them.
 
 use std::ffi::{c_char, c_void};
 
@@ -115,7 +115,7 @@ pub struct osi_addressing {
 pub const OSI_OK: u32 = 0;
 pub const OSI_END_NONE: u32 = 0;
 
-/// A call of a user that has nothing but user data.
+/// A call of a user with user data alone.
 pub type Says = unsafe extern "C" fn(*mut osi_end, u16, *const u8, usize) -> u32;
 
 extern "C" {
@@ -211,7 +211,7 @@ extern "C" {
     pub fn osi_version() -> *const c_char;
 }
 
-/// Octets as C takes them. The pointer of a slice is never null, also where the slice is empty.
+/// Octets as C takes them. The pointer of a slice is never null, even if the slice is empty.
 pub fn lend(octets: &[u8]) -> osi_octets {
     osi_octets { at: octets.as_ptr(), length: octets.len() }
 }

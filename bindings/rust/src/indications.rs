@@ -1,155 +1,155 @@
-//! What the user of a connection is shown.
+//! The indications that the user of a connection receives.
 
 use crate::codes::{Fault, Spelling};
 use crate::ffi;
 use crate::terms::{Sides, Sizes, Tokens, Units};
 
-/// What the user of a connection is shown (X.215 section 10, indications and confirms).
+/// An indication for the user of a connection (X.215 section 10, indications and confirms).
 ///
-/// `D` is what holds user data: `&[u8]` where the end lends it, until the next call with that end, and
-/// `Vec<u8>` once it is kept by [`into_owned`](Indication::into_owned). The abbreviations are the units
-/// of X.225 section 8.
+/// `D` holds the user data: `&[u8]` as long as the end lends it, until the next call with that end, and
+/// `Vec<u8>` after [`into_owned`](Indication::into_owned). The abbreviations are the units of X.225
+/// section 8.
 #[derive(Clone, Debug, PartialEq, Eq, Hash)]
 pub enum Indication<D> {
-    /// CN: a connection is asked for. Answer by [`End::accept`](crate::End::accept) or
+    /// CN: the peer asks for a connection. Answer by [`End::accept`](crate::End::accept) or
     /// [`End::refuse`](crate::End::refuse).
     Connect {
         /// The functional units that the peer offers.
         requirements: Units,
-        /// The number of the first point, 0 to 999,999, where the CN names one.
+        /// The number of the first point, 0 to 999,999, if the CN names one.
         number: Option<u32>,
-        /// Who is to hold each token.
+        /// Which side is to hold each token.
         wishes: Sides,
         /// The sizes that the CN names.
         sizes: Sizes,
-        /// What the peer's user says.
+        /// User data.
         user_data: D,
     },
-    /// AC: the connection that was asked for is there.
+    /// AC: the peer accepts the connection.
     Connected {
-        /// The functional units that the peer names. Those of both sides are selected.
+        /// The functional units that the peer names. Those that both sides name are selected.
         requirements: Units,
-        /// The number of the first point, 0 to 999,999, where the AC names one.
+        /// The number of the first point, 0 to 999,999, if the AC names one.
         number: Option<u32>,
-        /// Who holds each token.
+        /// Which side holds each token.
         sides: Sides,
         /// The sizes that the AC names.
         sizes: Sizes,
-        /// What the peer's user says.
+        /// User data.
         user_data: D,
     },
-    /// DR: there is no transport connection.
+    /// DR: the transport connection is refused.
     RefusedByTransport {
-        /// X.224 section 13.5.3.
+        /// The reason of the DR (X.224 section 13.5.3).
         reason: u8,
     },
     /// RF: the session connection is refused.
     RefusedBySession {
-        /// 0, 1 and 2 are of the called user, 128 and above of its provider.
+        /// 0, 1 and 2 come from the called user, 128 and above from its provider.
         reason: u8,
-        /// What the peer's user says.
+        /// User data.
         user_data: D,
     },
     /// DT: data.
     Data {
-        /// An octet at least.
+        /// User data, at least one octet.
         user_data: D,
     },
-    /// GT: tokens are given to this side.
+    /// GT: the peer gives tokens to this side.
     Given {
-        /// Which.
+        /// Which tokens.
         tokens: Tokens,
     },
-    /// PT: tokens are asked for.
+    /// PT: the peer asks for tokens.
     Asked {
-        /// Which.
+        /// Which tokens.
         tokens: Tokens,
-        /// What the peer's user says.
+        /// User data.
         user_data: D,
     },
     /// MIP: a minor point.
     Minor {
         /// Its number, 0 to 999,999.
         number: u32,
-        /// Whether [`End::minor_confirm`](crate::End::minor_confirm) is asked for.
+        /// Whether the peer asks for [`End::minor_confirm`](crate::End::minor_confirm).
         confirm: bool,
-        /// What the peer's user says.
+        /// User data.
         user_data: D,
     },
-    /// MIA: the minor points up to this number are confirmed.
+    /// MIA: the peer confirms the minor points up to this number.
     MinorConfirmed {
         /// Its number, 0 to 999,999.
         number: u32,
-        /// What the peer's user says.
+        /// User data.
         user_data: D,
     },
     /// MAP: a major point. Answer by [`End::major_confirm`](crate::End::major_confirm).
     Major {
         /// Its number, 0 to 999,999.
         number: u32,
-        /// What the peer's user says.
+        /// User data.
         user_data: D,
     },
-    /// MAA: the major point is confirmed.
+    /// MAA: the peer confirms the major point.
     MajorConfirmed {
-        /// What the peer's user says.
+        /// User data.
         user_data: D,
     },
     /// RS: a restart at a point. Answer by [`End::restart_confirm`](crate::End::restart_confirm).
     Restart {
-        /// The number that the next point has then, 0 to 999,999.
+        /// The number that the next point then has, 0 to 999,999.
         number: u32,
-        /// Who is to hold each token.
+        /// Which side is to hold each token.
         wishes: Sides,
-        /// What the peer's user says.
+        /// User data.
         user_data: D,
     },
-    /// RA: the restart is confirmed.
+    /// RA: the peer confirms the restart.
     Restarted {
         /// The number that the next point has, 0 to 999,999.
         number: u32,
-        /// Who holds each token.
+        /// Which side holds each token.
         sides: Sides,
-        /// What the peer's user says.
+        /// User data.
         user_data: D,
     },
-    /// FN: the release is asked for. Answer by [`End::release_accept`](crate::End::release_accept) or
+    /// FN: the peer asks for the release. Answer by [`End::release_accept`](crate::End::release_accept) or
     /// [`End::release_refuse`](crate::End::release_refuse).
     Release {
-        /// What the peer's user says.
+        /// User data.
         user_data: D,
     },
     /// DN: the connection is released.
     Released {
-        /// What the peer's user says.
+        /// User data.
         user_data: D,
     },
-    /// NF: the release is refused.
+    /// NF: the peer refuses the release.
     ReleaseRefused {
-        /// What the peer's user says.
+        /// User data.
         user_data: D,
     },
     /// AB of the peer's user.
     Aborted {
-        /// What the peer's user says.
+        /// User data.
         user_data: D,
     },
-    /// The transport connection was closed or broken, or had a fault.
+    /// The transport connection was closed, broke, or had a fault.
     Lost,
     /// AB of the peer's provider.
     PeerAbort {
         /// The octet of its parameter 17 (X.225 section 8).
         reason: u8,
     },
-    /// This end aborts, since a unit that came is bad.
+    /// This end aborts because it received a bad unit.
     BadUnit {
-        /// Why it is.
+        /// Why the unit is bad.
         fault: Fault,
     },
 }
 
 impl<D: AsRef<[u8]>> Indication<D> {
-    /// The user data, of those that have some.
+    /// The user data, if the indication has some.
     pub fn user_data(&self) -> Option<&[u8]> {
         match self {
             Indication::Connect { user_data, .. }
@@ -177,7 +177,7 @@ impl<D: AsRef<[u8]>> Indication<D> {
 }
 
 impl<D> Indication<D> {
-    /// Whether the connection is over with this indication.
+    /// Whether the connection is over after this indication.
     pub fn is_over(&self) -> bool {
         matches!(
             self,
@@ -191,7 +191,7 @@ impl<D> Indication<D> {
         )
     }
 
-    /// The same indication with its user data as a function makes it.
+    /// The same indication, with its user data converted by a function.
     pub fn map<E>(self, made: impl FnOnce(D) -> E) -> Indication<E> {
         match self {
             Indication::Connect { requirements, number, wishes, sizes, user_data } => {
@@ -241,14 +241,14 @@ impl<D> Indication<D> {
 }
 
 impl Indication<&[u8]> {
-    /// The same indication with a copy of its user data, to be kept or handed to another thread.
+    /// The same indication with a copy of its user data, which you can keep or hand to another thread.
     pub fn into_owned(self) -> Indication<Vec<u8>> {
         self.map(<[u8]>::to_vec)
     }
 }
 
 impl<'a> Indication<&'a [u8]> {
-    /// What C shows; none for `OSI_NONE` and for a tag that this crate does not know.
+    /// The indication of C's struct; `None` for `OSI_NONE` and for a tag that this crate doesn't know.
     pub(crate) fn of(shown: &ffi::osi_indication, user_data: &'a [u8]) -> Option<Self> {
         let requirements = Units::from_bits(shown.requirements);
         let named = (shown.has_number != 0).then_some(shown.number);

@@ -1,14 +1,14 @@
 //! One end of an OSI session (ITU-T X.225 version 2) over the transport classes 0 and 2 of X.224 in
-//! TPKT packets (RFC 1006), as a value that is fed octets and gives octets.
+//! TPKT packets (RFC 1006). You pass in the octets that you received, and it returns the octets to send.
 //!
-//! Nothing here opens a socket, starts a thread or reads a clock: an [`End`] is what stands between a
-//! byte connection and the users of its session connections. You feed it the octets that came from the
-//! peer, and it gives you octets to send; you call it for your user, and it shows you indications.
+//! Nothing here opens a socket, starts a thread or reads a clock. An [`End`] sits between a byte connection
+//! and the users of its session connections. You feed it the octets that you received from the peer, and it
+//! returns octets to send; you call it for your user, and it returns indications.
 //!
-//! This crate is the safe way to the library for C of the same project (`include/osi.h`), whose
-//! functions are proved: whatever octets come, in whatever pieces, a call returns, and refuses what the
-//! standards' tables refuse. That the calls of this crate keep what that library asks of its caller is
-//! not proved; it is what the types below are for, and is tested.
+//! This crate is the safe way to the library for C of the same project (`include/osi.h`), whose functions
+//! are proved: whatever octets come, in whatever pieces, a call returns, and refuses what the standards'
+//! tables refuse. It is not proved that the calls of this crate keep what that library asks of its caller:
+//! the types below are made for that, and it is tested.
 //!
 //! # Two ends
 //!
@@ -47,27 +47,26 @@
 //!
 //! # The loop of a gateway
 //!
-//! Three things happen in any order, as the socket says.
+//! Three things happen in any order, as the socket becomes ready.
 //!
-//! 1. Octets go out: write as much of [`End::outgoing`] as the socket takes, and say how much by
+//! 1. Octets to send: write as much of [`End::outgoing`] as the socket takes, and pass that number to
 //!    [`End::taken`].
-//! 2. Octets come in: give them to [`End::feed_next`] until it answers `None`.
-//! 3. The peer is gone: [`End::broken`], and then fetch the indications by [`End::next_indication`].
+//! 2. Received octets: pass them to [`End::feed_next`] until it answers `None`.
+//! 3. The peer is gone: call [`End::broken`], and then fetch the indications by [`End::next_indication`].
 //!
 //! After each turn ask [`End::is_over`], which says when to close the socket. The examples `client` and
 //! `server` are such loops over non-blocking sockets of [`std::net`]; the server has many peers in one thread.
 //!
-//! The end keeps what it has to send until it was taken, so the bounds are its holder's: call no more while
-//! [`End::outgoing`] and [`End::backlog`] have much, read no more while `outgoing` has much more, and answer a
-//! connection no more, but [`End::disconnect`] it, where [`End::unsent`] says that its peer gives no credit for
-//! the answers.
+//! The end keeps what it has to send until you have taken it, so you set the bounds. Make no more calls while
+//! [`End::outgoing`] and [`End::backlog`] have many octets. Read no more while `outgoing` has many more than
+//! that. If [`End::unsent`] says that a peer gives no credit for the answers to it, don't answer that
+//! connection any more, but [`End::disconnect`] it.
 //!
-//! # What is lent
+//! # Lent octets
 //!
-//! [`End::outgoing`] and the user data of an [`Indication`] are octets of the end, which are there until
-//! the next call with it. The compiler holds you to that: all calls take `&mut self`, also those that
-//! only look, since that is what the library for C says of them. Copy what is to be kept, or call
-//! [`Indication::into_owned`].
+//! [`End::outgoing`] and the user data of an [`Indication`] are octets of the end, which are valid until the
+//! next call with it. The compiler checks that: all calls take `&mut self`, even those that only read,
+//! because the library for C says so. Copy what you want to keep, or call [`Indication::into_owned`].
 //!
 //! ```compile_fail,E0499
 //! # use osi_session::{End, Terms};
@@ -80,7 +79,7 @@
 //! # Linking
 //!
 //! The build script finds `libosi-session.a` (or `libosi-session.so`) in the folder that `OSI_SESSION_DIR` names, or by
-//! `pkg-config osi-session`. `OSI_SESSION_SHARED=1` links the shared library also where both are there.
+//! `pkg-config osi-session`. With `OSI_SESSION_SHARED=1` it links the shared library, even if both are there.
 
 mod addresses;
 mod codes;
@@ -90,10 +89,10 @@ mod ffi;
 mod indications;
 mod terms;
 
-/// The version of the library for C, as `CARGO_PKG_VERSION` is that of this crate.
+/// The version of the library for C. `CARGO_PKG_VERSION` is that of this crate.
 #[must_use]
 pub fn library_version() -> &'static str {
-    // SAFETY: a text of the library that stays, with a zero at its end.
+    // SAFETY: the library returns a constant text that ends in a zero.
     let text = unsafe { std::ffi::CStr::from_ptr(ffi::osi_version()) };
     text.to_str().unwrap_or("unknown")
 }
@@ -104,14 +103,14 @@ pub use end::{End, Fed};
 pub use indications::Indication;
 pub use terms::{Classes, Opening, Phase, Reference, Refusal, Side, Sides, Sizes, Terms, Tokens, Units};
 
-/// What does not compile. An end is not used by two threads at a time:
+/// These do not compile. Two threads can't use an end at the same time:
 ///
 /// ```compile_fail,E0277
 /// fn is_sync<T: Sync>() {}
 /// is_sync::<osi_session::End>();
 /// ```
 ///
-/// It is not copied:
+/// An end can't be copied:
 ///
 /// ```compile_fail,E0599
 /// # use osi_session::{End, Terms};
@@ -119,7 +118,7 @@ pub use terms::{Classes, Opening, Phase, Reference, Refusal, Side, Sides, Sizes,
 /// let other = end.clone();
 /// ```
 ///
-/// User data that is lent does not outlive the next call, nor the end:
+/// Lent user data doesn't outlive the next call, nor the end:
 ///
 /// ```compile_fail,E0499
 /// # use osi_session::{End, Terms};

@@ -1,4 +1,4 @@
-//! What is passed: the terms of an end, what a connection is asked for with, and where it stands.
+//! What you pass to an end: its terms, the parameters of a connection, and its phases.
 
 use crate::ffi;
 use std::fmt;
@@ -6,12 +6,12 @@ use std::ops::{BitAnd, BitOr};
 
 /// Names a connection of one end: 1 to 65,535, and no number twice.
 ///
-/// An end gives it by [`End::connect`](crate::End::connect), or with an indication.
+/// [`End::connect`](crate::End::connect) answers it, and each indication comes with one.
 #[derive(Clone, Copy, Debug, PartialEq, Eq, PartialOrd, Ord, Hash)]
 pub struct Reference(pub(crate) u16);
 
 impl Reference {
-    /// The reference with this number. That an end has given it is looked at by each call.
+    /// The reference with this number. Each call tests whether the end has given it.
     pub fn new(number: u16) -> Reference {
         Reference(number)
     }
@@ -42,12 +42,12 @@ macro_rules! set {
                 self.0
             }
 
-            /// Both sets joined, which is `|`, in a constant.
+    /// The union of both sets, which is `|`, in a constant.
             pub const fn union(self, other: $name) -> $name {
                 $name(self.0 | other.0)
             }
 
-            /// Whether all of the other set is in this one.
+    /// Whether this set has all of the other one.
             pub const fn contains(self, other: $name) -> bool {
                 self.0 & other.0 == other.0
             }
@@ -83,11 +83,11 @@ pub struct Classes(u8);
 impl Classes {
     /// None. A caller with none takes class 0; a called end with none refuses every connection.
     pub const NONE: Classes = Classes(0);
-    /// Class 0: one connection on each byte connection.
+    /// Class 0: one connection for each byte connection.
     pub const CLASS_0: Classes = Classes(1);
     /// Class 2, with explicit flow control: up to 64 connections.
     pub const CLASS_2: Classes = Classes(2);
-    /// Either: class 2 where the peer has it.
+    /// Both: class 2 if the peer has it.
     pub const BOTH: Classes = Classes(3);
 }
 
@@ -100,9 +100,9 @@ pub struct Units(u16);
 impl Units {
     /// No unit.
     pub const NONE: Units = Units(0);
-    /// Who sends data holds the data token.
+    /// Half-duplex: the side that holds the data token sends data.
     pub const HALF_DUPLEX: Units = Units(0x0001);
-    /// Both sides send data. It goes together with no other unit.
+    /// Both sides send data. It can't be combined with another unit.
     pub const DUPLEX: Units = Units(0x0002);
     /// Minor synchronization points.
     pub const MINOR_SYNC: Units = Units(0x0008);
@@ -116,7 +116,7 @@ impl Units {
 
 set!(Units, u16);
 
-/// A set of tokens (X.215 section 7). A token is there where its functional unit is selected.
+/// A set of tokens (X.215 section 7). A token is available if its functional unit is selected.
 #[derive(Clone, Copy, Debug, Default, PartialEq, Eq, Hash)]
 pub struct Tokens(u8);
 
@@ -135,17 +135,17 @@ impl Tokens {
 
 set!(Tokens, u8);
 
-/// The transport protocol of an end (X.224 section 6.5). The default is class 0 alone, the largest size
-/// and the largest window: peers that know class 0 alone may leave a request that prefers class 2
-/// without an answer. A caller offers both where its peer is known to have class 2; a called end with
-/// both takes what the caller prefers.
+/// The transport protocol of an end (X.224 section 6.5). The default is class 0 alone, the largest size and
+/// the largest window. A caller should offer both classes only to a peer that is known to have class 2: one
+/// that has only class 0 may leave a request that prefers class 2 unanswered. A called end with both takes
+/// the class that the caller prefers.
 #[derive(Clone, Copy, Debug, PartialEq, Eq, Hash)]
 pub struct Terms {
     /// The classes that the end has.
     pub classes: Classes,
     /// The exponent of the largest TPDU in octets: 7 (128 octets) to 13 (8,192).
     pub size: u8,
-    /// How many units of class 2 the peer may send ahead: 1 to 15.
+    /// How many units the peer may send before they are acknowledged, in class 2: 1 to 15.
     pub window: u8,
 }
 
@@ -160,7 +160,7 @@ impl Default for Terms {
 pub enum Refusal<'a> {
     /// No reason is given.
     Unspecified,
-    /// Congestion that passes: the caller may ask again later.
+    /// Temporary congestion: the caller may ask again later.
     Congestion,
     /// This user data says why; it may be empty.
     WithData(&'a [u8]),
@@ -191,7 +191,7 @@ pub enum Side {
     Asker,
     /// The side that answers.
     Answerer,
-    /// In a wish alone: whom the answer names.
+    /// Only in a wish: the answering side chooses.
     Choice,
 }
 
@@ -205,7 +205,7 @@ impl Side {
     }
 }
 
-/// Who holds, or is to hold, each token at first. By default the side that asks.
+/// Which side holds, or is to hold, each token at first. By default it is the side that asks.
 #[derive(Clone, Copy, Debug, Default, PartialEq, Eq, Hash)]
 pub struct Sides {
     /// The data token.
@@ -238,8 +238,7 @@ impl Sides {
     }
 }
 
-/// How many octets a TSDU may have, of those that each side sends: 64 to 65,535, or 0 for no limit (X.225
-/// section 8).
+/// The most octets of a TSDU in each direction: 64 to 65,535, or 0 for no limit (X.225 section 8).
 #[derive(Clone, Copy, Debug, Default, PartialEq, Eq, Hash)]
 pub struct Sizes {
     /// From the side that asks for the connection.
@@ -248,27 +247,27 @@ pub struct Sizes {
     pub from_answerer: u16,
 }
 
-/// A connection that is asked for. Begin with [`Opening::default`], which asks for half-duplex alone,
-/// and has no address, no size and no user data.
+/// The parameters of a connection that you ask for. Begin with [`Opening::default`], which asks for
+/// half-duplex alone, and has no address, no size and no user data.
 #[derive(Clone, Copy, Debug, PartialEq, Eq, Hash)]
 pub struct Opening<'a> {
     /// The functional units.
     pub requirements: Units,
     /// The number of the first point, 0 to 999,999.
     pub serial: u32,
-    /// Who is to hold each token at first.
+    /// Which side is to hold each token at first.
     pub wishes: Sides,
-    /// The transport address of this end, 1 to 32 octets. Where it is empty, none is sent.
+    /// The transport address of this end, 1 to 32 octets. If it is empty, none is sent.
     pub calling_tsap: &'a [u8],
     /// That of the other end.
     pub called_tsap: &'a [u8],
-    /// The session address of this user, 1 to 16 octets. Where it is empty, none is sent.
+    /// The session address of this user, 1 to 16 octets. If it is empty, none is sent.
     pub calling_selector: &'a [u8],
     /// That of the other user.
     pub called_selector: &'a [u8],
-    /// The sizes that are asked for.
+    /// The sizes that you ask for.
     pub sizes: Sizes,
-    /// At most 10,240 octets.
+    /// User data, at most 10,240 octets.
     pub user_data: &'a [u8],
 }
 
@@ -288,7 +287,7 @@ impl Default for Opening<'_> {
     }
 }
 
-/// Where a connection stands (X.225 annex A, states).
+/// The phase of a connection (X.225 annex A, states).
 #[derive(Clone, Copy, Debug, PartialEq, Eq, Hash)]
 pub enum Phase {
     /// The transport connection is awaited.
@@ -299,7 +298,7 @@ pub enum Phase {
     Connecting,
     /// The user is to accept or refuse.
     Answering,
-    /// Anything may happen.
+    /// Data may be sent, points set, and the release requested.
     Ready,
     /// The confirmation of a major point is awaited.
     MajorAsked,
@@ -320,7 +319,7 @@ pub enum Phase {
 }
 
 impl Phase {
-    /// What stands for a number; none for `OSI_PHASE_NONE`.
+    /// The phase of a number; `None` for `OSI_PHASE_NONE`.
     pub(crate) fn of(number: u32) -> Option<Phase> {
         Some(match number {
             1 => Phase::WaitTransport,
