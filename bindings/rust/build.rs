@@ -1,8 +1,8 @@
-//! Finds the library for C: in the folder `OSI_SESSION_DIR` (one that `make lib` made, or one that
-//! `make install` was given as `PREFIX`), or else by `pkg-config`; and looks at its version.
+//! Finds the library for C, and checks its version. It looks in the folder `OSI_SESSION_DIR` (one that
+//! `make lib` made, or the `PREFIX` of a `make install`), or else asks `pkg-config`.
 //!
-//! It is linked statically where `libosi-session.a` is there, unless `OSI_SESSION_SHARED` is set.
-//! With the shared library, what `cargo run` and `cargo test` start finds it too.
+//! It links `libosi-session.a` if that is there, unless `OSI_SESSION_SHARED` is set. With the shared library,
+//! the programs that `cargo run` and `cargo test` start find it too.
 
 use std::env;
 use std::fs;
@@ -17,10 +17,10 @@ find osi-session.pc, by PKG_CONFIG_PATH=PREFIX/lib/pkgconfig.";
 const STATIC: &str = "libosi-session.a";
 const SHARED: &str = "libosi-session.so";
 
-/// The version stands behind these octets in the file of the library (`bindings/c/names.c`), and a zero behind it.
+/// In the file of the library, the version follows these octets, and a zero follows the version (`bindings/c/names.c`).
 const MARK: &[u8] = b"libosi-session ";
 
-/// Where a folder has the library: in itself, or in its `lib`.
+/// The folder that has the library: this one, or its `lib`.
 fn within(folder: &Path) -> Option<PathBuf> {
     let places = [folder.to_path_buf(), folder.join("lib")];
     places.into_iter().find(|place| [STATIC, SHARED].iter().any(|name| place.join(name).is_file()))
@@ -40,7 +40,7 @@ fn numbers(text: &str) -> Option<Vec<u32>> {
     found.filter(|numbers| numbers.len() == 3)
 }
 
-/// The version that the file of a library names.
+/// The version in the file of a library.
 fn version_of(library: &Path) -> Option<Vec<u32>> {
     let octets = fs::read(library).ok()?;
     let at = octets.windows(MARK.len()).position(|window| window == MARK)? + MARK.len();
@@ -48,14 +48,14 @@ fn version_of(library: &Path) -> Option<Vec<u32>> {
     numbers(std::str::from_utf8(&octets[at..at + length]).ok()?)
 }
 
-/// Whether a library has what this crate calls: the number of its soname is that of this version, which
-/// is the first, and with it the second while the first is 0; and it is no older.
+/// Whether a library has all that this crate calls: it has the soname of this version (the first number, and
+/// the second too while the first is 0), and it is not older.
 fn fits(library: &[u32], own: &[u32]) -> bool {
     let same = if own[0] == 0 { 2 } else { 1 };
     library[..same] == own[..same] && library >= own
 }
 
-/// Ends where the library is not one that this crate is for.
+/// Stops the build if the library doesn't fit this crate.
 fn check_version(library: &Path) {
     let own = env::var("CARGO_PKG_VERSION").expect("cargo tells the version");
     let found = version_of(library);
@@ -71,7 +71,7 @@ fn check_version(library: &Path) {
     exit(1);
 }
 
-/// Puts the shared library where cargo lets what it starts look for libraries: into `OUT_DIR`.
+/// Puts the shared library into `OUT_DIR`, where the programs that cargo starts look for libraries.
 fn bring(library: &Path) {
     let own = env::var("CARGO_PKG_VERSION").expect("cargo tells the version");
     let parts: Vec<&str> = own.split('.').collect();
@@ -92,7 +92,7 @@ fn main() {
         println!("cargo:rerun-if-env-changed={name}");
     }
     println!("cargo:rerun-if-changed=build.rs");
-    // What only reads the documentation needs no library.
+    // Building the documentation needs no library.
     if env::var_os("DOCS_RS").is_some() {
         return;
     }

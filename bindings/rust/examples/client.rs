@@ -1,14 +1,13 @@
-//! The calling side of a gateway over [`std::net`]: it sends messages with a minor point behind each,
-//! whose confirmation it awaits, gives the tokens and accepts the release.
+//! The calling side of a gateway over [`std::net`]. It sends messages, sets a minor point after each and waits
+//! for its confirmation; then it gives the tokens and accepts the release.
 //!
 //! ```text
 //! client [--port 4000] [--classes 0|2|20] [--tsdu OCTETS] [--wait SECONDS] [--messages 5] [--log FILE|-]
 //!        [--bulk COUNT] [--size OCTETS]
 //! ```
 //!
-//! With `--bulk` it sends so many messages of one size as fast as they go, with a point behind each, and awaits none of the
-//! confirmations but the last: both sides then write much. The status is 0 where the connection was released, and 3 where
-//! it was lost.
+//! With `--bulk` it sends COUNT messages of one size as fast as possible, with a point after each, and waits only for the
+//! last confirmation, so that both sides write much. The status is 0 if the connection was released, and 3 if it was lost.
 
 mod line;
 
@@ -24,7 +23,7 @@ struct Client {
     of: Reference,
     messages: u32,
     said: u32,
-    /// The bulk: how large each message is; none is sent ahead where this is `None`.
+    /// The size of each message with `--bulk`; `None` without it, when no message is sent ahead.
     size: Option<usize>,
     ready: bool,
     released: bool,
@@ -32,7 +31,7 @@ struct Client {
 }
 
 impl Client {
-    /// The next message, and a point behind it.
+    /// Sends the next message, and sets a point after it.
     fn say_one(&mut self) {
         self.said += 1;
         let text = match self.size {
@@ -45,7 +44,7 @@ impl Client {
         self.line.did(self.of, "minor", set);
     }
 
-    /// The next message; or the tokens where all was said.
+    /// Sends the next message, or gives the tokens after the last one.
     fn go_on(&mut self) {
         if self.said < self.messages {
             return self.say_one();
@@ -54,7 +53,7 @@ impl Client {
         self.line.did(self.of, "give", gave);
     }
 
-    /// Whether messages are sent ahead and little waits to be sent.
+    /// Whether messages are sent ahead and only a few octets are unsent.
     fn has_more(&mut self) -> bool {
         self.size.is_some() && self.ready && self.said < self.messages && self.line.waiting() < MOST_WAITING
     }

@@ -1,12 +1,12 @@
-//! The called side of a gateway over [`std::net`], for many peers at once in one thread: it accepts what is asked for,
-//! confirms each point, answers when it is given the tokens, and releases the connection.
+//! The called side of a gateway over [`std::net`], for many peers at once in one thread. It accepts each connection,
+//! confirms each point, answers after it has received the tokens, and releases the connection.
 //!
 //! ```text
 //! server [--port 4000] [--peers COUNT] [--classes 0|2|20] [--tsdu OCTETS] [--wait SECONDS] [--log FILE|-]
 //! ```
 //!
-//! It prints the port that it listens on (0 takes a free one). With `--peers` it ends when so many peers have come and gone.
-//! A peer whose connection is not shown within `--wait` seconds, or that is silent for so long, is logged and given up.
+//! It prints the port that it listens on (0 takes a free one). With `--peers` it ends after COUNT peers have come and gone.
+//! It gives up a peer that asks for no connection within `--wait` seconds, or that is silent for that long, and logs it.
 
 mod line;
 
@@ -16,10 +16,10 @@ use std::error::Error;
 use std::io::{self, ErrorKind};
 use std::net::{TcpListener, TcpStream};
 
-/// More byte connections wait until one of these is gone.
+/// The most byte connections at a time. Others are accepted once one of these is gone.
 const MOST_PEERS: usize = 64;
 
-/// A byte connection, and what came on it.
+/// A byte connection, and what it has received.
 struct Peer {
     line: Line,
     messages: u32,
@@ -34,7 +34,7 @@ impl Peer {
         self.line.did(of, "accept", accepted);
     }
 
-    /// The tokens came: says how many messages did, and asks for the release.
+    /// The tokens have come: sends the number of messages, and asks for the release.
     fn answer(&mut self, of: Reference) {
         let sent = self.line.end.data(of, format!("{} messages", self.messages).as_bytes());
         self.line.did(of, "data", sent);
@@ -75,7 +75,7 @@ fn peer(stream: TcpStream, log: &Log) -> Result<Peer, Box<dyn Error>> {
     Ok(Peer { line, messages: 0, sizes: Sizes { from_asker: tsdu, from_answerer: tsdu } })
 }
 
-/// Takes the next peer, if there is one.
+/// Accepts the next peer, if there is one.
 fn take(listener: &TcpListener, log: &Log) -> Result<Option<Peer>, Box<dyn Error>> {
     match listener.accept() {
         Ok((stream, _)) => peer(stream, log).map(Some),
@@ -86,7 +86,7 @@ fn take(listener: &TcpListener, log: &Log) -> Result<Option<Peer>, Box<dyn Error
     }
 }
 
-/// Waits until there is something to do, and carries what the peers have; whether another peer is at the door.
+/// Waits until there is something to do, and reads and writes for all peers. Returns whether another peer can be accepted.
 fn turn(listener: &TcpListener, takes: bool, peers: &mut Vec<Peer>) -> io::Result<bool> {
     let mut waits: Vec<Waits> = peers.iter_mut().map(|peer| peer.line.waits()).collect();
     if takes && peers.len() < MOST_PEERS {

@@ -1,5 +1,5 @@
-//! One end on its socket, and its log: what the examples `client` and `server` have in common. No call of it waits, so one
-//! thread carries many of them ([`wait`]), and a peer that does not read holds up nobody.
+//! One end on its socket, and its log: what the examples `client` and `server` have in common. No call of a line blocks, so
+//! one thread serves many lines ([`wait`]), and a peer that doesn't read delays nobody.
 
 #![allow(dead_code)]
 
@@ -15,17 +15,17 @@ use std::os::fd::{AsRawFd, RawFd};
 use std::rc::Rc;
 use std::time::{Duration, Instant};
 
-/// A side calls no more while so many octets wait to be sent: those that go next, and those that wait for credit.
+/// A side makes no more calls while this many octets are unsent: outgoing ones, and those that wait for credit.
 pub const MOST_WAITING: usize = 262_144;
-/// It reads no more while so many octets go next: what it reads is answered. This is above the bound of calls, since else
-/// two sides that both write much would read no more, and wait for each other for ever.
+/// It reads no more while this many octets are outgoing, because it answers what it reads. This bound is above that of
+/// calls: otherwise two sides that both write much would stop reading, and wait for each other for ever.
 const MOST_OUTGOING: usize = 524_288;
-/// A connection whose peer gives no credit for so many octets of answers gets no more of them, and is given up.
+/// If a peer gives no credit for this many octets of answers, its connection is answered no more and given up.
 pub const MOST_UNSENT: usize = 16_384;
 
-// ---- waiting for many sockets, which the standard library has no call for
+// ---- waiting for many sockets: the standard library has no call for this
 
-/// What is waited for at a socket, and what came of it: `struct pollfd` of POSIX.
+/// The events to wait for at a socket, and those that happened: `struct pollfd` of POSIX.
 #[repr(C)]
 pub struct Waits {
     socket: RawFd,
@@ -46,15 +46,15 @@ extern "C" {
 }
 
 impl Waits {
-    /// Waits until the socket can be read.
+    /// Waits until there is something to read from the socket.
     pub fn to_read(socket: &impl AsRawFd) -> Waits {
         Waits { socket: socket.as_raw_fd(), events: POLLIN, found: 0 }
     }
 }
 
-/// Waits until something is found at one of these sockets, or for so long.
+/// Waits until an event happens at one of these sockets, at most for this time.
 pub fn wait(waits: &mut [Waits], timeout: Option<Duration>) -> io::Result<()> {
-    // In milliseconds, rounded up, so that nobody is woken just before his time.
+    // In milliseconds, rounded up, so that it never returns just before a deadline.
     let timeout = timeout.map_or(-1, |time| time.as_micros().div_ceil(1000).try_into().unwrap_or(c_int::MAX));
     // SAFETY: the pointer and the length are those of a slice of structs as POSIX lays them out.
     match unsafe { poll(waits.as_mut_ptr(), waits.len() as Count, timeout) } {
@@ -79,7 +79,7 @@ pub fn log() -> io::Result<Log> {
     Ok(Rc::new(RefCell::new(log)))
 }
 
-/// What is on the command line: switches with a value, as `--port 4000`.
+/// The command line: switches with a value, such as `--port 4000`.
 pub fn option(name: &str, otherwise: &str) -> String {
     let mut words = env::args().skip_while(|word| word != name).skip(1);
     words.next().unwrap_or_else(|| otherwise.to_string())
@@ -106,7 +106,7 @@ fn opened(requirements: Units, number: Option<u32>, sides: Sides) -> String {
     format!("units {:04x} serial {serial} sides {}", requirements.bits(), letters(sides))
 }
 
-/// The sizes that a CN or an AC names, where one is not 0.
+/// The sizes that a CN or an AC names, if one of them is not 0.
 fn named(sizes: Sizes) -> String {
     match sizes {
         Sizes { from_asker: 0, from_answerer: 0 } => String::new(),
@@ -153,7 +153,7 @@ fn words(indication: &Indication<Vec<u8>>) -> String {
 
 // ---- an end on its socket
 
-/// An end, its socket, and how long its user has patience with the peer.
+/// An end, its socket, and how long its user waits for the peer.
 pub struct Line {
     pub end: End,
     stream: TcpStream,
@@ -167,7 +167,7 @@ pub struct Line {
 }
 
 impl Line {
-    /// A line that never waits. Without a log nothing is written of what is called and shown.
+    /// A line that never blocks. Without a log, calls and indications are not written down.
     pub fn new(end: End, stream: TcpStream, side: &'static str, log: Option<Log>) -> io::Result<Line> {
         stream.set_nodelay(true)?;
         stream.set_nonblocking(true)?;
@@ -183,7 +183,7 @@ impl Line {
         }
     }
 
-    /// Writes the line of a call, and answers whether it was done.
+    /// Writes a call to the log, and answers whether it was done.
     pub fn did(&self, of: Reference, call: &str, answer: Result<(), Error>) -> bool {
         match answer {
             Ok(()) => self.say(format_args!("{of} {call} ok")),
@@ -192,7 +192,7 @@ impl Line {
         answer.is_ok()
     }
 
-    /// Whether a connection may be answered. One whose peer asks on and gives no credit for the answers is given up.
+    /// Whether a connection may be answered. If its peer keeps asking and gives no credit for the answers, it is given up.
     pub fn may_answer(&mut self, of: Reference) -> bool {
         if self.end.unsent(of) <= MOST_UNSENT {
             return true;
@@ -202,29 +202,29 @@ impl Line {
         false
     }
 
-    /// How many octets wait to be sent: those that go next, and those that the peer gives no credit for.
+    /// How many octets are unsent: outgoing ones, and those that wait for the peer's credit.
     pub fn waiting(&mut self) -> usize {
         self.end.outgoing().len() + self.end.backlog()
     }
 
-    /// What its socket is to be waited for.
+    /// Which events of its socket to wait for.
     pub fn waits(&mut self) -> Waits {
         let reads = if self.end.outgoing().len() <= MOST_OUTGOING { POLLIN } else { 0 };
         let writes = if self.end.wants_write() { POLLOUT } else { 0 };
         Waits { socket: self.stream.as_raw_fd(), events: reads | writes, found: 0 }
     }
 
-    /// When the peer is given up, unless something happens before.
+    /// When to give up the peer, unless something happens before.
     fn deadline(&self) -> Instant {
         (if self.was_shown { self.moved } else { self.began }) + self.patience
     }
 
-    /// For how long its socket may be waited for.
+    /// How long to wait for its socket.
     pub fn timeout(&self) -> Duration {
         self.deadline().saturating_duration_since(Instant::now())
     }
 
-    /// Writes what can be written, once.
+    /// Writes once, as much as the socket takes.
     fn transmit(&mut self) -> io::Result<()> {
         match self.stream.write(self.end.outgoing()) {
             Ok(count) => {
@@ -236,7 +236,7 @@ impl Line {
         }
     }
 
-    /// Reads what there is, once: so many octets, and `None` once the peer has closed.
+    /// Reads once. Returns the number of octets, or `None` if the peer has closed.
     fn receive(&mut self, piece: &mut [u8]) -> io::Result<Option<usize>> {
         match self.stream.read(piece) {
             Ok(0) => Ok(None),
@@ -248,7 +248,7 @@ impl Line {
         }
     }
 
-    /// Says why the peer is given up, and of connections that were never shown where they stand.
+    /// Logs why the peer is given up, and the phase of each connection that had no indication yet.
     fn give_up(&mut self) {
         let why = if self.was_heard && !self.was_shown { "nothing was shown" } else { "the peer is silent" };
         self.say(format_args!("gives up: {why}"));
@@ -259,14 +259,14 @@ impl Line {
     }
 }
 
-/// What stands at a line: a client, or what a server knows of one peer.
+/// The user of a line: a client, or a server's state for one peer.
 pub trait User {
     fn line(&mut self) -> &mut Line;
 
-    /// Is told of each indication.
+    /// Receives each indication.
     fn shown(&mut self, of: Reference, indication: Indication<Vec<u8>>);
 
-    /// Feeds what came, and tells of all that is shown.
+    /// Feeds the octets that were received, and passes each indication to the user.
     fn feed(&mut self, mut piece: &[u8]) {
         loop {
             let line = self.line();
@@ -278,7 +278,7 @@ pub trait User {
         }
     }
 
-    /// Carries what can be carried, once; whether the byte connection goes on.
+    /// Reads and writes once. Returns whether the byte connection goes on.
     fn carry(&mut self, found: c_short) -> io::Result<bool> {
         let mut piece = [0; 65536];
         let came = if found & !POLLOUT != 0 { self.line().receive(&mut piece)? } else { Some(0) };
@@ -292,8 +292,8 @@ pub trait User {
         Ok(!line.end.is_over())
     }
 
-    /// One turn of the loop, behind [`wait`]: carries what can be carried, and waits for nothing. False once there is
-    /// nothing left to do, since the byte connection is over, or the peer was given up; then the line is dropped.
+    /// One turn of the loop, after [`wait`]: reads and writes, and never blocks. False if there is nothing left to do,
+    /// because the byte connection is over or the peer was given up; then drop the line.
     fn turn(&mut self, found: c_short) -> bool {
         if found != 0 {
             self.line().moved = Instant::now();
