@@ -42,12 +42,12 @@ macro_rules! set {
                 self.0
             }
 
-    /// The union of both sets, which is `|`, in a constant.
+            /// The union of both sets, which is `|`, in a constant.
             pub const fn union(self, other: $name) -> $name {
                 $name(self.0 | other.0)
             }
 
-    /// Whether this set has all of the other one.
+            /// Whether this set has all of the other one.
             pub const fn contains(self, other: $name) -> bool {
                 self.0 & other.0 == other.0
             }
