@@ -1,17 +1,18 @@
 """One end of an OSI session (ITU-T X.225 version 2) over the transport classes 0 and 2 of X.224 in TPKT
-packets (RFC 1006), as a value that is fed octets and gives octets.
+packets (RFC 1006). You pass in the octets that you received, and it returns the octets to send.
 
     from osi_session import Connect, End, Opening
 
     caller, called = End.caller(), End.called()
     connection = caller.connect(Opening(user_data=b"who is there?"))
 
-Octets of ``end.outgoing()`` go to the peer, and ``end.taken(count)`` says how many went; octets that come
-go to ``end.feed_all(piece)``, which gives the indications. ``osi_session.aio`` does this over asyncio.
+Send the octets of ``end.outgoing()`` to the peer, and pass the number that you sent to ``end.taken(count)``.
+Pass the octets that you received to ``end.feed_all(piece)``, which yields the indications.
+``osi_session.aio`` does both over asyncio.
 
-It calls the shared library libosi-session.so of the same project over ctypes: from the folder that
-OSI_SESSION_DIR names (or the file OSI_SESSION_LIBRARY), else the one in this package, if it was built with
-one, else where the loader or pkg-config finds it.
+The package calls the shared library libosi-session.so of the same project over ctypes. It takes the library
+from the folder that OSI_SESSION_DIR names (or the file OSI_SESSION_LIBRARY), else the one in this package, if
+it was built with one, else the one that the loader or pkg-config finds.
 """
 from ._codes import (
     Classes,

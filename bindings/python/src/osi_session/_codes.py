@@ -1,23 +1,23 @@
-"""The numbers of osi.h by name, and the error of a call that is refused."""
+"""The numbers of osi.h by name, and the exception of a refused call."""
 from __future__ import annotations
 
 from enum import IntEnum, IntFlag
 
 
 class Code(IntEnum):
-    """What a call answers. All but OK change nothing."""
+    """What a call answers. After any code but OK nothing has changed."""
 
     OK = 0
     SLOT_EMPTY = 1
     """The end was freed by ``End.close``."""
     BAD_ARGUMENT = 2
-    """A number or a length is outside its range: a mistake in the program that calls."""
+    """A number or a length is outside its range. The calling program has a bug."""
     NO_MEMORY = 3
-    """There is none. Call again when there is some, or close the socket and call ``End.broken``."""
+    """Memory ran out. Call again when there is some, or close the socket and call ``End.broken``."""
     IN_USE = 4
     """The slot holds an end already. No call of this package answers it."""
     NOTHING = 5
-    """No indication waits. No call of this package answers it."""
+    """No indication is pending. No call of this package answers it."""
     NO_SUCH_CONNECTION = 10
     """This end never gave the reference."""
     ENDED = 11
@@ -25,29 +25,29 @@ class Code(IntEnum):
     BAD_STATE = 12
     """The call is not allowed in this phase (X.225 annex A)."""
     NOT_SELECTED = 13
-    """A functional unit or a token is not there, or units do not go together."""
+    """A functional unit or a token isn't available, or units can't be combined."""
     TOKEN_NOT_HELD = 14
     """The call needs a token that the other side holds."""
     TOKEN_ALREADY_HELD = 15
-    """A token is asked for that is held."""
+    """The call asks for a token that this side holds."""
     BAD_NUMBER = 16
-    """The number is of no point that the call may name."""
+    """The call may not name a point of this number."""
     SERIALS_USED_UP = 17
     """All numbers of points, up to 999,999, are used."""
     EMPTY = 18
-    """No octet of data, or no token."""
+    """Data without an octet, or a set without a token."""
     TOO_LONG = 19
-    """Too many octets; each call says how many there may be."""
+    """Too many octets; each call states its limit."""
     NOT_CALLER = 20
     """Only the calling end asks for connections."""
     NEGOTIATING = 21
     """The first connection is not answered yet: ask again later."""
     ONE_CONNECTION = 22
-    """Class 0 holds, which has one connection."""
+    """The end uses class 0, which has one connection."""
     TOO_MANY = 23
     """64 connections are live."""
     REFERENCES_USED_UP = 24
-    """All 65,535 references were given."""
+    """All 65,535 references are used."""
 
 
 _TEXTS = {
@@ -75,7 +75,7 @@ _TEXTS = {
 
 
 class SessionError(Exception):
-    """A call is refused, and has changed nothing. ``code`` says why."""
+    """A call was refused, and has changed nothing. ``code`` says why."""
 
     code: Code
 
@@ -93,7 +93,7 @@ class Classes(IntFlag):
     NONE = 0
     """A caller with none takes class 0; a called end with none refuses every connection."""
     CLASS_0 = 1
-    """One connection on each byte connection."""
+    """One connection for each byte connection."""
     CLASS_2 = 2
     """With explicit flow control: up to 64 connections."""
     BOTH = 3
@@ -112,7 +112,7 @@ class Units(IntFlag):
 
 
 class Tokens(IntFlag):
-    """Tokens (X.215 section 7). A token is there where its functional unit is selected."""
+    """Tokens (X.215 section 7). A token is available if its functional unit is selected."""
 
     NONE = 0
     DATA = 0x01
@@ -129,7 +129,7 @@ class Side(IntEnum):
     ANSWERER = 1
     """The side that answers."""
     CHOICE = 2
-    """In a wish alone: whom the answer names."""
+    """Only in a wish: the answering side chooses."""
 
 
 class Refusal(IntEnum):
@@ -138,13 +138,13 @@ class Refusal(IntEnum):
     UNSPECIFIED = 0
     """No reason is given."""
     CONGESTION = 1
-    """Congestion that passes: the caller may ask again later."""
+    """Temporary congestion: the caller may ask again later."""
     WITH_DATA = 2
-    """User data says why; it goes with this reason alone, and may be empty."""
+    """User data says why. Only this reason may have user data, which may be empty."""
 
 
 class Phase(IntEnum):
-    """Where a connection stands (X.225 annex A, states)."""
+    """The phase of a connection (X.225 annex A, states)."""
 
     NONE = 0
     """The reference was never given, or the end is closed."""
@@ -176,8 +176,8 @@ class Phase(IntEnum):
 
 
 class Reason(IntEnum):
-    """Why an end has ended. Those from UNKNOWN_REFERENCE on say which rule of X.224 or RFC 1006 the peer
-    broke, or that there was no memory for what it sent."""
+    """Why an end has ended. From UNKNOWN_REFERENCE on, each names a rule of X.224 or RFC 1006 that the peer
+    broke, or says that memory ran out for what the peer sent."""
 
     BROKEN = 1
     """``End.broken`` was called."""
@@ -186,17 +186,17 @@ class Reason(IntEnum):
     PEER_CLOSED = 3
     """The peer closed it by a DR: the detail is the reason (X.224 section 13.5.3)."""
     NO_MEMORY = 4
-    """There was no memory for what was fed."""
+    """Memory ran out in ``End.feed``."""
     UNKNOWN_REFERENCE = 5
     BAD_ANSWER = 6
     UNEXPECTED_UNIT = 7
     BAD_VERSION = 10
-    """The detail is the place in the stream of the packet's first octet."""
+    """The detail is the offset of the packet's first octet in the stream."""
     BAD_LENGTH = 11
-    """The detail is the place in the stream of the packet's first octet."""
+    """The detail is the offset of the packet's first octet in the stream."""
     NO_MEMORY_FOR_PACKET = 12
     BAD_LI = 13
-    """Of this one and the next four the detail is the place of the octet in the packet's units."""
+    """For this one and the next four, the detail is the offset of the octet in the packet's units."""
     UNKNOWN_CODE = 14
     BAD_PARAMETER_LENGTH = 15
     BAD_PARAMETER_VALUE = 16
@@ -209,7 +209,7 @@ class Reason(IntEnum):
 
 
 class FaultKind(IntEnum):
-    """Why a session unit that came is bad (X.225 section 8 and annex A)."""
+    """Why a received session unit is bad (X.225 section 8 and annex A)."""
 
     SPELLING = 1
     """Its octets are no unit."""
@@ -220,13 +220,13 @@ class FaultKind(IntEnum):
     TOKEN_NOT_HELD = 4
     """The peer does not hold a token that it needs."""
     BAD_NUMBER = 5
-    """Its number is of no point that it may name."""
+    """It may not name a point of this number."""
     BAD_TOKENS = 6
-    """Its tokens or sides are not as they may be."""
+    """It names tokens or sides that it may not name."""
     BAD_ENCLOSURE = 7
-    """It does not come where it stands among the parts of one Data."""
+    """It is a part of a Data that is out of its place."""
     DATA_TOO_LONG = 8
-    """With it the parts of one Data have more than 1,048,572 octets."""
+    """With this part, the Data has more than 1,048,572 octets."""
 
 
 class Spelling(IntEnum):

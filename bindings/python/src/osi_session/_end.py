@@ -15,15 +15,15 @@ T = TypeVar("T", bound="End")
 
 
 def _octets(value: bytes) -> bytes:
-    """The octets of a bytes, bytearray or memoryview, which do not change. (A bytes of a number would be
-    so many zeros.)"""
+    """The octets of a bytes, bytearray or memoryview, as an immutable copy. (``bytes`` of a number would be
+    that many zeros.)"""
     if not isinstance(value, (bytes, bytearray, memoryview)):
         raise TypeError(f"octets are bytes, not {type(value).__name__}")
     return bytes(value)
 
 
 def _address(octets: bytes) -> int:
-    """Where octets lie, as long as they are kept."""
+    """The address of octets, valid as long as they are kept."""
     return ctypes.cast(ctypes.c_char_p(octets), ctypes.c_void_p).value or 0
 
 
@@ -32,7 +32,7 @@ def _lent(octets: bytes) -> Octets:
 
 
 def _within(name: str, value: int, bits: int) -> int:
-    """A number that C takes in so many bits: ctypes would cut it silently."""
+    """A number that fits this many bits in C: ctypes would cut a larger one silently."""
     if not 0 <= value < 1 << bits:
         raise SessionError(Code.BAD_ARGUMENT) from ValueError(f"{name} is {value}")
     return value
@@ -50,13 +50,14 @@ class End:
     """One end of a byte connection, with up to 64 session connections in transport class 2, and one in
     class 0. Make it by ``End.caller`` or ``End.called``.
 
-    It is freed by ``close``, at the end of a ``with``, or when nobody has it any more. Calls of several
-    threads wait for each other. User data of a call is at most 10,240 octets unless it is said. A call
-    that is refused raises ``SessionError``, whose ``code`` is the first that applies, and changes nothing.
+    It is freed by ``close``, at the end of a ``with`` block, or when nothing refers to it any more. Calls of
+    several threads wait for each other. User data of a call has at most 10,240 octets, unless the call says
+    otherwise. A refused call raises ``SessionError``, whose ``code`` is the first that applies, and changes
+    nothing.
     """
 
     on_outgoing: Optional[Callable[[], None]] = None
-    """Called behind each call of a user that was done, so that ``outgoing`` may have more."""
+    """Called after each call of a user that was done, because ``outgoing`` may then have more."""
 
     def __init__(self, *, caller: bool, terms: Terms = Terms()) -> None:
         """Use ``End.caller`` and ``End.called``."""
@@ -74,16 +75,16 @@ class End:
 
     @classmethod
     def caller(cls: Type[T], terms: Terms = Terms()) -> T:
-        """The calling end. BAD_ARGUMENT (terms), NO_MEMORY."""
+        """Makes the calling end. BAD_ARGUMENT (terms), NO_MEMORY."""
         return cls(caller=True, terms=terms)
 
     @classmethod
     def called(cls: Type[T], terms: Terms = Terms()) -> T:
-        """The called end. BAD_ARGUMENT (terms), NO_MEMORY."""
+        """Makes the called end. BAD_ARGUMENT (terms), NO_MEMORY."""
         return cls(caller=False, terms=terms)
 
     def close(self) -> None:
-        """Frees the end. Each call then answers SLOT_EMPTY."""
+        """Frees the end. Each call then raises SLOT_EMPTY."""
         with self._lock:
             self._free()
 
@@ -123,15 +124,15 @@ class End:
             self.on_outgoing()
 
     def _say(self, function: Any, reference: int, octets: bytes) -> None:
-        """One that has nothing but user data."""
+        """A call with user data alone."""
         data = _octets(octets)
         self._call(function, reference, data, len(data))
 
     def connect(self, asked: Opening = Opening()) -> int:
-        """Asks for a connection, and gives its reference. The answer is an indication: ``Connected``, one
-        of the two refusals, or why it is over.
+        """Asks for a connection, and returns its reference. The peer's answer comes as an indication:
+        ``Connected``, one of the two refusals, or one that says why the connection is over.
 
-        BAD_ARGUMENT (the serial, a size of 1 to 63, a transport address of over 32 octets), SLOT_EMPTY,
+        BAD_ARGUMENT (the serial, a size of 1 to 63, a transport address of more than 32 octets), SLOT_EMPTY,
         NOT_CALLER, ENDED, NEGOTIATING, ONE_CONNECTION, TOO_MANY, REFERENCES_USED_UP, NOT_SELECTED, TOO_LONG, NO_MEMORY."""
         kept = [
             _octets(octets)
@@ -167,11 +168,11 @@ class End:
         user_data: bytes = b"",
         sizes: Sizes = Sizes(),
     ) -> None:
-        """Answers ``Connect``. The units are some of those that were offered, half-duplex among them, or
-        duplex alone; the number is that of the first point, 0 to 999,999; the sides hold the tokens whose
-        holder was this side's choice; the sizes are this side's own: where the CN names one, the smaller is
-        agreed upon, and where it names 0, there is no limit. BAD_ARGUMENT, BAD_STATE, NOT_SELECTED,
-        TOO_LONG, and those of every call: SLOT_EMPTY, NO_SUCH_CONNECTION, ENDED, NO_MEMORY."""
+        """Answers ``Connect``. Select some of the units that were offered: half-duplex, with or without
+        others, or duplex alone. The number is that of the first point, 0 to 999,999. The sides say who holds
+        the tokens whose choice was left to this side. The sizes are this side's own: if the CN names a size,
+        the smaller of the two is agreed; if it names 0, there is no limit. BAD_ARGUMENT, BAD_STATE,
+        NOT_SELECTED, TOO_LONG, and those of every call: SLOT_EMPTY, NO_SUCH_CONNECTION, ENDED, NO_MEMORY."""
         data, passed = _octets(user_data), _sides(sides)
         units = _within("requirements", requirements, 16)
         first = _within("number", number, 32)
@@ -179,11 +180,11 @@ class End:
         self._call(self._osi.osi_accept_sized, reference, units, first, byref(passed), *both, data, len(data))
 
     def refuse(self, reference: int, user_data: bytes = b"") -> None:
-        """Refuses what ``Connect`` asks for. BAD_STATE, TOO_LONG, and those of every call."""
+        """Refuses the connection of ``Connect``. BAD_STATE, TOO_LONG, and those of every call."""
         self._say(self._osi.osi_refuse, reference, user_data)
 
     def refuse_with(self, reference: int, reason: Refusal, user_data: bytes = b"") -> None:
-        """The same as ``refuse``, for this reason; user data goes with ``Refusal.WITH_DATA`` alone.
+        """``refuse`` with a reason. Only ``Refusal.WITH_DATA`` may have user data.
         BAD_ARGUMENT, and those of ``refuse``."""
         data = _octets(user_data)
         self._call(self._osi.osi_refuse_with, reference, _within("reason", reason, 8), data, len(data))
@@ -194,20 +195,20 @@ class End:
         self._say(self._osi.osi_data, reference, user_data)
 
     def give(self, reference: int, tokens: Tokens) -> None:
-        """Gives tokens that are held, one at least. BAD_STATE, NOT_SELECTED, TOKEN_NOT_HELD, EMPTY, and
+        """Gives tokens that this side holds, at least one. BAD_STATE, NOT_SELECTED, TOKEN_NOT_HELD, EMPTY, and
         those of every call."""
         self._call(self._osi.osi_give, reference, _within("tokens", tokens, 8))
 
     def please(self, reference: int, tokens: Tokens, user_data: bytes = b"") -> None:
-        """Asks for tokens that are not held, one at least. BAD_STATE, NOT_SELECTED, TOKEN_ALREADY_HELD,
+        """Asks for tokens that this side doesn't hold, at least one. BAD_STATE, NOT_SELECTED, TOKEN_ALREADY_HELD,
         EMPTY, TOO_LONG, and those of every call."""
         data = _octets(user_data)
         self._call(self._osi.osi_please, reference, _within("tokens", tokens, 8), data, len(data))
 
     def minor(self, reference: int, confirm: bool = True, user_data: bytes = b"") -> None:
-        """Sets a minor point, whose number is ``next_serial`` before the call, and asks for its
-        confirmation or not. BAD_STATE, NOT_SELECTED, TOKEN_NOT_HELD, SERIALS_USED_UP, TOO_LONG, and those
-        of every call."""
+        """Sets a minor point, with or without a request for its confirmation. The point has the number that
+        ``next_serial`` has before the call. BAD_STATE, NOT_SELECTED, TOKEN_NOT_HELD, SERIALS_USED_UP,
+        TOO_LONG, and those of every call."""
         data = _octets(user_data)
         self._call(self._osi.osi_minor, reference, int(bool(confirm)), data, len(data))
 
@@ -227,7 +228,7 @@ class End:
         self._say(self._osi.osi_major_confirm, reference, user_data)
 
     def restart(self, reference: int, number: int, wishes: Sides = Sides(), user_data: bytes = b"") -> None:
-        """Restarts at a point, whose number the next one then has. BAD_STATE, NOT_SELECTED, BAD_NUMBER,
+        """Restarts at this number, which the next point then has. BAD_STATE, NOT_SELECTED, BAD_NUMBER,
         TOO_LONG, and those of every call."""
         data, passed = _octets(user_data), _sides(wishes)
         point = _within("number", number, 32)
@@ -256,10 +257,10 @@ class End:
         self._say(self._osi.osi_abort, reference, user_data)
 
     def disconnect(self, reference: int) -> None:
-        """Gives up one connection at once, whatever it waits for: what the peer's credit holds back is
-        dropped, and nothing of this connection is shown any more, its pending indications included. In class
-        2 a disconnect request is outgoing, the peer's user is shown ``Lost``, and all other connections go
-        on. In class 0 the end ends. A connection that is gone already loses its pending indications.
+        """Gives up one connection at once, whatever it waits for. It drops the octets that the peer's credit
+        holds back, and the pending indications of this connection, which has no more of them. In class 2 it
+        sends a disconnect request, the peer's user receives ``Lost``, and all other connections go on. In
+        class 0 the end ends. If the connection is gone already, only its pending indications are dropped.
         SLOT_EMPTY, NO_SUCH_CONNECTION, BAD_STATE (WAIT_TRANSPORT: the peer has not answered yet; call again
         in a later phase), NO_MEMORY."""
         self._call(self._osi.osi_disconnect, reference)
@@ -274,16 +275,16 @@ class End:
         return Fed(fed.used, fed.waits)
 
     def feed(self, piece: bytes) -> Fed:
-        """Feeds octets that came from the peer, in the order in which they came, cut in any way. It stops
-        behind a packet that gives an indication, and uses nothing while one waits; ``feed_all`` is the
-        loop that this asks for. Once the end has ended it uses all. SLOT_EMPTY."""
+        """Feeds octets that you received from the peer, in their order, cut in any way. It stops after a packet
+        that causes an indication, and uses nothing while one is pending; ``feed_all`` is the loop around it.
+        Once the end has ended, it uses everything. SLOT_EMPTY."""
         octets = _octets(piece)
         return self._feed(_address(octets), len(octets))
 
     def feed_all(self, piece: bytes) -> Iterator[Indication]:
-        """Feeds all of a piece, and gives each indication as it comes, those that waited first. The user
-        may call the end between them. Go through to the end: what is not gone through is not fed.
-        SLOT_EMPTY, where octets are left and the end was closed."""
+        """Feeds all of a piece, and yields each indication, pending ones first. You may call the end between
+        them. Iterate to the end, because the rest of the piece is fed only as you go on. SLOT_EMPTY, if
+        octets are left and the end was closed."""
         octets = _octets(piece)
         at, used = _address(octets), 0
         while True:
@@ -296,8 +297,8 @@ class End:
             used += self._feed(at + used, len(octets) - used).used
 
     def outgoing(self, most: Optional[int] = None) -> bytes:
-        """A copy of the octets that are to be carried to the peer, the first of them first, or of so many
-        of them. They stay until ``taken`` says that they were carried. None where the end is closed."""
+        """A copy of the octets to send to the peer, in their order, or of the first so many of them. They stay
+        until ``taken`` says that you have sent them. No octets if the end is closed."""
         octets = Octets()
         with self._lock:
             self._osi.osi_outgoing(byref(self._slot), byref(octets))
@@ -305,69 +306,69 @@ class End:
             return ctypes.string_at(octets.at, length) if length > 0 else b""
 
     def outgoing_length(self) -> int:
-        """How many octets are to be carried."""
+        """How many octets are to be sent."""
         octets = Octets()
         with self._lock:
             self._osi.osi_outgoing(byref(self._slot), byref(octets))
         return int(octets.length)
 
     def wants_write(self) -> bool:
-        """Whether there are octets to be carried."""
+        """Whether there are octets to be sent."""
         with self._lock:
             return bool(self._osi.osi_wants_write(byref(self._slot)))
 
     def taken(self, octets: int) -> None:
-        """So many of them, the first, have been carried. SLOT_EMPTY, BAD_ARGUMENT (more than there are)."""
+        """Says that you have sent this many octets, from the first. SLOT_EMPTY, BAD_ARGUMENT (there are fewer)."""
         passed = _within("octets", octets, 8 * ctypes.sizeof(ctypes.c_size_t))
         with self._lock:
             code = self._osi.osi_taken(byref(self._slot), passed)
         self._answer(code)
 
     def broken(self) -> None:
-        """The byte connection is over: it broke, or the peer closed it. Each user that has not been told
-        the end of his connection is then shown ``Lost``. Nothing where the end has ended. SLOT_EMPTY."""
+        """Says that the byte connection is over: it broke, or the peer closed it. Each user who doesn't yet know
+        that his connection is over then receives ``Lost``. If the end has ended, nothing changes. SLOT_EMPTY."""
         with self._lock:
             code = self._osi.osi_broken(byref(self._slot))
         self._answer(code)
 
     def ended(self) -> Optional[Ending]:
-        """Why the end has ended; None while it goes on. Where it has, send what is still outgoing (unless
-        the byte connection broke), and close the byte connection."""
+        """Why the end has ended; None if it has not. If it has, send what is still outgoing (unless the byte
+        connection broke), and close the byte connection."""
         detail = c_uint64()
         with self._lock:
             reason = self._osi.osi_ended(byref(self._slot), byref(detail))
         return Ending(Reason(reason), detail.value) if reason != 0 else None
 
     def is_over(self) -> bool:
-        """Whether the byte connection may be closed now: nothing is outgoing, and the end has ended, or there
-        were connections and none is live. To ask for another connection, keep it open."""
+        """Whether you may close the byte connection now: nothing is outgoing, and either the end has ended, or
+        there were connections and none is live. To ask for another connection, keep it open."""
         with self._lock:
             return bool(self._osi.osi_is_over(byref(self._slot)))
 
     def kept(self) -> int:
-        """How many octets are kept of a packet, of TSDUs and of data in parts that are not whole yet: at
+        """How many octets the end keeps of a packet, of TSDUs and of data in parts that are not whole yet: at
         most 65,535, and 2,097,148 for each live connection."""
         with self._lock:
             return int(self._osi.osi_kept(byref(self._slot)))
 
     def unsent(self, reference: int) -> int:
-        """How many octets of a connection were handed in and are not yet outgoing, since the peer gives no
-        credit for them; 0 for a connection that is gone or never was."""
+        """How many octets of a connection's TSDUs the peer's credit holds back, so that they are not outgoing
+        yet; 0 for a connection that is gone or never was."""
         return self._look(self._osi.osi_unsent, reference)
 
     def backlog(self) -> int:
-        """The octets of ``unsent`` of all connections together."""
+        """The sum of ``unsent`` over all connections."""
         with self._lock:
             return int(self._osi.osi_backlog(byref(self._slot)))
 
     def live(self) -> int:
-        """How many connections are live, at most 64: those whose transport connection is asked for, open or
+        """How many connections are live, at most 64: those whose transport connection is being opened, open or
         closing."""
         with self._lock:
             return int(self._osi.osi_live(byref(self._slot)))
 
     def next_indication(self) -> Optional[Indication]:
-        """The oldest indication of the connection with the lowest reference that has one."""
+        """Fetches the oldest indication of the connection with the lowest reference that has one."""
         said = IndicationOfC()
         with self._lock:
             if self._osi.osi_fetch(byref(self._slot)) != Code.OK:
@@ -376,7 +377,7 @@ class End:
             user_data = ctypes.string_at(said.user_data.at, said.user_data.length)
         return KINDS[said.tag](said, user_data)
 
-    # ---- where a connection stands
+    # ---- the state of a connection
 
     def _look(self, function: Any, reference: int) -> int:
         if not 0 <= reference < 1 << 16:
@@ -385,7 +386,7 @@ class End:
             return int(function(byref(self._slot), reference))
 
     def phase(self, reference: int) -> Phase:
-        """Where a connection stands: NONE for a reference that was never given."""
+        """The phase of a connection; NONE for a reference that was never given."""
         return Phase(self._look(self._osi.osi_phase, reference))
 
     def held(self, reference: int) -> Tokens:
@@ -406,8 +407,9 @@ class End:
         return self._look(self._osi.osi_lowest_restart, reference)
 
     def addresses(self, reference: int) -> Optional[Addresses]:
-        """The addresses of a connection: those that were asked for here, or those that came, as soon as
-        ``Connect`` waits. None for a connection that is gone or never was, and where no CN came yet."""
+        """The addresses of a connection: those that you asked for, or on the called side the peer's, from the
+        moment ``Connect`` is pending. None for a connection that is gone or never was, and before the CN has
+        come."""
         shown = AddressingOfC()
         if not 0 <= reference < 1 << 16:
             return None

@@ -1,4 +1,4 @@
-"""The library for C, over ctypes: its structs as include/osi.h lays them out, and its functions."""
+"""The library for C, over ctypes: its functions, and its structs in the layout of include/osi.h."""
 from __future__ import annotations
 
 import ctypes
@@ -9,7 +9,7 @@ from ctypes import POINTER, c_bool, c_char_p, c_size_t, c_uint8, c_uint16, c_uin
 from typing import Any, Dict, Iterator, List, Optional, Tuple
 
 VERSION = "0.1.0"
-# The shared library by the name that it has for programs of this version: that of its soname.
+# The file name of the shared library for programs of this version: its soname.
 NAME = "libosi-session.so." + ".".join(VERSION.split(".")[: 2 if VERSION.startswith("0.") else 1])
 
 
@@ -114,7 +114,7 @@ STRUCTS = {
 }
 
 _DATA = [c_void_p, c_size_t]
-# What each function takes behind the slot, and what it answers.
+# The arguments of each function after the slot, and what it returns.
 FUNCTIONS: Dict[str, Tuple[List[Any], Any]] = {
     "osi_caller": ([POINTER(TermsOfC)], c_uint32),
     "osi_called": ([POINTER(TermsOfC)], c_uint32),
@@ -161,7 +161,7 @@ FUNCTIONS: Dict[str, Tuple[List[Any], Any]] = {
     "osi_lowest_restart": ([c_uint16], c_uint32),
     "osi_addresses": ([c_uint16, POINTER(AddressingOfC)], c_uint32),
 }
-# What those take that need no slot, and answer a text.
+# The argument of each function that needs no slot and returns a text.
 TEXTS: Dict[str, List[Any]] = {
     "osi_version": [],
     "osi_code_name": [c_uint32],
@@ -172,11 +172,11 @@ TEXTS: Dict[str, List[Any]] = {
 
 
 class LibraryNotFound(ImportError):
-    """The shared library libosi-session.so is nowhere where it is looked for."""
+    """The shared library libosi-session.so was not found in any of the places."""
 
 
 def _named() -> Optional[list[str]]:
-    """Where the environment says that the library is."""
+    """The place of the library that the environment names."""
     path = os.environ.get("OSI_SESSION_LIBRARY")
     if path:
         return [path]
@@ -195,8 +195,8 @@ def _by_pkg_config() -> Iterator[str]:
 
 
 def _places() -> Iterator[str]:
-    """Where the library may be: as the environment says, else in this package, as a wheel may have it, else as the loader and
-    pkg-config find it."""
+    """The places where the library may be: the one that the environment names, else this package, if its wheel has the
+    library, else those that the loader and pkg-config find."""
     named = _named()
     if named is not None:
         yield from named
@@ -234,12 +234,12 @@ _loaded: Optional[ctypes.CDLL] = None
 
 
 def library_version() -> str:
-    """The version of the shared library, as ``osi_session.__version__`` is that of this package."""
+    """The version of the shared library. ``osi_session.__version__`` is that of this package."""
     return str(library().osi_version().decode())
 
 
 def library() -> ctypes.CDLL:
-    """The library, which is loaded when it is first asked for."""
+    """The library. The first call loads it."""
     global _loaded
     if _loaded is None:
         _loaded = load()

@@ -1,4 +1,4 @@
-"""What is passed to an end, and what its users are shown."""
+"""The arguments of an end's calls, and its indications."""
 from __future__ import annotations
 
 from dataclasses import dataclass, field
@@ -13,18 +13,18 @@ class Terms:
     """The transport protocol of an end (X.224 section 6.5)."""
 
     classes: Classes = Classes.CLASS_0
-    """Peers that know class 0 alone may leave a request that prefers class 2 without an answer. A caller
-    offers both where its peer is known to have class 2; a called end with both takes what the caller
-    prefers."""
+    """A caller should offer both classes only to a peer that is known to have class 2: one that has only
+    class 0 may leave a request that prefers class 2 unanswered. A called end with both takes the class that
+    the caller prefers."""
     size: int = 13
     """The exponent of the largest TPDU in octets: 7 (128 octets) to 13 (8,192)."""
     window: int = 15
-    """How many units of class 2 the peer may send ahead: 1 to 15."""
+    """How many units the peer may send before they are acknowledged, in class 2: 1 to 15."""
 
 
 @dataclass(frozen=True)
 class Sides:
-    """Who holds, or is to hold, each token at first."""
+    """Which side holds, or is to hold, each token at first."""
 
     data: Side = Side.ASKER
     minor: Side = Side.ASKER
@@ -34,8 +34,7 @@ class Sides:
 
 @dataclass(frozen=True)
 class Sizes:
-    """How many octets a TSDU may have, of those that each side sends: 64 to 65,535, or 0 for no limit
-    (X.225 section 8)."""
+    """The most octets of a TSDU in each direction: 64 to 65,535, or 0 for no limit (X.225 section 8)."""
 
     from_asker: int = 0
     from_answerer: int = 0
@@ -43,29 +42,29 @@ class Sizes:
 
 @dataclass(frozen=True)
 class Opening:
-    """A connection that is asked for."""
+    """The parameters of a connection that you ask for."""
 
     requirements: Units = Units.HALF_DUPLEX
     serial: int = 0
     """The number of the first point, 0 to 999,999."""
     wishes: Sides = field(default_factory=Sides)
-    """Who is to hold each token at first."""
+    """Which side is to hold each token at first."""
     calling_tsap: bytes = b""
-    """The transport address of this end, 1 to 32 octets. Where it is empty, none is sent."""
+    """The transport address of this end, 1 to 32 octets. If it is empty, none is sent."""
     called_tsap: bytes = b""
     calling_selector: bytes = b""
-    """The session address of this user, 1 to 16 octets. Where it is empty, none is sent."""
+    """The session address of this user, 1 to 16 octets. If it is empty, none is sent."""
     called_selector: bytes = b""
     user_data: bytes = b""
     """At most 10,240 octets."""
     sizes: Sizes = Sizes()
-    """The sizes that are asked for."""
+    """The sizes that you ask for."""
 
 
 @dataclass(frozen=True)
 class Addresses:
     """The addresses of a connection: the transport addresses of its CR (X.224 section 13.3.4) and the session
-    addresses of its CN (X.225 section 8). One that is empty is none."""
+    addresses of its CN (X.225 section 8). An empty one means that there is no address."""
 
     calling_tsap: bytes
     called_tsap: bytes
@@ -78,9 +77,9 @@ class Fed:
     """What ``End.feed`` did."""
 
     used: int
-    """So many octets of the piece were used, at most all."""
+    """How many octets of the piece were used, from the first."""
     waits: bool
-    """An indication waits."""
+    """An indication is pending."""
 
 
 @dataclass(frozen=True)
@@ -89,65 +88,65 @@ class Ending:
 
     reason: Reason
     detail: int
-    """0 where ``Reason`` says nothing of it."""
+    """0, unless ``Reason`` says what it is."""
 
 
 @dataclass(frozen=True)
 class Fault:
-    """Why a session unit that came is bad."""
+    """Why a received session unit is bad."""
 
     kind: FaultKind
     si: int = 0
-    """Of all but SPELLING: the SI of the unit (X.225 section 8)."""
+    """For all kinds but SPELLING: the SI of the unit (X.225 section 8)."""
     spelling: Spelling = Spelling.NONE
     parameter: int = 0
-    """Where the spelling is of a parameter: its code."""
+    """If the spelling is about a parameter: its code."""
     offset: int = 0
-    """Of SPELLING: the place of the octet in the TSDU, from 0."""
+    """For SPELLING: the offset of the octet in the TSDU, from 0."""
 
 
 @dataclass(frozen=True)
 class Shown:
-    """What the user of a connection is shown (X.215 section 10, indications and confirms)."""
+    """An indication for the user of a connection (X.215 section 10, indications and confirms)."""
 
     reference: int
     """The connection, as this end names it: 1 to 65,535."""
     is_over: ClassVar[bool] = False
-    """Whether the connection is over with this indication."""
+    """Whether the connection is over after this indication."""
 
 
 @dataclass(frozen=True)
 class Connect(Shown):
-    """CN: a connection is asked for. Answer by ``End.accept`` or ``End.refuse``."""
+    """CN: the peer asks for a connection. Answer by ``End.accept`` or ``End.refuse``."""
 
     requirements: Units
     number: Optional[int]
-    """The number of the first point, 0 to 999,999, where the CN names one."""
+    """The number of the first point, 0 to 999,999, if the CN names one."""
     wishes: Sides
     user_data: bytes
     sizes: Sizes = Sizes()
-    """As the CN names them."""
+    """The sizes that the CN names."""
 
 
 @dataclass(frozen=True)
 class Connected(Shown):
-    """AC: the connection that was asked for is there."""
+    """AC: the peer accepts the connection."""
 
     requirements: Units
     number: Optional[int]
-    """The number of the first point, 0 to 999,999, where the AC names one."""
+    """The number of the first point, 0 to 999,999, if the AC names one."""
     sides: Sides
     user_data: bytes
     sizes: Sizes = Sizes()
-    """As the AC names them."""
+    """The sizes that the AC names."""
 
 
 @dataclass(frozen=True)
 class RefusedByTransport(Shown):
-    """DR: there is no transport connection."""
+    """DR: the transport connection is refused."""
 
     reason: int
-    """X.224 section 13.5.3."""
+    """The reason of the DR (X.224 section 13.5.3)."""
     is_over: ClassVar[bool] = True
 
 
@@ -156,28 +155,28 @@ class RefusedBySession(Shown):
     """RF: the session connection is refused."""
 
     reason: int
-    """0, 1 and 2 are of the called user."""
+    """0, 1 and 2 come from the called user."""
     user_data: bytes
     is_over: ClassVar[bool] = True
 
 
 @dataclass(frozen=True)
 class Data(Shown):
-    """DT: data, an octet at least."""
+    """DT: data, at least one octet."""
 
     user_data: bytes
 
 
 @dataclass(frozen=True)
 class Given(Shown):
-    """GT: tokens are given to this side."""
+    """GT: the peer gives tokens to this side."""
 
     tokens: Tokens
 
 
 @dataclass(frozen=True)
 class Asked(Shown):
-    """PT: tokens are asked for."""
+    """PT: the peer asks for tokens."""
 
     tokens: Tokens
     user_data: bytes
@@ -189,13 +188,13 @@ class Minor(Shown):
 
     number: int
     confirm: bool
-    """Whether ``End.minor_confirm`` is asked for."""
+    """Whether the peer asks for ``End.minor_confirm``."""
     user_data: bytes
 
 
 @dataclass(frozen=True)
 class MinorConfirmed(Shown):
-    """MIA: the minor points up to this number are confirmed."""
+    """MIA: the peer confirms the minor points up to this number."""
 
     number: int
     user_data: bytes
@@ -211,7 +210,7 @@ class Major(Shown):
 
 @dataclass(frozen=True)
 class MajorConfirmed(Shown):
-    """MAA: the major point is confirmed."""
+    """MAA: the peer confirms the major point."""
 
     user_data: bytes
 
@@ -221,14 +220,14 @@ class Restart(Shown):
     """RS: a restart at a point. Answer by ``End.restart_confirm``."""
 
     number: int
-    """The number that the next point has then."""
+    """The number that the next point then has."""
     wishes: Sides
     user_data: bytes
 
 
 @dataclass(frozen=True)
 class Restarted(Shown):
-    """RA: the restart is confirmed."""
+    """RA: the peer confirms the restart."""
 
     number: int
     sides: Sides
@@ -237,7 +236,7 @@ class Restarted(Shown):
 
 @dataclass(frozen=True)
 class Release(Shown):
-    """FN: the release is asked for. Answer by ``End.release_accept`` or ``End.release_refuse``."""
+    """FN: the peer asks for the release. Answer by ``End.release_accept`` or ``End.release_refuse``."""
 
     user_data: bytes
 
@@ -252,7 +251,7 @@ class Released(Shown):
 
 @dataclass(frozen=True)
 class ReleaseRefused(Shown):
-    """NF: the release is refused."""
+    """NF: the peer refuses the release."""
 
     user_data: bytes
 
@@ -267,7 +266,7 @@ class Aborted(Shown):
 
 @dataclass(frozen=True)
 class Lost(Shown):
-    """The transport connection was closed or broken, or had a fault."""
+    """The transport connection was closed, broke, or had a fault."""
 
     is_over: ClassVar[bool] = True
 
@@ -283,7 +282,7 @@ class PeerAbort(Shown):
 
 @dataclass(frozen=True)
 class BadUnit(Shown):
-    """This end aborts, since a unit that came is bad."""
+    """This end aborts because it received a bad unit."""
 
     fault: Fault
     is_over: ClassVar[bool] = True
@@ -331,7 +330,7 @@ def _fault(said: IndicationOfC) -> Fault:
     return Fault(FaultKind(fault.fault), fault.si, Spelling(fault.spelling), fault.parameter, fault.offset)
 
 
-# By its tag, what an indication is made of: osi.h says which fields each has.
+# How to make an indication, by its tag: osi.h says which fields each has.
 KINDS: Dict[int, Callable[[IndicationOfC, bytes], Indication]] = {
     1: lambda i, data: Connect(i.reference, Units(i.requirements), _number(i), _sides(i.sides), data, _sizes(i)),
     2: lambda i, data: Connected(i.reference, Units(i.requirements), _number(i), _sides(i.sides), data, _sizes(i)),
