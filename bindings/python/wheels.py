@@ -1,7 +1,7 @@
-"""Builds the packages of osi_session, with the standard library alone (PEP 517): so it installs where no index of packages is
-at hand. The same files give the same octets; their time is SOURCE_DATE_EPOCH, or the first that a wheel can tell.
+"""Builds the packages of osi_session with the standard library alone (PEP 517), so no package index is needed. The same files
+give the same octets; their time is SOURCE_DATE_EPOCH, or the earliest that a wheel can store.
 
-A wheel has no library, and fits each platform. With two settings it has the shared library in it, and fits one:
+A wheel has no library, and fits every platform. With two settings it has the shared library in it, and fits one platform:
 
     pip wheel --config-settings library=PATH --config-settings platform=linux_x86_64 .
 
@@ -18,7 +18,7 @@ import time
 import zipfile
 
 HERE = os.path.dirname(os.path.abspath(__file__))
-# Where the licences are: beside this file in a source distribution, and at the top of the repository.
+# The licences are next to this file in a source distribution, and at the top of the repository.
 PLACES = (HERE, os.path.dirname(os.path.dirname(HERE)))
 FIRST_OF_ZIP = 315532800
 
@@ -46,7 +46,7 @@ def _octets(path):
 
 
 def _licences():
-    """Each file of licences that is here, by its name."""
+    """The files of licences that are here, by name."""
     for name in _list("license-files"):
         path = next((os.path.join(place, name) for place in PLACES if os.path.isfile(os.path.join(place, name))), None)
         if path:
@@ -71,7 +71,7 @@ def _metadata():
 
 
 def _tags(settings):
-    """The tags of a wheel, which also stand in its name."""
+    """The tags of a wheel, which are also in its name."""
     return [f"py3-none-{each}" for each in settings.get("platform", "linux_x86_64" if "library" in settings else "any").split(".")]
 
 

@@ -4,7 +4,7 @@ confirmation it awaits, gives the tokens and accepts the release.
 
     client.py [--port 4000] [--classes 0|2|20] [--tsdu OCTETS] [--wait SECONDS] [--messages 5] [--log FILE]
 
-The status is 0 where the connection was released, and 3 where it was lost.
+The status is 0 if the connection was released, and 3 if it was lost.
 """
 import argparse
 import asyncio
@@ -45,7 +45,7 @@ def opened(shown, sides):
 
 
 def fields(shown):
-    """What stands between the name of an indication and its user data, of those that come here."""
+    """The words between the name of an indication and its user data, for those that come here."""
     if isinstance(shown, Connect):
         return " " + opened(shown, shown.wishes)
     if isinstance(shown, Connected):
@@ -62,7 +62,7 @@ def fields(shown):
 
 
 def named(shown):
-    """The sizes that a CN or an AC names, where one is not 0."""
+    """The sizes that a CN or an AC names, if one of them is not 0."""
     sizes = getattr(shown, "sizes", Sizes())
     return "" if sizes == Sizes() else f" tsdu {sizes.from_asker} {sizes.from_answerer}"
 
@@ -95,7 +95,7 @@ class Client:
         print(f"left {text}", file=self.log)
 
     def did(self, reference, verb, call, *arguments):
-        """Makes a call, writes its line, and answers whether it was done."""
+        """Makes a call, writes it to the log, and answers whether it was done."""
         try:
             call(reference, *arguments)
         except SessionError as error:
@@ -105,7 +105,7 @@ class Client:
         return True
 
     def go_on(self, reference):
-        """The next message, and a point behind it; or the tokens where all was said."""
+        """Sends the next message with a point after it, or gives the tokens after the last message."""
         if self.said == self.messages:
             self.did(reference, "give", self.end.give, TOKENS)
             return

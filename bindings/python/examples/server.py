@@ -5,7 +5,7 @@ answers when it is given the tokens, and releases the connection.
     server.py [--port 4000] [--peers COUNT] [--classes 0|2|20] [--window 1..15] [--tsdu OCTETS] [--wait SECONDS]
               [--log FILE]
 
-It prints the port that it listens on (0 takes a free one). With --peers it ends when so many peers have come and gone,
+It prints the port that it listens on (0 takes a free one). With --peers it ends after COUNT peers have come and gone,
 and prints how much data it took. A peer that sends nothing for --wait seconds is given up.
 """
 import argparse
@@ -16,9 +16,9 @@ from client import words
 from osi_session import Classes, Data, Given, Minor, SessionError, Sizes, Terms, Units, aio
 
 UNITS = Units.HALF_DUPLEX | Units.MINOR_SYNC | Units.NEGOTIATED_RELEASE
-# A connection whose peer gives no credit for so many octets of answers gets no more of them, and is given up.
+# If a peer gives no credit for this many octets of answers, its connection is answered no more and given up.
 MOST_UNSENT = 16_384
-# The sessions of more byte connections are answered once one of these is gone.
+# The most byte connections whose sessions are answered at a time. Others are answered once one of these is gone.
 MOST_PEERS = 64
 
 
@@ -67,7 +67,7 @@ class Peer:
                 self.tell(f"{reference} was never shown, OSI_PHASE_{self.line.end.phase(reference).name}")
 
     async def did(self, session, verb, call):
-        """Awaits a call, and writes its line."""
+        """Awaits a call, and writes it to the log."""
         try:
             await call
             self.tell(f"{session.reference} {verb} ok")
@@ -76,8 +76,8 @@ class Peer:
             raise
 
     def may_answer(self, session):
-        """Whether a session may be answered. One whose peer asks on and gives no credit for the answers is given up;
-        the next indication of it is GivenUp."""
+        """Whether a session may be answered. If its peer keeps asking and gives no credit for the answers, it is given
+        up; its next indication is GivenUp."""
         if session.end.unsent(session.reference) <= MOST_UNSENT:
             return True
         self.line.give_up(session.reference)

@@ -30,13 +30,13 @@ from ._values import Connect, Connected, Indication, Opening
 S = TypeVar("S", bound=Indication)
 T = TypeVar("T", bound=Indication)
 
-# So many octets are handed to the transport at once; who waits for room waits until no more are unsent.
+# The most octets that are handed to the transport at once. A caller that waits for room waits until no more are unsent.
 _PIECE = 65536
 
 
 def _unwritten(transport: asyncio.Transport) -> int:
-    """How many octets the transport still has. (In Python 3.9 and 3.10 a transport of TLS whose socket is gone raises
-    AttributeError, until the protocol is told of it.)"""
+    """How many octets the transport still has. (In Python 3.9 and 3.10 a TLS transport whose socket is gone raises
+    AttributeError until connection_lost is called.)"""
     try:
         return transport.get_write_buffer_size()
     except AttributeError:
@@ -44,7 +44,7 @@ def _unwritten(transport: asyncio.Transport) -> int:
 
 
 class _Waiter:
-    """A task that waits until something holds."""
+    """A task that waits until a condition holds."""
 
     __slots__ = ("holds", "future")
 
@@ -61,30 +61,32 @@ class EndProtocol(asyncio.Protocol):
     """An end on a byte connection of asyncio: a line.
 
     Most programs want a session for each connection: ``session`` asks for one, and ``next_session`` and
-    ``answer_sessions`` take those that the peer asks for. Or call ``end``, whose octets are written at once, and fetch
-    the indications of all connections that have no session by ``next``, ``expect`` or ``async for``. Who wants
-    indications as they come overrides ``indication_received``. One line is used in one event loop, by its thread alone.
+    ``answer_sessions`` take those that the peer asks for. You can also make calls of ``end``, whose octets are written
+    at once, and fetch the indications of all connections without a session by ``next``, ``expect`` or ``async for``. If
+    you want indications as they come, override ``indication_received``. Use a line in one event loop, and only from its
+    thread.
 
     Memory stays bounded. If a connection has 64 pending indications, or 256 KiB of them, the line reads no more until
     some are fetched, so TCP slows the peer down. While somebody waits for an indication of another connection, it reads
     on until ``most_ahead`` octets are pending in all. While somebody waits for room (``drain``, or a call of a session),
-    it reads on in any case, because the peer's acknowledgements come in the same octets. Then a connection is given up
-    (see ``give_up``) if ``most`` octets are pending, or ``most_unpaid`` that came while their connections gave no
-    credit: it is the one that has most of them, and the others go on.
+    it always reads on, because the peer's acknowledgements come in the same octets. Then, if ``most`` octets are pending,
+    or ``most_unpaid`` that came while their connections gave no credit, it gives up the connection that has most of them
+    (see ``give_up``). The others go on.
 
     The line closes the byte connection if the end has ended, and, unless ``stays`` is true, after its last connection.
-    A line of ``serve`` stays, since its peer may ask for more; so does one on which ``session`` was called.
+    A line of ``serve`` stays open, because its peer may ask for more connections; so does one on which ``session`` was
+    called.
     """
 
     stays: bool = False
     most: int = 67_108_864
-    """How many octets of indications may be pending: those of their user data, and 512 for each."""
+    """How many octets of indications may be pending: their user data, and 512 for each."""
     most_ahead: int = 8_388_608
     """How many of these may be pending while somebody waits for an indication of another connection."""
     most_unpaid: int = 8_388_608
     """How many of these may be unpaid: they came on connections for whose credit this side waits, and that gave none."""
     linger: float = 30.0
-    """How many seconds a line that closes waits for its peer, to take something or, at last, to close too."""
+    """How many seconds a closing line waits until its peer takes some octets, and at the end until it closes too."""
 
     def __init__(self, end: End) -> None:
         self.end = end
@@ -94,18 +96,18 @@ class EndProtocol(asyncio.Protocol):
         self._feed, self._pending, self._answers = Feed(end), Pending(), Answers()
         self._shown: Deque[Indication] = deque()
         self._sessions: Dict[int, Session] = {}
-        # Connections that were shown and are not over; those of which no indication is kept any more; and those that
-        # were lost with octets unwritten, so many in all, as long as their users were not told.
+        # Connections that had an indication and are not over; those whose indications are no longer kept; and those that
+        # were lost with unwritten octets, with their number, until their users have been told.
         self._open: Set[int] = set()
         self._left: Set[int] = set()
         self._cut: Set[int] = set()
         self._cut_octets = 0
-        # Tasks that wait, the oldest first; and how many of them wait for room, and for an indication.
+        # Waiting tasks, the oldest first; and how many of them wait for room, and for an indication.
         self._waiters: Dict[_Waiter, None] = {}
         self._draining = self._awaiting = self._turn = 0
         self._reading = True
         self._paused = self._feeding = self._telling = self._was_live = False
-        # How far closing is: asked for; the peer's or our direction is closed; the transport is gone.
+        # The progress of closing: asked for; the peer's or our direction is closed; the transport is gone.
         self._closing = self._came_to_end = self._half_closed = self._closed = self._aborted = False
         self._lingering: Optional[asyncio.TimerHandle] = None
         self._took = 0
@@ -115,9 +117,9 @@ class EndProtocol(asyncio.Protocol):
     @asynccontextmanager
     async def session(self, asked: Opening = Opening()) -> AsyncIterator[CallingSession]:
         """Asks for a connection and waits for the answer: ``async with line.session(..) as session``. SessionOver if it
-        is refused, SessionError as of ``End.connect``; while the line's first connection is not answered, it waits.
+        is refused, SessionError as ``End.connect`` raises it. It waits until the line's first connection is answered.
 
-        After the block the session is closed (``Session.close``), or given up if an exception comes out of it."""
+        After the block it closes the session (``Session.close``), or gives it up if the block raises an exception."""
         self.stays = True
         session = CallingSession(self, await self._connect(asked))
         try:
@@ -128,7 +130,7 @@ class EndProtocol(asyncio.Protocol):
             session.leave()
 
     async def _connect(self, asked: Opening) -> int:
-        """Asks for a connection as soon as the first one was answered."""
+        """Asks for a connection as soon as the first one has been answered."""
         while True:
             try:
                 return self.end.connect(asked)
@@ -139,8 +141,8 @@ class EndProtocol(asyncio.Protocol):
             await self.until(lambda: self._turn != turn)
 
     async def next_session(self) -> Optional[CalledSession]:
-        """The next session that the peer asks for, which is to be accepted or refused; None once the line is closed.
-        Indications of connections that have no session are dropped."""
+        """The next session that the peer asks for: accept or refuse it. None once the line is closed. Indications of
+        connections without a session are dropped."""
         while True:
             await self.until(lambda: bool(self._shown) or self.is_done)
             indication = self._fetch()
@@ -151,8 +153,8 @@ class EndProtocol(asyncio.Protocol):
 
     async def answer_sessions(self, handler: Callable[[CalledSession], Awaitable[None]]) -> None:
         """Calls the handler for each session that the peer asks for, in a task of its own, until the line is closed.
-        After the handler the session is closed (``Session.close``). If an exception comes out of the handler, that
-        session alone is given up, and the event loop's exception handler is told, unless it is SessionOver."""
+        After the handler the session is closed (``Session.close``). If the handler raises an exception, only that
+        session is given up, and the event loop's exception handler is called, unless it is SessionOver."""
         tasks: Set[asyncio.Task[None]] = set()
         try:
             session = await self.next_session()
@@ -181,10 +183,10 @@ class EndProtocol(asyncio.Protocol):
         finally:
             session.leave()
 
-    # ---- indications of connections that have no session
+    # ---- indications of connections without a session
 
     async def next(self) -> Optional[Indication]:
-        """The next indication; None once the line is closed and all was fetched."""
+        """The next indication; None once the line is closed and all have been fetched."""
         await self.indication_or(lambda: bool(self._shown) or self.is_done)
         return self._fetch()
 
@@ -205,7 +207,7 @@ class EndProtocol(asyncio.Protocol):
     async def expect(self, *kinds: Type[Indication]) -> Indication: ...
 
     async def expect(self, *kinds: Any) -> Any:
-        """The next indication, which is to be of one of these kinds; else UnexpectedIndication."""
+        """The next indication. If it isn't of one of these kinds, UnexpectedIndication."""
         indication = await self.next()
         if not isinstance(indication, kinds):
             raise UnexpectedIndication(indication)
@@ -223,9 +225,9 @@ class EndProtocol(asyncio.Protocol):
     # ---- the byte connection
 
     async def drain(self, reference: Optional[int] = None) -> None:
-        """Waits until the transport has all that was outgoing, and the peer has given credit for all octets of this
-        connection but 64 KiB, or of all connections together. Who sends much calls it now and then, because what is
-        not written yet is kept. It returns if the line closes."""
+        """Waits until the transport has all outgoing octets, and at most 64 KiB of this connection (or of all
+        connections together) wait for the peer's credit. If you send much, call it now and then, because octets that
+        are not written yet are kept. It returns if the line closes."""
         if reference is None:
             await self._wait_for_room(lambda: self.end.outgoing_length() == 0 and self.end.backlog() <= _PIECE)
             return
@@ -233,8 +235,8 @@ class EndProtocol(asyncio.Protocol):
         await self._wait_for_room(lambda: self._answers.taken >= target and self._unsent(of) <= _PIECE)
 
     def give_up(self, reference: int) -> None:
-        """Ends one connection at once, and no other. What is pending of it is dropped, and its user is shown GivenUp.
-        Its peer is shown an abort; if octets of it wait for credit, it is disconnected, and the peer is shown Lost."""
+        """Ends one connection at once, and no other. Its pending indications are dropped, and its user gets GivenUp. Its
+        peer gets an abort; if octets of it wait for credit, it is disconnected, and the peer gets Lost."""
         self.end_alone(reference)
         self._drop(reference)
         if reference in self._open:
@@ -244,33 +246,33 @@ class EndProtocol(asyncio.Protocol):
         self._tell()
 
     async def wait_closed(self) -> None:
-        """Waits until the byte connection is closed, by either side."""
+        """Waits until either side has closed the byte connection."""
         await self.until(lambda: self._closed)
 
     def close(self) -> None:
-        """Closes the byte connection once all is written, also what waits for the peer's credit. Over plain TCP it
-        then waits until the peer has closed too, so that nothing on its way is lost. If the peer takes nothing for
-        ``linger`` seconds, it closes at once."""
+        """Closes the byte connection once everything is written, including what waits for the peer's credit. Over plain
+        TCP it then waits until the peer has closed too, so that nothing in flight is lost. If the peer takes nothing
+        for ``linger`` seconds, it closes at once."""
         if self._lingering is None:
             self._linger()
         self._closing = True
         self._go_on()
 
     def abort(self) -> None:
-        """Closes the byte connection at once: what is not written yet is lost."""
+        """Closes the byte connection at once. Octets that are not written yet are lost."""
         self._aborted = True
         if self._transport is not None and not self._closed:
             self._transport.abort()
 
     def get_extra_info(self, name: str, default: Any = None) -> Any:
-        """What the transport knows: ``peername``, ``sockname``, ``socket``, ``ssl_object``, ``peercert`` and so on, as
-        asyncio's BaseTransport.get_extra_info. The default before the byte connection is there."""
+        """Information from the transport: ``peername``, ``sockname``, ``socket``, ``ssl_object``, ``peercert`` and so on,
+        as asyncio's BaseTransport.get_extra_info. The default while there is no byte connection yet."""
         return default if self._transport is None else self._transport.get_extra_info(name, default)
 
     # ---- what a subclass may override
 
     def indication_received(self, indication: Indication) -> None:
-        """Told of each indication, in order. It may call the end. This one keeps it for who fetches it."""
+        """Called with each indication, in order. It may call the end. This one keeps the indication until it is fetched."""
         self._show(indication)
 
     # ---- what asyncio calls
@@ -290,7 +292,7 @@ class EndProtocol(asyncio.Protocol):
     def eof_received(self) -> bool:
         self._came_to_end = True
         self.close()
-        # (asyncio closes a transport of TLS by itself)
+        # (asyncio closes a TLS transport by itself)
         return self.get_extra_info("ssl_object") is None
 
     def connection_lost(self, error: Optional[Exception]) -> None:
@@ -298,7 +300,7 @@ class EndProtocol(asyncio.Protocol):
         if self._lingering is not None:
             self._lingering.cancel()
         if self._transport is not None and not self._transport.is_closing():
-            # (a transport of TLS in Python 3.9 and 3.10 does not know)
+            # (a TLS transport in Python 3.9 and 3.10 doesn't know)
             self._transport.close()
         if self.end.closed:
             self._tell()
@@ -310,7 +312,7 @@ class EndProtocol(asyncio.Protocol):
             self.end.broken()
             self._feed.add(b"")
             self._pump()
-        # Who overrides indication_received has been told by now.
+        # A subclass that overrides indication_received has seen it by now.
         self._cut = {reference for reference in self._cut if self._pending.has(reference)}
         self._tell()
 
@@ -329,22 +331,22 @@ class EndProtocol(asyncio.Protocol):
 
     @property
     def is_done(self) -> bool:
-        """Whether no indication can come any more."""
+        """Whether no more indications can come."""
         return self._closed
 
     @property
     def is_shut(self) -> bool:
-        """Whether nothing can be written any more."""
+        """Whether nothing more can be written."""
         is_closing = self._transport is not None and self._transport.is_closing()
         return self._closed or self._half_closed or is_closing or self.end.closed
 
     @property
     def untold(self) -> int:
-        """How many octets were not written when the byte connection was lost, if a user of them was not told yet."""
+        """How many octets were not written when the byte connection was lost, until their users have been told."""
         return self._cut_octets if self._cut else 0
 
     def begin(self, session: Session) -> None:
-        """From now on this session takes the indications of its connection, also those that are pending."""
+        """From now on this session takes the indications of its connection, including pending ones."""
         of = session.reference
         self._sessions[of] = session
         for indication in [shown for shown in self._shown if shown.reference == of]:
@@ -352,7 +354,7 @@ class EndProtocol(asyncio.Protocol):
         self._shown = deque(shown for shown in self._shown if shown.reference != of)
 
     def leave(self, session: Session) -> None:
-        """The session fetches no more indications, and nobody else does."""
+        """The session fetches no more indications, nor does anybody else."""
         self._drop(session.reference)
         self._left.add(session.reference)
         self._cut.discard(session.reference)
@@ -360,7 +362,7 @@ class EndProtocol(asyncio.Protocol):
         self._go_on()
 
     def fetched(self, indication: Indication) -> None:
-        """An indication is pending no more."""
+        """An indication is no longer pending."""
         self._pending.fetched(indication)
         if indication.is_over:
             self._cut.discard(indication.reference)
@@ -368,7 +370,7 @@ class EndProtocol(asyncio.Protocol):
             self._go_on()
 
     def end_alone(self, reference: int) -> None:
-        """Ends this connection and no other, if it is not over."""
+        """Ends this connection, if it is not over, and no other."""
         if self.end.closed:
             return
         with suppress(SessionError):
@@ -380,13 +382,13 @@ class EndProtocol(asyncio.Protocol):
                 disconnect(reference)
 
     async def room(self, reference: int, or_else: Callable[[], bool]) -> None:
-        """Waits until there is room for more of this connection, or until something else holds."""
+        """Waits until there is room for more of this connection, or until another condition holds."""
         await self._wait_for_room(
             lambda: or_else() or (self.end.outgoing_length() <= _PIECE and self._unsent(reference) <= _PIECE)
         )
 
     async def indication_or(self, holds: Callable[[], bool]) -> None:
-        """Waits until this holds because an indication came, which may come behind those of other connections."""
+        """Waits until this holds because an indication came. Indications of other connections may come before it."""
         if holds():
             return
         self._awaiting += 1
@@ -398,7 +400,7 @@ class EndProtocol(asyncio.Protocol):
             self._awaiting -= 1
 
     async def until(self, holds: Callable[[], bool]) -> None:
-        """Waits until this holds, which is asked again whenever something happens. Of several tasks the one that has
+        """Waits until this condition holds. It is tested whenever something happens. Of several tasks, the one that has
         waited longest goes on first."""
         if holds():
             return
@@ -425,7 +427,7 @@ class EndProtocol(asyncio.Protocol):
             self._go_on()
 
     def _tell(self) -> None:
-        """Something has happened: tasks that wait are told once for all that happens in a turn of the event loop."""
+        """Something has happened. Waiting tasks are woken once for everything that happens in a turn of the event loop."""
         self._turn += 1
         if self._waiters and not self._telling:
             self._telling = True
@@ -439,12 +441,12 @@ class EndProtocol(asyncio.Protocol):
     # ---- octets
 
     def flush(self) -> None:
-        """Writes what is outgoing, as long as the transport takes it; if nothing is to come, closes."""
+        """Writes what is outgoing, as long as the transport takes it. If nothing more can come, it closes."""
         self._write()
         self._tell()
 
     def _go_on(self) -> None:
-        """Does all that can be done now: feeds, writes or closes, and reads on or not."""
+        """Does everything that can be done now: feeds, writes or closes, and pauses or resumes reading."""
         self._pump()
         self._write()
         self._read_or_wait()
@@ -464,7 +466,7 @@ class EndProtocol(asyncio.Protocol):
         self._close_if_done(transport)
 
     def _pump(self) -> None:
-        """Feeds what came, as long as there is room for what it shows."""
+        """Feeds the received octets, as long as there is room for the indications that they cause."""
         if self._feeding:
             return
         self._feeding = True
@@ -477,21 +479,21 @@ class EndProtocol(asyncio.Protocol):
                 self._note(indication)
                 self.indication_received(indication)
         except SessionError as error:
-            # The user has closed the end, in the middle of a piece.
+            # The user closed the end in the middle of a piece.
             if error.code is not Code.SLOT_EMPTY:
                 raise
         finally:
             self._feeding = False
 
     def _step(self) -> Optional[Indication]:
-        """Feeds up to the next indication; None if all that came is fed."""
+        """Feeds up to the next indication; None if all received octets have been fed."""
         end = self.end
         outgoing, backlog = end.outgoing_length(), end.backlog()
         unsent = [(of, end.unsent(of)) for of in self._pending.owing]
         indication = self._feed.next()
         if not end.closed:
             now = end.outgoing_length()
-            # What left the backlog is the users' own.
+            # Octets that left the backlog are the users' own.
             self._answers.came(now - outgoing - max(0, backlog - end.backlog()), now)
             for of, before in unsent:
                 if end.unsent(of) < before:
@@ -499,14 +501,14 @@ class EndProtocol(asyncio.Protocol):
         return indication
 
     def _note(self, indication: Indication) -> None:
-        """Keeps account of which connections are open."""
+        """Notes which connections are open."""
         if indication.is_over:
             self._open.discard(indication.reference)
         else:
             self._open.add(indication.reference)
 
     def _show(self, indication: Indication) -> None:
-        """Keeps an indication for who fetches it."""
+        """Keeps an indication until it is fetched."""
         if indication.reference in self._left:
             return
         self._pending.add(indication, self._unsent(indication.reference) > _PIECE)
@@ -517,7 +519,7 @@ class EndProtocol(asyncio.Protocol):
             self._shown.append(indication)
 
     def _drop(self, reference: int) -> None:
-        """Drops what is pending of a connection."""
+        """Drops the pending indications of a connection."""
         session = self._sessions.get(reference)
         if session is not None:
             session.drop()
@@ -525,7 +527,7 @@ class EndProtocol(asyncio.Protocol):
         self._pending.forget(reference)
 
     def _must_wait(self) -> bool:
-        """Whether no more should be read: nobody fetches indications, or the peer does not read what is written."""
+        """Whether to read no more: nobody fetches indications, or the peer doesn't read what is written."""
         if self._closed:
             return False
         if self._answers.octets > _PIECE:
@@ -550,7 +552,7 @@ class EndProtocol(asyncio.Protocol):
             self.give_up(blamed)
 
     def _waits_for_room(self) -> bool:
-        """Whether somebody waits for what only reading brings: the peer's credit."""
+        """Whether somebody waits for the peer's credit, which comes only if the line reads."""
         return not (self._closed or self._came_to_end) and (self._draining > 0 or self._closing)
 
     def _read_or_wait(self) -> None:
@@ -566,32 +568,32 @@ class EndProtocol(asyncio.Protocol):
     # ---- closing
 
     def _unsent(self, reference: int) -> int:
-        """What of a connection waits for credit. Behind an abort nobody waits for it."""
+        """How many octets of a connection wait for credit. After an abort nobody waits for it."""
         return 0 if self.end.phase(reference) is Phase.ABORTING else self.end.unsent(reference)
 
     def _unsent_of_all(self) -> int:
         return sum(self._unsent(reference) for reference in self._open)
 
     def _note_loss(self) -> None:
-        """The byte connection is gone: notes which users lose octets by it."""
+        """The byte connection is gone. Notes which users lose octets because of it."""
         lost = max(0, self.end.outgoing_length() - self._answers.octets) + self._unsent_of_all()
         if lost > 0:
             self._cut = {of for of in self._open if self.end.phase(of) not in (Phase.ABORTING, Phase.ENDED)}
             self._cut_octets = lost
 
     def _all_sent(self) -> bool:
-        """Whether nothing is left to write that can still be written."""
+        """Whether everything that can still be written has been written."""
         return self.end.outgoing_length() == 0 and (self._came_to_end or self._unsent_of_all() == 0)
 
     def _is_over(self) -> bool:
-        """Whether all is written, and the end has ended, or its last connection is gone and no other is awaited."""
+        """Whether everything is written, and either the end has ended, or its last connection is gone and no other is awaited."""
         is_live = self.end.live() > 0
         self._was_live = self._was_live or is_live
         is_over = self.end.ended() is not None or (self._was_live and not is_live and not self.stays)
         return is_over and self.end.outgoing_length() == 0
 
     def _close_if_done(self, transport: asyncio.Transport) -> None:
-        """Closes the transport once all is written and nothing is awaited."""
+        """Closes the transport once everything is written and nothing is awaited."""
         if transport.is_closing():
             return
         if self._half_closed:
@@ -601,19 +603,19 @@ class EndProtocol(asyncio.Protocol):
             self._finish(transport)
 
     def _finish(self, transport: asyncio.Transport) -> None:
-        """Closes the transport, to which all octets were handed, or begins to."""
+        """Closes the transport, which has all octets, or begins to."""
         if _unwritten(transport) > 0:
-            # So the transport tells when it has written them.
+            # So the transport calls back when it has written them.
             transport.set_write_buffer_limits(0)
         elif self._came_to_end or self.end.live() == 0 or not transport.can_write_eof():
             transport.close()
         else:
-            # (A close while the peer still writes would drop what it has not read.)
+            # (A close while the peer still writes would drop octets that it has not read.)
             self._half_closed = True
             transport.write_eof()
 
     def _linger(self) -> None:
-        """From now on the peer has so many seconds each time to take something; then the transport is closed."""
+        """From now on, if the peer takes nothing for this many seconds, the transport is closed."""
         transport = self._transport
         if transport is None or self._closed:
             return

@@ -9,7 +9,7 @@ from ._values import Indication, Lost
 
 
 class UnexpectedIndication(Exception):
-    """Something else came than was expected: ``indication``, or None if nothing can come any more."""
+    """An unexpected indication came: ``indication``, or None if no more can come."""
 
     def __init__(self, indication: Optional[Indication]) -> None:
         super().__init__(f"shown: {indication!r}" if indication is not None else "the line is closed")

@@ -1,4 +1,4 @@
-"""What a line keeps: the indications that nobody has fetched, and the octets that answer its peer."""
+"""What a line keeps: pending indications, and the octets that answer its peer."""
 from __future__ import annotations
 
 from collections import deque
@@ -8,11 +8,11 @@ from ._end import End
 from ._values import Indication
 
 MOST_INDICATIONS = 64
-"""A connection is full if so many of its indications are pending."""
+"""A connection is full if this many of its indications are pending."""
 MOST_OCTETS = 262_144
-"""It is also full if its pending indications have so many octets."""
+"""It is also full if its pending indications have this many octets."""
 _EACH = 512
-"""What an indication counts beside its user data, in octets."""
+"""How many octets an indication counts in addition to its user data."""
 
 
 def _weight(indication: Indication) -> int:
@@ -20,7 +20,7 @@ def _weight(indication: Indication) -> int:
 
 
 class _Share:
-    """What is pending of one connection."""
+    """The pending indications of one connection."""
 
     __slots__ = ("count", "octets", "unpaid")
 
@@ -33,8 +33,8 @@ class _Share:
 
 
 class Pending:
-    """How many indications of each connection are pending, and their octets. Unpaid are those that came while this side
-    waited for credit of their connection and got none."""
+    """How many indications of each connection are pending, and their octets. Unpaid indications are those that came while
+    this side waited for credit of their connection and got none."""
 
     def __init__(self) -> None:
         self.octets = self.unpaid = 0
@@ -44,24 +44,24 @@ class Pending:
 
     @property
     def is_full(self) -> bool:
-        """Whether some connection has so many that no more should be read."""
+        """Whether some connection has so many that the line should read no more."""
         return bool(self._full)
 
     @property
     def owing(self) -> Tuple[int, ...]:
-        """The connections of which unpaid indications are pending."""
+        """The connections that have unpaid pending indications."""
         return tuple(self._owing)
 
     def has(self, reference: int) -> bool:
-        """Whether something of this connection is pending."""
+        """Whether this connection has pending indications."""
         return reference in self._shares
 
     def most_octets(self) -> Optional[int]:
-        """The connection of which most octets are pending."""
+        """The connection with most pending octets."""
         return max(self._shares, key=lambda of: self._shares[of].octets) if self._shares else None
 
     def most_unpaid(self) -> Optional[int]:
-        """The connection of which most are unpaid."""
+        """The connection with most unpaid octets."""
         return max(self._owing, key=lambda of: self._shares[of].unpaid) if self._owing else None
 
     def add(self, indication: Indication, is_unpaid: bool) -> None:
@@ -97,8 +97,8 @@ class Pending:
 
 
 class Answers:
-    """How many of the outgoing octets the end wrote by itself while it was fed (acknowledgements, refusals), and
-    that were not taken yet. A peer that sends and does not read makes these grow, and nothing else of them."""
+    """How many of the outgoing octets the end wrote by itself while it was fed (acknowledgements, refusals) and are not
+    taken yet. Only these grow if a peer sends and doesn't read."""
 
     def __init__(self) -> None:
         self.octets = 0
@@ -107,7 +107,7 @@ class Answers:
         self._runs: Deque[List[int]] = deque()
 
     def came(self, grown: int, outgoing: int) -> None:
-        """So many octets came to the end of what is outgoing now."""
+        """This many octets were appended to the outgoing ones."""
         if grown <= 0:
             return
         end = self.taken + outgoing
@@ -119,14 +119,14 @@ class Answers:
         self.octets += grown
 
     def went(self, octets: int) -> None:
-        """So many outgoing octets, the first, were taken."""
+        """This many of the outgoing octets were taken, from the first."""
         self.taken += octets
         while self._runs and self._runs[0][0] <= self.taken:
             self.octets -= self._runs.popleft()[1]
 
 
 class Feed:
-    """What came from the peer and was not fed yet, in order."""
+    """The received octets that have not been fed yet, in order."""
 
     def __init__(self, end: End) -> None:
         self._end = end
@@ -141,7 +141,7 @@ class Feed:
         self._pieces.append(piece)
 
     def next(self) -> Optional[Indication]:
-        """Feeds up to the next indication; None if all is fed."""
+        """Feeds up to the next indication; None if everything has been fed."""
         while True:
             if self._current is None:
                 if not self._pieces:

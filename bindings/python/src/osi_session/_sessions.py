@@ -1,4 +1,4 @@
-"""A session of its own for each connection of a line."""
+"""Sessions: one object for each connection of a line."""
 from __future__ import annotations
 
 from collections import deque
@@ -31,37 +31,37 @@ class Session:
     """One connection of a line, as its user sees it.
 
     A call waits until this connection has room: until at most 64 KiB of its octets are unsent, and at most 64 KiB of
-    the line's are outgoing. Then it is made, as the call of ``End`` with that name; until then it may be cancelled
-    without effect. So a loop that awaits each call keeps little, however slow the peer is.
+    the line's are outgoing. Then it calls the method of ``End`` with that name; if it is cancelled before, it has no
+    effect. So a loop that awaits each call keeps little, however slow the peer is.
 
     Indications are fetched by ``next``, ``expect`` or ``async for``. If the session ends in another way than by a
-    release, these raise SessionOver, after all that came before; calls raise it as soon as the end has come. If the body
-    of an ``async for`` does not answer ``Release``, the loop accepts it, and ends.
+    release, these raise SessionOver after the last pending indication; calls raise it at once. If the body of an
+    ``async for`` doesn't answer ``Release``, the loop accepts it, and ends.
     """
 
     def __init__(self, line: EndProtocol, reference: int) -> None:
         """Use ``EndProtocol.session`` and ``EndProtocol.next_session``."""
         self.line = line
         self.reference = reference
-        """The connection, as calls of ``end`` name it."""
+        """The reference of the connection, for calls of ``end``."""
         self._shown: Deque[Indication] = deque()
-        # The indication with which it is over; and whether the user himself has ended it.
+        # The indication that ended it; and whether its own user has ended it.
         self._over: Optional[Indication] = None
         self._is_done = False
         # Whether the last indication that was fetched asks for the release.
         self._asked_for_release = False
         line.begin(self)
 
-    # ---- what its user looks at
+    # ---- what its user may read
 
     @property
     def end(self) -> End:
-        """The end of the line, which has what else there is to ask: ``session.end.unsent(session.reference)``."""
+        """The end of the line, for everything else: ``session.end.unsent(session.reference)``."""
         return self.line.end
 
     @property
     def phase(self) -> Phase:
-        """Where it stands, as ``End.phase``."""
+        """Its phase, as ``End.phase``."""
         return self.end.phase(self.reference)
 
     @property
@@ -104,8 +104,8 @@ class Session:
     async def expect(self, *kinds: Type[Indication]) -> Indication: ...
 
     async def expect(self, *kinds: Any) -> Any:
-        """The next indication, which is to be of one of these kinds; else UnexpectedIndication. SessionOver, unless
-        its indication is expected."""
+        """The next indication. If it isn't of one of these kinds, UnexpectedIndication. SessionOver, unless its
+        indication is expected."""
         try:
             indication = await self.next()
         except SessionOver as over:
@@ -131,7 +131,7 @@ class Session:
     # ---- calls
 
     async def drain(self) -> None:
-        """Waits until this connection has room. The others of the line do not matter. SessionOver."""
+        """Waits until this connection has room, whatever the others of the line do. SessionOver."""
         await self.line.room(self.reference, lambda: self._over is not None or self._is_done)
         if self._over is not None:
             raise SessionOver(self._over)
@@ -195,7 +195,7 @@ class Session:
         await self._call(self.end.release_refuse, user_data)
 
     async def abort(self, user_data: bytes = b"") -> None:
-        """``End.abort``, at once: the session is over, and what is pending of it is dropped."""
+        """``End.abort``, at once: the session is over, and its pending indications are dropped."""
         if self._over is not None:
             raise SessionOver(self._over)
         self.end.abort(self.reference, user_data)
@@ -203,12 +203,12 @@ class Session:
         self.line.leave(self)
 
     async def close(self) -> None:
-        """Ends the session in order, as the end of its block does.
+        """Ends the session in an orderly way, as the end of its block does.
 
         If the peer asked for the release, this accepts it. Else this side asks for it, if it may (``End.release``),
-        and waits for the answer; what comes meanwhile is dropped. If it may not, or the peer refuses, it aborts. A
-        connection that the peer asked for and that was not answered is refused. Nothing if the session is over.
-        SessionOver, if it ends meanwhile in another way."""
+        and waits for the answer; other indications that come meanwhile are dropped. If it may not, or the peer refuses,
+        it aborts. If the peer asked for the connection and it was not answered yet, it is refused. If the session is
+        over, nothing happens. SessionOver, if it ends meanwhile in another way."""
         if self._is_done or isinstance(self._over, Released):
             return
         try:
@@ -234,7 +234,7 @@ class Session:
                 await self.release_accept()
 
     def _has_news(self) -> bool:
-        """Whether there is an indication to fetch, or none to wait for."""
+        """Whether there is an indication to fetch, or no more can come."""
         return bool(self._shown) or self._is_done or self._over is not None or self.line.is_done
 
     # ---- what its line calls
@@ -246,11 +246,11 @@ class Session:
             self._over = indication
 
     def drop(self) -> None:
-        """What is pending is dropped."""
+        """Its pending indications are dropped."""
         self._shown.clear()
 
     def leave(self) -> None:
-        """Its user has left it: what is not over is given up."""
+        """Its user has left it: if it is not over, it is given up."""
         if not self._is_done and self._over is None:
             self.line.end_alone(self.reference)
         self._is_done = True
@@ -261,16 +261,16 @@ class CallingSession(Session):
     """A session that this side asked for."""
 
     connected: Connected
-    """The answer of the peer."""
+    """The peer's answer."""
 
 
 class CalledSession(Session):
-    """A session that the peer asks for. ``accept`` or ``refuse`` it first."""
+    """A session that the peer asks for. Call ``accept`` or ``refuse`` first."""
 
     def __init__(self, line: EndProtocol, asked: Connect) -> None:
         super().__init__(line, asked.reference)
         self.asked = asked
-        """What the peer asks for."""
+        """The peer's request."""
 
     async def accept(
         self,
@@ -280,8 +280,8 @@ class CalledSession(Session):
         user_data: bytes = b"",
         sizes: Sizes = Sizes(),
     ) -> None:
-        """``End.accept``, by default with all units that can be selected (half-duplex, if the peer offers both kinds)
-        and with the number that the peer names for the first point."""
+        """``End.accept``, by default with all units that can be selected (half-duplex, if the peer offers both that and
+        duplex), and with the peer's number for the first point."""
         units = _usual(self.asked.requirements) if requirements is None else requirements
         first = self.asked.number or 0 if number is None else number
         await self._call(self.end.accept, units, first, sides, user_data, sizes)
@@ -298,12 +298,12 @@ class CalledSession(Session):
         await super().close()
 
 
-# What goes with half-duplex.
+# The units that can be combined with half-duplex.
 _WITH_HALF_DUPLEX = (
     Units.HALF_DUPLEX | Units.MINOR_SYNC | Units.MAJOR_SYNC | Units.RESYNCHRONIZE | Units.NEGOTIATED_RELEASE
 )
 
 
 def _usual(offered: Units) -> Units:
-    """Units of an offer that can be selected together: half-duplex with all that goes with it, or duplex alone."""
+    """The units of an offer that can be selected together: half-duplex with those that can be combined with it, or duplex."""
     return offered & _WITH_HALF_DUPLEX if offered & Units.HALF_DUPLEX else Units.DUPLEX

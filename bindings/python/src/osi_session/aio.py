@@ -1,10 +1,10 @@
-"""Ends over asyncio: lines that carry their octets, and a session for each connection.
+"""Ends over asyncio: lines that read and write their octets, and a session for each connection.
 
     async with aio.dial("127.0.0.1", 4000) as line:
         async with line.session(Opening(user_data=b"gateway")) as session:
             await session.data(b"hello")
 
-``serve_sessions`` is the other side. ``dial`` and ``serve`` give a line, an ``EndProtocol``, for one byte connection.
+``serve_sessions`` is the other side. ``dial`` and ``serve`` make a line, an ``EndProtocol``, for one byte connection.
 """
 from __future__ import annotations
 
@@ -36,9 +36,10 @@ __all__ = [
 async def dial(
     host: str, port: int, terms: Terms = Terms(), protocol: Callable[[End], EndProtocol] = EndProtocol, **options: Any
 ) -> AsyncIterator[EndProtocol]:
-    """A line with a calling end to a TCP port. After the block the byte connection is closed once all is written
-    (``EndProtocol.close``), or at once if the block raises, and the end is freed. ConnectionResetError if it was lost
-    before all was written and the block was not told. Options are those of ``loop.create_connection``, as ``ssl``."""
+    """A line with a calling end to a TCP port. After the block, the byte connection is closed once everything is
+    written (``EndProtocol.close``), or at once if the block raises, and the end is freed. ConnectionResetError if the
+    byte connection was lost before everything was written, and the block doesn't know. Options are those of
+    ``loop.create_connection``, such as ``ssl``."""
     loop = asyncio.get_running_loop()
     line = protocol(End.caller(terms))
     try:
@@ -65,9 +66,10 @@ async def serve(
     protocol: Callable[[End], EndProtocol] = EndProtocol,
     **options: Any,
 ) -> asyncio.AbstractServer:
-    """Listens on a TCP port. For each byte connection the handler is called with a line with a called end; after it
-    the byte connection is closed once all is written, or at once if it raises, and the end is freed. The event loop's
-    exception handler is told what it raises. Options are those of ``loop.create_server``, as ``ssl``."""
+    """Listens on a TCP port. For each byte connection it calls the handler with a line with a called end. After the
+    handler, the byte connection is closed once everything is written, or at once if the handler raises, and the end is
+    freed. The event loop's exception handler gets what it raises. Options are those of ``loop.create_server``, such as
+    ``ssl``."""
     loop = asyncio.get_running_loop()
     tasks: Set[asyncio.Task[None]] = set()
 
@@ -106,6 +108,6 @@ async def serve_sessions(
     protocol: Callable[[End], EndProtocol] = EndProtocol,
     **options: Any,
 ) -> asyncio.AbstractServer:
-    """Listens as ``serve``, and calls the handler for each session that a peer asks for, in a task of its own: see
-    ``EndProtocol.answer_sessions``."""
+    """Listens as ``serve`` does, and calls the handler for each session that a peer asks for, in a task of its own (see
+    ``EndProtocol.answer_sessions``)."""
     return await serve(lambda line: line.answer_sessions(handler), host, port, terms, protocol, **options)
