@@ -1,12 +1,12 @@
 /*
- * Two ends in one program, and their octets carried from one to the other, as sockets would.
+ * Two ends in one program, which carries the octets of each to the other, as sockets would.
  *
  *     cc -std=c99 $(pkg-config --cflags osi-session) hello.c $(pkg-config --libs osi-session) -o hello
  */
 #include <osi.h>
 #include <stdio.h>
 
-/* Shows what a user is shown; the called user answers. */
+/* Prints each indication; the called user answers. */
 static void show(osi_end *end, const osi_indication *shown)
 {
     const int length = (int)shown->user_data.length;
@@ -29,7 +29,7 @@ static void show(osi_end *end, const osi_indication *shown)
     }
 }
 
-/* Carries what one end has to send to the other. */
+/* Carries the outgoing octets of one end to the other. */
 static void carry(osi_end *from, osi_end *to)
 {
     uint8_t piece[4096];

@@ -1,13 +1,13 @@
 #!/bin/sh
-# Makes an authority, and a certificate of it for each other name, all for trying and good for thirty days: NAME.pem and
-# NAME.key, in the folder where it is called.
+# Makes an authority, and a certificate signed by it for each other name: NAME.pem and NAME.key in the current folder. They are
+# for tests, and expire after thirty days.
 #
 #   certificates.sh AUTHORITY NAME..
 set -eu
 authority=$1
 shift
 
-# A key on the curve P-256, and a certificate; what stands behind the name goes to openssl.
+# Makes a key on the curve P-256 and a certificate. The words after the name are options of openssl.
 make() {
     name=$1
     shift

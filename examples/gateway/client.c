@@ -1,13 +1,13 @@
-/* The calling side: asks for a connection, sends messages with a minor point behind each, whose
- * confirmation it awaits, gives the tokens and accepts the release.
+/* The calling side. It asks for a connection, sends messages, sets a minor point after each and waits for
+ * its confirmation; then it gives the tokens and accepts the release.
  *
  *   client [--port 4000] [--classes 0|2|20] [--window 1..15] [--tsdu OCTETS] [--wait SECONDS] [--messages 5]
  *          [--log FILE|-] [--capture NAME] [--bulk COUNT] [--size OCTETS] [--points EVERY]
  *
- * With --tsdu it asks for TSDUs of at most so many octets in both directions: 64 to 65535.
- * With --bulk it sends so many messages of one size, as fast as they go, and one point at the end, and
- * prints messages and megabytes a second. With --points it sets a point behind each so many of them, too, and awaits none
- * of the confirmations but the last. The status is 0 where the connection was released, and 3 where it was lost. */
+ * With --tsdu it asks for TSDUs of at most this many octets in both directions: 64 to 65535.
+ * With --bulk it sends COUNT messages of one size as fast as possible, with one point at the end, and prints messages
+ * and megabytes a second. With --points it also sets a point after every EVERY messages, and waits only for the last
+ * confirmation. The status is 0 if the connection was released, and 3 if it was lost. */
 #define _POSIX_C_SOURCE 200809L
 #include "gateway.h"
 
@@ -33,7 +33,7 @@ struct plan {
     struct timespec began;
 };
 
-/* The next message, and a point behind it; or the tokens where all was said. */
+/* Sends the next message with a point after it, or gives the tokens after the last message. */
 static void go_on(struct gateway *g)
 {
     struct plan *plan = g->user;
@@ -89,7 +89,7 @@ static void shown(struct gateway *g, const osi_indication *i)
     }
 }
 
-/* Hands messages over while few octets wait for the socket, and for the peer's credit. */
+/* Sends messages while only a few octets wait for the socket or for the peer's credit. */
 static void send_bulk(struct gateway *g)
 {
     struct plan *plan = g->user;
@@ -136,7 +136,7 @@ static bool ask(struct gateway *g)
     return code == OSI_OK;
 }
 
-/* Waits until there is something to do, and does it. False once all is done. */
+/* Waits until there is something to do, and does it. False once everything is done. */
 static bool turn(struct gateway *g)
 {
     struct pollfd waits = {g->socket, gateway_events(g), 0};

@@ -1,15 +1,14 @@
-/* The calling side of client.c, in C++: it sends messages with a minor point behind each, whose
- * confirmation it awaits, gives the tokens and accepts the release.
+/* The calling side of client.c, in C++. It sends messages, sets a minor point after each and waits for its
+ * confirmation; then it gives the tokens and accepts the release.
  *
  *   client [--port 4000] [--classes 0|2|20] [--tsdu OCTETS] [--wait SECONDS] [--messages 5] [--log FILE|-]
  *          [--bulk COUNT] [--size OCTETS]
  *
- * With --bulk it sends so many messages of one size as fast as they go, with a point behind each, and awaits none of the
- * confirmations but the last: both sides then write much. The status is 0 where the connection was released, and 3 where it
- * was lost. */
+ * With --bulk it sends COUNT messages of one size as fast as possible, with a point after each, and waits only for the last
+ * confirmation, so that both sides write much. The status is 0 if the connection was released, and 3 if it was lost. */
 #include "line.hpp"
 
-/* What is to be said: so many messages, and where each has a size, as fast as they go. */
+/* What to send: how many messages, and with --bulk the size of each. */
 struct plan {
     unsigned long messages = 5;
     std::optional<std::size_t> size;
@@ -38,7 +37,7 @@ public:
         return true;
     }
 
-    /* Goes on until the byte connection is over. */
+    /* Runs until the byte connection is over. */
     void run()
     {
         pollfd ready = waits();
@@ -54,7 +53,7 @@ public:
     int status() const noexcept { return lost_ ? 3 : released_ ? 0 : 2; }
 
 private:
-    /* The next message, and a point behind it. */
+    /* Sends the next message, and sets a point after it. */
     void say_one()
     {
         said_++;
@@ -62,7 +61,7 @@ private:
         did(of_, "minor", end.minor_point(of_));
     }
 
-    /* The next message; or the tokens where all was said. */
+    /* Sends the next message, or gives the tokens after the last one. */
     void go_on()
     {
         if (said_ < plan_.messages)
@@ -71,7 +70,7 @@ private:
             did(of_, "give", end.give(of_, osi::tokens::data | osi::tokens::minor | osi::tokens::release));
     }
 
-    /* Whether messages are sent ahead and little waits to be sent. */
+    /* Whether messages are sent ahead and only a few octets are unsent. */
     bool has_more()
     {
         return plan_.size && ready_ && said_ < plan_.messages && end.outgoing().size() + end.backlog() < most_waiting;

@@ -75,7 +75,7 @@ class Indication(ctypes.Structure):
 
 EMPTY = ctypes.create_string_buffer(1)
 NO_OCTETS = Octets(ctypes.addressof(EMPTY), 0)
-# What each function takes behind the end, and what it answers.
+# The arguments of each function after the end, and what it returns.
 FUNCTIONS = {
     "osi_caller": ([POINTER(Terms)], c_uint32),
     "osi_free": ([], None),
@@ -104,7 +104,7 @@ def load(path):
 
 
 def of(octets):
-    """A copy of octets that are lent."""
+    """A copy of lent octets."""
     return ctypes.string_at(octets.at, octets.length)
 
 
@@ -117,7 +117,7 @@ def sides(s):
 
 
 def fields(i):
-    """What stands between the name of an indication and its user data."""
+    """The words between the name of an indication and its user data."""
     if i.tag in (CONNECT, CONNECTED):
         number = i.number if i.has_number else "-"
         return f" units {i.requirements:04x} serial {number} sides {sides(i.sides)}"
@@ -137,7 +137,7 @@ def fields(i):
 
 
 def sizes(i):
-    """The sizes that a CN or an AC names, where one is not 0."""
+    """The sizes that a CN or an AC names, if one of them is not 0."""
     named = i.tag in (CONNECT, CONNECTED) and (i.size_from_asker or i.size_from_answerer)
     return f" tsdu {i.size_from_asker} {i.size_from_answerer}" if named else ""
 
@@ -214,8 +214,8 @@ class Client:
         return of(octets)
 
     def turn(self, connection):
-        """Waits once, and carries what can be carried. False once the peer has closed, or this side may: all is sent, and
-        the one connection that was asked for is gone."""
+        """Waits once, and reads and writes. False once the peer has closed, or this side may close: everything is sent,
+        and its only connection is gone."""
         waiting = self.outgoing()
         if self.osi.osi_is_over(byref(self.end)):
             return False

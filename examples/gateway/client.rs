@@ -1,6 +1,6 @@
-//! The calling side of client.c, in Rust without crates: it sends messages with a minor point behind
-//! each, whose confirmation it awaits, gives the tokens and accepts the release. It writes all before it
-//! reads, which is enough for who says little at a time; `bindings/rust/examples` has the loop of a gateway.
+//! The calling side of client.c, in Rust without crates. It sends messages, sets a minor point after each and
+//! waits for its confirmation; then it gives the tokens and accepts the release. It writes everything before it
+//! reads, which is enough for a program that sends little; `bindings/rust/examples` has the loop of a gateway.
 //!
 //!     rustc -O --edition 2021 -L build -l static=osi-session client.rs
 //!     client [--port 4000] [--classes 0|2|20] [--tsdu OCTETS] [--wait SECONDS] [--messages 5] [--log FILE]
@@ -14,7 +14,7 @@ use std::process::ExitCode;
 use std::ptr::null_mut;
 use std::time::Duration;
 
-/// What `include/osi.h` declares, of which a client needs this.
+/// The declarations of `include/osi.h` that a client needs.
 mod osi {
     use std::ffi::c_void;
 
@@ -108,7 +108,7 @@ mod osi {
     }
 }
 
-/// What a user is shown, with its own user data.
+/// An indication, with its own copy of the user data.
 struct Shown {
     said: osi::Indication,
     user_data: Vec<u8>,
@@ -164,14 +164,14 @@ impl Caller {
         unsafe { osi::osi_release_accept(&mut *self.end, reference, [].as_ptr(), 0) }
     }
 
-    /// How many octets of a piece were used.
+    /// Feeds a piece, and returns how many of its octets were used.
     fn feed(&mut self, piece: &[u8]) -> usize {
         let mut fed = osi::Fed { used: 0, waits: false };
         unsafe { osi::osi_feed(&mut *self.end, piece.as_ptr(), piece.len(), &mut fed) };
         fed.used
     }
 
-    /// The octets to be carried, which are lent until the next call.
+    /// The octets to send, lent until the next call.
     fn outgoing(&mut self) -> &[u8] {
         let mut lent = octets(&[]);
         unsafe {
@@ -188,7 +188,7 @@ impl Caller {
         unsafe { osi::osi_broken(&mut *self.end) };
     }
 
-    /// Whether the byte connection may be closed now.
+    /// Whether this side may close the byte connection now.
     fn is_over(&mut self) -> bool {
         unsafe { osi::osi_is_over(&mut *self.end) }
     }
@@ -331,7 +331,7 @@ impl Client {
         Ok(())
     }
 
-    /// Writes all that is to be carried, in what pieces the socket takes.
+    /// Writes all outgoing octets, in whatever pieces the socket takes.
     fn transmit(&mut self, stream: &mut TcpStream) -> io::Result<()> {
         loop {
             let waiting = self.caller.outgoing();

@@ -1,5 +1,5 @@
-/* One end over a TCP socket: octets are read and written as they come and go, in any pieces, and each
- * indication is told to the user of the program. It waits neither for the peer to read nor for it to write. */
+/* One end over a TCP socket. It reads and writes octets in whatever pieces the socket gives and takes, and passes each
+ * indication to the user of the program. It never blocks, whether the peer reads or writes. */
 #define _POSIX_C_SOURCE 200809L
 #include "gateway.h"
 
@@ -63,7 +63,7 @@ static bool is_one_of(const osi_indication *i, uint32_t first, uint32_t second)
     return i->tag == first || i->tag == second;
 }
 
-/* What stands between the name of an indication and its user data. */
+/* The words between the name of an indication and its user data. */
 static void write_fields(FILE *log, const osi_indication *i)
 {
     static const char *const faults[] = {"",          "Spelling",  "Unexpected",   "NotSelected", "TokenHeld",
@@ -143,7 +143,7 @@ bool gateway_may_answer(struct gateway *g, uint16_t reference)
     return false;
 }
 
-/* Fetches all that waits. */
+/* Fetches all pending indications. */
 static void show_all(struct gateway *g)
 {
     osi_indication shown;
@@ -181,7 +181,7 @@ static bool comes_later(void)
     return errno == EAGAIN || errno == EWOULDBLOCK || errno == EINTR;
 }
 
-/* Reads what there is, once. */
+/* Reads once. */
 static void receive(struct gateway *g)
 {
     static uint8_t piece[PIECE];
@@ -196,7 +196,7 @@ static void receive(struct gateway *g)
     }
 }
 
-/* Stands still in the middle of what it sends, until somebody ends it. */
+/* Stops in the middle of what it sends, until somebody ends the program. */
 static void stall(void)
 {
     puts("stalled");
@@ -205,7 +205,7 @@ static void stall(void)
         pause();
 }
 
-/* Writes what can be written, once. */
+/* Writes once, as much as the socket takes. */
 static void transmit(struct gateway *g)
 {
     osi_octets octets;
@@ -229,7 +229,7 @@ static void transmit(struct gateway *g)
 
 /* ---- a turn of the loop (docs/GUIDE.md) */
 
-/* Gives the peer up: it says nothing, or nothing that is ever shown. Then osi_phase tells what its connections wait for. */
+/* Gives the peer up: it sends nothing, or nothing that causes an indication. osi_phase says what its connections wait for. */
 static void give_up(struct gateway *g)
 {
     FILE *log = g->log != NULL ? g->log : stderr;
@@ -246,7 +246,7 @@ short gateway_events(struct gateway *g)
     return (short)((reads ? POLLIN : 0) | (osi_wants_write(&g->end) ? POLLOUT : 0));
 }
 
-/* When it is given up, unless something happens before. */
+/* When to give the peer up, unless something happens before. */
 static long long deadline(const struct gateway *g)
 {
     return (g->was_shown ? g->moved : g->began) + g->patience;
@@ -295,7 +295,7 @@ static FILE *capture_file(const char *capture, const char *side)
 
 bool gateway_open(struct gateway *g, int socket, bool calls, int count, char **words)
 {
-    /* A caller offers class 2 where its peer is known to have it; the called side takes what it is asked for. */
+    /* A caller offers class 2 only if its peer is known to have it; the called side takes what the caller prefers. */
     const char *classes = option(count, words, "--classes", calls ? "0" : "20");
     const char *capture = option(count, words, "--capture", NULL);
     osi_terms terms = {0, 13, (uint8_t)atoi(option(count, words, "--window", "15"))};

@@ -21,7 +21,7 @@
 #include <string>
 #include <utility>
 
-/* A socket that is closed when it goes. */
+/* A socket that closes itself at the end of its life. */
 class connection {
 public:
     explicit connection(int handle) noexcept : handle_(handle) {}
@@ -105,7 +105,7 @@ inline std::string opened(const osi::indication &shown)
            (shown.number ? std::to_string(*shown.number) : "-") + letters(shown.sides);
 }
 
-/* The sizes that a CN or an AC names, where one is not 0. */
+/* The sizes that a CN or an AC names, if one of them is not 0. */
 inline std::string sizes(osi::tsdu_sizes s)
 {
     if (s.from_asker == 0 && s.from_answerer == 0)
@@ -149,8 +149,8 @@ inline std::string words(const osi::indication &shown)
 
 /* ---- an end on its socket */
 
-/* An end, its socket and its log. No call of it waits, so one thread carries many of them, and a peer that does not read
- * holds up nobody. Who uses it overrides shown. */
+/* An end, its socket and its log. No call of it blocks, so one thread serves many of them, and a peer that doesn't read delays
+ * nobody. A subclass overrides shown. */
 class line {
 public:
     line(osi::end made, connection socket, const char *side, std::ostream &log, std::chrono::seconds patience)
@@ -161,15 +161,15 @@ public:
     line &operator=(const line &) = delete;
     virtual ~line() = default;
 
-    /* No more is called while so many octets wait to be sent: those that go next, and those that wait for credit. */
+    /* A side makes no more calls while this many octets are unsent: outgoing ones, and those that wait for credit. */
     static constexpr std::size_t most_waiting = 262144;
-    /* No more is read while so many octets go next: what is read is answered. This is above the bound of calls, since else
-     * two sides that both write much would read no more, and wait for each other for ever. */
+    /* It reads no more while this many octets are outgoing, because it answers what it reads. This bound is above that of
+     * calls: otherwise two sides that both write much would stop reading, and wait for each other for ever. */
     static constexpr std::size_t most_outgoing = 524288;
-    /* A connection whose peer gives no credit for so many octets of answers gets no more of them, and is given up. */
+    /* If a peer gives no credit for this many octets of answers, its connection is answered no more and given up. */
     static constexpr std::size_t most_unsent = 16384;
 
-    /* What poll is to wait for, and for how many milliseconds at most. */
+    /* The events that poll has to wait for, and for how many milliseconds at most. */
     pollfd waits()
     {
         const int reads = end.outgoing().size() <= most_outgoing ? POLLIN : 0;
@@ -181,8 +181,8 @@ public:
         return left.count() > 0 ? static_cast<int>(left.count()) : 0;
     }
 
-    /* One turn of the loop: carries what can be carried, and waits for nothing. False once there is nothing left to do,
-     * since the byte connection is over, or the peer was given up; then the line is to go. */
+    /* One turn of the loop: reads and writes without blocking. False once there is nothing left to do, because the byte
+     * connection is over or the peer was given up; then destroy the line. */
     bool turn(short found)
     {
         if (found != 0)
@@ -204,7 +204,7 @@ protected:
 
     std::ostream &log() { return log_ << side_ << ' '; }
 
-    /* Writes the line of a call, as "left 1 data ok", and answers whether it was done. */
+    /* Writes a call to the log, such as "left 1 data ok", and answers whether it was done. */
     bool did(osi::reference of, const char *call, osi::code answer)
     {
         log() << of << ' ' << call << (answer == osi::code::ok ? " ok" : " refused: ")
@@ -212,7 +212,7 @@ protected:
         return answer == osi::code::ok;
     }
 
-    /* Whether a connection may be answered. One whose peer asks on and gives no credit for the answers is given up. */
+    /* Whether a connection may be answered. If its peer keeps asking and gives no credit for the answers, it is given up. */
     bool may_answer(osi::reference of)
     {
         if (end.unsent(of) <= most_unsent)
@@ -233,10 +233,10 @@ private:
         });
     }
 
-    /* When the peer is given up, unless something happens before. */
+    /* When to give the peer up, unless something happens before. */
     clock::time_point deadline() const { return (was_shown_ ? moved_ : began_) + patience_; }
 
-    /* Reads, if there is something, and writes, if something is to be sent; whether the byte connection goes on. */
+    /* Reads if there is something to read, and writes if something is outgoing. Returns whether the byte connection goes on. */
     bool carry(short found)
     {
         if ((found & (POLLIN | POLLERR | POLLHUP)) != 0 && !receive())
@@ -244,7 +244,7 @@ private:
         return (!end.wants_write() || transmit()) && !end.is_over();
     }
 
-    /* The log says of connections that were never shown where they stand. */
+    /* Logs the phase of each connection that had no indication yet. */
     void give_up()
     {
         log() << "gives up: " << (was_heard_ && !was_shown_ ? "nothing was shown" : "the peer is silent") << '\n';
@@ -254,7 +254,7 @@ private:
 
     static bool comes_later() { return errno == EAGAIN || errno == EWOULDBLOCK || errno == EINTR; }
 
-    /* Writes what the socket takes, once. */
+    /* Writes once, as much as the socket takes. */
     bool transmit()
     {
         const osi::octets waiting = end.outgoing();
@@ -265,7 +265,7 @@ private:
         return end.taken(static_cast<std::size_t>(count)) == osi::code::ok;
     }
 
-    /* Reads what there is, once. */
+    /* Reads once. */
     bool receive()
     {
         static std::array<std::uint8_t, 65536> piece;
@@ -286,7 +286,7 @@ private:
     bool was_heard_ = false, was_shown_ = false;
 };
 
-/* Where the log goes that --log FILE|- names. */
+/* The file of --log FILE|-, for the log. */
 class log_file {
 public:
     explicit log_file(const std::string &name)

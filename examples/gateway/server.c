@@ -1,14 +1,14 @@
-/* The called side, for many peers at once: takes byte connections, accepts what is asked for, confirms each point, answers
- * when it is given the tokens, and releases the connection.
+/* The called side, for many peers at once. It takes byte connections, accepts each connection that a peer asks for, confirms
+ * each point, answers after it has received the tokens, and releases the connection.
  *
  *   server [--port 4000] [--peers COUNT] [--classes 0|2|20] [--window 1..15] [--tsdu OCTETS] [--wait SECONDS]
  *          [--log FILE|-] [--capture NAME] [--stall OCTETS]
  *
- * It prints the port that it listens on (0 takes a free one), and what each peer said once it is gone. With --peers it ends
- * when so many peers have come and gone. A peer whose connection is not shown within --wait seconds, or that is silent for
- * so long, is logged and given up. With --tsdu it takes TSDUs of at most so many octets, 64 to 65535, and sends none that
- * are longer, where the client names a size too. With --stall it stops for good once it has sent so many octets to a peer.
- * --capture is for one peer. */
+ * It prints the port that it listens on (0 takes a free one), and after each peer has gone, what that peer sent. With --peers
+ * it ends after COUNT peers have come and gone. It gives up a peer that asks for no connection within --wait seconds, or that
+ * is silent for that long, and logs it. With --tsdu it takes and sends TSDUs of at most this many octets, 64 to 65535, if the
+ * client names a size too. With --stall it stops for good once it has sent this many octets to a peer. --capture is for one
+ * peer. */
 #define _POSIX_C_SOURCE 200809L
 #include "gateway.h"
 
@@ -26,7 +26,7 @@
 #define UNITS (OSI_HALF_DUPLEX | OSI_MINOR_SYNC | OSI_NEGOTIATED_RELEASE)
 #define MOST_PEERS 64
 
-/* A byte connection, and what came on it. */
+/* A byte connection, and what it has received. */
 struct peer {
     struct gateway gateway;
     unsigned long messages;
@@ -44,7 +44,7 @@ struct server {
     char **words;
 };
 
-/* The tokens came: says how many messages did, and asks for the release. */
+/* The tokens have come: sends the number of messages, and asks for the release. */
 static void answer(struct gateway *g, uint16_t r)
 {
     const struct peer *peer = g->user;
@@ -98,7 +98,7 @@ static int listens(const char *port, int *listener)
     return ntohs(own.sin_port);
 }
 
-/* Takes the next peer, if there is one. Where there is no memory for it, it is hung up on. */
+/* Accepts the next peer, if there is one. If memory runs out, it closes the connection at once. */
 static void take_peer(struct server *s)
 {
     int yes = 1, socket = accept(s->listener, NULL, NULL);
@@ -122,7 +122,7 @@ static void take_peer(struct server *s)
     free(peer);
 }
 
-/* The peer at this place is gone; the last one takes its place. */
+/* Removes the peer at this place; the last one moves there. */
 static void forget(struct server *s, int place)
 {
     struct peer *peer = s->peers[place];

@@ -1,10 +1,10 @@
-/* The called side of server.c, in C++: for many peers at once it accepts what is asked for, confirms each point, answers
- * when it is given the tokens, and releases the connection.
+/* The called side of server.c, in C++, for many peers at once. It accepts each connection that a peer asks for, confirms each
+ * point, answers after it has received the tokens, and releases the connection.
  *
  *   server [--port 4000] [--peers COUNT] [--classes 0|2|20] [--tsdu OCTETS] [--wait SECONDS] [--log FILE|-]
  *
- * It prints the port that it listens on (0 takes a free one). With --peers it ends when so many peers have come and gone. A
- * peer whose connection is not shown within --wait seconds, or that is silent for so long, is logged and given up. */
+ * It prints the port that it listens on (0 takes a free one). With --peers it ends after COUNT peers have come and gone. It
+ * gives up a peer that asks for no connection within --wait seconds, or that is silent for that long, and logs it. */
 #include "line.hpp"
 
 #include <fcntl.h>
@@ -14,7 +14,7 @@
 #include <memory>
 #include <vector>
 
-/* A byte connection, and what came on it. */
+/* A byte connection, and what it has received. */
 class peer final : public line {
 public:
     peer(osi::end made, connection socket, std::ostream &log, std::chrono::seconds patience, osi::tsdu_sizes sizes)
@@ -26,7 +26,7 @@ private:
     static constexpr osi::units known =
         osi::units::half_duplex | osi::units::minor_sync | osi::units::negotiated_release;
 
-    /* The tokens came: says how many messages did, and asks for the release. */
+    /* The tokens have come: sends the number of messages, and asks for the release. */
     void answer(osi::reference of)
     {
         did(of, "data", end.data(of, std::to_string(messages_) + " messages"));
@@ -68,7 +68,7 @@ public:
     {
     }
 
-    /* Whether it listens; then the port is printed. */
+    /* Whether it listens; if so, it has printed the port. */
     bool listens(const std::string &port)
     {
         sockaddr_in own = loopback(port);
@@ -84,7 +84,7 @@ public:
         return true;
     }
 
-    /* Goes on until all the peers that it awaits have come and gone. */
+    /* Runs until all expected peers have come and gone. */
     void run()
     {
         while (awaits_ > 0 || !peers_.empty())
@@ -115,7 +115,7 @@ private:
             take();
     }
 
-    /* Takes the next peer, if there is one. Where there is no memory for it, it is hung up on. */
+    /* Accepts the next peer, if there is one. If memory runs out, it closes the connection at once. */
     void take()
     {
         connection came(accept(listener_.handle(), nullptr, nullptr));

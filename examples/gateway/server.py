@@ -4,8 +4,8 @@ for, confirms each point, answers when it is given the tokens, and releases the 
 
     server.py [--port 4000] [--peers COUNT] [--classes 0|2|20] [--tsdu OCTETS] [--wait SECONDS] [--log FILE]
 
-It prints the port that it listens on (0 takes a free one). With --peers it ends when so many peers have come and gone. A peer
-whose connection is not shown within --wait seconds, or that is silent for so long, is logged and given up.
+It prints the port that it listens on (0 takes a free one). With --peers it ends after COUNT peers have come and gone. It
+gives up a peer that asks for no connection within --wait seconds, or that is silent for that long, and logs it.
 """
 import argparse
 import selectors
@@ -16,16 +16,16 @@ import time
 from osi_session import Classes, Connect, Data, End, Given, Minor, SessionError, Sizes, Terms, Units
 
 UNITS = Units.HALF_DUPLEX | Units.MINOR_SYNC | Units.NEGOTIATED_RELEASE
-# No more is read while so many octets go next: what is read is answered, even where the peer never reads.
+# It reads no more while this many octets are outgoing, because it answers what it reads, even if the peer never reads.
 MOST_OUTGOING = 524_288
-# A connection whose peer gives no credit for so many octets of answers gets no more of them, and is given up.
+# If a peer gives no credit for this many octets of answers, its connection is answered no more and given up.
 MOST_UNSENT = 16_384
-# More byte connections wait until one of these is gone.
+# The most byte connections at a time. Others are accepted once one of these is gone.
 MOST_PEERS = 64
 
 
 def words(shown):
-    """The words of an indication in a transcript (docs/TOOL.md), of those that come here."""
+    """The words of an indication in a transcript (docs/TOOL.md), for those that come here."""
     name, data = type(shown).__name__, getattr(shown, "user_data", b"").hex() or "-"
     if isinstance(shown, Connect):
         holders = (shown.wishes.data, shown.wishes.minor, shown.wishes.major, shown.wishes.release)
@@ -43,7 +43,7 @@ def words(shown):
 
 
 class Peer:
-    """One byte connection, which never waits, and its end."""
+    """One byte connection, which never blocks, and its end."""
 
     def __init__(self, connection, options):
         connection.setblocking(False)
@@ -58,7 +58,7 @@ class Peer:
         print(f"right {text}", file=self.options.log)
 
     def did(self, reference, verb, call, *arguments, **more):
-        """Makes a call, and writes its line."""
+        """Makes a call, and writes it to the log."""
         try:
             call(reference, *arguments, **more)
         except SessionError as error:
@@ -67,7 +67,7 @@ class Peer:
             self.tell(f"{reference} {verb} ok")
 
     def may_answer(self, reference):
-        """Whether a connection may be answered. One whose peer asks on and gives no credit for the answers is given up."""
+        """Whether a connection may be answered. If its peer keeps asking and gives no credit for the answers, it is given up."""
         if self.end.unsent(reference) <= MOST_UNSENT:
             return True
         self.did(reference, "disconnect", self.end.disconnect)
@@ -92,16 +92,16 @@ class Peer:
             self.shown(shown)
 
     def events(self):
-        """What its socket is waited for."""
+        """The events of its socket to wait for."""
         reads = selectors.EVENT_READ if self.end.outgoing_length() <= MOST_OUTGOING else 0
         return reads | (selectors.EVENT_WRITE if self.end.wants_write() else 0)
 
     def deadline(self):
-        """When it is given up, unless something happens before."""
+        """When to give the peer up, unless something happens before."""
         return (self.moved if self.was_shown else self.began) + self.options.wait
 
     def receive(self):
-        """Reads what there is, once. False where the peer has closed."""
+        """Reads once. False if the peer has closed."""
         try:
             piece = self.connection.recv(65536)
         except BlockingIOError:
@@ -111,7 +111,7 @@ class Peer:
         return bool(piece)
 
     def transmit(self):
-        """Writes what can be written, once."""
+        """Writes once, as much as the socket takes."""
         try:
             self.end.taken(self.connection.send(self.end.outgoing(65536)))
             self.moved = time.monotonic()
@@ -119,7 +119,7 @@ class Peer:
             pass
 
     def carry(self, found):
-        """Carries what can be carried, once; whether the byte connection goes on."""
+        """Reads and writes once. Returns whether the byte connection goes on."""
         try:
             if found & selectors.EVENT_READ and not self.receive():
                 return False
@@ -143,7 +143,7 @@ class Peer:
         return False
 
     def give_up(self):
-        """The log says of connections that were never shown where they stand."""
+        """Logs the phase of each connection that had no indication yet."""
         self.tell(f"gives up: {'nothing was shown' if self.was_heard and not self.was_shown else 'the peer is silent'}")
         of = 1
         while not self.was_shown and self.end.phase(of):
@@ -162,7 +162,7 @@ class Server:
         self.listener, self.options, self.awaited, self.peers = listener, options, options.peers, []
 
     def found(self):
-        """What is found at each socket."""
+        """The events at each socket."""
         with selectors.DefaultSelector() as selector:
             for peer in self.peers:
                 if events := peer.events():
@@ -174,7 +174,7 @@ class Server:
             return {key.fileobj: events for key, events in selector.select(timeout and max(timeout, 0.001))}
 
     def run(self):
-        """Goes on until all the peers that it awaits have come and gone."""
+        """Runs until all expected peers have come and gone."""
         while self.awaited > 0 or self.peers:
             found = self.found()
             over = [peer for peer in self.peers if not peer.turn(found.get(peer.connection, 0))]
@@ -185,7 +185,7 @@ class Server:
                 self.take()
 
     def take(self):
-        """Takes the next peer, if there is one."""
+        """Accepts the next peer, if there is one."""
         try:
             connection, _ = self.listener.accept()
         except (BlockingIOError, ConnectionAbortedError):

@@ -1,12 +1,12 @@
-/* An end over TLS, by OpenSSL's memory BIOs: octets of the socket go through one SSL, and what it deciphers is fed to the end.
- * Both sides show a certificate, and take none but one of the authority that they are given (docs/TLS.md).
+/* An end over TLS, by OpenSSL's memory BIOs: octets of the socket go through one SSL, and the decrypted octets are fed to the
+ * end. Both sides show a certificate, and accept only certificates of the given authority (docs/TLS.md).
  *
  *   tls --side server|client --certificate FILE --key FILE --authority FILE --peer NAME
  *       [--port 3782] [--octets 5] [--wait SECONDS]
  *
  * The server takes one byte connection, and prints the port that it listens on (0 takes a free one). The client asks for a
- * connection, sends data of so many octets, and releases it. A peer whose certificate does not have the NAME is not spoken
- * with. The status is 0 where the connection was released, and else 3. */
+ * connection, sends data of OCTETS octets, and releases it. A peer whose certificate does not have the NAME is refused. The
+ * status is 0 if the connection was released, and otherwise 3. */
 #define _POSIX_C_SOURCE 200809L
 #include "osi.h"
 
@@ -29,12 +29,12 @@
 struct secure {
     osi_end end;
     SSL *ssl;
-    BIO *came, *goes;      /* ciphered octets: those that came and are not deciphered, and those that go */
+    BIO *came, *goes;      /* encrypted octets: received ones that are not decrypted yet, and those to send */
     int socket;
     bool calls, released;
-    size_t octets;         /* of the data that the client sends */
-    uint8_t piece[PIECE];  /* ciphered octets that the socket did not take yet */
-    size_t sent, length;   /* how many of them it took, and how many they are */
+    size_t octets;         /* how much data the client sends */
+    uint8_t piece[PIECE];  /* encrypted octets that the socket has not taken yet */
+    size_t sent, length;   /* how many of them it took, and how many there are */
 };
 
 static const char *option(int count, char **words, const char *name, const char *otherwise)
@@ -104,8 +104,8 @@ static void feed_all(struct secure *s, const uint8_t *piece, size_t length)
 
 /* ---- between the end and the socket */
 
-/* Deciphers all that came: the handshake's octets stay in the SSL, and the peer's go to the end. False once the peer has
- * closed, or where a certificate or an octet is not as it should be. */
+/* Decrypts all received octets: those of the handshake stay in the SSL, and the peer's data goes to the end. False once the
+ * peer has closed, or if a certificate or an octet is bad. */
 static bool decipher(struct secure *s)
 {
     static uint8_t plain[PIECE];
@@ -118,7 +118,7 @@ static bool decipher(struct secure *s)
     }
 }
 
-/* Enciphers what the end has to send, once the handshake is done, and no more than is to go at a time. */
+/* Encrypts what the end has to send once the handshake is done, up to a bound at a time. */
 static void encipher(struct secure *s)
 {
     while (SSL_is_init_finished(s->ssl) && osi_wants_write(&s->end) && BIO_pending(s->goes) < PIECE) {
@@ -136,7 +136,7 @@ static bool comes_later(void)
     return errno == EAGAIN || errno == EWOULDBLOCK || errno == EINTR;
 }
 
-/* Writes ciphered octets, as many as the socket takes. False where it broke. */
+/* Writes encrypted octets, as many as the socket takes. False if it broke. */
 static bool transmit(struct secure *s)
 {
     if (s->sent == s->length) {
@@ -150,7 +150,7 @@ static bool transmit(struct secure *s)
     return count >= 0 || comes_later();
 }
 
-/* Reads ciphered octets, once, and deciphers them. False where the byte connection is over. */
+/* Reads encrypted octets once, and decrypts them. False if the byte connection is over. */
 static bool receive(struct secure *s)
 {
     static uint8_t piece[PIECE];
@@ -165,7 +165,7 @@ static bool has_ciphered(struct secure *s)
     return s->sent < s->length || BIO_pending(s->goes) > 0;
 }
 
-/* Waits for the socket once, and carries what can be carried. False once there is nothing left to do. */
+/* Waits for the socket once, and reads and writes. False once there is nothing left to do. */
 static bool turn(struct secure *s, int patience)
 {
     osi_octets octets;
@@ -193,7 +193,7 @@ static const char *name_of_peer(struct secure *s)
     return name;
 }
 
-/* Says why the session did not come to its end. */
+/* Says why the session was not released. */
 static void complain(struct secure *s)
 {
     const long verdict = SSL_get_verify_result(s->ssl);
@@ -202,7 +202,7 @@ static void complain(struct secure *s)
     printf("no session: %s\n", verdict != X509_V_OK ? X509_verify_cert_error_string(verdict) : why);
 }
 
-/* Goes on until the byte connection is over. Behind the end's last octets goes TLS's own word that no more come, or why
+/* Runs until the byte connection is over. After the end's last octets it sends TLS's own notice that no more come, or why
  * there is no session. */
 static void run(struct secure *s, int patience)
 {
@@ -225,7 +225,7 @@ static void run(struct secure *s, int patience)
 
 /* ---- opening */
 
-/* Who this side is, and whom it believes: TLS 1.2 or later, a certificate of both sides, no new handshake on the way. */
+/* This side's identity, and whom it trusts: TLS 1.2 or later, certificates of both sides, no renegotiation. */
 static SSL_CTX *context(int count, char **words)
 {
     SSL_CTX *made = SSL_CTX_new(TLS_method());
@@ -244,8 +244,8 @@ static SSL_CTX *context(int count, char **words)
     return NULL;
 }
 
-/* An SSL that reads what came out of one BIO and writes what goes into another, and takes no peer but the one of this name.
- * (For OpenSSL no name means that each is taken.) */
+/* An SSL that reads from one BIO and writes to another, and accepts only the peer of this name. (For OpenSSL, no name means
+ * that every peer is accepted.) */
 static bool open_ssl(struct secure *s, SSL_CTX *context, const char *peer)
 {
     s->ssl = SSL_new(context);

@@ -1,6 +1,6 @@
 /*
- * An association between two programs, without a socket: both ends are here, and their octets are carried from one to the
- * other and written to two files as hexadecimal, LEFT.hex and RIGHT.hex.
+ * An association between two programs, without a socket: both ends are here. The program carries the octets of each to the
+ * other, and writes them to two files as hexadecimal, LEFT.hex and RIGHT.hex.
  *
  *     cc -std=c99 $(pkg-config --cflags osi-session) association.c $(pkg-config --libs osi-session) -o association
  *     ./association whole PPDUS LEFT.hex RIGHT.hex
@@ -10,7 +10,7 @@
  *     whole     an association is opened, data goes both ways, and it is released
  *     selector  the called user does not know the session selector, and refuses
  *     class     the caller offers class 2 alone, which the called end does not have
- *     abort     the called user aborts in place of an answer
+ *     abort     the called user aborts instead of answering
  */
 #include <ctype.h>
 #include <osi.h>
@@ -22,7 +22,7 @@ enum { LONGEST = 10240 };
 
 static const char *happens, *folder;
 
-/* The octets of a file of hexadecimal digits, with comments after '#'. */
+/* The octets of a file of hexadecimal digits; '#' begins a comment. */
 static osi_octets read_ppdu(const char *name, uint8_t octets[LONGEST])
 {
     char path[512];
@@ -49,7 +49,7 @@ static osi_octets read_ppdu(const char *name, uint8_t octets[LONGEST])
     return (osi_octets){octets, digits / 2};
 }
 
-/* A call that has to succeed here: it is one that the tables allow in this state. */
+/* A call that has to succeed here, because the tables allow it in this state. */
 static void done(uint32_t code)
 {
     if (code == OSI_OK)
@@ -58,7 +58,7 @@ static void done(uint32_t code)
     exit(1);
 }
 
-/* The answer of the called user to a CN: it looks at the session selector that was asked for. */
+/* The called user's answer to a CN: it tests the called session selector. */
 static void answer(osi_end *end, uint16_t reference)
 {
     uint8_t octets[LONGEST];
@@ -73,7 +73,7 @@ static void answer(osi_end *end, uint16_t reference)
         done(osi_refuse(end, reference, OSI_NO_DATA));
 }
 
-/* What a user does when it is shown something. */
+/* What a user does with an indication. */
 static void show(const char *side, osi_end *end, const osi_indication *shown)
 {
     uint8_t octets[LONGEST];
@@ -111,7 +111,7 @@ static void show(const char *side, osi_end *end, const osi_indication *shown)
     }
 }
 
-/* Carries what one end has to send to the other, and writes it down. Says whether there was anything. */
+/* Carries the outgoing octets of one end to the other, and writes them to a file. Answers whether there were any. */
 static bool carry(osi_end *from, const char *to_side, osi_end *to, FILE *capture)
 {
     uint8_t piece[16384];

@@ -14,13 +14,13 @@ SELECTOR = b"\x00\x01"
 
 
 def read_ppdu(folder, name):
-    """The octets of a file of hexadecimal digits, with comments after '#'."""
+    """The octets of a file of hexadecimal digits; '#' begins a comment."""
     lines = (folder / f"{name}.hex").read_text("ascii").splitlines()
     return bytes.fromhex(" ".join(line.partition("#")[0] for line in lines))
 
 
 class User:
-    """What a user does when it is shown something; `side` is left or right."""
+    """What a user does with an indication; `side` is left or right."""
 
     def __init__(self, side, end, happens, folder):
         self.side, self.end, self.happens, self.folder = side, end, happens, folder
@@ -29,7 +29,7 @@ class User:
         return read_ppdu(self.folder, name)
 
     def shown(self, it):
-        """Prints what it is shown, and answers."""
+        """Prints the indication, and answers."""
         text = f"{self.side:5} {type(it).__name__}"
         if getattr(it, "user_data", b""):
             text += f", {len(it.user_data)} octets"
@@ -48,7 +48,7 @@ class User:
             self.end.release_accept(it.reference, self.ppdu("rlre"))
 
     def answer(self, reference):
-        """Answers a CN: the called user looks at the session selector that was asked for."""
+        """Answers a CN: the called user tests the called session selector."""
         if self.end.addresses(reference).called_selector == SELECTOR:
             self.end.accept(reference, Units.DUPLEX, user_data=self.ppdu("cpa"))
         else:
@@ -56,7 +56,7 @@ class User:
 
 
 def carry(source, user, capture):
-    """Carries what an end has to send to a user's end, and writes it down. Says whether there was anything."""
+    """Carries the outgoing octets of an end to a user's end, and writes them to a file. Returns whether there were any."""
     piece = source.outgoing()
     source.taken(len(piece))
     for start in range(0, len(piece), 24):
