@@ -1,5 +1,5 @@
-/* What is read of octets, written and read again, is itself: for each line of a file the transport
- * units of the packet on it, and where these are one data unit its TSDU.
+/* Octets that can be read, written and read again come out the same. For each line of a file, this is tested
+ * for the transport units of the packet on it and, if they are one data unit, for its TSDU.
  *
  *     again FILE */
 #include "ends.h"
@@ -11,7 +11,7 @@
 
 #define LINE 200000
 
-/* crates/osi_trial: 0 octets that are refused, 1 all comes back, 2 it does not, 3 no memory. */
+/* crates/osi_trial: 0 the octets are refused, 1 they come out the same, 2 they don't, 3 out of memory. */
 uint32_t osi_trial_units(const uint8_t *packet, size_t length);
 uint32_t osi_trial_tsdu(const uint8_t *tsdu, size_t length);
 

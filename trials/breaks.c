@@ -1,11 +1,11 @@
-/* A break at each octet: eight scripts, the first also with sizes of TSDUs and the last only so, in which
- * data leaves in parts. Their carries become single octets. Before each of these, and behind the last,
- * the connection breaks with four pairs of octets that can still be carried; then both sides are
- * carried all that there is and told, in both orders, and told again. After each event
- * the promises on two ends are computed from the journal. In half of the runs the users go on: what
- * the script still asks for is done behind the break, before the sides are told.
+/* Breaks the connection at each octet of eight scripts. The first script also runs with sizes of TSDUs, and
+ * the last only with them: then data leaves in parts. Each carry is split into single octets. Before each of
+ * these, and after the last, the connection breaks with four pairs of numbers of octets that can still be
+ * carried. Then both sides receive all of these and are told of the break, in both orders, and are told again.
+ * After each event the program tests the promises on two ends by the journal. In half of the runs the users
+ * go on: the rest of the script is done after the break, before the sides are told.
  *
- *     breaks [--write FOLDER EACH]     also writes each so manieth run as a script, with its transcript */
+ *     breaks [--write FOLDER EACH]     also writes each EACHth run as a script, with its transcript */
 #include "pairs.h"
 
 #include <stdio.h>
@@ -20,7 +20,7 @@ static struct pair pair;
 static const char *folder;
 static uint64_t each = 97;
 
-/* The same script with single octets in place of each carry. */
+/* The same script, with each carry split into single octets. */
 static struct script single(const struct script *script)
 {
     struct script made = *script;
@@ -103,7 +103,7 @@ static void write_run(const struct script *script)
     }
 }
 
-/* What is still done behind a break, in this order of the sides. */
+/* What is still done after a break, with the sides in this order. */
 static void add_end(struct script *run, int first)
 {
     for (int i = 0; i < 2; i++)
@@ -160,7 +160,7 @@ static void break_everywhere(const struct script *script)
     }
 }
 
-/* A script in this class, with this size in both directions. */
+/* A script in this class, with this size of TSDUs in both directions. */
 static void break_in_class(const char *name, uint8_t class, uint16_t size)
 {
     uint64_t before = runs;

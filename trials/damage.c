@@ -1,11 +1,11 @@
-/* Each packet of the scripts cut to each length, and each of its octets set to each of 256 values.
- * What comes of it is fed to fresh ends of each role and class, to callers that await an answer, and
- * to the end to which the packet was sent, in the state in which it was sent: whole, and octet by
- * octet, which must come to the same. Every check of an end is made behind each. An end that was fed
- * a packet cut short is then told of a break, and each of its users at most once that he lost it.
+/* Each packet of the scripts, cut to each length, and with each of its octets set to each of 256 values. The
+ * result is fed to fresh ends of each role and class, to callers that await an answer, and to the end that the
+ * packet was sent to, in its state at that time: whole, and octet by octet, which must give the same result.
+ * After each, all checks of an end are made. An end that was fed a packet cut short is then told of a break,
+ * and each of its users is told at most once that the connection is lost.
  *
- *     damage [--step N] [--write FILE]    takes each Nth value alone, 1 for all; writes what was fed,
- *                                         a line of hexadecimal digits each */
+ *     damage [--step N] [--write FILE]    takes only each Nth value, 1 for all; writes the octets that were fed,
+ *                                         one line of hexadecimal digits each */
 #include "memory.h"
 #include "pairs.h"
 
@@ -16,7 +16,7 @@
 #define PACKETS 4000
 #define FRESH 12
 
-/* A packet on its way: the events before it, and what of the carry behind them came before it. */
+/* A packet in flight: the events before it, and how much of the next carry came before it. */
 struct packet {
     size_t script;
     size_t event;
@@ -48,7 +48,7 @@ static void keep(struct packet packet)
     for (size_t i = 0; i < packet_count && packet.new; i++)
         packet.new =
             packets[i].length != packet.length || memcmp(packets[i].octets, packet.octets, packet.length) != 0;
-    /* Of the many data units that differ in their numbers and data alone the first will do. */
+    /* If data units differ only in their numbers and data, the first one is enough. */
     if (packet.length == 132 && !packet.new)
         return;
     if (packet_count == PACKETS)
@@ -59,7 +59,7 @@ static void keep(struct packet packet)
     packets[packet_count++] = packet;
 }
 
-/* The packets of octets that an event brings to a side. */
+/* The packets in the octets that an event brings to a side. */
 static void keep_all(size_t script, size_t event, int to, const uint8_t *octets, size_t length)
 {
     for (size_t at = 0; at + 4 <= length;) {
@@ -140,7 +140,7 @@ static void free_end(osi_end *end)
     memory_out();
 }
 
-/* Fresh ends: callers, called ones and callers that await an answer, with class 0, 2, both, and none. */
+/* Fresh ends: callers, called ends, and callers that await an answer, with class 0, 2, both and none. */
 static void make_fresh(osi_end *end, unsigned kind)
 {
     osi_terms terms = {(uint8_t)(kind % 4), 10, 4};
@@ -172,7 +172,7 @@ static void feed_fresh(const uint8_t *octets, size_t length, bool cut)
     }
 }
 
-/* The two ends as they stood when the packet was sent. */
+/* The two ends in their states when the packet was sent. */
 static void stand_before(const struct packet *packet)
 {
     const struct script *script = &scripts[packet->script];

@@ -46,7 +46,7 @@ static bool has_ended(osi_end *end)
     return ended_by(end) != OSI_END_NONE;
 }
 
-/* A fault of the peer, or want of memory: the feed in which that happens uses its piece whole. */
+/* After a fault of the peer, or an allocation failure, the feed in which it happens uses its whole piece. */
 static bool is_spoilt(osi_end *end)
 {
     return ended_by(end) == OSI_END_NO_MEMORY || ended_by(end) >= OSI_END_UNKNOWN_REFERENCE;
@@ -143,7 +143,7 @@ static void ignored(void *to, const osi_indication *shown)
     holds(false, "an end that has ended shows something");
 }
 
-/* What an end that has ended does with all that still happens to it: nothing. */
+/* An end that has ended does nothing, whatever still happens to it. */
 static void check_ended(osi_end *end)
 {
     static const uint8_t octets[] = {3, 0, 0, 7, 2, 0xf0, 0x80, 4, 0xff, 0};
@@ -166,7 +166,7 @@ static void check_ended(osi_end *end)
     holds(strcmp(before.at, after.at) == 0, "an end that has ended changes: %s, then %s", before.at, after.at);
 }
 
-/* An empty piece, which wants no memory and changes nothing. */
+/* An empty piece, which needs no memory and changes nothing. */
 static void check_nothing_fed(osi_end *end)
 {
     osi_fed fed;
@@ -212,7 +212,7 @@ void end_state(osi_end *end, struct text *text)
     text_octets(text, octets.at, octets.length);
 }
 
-/* ---- what is shown */
+/* ---- indications */
 
 static void text_data(struct text *text, const char *word, osi_octets data)
 {
@@ -226,7 +226,7 @@ static void text_sides(struct text *text, osi_sides s)
     text_put(text, " sides %c%c%c%c", letters[s.data], letters[s.minor], letters[s.major], letters[s.release]);
 }
 
-/* What stands between the name and the user data. */
+/* The words between the name and the user data. */
 static void text_fields(struct text *text, const osi_indication *i)
 {
     static const char *const faults[] = {"",          "Spelling",  "Unexpected",   "NotSelected", "TokenHeld",

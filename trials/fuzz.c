@@ -1,10 +1,10 @@
-/* Octets at random, cut at random, for a time. An end is made twice and fed the same octets in two
- * ways of cutting them; a third end is its peer, so that it comes into every phase. What it is fed is
- * what the peer sends, the same with octets changed, packets around octets at random, or octets at
- * random alone; between them the users of both sides call at random. Where an end does not do what its
- * contracts say, or the two do not come to the same, it stops and prints what was done.
+/* Random octets, cut at random, for a time. Two equal ends are fed the same octets, cut in two ways; a third
+ * end is their peer, so that they come into every phase. They are fed what the peer sends, the same with some
+ * octets changed, packets around random octets, or random octets alone; in between the users of both sides
+ * make random calls. If an end does not do what its contracts say, or if the two come to different states,
+ * the program stops and prints what was done.
  *
- *     fuzz [--seconds N] [--seed N] [--round N]     the same seed and round do the same again */
+ *     fuzz [--seconds N] [--seed N] [--round N]     the same seed and round give the same run again */
 #include "memory.h"
 #include "pairs.h"
 
@@ -101,7 +101,7 @@ static size_t from_the_peer(uint8_t *octets)
     return length;
 }
 
-/* All that the peer has to send, with an octet changed behind the headers of its first packet. */
+/* All that the peer has to send, with an octet changed after the headers of its first packet. */
 static size_t with_another_unit(uint8_t *octets)
 {
     size_t length = from_the_peer(octets);
@@ -112,7 +112,7 @@ static size_t with_another_unit(uint8_t *octets)
     return length;
 }
 
-/* How hostile a life is: what the peer sends alone, or other session units too, or all sorts. */
+/* How hostile a run is: only what the peer sends, or other session units too, or anything. */
 enum life { HONEST, OTHER_UNITS, HOSTILE };
 
 static size_t some_octets(uint8_t *octets, enum life life)
@@ -161,7 +161,7 @@ static void same(void)
     holds(strcmp(shown_one.at, shown_other.at) == 0, "two cuts show %s, and %s", shown_one.at, shown_other.at);
 }
 
-/* To the peer, so that the two stay together. */
+/* Feeds the peer too, so that the two stay in step. */
 static void answer_peer(void)
 {
     osi_octets there;
@@ -181,7 +181,7 @@ static uint32_t make_call(osi_end *end, const struct event *event)
     return code;
 }
 
-/* A call that the phase may well allow, or any. */
+/* A call that the phase probably allows, or any call. */
 static struct event call_at_random(osi_end *end)
 {
     static const enum verb of_phase[][6] = {

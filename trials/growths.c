@@ -1,7 +1,7 @@
-/* Each growth refused: a script is played with the first growth refused that an end asks for, then
- * with the second, and so on until a run meets none. A call that finds no memory has changed nothing,
- * and made again it gives what it gives where memory is ample; an end that is fed and finds none is
- * over as by a break, and nothing happens to it any more. */
+/* Refuses each growth of memory: a script is played with the first growth refused that an end asks for, then
+ * with the second, and so on until a run meets none. A call that runs out of memory has changed nothing, and if
+ * it is made again it does what it does with ample memory. An end that runs out of memory while it is fed is over,
+ * as after a break, and nothing more happens to it. */
 #include "memory.h"
 #include "pairs.h"
 
@@ -27,7 +27,7 @@ static uint32_t reason(int side)
     return osi_ended(&pair.ends[side], &detail);
 }
 
-/* An end was fed and found no memory. */
+/* An end was fed and ran out of memory. */
 static void check_over(int side, const char *shown)
 {
     osi_end *end = &pair.ends[side];
@@ -45,7 +45,7 @@ static void check_over(int side, const char *shown)
     }
 }
 
-/* Plays the script with one growth refused; whether one was. */
+/* Plays the script with one growth refused. Returns whether one was. */
 static bool play(const struct script *script, uint64_t refuse)
 {
     pair_begin(&pair);

@@ -1,6 +1,6 @@
-/* Data without an end: what is kept of a TSDU reaches its limit, in both classes, and 64 connections
- * reach theirs at once. The octet that passes the limit ends the end in class 0, and the one
- * connection in class 2. And each call at its greatest length, which is done. */
+/* Data that never ends: the octets that are kept of a TSDU reach their limit in both classes, and 64 connections
+ * reach theirs at the same time. The octet above the limit ends the end in class 0, and only its connection in
+ * class 2. Also each call with its greatest length, which succeeds. */
 #include "memory.h"
 #include "pairs.h"
 
@@ -23,7 +23,7 @@ static void is_shown(void *to, const osi_indication *i)
     text_put(&shown, "; ");
 }
 
-/* The right end is fed a packet of this unit: a header and so many octets of data. */
+/* Feeds the right end a packet of this unit: a header and this many octets of data. */
 static void feed_data(const uint8_t *header, size_t header_length, size_t data)
 {
     size_t length = PACKET + header_length + data;
@@ -37,7 +37,7 @@ static void feed_data(const uint8_t *header, size_t header_length, size_t data)
     end_check(&pair.ends[RIGHT]);
 }
 
-/* Feeds so many octets of data without EOT to a connection of class 0 (reference 0) or 2. */
+/* Feeds this many octets of data without EOT to a connection of class 0 (reference 0) or 2. */
 static void feed_unfinished(uint16_t reference, size_t data, uint8_t *number)
 {
     size_t header_length = reference == 0 ? 3 : 5;
@@ -76,7 +76,7 @@ static void opened(uint8_t classes, unsigned connections)
         pair_run(&pair, &right, 1);
         pair_run(&pair, &drop, 1);
     }
-    /* Without the CN, which the left end sends behind the CC, all are open and wait for it. */
+    /* Without the CN, which the left end sends after the CC, all are open and wait for it. */
     runs += 1;
 }
 
@@ -160,7 +160,7 @@ static void sixty_four(void)
 
 static uint8_t longest[MOST_DATA];
 
-/* An event with as much user data as may be, which does what it asks for. */
+/* An event with as much user data as is allowed, which succeeds. */
 static void is_done(struct event event, size_t length)
 {
     event.data = longest;
@@ -190,7 +190,7 @@ static void connects(void)
     }
 }
 
-/* A call of a user, which is carried. */
+/* A call of a user, whose octets are carried. */
 static void calls(int side, uint16_t reference, enum verb verb, uint32_t number)
 {
     struct event call = event_of(CALL, side, number, 0);

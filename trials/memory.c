@@ -1,5 +1,5 @@
-/* The allocator under an end. The programs are linked with -Wl,--wrap for malloc, calloc, realloc and
- * free, so that each call of an end for memory comes by here. */
+/* The allocator below an end. The programs are linked with -Wl,--wrap for malloc, calloc, realloc and free, so
+ * that each call of an end for memory comes here. */
 #include "memory.h"
 
 #include <stddef.h>
@@ -44,7 +44,7 @@ int64_t memory_held(void)
     return held;
 }
 
-/* Whether this growth is refused. */
+/* Whether to refuse this growth. */
 static bool refuses(void)
 {
     if (!inside)

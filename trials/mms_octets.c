@@ -1,10 +1,10 @@
-/* What examples/mms reads of a peer, fed octets that were changed at random: it is unproved C. With the sanitizers of the
- * compiler, any octet read that is not there ends the program.
+/* Feeds the readers of examples/mms, which are unproved C, octets that were changed at random. With the sanitizers of the
+ * compiler, a read outside the octets ends the program.
  *
  *   mms_octets ROUNDS [SEED]
  *
- * Each round takes a PDU that one side would send, changes some octets or cuts it, and hands it to all that reads: as the
- * user data of a CN, of an AC and of a DT. What the server answers to it is read by the client. */
+ * Each round takes a PDU that one side would send, changes some octets or cuts it, and passes it to all readers: as the user
+ * data of a CN, of an AC and of a DT. The client reads what the server answers to it. */
 #include "jobs.h"
 #include "plant.h"
 #include "upper.h"
@@ -37,7 +37,7 @@ static void keep(const uint8_t *at, size_t length)
     seeds[count++].length = length;
 }
 
-/* What a client sends, and what the server answers: an association, and a request of each kind. */
+/* What a client sends and the server answers: an association, and a request of each kind. */
 static void make_seeds(void)
 {
     static const char *const words[] = {"identify", "domains", "names", "names:plant", "read:plant/voltage", "read:clock"};
@@ -145,7 +145,7 @@ int main(int argc, char **words)
         uint8_t changed[sizeof seeds[0].octets];
         memcpy(changed, seeds[seed].octets, sizeof changed);
         const size_t length = change(changed, seeds[seed].length);
-        uint8_t *octets = malloc(length); /* (no longer than they are, so that a read after their end is found) */
+        uint8_t *octets = malloc(length); /* (of exactly this length, so that a read past the end is found) */
         if (octets == NULL)
             return 2;
         memcpy(octets, changed, length);

@@ -24,7 +24,7 @@ void pair_begin(struct pair *pair)
     text_clear(&pair->out);
 }
 
-/* ---- what is shown */
+/* ---- indications */
 
 struct side {
     struct pair *pair;
@@ -327,7 +327,7 @@ void pair_run(struct pair *pair, const struct event *events, size_t count)
     }
 }
 
-/* ---- what is promised */
+/* ---- the promises */
 
 void pair_check(struct pair *pair)
 {

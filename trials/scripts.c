@@ -70,15 +70,15 @@ static uint32_t number_of(const char *word)
     return (uint32_t)strtoul(word, NULL, 10);
 }
 
-/* The sizes behind user data, where they are there. */
+/* The sizes after user data, if there are any. */
 static void sizes_of(struct event *event, char **words)
 {
     for (size_t i = 0; i < 2; i++)
         event->sizes[i] = (uint16_t)number_of(words[i]);
 }
 
-/* The words of a call behind its verb; the last of them is the user data, but of a give, and of an
- * accept with sizes behind it. */
+/* The words of a call after its verb. The last one is the user data, except for a give, and for an accept with
+ * sizes after it. */
 static struct event call_of(const char *name, char **words, size_t count)
 {
     struct event event = event_of(CALL, side_of(words[0]), 0, 0);

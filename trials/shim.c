@@ -1,10 +1,10 @@
-/* Loaded in front of the C library (LD_PRELOAD), it makes one call of a program fail, or gives it an
- * input that has no end:
+/* Loaded in front of the C library (LD_PRELOAD), it makes one call of a program fail, or gives the program
+ * endless input:
  *   TRIALS_READ=N     the Nth read of standard input fails
  *   TRIALS_WRITE=N    the Nth write to standard output fails
- *   TRIALS_GROWTH=N   the Nth growth finds no memory
+ *   TRIALS_GROWTH=N   the Nth growth of memory fails
  *   TRIALS_ENDLESS=1  each read of standard input gives one octet, a blank, for ever
- * What was asked for is written to file descriptor 9 at the end, where that is open. */
+ * At the end it writes the counts of calls to file descriptor 9, if that is open. */
 #define _GNU_SOURCE
 #include <dlfcn.h>
 #include <errno.h>

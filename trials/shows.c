@@ -1,9 +1,8 @@
-/* Runs `osi show` on each line of a file, a process for each: it ends by itself with status 0 or 1,
- * with 1 exactly where a line of its listing says fault, and the last line is `rest N` or the fault of
- * a packet.
+/* Runs `osi show` on each line of a file, in a process for each. It has to end by itself with status 0 or 1: 1 if
+ * and only if a line of its listing says fault. The last line has to be `rest N` or the fault of a packet.
  *
  *     shows PROGRAM FILE STEP LISTINGS     takes each STEPth line; writes it and its listing to a file,
- *                                          with a line `=` behind each */
+ *                                          with a line `=` after each */
 #define _GNU_SOURCE
 #include "ends.h"
 

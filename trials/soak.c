@@ -1,14 +1,14 @@
-/* Two ends in one process that exchange many messages: nothing is lost, and memory stays as it is.
+/* Two ends in one process exchange many messages: nothing is lost, and memory does not grow.
  *
  *   soak MESSAGES in|tcp 0|2 CONNECTIONS data|duplex|points|restarts|parts
  *
- * `in` carries the octets of one end to the other by hand, `tcp` over a connection of the loopback. Each
- * message has its number and 8 to 200 octets that follow from it (with `parts` up to 1,000, where TSDUs
- * have at most 256). What is received is compared by number and by a checksum over all octets. With
- * `points` each tenth message is followed by a minor point whose confirmation is awaited, and a connection
- * that has set 100,000 is released and opened anew; with `restarts` it goes back to its first number after
- * each 1,000 points. It prints one line of a table; the status is not 0 where anything is lost, or the
- * resident memory at the end and after the first hundredth differ by 1 MiB or more. */
+ * `in` carries the octets of one end to the other in memory, `tcp` over a loopback connection. Each message has
+ * its number and 8 to 200 octets that follow from it (with `parts` up to 1,000, while TSDUs have at most 256).
+ * The received messages are compared by number and by a checksum over all octets. With `points`, a minor point
+ * follows each tenth message, its confirmation is awaited, and a connection that has set 100,000 points is
+ * released and opened again; with `restarts` it goes back to its first number after each 1,000 points. The
+ * program prints one line of a table. The status is not 0 if anything is lost, or if the resident memory at the
+ * end differs from that after the first hundredth by 1 MiB or more. */
 #define _POSIX_C_SOURCE 200809L
 #include "osi.h"
 
@@ -35,7 +35,7 @@
 enum traffic { DATA, DUPLEX, POINTS, RESTARTS, PARTS };
 static const char *const traffics[] = {"data", "duplex", "points", "restarts", "parts"};
 
-/* What one side sent or received of a connection. */
+/* What one side sent or received on a connection. */
 struct tally {
     uint64_t count, sum;
 };
@@ -49,7 +49,7 @@ struct flow {
 };
 
 static struct {
-    uint64_t messages; /* in all, of all connections; with duplex in each direction */
+    uint64_t messages; /* in all, over all connections; with duplex in each direction */
     bool tcp, class_2;
     unsigned connections;
     enum traffic traffic;
@@ -80,7 +80,7 @@ static double now(void)
     return (double)t.tv_sec + (double)t.tv_nsec / 1e9;
 }
 
-/* Resident octets of this process. */
+/* The resident memory of this process, in octets. */
 static long resident(void)
 {
     long size, pages = 0;
@@ -107,7 +107,7 @@ static void add(struct tally *tally, const uint8_t *octets, size_t length)
     tally->count++;
 }
 
-/* The message with this number of this flow; its length. */
+/* Makes the message with this number of this flow, and returns its length. */
 static size_t make(uint8_t *octets, uint64_t flow, uint64_t number)
 {
     uint64_t random = (number << 8 | flow) * 6364136223846793005u + 1442695040888963407u;
@@ -198,7 +198,7 @@ static void close_ends(void)
     }
 }
 
-/* ---- what both users are shown */
+/* ---- indications of both users */
 
 static void shown_left(const osi_indication *i)
 {
@@ -319,15 +319,15 @@ static size_t waiting(int side)
     return lent.length + osi_backlog(&s.ends[side]);
 }
 
-/* ---- what is sent */
+/* ---- sending */
 
 static bool has_points(void)
 {
     return s.traffic == POINTS || s.traffic == RESTARTS;
 }
 
-/* Goes back to the first number, or releases the connection, once it has set so many points: then it sends
- * no more, and calls as soon as all is received and confirmed. */
+/* After this many points it goes back to the first number, or releases the connection: it sends no more, and
+ * makes the call as soon as everything is received and confirmed. */
 static bool is_turning(struct flow *f)
 {
     const uint32_t next = has_points() ? osi_next_serial(&s.ends[0], f->left) : 0;
@@ -360,7 +360,7 @@ static void send_more(void)
     }
 }
 
-/* In class 0 a released connection is the last one of its ends: two other ones follow. */
+/* In class 0 a released connection is the last one of its ends: two new ends follow. */
 static void open_again(void)
 {
     if (s.class_2 || s.flows[0].ready || s.opened == 0 || osi_live(&s.ends[0]) > 0)

@@ -1,4 +1,4 @@
-/* Text that grows. */
+/* A text that grows. */
 #include "text.h"
 
 #include <stdarg.h>

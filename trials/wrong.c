@@ -1,5 +1,5 @@
-/* Wrong ends, to see that the trials find them: linked in front of the library (-Wl,--wrap), each
- * function does what it should, but for the one wrong thing that TRIALS_WRONG names. */
+/* Ends with a bug, to see that the trials find it. Linked in front of the library (-Wl,--wrap), each function
+ * does what it should, except for the one bug that TRIALS_WRONG names. */
 #include "osi.h"
 
 #include <stdlib.h>
