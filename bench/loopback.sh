@@ -1,6 +1,6 @@
 #!/usr/bin/env bash
-# Messages over loopback TCP: by the programs of examples/gateway in class 0, and in class 2 with a window of 15, beside plain C
-# over the same loop, which frames and copies them and does nothing else (plain.c), without a window and with one of 15.
+# Messages over loopback TCP: by the programs of examples/gateway, in class 0 and in class 2 with a window of 15, compared with
+# plain C in the same loop that only frames and copies them (plain.c), without a window and with one of 15.
 set -eu
 cd "$(dirname "$0")/.."
 make lib >&2

@@ -1,8 +1,8 @@
 #!/usr/bin/env bash
-# Runs scripts of two ends by the proved program, what they ask for by two ends of the library for C, with the same calls,
-# octets and indications, and the scripts themselves by C that prints the same transcript. A script of 1,000 lines and one of
-# 10,000 ask for the same calls over and over. A carry costs by the octets that it carries, so the longer takes some ten times
-# as long.
+# Compares three programs on scripts of two ends: the proved program; two ends of the library for C with the same calls, octets
+# and indications; and a program in C that reads the scripts and prints the same transcript. A script of 1,000 lines and one of
+# 10,000 repeat the same calls. A carry costs time in proportion to its octets, so the longer script takes about ten times as
+# long.
 set -eu
 cd "$(dirname "$0")/.."
 make all lib >&2
