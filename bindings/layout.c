@@ -1,5 +1,5 @@
-/* Prints how the C compiler lays out what include/osi.h declares, and what each of its numbers is: a
- * line for each, which the tests of the bindings compare with what they say themselves.
+/* Prints the C compiler's layout of the declarations of include/osi.h, and each of its numbers: one line for
+ * each. The tests of the bindings compare these lines with their own declarations.
  *
  *     struct osi_terms 3 1           its size and its alignment
  *     field osi_terms.size 1 1       where it begins, and its size

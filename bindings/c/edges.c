@@ -1,7 +1,7 @@
 /*
- * What stands between a program and what is proved in crates/osi_c, for the three functions of osi.h that take what no
- * proof speaks of: a slot that is not there, a null pointer in a struct, and a struct of another header. It is tested
- * (bindings/c/test_osi.c), and not proved. scripts/library puts it in front of the proved functions, which it calls by
+ * The layer between a program and the proved functions of crates/osi_c, for the three functions of osi.h whose arguments
+ * a proof can't speak of: a missing slot, a null pointer in a struct, and a struct of another header. It is tested
+ * (bindings/c/test_osi.c), and not proved. scripts/library links it in front of the proved functions, which it calls by
  * their names with proved_ before them.
  */
 #include "osi.h"
@@ -27,7 +27,7 @@ static bool is_zero(const char *at, size_t length)
     return true;
 }
 
-/* A pointer to no octets becomes one that is not null. */
+/* Replaces a null pointer to no octets by one that is not null. */
 static void point(osi_octets *octets)
 {
     static const uint8_t none[1];
@@ -35,8 +35,8 @@ static void point(osi_octets *octets)
         octets->at = none;
 }
 
-/* A shorter opening is one of an older header: what it has not is as in OSI_OPENING. Of a longer one this library does not
- * know the last fields, and takes it where they ask for nothing. */
+/* A shorter opening comes from an older header: its missing fields are as in OSI_OPENING. A longer one has fields that this
+ * library doesn't know, and is taken if they ask for nothing. */
 uint32_t osi_connect_with_size(osi_end *end, const osi_opening *asked, size_t size, uint16_t *reference)
 {
     osi_opening whole = OSI_OPENING;
@@ -52,8 +52,8 @@ uint32_t osi_connect_with_size(osi_end *end, const osi_opening *asked, size_t si
     return proved_osi_connect(end, &whole, reference);
 }
 
-/* A shorter indication is given its own fields and no other octet; a longer one 0 for those that this library does not
- * know. It stands out of line: else its room would be made for each indication of this header, too. */
+/* A shorter indication gets its own fields and no other octet; a longer one gets 0 for fields that this library doesn't know.
+ * It is not inlined: otherwise its room would be made for each indication of this header, too. */
 __attribute__((noinline)) static void show_in(osi_end *end, osi_indication *shown, size_t size)
 {
     osi_indication whole;

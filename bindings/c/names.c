@@ -1,11 +1,11 @@
-/* The names of the numbers of osi.h, as they stand there, and the version of this library. */
+/* The names that osi.h gives to its numbers, and the version of this library. */
 #include "osi.h"
 
 #define NAME(number) case number: return #number
 
 static const char unknown[] = "unknown";
 
-/* The version behind a name by which it is found in the file of the library, as bindings/rust/build.rs does. */
+/* The version after a name that finds it in the file of the library, as bindings/rust/build.rs does. */
 static const char version[] = "libosi-session " OSI_VERSION;
 
 const char *osi_version(void)

@@ -1,5 +1,5 @@
 /*
- * Tests of what osi.h says beside its functions: null pointers to no octets, slots that are empty or moved, structs of
+ * Tests of the rules of osi.h that are not about one function: null pointers to no octets, slots that are empty or moved, structs of
  * another header, and names. Two ends in one program; the last line is 'N passed, M failed'.
  *
  *   cc -std=c99 -Iinclude bindings/c/test_osi.c build/libosi-session.a -o build/test_osi_c
@@ -31,7 +31,7 @@ struct pair {
     uint16_t of;
 };
 
-/* Carries all that one end has to say, and gives the last indication that the other shows, OSI_NONE for none. */
+/* Carries all outgoing octets of one end, and returns the tag of the other's last indication, OSI_NONE for none. */
 static osi_indication carry(osi_end *from, osi_end *to)
 {
     osi_indication last = {0}, shown;
@@ -82,7 +82,7 @@ static void let_go(struct pair *pair)
     osi_free(&pair->called);
 }
 
-/* ---- no octets, by a null pointer */
+/* ---- a null pointer to no octets */
 
 static void none_at_opening(void)
 {
@@ -155,7 +155,7 @@ static void an_empty_slot_has_nothing(void)
     CHECK(osi_kept(&empty) + osi_unsent(&empty, 1) + osi_backlog(&empty) + osi_live(&empty) == 0);
 }
 
-/* Slots are moved as values are, also by realloc; what an end has lent stays where it is. */
+/* Slots may be moved by value, also by realloc; octets that an end has lent keep their address. */
 static void a_slot_is_moved(void)
 {
     struct pair *pairs = malloc(sizeof *pairs);
@@ -184,8 +184,8 @@ static void a_slot_is_moved(void)
 
 /* ---- structs of another header */
 
-/* The first fields of osi_opening and of osi_indication, as if the others had been added later, and all of them with one
- * that this library does not know. */
+/* The first fields of osi_opening and of osi_indication, as if the others had been added later; and all fields with one more
+ * that this library doesn't know. */
 #define WITHOUT_SIZES offsetof(osi_opening, size_from_asker)
 #define WITHOUT_SIZES_SHOWN offsetof(osi_indication, size_from_asker)
 struct later_opening {
@@ -276,7 +276,7 @@ static void addresses(void)
     CHECK(osi_addresses(&pair.called, pair.of, &shown) == OSI_SLOT_EMPTY && shown.called_selector.length == 0);
 }
 
-/* ---- one connection is given up */
+/* ---- giving up one connection */
 
 /* A second connection on the byte connection of a first. */
 static uint16_t second_of(struct pair *p)

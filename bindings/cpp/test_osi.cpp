@@ -28,7 +28,7 @@ static void check(bool holds, const char *what, int line)
         std::printf("FAILED, line %d: %s\n", line, what);
 }
 
-/* Where this is set there is no memory for a slot. (Under valgrind there is, which has its own new.) */
+/* If this is set, there is no memory for a slot. (Under valgrind there is, because it has its own new.) */
 static bool no_slot = false;
 
 void *operator new(std::size_t size, const std::nothrow_t &) noexcept
@@ -43,7 +43,7 @@ static bool is_refused()
     return got == nullptr;
 }
 
-/* ---- what the compiler answers */
+/* ---- what the compiler knows */
 
 static_assert(!std::is_copy_constructible_v<osi::end> && !std::is_copy_assignable_v<osi::end>);
 static_assert(std::is_nothrow_move_constructible_v<osi::end> && std::is_nothrow_move_assignable_v<osi::end>);
@@ -91,7 +91,7 @@ static void no_octets_are_no_null()
 struct pair {
     osi::end caller, called;
     osi::reference of = 0;
-    std::vector<osi::indication> by_caller, by_called; /* what was shown; user data is in said */
+    std::vector<osi::indication> by_caller, by_called; /* indications; their user data is in said */
     std::vector<std::string> said;
 
     void keep(std::vector<osi::indication> &all, const osi::indication &shown)
@@ -101,7 +101,7 @@ struct pair {
         all.back().user_data = {};
     }
 
-    /* Carries one way, in pieces of so many octets. */
+    /* Carries octets in one direction, in pieces of this size. */
     void carry(osi::end &from, osi::end &to, std::vector<osi::indication> &all, std::size_t piece)
     {
         while (!from.outgoing().empty()) {
@@ -119,7 +119,7 @@ struct pair {
         }
     }
 
-    /* The last that was shown to a side, if it is this. */
+    /* The last indication of a side, if it has this tag. */
     const osi::indication &shown(const std::vector<osi::indication> &all, tag awaited)
     {
         static const osi::indication none;
@@ -207,7 +207,7 @@ static void moved_ends_are_the_ends_that_they_were()
     CHECK(!moved && both.caller.get() == slot);
     both.carry();
     both.shown(both.by_called, tag::data);
-    both.caller = *osi::end::caller(); /* frees what it held */
+    both.caller = *osi::end::caller(); /* frees the end that it held */
     CHECK(both.caller && both.caller.phase(both.of) == osi::phase::none);
     std::vector<osi::end> many;
     for (int i = 0; i < 9; i++)

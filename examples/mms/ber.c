@@ -3,7 +3,7 @@
 
 #include <string.h>
 
-/* So deep may elements of indefinite length stand in one another. */
+/* How deep elements of indefinite length may be nested. */
 #define DEEPEST 16
 
 struct ber ber_of(const uint8_t *at, size_t length)
@@ -46,7 +46,7 @@ static bool read_tag(struct ber *from, uint32_t *tag)
     return fault(from);
 }
 
-/* The length octets; `open` where the length is indefinite. */
+/* The length octets; `open` if the length is indefinite. */
 static bool read_length(struct ber *from, size_t *length, bool *open)
 {
     uint8_t first, octet;

@@ -1,14 +1,14 @@
-/* An MMS client: asks who is there and what it has, reads it, and concludes.
+/* An MMS client: it identifies the server, lists its objects, reads them, and concludes.
  *
  *   client --host HOST [--port 102] [--called-tsap SELECTOR] [--calling-tsap SELECTOR] [--called-ssel SELECTOR]
  *          [--calling-ssel SELECTOR] [--called-psel SELECTOR] [--calling-psel SELECTOR] [--classes 0|2|20]
  *          [--wait 10] [--reads COUNT] [--ahead 1..5] [--again TIMES] [--abort] [--capture NAME] [JOB ..]
  *
  * A job is identify, domains, names, names:DOMAIN, read:NAME or read:DOMAIN/NAME. Without a job it walks
- * through all that it finds. README.md in this folder says what each switch means.
+ * through everything that it finds. README.md in this folder describes the switches.
  *
- * The status is 0 where all was answered and the association concluded; 1 where the server refused the
- * association or a request; 2 where words, host or files are wrong; 3 where the association was lost. */
+ * The status is 0 if everything was answered and the association concluded; 1 if the server refused the
+ * association or a request; 2 if words, host or files are wrong; 3 if the association was lost. */
 #define _POSIX_C_SOURCE 200809L
 #include "jobs.h"
 #include "link.h"

@@ -1,4 +1,4 @@
-/* PDUs of MMS: what both sides read, and what the calling side writes. */
+/* PDUs of MMS: those that both sides read, and those that the calling side writes. */
 #include "mms.h"
 
 #include <string.h>
@@ -19,7 +19,7 @@ bool mms_read(struct ber octets, struct mms_pdu *pdu)
     if (pdu->kind != MMS_CONFIRMED_REQUEST && pdu->kind != MMS_CONFIRMED_RESPONSE)
         return true;
     pdu->has_invoke = ber_read_tag(&contents, 0x02, &number) && ber_number(number, &pdu->invoke);
-    /* (a list of modifiers may stand in front of the service) */
+    /* (a list of modifiers may come before the service) */
     bool has_service = pdu->has_invoke && ber_read(&contents, &pdu->service, &pdu->body);
     if (has_service && pdu->service == 0x30)
         has_service = ber_read(&contents, &pdu->service, &pdu->body);
@@ -54,7 +54,7 @@ bool mms_read_name(struct ber octets, struct mms_name *name)
 
 /* ---- writing */
 
-/* Version 1; strings, structures and named variables; and the services that a client here answers: none. */
+/* Version 1; strings, structures and named variables; and the services that this client answers: none. */
 static const uint8_t initiate_detail[] = {
     0xa4, 0x16, 0x80, 0x01, 0x01, 0x81, 0x03, 0x05, 0xe1, 0x00, 0x82, 0x0c, 0x03, 0x00,
     0x00, 0x00, 0x00, 0x00, 0x00, 0x00, 0x00, 0x00, 0x00, 0x10,
@@ -138,7 +138,7 @@ static void print_text(FILE *to, struct ber contents)
     putc('"', to);
 }
 
-/* A number of at most 8 octets, with or without a sign. */
+/* A number of at most 8 octets, signed or unsigned. */
 static void print_number(FILE *to, struct ber contents, bool has_sign)
 {
     uint64_t value = has_sign && contents.length > 0 && contents.at[0] >= 0x80 ? UINT64_MAX : 0;
@@ -152,7 +152,7 @@ static void print_number(FILE *to, struct ber contents, bool has_sign)
         fprintf(to, "%llu", (unsigned long long)value);
 }
 
-/* FloatingPoint: an octet that counts the bits of the exponent, and then a number of IEEE 754. */
+/* FloatingPoint: an octet with the number of bits of the exponent, and then a number of IEEE 754. */
 static void print_float(FILE *to, struct ber contents)
 {
     float single;

@@ -1,4 +1,4 @@
-/* PDUs of MMS (ISO 9506-2): those of an association that asks who is there, what it has, and reads it. */
+/* PDUs of MMS (ISO 9506-2): those of an association that identifies the server, lists its objects and reads them. */
 #ifndef MMS_H
 #define MMS_H
 
@@ -33,14 +33,14 @@
 #define MMS_LONGEST 32000u
 #define MMS_OUTSTANDING 5u
 
-/* A name, as it came. ISO 9506 has at most 32 octets; servers of IEC 61850 have longer ones. */
+/* A name as received. ISO 9506 allows at most 32 octets; servers of IEC 61850 have longer names. */
 #define MMS_NAME 129
 struct mms_name {
     char domain[MMS_NAME + 1]; /* empty for a name that belongs to no domain */
     char item[MMS_NAME + 1];
 };
 
-/* A PDU, taken apart. `body` is what the service has; of PDUs that have no service their contents. */
+/* A PDU in its parts. `body` has the contents of the service, or of the PDU if it has no service. */
 struct mms_pdu {
     uint32_t kind;
     uint32_t invoke;
@@ -49,27 +49,27 @@ struct mms_pdu {
     struct ber body;
 };
 
-/* Reads a PDU; false where it is none. */
+/* Reads a PDU; false if the octets are none. */
 bool mms_read(struct ber octets, struct mms_pdu *pdu);
-/* Copies an Identifier; false where it has no octet, too many, or one that is not printable. */
+/* Copies an Identifier; false if it is empty, too long, or has an octet that is not printable. */
 bool mms_read_identifier(struct ber contents, char to[MMS_NAME + 1]);
-/* An ObjectName: of no domain, of this association (which has none), or of a domain. */
+/* An ObjectName: without a domain, of this association (which has no names), or of a domain. */
 bool mms_read_name(struct ber octets, struct mms_name *name);
 
 /* PDUs of the calling side. */
 void mms_put_initiate(struct ber_writer *w);
 void mms_put_identify(struct ber_writer *w, uint32_t invoke);
-/* With a domain, its names. `after` is the name behind which to go on, or empty. */
+/* With a domain, the names of that domain. `after` is the name after which to go on, or empty. */
 void mms_put_name_list(struct ber_writer *w, uint32_t invoke, uint32_t objects, const char *domain, const char *after);
 void mms_put_read(struct ber_writer *w, uint32_t invoke, const struct mms_name *name);
 void mms_put_conclude(struct ber_writer *w);
 
-/* Puts what a response or an error begins with in front of what is written. */
+/* Puts the head of a response or an error in front of the written octets. */
 void mms_wrap_confirmed(struct ber_writer *w, uint32_t kind, uint32_t invoke);
 
 /* Prints a value as people write it: `true`, `17`, `230.1`, `"text"`, `{1, 2}`. */
 void mms_print_value(FILE *to, uint32_t tag, struct ber contents);
-/* The name of why a variable was not read (DataAccessError). */
+/* The name of the reason why a variable was not read (DataAccessError). */
 const char *mms_access_error(uint32_t code);
 
 #endif

@@ -1,4 +1,4 @@
-/* What the server has, and what it answers. */
+/* The server's objects and answers. */
 #include "plant.h"
 
 #include <string.h>
@@ -49,13 +49,13 @@ static void put_name(const struct plant *p, struct ber_writer *w)
     ber_put_text(w, 0x8a, "plant 1");
 }
 
-/* Types, as a TypeDescription has them. */
+/* Types, in the form of a TypeDescription. */
 static const uint8_t is_boolean[] = {0x83, 0x00};
 static const uint8_t is_unsigned[] = {0x86, 0x01, 0x20};
 static const uint8_t is_float[] = {0xa7, 0x06, 0x02, 0x01, 0x20, 0x02, 0x01, 0x08};
 static const uint8_t is_text[] = {0x8a, 0x01, 0xc0};
 
-/* Names are in the order of their octets, as a GetNameList answers them. */
+/* Names are in the order of their octets, in which a GetNameList returns them. */
 static const struct variable {
     const char *domain; /* empty for none */
     const char *item;
@@ -81,9 +81,9 @@ static const struct variable *find(const struct mms_name *name)
     return NULL;
 }
 
-/* ---- what is answered */
+/* ---- answers */
 
-/* Why a request is not answered: class and code of a ServiceError, or a reject. */
+/* Why a request is refused: class and code of a ServiceError, or a reject. */
 enum problem { DONE, NO_SUCH_OBJECT, NOT_OF_THIS_KIND, TOO_LONG, NO_SUCH_SERVICE, BAD_ARGUMENT };
 
 static void put_error(enum problem why, uint32_t invoke, struct ber_writer *w)
@@ -119,7 +119,7 @@ static enum problem identify(struct ber_writer *w)
     return DONE;
 }
 
-/* The names of one scope behind `after`; what is answered is no more than one PDU has room for. */
+/* The names of one scope after `after`, at most as many as fit into one PDU. */
 static enum problem get_name_list(struct ber body, struct ber_writer *w)
 {
     struct ber part, number, scope;
@@ -177,8 +177,8 @@ static void put_result(const struct plant *p, struct ber item, struct ber_writer
         ber_put_number(w, 0x80, v != NULL || !is_named ? 9 : 10); /* object-access-unsupported, non-existent */
 }
 
-/* The answers stand in the order of the names, and are written from the last one on: each name is found
- * by reading the list up to it. */
+/* The answers are in the order of the names, and are written from the last to the first: each name is found by
+ * reading the list up to it. */
 static enum problem read_variables(struct plant *p, struct ber body, struct ber_writer *w)
 {
     struct ber specification, list, item = {NULL, 0, false}, with;
@@ -186,7 +186,7 @@ static enum problem read_variables(struct plant *p, struct ber body, struct ber_
     if (!ber_find(body, 0xa1, &specification))
         return BAD_ARGUMENT;
     if (!ber_find(specification, 0xa0, &list))
-        return NOT_OF_THIS_KIND; /* a list of variables by its name: there is none */
+        return NOT_OF_THIS_KIND; /* a named list of variables: there is none */
     for (struct ber rest = list; ber_read_tag(&rest, 0x30, &item); count++)
         ;
     if (count == 0 || count > 100)
@@ -243,17 +243,17 @@ void plant_answer(struct plant *p, const struct mms_pdu *request, struct ber_wri
 
 /* ---- initiate */
 
-/* What the server supports: version 1, named variables; and of the services GetNameList, Identify, Read,
+/* What the server supports: version 1, named variables, and the services GetNameList, Identify, Read,
  * GetVariableAccessAttributes and Conclude. */
 static const uint8_t initiate_detail[] = {
     0xa4, 0x16, 0x80, 0x01, 0x01, 0x81, 0x03, 0x05, 0x20, 0x00, 0x82, 0x0c, 0x03, 0x6a,
     0x00, 0x00, 0x00, 0x00, 0x00, 0x00, 0x00, 0x00, 0x00, 0x10,
 };
 
-/* An error has room in so many octets, whatever length the client asks for. */
+/* An error fits into this many octets, whatever length the client asks for. */
 #define SHORTEST 64u
 
-/* A number of the request, of which the smaller one of both sides holds; `most` where there is none. */
+/* A number of the request, or `most` if that is smaller or the request has none. */
 static uint32_t agreed(struct ber asked, uint32_t tag, uint32_t most)
 {
     struct ber number;

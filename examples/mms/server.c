@@ -5,7 +5,7 @@
  *          [--idle 300] [--clients 256] [--share] [--proxy] [--log] [--capture NAME]
  *
  * It prints the port that it listens on (0 takes a free one), and serves until SIGTERM or SIGINT: then
- * each client gets an abort. README.md in this folder says what each switch means. */
+ * each client gets an abort. README.md in this folder describes the switches. */
 #define _GNU_SOURCE
 #include "link.h"
 #include "plant.h"
@@ -31,13 +31,13 @@ struct client {
     unsigned long number;  /* of the clients since the start */
     uint16_t reference;
     uint32_t longest;      /* octets of a PDU of MMS that is sent */
-    double was_associated; /* when it was last associated, or when it came */
+    double was_associated; /* when it was last associated, or when it connected */
     bool is_associated;
 };
 
 struct server {
     struct plant plant;
-    struct selector tsap, ssel, psel; /* what is to be called; of no octets: anything */
+    struct selector tsap, ssel, psel; /* the selectors that clients have to call; empty: any */
     unsigned long wait, idle, most;
     bool share, proxy, log;
     const char *capture;
@@ -127,7 +127,7 @@ static void associate(struct client *c, const osi_indication *i)
     tell(c, "associated");
 }
 
-/* Aborts. What can't be aborted, as for want of memory, is broken. */
+/* Aborts. If that fails, for example because memory ran out, breaks the connection. */
 static void abort_client(struct client *c, const char *why)
 {
     struct room room;
@@ -148,7 +148,7 @@ static const char *service_name(uint32_t service)
                                            : "a service that is not answered";
 }
 
-/* One PDU of MMS came. */
+/* One PDU of MMS was received. */
 static void answer(struct client *c, const osi_indication *i)
 {
     static uint8_t octets[MMS_LONGEST];
@@ -235,7 +235,7 @@ static void keep_time(struct client *c)
     }
 }
 
-/* Where there is no room: the client that has waited longest without an association gives way. */
+/* If there is no room, closes the client that has waited longest without an association. */
 static void make_room(struct server *s)
 {
     struct client *oldest = NULL;
@@ -272,7 +272,7 @@ static void forget_closed(struct server *s)
             forget(s, at - 1);
 }
 
-/* ---- clients that come */
+/* ---- new clients */
 
 static void tell_address(struct client *c, const struct sockaddr_storage *from)
 {
@@ -339,7 +339,7 @@ static bool has_room(const struct server *s)
     return s->live < s->most;
 }
 
-/* Waits at most a second, and then carries what can be carried for each client. */
+/* Waits at most a second, and then reads and writes for each client. */
 static void turn(struct server *s, int listener)
 {
     s->polled[0].fd = listener;
@@ -360,7 +360,7 @@ static void turn(struct server *s, int listener)
         take_clients(s, listener);
 }
 
-/* Each client that is associated gets an abort, as far as its socket takes it at once. */
+/* Aborts each associated client, if its socket takes the octets at once. */
 static void end_all(struct server *s)
 {
     for (size_t i = 0; i < s->live; i++) {
@@ -372,7 +372,7 @@ static void end_all(struct server *s)
     forget_closed(s);
 }
 
-/* Each client takes one file, and with --capture three. False where this process may not have so many. */
+/* Each client needs one file, and with --capture three. False if this process may not have so many. */
 static bool has_files(const struct server *s)
 {
     struct rlimit files;
@@ -386,7 +386,7 @@ static bool has_files(const struct server *s)
     return false;
 }
 
-/* Whether files for the octets of clients can be written: each is made when its client comes. */
+/* Whether files for the octets of clients can be written. Each is made when its client connects. */
 static bool may_capture(const struct server *s)
 {
     char name[500];

@@ -1,4 +1,4 @@
-/* Sockets that listen, and that connect: by IPv6 and IPv4. */
+/* Sockets that listen or connect, by IPv6 and IPv4. */
 #define _GNU_SOURCE
 #include "link.h"
 
@@ -12,7 +12,7 @@
 #include <sys/socket.h>
 #include <unistd.h>
 
-/* The addresses of a host; NULL where there are none, and then it was told why. */
+/* The addresses of a host; NULL if there are none, after a line that says why. */
 static struct addrinfo *addresses(const char *program, const char *host, unsigned long port, int flags)
 {
     struct addrinfo hints, *found = NULL;
@@ -51,7 +51,7 @@ int link_listen(const char *program, const char *host, unsigned long port, bool 
 {
     struct addrinfo *all = addresses(program, host, port, AI_PASSIVE);
     int made = -1;
-    /* (the address "any" of IPv6 takes IPv4 too, so it is tried first) */
+    /* (the address "any" of IPv6 accepts IPv4 too, so it is tried first) */
     for (int family = AF_INET6; made < 0 && all != NULL; family = AF_INET) {
         for (struct addrinfo *each = all; each != NULL && made < 0; each = each->ai_next)
             made = each->ai_family == family ? listens_on(each, share) : -1;
@@ -74,7 +74,7 @@ int link_port(int listener)
     return ntohs(own.ss_family == AF_INET6 ? ((struct sockaddr_in6 *)&own)->sin6_port : ((struct sockaddr_in *)&own)->sin_port);
 }
 
-/* Connects within so many seconds; -1, and `errno` says why. */
+/* Connects within this many seconds. If it fails, -1, and `errno` says why. */
 static int connects_to(const struct addrinfo *address, double wait)
 {
     int yes = 1, why = 0;

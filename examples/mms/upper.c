@@ -1,4 +1,4 @@
-/* Presentation and ACSE, as far as an association of MMS wants them. */
+/* The parts of presentation and ACSE that an association of MMS needs. */
 #include "upper.h"
 
 #include <string.h>
@@ -23,12 +23,12 @@ static const uint8_t asked_contexts[] = {
     0x30, 0x10, 0x02, 0x01, 0x03, 0x06, 0x05, 0x28, 0xca, 0x22, 0x02, 0x01, 0x30, 0x04, 0x06, 0x02, 0x51, 0x01,
 };
 
-/* What a CPA answers to one context: accepted, by BER; or that the abstract syntax is not known here. */
+/* The answer of a CPA to one context: accepted, with BER; or the abstract syntax is unknown. */
 static const uint8_t context_accepted[] = {0x30, 0x07, 0x80, 0x01, 0x00, 0x81, 0x02, 0x51, 0x01};
 static const uint8_t context_refused[] = {0x30, 0x06, 0x80, 0x01, 0x02, 0x82, 0x01, 0x01};
 
-/* Result and diagnostic of an AARE: accepted; or refused for good, since the name of the application
- * context is not known here. */
+/* Result and diagnostic of an AARE: accepted; or refused permanently, because the name of the application
+ * context is unknown. */
 static const uint8_t accepted[] = {0xa2, 0x03, 0x02, 0x01, 0x00, 0xa3, 0x05, 0xa1, 0x03, 0x02, 0x01, 0x00};
 static const uint8_t other_name[] = {0xa2, 0x03, 0x02, 0x01, 0x01, 0xa3, 0x05, 0xa1, 0x03, 0x02, 0x01, 0x02};
 
@@ -38,7 +38,7 @@ static const uint8_t abort_of_user[] = {0x64, 0x03, 0x80, 0x01, 0x00};
 
 /* ---- writing */
 
-/* Puts what is written since `before` into a context: User-data of X.226, fully encoded. */
+/* Puts the octets written since `before` into a context: User-data of X.226, fully encoded. */
 static void wrap_in_context(struct ber_writer *w, uint8_t context, size_t before)
 {
     ber_wrap(w, 0xa0, before);
@@ -81,7 +81,7 @@ static size_t written(const struct ber_writer *w, const uint8_t **at)
     return w->full ? 0 : ber_written(w);
 }
 
-/* What stands around the parameters of a CP and of a CPA: all that is written. */
+/* Encloses the parameters of a CP or a CPA, which are all the written octets. */
 static size_t in_normal_mode(struct ber_writer *w, const uint8_t **at)
 {
     ber_wrap(w, 0xa2, 0);
@@ -108,7 +108,7 @@ size_t upper_ask(struct upper *u, const struct selector *calling, const struct s
     return in_normal_mode(&w, at);
 }
 
-/* The results of the contexts that were asked for, in their order. */
+/* The results for the requested contexts, in their order. */
 static void put_results(struct ber_writer *w, const struct upper *u)
 {
     const size_t before = ber_written(w);
@@ -191,7 +191,7 @@ size_t upper_data(const struct upper *u, const uint8_t *mms, size_t length, stru
 
 /* ---- reading */
 
-/* User-data of X.226: the first PDU, and its context. It stands there as it is, or as octets. */
+/* User-data of X.226: the first PDU, and its context. The PDU is there as it is, or as octets. */
 static bool read_user_data(struct ber data, uint32_t *context, struct ber *pdu)
 {
     struct ber list, item, number;
@@ -213,7 +213,7 @@ static bool read_information(struct ber association, struct ber *mms)
            ber_find(external, 0xa0, mms);
 }
 
-/* One context of a CP: what it is for. */
+/* The purpose of one context of a CP. */
 static bool read_context(struct upper *u, struct ber item)
 {
     struct ber number, syntax;

@@ -1,4 +1,4 @@
-/* The words of a command line: switches, most of them with a value, and then what else there is. */
+/* The words of a command line: switches, most of them with a value, and then other words. */
 #ifndef WORDS_H
 #define WORDS_H
 
@@ -13,12 +13,12 @@ struct word {
     const char **text;
     unsigned long *number;
     unsigned long least, most;  /* of a number */
-    struct selector *selector;  /* hexadecimal digits, text behind a colon, or - for none; `most` octets */
+    struct selector *selector;  /* hexadecimal digits, text after a colon, or - for none; `most` octets */
     bool *is_there;             /* a switch without a value */
 };
 
-/* Reads the switches. It answers the place of the first word that is none, or -1 where something is
- * wrong, which it has told in one line on standard error then. */
+/* Reads the switches. It answers the place of the first word that is no switch. If something is wrong, it answers
+ * -1 after one line on standard error. */
 int words_read(const char *program, int count, char **words, const struct word *known, size_t length);
 
 #endif
