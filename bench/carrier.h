@@ -1,4 +1,4 @@
-/* A carrier by hand: many connections on one byte connection, with the transport units that they take and give. */
+/* A carrier written by hand: many connections on one byte connection, with the transport units that they take and send. */
 #ifndef CARRIER_H
 #define CARRIER_H
 #include <stdbool.h>
@@ -13,7 +13,7 @@
 #define MOST_LIVE 64
 #define HEADER 4
 
-/* Octets on the heap, with the room that was taken for them; those before `first` were taken. */
+/* Octets on the heap and their capacity. Those before `first` have been taken. */
 struct octets {
     uint8_t *at;
     size_t first;
@@ -21,22 +21,22 @@ struct octets {
     size_t room;
 };
 
-/* How far a connection is: TSDUs and units go over one that is open. */
+/* The state of a connection: only an open one carries TSDUs and units. */
 enum stage { ASKED, OPEN, CLOSING };
 
 struct link {
     unsigned reference, peer;
     enum stage stage;
-    /* What is to be sent and has no credit yet: octets of TSDUs, and where each ends. */
+    /* TSDUs that wait for credit: their octets, and where each ends. */
     struct octets unsent;
     size_t ends[WINDOW];
     size_t count;
-    /* The TSDU that is being joined. */
+    /* The TSDU that is being joined from parts. */
     struct octets begun;
     unsigned next, unacknowledged, credit, expected;
 };
 
-/* A TSDU that came. `memory` is the block in which it was joined, and the taker frees it. It is NULL if the TSDU lies whole in
+/* A received TSDU. `memory` is the block in which it was joined, which the receiver frees. It is NULL if the whole TSDU is in
    one unit: then its octets are lent until the carrier is fed again. */
 struct tsdu {
     const uint8_t *at;
@@ -44,7 +44,7 @@ struct tsdu {
     uint8_t *memory;
 };
 
-/* One TSDU that waits to be taken: none other is begun to be read before. */
+/* The one pending TSDU: no other is read before it is taken. */
 struct event {
     bool waits;
     unsigned reference;
@@ -59,15 +59,15 @@ struct carrier {
     struct event event;
 };
 
-/* Copies octets by the C library. What gcc knows of their number is hidden from it: else it writes a copy of at most 8,192
-   octets in its place, by an instruction that is counted once for each eight octets. */
+/* Copies octets by the C library. Their number is hidden from gcc: otherwise, for at most 8,192 octets, it would use an
+   instruction that is counted once for each eight octets. */
 static void copy(uint8_t *to, const uint8_t *from, size_t n)
 {
     __asm__("" : "+r"(n));
     memcpy(to, from, n);
 }
 
-/* Makes room for so many octets behind what is there. Where there is no memory, nothing has changed. */
+/* Makes room for this many more octets at the end. If memory runs out, nothing has changed. */
 static bool reserve(struct octets *o, size_t n)
 {
     if (n <= o->room - o->length)
@@ -114,9 +114,9 @@ static struct link *find(struct carrier *c, unsigned reference)
     return NULL;
 }
 
-/* ---- what is written */
+/* ---- sending */
 
-/* The header of a packet, for which there is room, and the place of its unit. */
+/* Writes the header of a packet, for which there is room, and returns the place of its unit. */
 static uint8_t *put_header(struct carrier *c, size_t unit)
 {
     uint8_t *at = c->outgoing.at + c->outgoing.length;
@@ -134,7 +134,7 @@ static size_t data_header(const struct carrier *c)
     return c->class_two ? 5 : 3;
 }
 
-/* Writes a DT. Its user data begins with `front` octets that are left free, and ends with these. */
+/* Writes a DT. Its user data begins with `front` octets that are left free; then come these octets. */
 static bool put_data(struct carrier *c, struct link *l, size_t front, const uint8_t *user, size_t n, bool end)
 {
     size_t header = data_header(c) + front;
@@ -172,14 +172,14 @@ static void put_ack(struct carrier *c, struct link *l)
     at[4] = (uint8_t)l->expected;
 }
 
-/* What was written of a TSDU. */
+/* How much of a TSDU was written. */
 struct written {
     size_t octets;
     unsigned units;
     bool all;
 };
 
-/* Takes back what was written last. */
+/* Removes the octets that were written last. */
 static void take_back(struct carrier *c, struct link *l, size_t octets, unsigned units)
 {
     c->outgoing.length -= octets + units * (HEADER + data_header(c));
@@ -212,7 +212,7 @@ static bool put_parts(struct carrier *c, struct link *l, size_t front, const uin
     return true;
 }
 
-/* Writes what is unsent, as far as the credit allows. */
+/* Writes unsent TSDUs, as far as the credit allows. */
 static bool pump(struct carrier *c, struct link *l)
 {
     while (l->count > 0 && l->credit > 0) {
@@ -229,8 +229,8 @@ static bool pump(struct carrier *c, struct link *l)
     return true;
 }
 
-/* Keeps what was not written of a TSDU: `front` octets, which are left free, and a copy of these. Answers the place of the
-   first, or NULL if there is no memory. */
+/* Keeps the rest of a TSDU: `front` octets, which are left free, and a copy of these. Returns the place of the first octet, or
+   NULL if memory runs out. */
 static uint8_t *keep_rest(struct link *l, size_t front, const uint8_t *body, size_t n)
 {
     uint8_t *at;
@@ -269,9 +269,9 @@ static uint8_t *send_tsdu(struct carrier *c, unsigned reference, size_t front, c
     return w.units == 0 ? kept : c->outgoing.at + c->outgoing.first + start + HEADER + data_header(c);
 }
 
-/* ---- what is taken */
+/* ---- receiving */
 
-/* Takes a part of a TSDU. A whole TSDU stays where it lies; parts are joined. */
+/* Takes a part of a TSDU. A whole TSDU stays where it is; parts are joined. */
 static bool join(struct carrier *c, struct link *l, const uint8_t *user, size_t n, bool end)
 {
     static const struct octets none = {NULL, 0, 0, 0};
@@ -300,7 +300,7 @@ static bool acknowledge(struct carrier *c, struct link *l, unsigned number, unsi
     return pump(c, l);
 }
 
-/* One unit at the front; how many octets it has, or 0 where it is refused or there is no memory. */
+/* Takes the unit at the front. Returns how many octets it has, or 0 if it is refused or memory runs out. */
 static size_t take_tpdu(struct carrier *c, const uint8_t *unit, size_t n)
 {
     struct link *l;
@@ -335,14 +335,14 @@ static void take_packet(struct carrier *c, const uint8_t *unit, size_t n)
     }
 }
 
-/* The length of the packet at the front, where its header stands; 0 where it is refused. */
+/* The length of the packet at the front, from its header; 0 if it is refused. */
 static size_t packet_length(const uint8_t *at)
 {
     size_t n = (size_t)at[2] << 8 | at[3];
     return at[0] == 3 && n >= 7 ? n : 0;
 }
 
-/* Completes the packet of which octets are held, as far as the piece goes, and answers the octets used. */
+/* Completes the packet that is held in part, as far as the piece reaches, and returns the octets used. */
 static size_t complete(struct carrier *c, const uint8_t *piece, size_t n)
 {
     size_t used = 0, length;
@@ -365,7 +365,7 @@ static size_t complete(struct carrier *c, const uint8_t *piece, size_t n)
     return used + more;
 }
 
-/* Takes the packets of a piece, each where it lies, up to one by which a TSDU came; answers the octets used. */
+/* Takes the packets of a piece in place, up to one that completes a TSDU. Returns the octets used. */
 static size_t feed(struct carrier *c, const uint8_t *piece, size_t n)
 {
     size_t used = 0;

@@ -1,4 +1,4 @@
-/* Moves TSDUs over a pair of carriers, whose octets go in pieces: the proved ones and the same work by hand. */
+/* Moves TSDUs over a pair of carriers, whose octets are carried in pieces: the proved carriers, and the same work in C. */
 #include <stdio.h>
 #include "carrier.h"
 #include "timer.h"
@@ -20,7 +20,7 @@ static void count(struct tsdu tsdu, struct moved *moved)
             abort();
         copy(tsdu.memory, tsdu.at, tsdu.length);
     }
-    /* As if the block were read: else gcc leaves the copy out, since it is freed at once. */
+    /* Pretends to read the block: otherwise gcc would leave the copy out, because it is freed at once. */
     __asm__ volatile("" : : "r"(tsdu.memory) : "memory");
     moved->tsdus += 1;
     moved->octets += tsdu.length;
@@ -39,7 +39,7 @@ static void carry(struct carrier *from, struct carrier *to, size_t piece, struct
     }
 }
 
-/* Moves a TSDU so many times over connections that take turns. */
+/* Moves a TSDU this many times over connections that take turns. */
 static uint64_t move_by_hand(const uint8_t *tsdu, size_t n, size_t rounds, uint16_t connections, size_t piece,
                              bool class_two)
 {
@@ -81,8 +81,8 @@ static bool report(const uint8_t *tsdu, size_t n, size_t rounds, uint16_t connec
     return good;
 }
 
-/* With the words `job class connections piece octets rounds` one job runs once, to be counted; it says how many TSDUs that
-   were. */
+/* With the words `job class connections piece octets rounds` one job runs once, to be counted; it prints the number of
+   TSDUs. */
 static int once(char **words, const uint8_t *tsdu)
 {
     size_t rounds = strtoul(words[6], NULL, 10);

@@ -1,4 +1,4 @@
-/* Cuts a stream of packets: the proved cutter, the same work by hand, and memcpy, in one run. */
+/* Cuts a stream of packets: by the proved cutter, by the same work in C, and by memcpy, in one run. */
 #include <stdint.h>
 #include <stdio.h>
 #include <stdlib.h>
@@ -164,8 +164,8 @@ static size_t fill(uint8_t *stream, size_t length, size_t packet)
 
 static job *const jobs[JOBS] = {osi_bench_cut, cut_by_hand, copy};
 
-/* With the words `job packet piece rounds` one job goes over a stream of 1 MiB so many times, to be counted; it says how
-   many packets that were. */
+/* With the words `job packet piece rounds` one job goes over a stream of 1 MiB this many times, to be counted; it prints
+   the number of packets. */
 static int once(char **words, uint8_t *stream)
 {
     size_t packet = strtoul(words[2], NULL, 10), piece = strtoul(words[3], NULL, 10), rounds = strtoul(words[4], NULL, 10);

@@ -1,6 +1,6 @@
-/* The work of osi_bench_stacks by the library for C: the same calls in the same order, so that what
- * the interface for C costs can be counted. `ends c ..` does it by osi.h, `ends stacks ..` by osi_bench;
- * bench/ledger counts the instructions of both.
+/* The work of osi_bench_stacks by the library for C: the same calls in the same order, to measure the cost of
+ * the interface for C. `ends c ..` does it by osi.h, `ends stacks ..` by osi_bench; bench/ledger counts the
+ * instructions of both.
  *
  *     ends c|stacks SIZE CONNECTIONS CLASS POINTS ROUNDS */
 #include "osi.h"

@@ -1,4 +1,4 @@
-/* Moves TSDUs over a pair of links: the proved links and the same work by hand, in one run. */
+/* Moves TSDUs over a pair of links: the proved links, and the same work in C, in one run. */
 #include <stdbool.h>
 #include <stdint.h>
 #include <stdio.h>
@@ -14,14 +14,14 @@ uint64_t osi_bench_links(const uint8_t *tsdu, size_t length, size_t rounds, bool
 #define WINDOW 15
 #define NUMBERS 128
 
-/* Octets on the heap, with the room that was taken for them. */
+/* Octets on the heap, and their capacity. */
 struct octets {
     uint8_t *at;
     size_t length;
     size_t room;
 };
 
-/* A ring of messages; its room is a power of two. */
+/* A ring of messages; its capacity is a power of two. */
 struct queue {
     struct octets *messages;
     size_t first;
@@ -31,7 +31,7 @@ struct queue {
 
 enum kind { DT, AK };
 
-/* A unit as one end gives it and the other takes it; the octets are lent. */
+/* A unit that one end sends and the other takes; the octets are lent. */
 struct unit {
     enum kind kind;
     unsigned class, destination, number, credit, end;
@@ -44,12 +44,12 @@ enum fault { TAKEN = 0, WRONG_FORM, OUT_OF_SEQUENCE, CREDIT_REDUCED, TOO_LONG, N
 struct link {
     unsigned class;
     size_t limit;
-    /* Sending: the message that is being cut, how much of it was given, and those behind it. */
+    /* Sending: the message that is being cut, how much of it was sent, and the messages after it. */
     struct octets current;
     size_t given;
     int has_more;
     struct queue outgoing;
-    /* Receiving: the message that is being joined, and those that stand whole. */
+    /* Receiving: the message that is being joined, and the complete ones. */
     struct octets begun;
     struct queue whole;
     /* Class 2. */
@@ -101,10 +101,10 @@ static int append(struct octets *o, const uint8_t *more, size_t n)
     return 1;
 }
 
-/* Whether a message is copied into the room of the one before it, where it fits. */
+/* Whether to copy a message into the room of the previous one, if it fits. */
 static bool keeps_room;
 
-/* Begins with a copy of a message, where nothing is to be sent, in the room of the one before it. */
+/* Copies a message into the room of the previous one, if nothing else is to be sent. */
 static int begin(struct link *l, const uint8_t *tsdu, size_t n)
 {
     if (l->current.room < n) {
@@ -123,7 +123,7 @@ static int begin(struct link *l, const uint8_t *tsdu, size_t n)
     return 1;
 }
 
-/* Keeps a copy of a message, behind those that are to be sent. */
+/* Keeps a copy of a message, after those that are to be sent. */
 static int send_tsdu(struct link *l, const uint8_t *tsdu, size_t n)
 {
     if (keeps_room && !l->has_more && l->outgoing.count == 0)
@@ -139,7 +139,7 @@ static int send_tsdu(struct link *l, const uint8_t *tsdu, size_t n)
     return 1;
 }
 
-/* The next part of what is to be sent, which is lent. */
+/* The next part to send, which is lent. */
 static int next_part(struct link *l, struct unit *u)
 {
     size_t left;
@@ -233,7 +233,7 @@ static enum fault take(struct link *l, const struct unit *u)
     return fault;
 }
 
-/* Hands the next unit of one end to the other; 0 where there is none, or it is refused. */
+/* Passes the next unit of one end to the other; 0 if there is none, or it is refused. */
 static int pass(struct link *from, struct link *to)
 {
     struct unit u;
@@ -251,7 +251,7 @@ static void close_link(struct link *l)
     free(l->begun.at);
 }
 
-/* Moves a TSDU so many times; in class 2 an AK goes back for each unit. */
+/* Moves a TSDU this many times; in class 2 an AK goes back for each unit. */
 __attribute__((noinline)) static uint64_t move(const uint8_t *tsdu, size_t n, size_t rounds, bool class_two)
 {
     struct link from = {.class = class_two ? 2 : 0, .limit = LARGEST - (class_two ? 5 : 3), .credit = WINDOW};
@@ -272,14 +272,14 @@ __attribute__((noinline)) static uint64_t move(const uint8_t *tsdu, size_t n, si
     return tsdus * 1000003 + octets;
 }
 
-/* Takes memory for each TSDU that is handed in. */
+/* Allocates memory for each TSDU to send. */
 static uint64_t move_by_hand(const uint8_t *tsdu, size_t n, size_t rounds, bool class_two)
 {
     keeps_room = false;
     return move(tsdu, n, rounds, class_two);
 }
 
-/* Copies a TSDU into the room of the one before it. */
+/* Copies each TSDU into the room of the previous one. */
 static uint64_t move_in_kept_room(const uint8_t *tsdu, size_t n, size_t rounds, bool class_two)
 {
     keeps_room = true;
@@ -324,7 +324,7 @@ static int report(const uint8_t *tsdu, size_t n, size_t rounds, bool class_two)
     return good;
 }
 
-/* With the words `job class octets rounds` one job runs once, to be counted; it says how many TSDUs that were. */
+/* With the words `job class octets rounds` one job runs once, to be counted; it prints the number of TSDUs. */
 static int once(char **words, const uint8_t *tsdu)
 {
     size_t n = strtoul(words[3], NULL, 10), rounds = strtoul(words[4], NULL, 10);

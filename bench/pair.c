@@ -1,9 +1,9 @@
-/* What the scripts of bench/pair.sh ask for, by two ends of the library for C: the same calls, the same octets carried
- * from one end to the other, and each indication fetched.
+/* The work of the scripts of bench/pair.sh, by two ends of the library for C: the same calls, the same octets carried from
+ * one end to the other, and each indication fetched.
  *
  *     pair ROUNDS
  *
- * prints how many octets were carried and how many indications were shown, as the transcript of the script tells. */
+ * prints how many octets were carried and how many indications were fetched, as in the transcript of the script. */
 #include "osi.h"
 
 #include <stdio.h>
@@ -20,7 +20,7 @@ static void must(uint32_t code)
     exit(1);
 }
 
-/* All that an end has to be carried, as far as the other takes it. */
+/* Carries all outgoing octets of an end, as far as the other takes them. */
 static void carry(osi_end *from, osi_end *to)
 {
     osi_octets octets;

@@ -1,11 +1,11 @@
-/* What a loop over TCP costs by itself: messages of one size, each framed by a TPKT header and copied, from one process
- * to another over loopback. There is no session and no transport unit in it.
+/* The cost of a loop over TCP by itself: messages of one size, each framed by a TPKT header and copied, from one process to
+ * another over loopback, without session and transport units.
  *
  *     plain COUNT OCTETS [WINDOW]
  *
- * prints messages and megabytes a second. Without a window the last message alone is answered, as in class 0; with one
- * each is, by as many octets as an AK in its packet, and no more than so many are sent before their answers, as in
- * class 2. Sockets, pieces and how much may wait are those of examples/gateway. */
+ * prints messages and megabytes a second. Without a window only the last message is answered, as in class 0. With a window
+ * each message is answered, by as many octets as the packet of an AK has, and at most WINDOW messages are unanswered, as in
+ * class 2. Sockets, pieces and bounds are those of examples/gateway. */
 #define _POSIX_C_SOURCE 200809L
 #include "timer.h"
 
@@ -57,7 +57,7 @@ static int settled(int socket)
 
 /* ---- the side that sends */
 
-/* What waits to be sent, from `begin` to `end`. */
+/* Octets to send, from `begin` to `end`. */
 struct waiting {
     uint8_t octets[2 * MOST_WAITING + PIECE];
     size_t begin, end;
@@ -72,7 +72,7 @@ static void frame(struct waiting *w, const uint8_t *message, size_t octets)
     w->end += length;
 }
 
-/* Writes what can be written, once. What waits is moved to the front where half of its room is used up. */
+/* Writes once, as much as the socket takes. The rest is moved to the front if half of the room is used up. */
 static void transmit(int socket, struct waiting *w)
 {
     const ssize_t count = send(socket, w->octets + w->begin, w->end - w->begin, MSG_NOSIGNAL | MSG_DONTWAIT);
@@ -84,7 +84,7 @@ static void transmit(int socket, struct waiting *w)
     w->begin = 0;
 }
 
-/* Whether another message may be framed: there is one, room for it, and a place in the window. */
+/* Whether another message may be framed: there is one left, and room for it, and the window is not full. */
 static int may_say(const struct task *t, const struct waiting *w, unsigned long said, unsigned long answered)
 {
     return said < t->count && w->end - w->begin < MOST_WAITING && (t->window == 0 || said - answered < t->window);
@@ -111,20 +111,20 @@ static void send_all(int socket, const struct task *t)
 
 /* ---- the side that takes */
 
-/* A packet that is not whole yet. */
+/* An incomplete packet. */
 struct packet {
     uint8_t octets[PIECE];
     size_t length;
 };
 
-/* How many octets of the piece belong to the packet: up to its end, as far as its header says where that is. */
+/* How many octets of the piece belong to the packet: up to its end, if its header says where that is. */
 static size_t of_packet(const struct packet *p, size_t left)
 {
     const size_t whole = p->length < HEADER ? HEADER : (size_t)p->octets[2] << 8 | p->octets[3];
     return left < whole - p->length ? left : whole - p->length;
 }
 
-/* Copies the piece, packet by packet, and answers how many became whole. */
+/* Copies the piece, packet by packet, and returns how many packets it completes. */
 static unsigned long gather(struct packet *p, const uint8_t *piece, size_t length)
 {
     unsigned long whole = 0;

@@ -1,4 +1,4 @@
-/* One side of a session by hand: data, minor points and their confirmations, in Ready. */
+/* One side of a session written by hand: data, minor points and their confirmations, in Ready. */
 #ifndef SESSION_H
 #define SESSION_H
 #include <stdlib.h>
@@ -19,7 +19,7 @@ struct session {
     int answers;
 };
 
-/* User data that is shown, and the block in which it lies: the user frees it. */
+/* User data of an indication, and the block that holds it, which the user frees. */
 struct user_data {
     uint8_t *memory;
     const uint8_t *at;
@@ -38,7 +38,7 @@ struct indication {
     struct user_data data;
 };
 
-/* What a TSDU does; `aborts`: an AB is to be sent. */
+/* The effect of a TSDU; `aborts`: an AB has to be sent. */
 struct taken {
     struct indication first;
     int aborts, closes;
@@ -77,7 +77,7 @@ static size_t item_length(size_t length)
     return (length > 254 ? 4 : 2) + length;
 }
 
-/* What stands before data: a GT that names no token, and the SI and LI of a DT. */
+/* The octets before data: a GT that names no token, and the SI and LI of a DT. */
 enum { DATA_FRONT = 4 };
 
 static void write_data_front(uint8_t *at)
@@ -85,7 +85,7 @@ static void write_data_front(uint8_t *at)
     memcpy(at, "\1\0\1", DATA_FRONT);
 }
 
-/* What stands before the user data of a point or a confirmation: a GT that names no token, and the beginning of the unit.
+/* The octets before the user data of a point or a confirmation: a GT that names no token, and the beginning of the unit.
    `octets` is its length. `open` leaves the confirmation open. */
 struct front {
     uint8_t si;
@@ -133,7 +133,7 @@ static inline void write_abort(uint8_t *at)
     memcpy(at, "\x19\3\x11\1\5", ABORT_FRONT);
 }
 
-/* ---- calls: the first error of each, and what it changes once it is sent */
+/* ---- calls: the first error of each, and its effect after it is sent */
 
 static enum error may_data(const struct session *s, struct slice data)
 {
@@ -199,9 +199,9 @@ static void confirm_sent(struct session *s, uint32_t number)
     s->confirmed = number + 1;
 }
 
-/* ---- what is taken */
+/* ---- receiving */
 
-/* A bad unit: AB, and the user is shown why. */
+/* A bad unit: sends AB, and indicates why. */
 static enum error abort_by(struct session *s, enum fault fault, uint8_t si, struct taken *t)
 {
     t->aborts = 1;

@@ -1,4 +1,4 @@
-/* Exchanges data, a minor point and its confirmation over a pair of sessions: the proved ones beside C, in ns. */
+/* Exchanges data, a minor point and its confirmation over a pair of sessions: the proved ones compared with C, in ns. */
 #include <stdint.h>
 #include <stdio.h>
 #include <string.h>
@@ -35,7 +35,7 @@ struct owned {
     size_t length;
 };
 
-/* A block with `front` octets that are left free, and the user data behind them. */
+/* A block with `front` octets that are left free, and then the user data. */
 static int made(struct owned *tsdu, size_t front, struct slice data)
 {
     tsdu->length = front + data.length;
@@ -81,7 +81,7 @@ static int call_confirm(struct session *s, uint32_t number, struct owned *tsdu)
     return 1;
 }
 
-/* Lends a TSDU to a side, where there is one, and frees it: its octets, or 0. */
+/* Lends a TSDU to a side, if there is one, and frees it. Returns how many octets it has, or 0. */
 static size_t hand(struct owned tsdu, struct session *to)
 {
     struct taken t;
@@ -147,7 +147,7 @@ static __attribute__((noinline)) uint64_t by_hand(const uint8_t *octets, size_t 
     return sum;
 }
 
-/* The octets of the TSDUs of so many rounds of a part: GT and DT with the data, GT and MIP, GT and MIA, each of these
+/* The octets of the TSDUs of this many rounds of a part: GT and DT with the data, GT and MIP, GT and MIA, the last two
    with the digits of the number. */
 static uint64_t expected(size_t length, size_t rounds, size_t part)
 {
@@ -161,7 +161,7 @@ static uint64_t expected(size_t length, size_t rounds, size_t part)
 
 typedef uint64_t side(const uint8_t *data, size_t length, size_t rounds, size_t part);
 
-/* The ns of one round of a part, or less than 0 where it did not send what it is to send. */
+/* The ns of one round of a part, or less than 0 if it sent something wrong. */
 static double timed(side *run, const uint8_t *data, size_t length, size_t part)
 {
     double start = now();
@@ -175,7 +175,7 @@ static void line(size_t length, const char *name, double ours, double c)
     printf("%8zu %-28s %10.1f %10.1f %8.2f\n", length, name, ours, c, c / ours);
 }
 
-/* Prints the best of many runs in turn, and tells whether each sent what it is to send. */
+/* Prints the best of many runs that take turns. Returns whether each sent the right octets. */
 static int report(const uint8_t *data, size_t length)
 {
     static side *const sides[2] = {osi_bench_sessions, by_hand};
@@ -208,7 +208,7 @@ int main(int argc, char **argv)
     int good = 1;
     for (size_t i = 0; i < sizeof data; i++)
         data[i] = (uint8_t)(i * 31);
-    /* With the words `job part octets rounds` one job runs once, to be counted; it says how many octets that were, so that
+    /* With the words `job part octets rounds` one job runs once, to be counted; it prints the number of octets, so that
        both can be compared. */
     if (argc == 5) {
         side *run = strcmp(argv[1], "proved") == 0 ? osi_bench_sessions : by_hand;

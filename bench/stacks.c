@@ -1,6 +1,6 @@
-/* Data, minor points and their confirmations over a pair of stacks, whose octets go from one to the other: the proved
-   ones and the same by hand, a carrier and a session for each of its connections. Data in parts goes over the proved ones
-   alone. */
+/* Data, minor points and their confirmations over a pair of stacks, whose octets are carried from one to the other: the
+   proved stacks, and the same written by hand, with a carrier and a session for each connection. Only the proved ones send
+   data in parts. */
 #include <stdio.h>
 #include "carrier.h"
 #include "session.h"
@@ -10,7 +10,7 @@
 uint64_t osi_bench_stacks(const uint8_t *data, size_t length, size_t rounds, uint16_t connections, bool class_two, bool points,
                           uint16_t size);
 
-/* One indication that waits to be shown: what comes behind it is not read before. */
+/* The one pending indication: no later input is read before it is fetched. */
 struct stack {
     struct carrier *carrier;
     struct session sessions[MOST_LIVE];
@@ -26,7 +26,7 @@ static struct session *session_of(struct stack *s, unsigned reference)
     return l == NULL ? NULL : &s->sessions[l - s->carrier->live];
 }
 
-/* Sends data, and writes what stands before it where it is sent. */
+/* Sends data, and writes the octets before it in place. */
 static bool stack_data(struct stack *s, unsigned reference, struct slice data)
 {
     struct session *session = session_of(s, reference);
@@ -86,7 +86,7 @@ static void send_abort(struct stack *s, unsigned reference)
         write_abort(at);
 }
 
-/* The session of a TSDU that came takes it: what it shows waits, and its AB is sent. */
+/* The session of a received TSDU takes it: its indication is pending, and its AB is sent. */
 static void hear(struct stack *s)
 {
     struct event event = s->carrier->event;
@@ -103,7 +103,7 @@ static void hear(struct stack *s)
     s->shown = t.first;
 }
 
-/* Takes the packets of a piece up to one by which something is shown; answers the octets used. */
+/* Takes the packets of a piece, up to one that causes an indication. Returns the octets used. */
 static size_t feed_stack(struct stack *s, const uint8_t *piece, size_t n)
 {
     size_t used = 0;
@@ -177,7 +177,7 @@ static bool one_round(struct ends *e, unsigned reference, struct slice data, boo
     return true;
 }
 
-/* So many rounds over connections that take turns. */
+/* This many rounds over connections that take turns. */
 static uint64_t stacks_by_hand(const uint8_t *octets, size_t length, size_t rounds, uint16_t connections, bool class_two,
                                bool points)
 {
@@ -215,7 +215,7 @@ typedef uint64_t job(const uint8_t *, size_t, size_t, uint16_t, bool, bool);
 #define RUNS 31
 #define LONGEST_DATA 100000
 
-/* Ours beside C, and data whole beside data in parts. */
+/* Ours compared with C, and whole data compared with data in parts. */
 static job *const beside_c[JOBS] = {proved, stacks_by_hand}, *const beside_whole[JOBS] = {in_parts, proved};
 
 static uint64_t expected(size_t n, size_t rounds, bool points)
@@ -223,7 +223,7 @@ static uint64_t expected(size_t n, size_t rounds, bool points)
     return rounds * (points ? 3 : 1) * 1000003 + rounds * n;
 }
 
-/* The least time of many runs of each job, which take turns; false where an answer is wrong. */
+/* The least time of many runs of each job, which take turns; false if an answer is wrong. */
 static bool timed(job *const jobs[JOBS], double best[JOBS], const uint8_t *data, size_t n, size_t rounds,
                   uint16_t connections, bool class_two, bool points)
 {
@@ -239,9 +239,9 @@ static bool timed(job *const jobs[JOBS], double best[JOBS], const uint8_t *data,
     return good;
 }
 
-/* One line: messages and MB of user data a second and ns a message. What it takes to open the connections and to go a
-   first round on each is left out. The time of our message is kept in `first` where it is 0, and the last column is our
-   speed divided by that. */
+/* One line: messages and MB of user data a second, and ns a message, without the time to open the connections and for a
+   first round on each. If `first` is 0, it gets the time of our message, and the last column is our speed divided by
+   that. */
 static bool report(const uint8_t *data, size_t n, size_t rounds, uint16_t connections, bool class_two, bool points,
                    double *first)
 {
@@ -280,8 +280,8 @@ static job *job_of(char **words)
     return strcmp(words[1], "proved") == 0 ? proved : stacks_by_hand;
 }
 
-/* With the words `job class connections data|points|parts octets rounds` one job runs once, to be counted; it says how many
-   rounds that were. */
+/* With the words `job class connections data|points|parts octets rounds` one job runs once, to be counted; it prints the
+   number of rounds. */
 static int once(char **words, const uint8_t *data)
 {
     size_t n = strtoul(words[5], NULL, 10), rounds = strtoul(words[6], NULL, 10);

@@ -1,4 +1,4 @@
-/* The clocks of the benchmarks, in seconds, and what their tables say of how they were measured. */
+/* The clocks of the benchmarks, in seconds, and the heads of their tables. */
 #ifndef TIMER_H
 #define TIMER_H
 #include <stdio.h>
@@ -17,13 +17,13 @@ static inline double now(void)
     return seconds_by(CLOCK_MONOTONIC);
 }
 
-/* The time that this process has had of a processor, so that other work on the machine counts less. */
+/* The processor time of this process, so that other work on the machine counts less. */
 static inline double worked(void)
 {
     return seconds_by(CLOCK_PROCESS_CPUTIME_ID);
 }
 
-/* The head of a table: what it times, on which processor, and of how many runs each figure is the best. */
+/* The head of a table: what it times, on which processor, and how many runs each figure is the best of. */
 static inline void say_how(const char *what, int runs)
 {
     char line[256], name[256] = "a processor with no name";

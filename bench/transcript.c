@@ -1,5 +1,5 @@
-/* What `osi pair` does, by hand in C over two ends of the library for C: it reads a script from its input, makes the calls
- * and carries the octets that the lines ask for, and prints the transcript. It knows the lines of bench/script.py alone and
+/* The work of `osi pair`, written in C over two ends of the library for C: it reads a script from its input, makes the calls
+ * and carries the octets that the lines ask for, and prints the transcript. It knows only the lines of bench/script.py and
  * refuses any other; it keeps no journal.
  *
  *     transcript <SCRIPT */
@@ -22,7 +22,7 @@ static _Noreturn void fail(const char *why)
     exit(2);
 }
 
-/* Room for so many octets more. */
+/* Makes room for this many more octets. */
 static inline void reserve(text *out, size_t more)
 {
     if (out->room - out->length >= more)
@@ -33,7 +33,7 @@ static inline void reserve(text *out, size_t more)
         fail("no memory");
 }
 
-/* The most octets that a line has beside its user data. */
+/* The most octets of a line without its user data. */
 #define LINE 192
 
 static inline char *put(char *at, const char *word, size_t length)
@@ -69,13 +69,13 @@ static inline char *put_side(char *at, int is_right)
     return is_right ? PUT(at, "right ") : PUT(at, "left ");
 }
 
-/* ---- what a line says ---- */
+/* ---- the words of a line ---- */
 
 typedef struct line {
     const char *at, *end;
 } line;
 
-/* The next word of a line; none behind its last. */
+/* The next word of a line; none after the last one. */
 static inline int next_word(line *rest, line *word)
 {
     if (rest->at == NULL)
@@ -122,7 +122,7 @@ static inline int digit(char letter)
     return -1;
 }
 
-/* The octets of user data, in room that each line takes anew. */
+/* The octets of user data, in a buffer that each line uses again. */
 static uint8_t *data;
 static size_t data_length, data_room;
 
@@ -210,7 +210,7 @@ static char *put_opened(char *at, const osi_indication *shown)
     return at;
 }
 
-/* What a user is shown, of what these scripts bring about. */
+/* The indications that these scripts cause. */
 static void tell(text *out, int is_right, const osi_indication *shown)
 {
     reserve(out, LINE + 2 * shown->user_data.length);
@@ -250,7 +250,7 @@ static void tell(text *out, int is_right, const osi_indication *shown)
     out->length = (size_t)(at - out->at);
 }
 
-/* What was shown so far of a carry goes behind the line that tells how many octets it carried. */
+/* The indications of a carry go after the line with the number of octets that it carried. */
 static int carry(text *out, line rest)
 {
     line side, most;
@@ -393,7 +393,7 @@ static int begin(line rest)
     return osi_caller(&ends[0], &terms[0]) == OSI_OK && osi_called(&ends[1], &terms[1]) == OSI_OK;
 }
 
-/* Where the connections stand, of those phases that such a script ends in. */
+/* The states of the connections, for the phases that such a script ends in. */
 static void stand(text *out, int is_right)
 {
     static const char *const phases[] = {"", "WaitTransport", "WaitCn", "Connecting", "Answering", "Ready"};

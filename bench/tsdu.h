@@ -1,4 +1,4 @@
-/* A reader of session units by hand, into fields and borrowed slices, with all checks of the grammar. */
+/* A reader of session units written by hand, into fields and borrowed slices, with all checks of the grammar. */
 #ifndef TSDU_H
 #define TSDU_H
 #include <stddef.h>
@@ -10,7 +10,7 @@ struct slice {
     size_t length;
 };
 
-/* The places of the codes that are known: a unit has a bit for each that is there. */
+/* The places of the known codes: a unit has a bit for each that is present. */
 enum code {
     REFERENCES, ITEM, CALLED_REFERENCE, CALLING_REFERENCE, COMMON_REFERENCE, ADDITIONAL_REFERENCE, SYNC, TOKENS,
     DISCONNECT, OPTIONS, REQUIREMENTS, SIZES, VERSION, INITIAL, ENCLOSURE, SETTING, RESYNC, NUMBER, REFLECT, REASON,
@@ -129,7 +129,7 @@ static int octet_in(struct slice value, uint8_t *octet)
     return 1;
 }
 
-/* Keeps the value of a parameter; 0 where it is bad. */
+/* Keeps the value of a parameter; 0 if it is bad. */
 static int keep(struct unit *u, int place, struct slice v)
 {
     uint8_t b = 0;
@@ -182,7 +182,7 @@ static int keep(struct unit *u, int place, struct slice v)
     }
 }
 
-/* A length indicator of one or three octets, and what it counts. */
+/* A length indicator of one or three octets, and the octets that it counts. */
 static int measured(const uint8_t **at, const uint8_t *end, struct slice *value)
 {
     size_t length;
@@ -209,7 +209,7 @@ static struct failed failed(enum fault fault, unsigned code, const uint8_t *star
     return f;
 }
 
-/* The parameters of a level: of a unit where `kind` is there, else of a group. */
+/* The parameters of one level: of a unit if `kind` is given, else of a group. */
 static struct failed read_level(struct unit *u, const struct kind *kind, uint32_t known, const uint8_t *start,
                                 struct slice level)
 {
@@ -280,7 +280,7 @@ static struct failed read_unit(struct unit *u, int first, const uint8_t *start, 
 
 #define MOST_UNITS 17
 
-/* The units of a TSDU; `count` says how many there are. */
+/* The units of a TSDU; `count` is their number. */
 static struct failed read_units(struct unit units[MOST_UNITS], size_t *count, const uint8_t *octets, size_t length)
 {
     const uint8_t *at = octets, *end = octets + length;

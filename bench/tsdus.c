@@ -1,4 +1,4 @@
-/* Reads a TSDU many times and picks its fields: the proved reader beside C, in ns each. */
+/* Reads a TSDU many times and picks its fields: the proved reader compared with C, in ns each. */
 #include <stdint.h>
 #include <stdio.h>
 #include <stdlib.h>
@@ -13,7 +13,7 @@ uint64_t osi_bench_tsdus(const uint8_t *tsdu, size_t length, size_t rounds);
 #define RUNS 201
 #define DATA 1000
 
-/* What a unit is to be: its SI, the length of its user information, and two serial numbers plus 1, 0 for none. */
+/* The expected unit: its SI, the length of its user information, and two serial numbers plus 1, 0 for none. */
 struct wanted {
     unsigned si, information, number, initial;
 };
@@ -26,7 +26,7 @@ struct work {
     struct wanted units[2];
 };
 
-/* The number of what is to be seen in so many rounds, in 64 bits. */
+/* The expected sum of this many rounds, in 64 bits. */
 static uint64_t expected(const struct work *w, size_t rounds)
 {
     uint64_t sum = 1;
@@ -39,7 +39,7 @@ static uint64_t expected(const struct work *w, size_t rounds)
     return sum;
 }
 
-/* The same work by hand. */
+/* The same work in C. */
 static __attribute__((noinline)) uint64_t by_hand(const uint8_t *tsdu, size_t length, size_t rounds)
 {
     uint64_t sum = 1;
@@ -65,7 +65,7 @@ static __attribute__((noinline)) uint64_t by_hand(const uint8_t *tsdu, size_t le
 
 typedef uint64_t reader(const uint8_t *tsdu, size_t length, size_t rounds);
 
-/* Prints the best of many runs in turn, and tells whether each saw what it is to see. */
+/* Prints the best of many runs that take turns. Returns whether each had the expected sum. */
 static int report(const struct work *w)
 {
     static reader *const readers[2] = {osi_bench_tsdus, by_hand};
@@ -102,7 +102,7 @@ int main(int argc, char **argv)
     int good = 1;
     for (size_t i = 4; i < DATA; i++)
         data[i] = (uint8_t)(i * 31);
-    /* With the words `job TSDU rounds` one job runs once, to be counted; it says what it saw, so that both can be compared. */
+    /* With the words `job TSDU rounds` one job runs once, to be counted; it prints its sum, so that both can be compared. */
     if (argc == 4) {
         const struct work *w = &works[atoi(argv[2]) % 3];
         size_t rounds = strtoul(argv[3], NULL, 10);

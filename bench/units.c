@@ -1,4 +1,4 @@
-/* Reads the units of packets: the proved reader and the same work by hand, in one run. */
+/* Reads the units of packets: by the proved reader, and by the same work in C, in one run. */
 #include <stdint.h>
 #include <stdio.h>
 #include <stdlib.h>
@@ -28,7 +28,7 @@ struct unit {
     size_t user_length;
 };
 
-/* What reading came to: how many octets spell the unit, or the first fault and its offset. */
+/* The result of reading: how many octets the unit has, or the first fault and its offset. */
 struct outcome {
     enum fault fault;
     size_t at;
@@ -96,7 +96,7 @@ static inline enum fault add_parameter(struct parameters *p, unsigned code, cons
     }
 }
 
-/* The parameters that fill these octets of a unit. No `p`: none is known. */
+/* The parameters in these octets of a unit. Without `p`, none is known. */
 static inline struct outcome read_parameters(struct parameters *p, const uint8_t *unit, size_t start, size_t end)
 {
     while (start < end) {
@@ -243,7 +243,7 @@ static inline uint64_t with_parameters(const struct parameters *p)
     return sum;
 }
 
-/* Adds fields, each times a weight that tells it from others, in 64 bits. */
+/* Adds fields, each times a weight of its own, in 64 bits. */
 static inline uint64_t with_unit(uint64_t sum, const struct unit *u)
 {
     sum = sum * 31 + u->kind;
@@ -276,7 +276,7 @@ static inline uint64_t with_fault(uint64_t sum, struct outcome o)
     return sum * 31 + o.fault + 53 * o.at;
 }
 
-/* The fault of a packet, or GOOD: what `read_units` tells before it gives the units. */
+/* The fault of a packet, or GOOD: what `read_units` answers before it yields the units. */
 static inline struct outcome check_packet(const uint8_t *packet, size_t n)
 {
     struct unit u;
@@ -306,7 +306,7 @@ static inline uint64_t packet_twice(uint64_t sum, const uint8_t *packet, size_t 
     return sum;
 }
 
-/* Goes over the packet once, and forgets what it saw where a unit is bad. */
+/* Reads the packet once, and drops its sum if a unit is bad. */
 static inline uint64_t packet_once(uint64_t before, const uint8_t *packet, size_t n)
 {
     uint64_t sum = before;
@@ -346,7 +346,7 @@ __attribute__((noinline)) static uint64_t read_once(const uint8_t *packets, size
     return sum;
 }
 
-/* Packets that stand one behind the other, their lengths, and how many units they hold. */
+/* Packets one after the other, their lengths, and the number of their units. */
 struct work {
     const char *name;
     uint8_t *packets;
@@ -432,7 +432,7 @@ static void add(struct work *w, const char *octets, size_t length, size_t units)
     w->units += units;
 }
 
-/* Packets of so many octets that hold one DT of class 0. */
+/* Packets of this many octets with one DT of class 0. */
 static int fill_data(struct work *w, const char *name, size_t count, size_t length)
 {
     char packet[128] = "\x02\xF0\x80";
@@ -456,7 +456,7 @@ static int fill_mixed(struct work *w, const char *name, size_t count)
     return 1;
 }
 
-/* Changes an octet of about every second packet, to any or to one that the packet has elsewhere. */
+/* Changes an octet of about every second packet, to any value or to one that the packet has elsewhere. */
 static void spoil(struct work *w)
 {
     uint8_t *packet = w->packets;
@@ -473,7 +473,7 @@ static int same(const uint64_t answers[JOBS])
     return answers[0] == answers[1] && answers[0] == answers[2];
 }
 
-/* Whether the readers agree on packets of which many are bad. */
+/* Whether the readers agree on packets many of which are bad. */
 static int agree_on_faults(void)
 {
     struct work w;
@@ -507,8 +507,8 @@ static int fill_named(struct work *w, const char *name)
     return fill_data(w, name, 10000, (size_t)atoi(name));
 }
 
-/* With the words `job 128|6|mixed rounds` one job goes over the packets so many times, to be counted; it says how many
-   units that were. */
+/* With the words `job 128|6|mixed rounds` one job reads the packets this many times, to be counted; it prints the
+   number of units. */
 static int once(char **words)
 {
     struct work w;

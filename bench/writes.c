@@ -17,7 +17,7 @@ struct work {
     size_t length;
 };
 
-/* The number of what is to be written in so many rounds, in 64 bits: these TSDUs are in their written form. */
+/* The expected sum of this many rounds, in 64 bits: these TSDUs are in their written form. */
 static uint64_t expected(const struct work *w)
 {
     uint64_t sum = 1;
@@ -26,7 +26,7 @@ static uint64_t expected(const struct work *w)
     return sum;
 }
 
-/* Prints the best of many runs, and tells whether each wrote what it is to write. */
+/* Prints the best of many runs. Returns whether each wrote the expected octets. */
 static int report(const struct work *w)
 {
     const uint64_t wanted = expected(w);
