@@ -1,8 +1,6 @@
 //! The listing of captured octets: packets, transport units, TSDUs and session units, a line for each.
-//! What lines are made of is there for texts that tell of the same units.
 #![tactic(auto)]
 
-mod capture;
 pub mod laws;
 mod lines;
 mod listing;
@@ -10,7 +8,4 @@ mod session_lines;
 mod streams;
 mod units;
 
-pub use capture::{CaptureFault, octets_of};
-pub use lines::{push_decimal, push_number_field, push_octet, push_words};
 pub use listing::list;
-pub use session_lines::{push_session_fault_code, session_fault_name, session_fault_offset};

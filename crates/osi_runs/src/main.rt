@@ -8,8 +8,7 @@
 //! listings; behind `damaged` captures whose packets are damaged and fed to ends, of which is said how
 //! many did what they should. Behind `long` stand scripts and transcripts that are written short, as the
 //! files behind `octets` may be, behind `together` those whose events are given in one list, and behind
-//! `texts` files with the text of each fault and error, and behind `judge` captures of both sides, with what is
-//! found of each.
+//! `texts` files with the text of each fault and error.
 #![tactic(auto)]
 
 mod again;
@@ -17,7 +16,6 @@ mod asked;
 mod calls;
 mod damaged;
 mod digits;
-mod disputes;
 mod long;
 mod octets;
 mod texts;
@@ -27,7 +25,6 @@ mod ways;
 use again::{Replay, replayed};
 use damaged::runs_of;
 use digits::octets_in;
-use disputes::disputed;
 use long::written_out;
 use octets::played;
 use osi_listing::list;
@@ -54,7 +51,6 @@ enum Kind {
     Long,
     Together,
     Texts,
-    Judge,
 }
 
 impl Kind {
@@ -70,7 +66,6 @@ impl Kind {
             "long" => Some(Kind::Long),
             "together" => Some(Kind::Together),
             "texts" => Some(Kind::Texts),
-            "judge" => Some(Kind::Judge),
             _ => None,
         }
     }
@@ -82,7 +77,6 @@ impl Kind {
             Kind::Octets => "octets",
             Kind::Show | Kind::Damaged => "hex",
             Kind::Texts => "texts",
-            Kind::Judge => "disputes",
         }
     }
 
@@ -91,7 +85,7 @@ impl Kind {
         match self {
             Kind::Pair | Kind::EachWay | Kind::Again | Kind::Long => Some("transcript"),
             Kind::Show => Some("listing"),
-            Kind::Octets | Kind::Damaged | Kind::Together | Kind::Texts | Kind::Judge => None,
+            Kind::Octets | Kind::Damaged | Kind::Together | Kind::Texts => None,
         }
     }
 }
@@ -142,7 +136,6 @@ fn judged_alone(alloc: Global, kind: Kind, given: &str) -> io::Result<String> {
         Kind::Octets => judged_octets(alloc, given),
         Kind::Damaged => judged_damage(alloc, given),
         Kind::Together => judged_together(alloc, given),
-        Kind::Judge => judged_disputes(alloc, given),
         _ => judged_texts(alloc, given),
     }
 }
@@ -270,11 +263,6 @@ fn said_of_both(alloc: Global, came: &Together) -> io::Result<String> {
         Some(error) => Ok(format!(in alloc; "as one by one, up to {error}")?),
         None => words(alloc, "as one by one"),
     }
-}
-
-fn judged_disputes(alloc: Global, wanted: &str) -> io::Result<String> {
-    let came = disputed(alloc, wanted)?;
-    compared(alloc, came.as_slice(), wanted, 0)
 }
 
 fn judged_texts(alloc: Global, wanted: &str) -> io::Result<String> {
