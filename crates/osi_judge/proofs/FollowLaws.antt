@@ -62,7 +62,7 @@ since_known d c octets t mine others f e n l =
     let x = had_passed d (c ++ piece d octets) k others in
     let fresh : f.rest ≡ [] → length t.side.heard ≡ x
     = λ z. let y = ap (λ (w : List ℕ). length w) z in
-        ap (λ (w : List (List ℕ)). length w) f.heard ∙ length_heard others ∙ sym (all_had_passed d c octets k others (omega arith) (omega arith) e) in
+    ap (λ (w : List (List ℕ)). length w) f.heard ∙ length_heard others ∙ sym (all_had_passed d c octets k others (omega arith) (omega arith) e) in
     let going : 0 < length f.rest → t.line.since ≡ x
     = λ z. f.since n z ∙ sym (stays_passed d c (piece d octets) k others (omega arith)) in
     ap (λ (w : List ℕ). since_in w (length t.side.heard) t.line.since) h.0 ∙ since_case f.rest (length t.side.heard) t.line.since x fresh going
@@ -308,7 +308,7 @@ stood d c octets u t new o new_o mine others f e n packet p =
     = ap (λ (x : Stage). since_at x t.line.begun_since since) f.stage ∙ since_shown s t.line.begun_since since in
     let passes : Passes (sent_by d s at u) before t.side new.side o new_o
     = subst (λ (x : ℕ). Passes (sent_by d s at u) x t.side new.side o new_o) same_since
-        (passes_as (sent_by d t.line.stage t.line.at u) (sent_by d s at u) (since_at t.line.stage t.line.begun_since since) t.side new.side o new_o same_heard p.passes) in
+    (passes_as (sent_by d t.line.stage t.line.at u) (sent_by d s at u) (since_at t.line.stage t.line.begun_since since) t.side new.side o new_o same_heard p.passes) in
     let front : 0 < length (f.rest ++ octets) = omega arith in
     let known : since ≡ had_passed d c2 at others = since_known d c octets t mine others f e n front ∙ ap (λ (x : ℕ). had_passed d c2 x others) here in
     let before_known : before ≡ had_passed d c2 (first_of s at) others = counted d c (piece d octets) others s at t.line.begun_since since f.begun known in

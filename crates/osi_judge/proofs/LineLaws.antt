@@ -51,7 +51,7 @@ pub unit_taken : (d : Direction) (u : List ℕ) (p : Progress) (octets : List �
     → ((stop : Stop) (place : ℕ) → p ≡ Stopped stop place → ⊥) → m ≡ step_of d (is_open (stage_in p [])) (units_of u) → before ≡ since_at (stage_in p []) begun_since since
     → new ≡ record { at = at; since = kept; stage = moved (stage_in p octets) at m; begun_since = before } → Passes (brought (stage_in p octets) at u m) before w w2 o o2
     → TakesUnit d u since (record { at = at; since = kept; stage = stage_in p octets; begun_since = begun_since }) new w w2 o o2
-unit_taken d u p octets at kept begun_since since before m new w w2 o o2 n e b l h = 
+unit_taken d u p octets at kept begun_since since before m new w w2 o o2 n e b l h =
     let same = b ∙ since_front p octets begun_since since in record {
       at = ap (λ (x : Lined). x.at) l;
       stage = ap (λ (x : Lined). x.stage) l ∙ moves d u p octets at m n e;

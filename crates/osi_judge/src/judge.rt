@@ -35,22 +35,12 @@ pub struct Judge {
 }
 
 /// The side whose break passed first, by that of which more passed.
-fn first_after(
-    first: Option<Direction>,
-    direction: Direction,
-    broke: bool,
-) -> Option<Direction>
+fn first_after(first: Option<Direction>, direction: Direction, broke: bool) -> Option<Direction>
     ensures { result ≡ first_after first direction broke }
 {
     match first {
         Some(first) => Some(first),
-        None => {
-            if broke {
-                Some(direction)
-            } else {
-                None
-            }
-        }
+        None => { if broke { Some(direction) } else { None } }
     }
 }
 

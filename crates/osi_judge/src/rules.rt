@@ -127,7 +127,11 @@ fn nearer(question: &Question, best: Near, at: Member) -> Near {
         return best;
     };
     let other = Near { at, rule };
-    if is_nearer(&other, &best) { other } else { best }
+    if is_nearer(&other, &best) {
+        other
+    } else {
+        best
+    }
 }
 
 /// How far a session is that was never asked.
