@@ -1,4 +1,3 @@
-pub mod Digits
 pub mod Fields
 pub mod Joining
 pub mod Listings

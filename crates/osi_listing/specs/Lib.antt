@@ -1,4 +1,3 @@
-pub mod Capture
 pub mod Lines
 pub mod SessionLines
 pub mod Streams

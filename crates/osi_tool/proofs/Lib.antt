@@ -1,3 +1,4 @@
 pub mod Consumption
+pub mod Digits
 pub mod Names
 pub mod Writing

@@ -1,4 +1,4 @@
+pub mod Capture
 pub mod Show
 pub mod Pairing
-pub mod Judging
 pub mod Words

@@ -1,16 +1,15 @@
-//! The program `osi`, which reads captures of the OSI session protocol over TPKT, runs scripts on two
-//! ends, and says which side of a capture first broke the protocol.
+//! The program `osi`, which reads captures of the OSI session protocol over TPKT, and runs scripts on
+//! two ends.
 //!
-//! `osi show` lists the capture on standard input, `osi pair` runs the script there and prints its
-//! transcript, and `osi judge` judges the capture of both sides there. The status is 0 where all of it was
-//! read, or both sides kept the protocol. It is 1 where something was refused, a side broke the protocol,
-//! or the capture was not judged, which the text shows. It is 2 where the words, the input or its digits can't be read, a write failed, or
+//! `osi show` lists the capture on standard input, and `osi pair` runs the script there and prints its
+//! transcript. The status is 0 where all of it was read, and 1 where something was refused, which the
+//! text shows. It is 2 where the words, the input or its digits can't be read, a write failed, or
 //! memory ran out; one line on standard error then names it.
 #![tactic(auto)]
 
+mod capture;
 mod faults;
 mod jobs;
-mod judging;
 mod pairing;
 mod showing;
 #[cfg(test)]
@@ -23,7 +22,6 @@ use clap::Error;
 use clap::error::ErrorKind;
 use faults::{ProgramFault, ToolFault};
 use jobs::Job;
-use judging::judge;
 use pairing::pair;
 use showing::show;
 use std::process::ExitCode;
@@ -63,7 +61,6 @@ fn done<R: Input + Print + AllocGlobal>(rt: &R, job: Job) -> Result<u8, ProgramF
     let answer = match job {
         Job::Show => show(rt.alloc(), &mut reader, &mut writer),
         Job::Pair => pair(rt.alloc(), &mut reader, &mut writer),
-        Job::Judge => judge(rt.alloc(), &mut reader, &mut writer),
     };
     match answer {
         Ok(status) => Ok(status),

@@ -2,7 +2,6 @@
 
 use crate::faults::{ProgramFault, ToolFault};
 use crate::jobs::Job;
-use crate::judging::judge;
 use crate::pairing::pair;
 use crate::showing::show;
 use crate::texts::LONGEST_INPUT;
@@ -215,45 +214,6 @@ fn a_write_or_a_flush_fails(rt: HostRuntime) -> Result<(), Fail> {
     Ok(())
 }
 
-/// What `judge` answers.
-fn judged(alloc: Global, source: &mut Source<'_>, out: &mut Vec<u8>) -> Result<u8, ToolFault> {
-    judge(
-        alloc,
-        &mut WatchedReader::new(source),
-        &mut WatchedWriter::new(out),
-    )
-}
-
-/// `judge` writes these lines.
-fn finds(alloc: Global, text: &str, lines: &str) -> Result<(), Fail> {
-    let mut out = Vec::new(alloc);
-    has_status(judged(alloc, &mut at_once(text.as_bytes()), &mut out), 0)?;
-    is_text(out.as_slice(), lines)
-}
-
-/// `judge` writes nothing, and answers a fault of this name.
-fn judges_nothing(alloc: Global, source: &mut Source<'_>, name: &str) -> Result<(), Fail> {
-    let mut out = Vec::new(alloc);
-    has_fault(judged(alloc, source, &mut out), name)?;
-    is_text(out.as_slice(), "")
-}
-
-/// A CR with the reference 1, which nobody answered.
-const ASKED: &str = "0300000e09e00000000100c0010a";
-
-const UNANSWERED: &str = "left packets 1 octets 14 rest 0
-right packets 0 octets 0 rest 0
-left 1 unanswered
-both kept the protocol
-";
-
-#[test]
-fn a_capture_of_both_sides(rt: HostRuntime) -> Result<(), Fail> {
-    finds(rt.alloc(), ASKED, UNANSWERED)?;
-    judges_nothing(rt.alloc(), &mut broken_off(ASKED.as_bytes()), "Input")?;
-    judges_nothing(rt.alloc(), &mut at_once(b"030"), "BadHex")
-}
-
 /// Blanks, one more than the longest input.
 fn blanks(alloc: Global) -> Result<Vec<u8>, Fail> {
     let blanks = vec![in alloc; b' '; LONGEST_INPUT + 1]?;
@@ -392,7 +352,6 @@ const NO_JOBS: [(&[&str], ErrorKind); 6] = [
 fn words_name_a_job(rt: HostRuntime) {
     assert!(rt; matches!(named(rt.alloc(), &["osi", "show"]), Some(Job::Show)));
     assert!(rt; matches!(named(rt.alloc(), &["osi", "pair"]), Some(Job::Pair)));
-    assert!(rt; matches!(named(rt.alloc(), &["osi", "judge"]), Some(Job::Judge)));
     for (words, kind) in NO_JOBS {
         assert!(rt; is_refused(rt.alloc(), words, kind));
     }
