@@ -19,5 +19,5 @@ carry right 9999
 
 
 def script(turns):
-    """The lines of so many rounds, 7 and 6 for each."""
+    """The lines of this many rounds, 7 and 6 for each."""
     return OPENING + "".join(TURN % (number + 1) for number in range(turns))

@@ -1,5 +1,5 @@
 #!/usr/bin/env bash
-# Lists captures of 16 MiB of text by the proved program, beside `xxd -r -p` on the same text.
+# Lists captures of 16 MiB of text by the proved program, compared with `xxd -r -p` on the same text.
 set -eu
 cd "$(dirname "$0")/.."
 make >&2

@@ -188,7 +188,7 @@ typedef struct osi_opening {
     { OSI_HALF_DUPLEX, 0, { OSI_ASKER, OSI_ASKER, OSI_ASKER, OSI_ASKER }, \
       OSI_NO_OCTETS, OSI_NO_OCTETS, OSI_NO_OCTETS, OSI_NO_OCTETS, OSI_NO_OCTETS, 0, 0 }
 
-/* ---- what is shown -------------------------------------------------------------------------- */
+/* ---- indications ----------------------------------------------------------------------------- */
 
 /* Which indication it is (X.215 section 10), and which fields it has in addition to tag and reference. */
 #define OSI_NONE 0u                  /* none */
@@ -416,7 +416,7 @@ size_t osi_backlog(osi_end *end);
  * closing. */
 size_t osi_live(osi_end *end);
 
-/* ---- indications ----------------------------------------------------------------------------------- */
+/* ---- fetching indications -------------------------------------------------------------------------- */
 
 /* Fetches the oldest indication of the connection with the lowest reference that has one. It allocates
  * nothing. OSI_OK, OSI_NOTHING (none is pending, and the last one is forgotten), OSI_SLOT_EMPTY. */

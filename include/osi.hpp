@@ -350,7 +350,7 @@ struct opening {
     tsdu_sizes sizes;                /* the sizes that you ask for */
 };
 
-/* ---- what is shown ----------------------------------------------------------------------------------- */
+/* ---- indications ------------------------------------------------------------------------------------- */
 
 /* Which indication it is (X.215 section 10), and which fields it has in addition to its reference. */
 enum class tag : std::uint32_t {

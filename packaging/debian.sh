@@ -6,7 +6,7 @@ libdir=/usr/lib/x86_64-linux-gnu
 # The newest version of the C library that a file asks for.
 libc_of() { objdump -T "$1" | grep -o 'GLIBC_[0-9.]*' | cut -d _ -f 2 | sort -Vu | tail -n 1; }
 
-# What each package has beside its own files: the licences, by their name where Debian has them, and both lists of changes.
+# What each package has in addition to its own files: the licences, by name if Debian has them, and both lists of changes.
 documents() {
     local folder=$room/$1/usr/share/doc/$1
     mkdir -p "$folder"

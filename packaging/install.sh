@@ -34,7 +34,7 @@ END
         files | while IFS= read -r file; do
             rm -f "$root/$file"
         done
-        # What pip left beside the package that it read goes too.
+        # Also removes what pip left next to the package that it read.
         rm -rf "$root/share/osi-session" "$root/share/osi"
         rmdir "$root/lib/cmake/osi-session" 2>/dev/null || true
         ;;

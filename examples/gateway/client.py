@@ -1,6 +1,8 @@
 #!/usr/bin/env python3
-"""The calling side of client.c, over ctypes: it sends messages with a minor point behind each, whose
-confirmation it awaits, gives the tokens and accepts the release.
+"""The calling side of client.c, over ctypes.
+
+It sends messages, sets a minor point after each and waits for its confirmation; then it gives the tokens and accepts
+the release.
 
     client.py --library build/libosi-session.so [--port 4000] [--classes 0|2|20] [--tsdu OCTETS] [--wait SECONDS]
               [--messages 5] [--log FILE]

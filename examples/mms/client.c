@@ -34,7 +34,7 @@ struct asking {
     struct selector called_tsap, calling_tsap, called_ssel, calling_ssel, called_psel, calling_psel;
 };
 
-/* How many requests there are to be: the jobs, or so many reads of the last one. */
+/* How many requests to send: the jobs, or this many reads of the last one. */
 static size_t total(const struct asking *a)
 {
     return a->reads > 0 ? a->reads : a->jobs.count;
@@ -48,7 +48,7 @@ static void fails(struct asking *a, enum outcome outcome, const char *why)
     fprintf(stderr, "client: %s, after %zu answers\n", why, a->answered);
 }
 
-/* Aborts. What can't be aborted, as for want of memory, is broken. */
+/* Aborts. If that fails, for example because memory ran out, breaks the connection. */
 static void abort_it(struct asking *a)
 {
     struct room room;
@@ -92,7 +92,7 @@ static void go_on(struct asking *a)
     send_mms(a, &w);
 }
 
-/* ---- what the client is shown */
+/* ---- indications of the client */
 
 static void is_connected(struct asking *a, const osi_indication *i)
 {
@@ -253,7 +253,7 @@ static bool associate(struct asking *a, const char *host, unsigned long port, co
     return is_open;
 }
 
-/* Associations, until all is answered: after a loss the next one goes on behind the last answer. */
+/* Associations, until everything is answered: after a loss the next one goes on after the last answer. */
 static int run(struct asking *a, const char *host, unsigned long port, const osi_terms *terms, const char *capture)
 {
     for (unsigned long left = a->again;; left--) {

@@ -1,6 +1,8 @@
 #!/usr/bin/env python3
-"""The called side of a gateway over asyncio: for many peers at once it accepts what is asked for, confirms each point,
-answers when it is given the tokens, and releases the connection.
+"""The called side of a gateway over asyncio, for many peers at once.
+
+It accepts each connection that a peer asks for, confirms each point, answers after it has received the tokens, and releases
+the connection.
 
     server.py [--port 4000] [--peers COUNT] [--classes 0|2|20] [--window 1..15] [--tsdu OCTETS] [--wait SECONDS]
               [--log FILE]

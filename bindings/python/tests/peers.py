@@ -1,4 +1,4 @@
-"""Peers for tests of lines: one that misbehaves as it is told, and certificates for TLS."""
+"""Peers for tests of lines: one that misbehaves on request, and certificates for TLS."""
 import asyncio
 import os
 import shutil
@@ -38,7 +38,7 @@ def is_ack(packet, reference=None):
 
 
 class Peer:
-    """An end over the streams of asyncio. It keeps what it is shown, and sends no packet that ``holds_back`` names."""
+    """An end over the streams of asyncio. It keeps its indications, and sends no packet that ``holds_back`` names."""
 
     def __init__(self, end, reader, writer):
         self.end, self.reader, self.writer = end, reader, writer
@@ -75,7 +75,7 @@ class Peer:
             await asyncio.wait_for(self.came.wait(), LONGEST)
 
     async def expect(self, kind, count=1):
-        """Waits until so many indications of this kind were shown, and gives the last."""
+        """Waits until this many indications of this kind have come, and returns the last."""
         await self.until(lambda: len(self.of(kind)) >= count)
         return self.of(kind)[-1]
 

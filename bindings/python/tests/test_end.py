@@ -58,7 +58,7 @@ ASKED = Opening(ALL_UNITS, 1, Sides(), b"here", b"there", b"caller", b"called", 
 
 
 def carry(source, to, piece=7):
-    """Carries what one end sends to the other, in pieces of so many octets; and what was shown."""
+    """Carries the outgoing octets of one end to the other, in pieces of this size, and returns the indications."""
     shown = []
     while source.outgoing_length() > 0:
         octets = source.outgoing(piece)

@@ -15,7 +15,7 @@ TOP = os.path.dirname(os.path.dirname(os.path.dirname(os.path.dirname(os.path.ab
 HEADER, PROGRAM = os.path.join(TOP, "include", "osi.h"), os.path.join(TOP, "bindings", "layout.c")
 CC = os.environ.get("CC", "cc")
 
-# How each enumeration is written in osi.h: what stands before the names of its members.
+# The prefix that the members of each enumeration have in osi.h.
 PREFIXES = {
     osi_session.Code: "OSI_",
     osi_session.Classes: "OSI_",

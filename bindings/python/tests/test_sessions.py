@@ -494,7 +494,7 @@ class Bounds(Case):
         await peer.close()
 
     async def test_what_waits_for_credit_is_disconnected(self):
-        """Where an end can disconnect: behind an abort that waits for credit, and not behind one that goes at once."""
+        """When an end can disconnect: after an abort that waits for credit, and not after one that leaves at once."""
         told, aborted = [], []
 
         class Disconnecting(End):

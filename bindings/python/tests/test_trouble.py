@@ -138,7 +138,7 @@ class Draining(Case):
 
 class Closing(Case):
     async def sent(self, terms, messages, size, server_ssl=None, **options):
-        """What a server has when the client leaves its block, behind so many messages."""
+        """What a server has received when the client leaves its block after this many messages."""
         came, done = [], asyncio.Event()
 
         async def keep(line):
@@ -265,7 +265,7 @@ class Aborting(Case):
         await peer.expect(Connected, 1)
         second = peer.end.connect(Opening(HALF))
         await peer.expect(Connected, 2)
-        # Both go in one write, so the server is fed the abort before its user is shown the point.
+        # Both go in one write, so the server is fed the abort before its user fetches the point.
         peer.end.minor(first)
         peer.end.abort(first)
         peer.flush()

@@ -42,7 +42,7 @@ struct Pair {
     of: Reference,
 }
 
-/// Carries what one end sends to the other, in pieces of seven octets, and gives what is shown.
+/// Carries the outgoing octets of one end to the other, in pieces of seven octets, and returns the indications.
 fn carry_one(from: &mut End, to: &mut End) -> Shown {
     let mut all = Vec::new();
     while !from.outgoing().is_empty() {
@@ -64,7 +64,7 @@ impl Pair {
         Pair { caller, called: End::called(called).unwrap(), of: Reference::new(1) }
     }
 
-    /// Carries both ways until nothing is left: what the caller is shown, and what the called end is.
+    /// Carries in both directions until nothing is left. Returns the indications of the caller and of the called end.
     fn carry(&mut self) -> (Shown, Shown) {
         let (mut by_caller, mut by_called) = (Vec::new(), Vec::new());
         for _ in 0..3 {
@@ -74,7 +74,7 @@ impl Pair {
         (by_caller, by_called)
     }
 
-    /// The one thing that the caller is shown, and the called end nothing.
+    /// The one indication of the caller, if the called end has none.
     fn by_caller(&mut self) -> Owned {
         let (mut by_caller, by_called) = self.carry();
         assert_eq!((by_caller.len(), by_called.len()), (1, 0), "{by_caller:?} {by_called:?}");

@@ -297,8 +297,8 @@ class End:
             used += self._feed(at + used, len(octets) - used).used
 
     def outgoing(self, most: Optional[int] = None) -> bytes:
-        """A copy of the octets to send to the peer, in their order, or of the first so many of them. They stay
-        until ``taken`` says that you have sent them. No octets if the end is closed."""
+        """A copy of the octets to send to the peer, in their order, or of at most ``most`` of them, from the
+        first. They stay until ``taken`` says that you have sent them. No octets if the end is closed."""
         octets = Octets()
         with self._lock:
             self._osi.osi_outgoing(byref(self._slot), byref(octets))

@@ -9,7 +9,7 @@ use std::mem::{align_of, offset_of, size_of};
 use std::path::Path;
 use std::process::Command;
 
-/// What `layout.c` prints: the numbers behind each name. None where there is no C compiler.
+/// The output of `layout.c`: the numbers after each name. `None` if there is no C compiler.
 fn layout(test: &str) -> Option<BTreeMap<String, Vec<usize>>> {
     let bindings = Path::new(env!("CARGO_MANIFEST_DIR")).parent()?;
     let source = bindings.join("layout.c");
