@@ -2,7 +2,7 @@
  * each. The tests of the bindings compare these lines with their own declarations.
  *
  *     struct osi_terms 3 1           its size and its alignment
- *     field osi_terms.size 1 1       where it begins, and its size
+ *     field osi_terms.size 1 1       its offset, and its size
  *     value OSI_SLOT_EMPTY 1
  */
 #include "osi.h"

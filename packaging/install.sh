@@ -1,5 +1,5 @@
 #!/bin/sh
-# Puts what is in this folder where a system looks for it; it needs nothing but a shell.
+# Installs the files of this folder in the places of the system; it needs only a shell.
 #
 #   PREFIX=$HOME/osi ./install.sh     program, library, headers, manual and bindings, below PREFIX (/usr/local)
 #   PREFIX=.. ./install.sh --remove   takes them away

@@ -23,7 +23,7 @@ def listing(octets):
 
 
 def tshark_version():
-    """As the first line of a .tshark file has it; None where there is no tshark."""
+    """As the first line of a .tshark file has it; None if there is no tshark."""
     if not shutil.which("tshark"):
         return None
     return "# tshark " + re.search(r"\d+(\.\d+)+", peers.run(["tshark", "--version"]).stdout).group()

@@ -26,7 +26,7 @@ class Fault(Exception):
 # ---- session units
 
 def item(octets, at, end):
-    """Code, value's place and end of the parameter or unit at a place; None where its length passes the end."""
+    """Code, value's place and end of the parameter or unit at a place; None if its length passes the end."""
     if at + 1 >= end:
         return None
     length, begin = octets[at + 1], at + 2
@@ -38,7 +38,7 @@ def item(octets, at, end):
 
 
 def value(code, octets):
-    """As it is written; None where it is no value of this code."""
+    """As it is written; None if it is no value of this code."""
     one = len(octets) == 1
     if code in (15, 16):
         return bytes([octets[0] & (0x01 if code == 15 else 0x55)]) if one else None

@@ -95,7 +95,7 @@ def client(port, *words, host="127.0.0.1", longest=LONGEST):
 
 
 def run(words, longest=LONGEST, **more):
-    """Status and output of a program; status None where it had to be killed."""
+    """Status and output of a program; status None if it had to be killed."""
     made = subprocess.Popen(words, stdout=subprocess.PIPE, stderr=subprocess.PIPE, stdin=subprocess.DEVNULL, text=True,
                             errors="replace", start_new_session=True, **more)
     try:
@@ -139,7 +139,7 @@ def processor_time(process):
 
 
 def version(package):
-    """The version of a package of Debian, or None where it is not installed."""
+    """The version of a package of Debian, or None if it is not installed."""
     if not shutil.which("dpkg-query"):
         return None
     done = run(["dpkg-query", "-W", "-f", "${db:Status-Status} ${Version}", package])

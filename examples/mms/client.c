@@ -233,7 +233,7 @@ static void carry(struct asking *a)
     }
 }
 
-/* One association, from the connection to its end. False where there is no connection, or no file. */
+/* One association, from the connection to its end. False if there is no connection, or no file. */
 static bool associate(struct asking *a, const char *host, unsigned long port, const osi_terms *terms, const char *capture)
 {
     const struct link fresh = {.end = OSI_END, .socket = -1, .shown = shown, .user = a};

@@ -63,7 +63,7 @@ void jobs_put(const struct job *job, uint32_t invoke, struct ber_writer *w)
         mms_put_name_list(w, invoke, job->kind == DOMAINS ? MMS_DOMAIN : MMS_NAMED_VARIABLE, job->name.domain, job->after);
 }
 
-/* ---- what came */
+/* ---- answers */
 
 static void print_job(const struct job *job)
 {
@@ -88,7 +88,7 @@ static void print_identity(struct ber body)
     putchar('\n');
 }
 
-/* The names of a list. In a walk each is asked for, and the rest of the list where there is one. */
+/* The names of a list. A walk asks for each, and for the rest of the list if there is more. */
 static void print_names(struct jobs *jobs, const struct job job, struct ber body)
 {
     struct ber list = {NULL, 0, false}, part;

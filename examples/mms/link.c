@@ -1,4 +1,4 @@
-/* One end over a TCP socket that never waits. */
+/* One end over a TCP socket that never blocks. */
 #define _POSIX_C_SOURCE 200809L
 #include "link.h"
 
@@ -34,7 +34,7 @@ static size_t outgoing_length(struct link *l)
     return octets.length;
 }
 
-/* Fetches all that waits. */
+/* Fetches all pending indications. */
 static void show_all(struct link *l)
 {
     osi_indication shown;
@@ -65,7 +65,7 @@ static void feed_all(struct link *l, const uint8_t *piece, size_t length)
     }
 }
 
-/* Takes the line of the PROXY protocol, version 1, off what comes, and answers how many octets it took.
+/* Takes the line of the PROXY protocol, version 1, off the received octets, and answers how many it took.
  * A peer that sends another line, or one that does not end, is given up. */
 static size_t take_proxy_line(struct link *l, const uint8_t *piece, size_t length)
 {

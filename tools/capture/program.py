@@ -122,7 +122,7 @@ def told(number, line):
 
 
 def data_line(line):
-    """A line with the data that another tells, where it tells any."""
+    """A line with the data of another line, if that has any."""
     return () if line.data is None else (listing.Line(line.side, line.frame, line.time, line.packet, f"      {line.data.hex()}"),)
 
 
@@ -164,7 +164,7 @@ def write_all(files):
 
 
 def join(asked):
-    """Writes a pcap of NAME.follow, or of NAME.left and NAME.right where there is none."""
+    """Writes a pcap of NAME.follow, or of NAME.left and NAME.right if there is none."""
     pieces = [(time or 0.0, side, octets) for _, time, side, octets in texts.of_sides(asked.file)]
     if not any(streams.is_packet(octets) for _, _, octets in pieces):
         raise BadInput(f"{asked.file}: there is no TPKT packet in it")

@@ -47,7 +47,7 @@ class Direction:
                 yield octets
 
     def known(self, start):
-        """How many octets from a sequence number on have passed already; negative where it lies ahead."""
+        """How many octets from a sequence number on have passed already; negative if it lies ahead."""
         return (self.next - start + SPACE // 2) % SPACE - SPACE // 2
 
     def lost(self):

@@ -53,7 +53,7 @@ def parts_of(text, name):
 
 
 def of_sides(name):
-    """Both sides of NAME: of NAME.follow, or of NAME.left and NAME.right where there is none."""
+    """Both sides of NAME: of NAME.follow, or of NAME.left and NAME.right if there is none."""
     follow = f"{name}.follow"
     if os.path.exists(follow):
         return parts_of(text_of(follow), follow)
@@ -74,7 +74,7 @@ def is_text(path):
 
 
 def read(name):
-    """What a name means: a text with one side or both, or NAME of which `split` wrote files. None where it is no text."""
+    """What a name means: a text with one side or both, or NAME of which `split` wrote files. None if it is no text."""
     if not os.path.exists(name) and any(os.path.exists(f"{name}.{end}") for end in ("follow", "left")):
         return Text(of_sides(name))
     if not os.path.isfile(name) or not is_text(name):

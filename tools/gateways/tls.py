@@ -8,7 +8,7 @@ CERTIFICATES = os.path.join(os.path.dirname(__file__), "..", "..", "examples", "
 
 
 def build(compiler, words, to, missing):
-    """Compiles the example; where the headers of OpenSSL 3 or its program are not there, that is said."""
+    """Compiles the example, or says that the headers of OpenSSL 3 or its program are missing."""
     probe = "#include <openssl/ssl.h>\n#if OPENSSL_VERSION_NUMBER < 0x30000000L\n#error\n#endif\n"
     found = subprocess.run([compiler, "-fsyntax-only", "-x", "c", "-"], input=probe, text=True, capture_output=True)
     if found.returncode != 0 or not shutil.which("openssl"):

@@ -43,7 +43,7 @@ def behind_a_token_item(*parameters):
 
 
 def tsdu_length(name, fields):
-    """How many octets the TSDU of a call has, or None where a field that decides it is not known."""
+    """How many octets the TSDU of a call has, or None if a field that decides it is not known."""
     data = fields.get("data")
     octets = None if data is None else 0 if data == "-" else len(data) // 2
     try:
@@ -53,7 +53,7 @@ def tsdu_length(name, fields):
 
 
 def smaller(size, answer):
-    """The size of TSDUs for one direction, of a CN's and the answerer's: 0 where the CN has none (X.225 6.3)."""
+    """The size of TSDUs for one direction, of a CN's and the answerer's: 0 if the CN has none (X.225 6.3)."""
     asked, answered = int(size or 0), int(answer or 0)
     return min(asked, answered) if asked and answered else asked
 
@@ -94,9 +94,9 @@ WRITTEN = {
 
 
 def parts(tsdu, link_class, limit):
-    """The lengths of the packets of a TSDU, or None where they are not told.
+    """The lengths of the packets of a TSDU, or None if they are not told.
 
-    `limit` is how many octets of a TSDU a data unit has at most, or None where that is not known."""
+    `limit` is how many octets of a TSDU a data unit has at most, or None if that is not known."""
     if tsdu is None or link_class not in DATA_UNIT:
         return None
     if limit is None and tsdu > SMALLEST_LIMIT:

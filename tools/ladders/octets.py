@@ -16,7 +16,7 @@ class Message:
 
 
 class Run:
-    """The octets of a message that were written at one line: `length` is None where it is not known."""
+    """The octets of a message that were written at one line: `length` is None if it is not known."""
 
     __slots__ = ("message", "line", "length", "passed")
 

@@ -99,7 +99,7 @@ class Wire:
         return messages[-1]
 
     def most(self, side, connection):
-        """The most octets of a TSDU that a side sends, once the CN is answered; 0 where nothing limits it."""
+        """The most octets of a TSDU that a side sends, once the CN is answered; 0 if nothing limits it."""
         return self.agreed_sizes.get(connection, {}).get("asker" if side == "left" else "answerer", 0)
 
     def flush(self, side, connection, line):
