@@ -90,17 +90,18 @@ static unsigned release(void)
     return good;
 }
 
-static void open_one(bool class_two)
+static bool open_one(bool class_two)
 {
     osi_terms terms = {class_two ? OSI_CLASS_2 : OSI_CLASS_0, 13, 15};
     osi_opening asked = OSI_OPENING;
     asked.requirements = UNITS;
-    osi_caller(&caller, &terms);
-    osi_called(&called, &terms);
-    osi_connect(&caller, &asked, &reference);
+    if (osi_caller(&caller, &terms) || osi_called(&called, &terms) || osi_connect(&caller, &asked, &reference))
+        return false;
     exchange();
-    osi_accept(&called, reference, UNITS, 0, &all_to_asker, OSI_NO_DATA);
+    if (osi_accept(&called, reference, UNITS, 0, &all_to_asker, OSI_NO_DATA))
+        return false;
     exchange();
+    return true;
 }
 
 int main(int count, char **words)
@@ -111,7 +112,8 @@ int main(int count, char **words)
     } kinds[] = {{"give", give}, {"ask", ask}, {"point", point}, {"restart", restart}, {"release", release}};
     if (count < 5)
         return 2;
-    open_one(atoi(words[3]) == 2);
+    if (!open_one(atoi(words[3]) == 2))
+        return 1;
     uint64_t rounds = strtoull(words[4], NULL, 10), sent = 0, before = shown_units;
     for (size_t kind = 0; kind < sizeof kinds / sizeof *kinds; kind++)
         for (uint64_t i = 0; i < rounds && strcmp(words[2], kinds[kind].name) == 0; i++)
