@@ -6,6 +6,8 @@ once. Octets that the capture does not have leave a gap, and behind a gap nothin
 SPACE = 2 ** 32
 SIDES = ("left", "right")
 CONNECT_REQUEST = 0xE0
+# What stands for a direction in which nothing was sent: the front of a packet.
+FRONT = b"\3\0\0\7"
 
 
 class Piece:
@@ -21,12 +23,13 @@ class Direction:
     """One direction of a TCP connection."""
 
     def __init__(self):
-        self.next, self.count, self.waiting = None, 0, {}
+        self.next, self.count, self.waiting, self.has_first = None, 0, {}, False
 
     def take(self, segment):
         """The octets that have passed with this segment, or none."""
         start = (segment.sequence + segment.is_first) % SPACE
         self.next = start if self.next is None else self.next
+        self.has_first = self.has_first or segment.is_first
         if len(segment.octets) > len(self.waiting.get(start, b"")):
             self.waiting[start] = segment.octets
         passed = b"".join(self.in_order())
@@ -86,8 +89,8 @@ class Stream:
         lost = sum(direction.lost() for direction in self.directions.values())
         if lost:
             return f"lost segments: {lost} octets or more are not in the capture"
-        sent = [octets for octets in map(self.octets, self.ends) if octets]
-        return None if self.caller() is not None and all(map(is_packet, sent)) else "begins in the middle"
+        whole = all(self.directions[end].has_first or is_packet(self.octets(end) or FRONT) for end in self.ends)
+        return None if self.caller() is not None and whole else "begins in the middle"
 
     def by_side(self):
         """The pieces, each with its side: left is the caller."""

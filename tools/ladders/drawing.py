@@ -2,7 +2,7 @@
 from bisect import bisect_left
 from xml.sax.saxutils import escape
 
-from .style import STYLE, PALETTE
+from .style import STYLE, VERDICT, PALETTE
 from .picture import cut, wrapped
 
 TEXT, LETTER, LINE_HEIGHT, TOP = 270, 7.25, 15, 76
@@ -36,7 +36,9 @@ class Page:
         self.top, self.bottom = TOP - 6, place + 6
         self.order = sorted(self.at)
         self.notes = [part for note in self.picture.notes for part in wrapped(note, 128, 3)]
-        self.height = self.bottom + 28 + 16 * (len(self.picture.key) + len(self.notes))
+        self.box = [part for text in self.picture.verdict for part in wrapped(text, 116, 3)]
+        self.below = self.bottom + (18 * len(self.box) + 26 if self.box else 0)
+        self.height = self.below + 28 + 16 * (len(self.picture.key) + len(self.notes))
 
     def y(self, index):
         """The height of a line; of one that is not shown that of the next which is, or an edge."""
@@ -61,7 +63,7 @@ class Page:
         return min(max(x, left), right)
 
     def colour(self, connection):
-        """The classes of a connection: its colour, and a dash where colours come again."""
+        """The classes of a connection: its colour, and a dash if colours come again."""
         place = self.place.get(connection, 0)
         return f"c{place % PALETTE}" + (f" s{min(place // PALETTE, 3)}" if place >= PALETTE else "")
 
@@ -91,6 +93,8 @@ def draw(picture, first=0, last=10 ** 12, progress=None):
     for row in page.rows:
         if row.mark == "broken":
             draw_break(page, row)
+        elif row.mark == "refused" and picture.verdict:
+            page.add(f'<rect class="wrong" x="8" y="{page.at[row.index] - 9}" width="{page.width - 16}" height="18"/>')
     shown = [arrow for arrow in picture.arrows if arrow.end >= first and arrow.start <= last]
     labels = [draw_arrow(page, arrow) for arrow in sorted(shown, key=lambda arrow: arrow.minor)]
     page.parts.extend(labels)
@@ -111,7 +115,7 @@ def head(page):
              f'aria-describedby="description">')
     page.add(f'<title id="title">{escape(picture.title)}</title>')
     page.add(f'<desc id="description">{escape(picture.description)}</desc>')
-    page.add(STYLE)
+    page.add(STYLE + (VERDICT if picture.verdict else ""))
     page.add(f'<rect class="paper" width="{page.width}" height="{page.height}"/>')
     page.add(f'<text class="head" x="{middle}" y="24" text-anchor="middle">{escape(cut(picture.title, 112))}</text>')
     page.add(f'<text class="head" x="{TEXT}" y="50" text-anchor="end">left: the caller</text>')
@@ -174,7 +178,7 @@ def draw_arrow(page, arrow):
     if arrow.stop == "dropped":
         x1 -= 14 if way > 0 else -14
     kind = "plain" if arrow.connection is None else page.colour(arrow.connection)
-    kind += (" minor" if arrow.minor else "") + (" open" if arrow.stop == "open" else "")
+    kind += (" minor" if arrow.minor else "") + (" open" if arrow.stop == "open" else "") + (" wrong" if arrow.wrong else "")
     parts = [f'<g class="arrow {kind}"><title>{escape(arrow.whole)}</title>'
              f'<path class="shaft" d="M{x0:.1f} {y0}L{x1:.1f} {y1}"/>', tip(x0, y0, x1, y1, arrow.stop), "</g>"]
     page.add("".join(parts))
@@ -245,10 +249,22 @@ def mark_of(page, row, y):
     return f'<circle class="{"call" if row.mark == "call" else "seen"} {colour}" cx="{x}" cy="{y}" r="4"/>'
 
 
+def draw_box(page):
+    """The verdict in a box; its first line is the answer."""
+    if not page.box:
+        return
+    page.add(f'<rect class="box{" bad" if page.picture.is_wrong else ""}" x="16" y="{page.bottom + 10}" width="{page.width - 32}" '
+             f'height="{18 * len(page.box) + 10}" rx="4"/>')
+    for place, text in enumerate(page.box):
+        kind = "verdict" if place else "head"
+        page.add(f'<text class="{kind}" x="28" y="{page.bottom + 29 + 18 * place}">{escape(text)}</text>')
+
+
 def foot(page):
-    """The key, and what has to be said about the picture."""
+    """The verdict, the key, and what has to be said about the picture."""
+    draw_box(page)
     key = page.picture.key
     for place, text in enumerate(key):
-        page.add(f'<text class="key" x="16" y="{page.bottom + 26 + 16 * place}">{text}</text>')
+        page.add(f'<text class="key" x="16" y="{page.below + 26 + 16 * place}">{text}</text>')
     for place, text in enumerate(page.notes):
-        page.add(f'<text class="key" x="16" y="{page.bottom + 26 + 16 * (len(key) + place)}">{escape(text)}</text>')
+        page.add(f'<text class="key" x="16" y="{page.below + 26 + 16 * (len(key) + place)}">{escape(text)}</text>')

@@ -10,10 +10,10 @@ ENDINGS = ("Released", "Refused", "Aborted", "ProviderAbort")
 class Band:
     """A token that an end holds, from one line up to another."""
 
-    __slots__ = ("side", "connection", "token", "start", "end")
+    __slots__ = ("side", "connection", "token", "start", "end", "since")
 
-    def __init__(self, side, connection, token, start):
-        self.side, self.connection, self.token, self.start, self.end = side, connection, token, start, None
+    def __init__(self, side, connection, token, start, since=None):
+        self.side, self.connection, self.token, self.start, self.end, self.since = side, connection, token, start, None, since
 
 
 class History:

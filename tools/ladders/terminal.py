@@ -23,9 +23,17 @@ def draw(picture, first=0, last=10 ** 12, columns=100, progress=None):
             out.append(one_row(row, arrows.get(row.index, []), tokens, side, middle))
         if progress:
             progress(row.index, picture.rows[-1].index + 1)
+    out += box(picture.verdict, columns)
     for note in picture.notes:
         out += wrapped(note, columns, 9)
     return "\n".join(line.rstrip() for line in out) + "\n"
+
+
+def box(verdict, columns):
+    """The verdict in a box, if there is one."""
+    rows = [part for text in verdict for part in wrapped(text, columns - 4, 9)]
+    edge = "+" + "-" * (columns - 2) + "+"
+    return [edge, *(f"| {row:{columns - 4}} |" for row in rows), edge] if rows else []
 
 
 def holding(picture):
@@ -60,7 +68,7 @@ def one_row(row, arrows, tokens, side, middle):
     """A row of the terminal."""
     signs = {"left": "|", "right": "|"}
     texts = {"left": "", "right": ""}
-    across = crossing(row, arrows, middle) if row.mark == "carried" else ""
+    across = crossing(row, arrows, middle) if row.side else ""
     if row.side:
         sign = SIGNS.get(row.mark, "|")
         signs[row.side] = sign if sign != " " else "|"
