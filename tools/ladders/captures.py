@@ -217,7 +217,8 @@ def notes_of(missing, broken):
         notes.append(f"{missing} packet{'s' * (missing > 1)} answer{'s' * (missing == 1)} something that is not in the "
                      "capture of the other side.")
     if broken:
-        notes.append(f"{broken} packet{'s' * (broken > 1)} come{'s' * (broken == 1)} before what {'it' if broken == 1 else 'they'} must follow: "
+        one = broken == 1
+        notes.append(f"{broken} packet{'s' * (not one)} come{'s' * one} before what {'it' if one else 'they'} must follow: "
                      "the captures contradict each other.")
     return notes
 

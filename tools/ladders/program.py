@@ -34,7 +34,8 @@ def words():
                         "nothing")
     parser.add_argument("--connection", type=int, action="append", metavar="N",
                         help="show this connection (and others so named)")
-    parser.add_argument("--from", dest="first", type=int, default=1, metavar="LINE", help="the first line to show; with --judge the first packet")
+    parser.add_argument("--from", dest="first", type=int, default=1, metavar="LINE",
+                        help="the first line to show; with --judge the first packet")
     parser.add_argument("--to", dest="last", type=int, default=10 ** 9, metavar="LINE", help="the last line to show")
     parser.add_argument("--text", action="store_true", help="draw in the columns of a terminal")
     parser.add_argument("--columns", type=int, default=100, metavar="N", help="so many columns (100; at least 60)")

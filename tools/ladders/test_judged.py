@@ -162,7 +162,8 @@ class Pictures(unittest.TestCase):
                     "right": "packet 0 length 14 code d0\nrest 0\n"}
         steps = judged.steps_of(pieces, listings)
         self.assertEqual([(step.side, step.start) for step in steps], [("left", 0), ("right", 0), ("left", 14)])
-        self.assertEqual([[len(it.octets) for it in judged.up_to(pieces, steps, place)] for place in range(3)], [[14], [16, 14], [16, 14, 9]])
+        kept = [[len(it.octets) for it in judged.up_to(pieces, steps, place)] for place in range(3)]
+        self.assertEqual(kept, [[14], [16, 14], [16, 14, 9]])
 
     def test_octets_that_are_no_packet_are_a_row(self):
         text = "0300000e09e00000000100c0010a\n\t0300000e09d00001000100c0010a\n04000007\n"
@@ -203,9 +204,14 @@ class Reading(unittest.TestCase):
     def test_other_verdicts_have_theirs(self):
         for last, wanted in (("not judged: the connection is not of class 0", "Not judged: the connection is not of class 0."),
                              ("both kept the protocol", "Both sides kept the protocol."),
-                             ("left leaves the profile first, packet 41: TSDU Outside", "Left left the profile first, in its packet 41.")):
+                             ("left leaves the profile first, packet 41: TSDU Outside", "Left was the first to leave the profile, in its packet 41.")):
             text = "left 1 leaves packet 41 TSDU Outside\n" * last.startswith("left") + last + "\n"
             self.assertEqual(verdicts.box(verdicts.read(text)[0])[0], wanted)
+
+    def test_tokens_that_came_together_are_told_together(self):
+        found = {"data": "right's packet 14", "minor": "right's packet 14", "major": None, "release": "left's packet 41"}
+        self.assertEqual(list(verdicts.together(found)), [("data and minor tokens were", "right's packet 14"),
+                                                          ("release token was", "left's packet 41")])
 
     def test_a_later_break_is_told_last(self):
         text = ("left 1 broke packet 68 Data Ended\nleft 1 knew 2 of 2 phase Aborting held 00 next 0 below 0 lowest 0\n"

@@ -17,7 +17,8 @@ LINES = {name: re.compile(text) for name, text in (
     ("stopped", r"(?P<side>left|right) broke " + PLACE),
     ("without", OWN + r"(?P<why>refused|unanswered|too many)"))}
 LAST = re.compile(r"both kept the protocol|not judged: (?P<why>.+)"
-                  r"|(?P<first>left|right) (?P<did>broke the protocol|leaves the profile) first, packet (?P<offset>\d+): (?P<what>\w+) (?P<rule>\w+)")
+                  r"|(?P<first>left|right) (?P<did>broke the protocol|leaves the profile) first, "
+                  r"packet (?P<offset>\d+): (?P<what>\w+) (?P<rule>\w+)")
 # What a side sent, by the call that sends such a unit.
 SENT = {"Connect": "a connect request (CN)", "Accept": "an acceptance (AC)", "Refuse": "a refusal (RF)", "Data": "data (DT)",
         "Give": "tokens (GT)", "Please": "a request for tokens (PT)", "Minor": "a minor synchronization point (MIP)",
@@ -25,8 +26,8 @@ SENT = {"Connect": "a connect request (CN)", "Accept": "an acceptance (AC)", "Re
         "MajorConfirm": "the confirmation of a major point (MAA)", "Restart": "a restart (RS)",
         "RestartConfirm": "the answer to a restart (RA)", "Release": "a request for the release (FN)",
         "ReleaseAccept": "the agreement to a release (DN)", "ReleaseRefuse": "the refusal of a release (NF)",
-        "Abort": "an abort (AB)", "AbortAccept": "the answer to an abort (AA)", "TSDU": "a TSDU", "TPKT": "octets", "TPDU": "a transport unit",
-        "DT": "a data unit of transport", "DR": "a disconnect request (DR)"}
+        "Abort": "an abort (AB)", "AbortAccept": "the answer to an abort (AA)", "TSDU": "a TSDU", "TPKT": "octets",
+        "TPDU": "a transport unit", "DT": "a data unit of transport", "DR": "a disconnect request (DR)"}
 # Why that was wrong; `{..}` is filled from the state of the side.
 REASONS = {"BadState": "a session may not send that in the phase {phase}", "Ended": "its connection had ended",
            "NotSelected": "that needs a functional unit or a token that isn't selected", "Empty": "it has nothing in it",
@@ -121,7 +122,7 @@ def sentence(verdict):
     """The last line as a sentence."""
     if verdict.first is None:
         return "Both sides kept the protocol." if verdict.last["why"] is None else f"Not judged: {verdict.last['why']}."
-    did = "broke the protocol first" if verdict.last["did"].startswith("broke") else "left the profile first"
+    did = "broke the protocol first" if verdict.last["did"].startswith("broke") else "was the first to leave the profile"
     return f"{verdict.first} {did}, in its packet {verdict.last['offset']}."
 
 
@@ -144,10 +145,17 @@ def tokens_missed(verdict, side, what, packet):
     needed = (packet and packet.tokens) if what == "Give" else NEEDS.get(what)
     missed = [name for name, bit, _ in TOKENS if name in (needed or ()) and state and not state.held & bit]
     since = {name: packet.since(other(side), name) for name in missed} if packet else {}
-    told = [f"the {name} token was with {other(side)} since {place}" for name, place in since.items() if place]
+    told = [f"the {tokens} with {other(side)} since {place}" for tokens, place in together(since)]
     if told:
         return ", and ".join(told)
     return f"it did not hold the {missed[0]} token" if len(missed) == 1 else "it did not hold the tokens for that"
+
+
+def together(since):
+    """Tokens that a side held since the same packet, in words, with that packet."""
+    for place in dict.fromkeys(place for place in since.values() if place):
+        names = [name for name in since if since[name] == place]
+        yield ", ".join(names[:-1]) + " and " * (len(names) > 1) + names[-1] + (" tokens were" if len(names) > 1 else " token was"), place
 
 
 def excuse(verdict, side):
