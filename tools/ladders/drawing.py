@@ -12,7 +12,7 @@ PLACES = (0.3, 0.45, 0.6, 0.18, 0.74, 0.86)
 
 
 class Page:
-    """Where things stand: columns by connection, rows by line."""
+    """The places on the page: columns by connection, rows by line."""
 
     def __init__(self, picture, first, last):
         self.picture = picture
@@ -41,7 +41,7 @@ class Page:
         self.height = self.below + 28 + 16 * (len(self.picture.key) + len(self.notes))
 
     def y(self, index):
-        """The height of a line; of one that is not shown that of the next which is, or an edge."""
+        """The height of a line. A line that is not drawn has that of the next one that is, or that of an edge."""
         found = self.at.get(index)
         if found is not None:
             return found
@@ -57,7 +57,7 @@ class Page:
         return inwards if side == "left" else self.width - inwards
 
     def inner(self, x, width):
-        """The place nearest to x for a label that lies on no life line."""
+        """The place nearest to x at which a label covers no life line."""
         last = self.picture.connections[-1] if self.picture.connections else None
         left, right = self.x("left", last) + 8 + width / 2, self.x("right", last) - 8 - width / 2
         return min(max(x, left), right)
@@ -72,7 +72,7 @@ class Page:
         self.parts.append(text)
 
     def free(self, x, y, width):
-        """Takes a place for a label where none is, or answers that there is one."""
+        """Takes a place for a label if no label is there; whether it did."""
         slot = int(y // 13)
         for near in (slot - 1, slot, slot + 1):
             for left, right, height in self.taken.get(near, ()):
@@ -108,7 +108,7 @@ def draw(picture, first=0, last=10 ** 12, progress=None):
 
 
 def head(page):
-    """The beginning of the page: what it is of, its style, and the heads of the columns."""
+    """Draws the beginning of the page: its title, its style, and the heads of the columns."""
     picture, middle = page.picture, page.width / 2
     page.add(f'<svg xmlns="http://www.w3.org/2000/svg" width="{page.width}" height="{page.height}" '
              f'viewBox="0 0 {page.width} {page.height}" role="graphics-document" aria-labelledby="title" '
@@ -131,13 +131,13 @@ def head(page):
 
 
 def band_x(page, side, connection, place):
-    """Where the band of a token begins: outwards of the life line."""
+    """The left edge of the band of a token, outside of the life line."""
     x = page.x(side, connection)
     return x - 4 - (4 - place) * BAND if side == "left" else x + 4 + place * BAND
 
 
 def draw_band(page, band):
-    """A token that is held, from a line to a line."""
+    """Draws the band of a token, from the line at which the end got it to that at which it gave it away."""
     top, bottom = page.y(band.start), page.y(band.end)
     if bottom <= top:
         return
@@ -150,7 +150,7 @@ def draw_band(page, band):
 
 
 def draw_life(page, side, connection, span):
-    """The life line of an end of a connection, with a bar where it ended."""
+    """Draws the life line of an end of a connection, with a double bar at its end."""
     x, begun, ended = page.x(side, connection), page.y(span[0]), page.bottom if span[1] is None else page.y(span[1])
     colour = page.colour(connection)
     page.add(f'<path class="way {colour}" d="M{x} {page.top}V{page.bottom}"/>')
@@ -161,7 +161,7 @@ def draw_life(page, side, connection, span):
 
 
 def draw_break(page, row):
-    """A break of the byte connection, across the middle."""
+    """Draws a break of the byte connection, across the middle."""
     y, left, right = page.at[row.index], TEXT + 10, page.width - TEXT - 10
     steps = int((right - left) // 12)
     points = " ".join(f"{left + 12 * step},{y + (4 if step % 2 else -4)}" for step in range(steps + 1))
@@ -170,7 +170,7 @@ def draw_break(page, row):
 
 
 def draw_arrow(page, arrow):
-    """An arrow; the answer is its label, which is drawn above all arrows."""
+    """Draws an arrow, and gives its label, which is drawn above all arrows."""
     number = arrow.connection if arrow.connection is not None else (page.picture.connections or [1])[0]
     start, end = page.x(arrow.side, number), page.x("right" if arrow.side == "left" else "left", number)
     way = end - start
@@ -193,7 +193,7 @@ def draw_arrow(page, arrow):
 
 
 def tip(x0, y0, x1, y1, stop):
-    """How an arrow ends: a head, or a ring (more follows), a bar (nobody is shown it), a cross (it is cut)."""
+    """The tip of an arrow: a head, a ring (more follows), a bar (it causes no indication) or a cross (it is cut)."""
     if stop == "rest":
         return f'<circle class="rest" cx="{x1:.1f}" cy="{y1}" r="2"/>'
     if stop == "cut":
@@ -210,7 +210,7 @@ def tip(x0, y0, x1, y1, stop):
 
 
 def draw_row(page, row):
-    """A line: its text at its side, and its mark."""
+    """Draws a line: its text at its side, and its mark."""
     y = page.at[row.index]
     rows, notes = page.texts[row.index]
     if row.side:
@@ -250,7 +250,7 @@ def mark_of(page, row, y):
 
 
 def draw_box(page):
-    """The verdict in a box; its first line is the answer."""
+    """Draws the verdict in a box; its first line is the answer."""
     if not page.box:
         return
     page.add(f'<rect class="box{" bad" if page.picture.is_wrong else ""}" x="16" y="{page.bottom + 10}" width="{page.width - 32}" '
@@ -261,7 +261,7 @@ def draw_box(page):
 
 
 def foot(page):
-    """The verdict, the key, and what has to be said about the picture."""
+    """Draws the verdict, the key, and the notes about the picture."""
     draw_box(page)
     key = page.picture.key
     for place, text in enumerate(key):

@@ -1,4 +1,4 @@
-"""What a picture shows, before it is drawn: rows of text at their sides, arrows, bands and marks."""
+"""The contents of a picture before it is drawn: rows of text at their sides, arrows, bands and marks."""
 import textwrap
 
 from .history import overlaps
@@ -9,7 +9,7 @@ UNITS = {"connect": "CN", "accept": "AC", "refuse": "RF", "data": "DT", "give": 
 
 
 class Row:
-    """A line that is shown: its text whole and as it stands at its side, a note below it, and its mark."""
+    """A row of the picture: the whole line, the text that is drawn at its side, a note below it, and its mark."""
 
     __slots__ = ("index", "whole", "text", "note", "side", "connection", "mark", "point", "muted")
 
@@ -19,7 +19,7 @@ class Row:
 
 
 class Arrow:
-    """Octets that crossed, from a line to a line, between two parts of the way from 0 to 1.
+    """Octets that were carried, from one line to another, over the part of the way from `begin` to `reach` (0 to 1).
 
     `stop` is empty if it arrives, `rest` if more follows, `cut` if it ends inside a packet, `dropped` if it causes no
     indication, and `open` if the transcript doesn't tell where it ends. `wrong` is an arrow that broke the protocol."""
@@ -172,12 +172,12 @@ def never_carried(wire):
 
 
 def cut(text, width):
-    """A text of at most so many columns, with an ellipsis where it is longer."""
+    """A text of at most so many columns; a longer one is cut and has an ellipsis."""
     return text if len(text) <= width else text[:max(width - 1, 0)] + "…"
 
 
 def wrapped(text, width, most):
-    """A text in at most so many lines of so many columns; the last has an ellipsis where more is left."""
+    """A text in at most so many lines of so many columns; if more is left, the last line has an ellipsis."""
     if len(text) <= width:
         return [text]
     if len(text) > width * (most + 1):

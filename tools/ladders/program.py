@@ -14,14 +14,14 @@ it, for which it runs `osi judge`."""
 
 
 class Words(argparse.ArgumentParser):
-    """Words that can't be read are one line on standard error, status 2."""
+    """A wrong option is one line on standard error, and status 2."""
 
     def error(self, message):
         raise BadInput(message)
 
 
 def words():
-    """What the program takes."""
+    """The options of the program."""
     parser = Words(prog="osi-ladders", description=ABOUT)
     parser.add_argument("file", nargs="?", help="a transcript or a script; standard input if none is named, or -")
     parser.add_argument("--script", help="the script that the transcript is of: then all octets are known")
@@ -46,7 +46,7 @@ def words():
 
 
 class Progress:
-    """How far a long run is, on a terminal; its line is cleared in the end."""
+    """Shows on a terminal how far a long run is; the line is cleared at the end."""
 
     def __init__(self, stream, name="osi-ladders"):
         self.stream, self.name, self.shown = stream, name, False
@@ -57,19 +57,19 @@ class Progress:
             self.say(f"{self.name}: {done:,} of {of:,} lines")
 
     def running(self, what):
-        """What is told each second that a program runs."""
+        """A function to call each second that a program runs."""
         self.say(f"{self.name}: running {what}")
         return lambda seconds: self.say(f"{self.name}: running {what}, {seconds} s")
 
     def say(self, text):
-        """Shows a text in the place of the one before."""
+        """Shows a text in place of the one before."""
         if self.is_terminal:
             self.shown = True
             self.stream.write(f"\r\x1b[K{text}")
             self.stream.flush()
 
     def end(self):
-        """Leaves nothing on the line."""
+        """Clears the line."""
         if self.shown:
             self.stream.write("\r\x1b[K")
             self.stream.flush()
@@ -113,7 +113,7 @@ def picture_of_run(options, progress):
 
 
 def readable(title):
-    """A title without what an XML file can't have and a terminal is not to be sent."""
+    """A title without the characters that an XML file can't have, or that would control a terminal."""
     return "".join(letter if letter.isprintable() else "\ufffd" for letter in title)
 
 
@@ -185,7 +185,7 @@ def write(name, text):
 
 
 def picture_asked_for(options, progress):
-    """The picture that the words ask for; with --states a text."""
+    """The picture that the options ask for; with --states a text."""
     if options.judge:
         return judged_capture(options, progress)
     return picture_of_captures(options, progress) if options.left else picture_of_run(options, progress)

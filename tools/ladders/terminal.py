@@ -8,7 +8,7 @@ LEAST = 60
 
 
 def draw(picture, first=0, last=10 ** 12, columns=100, progress=None):
-    """The rows, each of so many columns at most; the sides and the tokens stand below each other."""
+    """The rows, each of at most so many columns; the sides and the tokens are aligned."""
     columns = max(columns, LEAST)
     side = (columns - 2 * 8 - 6) * 4 // 11
     middle = columns - 2 * side - 2 * 8
@@ -37,7 +37,7 @@ def box(verdict, columns):
 
 
 def holding(picture):
-    """What tells for a row, asked in their order, which tokens the ends of its connection hold."""
+    """A function that gives, for rows in their order, the tokens that both ends of the row's connection hold."""
     starts, ends, now = {}, {}, {}
     for band in picture.bands:
         starts.setdefault(band.start, []).append(band)
