@@ -18,14 +18,14 @@ FILE is a pcap or pcapng, which tshark reads; or a text of hexadecimal digits wi
 
 
 class Words(argparse.ArgumentParser):
-    """A bad word is one line on standard error."""
+    """A wrong option is one line on standard error."""
 
     def error(self, message):
         raise BadInput(f"{message} (judge --help)")
 
 
 def words():
-    """The words of the program."""
+    """The options of the program."""
     made = Words(prog="judge", description=__doc__, epilog=TEXT)
     made.add_argument("file", metavar="FILE")
     made.add_argument("--port", type=int, default=program.PORT, help="the port of TPKT, for streams without a CR (102)")
@@ -74,7 +74,7 @@ def why_not(stream):
 
 
 class Judged:
-    """A stream that is judged, by what `osi judge` prints."""
+    """A stream, and the verdict that `osi judge` prints of it."""
 
     def __init__(self, stream, judge):
         self.stream = stream

@@ -49,7 +49,7 @@ class Room(unittest.TestCase):
 
 
 class Texts(Room):
-    """Captures as texts: no tshark is asked."""
+    """Captures as texts, which need no tshark."""
 
     def follow(self, name="restart"):
         return os.path.join(DISPUTES, name + ".follow")
@@ -93,7 +93,7 @@ class Texts(Room):
 
 
 class Streams(Room):
-    """Streams as tshark tells them: no tshark is asked."""
+    """Streams as tshark prints them, without tshark."""
 
     LEFT, RIGHT = ("192.0.2.1", 40000), ("192.0.2.2", 102)
 
@@ -183,8 +183,8 @@ class Captures(Room):
         self.refused(self.path("bad.pcap"))
 
 
-class Words(unittest.TestCase):
-    """What is printed says what the verdict says."""
+class Lines(unittest.TestCase):
+    """The lines that are printed of a verdict."""
 
     def test_a_verdict_without_a_break_has_no_sentence_more(self):
         found = object.__new__(judging.Judged)

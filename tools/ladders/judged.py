@@ -1,4 +1,4 @@
-"""A capture of both sides as `osi judge` judges it: its packets in the order in which they passed, how each side stood, and the verdict."""
+"""The picture of a capture of both sides: its packets in the order in which they passed, the state of each side, and the verdict."""
 import re
 
 from . import captures, script, verdicts
@@ -26,8 +26,8 @@ class Piece:
 
 
 def read(text):
-    """The pieces of a capture as `osi judge` reads it: a line is a piece of one side, left is the side of the first octet, and an
-    octet belongs to the line of its first digit."""
+    """Reads a capture as `osi judge` does: a line is a piece of one side, left is the side of the first octet, and an octet
+    belongs to the line of its first digit."""
     found, half = [], ""
     for row in text.split("\n"):
         digits = re.sub(r"[ \t\r]", "", row.partition("#")[0])
@@ -50,7 +50,7 @@ def text_of(pieces):
 
 
 class Step:
-    """A packet, or what is left at the end of a side: when it had passed, and the verdict on everything up to it."""
+    """A packet, or the octets at the end of a side that are none; and the verdict on everything up to it, if it is known."""
 
     def __init__(self, packet, start, passed):
         self.packet, self.side, self.start, self.passed, self.verdict = packet, packet.side, start, passed, None
@@ -71,7 +71,7 @@ class Step:
 
 
 def steps_of(pieces, listings):
-    """The packets of both listings in the order in which their last octets had passed, and what is left."""
+    """The packets of both listings, and the octets that are none, in the order in which their last octets passed."""
     ends = {side: [] for side in SIDES}
     for place, piece in enumerate(pieces):
         before = ends[piece.side][-1][0] if ends[piece.side] else 0
@@ -106,7 +106,7 @@ def up_to(pieces, steps, last):
 
 
 def window(steps, verdict):
-    """The steps after which the program is asked: all, or of very many those around the break."""
+    """The steps after which the program is asked: all of them, or those around the break if there are very many."""
     if len(steps) <= MOST:
         return range(len(steps))
     broken = broken_step(steps, verdict)
@@ -127,7 +127,7 @@ def ask(pieces, steps, judge):
 
 
 def given(steps, told):
-    """The verdict on everything, of stored ones: one for each step, or one alone."""
+    """The verdict on everything, from stored verdicts: one for each step, or only one."""
     if len(told) == len(steps):
         for step, verdict in zip(steps, told):
             step.verdict = verdict
@@ -165,7 +165,7 @@ def picture_of(text, listings, title, judge=None, told=None):
 
 
 def told(text, listings, judge):
-    """What `osi judge` prints after each packet and at the end, one behind the other."""
+    """What `osi judge` prints after each packet, one text after the other."""
     pieces = read(text)
     steps = steps_of(pieces, listings)
     whole = ask(pieces, steps, judge)
@@ -218,7 +218,7 @@ def describe(steps, verdict):
 
 
 def add_rows(made, steps, verdict):
-    """The rows and the arrow of each packet: its own, and one for the other side if that stands otherwise now."""
+    """Adds for each packet its row and its arrow, and a row with the state of the other side if that has changed."""
     broken = {broken_step(steps, verdict, side) for side in SIDES if verdict.break_of(side)}
     has_points = {side: any(state and state.numbers["next"] for state in states(steps, side)) for side in SIDES}
     shown, over = dict.fromkeys(SIDES), set()

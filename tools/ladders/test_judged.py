@@ -204,7 +204,8 @@ class Reading(unittest.TestCase):
     def test_other_verdicts_have_theirs(self):
         for last, wanted in (("not judged: the connection is not of class 0", "Not judged: the connection is not of class 0."),
                              ("both kept the protocol", "Both sides kept the protocol."),
-                             ("left leaves the profile first, packet 41: TSDU Outside", "Left was the first to leave the profile, in its packet 41.")):
+                             ("left leaves the profile first, packet 41: TSDU Outside",
+                              "Left was the first to leave the profile, in its packet 41.")):
             text = "left 1 leaves packet 41 TSDU Outside\n" * last.startswith("left") + last + "\n"
             self.assertEqual(verdicts.box(verdicts.read(text)[0])[0], wanted)
 

@@ -46,7 +46,7 @@ WITHOUT_NUMBERS = ("WaitTransport", "WaitCn", "Connecting", "Answering", "Aborti
 
 
 class State:
-    """How a session stands: its phase, the tokens that it holds as bits, and the numbers of points."""
+    """The state of a session: its phase, the tokens that it holds as bits, and the numbers of points."""
 
     __slots__ = ("phase", "held", "numbers", "owes")
 
@@ -82,7 +82,7 @@ class Verdict:
         return next((self.lines[side, name] for name in names if (side, name) in self.lines), None)
 
     def state(self, side):
-        """How a side stands, or None if nothing tells it."""
+        """The state of a side, or None if it is not printed."""
         found = self.fields(side, "kept", "knew")
         return State(found) if found else None
 
@@ -101,7 +101,7 @@ def line_of(row):
 
 
 def read(text):
-    """The verdicts in a text, one behind the other: each ends with its last line."""
+    """Reads verdicts, one after the other: each ends with its last line."""
     found, rows = [], []
     for row in text.rstrip("\n").split("\n"):
         rows.append(row)
@@ -159,7 +159,7 @@ def together(since):
 
 
 def excuse(verdict, side):
-    """How much of what had passed the session knew that came nearest."""
+    """How much the session that came nearest had received of what had passed."""
     knew = verdict.fields(side, "knew")
     if not knew or verdict.break_of(side) is None:
         return None
@@ -168,7 +168,7 @@ def excuse(verdict, side):
 
 
 def box(verdict, packet=None):
-    """What stands in the box below a picture: sentences, the most important first."""
+    """The lines of the box below a picture, the most important first."""
     rows = [sentence(verdict)]
     if verdict.first:
         rows += [text for text in (reason(verdict, verdict.first, packet), excuse(verdict, verdict.first)) if text]
