@@ -347,7 +347,7 @@ class Sessions(Case):
 
 
 class Bounds(Case):
-    """What a line keeps, whatever its peer does."""
+    """The memory that a line keeps is bounded for every peer."""
 
     async def serving(self, handler, protocol=aio.EndProtocol):
         lines = []
