@@ -347,7 +347,7 @@ class Sessions(Case):
 
 
 class Bounds(Case):
-    """The memory that a line keeps is bounded for every peer."""
+    """What a line keeps, with peers of several kinds."""
 
     async def serving(self, handler, protocol=aio.EndProtocol):
         lines = []
