@@ -1,4 +1,4 @@
-"""The server: it answers CR by CC, and closes after anything that is no PDU of S7."""
+"""The server: it answers CR by CC, and closes behind anything that is no PDU of S7."""
 import socket
 import threading
 

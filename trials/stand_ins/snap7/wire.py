@@ -19,7 +19,7 @@ class Wire:
         self.made.close()
 
     def packet(self):
-        """The next packet, or none if the peer closes."""
+        """The next packet, or none where the peer closes."""
         octets = b""
         while len(octets) < 4 or len(octets) < int.from_bytes(octets[2:4], "big"):
             length = int.from_bytes(octets[2:4], "big") if len(octets) >= 4 else 4
@@ -30,6 +30,6 @@ class Wire:
         return octets
 
     def asked(self, octets):
-        """The answer to these octets."""
+        """What is answered to these octets."""
         self.made.sendall(octets)
         return self.packet()
