@@ -1,5 +1,6 @@
 """The picture of a capture of both sides: its packets in the order in which they passed, the state of each side, and the verdict."""
 import re
+import time
 
 from . import captures, script, verdicts
 from .history import TOKENS, Band
@@ -9,8 +10,8 @@ from .transcript import SIDES, BadInput, other
 KEY = ("● a packet as it passed the tap; the number before it is its offset in its direction · × the packet that broke the protocol",
        "Grey, beside a packet: how each side stood after it, by osi judge, if that side had received everything that had passed.",
        "Bands beside a life line, from left to right: the data (d), minor (m), major (M) and release (r) tokens that this side held.")
-# After so many packets at most the program is asked, so many of them before the break; and no more if one judgement took so many
-# seconds, or all of them together.
+# The program is asked after so many packets at most, so many of them before the break; only once if that took more than SLOW
+# seconds, and no more after LONGEST seconds.
 MOST, BEFORE, SLOW, LONGEST = 300, 270, 5, 60
 SIDES_OF = "arc?"
 SESSION = re.compile(r"    ([A-Z]+)((?: .*)?)")
@@ -115,14 +116,15 @@ def window(steps, verdict):
 
 
 def ask(pieces, steps, judge):
-    """The verdict on everything; each step gets the one on everything up to it, as far as that can be asked for."""
-    text, seconds = text_of(pieces), []
-    whole = verdicts.read(judge(text, seconds.append))[-1]
-    if len(seconds) < SLOW:
-        for place in window(steps, whole):
-            if len(seconds) > LONGEST:
-                break
-            steps[place].verdict = verdicts.read(judge(text_of(up_to(pieces, steps, place)), seconds.append))[-1]
+    """The verdict on everything. Steps get the verdict on everything up to them, those that are nearest to the break first."""
+    began = time.monotonic()
+    whole = verdicts.read(judge(text_of(pieces)))[-1]
+    broken, places = broken_step(steps, whole), window(steps, whole)
+    nearest = sorted(places, key=lambda place: abs(place - (places[-1] if broken is None else broken)))
+    for place in nearest if time.monotonic() - began < SLOW else ():
+        if time.monotonic() - began > LONGEST:
+            break
+        steps[place].verdict = verdicts.read(judge(text_of(up_to(pieces, steps, place))))[-1]
     return whole
 
 
@@ -309,12 +311,5 @@ def notes_of(steps):
 
 
 def runner(program, progress):
-    """What asks `osi judge`, by its name or path."""
-    def judge(text, tick):
-        told = progress("osi judge")
-
-        def each(seconds):
-            tick(seconds)
-            told(seconds)
-        return script.run(program, "judge", text, each)
-    return judge
+    """A function that gives what `osi judge` prints for a text; `program` is the name or path of `osi`."""
+    return lambda text: script.run(program, "judge", text, progress("osi judge"))

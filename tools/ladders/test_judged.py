@@ -241,16 +241,23 @@ class Asking(unittest.TestCase):
         self.assertEqual(judged.window(steps[:300], broken), range(300))
 
     def test_a_slow_program_is_asked_once(self):
-        text, listings, told = stored("restart")
+        text, listings, _ = stored("restart")
         asked = []
 
-        def judge(given, tick):
+        def judge(given):
             asked.append(given)
-            for seconds in range(judged.SLOW):
-                tick(seconds)
-            return "\n".join(told[-1].rows)
-        self.assertEqual(len(judged.picture_of(text, listings, "", judge).notes), 1)
+            return answer(None, "judge", given)
+        with mock.patch.object(judged, "SLOW", 0):
+            self.assertEqual(len(judged.picture_of(text, listings, "", judge).notes), 1)
         self.assertEqual(len(asked), 1)
+
+    def test_if_time_runs_out_it_was_asked_around_the_break(self):
+        text, listings, told = stored("restart")
+        seconds = iter(range(100))
+        with mock.patch.object(judged, "LONGEST", 4), mock.patch.object(judged.time, "monotonic", lambda: next(seconds)):
+            made = judged.picture_of(text, listings, "", lambda given: answer(None, "judge", given))
+        self.assertIn("from packet 126 of left to packet 75 of right: of 15 packets, the 3 around the verdict", made.notes[0])
+        self.assertIn("it did not hold the data token", made.verdict[1])
 
     def test_a_part_of_the_packets(self):
         status, out, _ = call(*files("restart"), "--from", "10", "--to", "12")
