@@ -8,7 +8,7 @@ import unittest
 
 from osi_session import Classes, End, Terms
 
-# Seconds that nothing takes, however much other work the machine has.
+# In seconds: nothing takes as long as this, even on a busy machine.
 LONGEST = 60
 
 
