@@ -79,7 +79,7 @@ class Judged:
     def __init__(self, stream, judge):
         self.stream = stream
         self.pieces = [judged.Piece(side, piece.octets) for side, piece in stream.by_side()]
-        self.verdict = verdicts.read(judge(judged.text_of(self.pieces)))[-1]
+        self.verdict = verdicts.printed(judge(judged.text_of(self.pieces)))
 
     def octets(self, side):
         """What a side sent."""

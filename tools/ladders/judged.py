@@ -118,13 +118,13 @@ def window(steps, verdict):
 def ask(pieces, steps, judge):
     """The verdict on everything. Steps get the verdict on everything up to them, those that are nearest to the break first."""
     began = time.monotonic()
-    whole = verdicts.read(judge(text_of(pieces)))[-1]
+    whole = verdicts.printed(judge(text_of(pieces)))
     broken, places = broken_step(steps, whole), window(steps, whole)
     nearest = sorted(places, key=lambda place: abs(place - (places[-1] if broken is None else broken)))
     for place in nearest if time.monotonic() - began < SLOW else ():
         if time.monotonic() - began > LONGEST:
             break
-        steps[place].verdict = verdicts.read(judge(text_of(up_to(pieces, steps, place))))[-1]
+        steps[place].verdict = verdicts.printed(judge(text_of(up_to(pieces, steps, place))))
     return whole
 
 

@@ -209,6 +209,10 @@ class Reading(unittest.TestCase):
             text = "left 1 leaves packet 41 TSDU Outside\n" * last.startswith("left") + last + "\n"
             self.assertEqual(verdicts.box(verdicts.read(text)[0])[0], wanted)
 
+    def test_a_text_without_a_verdict_is_not_judged(self):
+        found = verdicts.printed("left packets 2 octets 29 rest 0\nleft 1 unanswered\n")
+        self.assertEqual(verdicts.box(found), ["Not judged: osi judge names no verdict.", "osi judge: left 1 unanswered"])
+
     def test_tokens_that_came_together_are_told_together(self):
         found = {"data": "right's packet 14", "minor": "right's packet 14", "major": None, "release": "left's packet 41"}
         self.assertEqual(list(verdicts.together(found)), [("data and minor tokens were", "right's packet 14"),

@@ -63,12 +63,13 @@ class State:
 
 
 class Verdict:
-    """What `osi judge` printed: `lines` by side and name, and the fields of the last line."""
+    """What `osi judge` printed: `lines` by side and name, and the fields of the last line, which may be missing."""
 
     def __init__(self, rows):
         self.rows, self.lines = rows, {}
-        self.last = LAST.fullmatch(rows[-1]).groupdict()
-        for row in rows[:-1]:
+        found = LAST.fullmatch(rows[-1])
+        self.last = found.groupdict() if found else {**dict.fromkeys(LAST.groupindex), "why": "osi judge names no verdict"}
+        for row in rows[:-1] if found else rows:
             name, fields = line_of(row)
             self.lines[fields["side"], name] = fields
 
@@ -111,6 +112,11 @@ def read(text):
     if rows or not found:
         raise BadInput("what `osi judge` printed has no verdict as its last line")
     return found
+
+
+def printed(text):
+    """What `osi judge` printed of one capture."""
+    return Verdict(text.rstrip("\n").split("\n"))
 
 
 def letters(bits):
