@@ -14,7 +14,7 @@
 # check-release: builds the sources of a release anew, and compares octet for octet (scripts/check_release).
 # make gateways: builds the program and the library, and builds and runs the programs of examples/gateway, and the tests and
 # clients of bindings/ (scripts/gateways does so with what was built before).
-# make trials: builds the same and runs what is proved against hostile octets, want of memory and breaks
+# make trials: builds the same and runs what is proved against hostile octets, failing allocations and breaks
 # (docs/TRIALS.md); make trials PART=--part runs a part of it. make fuzz SECONDS=60 SEED=1 feeds ends octets at random.
 # make mms: builds the library, and the MMS server and client of examples/mms over it. make interop: builds the program
 # too, and runs both against programs of others (docs/INTEROP.md); make slow-peers and make scaling run them against peers
@@ -23,7 +23,7 @@
 # tests of the programs in tools/ (these, and osi-capture), and compares.
 # make pages: checks the links, limits and commands of the pages; it proves and builds nothing (scripts/pages).
 # make ledger: builds the same and the benchmarks, counts the instructions of each operation that a benchmark times, and
-# fails where one takes more than bench/ledger.txt says; some minutes where all is proved.
+# fails if one takes more than bench/ledger.txt says; it takes some minutes if everything is proved.
 .PHONY: all test quick edits bench ledger lib install uninstall dist check-dist release check-release gateways trials fuzz ladders
 .PHONY: ladders-check pages mms interop slow-peers scaling soak
 PREFIX ?= /usr/local

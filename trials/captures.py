@@ -1,4 +1,4 @@
-"""The captures of examples/captures: octets of both directions, in which order they came, and what is said of them."""
+"""The captures of examples/captures: the octets of both directions, their order, and what osi and tshark print of them."""
 import glob
 import os
 import re
@@ -13,7 +13,7 @@ SIDES = (("left", True), ("right", False))
 
 
 def is_listed():
-    """Whether the program is built that lists captures."""
+    """Whether the program that lists captures is built."""
     return os.path.exists(OSI)
 
 
@@ -23,14 +23,14 @@ def listing(octets):
 
 
 def tshark_version():
-    """As the first line of a .tshark file has it; None if there is no tshark."""
+    """The version of tshark, as the first line of a .tshark file has it; None if there is no tshark."""
     if not shutil.which("tshark"):
         return None
     return "# tshark " + re.search(r"\d+(\.\d+)+", peers.run(["tshark", "--version"]).stdout).group()
 
 
 def words_of_tshark(name, pieces, room):
-    """A line for each packet: who sent it, and the summary of its uppermost layer. By the port tshark knows what it is."""
+    """A line for each packet: who sent it, and tshark's summary of its uppermost layer. tshark knows the protocol by the port."""
     port = 3389 if "rdp" in name else 2944 if name == "megaco" else 102
     peers.capture(pieces, f"{room}/{name}.kept.pcap", port)
     said = peers.tshark(f"{room}/{name}.kept.pcap", "-T", "fields", "-e", "ip.src", "-e", "_ws.col.Protocol", "-e", "_ws.col.Info")
@@ -73,7 +73,7 @@ def pieces_of(name):
 
 
 def as_lines(octets):
-    """Octets in hexadecimal digits, a packet a line where they are packets."""
+    """Octets as hexadecimal digits, with one packet on a line if they are packets."""
     lines = []
     while len(octets) >= 4 and octets[0] == 3 and 7 <= int.from_bytes(octets[2:4], "big") <= len(octets):
         length = int.from_bytes(octets[2:4], "big")
@@ -91,7 +91,7 @@ def store(name, pieces):
 
 
 def describe(name, room):
-    """Writes what osi and tshark say of a stored capture, as far as they are there."""
+    """Writes what osi and tshark print of a stored capture, if they are there."""
     pieces = pieces_of(name)
     for side, calls in SIDES:
         if is_listed() and peers.direction(pieces, calls):

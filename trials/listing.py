@@ -38,7 +38,7 @@ def item(octets, at, end):
 
 
 def value(code, octets):
-    """As it is written; None if it is no value of this code."""
+    """A value as the listing writes it; None if this code can't have it."""
     one = len(octets) == 1
     if code in (15, 16):
         return bytes([octets[0] & (0x01 if code == 15 else 0x55)]) if one else None
@@ -65,7 +65,7 @@ def value(code, octets):
 
 
 def parameters(octets, at, end, known, groups):
-    """What is there, by code; a group's value is its own parameters."""
+    """The parameters that are there, by code; the value of a group is its parameters."""
     found = {}
     while at < end:
         read = item(octets, at, end)
@@ -99,7 +99,7 @@ def shown(name, found):
 
 
 def unit_at(octets, at, place):
-    """A line, and the place behind the unit."""
+    """A line, and the place after the unit."""
     si = octets[at]
     row = DT if si == 1 and place > 0 else UNITS.get(si)
     if row is None:
@@ -162,7 +162,7 @@ def connect_words(octets, at, end, first):
 
 
 def transport_unit(octets, at):
-    """Its line, the place behind its header, whether it is the last, and the TSDU that it ends."""
+    """The line of a transport unit, the place after its header, whether it is the last, and the TSDU that it ends."""
     li = octets[at] if at < len(octets) else 0
     end = at + 1 + li
     if li in (0, 255) or end > len(octets):

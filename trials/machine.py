@@ -22,7 +22,7 @@ def available(units):
 
 
 def tokens_of(sides, letter, units):
-    """Those that the side with this letter holds."""
+    """The tokens that the side with this letter holds."""
     named = sum(token for token, one in zip((DATA, MINOR, MAJOR, RELEASE), sides) if one == letter)
     return named & available(units)
 
@@ -35,12 +35,12 @@ def settled(wishes, answer, units):
 
 
 def smaller(a, b):
-    """The smaller of two sizes, of which 0 is no limit."""
+    """The smaller of two sizes; 0 is no limit."""
     return min(a, b) if a and b else a or b
 
 
 def sizes_behind(words):
-    """The sizes behind user data: from the asker, and from the answerer."""
+    """The sizes after user data: from the asker, and from the answerer."""
     return (int(words[0]), int(words[1])) if words else (0, 0)
 
 
@@ -64,7 +64,7 @@ class Side:
 
     @property
     def limit(self):
-        """How many octets its TSDUs may have, once the CN is answered; 0 for no limit."""
+        """The largest TSDU that it may send after the CN is answered, in octets; 0 for no limit."""
         return 0 if self.phase in ("Connecting", "WaitCn", "Answering") else self.sizes[0 if self.caller else 1]
 
     def begin(self, units, serial, sides, letter):
@@ -160,7 +160,7 @@ REFUSES = {
 
 
 def item(octets):
-    """A code, its length and so many octets; nothing where user data is empty."""
+    """A code, its length and so many octets; nothing if user data is empty."""
     return octets + (4 if octets > 254 else 2)
 
 
@@ -177,7 +177,7 @@ def written(side, verb, words):
 
 
 def too_long(side, verb, words):
-    """Whether the TSDU of a call is above its size; what answers a CN, and data, may be."""
+    """Whether the TSDU of a call is above its size. An answer to a CN, and data, may be."""
     return verb not in ("accept", "refuse", "data") and 0 < side.limit < written(side, verb, words)
 
 
@@ -222,10 +222,10 @@ def call(side, verb, words):
     return (names[verb], bits(words[0]), data) if verb == "please" else (names[verb], data)
 
 
-# ---- messages: the text that is shown, None for one that is dropped
+# ---- messages: the text of the indication, None for one that causes none
 
 def serial_of(message):
-    """The serial number of a CN or AC, which is written where a unit with points is named."""
+    """The serial number of a CN or AC, which is written if a functional unit with points is named."""
     return message[2] if message[1] & (MINOR_UNIT | MAJOR_UNIT | RESTART_UNIT) else "-"
 
 
@@ -328,7 +328,7 @@ class Machine:
             told = taken(side, queue.pop(0))
             if told is not None:
                 return None if told == text else f"{line}: {told}"
-        return f"{line}: nothing is under way"
+        return f"{line}: nothing is in flight"
 
     def held(self):
         """A token that both sides hold."""
@@ -336,7 +336,7 @@ class Machine:
         return f"both sides of {both[0]} hold a token" if both else None
 
     def lost(self, name):
-        """A connection whose user was told of the break and not that it is lost."""
+        """A connection whose end was told of the break and whose user received no loss."""
         left = [pair[name] for pair in self.sides.values() if pair[name].known and pair[name].phase not in OVER]
         return f"the {name} user is not told that he lost his connection" if left else None
 
@@ -373,7 +373,7 @@ class Machine:
         return self.stands(line, lines)
 
     def stands(self, line, lines):
-        """The last lines: where each connection stands that has not ended."""
+        """The last lines: the state of each connection that has not ended."""
         while line is not None:
             words = line.split()
             side = self.sides[words[1]][words[0]]

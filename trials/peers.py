@@ -1,5 +1,5 @@
-"""What the scripts that run peers have in common: programs that are started and always ended, a relay that keeps the octets
-of both directions, a capture of them that tshark reads, and how far a session came by what is in it."""
+"""Tools of the scripts that run peers: programs that are started and always ended, a relay that keeps the octets of both
+directions, a capture of them that tshark reads, and how far a session came by its octets."""
 import os
 import re
 import shutil
@@ -15,12 +15,12 @@ TOP = os.path.dirname(os.path.dirname(os.path.abspath(__file__)))
 BUILD = os.path.join(TOP, "build", "mms")
 SERVER, CLIENT = os.path.join(BUILD, "server"), os.path.join(BUILD, "client")
 FOLDER = os.path.join(TOP, "examples", "mms")
-# How long anything may take, in seconds, where a machine has much other work.
+# How long anything may take, in seconds, on a machine with much other work.
 LONGEST = 60
 
 
 class Counts:
-    """What held, what did not, and what was not there."""
+    """Counts what held, what did not, and what was not there."""
 
     def __init__(self):
         self.passed, self.failed, self.skipped = 0, 0, 0
@@ -67,12 +67,12 @@ class Programs:
         return made
 
     def server(self, *words, port="0"):
-        """A server of examples/mms, and the port that it says."""
+        """Starts a server of examples/mms, and gives it and the port that it prints."""
         made = self.start([SERVER, "--port", port, *words], stdout=subprocess.PIPE, text=True)
         return made, int(made.stdout.readline().split()[1])
 
     def end(self, made):
-        """Asks a program to end, and kills it with all of its group where it doesn't. Its status."""
+        """Asks a program to end, and kills it and its group if it doesn't. Its status."""
         if made.poll() is None:
             made.terminate()
             try:
@@ -90,7 +90,7 @@ class Programs:
 
 
 def client(port, *words, host="127.0.0.1", longest=LONGEST):
-    """A run of the client of examples/mms."""
+    """Runs the client of examples/mms."""
     return run([CLIENT, "--host", host, "--port", str(port), *words], longest)
 
 
@@ -151,7 +151,7 @@ def version(package):
 
 
 class Relay:
-    """Takes connections at a port of its own, hands all octets on to another one, and keeps them: for each connection the
+    """Takes connections at its own port, hands all octets on to another port, and keeps them: for each connection the
     pieces, as (seconds, whether the calling side sent it, octets)."""
 
     def __init__(self, port, host="127.0.0.1"):
@@ -285,7 +285,7 @@ def how_far(pieces):
 
 
 def refusals(pieces):
-    """Why a connection ended early, by what the called side said: DR, ER, RF or AB."""
+    """Why a connection ended early, by the unit that the called side sent: DR, ER, RF or AB."""
     called = direction(pieces, False)
     said = [name for unit in packets(called) for code, name in ((0x80, "DR"), (0x70, "ER")) if unit[1] & 0xf0 == code]
     said += [name for answer in tsdus(called) for code, name in ((12, "RF"), (25, "AB")) if answer[0] == code]

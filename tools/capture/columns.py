@@ -5,7 +5,7 @@ TIME, LEAST = 11, 20
 
 
 def cut(text, width):
-    """A text in so many columns; what does not fit is cut, and says so."""
+    """A text of at most so many columns; a longer one is cut, and ends with an ellipsis."""
     return text if len(text) <= width else text[:width - 1] + "\u2026"
 
 

@@ -15,7 +15,7 @@ USER_DATA = re.compile(r"    [A-Z]+ (?:.* )?19[34]=([0-9a-f]*)(?: .*)?")
 
 
 class Line:
-    """A line of a listing: its side, the frame and time at which its packet had passed, and the octets of data that it tells."""
+    """A line of a listing: its side, the frame and the time at which its packet had passed, and its user data."""
 
     __slots__ = ("side", "frame", "time", "packet", "text", "data")
 
@@ -24,13 +24,13 @@ class Line:
 
 
 def program(asked):
-    """The program `osi`: the one that was named, the one beside this script, or the one on the path."""
+    """The program `osi`: the one of the option, else the one of this repository, else the one on the path."""
     beside = os.path.join(TOP, "osi")
     return asked or (beside if os.path.isfile(beside) else "osi")
 
 
 def shown(osi, octets):
-    """The lines of `osi show` for octets."""
+    """The lines that `osi show` prints for octets."""
     try:
         done = subprocess.run([osi, "show"], input=octets.hex(), capture_output=True, text=True, check=False)
     except OSError as error:
@@ -42,7 +42,7 @@ def shown(osi, octets):
 
 
 class Passing:
-    """When each octet of a direction passed."""
+    """Finds when an octet of a direction passed."""
 
     def __init__(self, pieces):
         self.pieces, self.place = pieces, 0
@@ -55,13 +55,13 @@ class Passing:
 
 
 class Joining:
-    """Joins data units to TSDUs, each by its reference, to tell the data of session units."""
+    """Joins data units to TSDUs, by their references, to find the user data of session units."""
 
     def __init__(self):
         self.parts, self.tsdu = {}, b""
 
     def take(self, packet, text):
-        """The data that a line tells, or None."""
+        """The user data of a line, or None."""
         unit = DATA_UNIT.fullmatch(text)
         if unit:
             reference, eot, count = unit.groups()
@@ -101,7 +101,7 @@ def lines(stream, osi):
 
 
 def by_packet(found):
-    """The lines in groups, each that of a packet; what follows the last packet is a group of its own."""
+    """The lines in groups, one for each packet; a line after the last packet is another group."""
     groups = []
     for line in found:
         if line.text.startswith(" ") and groups:

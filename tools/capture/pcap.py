@@ -1,4 +1,4 @@
-"""Writes two captures as a pcap: IPv4, and one TCP segment for each TPKT packet, so that every dissector sees each by itself."""
+"""Writes two captures as a pcap: IPv4, and one TCP segment for each TPKT packet, so that a dissector shows them one by one."""
 import struct
 
 from .streams import SIDES, packets
@@ -46,7 +46,7 @@ class Writer:
         self.parts.append(struct.pack(">IIII", seconds, rest, len(octets), len(octets)) + octets)
 
     def segment(self, time, side, octets):
-        """A TCP segment; octets that no segment can have go in several."""
+        """Writes a TCP segment; more octets than one can have go into several."""
         for start in range(0, len(octets), LONGEST):
             part = octets[start:start + LONGEST]
             far = SIDES[side == "left"]
@@ -55,7 +55,7 @@ class Writer:
 
 
 def written(pieces):
-    """A pcap of pieces, each with its time, its side and its octets: a packet goes when its last octet has passed."""
+    """A pcap of pieces, each with its time, its side and its octets: a packet is written at the time of its last octet."""
     last = pieces[0][0] if pieces else 0
     writer, waiting = Writer(last), {side: b"" for side in SIDES}
     for time, side, octets in pieces:

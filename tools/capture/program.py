@@ -1,4 +1,4 @@
-"""The program osi-capture: captures of a network as users have them, and the captures of one direction that `osi` reads."""
+"""The program osi-capture: it makes captures that `osi` reads from captures of a network, lists both, and goes the other way."""
 import argparse
 import json
 import os
@@ -21,22 +21,22 @@ TEXT = """\
 
 
 class Words(argparse.ArgumentParser):
-    """A bad word is one line on standard error."""
+    """A wrong option is one line on standard error."""
 
     def error(self, message):
         raise BadInput(f"{message} (osi-capture --help)")
 
 
 def words():
-    """The words of the program."""
+    """The options of the program."""
     made = Words(prog="osi-capture", description=__doc__, epilog=TEXT, formatter_class=argparse.RawDescriptionHelpFormatter)
     jobs = made.add_subparsers(dest="job", required=True, metavar="list|show|split|join")
     for job in ("list", "show", "split"):
         one = jobs.add_parser(job)
         one.add_argument("file")
-        one.add_argument("--port", type=int, default=PORT, help="the port of TPKT where no CR tells it (102)")
+        one.add_argument("--port", type=int, default=PORT, help="the port of TPKT, for streams without a CR (102)")
         if job != "list":
-            one.add_argument("--stream", type=int, help="the number of the stream, as list has it; none: the only one")
+            one.add_argument("--stream", type=int, help="the number of the stream, as list prints it; without it, the only one")
         if job == "show":
             form = one.add_mutually_exclusive_group()
             form.add_argument("--json", action="store_true", help="an object for each line of the listing")
@@ -56,7 +56,7 @@ def found_in(asked):
     """The streams with TPKT of the capture that was asked for."""
     found = streams.with_packets(streams.joined(tshark.segments(asked.file)), asked.port)
     if not found:
-        raise BadInput(f"{asked.file}: no TCP stream carries TPKT (list --port N where it is another port than {asked.port})")
+        raise BadInput(f"{asked.file}: no TCP stream carries TPKT (--port N names another port than {asked.port})")
     return found
 
 
@@ -65,7 +65,7 @@ def named(end):
 
 
 def list_streams(asked):
-    """A line for each stream: who called whom, and how many octets went each way, or why it is left out."""
+    """Prints a line for each stream: who called whom, and how many octets passed in each direction, or why it is left out."""
     for stream in found_in(asked):
         caller = stream.caller() or stream.ends[0]
         far = next(end for end in stream.ends if end != caller)
@@ -75,7 +75,7 @@ def list_streams(asked):
 
 
 def chosen(asked):
-    """The one stream that is meant, which can be read whole."""
+    """The stream that the options name, or the only one that can be read whole."""
     found = found_in(asked)
     if asked.stream is not None:
         found = [stream for stream in found if stream.number == asked.stream]
@@ -98,7 +98,7 @@ def show(asked):
     begin = next((line.time for line in found if line.time is not None), 0)
 
     def when(line):
-        """The seconds since the first line, at a packet."""
+        """The seconds since the first packet, for a line that begins a packet."""
         return f"{line.time - begin:11.6f}" if line.time is not None and not line.text.startswith(" ") else " " * 11
 
     if asked.json:
@@ -122,7 +122,7 @@ def told(number, line):
 
 
 def data_line(line):
-    """A line with the data of another line, if that has any."""
+    """A line with the user data of another line, if it has any."""
     return () if line.data is None else (listing.Line(line.side, line.frame, line.time, line.packet, f"      {line.data.hex()}"),)
 
 

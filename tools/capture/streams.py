@@ -1,15 +1,17 @@
 """Joins TCP segments to the octets of each direction, in the order in which they passed, and finds the streams with TPKT in them.
 
-An octet has passed when all octets before it have: so of segments out of order the later octets wait, and what comes twice counts
-once. Octets that the capture does not have leave a gap, and behind a gap nothing is known.
+An octet has passed when all octets before it have passed. So if segments are out of order the later octets wait, and an octet that
+comes twice counts once. Octets that the capture doesn't have leave a gap, and after a gap nothing is known.
 """
 SPACE = 2 ** 32
 SIDES = ("left", "right")
 CONNECT_REQUEST = 0xE0
+# A direction in which nothing was sent counts as one that begins with a packet.
+FRONT = b"\3\0\0\7"
 
 
 class Piece:
-    """Octets of one direction that passed together: at which frame and time, and from which place in the direction on."""
+    """Octets of one direction that passed together: the frame and the time at which they did, and their place in the direction."""
 
     __slots__ = ("frame", "time", "start", "octets")
 
@@ -21,12 +23,13 @@ class Direction:
     """One direction of a TCP connection."""
 
     def __init__(self):
-        self.next, self.count, self.waiting = None, 0, {}
+        self.next, self.count, self.waiting, self.has_first = None, 0, {}, False
 
     def take(self, segment):
         """The octets that have passed with this segment, or none."""
         start = (segment.sequence + segment.is_first) % SPACE
         self.next = start if self.next is None else self.next
+        self.has_first = self.has_first or segment.is_first
         if len(segment.octets) > len(self.waiting.get(start, b"")):
             self.waiting[start] = segment.octets
         passed = b"".join(self.in_order())
@@ -35,7 +38,7 @@ class Direction:
         return piece if passed else None
 
     def in_order(self):
-        """The octets that are next, as far as they are there."""
+        """The next octets, as far as they are there."""
         while True:
             found = [(self.known(start), start) for start in self.waiting if 0 <= self.known(start) <= len(self.waiting[start])]
             if not found:
@@ -51,7 +54,7 @@ class Direction:
         return (self.next - start + SPACE // 2) % SPACE - SPACE // 2
 
     def lost(self):
-        """How many octets are missing in front of what waits."""
+        """How many octets are missing before those that wait."""
         ahead = [-self.known(start) for start in self.waiting if self.known(start) < 0]
         return min(ahead, default=0)
 
@@ -82,12 +85,12 @@ class Stream:
         return {port for _, port in self.ends}
 
     def why_not(self):
-        """Why nothing is made of it, or None."""
+        """Why the stream can't be read, or None."""
         lost = sum(direction.lost() for direction in self.directions.values())
         if lost:
             return f"lost segments: {lost} octets or more are not in the capture"
-        sent = [octets for octets in map(self.octets, self.ends) if octets]
-        return None if self.caller() is not None and all(map(is_packet, sent)) else "begins in the middle"
+        whole = all(self.directions[end].has_first or is_packet(self.octets(end) or FRONT) for end in self.ends)
+        return None if self.caller() is not None and whole else "begins in the middle"
 
     def by_side(self):
         """The pieces, each with its side: left is the caller."""
@@ -97,7 +100,7 @@ class Stream:
 
 
 def is_packet(octets):
-    """Whether octets may begin a TPKT packet: its header is there, and says so."""
+    """Whether octets begin with a header of TPKT."""
     return len(octets) >= 4 and octets[0] == 3 and int.from_bytes(octets[2:4], "big") >= 7
 
 
@@ -116,7 +119,7 @@ def joined(segments):
 
 
 def with_packets(streams, port):
-    """The streams that carry TPKT: by a CR at the front, or by the port where both directions look like packets."""
+    """The streams that carry TPKT: those that begin with a CR, and those at the port in which a direction looks like packets."""
     found = []
     for stream in streams.values():
         sent = [octets for octets in map(stream.octets, stream.ends) if octets]
@@ -126,7 +129,7 @@ def with_packets(streams, port):
 
 
 def packets(octets):
-    """The TPKT packets of octets, and last what is left: from which octet on, and how many."""
+    """The TPKT packets of octets, and at last the octets that are left: for each its place and its length."""
     start = 0
     while is_packet(octets[start:start + 4]):
         length = int.from_bytes(octets[start + 2:start + 4], "big")

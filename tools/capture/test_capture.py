@@ -96,7 +96,7 @@ class Captures(unittest.TestCase):
         return self.path("cut.pcapng")
 
     def slices(self, *ranges):
-        """The frames of these ranges, one behind the other, in this order."""
+        """The frames of these ranges, one after the other, in this order."""
         whole, names = self.capture(), []
         for first, last in ranges:
             names.append(self.path(f"{len(names)}.pcapng"))
@@ -196,7 +196,7 @@ class Captures(unittest.TestCase):
 
 
 class Texts(unittest.TestCase):
-    """Captures as files of hexadecimal digits: no tshark is asked."""
+    """Captures as files of hexadecimal digits, which need no tshark."""
 
     LEFT, RIGHT = (os.path.join(TUTORIAL, f"whole.{side}.hex") for side in streams.SIDES)
 
@@ -275,7 +275,7 @@ class Texts(unittest.TestCase):
 
 
 class Streams(unittest.TestCase):
-    """A stream as tshark tells it, of which no tshark is asked: a segment for each packet, an eighth of a second apart."""
+    """A stream as tshark prints it, without tshark: a segment for each packet, an eighth of a second apart."""
 
     def setUp(self):
         patched = mock.patch.object(program.tshark, "segments", self.segments)
@@ -321,14 +321,14 @@ class Joining(unittest.TestCase):
         pieces = [direction.take(self.segment(*each)) for each in segments]
         return b"".join(piece.octets for piece in pieces if piece), direction.lost()
 
-    def test_numbers_begin_anew_behind_the_last(self):
+    def test_numbers_begin_anew_after_the_last(self):
         last = 2 ** 32 - 2
         self.assertEqual(self.taken((last, b"", True), (last + 1, b"ab"), (last + 3, b"cd")), (b"abcd", 0))
 
     def test_overlaps_count_once(self):
         self.assertEqual(self.taken((5, b"abcd"), (7, b"cdef"), (6, b"bc"), (11, b"g")), (b"abcdefg", 0))
 
-    def test_a_gap_holds_back_what_stands_behind(self):
+    def test_a_gap_holds_back_what_comes_after_it(self):
         self.assertEqual(self.taken((5, b"ab"), (9, b"ef")), (b"ab", 2))
         self.assertEqual(self.taken((5, b"ab"), (9, b"ef"), (7, b"cd")), (b"abcdef", 0))
 

@@ -14,7 +14,7 @@ CONNECT_CONFIRM = 0xD0
 
 
 class Text:
-    """What was read of texts: `by_side` gives it as a stream of a network does. Where nothing tells times they are None."""
+    """The pieces of a text; `by_side` gives them as a stream of a network does. Times that the text doesn't have are None."""
 
     number = 0
 
@@ -68,13 +68,13 @@ def side_of(name, parts):
 
 
 def is_text(path):
-    """Whether a file is such a text, and no capture of a network: a pcapng begins with a line feed, but no text has a zero."""
+    """Whether a file is such a text and no capture of a network. (A pcapng begins with a line feed, but no text has a zero.)"""
     with open(path, "rb") as file:
         return re.fullmatch(rb"[\t\n\r ]*([0-9a-fA-F#][\t\n\r -~]*)?", file.read(4096)) is not None
 
 
 def read(name):
-    """What a name means: a text with one side or both, or NAME of which `split` wrote files. None if it is no text."""
+    """Reads a text with one side or both, or the files of NAME that `split` wrote. None if the name is no text."""
     if not os.path.exists(name) and any(os.path.exists(f"{name}.{end}") for end in ("follow", "left")):
         return Text(of_sides(name))
     if not os.path.isfile(name) or not is_text(name):

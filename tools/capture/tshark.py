@@ -8,7 +8,7 @@ FIELDS = ("frame.number", "frame.time_epoch", "tcp.stream", "ip.src", "ipv6.src"
 
 
 class BadInput(Exception):
-    """What is asked for can't be done; the text is one line for the user."""
+    """The program can't do what was asked; the text is one line for the user."""
 
 
 class Segment:

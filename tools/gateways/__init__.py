@@ -1,1 +1,1 @@
-"""What scripts/gateways runs against the programs of examples/gateway, beside each other."""
+"""Peers and runs that scripts/gateways uses against the programs of examples/gateway."""

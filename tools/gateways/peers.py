@@ -37,13 +37,13 @@ def data_in_class_2(reference, number, tsdu):
 
 
 def minor_point(number):
-    """A MIP that asks for its confirmation, behind the GT that it wants in front of it."""
+    """A GT, and after it a MIP that asks for its confirmation."""
     digits = b"%d" % number
     return b"\1\0" + bytes([0x31, 2 + len(digits), 0x2A, len(digits)]) + digits
 
 
 def units(octets):
-    """The transport units of whole packets: their code, its low half left out, and their first and second reference."""
+    """The transport units of whole packets: the high half of their code, and their first and second reference."""
     at = 0
     while at + 4 <= len(octets):
         length = int.from_bytes(octets[at + 2:at + 4], "big")
@@ -59,7 +59,7 @@ CC, DR, DT = 0xD0, 0x80, 0xF0
 
 
 class Reader(threading.Thread):
-    """Reads all that comes, as it comes, and keeps it."""
+    """Reads and keeps all that the peer sends."""
 
     def __init__(self, connection):
         super().__init__(daemon=True)
@@ -101,7 +101,7 @@ def asks_without_credit(port, sessions, points, seconds):
             for reference in own:
                 numbers = range(begins, min(begins + 100, points))
                 connection.sendall(b"".join(data_in_class_2(theirs[reference], n + 1, minor_point(n)) for n in numbers))
-        # Who answers this, by a CC or a DR, has read all that was sent before.
+        # A peer that answers this, by a CC or a DR, has read everything before it.
         connection.sendall(connect_request(sessions + 1, 2))
         answer = re.compile(rb"[\x80\xd0-\xdf]" + re.escape((sessions + 1).to_bytes(2, "big")))
         with reader.changed:

@@ -1,5 +1,5 @@
-"""An end over TLS: builds examples/gateway/tls.c where OpenSSL is there, and runs it with certificates that are and are not those
-that a side awaits."""
+"""An end over TLS: builds examples/gateway/tls.c if OpenSSL is there, and runs it with the certificates that a side awaits, and
+with others."""
 import os
 import shutil
 import subprocess
@@ -18,7 +18,7 @@ def build(compiler, words, to, missing):
 
 
 def pair(program, room, server, client, awaits_client, awaits_server, *more):
-    """A server and a client, each with its certificate, its authority and the name that it awaits: what each says, and its status."""
+    """Runs a server and a client, each with its certificate, its authority and the name that it awaits: their output and status."""
     def words(side, own, believes, awaits):
         return [program, "--side", side, "--certificate", f"{room}/{own}.pem", "--key", f"{room}/{own}.key", "--authority",
                 f"{room}/{believes}.pem", "--peer", awaits, "--wait", "60"]
@@ -31,7 +31,7 @@ def pair(program, room, server, client, awaits_client, awaits_server, *more):
 
 
 def runs(program, room):
-    """What each run shows, whether it holds, and what was seen."""
+    """For each run: what it tests, whether that holds, and what the programs printed."""
     for names in (("authority", "gateway.example", "centre.example"), ("another", "stranger.example")):
         subprocess.run(["sh", os.path.abspath(CERTIFICATES), *names], cwd=room, check=True)
     said = pair(program, room, "gateway.example", "centre.example", "centre.example", "gateway.example", "--octets", "1000000")
@@ -42,8 +42,8 @@ def runs(program, room):
     holds = holds and server[:1] == ["TLSv1.3 with centre.example"] and client[:1] == ["TLSv1.3 with gateway.example"]
     yield "two ends talk over TLS, and each knows the other's certificate", holds, str(said)
     for what, client, awaits_client, awaits_server, by in (
-            ("a client of another authority is shown to nobody", "stranger.example", "stranger.example", "gateway.example", 0),
-            ("a client of another name is shown to nobody", "centre.example", "others.example", "gateway.example", 0),
+            ("a client of another authority causes no indication", "stranger.example", "stranger.example", "gateway.example", 0),
+            ("a client of another name causes no indication", "centre.example", "others.example", "gateway.example", 0),
             ("a server of another name is told nothing", "centre.example", "centre.example", "others.example", 2)):
         said = pair(program, room, "gateway.example", client, awaits_client, awaits_server)
         why = "unable to get local issuer certificate" if client.startswith("stranger") else "hostname mismatch"

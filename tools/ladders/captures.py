@@ -1,4 +1,4 @@
-"""Two captures, one of each direction, as `osi show` lists them, put into one order: an answer after what it answers."""
+"""Puts two captures, one of each direction, into one order from their listings: an answer comes after what it answers."""
 import re
 
 from .picture import CAPTURE_KEY, Arrow, Picture, Row
@@ -14,12 +14,12 @@ TRANSPORT = re.compile(
     rf"|DT (dst {REFERENCE} )?number \d+ eot [01] octets \d+|AK credit \d+ dst {REFERENCE} number \d+"
     rf"|ER dst {REFERENCE} cause \d+|fault \d+ \w+)")
 INSIDE = re.compile(r"    (tsdu \d+|fault \d+ \w+( \d+)?)")
-# What a session unit of the other side has to come before.
+# The session unit of the other side that has to come before each of these.
 ANSWERS = {"AC": "CN", "RF": "CN", "RA": "RS", "MAA": "MAP", "MIA": "MIP", "DN": "FN", "NF": "FN", "AA": "AB"}
 
 
 class Packet:
-    """A packet of a listing: its lines, what it gives, and what has to have come before."""
+    """A packet of a listing: its lines, what it gives, and what has to come before it."""
 
     def __init__(self, side, text):
         self.side, self.lines, self.gives, self.needs, self.names = side, [text], [], [], []
@@ -46,19 +46,19 @@ def read(side, text):
 
 
 class Direction:
-    """What one side has sent so far, counted."""
+    """Counts what one side has sent so far."""
 
     def __init__(self):
         self.sent, self.units = {}, {}
 
     def count(self, name, key=None):
-        """One more of a name."""
+        """Counts one more of this name; how many there are now."""
         self.sent[name, key] = self.sent.get((name, key), 0) + 1
         return self.sent[name, key]
 
 
 def relate(packets, sources):
-    """Finds what each packet gives and needs. A key is a kind, a reference and which of them it is."""
+    """Finds what each packet gives and needs. A key has a kind, a reference and a count."""
     direction = Direction()
     for packet in packets:
         reference = None
@@ -71,7 +71,7 @@ def relate(packets, sources):
 
 
 def of_transport(packet, direction, row, sources):
-    """A transport unit; the connection that it is of, by the caller's reference."""
+    """Takes a transport unit, and gives its connection, by the caller's reference."""
     name = row.split(" ", 3)[2]
     fields = dict(FIELD.findall(row[2:].partition(" ")[2]))
     packet.names.append(name)
@@ -118,7 +118,7 @@ def connection_of(side, fields, name, sources):
 
 
 def references(listings):
-    """The caller's reference for each reference of the called end, as the confirms tell it."""
+    """The caller's reference for each reference of the called end, from the connect confirms."""
     sources = {}
     for row in listings["right"].split("\n"):
         if row.startswith("  CC "):
@@ -132,7 +132,7 @@ def references(listings):
 
 
 def of_session(packet, direction, row, reference):
-    """A session unit: it is named, and an answer needs what it answers."""
+    """Takes a session unit: names it, and lets an answer need what it answers."""
     found = SESSION.fullmatch(row)
     if not found:
         return
@@ -153,12 +153,12 @@ def of_session(packet, direction, row, reference):
 
 
 def numbered(found):
-    """The serial number of a session unit, as it is listed."""
+    """The serial number of a session unit, as the listing has it."""
     return "42=" + dict(re.findall(r" (\d+)=(\S*)", found.group(2) or "")).get("42", "")
 
 
 def without_what_is_missing(packets):
-    """Drops the needs that nothing in the other capture meets; how many packets had such."""
+    """Drops the needs that nothing in the other capture meets; the number of packets that had such needs."""
     missing = 0
     for side in ("left", "right"):
         given = {give for packet in packets[other(side)] for give in packet.gives}
@@ -170,7 +170,7 @@ def without_what_is_missing(packets):
 
 
 def merge(left, right):
-    """One order of the packets of both: none stands before what it needs. And how often that could not be kept."""
+    """One order of the packets of both, each after what it needs; and how often that was not possible."""
     queues, given, order, broken = {"left": left, "right": right}, {"left": set(), "right": set()}, [], 0
     place, side = {"left": 0, "right": 0}, "left"
     while place["left"] < len(left) or place["right"] < len(right):
@@ -217,13 +217,14 @@ def notes_of(missing, broken):
         notes.append(f"{missing} packet{'s' * (missing > 1)} answer{'s' * (missing == 1)} something that is not in the "
                      "capture of the other side.")
     if broken:
-        notes.append(f"{broken} packet{'s' * (broken > 1)} come{'s' * (broken == 1)} before what {'it' if broken == 1 else 'they'} must follow: "
+        one = broken == 1
+        notes.append(f"{broken} packet{'s' * (not one)} come{'s' * one} before what {'it' if one else 'they'} must follow: "
                      "the captures contradict each other.")
     return notes
 
 
 def add_packet(made, packet, index):
-    """The rows and the arrow of a packet; the index after it."""
+    """Adds the rows and the arrow of a packet; the index after it."""
     start, number = index, int(packet.reference, 16) if packet.reference else None
     for row in packet.lines:
         mark = "call" if index == start and packet.octets else "carried"

@@ -2,7 +2,7 @@
 from bisect import bisect_left
 from xml.sax.saxutils import escape
 
-from .style import STYLE, PALETTE
+from .style import STYLE, VERDICT, PALETTE
 from .picture import cut, wrapped
 
 TEXT, LETTER, LINE_HEIGHT, TOP = 270, 7.25, 15, 76
@@ -12,7 +12,7 @@ PLACES = (0.3, 0.45, 0.6, 0.18, 0.74, 0.86)
 
 
 class Page:
-    """Where things stand: columns by connection, rows by line."""
+    """The places on the page: columns by connection, rows by line."""
 
     def __init__(self, picture, first, last):
         self.picture = picture
@@ -36,10 +36,12 @@ class Page:
         self.top, self.bottom = TOP - 6, place + 6
         self.order = sorted(self.at)
         self.notes = [part for note in self.picture.notes for part in wrapped(note, 128, 3)]
-        self.height = self.bottom + 28 + 16 * (len(self.picture.key) + len(self.notes))
+        self.box = [part for text in self.picture.verdict for part in wrapped(text, 116, 3)]
+        self.below = self.bottom + (18 * len(self.box) + 26 if self.box else 0)
+        self.height = self.below + 28 + 16 * (len(self.picture.key) + len(self.notes))
 
     def y(self, index):
-        """The height of a line; of one that is not shown that of the next which is, or an edge."""
+        """The height of a line. A line that is not drawn has that of the next one that is, or that of an edge."""
         found = self.at.get(index)
         if found is not None:
             return found
@@ -55,13 +57,13 @@ class Page:
         return inwards if side == "left" else self.width - inwards
 
     def inner(self, x, width):
-        """The place nearest to x for a label that lies on no life line."""
+        """The place nearest to x at which a label covers no life line."""
         last = self.picture.connections[-1] if self.picture.connections else None
         left, right = self.x("left", last) + 8 + width / 2, self.x("right", last) - 8 - width / 2
         return min(max(x, left), right)
 
     def colour(self, connection):
-        """The classes of a connection: its colour, and a dash where colours come again."""
+        """The classes of a connection: its colour, and a dash if colours come again."""
         place = self.place.get(connection, 0)
         return f"c{place % PALETTE}" + (f" s{min(place // PALETTE, 3)}" if place >= PALETTE else "")
 
@@ -70,7 +72,7 @@ class Page:
         self.parts.append(text)
 
     def free(self, x, y, width):
-        """Takes a place for a label where none is, or answers that there is one."""
+        """Takes a place for a label if no label is there; whether it did."""
         slot = int(y // 13)
         for near in (slot - 1, slot, slot + 1):
             for left, right, height in self.taken.get(near, ()):
@@ -91,6 +93,8 @@ def draw(picture, first=0, last=10 ** 12, progress=None):
     for row in page.rows:
         if row.mark == "broken":
             draw_break(page, row)
+        elif row.mark == "refused" and picture.verdict:
+            page.add(f'<rect class="wrong" x="8" y="{page.at[row.index] - 9}" width="{page.width - 16}" height="18"/>')
     shown = [arrow for arrow in picture.arrows if arrow.end >= first and arrow.start <= last]
     labels = [draw_arrow(page, arrow) for arrow in sorted(shown, key=lambda arrow: arrow.minor)]
     page.parts.extend(labels)
@@ -104,14 +108,14 @@ def draw(picture, first=0, last=10 ** 12, progress=None):
 
 
 def head(page):
-    """The beginning of the page: what it is of, its style, and the heads of the columns."""
+    """Draws the beginning of the page: its title, its style, and the heads of the columns."""
     picture, middle = page.picture, page.width / 2
     page.add(f'<svg xmlns="http://www.w3.org/2000/svg" width="{page.width}" height="{page.height}" '
              f'viewBox="0 0 {page.width} {page.height}" role="graphics-document" aria-labelledby="title" '
              f'aria-describedby="description">')
     page.add(f'<title id="title">{escape(picture.title)}</title>')
     page.add(f'<desc id="description">{escape(picture.description)}</desc>')
-    page.add(STYLE)
+    page.add(STYLE + (VERDICT if picture.verdict else ""))
     page.add(f'<rect class="paper" width="{page.width}" height="{page.height}"/>')
     page.add(f'<text class="head" x="{middle}" y="24" text-anchor="middle">{escape(cut(picture.title, 112))}</text>')
     page.add(f'<text class="head" x="{TEXT}" y="50" text-anchor="end">left: the caller</text>')
@@ -127,13 +131,13 @@ def head(page):
 
 
 def band_x(page, side, connection, place):
-    """Where the band of a token begins: outwards of the life line."""
+    """The left edge of the band of a token, outside of the life line."""
     x = page.x(side, connection)
     return x - 4 - (4 - place) * BAND if side == "left" else x + 4 + place * BAND
 
 
 def draw_band(page, band):
-    """A token that is held, from a line to a line."""
+    """Draws the band of a token, from the line at which the end got it to that at which it gave it away."""
     top, bottom = page.y(band.start), page.y(band.end)
     if bottom <= top:
         return
@@ -146,7 +150,7 @@ def draw_band(page, band):
 
 
 def draw_life(page, side, connection, span):
-    """The life line of an end of a connection, with a bar where it ended."""
+    """Draws the life line of an end of a connection, with a double bar at its end."""
     x, begun, ended = page.x(side, connection), page.y(span[0]), page.bottom if span[1] is None else page.y(span[1])
     colour = page.colour(connection)
     page.add(f'<path class="way {colour}" d="M{x} {page.top}V{page.bottom}"/>')
@@ -157,7 +161,7 @@ def draw_life(page, side, connection, span):
 
 
 def draw_break(page, row):
-    """A break of the byte connection, across the middle."""
+    """Draws a break of the byte connection, across the middle."""
     y, left, right = page.at[row.index], TEXT + 10, page.width - TEXT - 10
     steps = int((right - left) // 12)
     points = " ".join(f"{left + 12 * step},{y + (4 if step % 2 else -4)}" for step in range(steps + 1))
@@ -166,7 +170,7 @@ def draw_break(page, row):
 
 
 def draw_arrow(page, arrow):
-    """An arrow; the answer is its label, which is drawn above all arrows."""
+    """Draws an arrow, and gives its label, which is drawn above all arrows."""
     number = arrow.connection if arrow.connection is not None else (page.picture.connections or [1])[0]
     start, end = page.x(arrow.side, number), page.x("right" if arrow.side == "left" else "left", number)
     way = end - start
@@ -174,7 +178,7 @@ def draw_arrow(page, arrow):
     if arrow.stop == "dropped":
         x1 -= 14 if way > 0 else -14
     kind = "plain" if arrow.connection is None else page.colour(arrow.connection)
-    kind += (" minor" if arrow.minor else "") + (" open" if arrow.stop == "open" else "")
+    kind += (" minor" if arrow.minor else "") + (" open" if arrow.stop == "open" else "") + (" wrong" if arrow.wrong else "")
     parts = [f'<g class="arrow {kind}"><title>{escape(arrow.whole)}</title>'
              f'<path class="shaft" d="M{x0:.1f} {y0}L{x1:.1f} {y1}"/>', tip(x0, y0, x1, y1, arrow.stop), "</g>"]
     page.add("".join(parts))
@@ -189,7 +193,7 @@ def draw_arrow(page, arrow):
 
 
 def tip(x0, y0, x1, y1, stop):
-    """How an arrow ends: a head, or a ring (more follows), a bar (nobody is shown it), a cross (it is cut)."""
+    """The tip of an arrow: a head, a ring (more follows), a bar (it causes no indication) or a cross (it is cut)."""
     if stop == "rest":
         return f'<circle class="rest" cx="{x1:.1f}" cy="{y1}" r="2"/>'
     if stop == "cut":
@@ -206,7 +210,7 @@ def tip(x0, y0, x1, y1, stop):
 
 
 def draw_row(page, row):
-    """A line: its text at its side, and its mark."""
+    """Draws a line: its text at its side, and its mark."""
     y = page.at[row.index]
     rows, notes = page.texts[row.index]
     if row.side:
@@ -245,10 +249,22 @@ def mark_of(page, row, y):
     return f'<circle class="{"call" if row.mark == "call" else "seen"} {colour}" cx="{x}" cy="{y}" r="4"/>'
 
 
+def draw_box(page):
+    """Draws the verdict in a box; its first line is the answer."""
+    if not page.box:
+        return
+    page.add(f'<rect class="box{" bad" if page.picture.is_wrong else ""}" x="16" y="{page.bottom + 10}" width="{page.width - 32}" '
+             f'height="{18 * len(page.box) + 10}" rx="4"/>')
+    for place, text in enumerate(page.box):
+        kind = "verdict" if place else "head"
+        page.add(f'<text class="{kind}" x="28" y="{page.bottom + 29 + 18 * place}">{escape(text)}</text>')
+
+
 def foot(page):
-    """The key, and what has to be said about the picture."""
+    """Draws the verdict, the key, and the notes about the picture."""
+    draw_box(page)
     key = page.picture.key
     for place, text in enumerate(key):
-        page.add(f'<text class="key" x="16" y="{page.bottom + 26 + 16 * place}">{text}</text>')
+        page.add(f'<text class="key" x="16" y="{page.below + 26 + 16 * place}">{text}</text>')
     for place, text in enumerate(page.notes):
-        page.add(f'<text class="key" x="16" y="{page.bottom + 26 + 16 * (len(key) + place)}">{escape(text)}</text>')
+        page.add(f'<text class="key" x="16" y="{page.below + 26 + 16 * (len(key) + place)}">{escape(text)}</text>')

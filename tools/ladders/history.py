@@ -8,16 +8,16 @@ ENDINGS = ("Released", "Refused", "Aborted", "ProviderAbort")
 
 
 class Band:
-    """A token that an end holds, from one line up to another."""
+    """A token that an end holds, from the line `start` to the line `end`; `since` names the packet that brought it, if known."""
 
-    __slots__ = ("side", "connection", "token", "start", "end")
+    __slots__ = ("side", "connection", "token", "start", "end", "since")
 
-    def __init__(self, side, connection, token, start):
-        self.side, self.connection, self.token, self.start, self.end = side, connection, token, start, None
+    def __init__(self, side, connection, token, start, since=None):
+        self.side, self.connection, self.token, self.start, self.end, self.since = side, connection, token, start, None, since
 
 
 class History:
-    """Bands, points, beginnings and endings of a transcript; `notes` has what is said below a line."""
+    """Bands, points, beginnings and endings of a transcript; `notes` has the note below a line."""
 
     def __init__(self, lines, wire, asked=None):
         self.lines, self.wire, self.asked = lines, wire, asked or {}
@@ -27,7 +27,7 @@ class History:
         self.later = self.answers_ahead()
 
     def answers_ahead(self):
-        """For each end of a connection the lines that tell of it, with where they stand."""
+        """For each end of a connection its indications and states: their indexes, and the lines."""
         found = {}
         for line in self.lines:
             if line.connection is not None and line.kind in ("shown", "standing"):
@@ -37,7 +37,7 @@ class History:
         return found
 
     def run(self):
-        """Follows all lines, and closes what is open at the last."""
+        """Follows all lines, and ends the open bands after the last."""
         for line in self.lines:
             if line.connection is not None and not line.error:
                 self.follow(line)
@@ -115,13 +115,13 @@ class History:
                 self.open.pop(place).end = index
 
     def of_sides(self, key, sides, is_asker):
-        """The tokens that are at a side by four letters, of those that there are."""
+        """The tokens that four letters give to a side, of those that are available."""
         units = self.available.get(key[1], 0)
         mine = "a" if is_asker else "r"
         return sum(bit for (_, bit, unit), letter in zip(TOKENS, sides) if letter == mine and units & unit)
 
     def fields_of(self, line):
-        """What is known of a call: from the script, or from the line in which the other user saw it."""
+        """The known fields of a call: from the script, or from the indication that it caused."""
         fields = dict(self.asked.get(line.index, {}))
         message = self.wire.messages.get(line.index)
         if message is not None:
@@ -131,7 +131,7 @@ class History:
         return fields
 
     def accepted(self, line, key):
-        """An end has accepted a connection: the letters are those of the AC."""
+        """Follows an accept: the sides of the tokens are those of the AC."""
         fields = self.fields_of(line)
         for seen in self.later.get(("left", key[1]), ((), ()))[1]:
             if seen.name == "Connected":
@@ -143,7 +143,7 @@ class History:
             self.guess(line, key)
 
     def give(self, line, key):
-        """Tokens are given: which, the script tells, or who is given them."""
+        """Follows a give: the script or the other user's indication names the tokens."""
         fields = self.fields_of(line)
         if "tokens" in fields:
             self.hold(key, self.held(key) & ~int(fields["tokens"], 16), line.index)
@@ -151,7 +151,7 @@ class History:
             self.guess(line, key)
 
     def answered(self, line, key):
-        """A restart is confirmed."""
+        """Follows the confirmation of a restart."""
         fields = self.fields_of(line)
         if "sides" in fields:
             self.hold(key, self.of_sides(key, fields["sides"], False), line.index)
@@ -159,7 +159,7 @@ class History:
             self.guess(line, key)
 
     def guess(self, line, key):
-        """Which tokens are held after a line is known only from the state of the connection at the end, if at all."""
+        """Finds the tokens after a line from the next line of this end, if that is a state; else none are drawn."""
         indexes, later = self.later.get(key, ((), ()))
         place = bisect_right(indexes, line.index)
         if place < len(later) and later[place].kind == "standing":
@@ -171,7 +171,7 @@ class History:
     # Points.
 
     def point(self, line, key, number):
-        """A point, with what came before it since the last one."""
+        """Notes a point, and the data before it since the last point."""
         data = self.since.pop(key, [])
         self.marks[line.index] = number
         text = f"point {'?' if number is None else number}"
@@ -179,14 +179,14 @@ class History:
         self.notes[line.index] = text + (f" after {told}" if data else " after no data")
 
     def back(self, line, key, number):
-        """A restart: what came after its number is void."""
+        """Notes a restart: the data after its number is void."""
         self.since.pop(key, None)
         if line.kind == "call" or line.name == "Restart":
             self.notes[line.index] = f"back to {'?' if number is None else number}"
 
 
 def overlaps(bands):
-    """The pairs of bands in which one token is on both sides at a line."""
+    """The pairs of bands that have one token on both sides at once."""
     found, by_token = [], {}
     for band in bands:
         by_token.setdefault((band.connection, band.token), []).append(band)

@@ -1,4 +1,4 @@
-"""How many octets a message is written in: session units of X.225, in data units of X.224, in packets."""
+"""How many octets a message takes: as session units of X.225, in data units of X.224, in packets."""
 
 PACKET, DATA_UNIT, ACKNOWLEDGED = 4, {"0": 3, "2": 5}, 9
 CLOSING, CLOSED, CONFIRMED = 11, 10, {"0": 14, "2": 17}
@@ -15,7 +15,7 @@ def coded(octets):
 
 
 def optional(octets):
-    """User data, which is not written where it is empty."""
+    """User data, which is not written if it is empty."""
     return coded(octets) if octets else 0
 
 
@@ -25,7 +25,7 @@ def serial_length(number):
 
 
 def sizes_length(fields):
-    """The parameter with the sizes of TSDUs, which is not written where both are 0."""
+    """The parameter with the sizes of TSDUs, which is not written if both are 0."""
     return coded(4) if any(int(fields.get(size) or 0) for size in SIZES) else 0
 
 
@@ -43,7 +43,7 @@ def behind_a_token_item(*parameters):
 
 
 def tsdu_length(name, fields):
-    """How many octets the TSDU of a call has, or None if a field that decides it is not known."""
+    """The length of the TSDU of a call, or None if a field that it depends on is not known."""
     data = fields.get("data")
     octets = None if data is None else 0 if data == "-" else len(data) // 2
     try:
@@ -53,15 +53,15 @@ def tsdu_length(name, fields):
 
 
 def smaller(size, answer):
-    """The size of TSDUs for one direction, of a CN's and the answerer's: 0 if the CN has none (X.225 6.3)."""
+    """The agreed size of TSDUs for one direction, from those of the CN and of the answerer; 0 if the CN has none (X.225 6.3)."""
     asked, answered = int(size or 0), int(answer or 0)
     return min(asked, answered) if asked and answered else asked
 
 
 def tsdu_lengths(name, fields, most):
-    """The lengths of the TSDUs in which a call leaves, [None] where that is not known.
+    """The lengths of the TSDUs of a call, [None] if they are not known.
 
-    Data leaves in parts where it would be longer than `most` octets as one TSDU; 0 is no limit."""
+    Data leaves in parts if it would be longer than `most` octets as one TSDU; 0 is no limit."""
     whole = tsdu_length(name, fields)
     if name != "data" or not most or whole is None or whole <= most:
         return [whole]
@@ -94,9 +94,9 @@ WRITTEN = {
 
 
 def parts(tsdu, link_class, limit):
-    """The lengths of the packets of a TSDU, or None if they are not told.
+    """The lengths of the packets of a TSDU, or None if they are not known.
 
-    `limit` is how many octets of a TSDU a data unit has at most, or None if that is not known."""
+    `limit` is the largest number of octets of a TSDU in one data unit, or None if it is not known."""
     if tsdu is None or link_class not in DATA_UNIT:
         return None
     if limit is None and tsdu > SMALLEST_LIMIT:

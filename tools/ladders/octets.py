@@ -1,12 +1,12 @@
-"""What stands in the queues of octets: messages, the packets in which they are written, and what carries carried."""
+"""The contents of the queues of octets: messages, their packets, and the pieces that carries carried."""
 from collections import deque
 
 
 class Message:
-    """What one line sends on one connection; `shown` is the index of the line in which it is seen.
+    """What one line sends on one connection; `shown` is the index of the indication that it causes.
 
-    Data that leaves in parts is a message for each of them: `part` is then its place and how many there are, and
-    only the last part has the name of the call."""
+    Data that leaves in parts is one message for each part. `part` is then its place and the number of parts, and only
+    the last part has the name of the call."""
 
     __slots__ = ("side", "connection", "name", "line", "fields", "shown", "arrived", "part")
 
@@ -36,8 +36,8 @@ class Packet:
 class Piece:
     """The octets of a run, from `begin` up to `reach`, that one carry carried.
 
-    They are drawn from the line `start` to the line `end`. A piece without a run is octets of which
-    nothing more is told. `dropped` is whether they brought a message that nobody is shown."""
+    They are drawn from the line `start` to the line `end`. A piece without a run has octets of an unknown unit.
+    `dropped` is whether they completed a message that causes no indication."""
 
     __slots__ = ("side", "run", "begin", "reach", "start", "end", "carry", "dropped")
 

@@ -1,4 +1,4 @@
-"""What a picture shows, before it is drawn: rows of text at their sides, arrows, bands and marks."""
+"""The contents of a picture before it is drawn: rows of text at their sides, arrows, bands and marks."""
 import textwrap
 
 from .history import overlaps
@@ -9,7 +9,7 @@ UNITS = {"connect": "CN", "accept": "AC", "refuse": "RF", "data": "DT", "give": 
 
 
 class Row:
-    """A line that is shown: its text whole and as it stands at its side, a note below it, and its mark."""
+    """A row of the picture: the whole line, the text that is drawn at its side, a note below it, and its mark."""
 
     __slots__ = ("index", "whole", "text", "note", "side", "connection", "mark", "point", "muted")
 
@@ -19,17 +19,17 @@ class Row:
 
 
 class Arrow:
-    """Octets that crossed, from a line to a line, between two parts of the way from 0 to 1.
+    """Octets that were carried, from one line to another, over the part of the way from `begin` to `reach` (0 to 1).
 
-    `stop` is empty where it arrives, `rest` where more follows, `cut` where it ends inside a packet,
-    `dropped` where nobody is shown it, `open` where the transcript does not tell where it ends."""
+    `stop` is empty if it arrives, `rest` if more follows, `cut` if it ends inside a packet, `dropped` if it causes no
+    indication, and `open` if the transcript doesn't tell where it ends. `wrong` is an arrow that broke the protocol."""
 
-    __slots__ = ("side", "connection", "start", "end", "begin", "reach", "label", "whole", "stop", "minor", "carry")
+    __slots__ = ("side", "connection", "start", "end", "begin", "reach", "label", "whole", "stop", "minor", "carry", "wrong")
 
     def __init__(self, side, connection, start, end, begin, reach, label, whole):
         self.side, self.connection, self.start, self.end = side, connection, start, end
         self.begin, self.reach, self.label, self.whole = begin, reach, label, whole
-        self.stop, self.minor, self.carry = "", False, end
+        self.stop, self.minor, self.carry, self.wrong = "", False, end, False
 
 
 KEY = ("● an accepted call · ○ an indication that a user received · × a refused call · ◆ a point sent · ◇ a point seen · "
@@ -42,9 +42,10 @@ CAPTURE_KEY = ("An arrow is a packet: it begins at the line that names it and en
 
 
 class Picture:
-    """All that is drawn. `spans` has for each end of a connection the lines from and to which it is there."""
+    """All that is drawn. `spans` has for each end of a connection the lines from and to which it is there; `verdict` has the lines of
+    a box, and `is_wrong` tells whether it is a bad one."""
 
-    key, has_tokens = KEY, True
+    key, has_tokens, verdict, is_wrong = KEY, True, (), False
 
     def __init__(self, title, description):
         self.title, self.description = title, description
@@ -171,12 +172,12 @@ def never_carried(wire):
 
 
 def cut(text, width):
-    """A text of at most so many columns, with an ellipsis where it is longer."""
+    """A text of at most so many columns; a longer one is cut and has an ellipsis."""
     return text if len(text) <= width else text[:max(width - 1, 0)] + "…"
 
 
 def wrapped(text, width, most):
-    """A text in at most so many lines of so many columns; the last has an ellipsis where more is left."""
+    """A text in at most so many lines of so many columns; if more is left, the last line has an ellipsis."""
     if len(text) <= width:
         return [text]
     if len(text) > width * (most + 1):

@@ -1,67 +1,75 @@
 """The program `osi-ladders`: reads its words and its input, and writes one picture or nothing."""
 import argparse
 import os
+import re
 import sys
 import tempfile
 
-from . import captures, drawing, history, picture, script, terminal, transcript, wire
+from . import captures, drawing, history, judged, picture, script, terminal, transcript, verdicts, wire
 from .transcript import BadInput
 
 ABOUT = """Draws a ladder of a run of two ends, as SVG: of what `osi pair` printed, of a script, for which it runs
-`osi pair`, or of the two captures of a gateway, for which it runs `osi show`."""
+`osi pair`, of the two captures of a gateway, for which it runs `osi show`, or of a capture of both directions with the verdict on
+it, for which it runs `osi judge`."""
 
 
 class Words(argparse.ArgumentParser):
-    """Words that can't be read are one line on standard error, status 2."""
+    """A wrong option is one line on standard error, and status 2."""
 
     def error(self, message):
         raise BadInput(message)
 
 
 def words():
-    """What the program takes."""
+    """The options of the program."""
     parser = Words(prog="osi-ladders", description=ABOUT)
-    parser.add_argument("file", nargs="?", help="a transcript or a script; standard input where none is named or -")
+    parser.add_argument("file", nargs="?", help="a transcript or a script; standard input if none is named, or -")
     parser.add_argument("--script", help="the script that the transcript is of: then all octets are known")
     parser.add_argument("--left", help="a capture of what the left end, which calls, sent; or its listing")
     parser.add_argument("--right", help="a capture of what the right end sent; or its listing")
+    parser.add_argument("--judge", metavar="CAPTURE", help="a capture of both sides, as osi judge reads it: draws the verdict on it")
+    parser.add_argument("--verdicts", metavar="FILE", help="what --states printed of that capture; with --left and --right no "
+                        "program is run")
+    parser.add_argument("--states", action="store_true", help="with --judge: print what osi judge says after each packet, and draw "
+                        "nothing")
     parser.add_argument("--connection", type=int, action="append", metavar="N",
                         help="show this connection (and others so named)")
-    parser.add_argument("--from", dest="first", type=int, default=1, metavar="LINE", help="the first line to show")
+    parser.add_argument("--from", dest="first", type=int, default=1, metavar="LINE",
+                        help="the first line to show; with --judge the first packet")
     parser.add_argument("--to", dest="last", type=int, default=10 ** 9, metavar="LINE", help="the last line to show")
     parser.add_argument("--text", action="store_true", help="draw in the columns of a terminal")
     parser.add_argument("--columns", type=int, default=100, metavar="N", help="so many columns (100; at least 60)")
     parser.add_argument("--title", help="what the picture is of")
-    parser.add_argument("--output", "-o", help="the file to write; standard output where none is named")
+    parser.add_argument("--output", "-o", help="the file to write; standard output if none is named")
     parser.add_argument("--osi", help="the program osi (else the one of this repository)")
     return parser
 
 
 class Progress:
-    """How far a long run is, on a terminal; its line is cleared in the end."""
+    """Shows on a terminal how far a long run is; the line is cleared at the end."""
 
-    def __init__(self, stream):
-        self.stream, self.shown = stream, False
+    def __init__(self, stream, name="osi-ladders"):
+        self.stream, self.name, self.shown = stream, name, False
         self.is_terminal = stream.isatty()
 
     def __call__(self, done, of):
         if self.is_terminal and of >= 5000 and done % 1000 == 0:
-            self.say(f"osi-ladders: {done:,} of {of:,} lines")
+            self.say(f"{self.name}: {done:,} of {of:,} lines")
 
     def running(self, what):
-        """What is told each second that a program runs."""
-        self.say(f"osi-ladders: running {what}")
-        return lambda seconds: self.say(f"osi-ladders: running {what}, {seconds} s")
+        """A function to call each second that a program runs."""
+        self.say(f"{self.name}: running {what}")
+        return lambda seconds: self.say(f"{self.name}: running {what}, {seconds} s")
 
     def say(self, text):
-        """Shows a text in the place of the one before."""
+        """Shows a text in place of the one before."""
         if self.is_terminal:
             self.shown = True
             self.stream.write(f"\r\x1b[K{text}")
             self.stream.flush()
 
     def end(self):
-        """Leaves nothing on the line."""
+        """Clears the line."""
         if self.shown:
             self.stream.write("\r\x1b[K")
             self.stream.flush()
@@ -105,7 +113,7 @@ def picture_of_run(options, progress):
 
 
 def readable(title):
-    """A title without what an XML file can't have and a terminal is not to be sent."""
+    """A title without the characters that an XML file can't have, or that would control a terminal."""
     return "".join(letter if letter.isprintable() else "\ufffd" for letter in title)
 
 
@@ -127,8 +135,30 @@ def picture_of_captures(options, progress):
     return captures.picture_of(listings, readable(options.title or "two captures"))
 
 
+def judged_capture(options, progress):
+    """The picture of a capture of both sides with its verdict; or, with --states, what `osi judge` says after each packet."""
+    text = read_text(options.judge)
+    told = verdicts.read(read_text(options.verdicts)) if options.verdicts else None
+    listings = {}
+    for side, name in (("left", options.left), ("right", options.right)):
+        octets = b"".join(piece.octets for piece in judged.read(text) if piece.side == side)
+        listings[side] = read_text(name) if name else octets and script.run(
+            options.osi, "show", octets.hex(), progress.running("osi show"))
+    judge = judged.runner(options.osi, progress.running)
+    if options.states:
+        return judged.told(text, listings, judge)
+    named = os.path.basename(options.judge) if options.judge != "-" else "a capture of both sides"
+    return judged.picture_of(text, listings, readable(options.title or title_of_capture(text) or named), judge, told)
+
+
+def title_of_capture(text):
+    """The comment with which a capture begins, or None."""
+    first = text.split("\n", 1)[0]
+    return first[1:].strip() or None if first.startswith("#") and not re.match(r"# \d+\.\d+ frame", first) else None
+
+
 def write(name, text):
-    """Writes all of it or nothing: beside the file, and then in its place. What is no file is written as it is."""
+    """Writes all of it or nothing: into another file beside it, which then takes its place. A device is written as it is."""
     if name is None:
         sys.stdout.buffer.write(text.encode("utf-8"))
         sys.stdout.flush()
@@ -154,18 +184,30 @@ def write(name, text):
         raise
 
 
+def picture_asked_for(options, progress):
+    """The picture that the options ask for; with --states a text."""
+    if options.judge:
+        return judged_capture(options, progress)
+    return picture_of_captures(options, progress) if options.left else picture_of_run(options, progress)
+
+
 def make(options, progress):
     """Reads, draws and writes."""
     if (options.left is None) != (options.right is None):
         raise BadInput("--left and --right go together")
-    if options.left and (options.file or options.script or options.connection):
+    if (options.left or options.judge) and (options.file or options.script or options.connection):
         raise BadInput("captures are drawn without a transcript, a script and --connection")
+    if (options.verdicts or options.states) and not options.judge:
+        raise BadInput("--verdicts and --states go with --judge")
     if not 1 <= options.first <= options.last:
         raise BadInput("--from and --to are lines from 1 on, in this order")
-    made = picture_of_captures(options, progress) if options.left else picture_of_run(options, progress)
-    if made.rows and options.first > made.rows[-1].index + 1:
-        raise BadInput(f"there is no line {options.first}")
-    span = options.first - 1, options.last - 1
+    made = picture_asked_for(options, progress)
+    if isinstance(made, str):
+        return made
+    of_each = 2 if options.judge else 1
+    if made.rows and of_each * (options.first - 1) > made.rows[-1].index:
+        raise BadInput(f"there is no {'packet' if options.judge else 'line'} {options.first}")
+    span = of_each * (options.first - 1), of_each * options.last - 1
     if options.text:
         return terminal.draw(made, *span, columns=options.columns, progress=progress)
     return drawing.draw(made, *span, progress=progress)

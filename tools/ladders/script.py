@@ -37,7 +37,7 @@ def is_script(text):
 
 
 def read(text):
-    """The script that a text is. Lines that spell nothing are left to `osi pair`."""
+    """Reads a script. Lines that are no event are left to `osi pair`."""
     rows = [row for row in text.split("\n") if row and not row.startswith("#")]
     if not rows or not ENDS.fullmatch(rows[0]):
         raise BadInput("the first line of the script is no `ends CALLER CALLED SIZE WINDOW`")
@@ -47,7 +47,7 @@ def read(text):
 
 
 def event_of(words):
-    """The name and the fields of an event; no field where the words don't fit."""
+    """The name and the fields of an event; no fields if the words don't fit."""
     name, rest = words[0], words[1:]
     if name in ("left", "right") and len(words) > 2:
         name, rest = words[2], words[3:]
@@ -63,7 +63,7 @@ def event_of(words):
 
 
 def match(script, lines):
-    """What was asked for at each line that answers an event: its index and the fields of the event."""
+    """The fields of the event that each line answers, by the index of the line."""
     answers = [line for line in lines if line.kind in ("connect", "call", "carried", "broken", "told")]
     asked = {}
     for line, (name, fields) in zip(answers, script.events):
@@ -81,7 +81,7 @@ def title_of(text):
 
 
 def run(program, word, text, tick=lambda seconds: None):
-    """What the program `osi` prints for a text, or `BadInput` where it prints nothing."""
+    """Runs the program `osi` on a text, and gives what it prints; `BadInput` if it prints nothing."""
     beside = os.path.join(TOP, "osi")
     command = [program or (beside if os.path.isfile(beside) else "osi"), word]
     try:
@@ -97,7 +97,7 @@ def run(program, word, text, tick=lambda seconds: None):
 
 
 def wait(started, text, tick):
-    """What a program prints, and its messages; each second is told."""
+    """Waits for a program: what it prints, and its messages. `tick` is called each second."""
     seconds = 0
     while True:
         try:

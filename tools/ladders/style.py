@@ -33,3 +33,8 @@ STYLE = ("<style>" + "text{font:12px 'DejaVu Sans Mono',Menlo,Consolas,'Liberati
          + ".diamond.seen{fill:#fff}"
          + "@media (prefers-color-scheme:dark){"
          + colours(DARK, "#14171a", "#e8e8e8", "#b0b4b8", "#ff9a5c") + ".diamond.seen{fill:#14171a}}</style>")
+# What only a picture with a verdict has.
+VERDICT = ("<style>.box{fill:none;stroke:currentColor;stroke-width:1.5}text.verdict{font-size:12px}"
+           ".box.bad,.wrong .shaft{stroke:#a33c00}rect.wrong{fill:#a33c00;fill-opacity:.13}.wrong .tip{fill:#a33c00}"
+           ".wrong .shaft{stroke-width:3}"
+           "@media (prefers-color-scheme:dark){.box.bad,.wrong .shaft{stroke:#ff9a5c}rect.wrong,.wrong .tip{fill:#ff9a5c}}</style>")

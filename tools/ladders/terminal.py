@@ -8,7 +8,7 @@ LEAST = 60
 
 
 def draw(picture, first=0, last=10 ** 12, columns=100, progress=None):
-    """The rows, each of so many columns at most; the sides and the tokens stand below each other."""
+    """The rows, each of at most so many columns; the sides and the tokens are aligned."""
     columns = max(columns, LEAST)
     side = (columns - 2 * 8 - 6) * 4 // 11
     middle = columns - 2 * side - 2 * 8
@@ -23,13 +23,21 @@ def draw(picture, first=0, last=10 ** 12, columns=100, progress=None):
             out.append(one_row(row, arrows.get(row.index, []), tokens, side, middle))
         if progress:
             progress(row.index, picture.rows[-1].index + 1)
+    out += box(picture.verdict, columns)
     for note in picture.notes:
         out += wrapped(note, columns, 9)
     return "\n".join(line.rstrip() for line in out) + "\n"
 
 
+def box(verdict, columns):
+    """The verdict in a box, if there is one."""
+    rows = [part for text in verdict for part in wrapped(text, columns - 4, 9)]
+    edge = "+" + "-" * (columns - 2) + "+"
+    return [edge, *(f"| {row:{columns - 4}} |" for row in rows), edge] if rows else []
+
+
 def holding(picture):
-    """What tells for a row, asked in their order, which tokens the ends of its connection hold."""
+    """A function that gives, for rows in their order, the tokens that both ends of the row's connection hold."""
     starts, ends, now = {}, {}, {}
     for band in picture.bands:
         starts.setdefault(band.start, []).append(band)
@@ -60,7 +68,7 @@ def one_row(row, arrows, tokens, side, middle):
     """A row of the terminal."""
     signs = {"left": "|", "right": "|"}
     texts = {"left": "", "right": ""}
-    across = crossing(row, arrows, middle) if row.mark == "carried" else ""
+    across = crossing(row, arrows, middle) if row.side else ""
     if row.side:
         sign = SIGNS.get(row.mark, "|")
         signs[row.side] = sign if sign != " " else "|"

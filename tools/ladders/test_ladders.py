@@ -24,7 +24,7 @@ def text_of(name):
 
 
 def is_whole(name):
-    """Whether a transcript has its lines as they are: those behind `long` are written short."""
+    """Whether a transcript has its lines as they are; a run with `long` data has shortened ones."""
     text = text_of(name)
     return " times " not in text and "*" not in text
 
@@ -36,7 +36,7 @@ def names():
 
 
 class Run:
-    """A transcript, what is worked out of it, and its picture; with its script or without."""
+    """A transcript, what is found in it, and its picture; with its script or without."""
 
     def __init__(self, name, with_script=True):
         self.lines = transcript.read(text_of(name + ".transcript"))
@@ -196,7 +196,7 @@ class Octets(unittest.TestCase):
 
 
 class Layout(unittest.TestCase):
-    """What is drawn can be read."""
+    """The picture is readable."""
 
     def test_labels_do_not_overlap(self):
         for name, run in runs():

@@ -1,10 +1,10 @@
-"""Reads what `osi pair` prints: a line for each event, and the lines of what users were shown by it."""
+"""Reads what `osi pair` prints: a line for each event, and the lines of the indications that users received because of it."""
 import re
 
 SIDES = ("left", "right")
 CALLS = ("accept", "refuse", "data", "give", "please", "minor", "minorconfirm", "major", "majorconfirm",
          "restart", "restartconfirm", "release", "releaseaccept", "releaserefuse", "abort")
-# What a user is shown, by the call of the other user that is seen in it.
+# The indication that a call of the other user causes.
 SHOWN_BY = {"connect": "Connect", "accept": "Connected", "refuse": "Refused", "data": "Data", "give": "Given",
             "please": "Asked", "minor": "Minor", "minorconfirm": "MinorConfirmed", "major": "Major",
             "majorconfirm": "MajorConfirmed", "restart": "Restart", "restartconfirm": "Restarted",
@@ -35,14 +35,14 @@ STOP = re.compile(r"line \d+ (refused|NotBroken|AlreadyBroken)")
 
 
 class BadInput(Exception):
-    """What is read is not what it should be; the text is one line for the user."""
+    """The input can't be read; the text is one line for the user."""
 
 
 class Line:
     """A line of a transcript.
 
-    `kind` is `connect`, `call`, `carried`, `broken`, `told`, `shown`, `standing` or `stop`; `name` is the
-    call or what was shown; `error` is why a call was refused, or None."""
+    `kind` is `connect`, `call`, `carried`, `broken`, `told`, `shown` (an indication), `standing` or `stop`; `name` is that of
+    the call or the indication; `error` is why a call was refused, or None."""
 
     __slots__ = ("index", "text", "kind", "side", "reference", "connection", "name", "error", "octets", "fields")
 
@@ -53,13 +53,13 @@ class Line:
 
     @property
     def data_octets(self):
-        """How many octets of user data the line tells, or None."""
+        """How many octets of user data the line has, or None."""
         data = self.fields.get("data")
         return None if data is None else 0 if data == "-" else len(data) // 2
 
 
 def other(side):
-    """The side across."""
+    """The other side."""
     return "right" if side == "left" else "left"
 
 
@@ -76,7 +76,7 @@ def read(text):
 
 
 def read_line(index, text):
-    """The line that a text is."""
+    """Reads one line."""
     words = text.split(" ", 3)
     found = None
     if text == "broken":
@@ -91,7 +91,7 @@ def read_line(index, text):
 
 
 def read_of_side(index, text, words):
-    """The line of a side, or None."""
+    """Reads a line that begins with a side, or gives None."""
     side, word = words[0], words[1]
     if word == "told" and len(words) == 2:
         return Line(index, text, "told", side)
@@ -112,7 +112,7 @@ def is_number(word):
 
 
 def read_connect(index, text, words):
-    """The answer to a connect, or None."""
+    """Reads the answer to a connect, or gives None."""
     line = Line(index, text, "connect", "left")
     line.name = "connect"
     if words[2] == "ok" and is_number(words[3]):
@@ -123,7 +123,7 @@ def read_connect(index, text, words):
 
 
 def read_of_connection(index, text, side, reference):
-    """A call's answer, what a user was shown, or where a connection stands; or None."""
+    """Reads the answer to a call, an indication, or the state of a connection; or gives None."""
     rest = text.split(" ", 2)[2]
     name, _, answer = rest.partition(" ")
     line = Line(index, text, "shown", side, reference)
@@ -146,7 +146,7 @@ def read_of_connection(index, text, side, reference):
 
 
 def name_connections(lines):
-    """Gives each line the connection that it is of: the reference at the left.
+    """Gives each line the connection that it belongs to, by the reference at the left.
 
     The right end gives references in the order in which it agrees to connections, so those that the
     transport refused have none there."""
@@ -166,5 +166,5 @@ def name_connections(lines):
 
 
 def connections(lines):
-    """The connections of some lines, rising."""
+    """The connections of some lines, in rising order."""
     return sorted({line.connection for line in lines if line.connection is not None})

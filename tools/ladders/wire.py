@@ -1,7 +1,7 @@
-"""Works out of a transcript which octets each carry carried: from which line on they were there, and what used them.
+"""Finds out from a transcript which octets each carry carried: at which line they were written, and which line used them.
 
-Each direction is a queue of packets. Its lengths come from the script, or from what the other user was
-shown; what neither tells stays open until a carry tells it, and where none does nothing more is claimed.
+Each direction is a queue of packets. Their lengths come from the script, or from the indications that the other user
+received. A length that neither of them gives stays open until a carry gives it. If no carry does, nothing more is drawn.
 """
 from collections import deque
 
@@ -15,11 +15,11 @@ ASKED = {"0": 14, "2": 17}
 
 
 class Untold(Exception):
-    """The transcript does not tell what these octets are."""
+    """The transcript doesn't say which unit these octets are of."""
 
 
 class Wire:
-    """Both directions of the byte connection, along a transcript."""
+    """Follows both directions of the byte connection through a transcript."""
 
     def __init__(self, lines, asked=None, ends=None):
         self.lines, self.asked, self.ends = lines, asked or {}, ends
@@ -38,7 +38,7 @@ class Wire:
             self.infer_class()
 
     def look_ahead(self):
-        """What CN and AC of each connection say, as it is shown; and which connections were denied."""
+        """Finds the fields of CN and AC of each connection, from the indications, and the connections that were denied."""
         found = {}
         self.denied = set()
         for line in self.lines:
@@ -49,7 +49,7 @@ class Wire:
         return found
 
     def infer_class(self):
-        """The class, as the octets tell it that cross before the first session unit does."""
+        """Finds the transport class, from the number of octets that are carried before the first session unit."""
         sums, stage = [0, 0], 0
         for line in self.lines:
             if line.kind == "carried" and line.octets:
@@ -77,14 +77,14 @@ class Wire:
     # What is written.
 
     def put(self, side, connection, unit, length, line):
-        """A unit in a packet of its own."""
+        """Writes a unit in its own packet."""
         run = Run(Message(side, connection, unit, line), line)
         run.length = length
         self.queues[side].append(Packet(run, unit, length))
         return run.message
 
     def send(self, side, connection, name, line, fields):
-        """The TSDU of a call is handed to the link."""
+        """Hands the TSDUs of a call to the link."""
         tsdus = lengths.tsdu_lengths(name, fields, self.most(side, connection))
         count = len(tsdus)
         messages = [Message(side, connection, name if place == count else "part", line, fields,
@@ -99,11 +99,11 @@ class Wire:
         return messages[-1]
 
     def most(self, side, connection):
-        """The most octets of a TSDU that a side sends, once the CN is answered; 0 if nothing limits it."""
+        """The largest TSDU that a side may send after the CN is answered, in octets; 0 if there is no limit."""
         return self.agreed_sizes.get(connection, {}).get("asker" if side == "left" else "answerer", 0)
 
     def flush(self, side, connection, line):
-        """The link writes what its credit allows."""
+        """Writes the data units for which the link has credit."""
         link = self.links[side, connection]
         runs = {}
         while link.waiting and (link.credit is None or link.credit > 0):
@@ -117,7 +117,7 @@ class Wire:
                 self.assumed_window = True
 
     def asks(self, line):
-        """A connect: its CR."""
+        """Writes the CR of a connect."""
         self.asked_at[line.connection] = line.index
         held = self.link_class is not None or line.reference > 1
         length = self.first_request
@@ -126,12 +126,12 @@ class Wire:
         self.messages[line.index] = self.put("left", line.connection, "CR", length, line.index)
 
     def calls(self, line):
-        """A call that was accepted: its session unit."""
+        """Writes the session unit of a call that was accepted."""
         key = line.side, line.connection
         fields = dict(self.asked.get(line.index, {}))
         if line.name == "accept":
             fields.update(self.opening.get(("Connected", line.connection), {}))
-            # An AC names a size where the CN does, and no other.
+            # An AC names a size only if the CN names one.
             asked = self.opening.get(("Connect", line.connection), {})
             agreed = {size: lengths.smaller(asked.get(size), fields.get(size)) for size in lengths.SIZES}
             fields.update(agreed)
@@ -147,7 +147,7 @@ class Wire:
             self.over.add(key)
 
     def number(self, name, key, fields):
-        """Numbers a point or its confirmation, where the number is known."""
+        """Numbers a point or its confirmation, if the number is known."""
         if name == "accept":
             shown = self.opening.get(("Connect", key[1]), {})
             serial = fields.get("serial", shown.get("serial"))
@@ -163,13 +163,13 @@ class Wire:
             self.next[key] = int(fields["number"]) if "number" in fields else None
 
     def is_told(self, line):
-        """An end is told of the break: it has ended."""
+        """An end that is told of the break has ended."""
         self.ended.add(line.side)
 
     # What is carried.
 
     def carries(self, line):
-        """A carry: the first octets of the queue go over, and what they make whole arrives."""
+        """Carries the first octets of a queue; packets that become whole arrive."""
         self.unread = self.shown_by(line.index)
         kept = len(self.pieces)
         try:
@@ -184,7 +184,7 @@ class Wire:
             self.pieces.append(Piece(line.side, None, 0, line.octets, line.index, line.index))
 
     def shown_by(self, index):
-        """The lines of what was shown by the carry at a line, by connection."""
+        """The lines of the indications that the carry at a line caused, by connection."""
         found, place = {}, index + 1
         while place < len(self.lines) and self.lines[place].kind == "shown":
             found.setdefault(self.lines[place].connection, deque()).append(place)
@@ -208,7 +208,7 @@ class Wire:
                 self.arrive(packet, line.index)
 
     def pass_over(self, line, packet, octets):
-        """Octets of a packet go over, as a piece."""
+        """Carries octets of a packet, as a piece."""
         run, last = packet.run, self.pieces[-1] if self.pieces else None
         packet.passed += octets
         if last is None or last.run is not run or last.carry != line.index:
@@ -220,7 +220,7 @@ class Wire:
         self.reached[run] = line.index
 
     def resolve(self, queue, left):
-        """The first packet of a queue, of which the length is told now if ever."""
+        """The first packet of a queue, whose length is unknown: an indication may give it now."""
         packet, rest = queue[0], len(queue) > 1
         message = packet.run.message
         receiver = other(message.side), message.connection
@@ -265,7 +265,7 @@ class Wire:
                 message, side, message.connection, index)
 
     def asked_for(self, message, side, connection, index):
-        """A CR: it is agreed to or denied."""
+        """A CR arrives: it is answered by a CC, or denied by a DR."""
         if self.link_class is None and self.selected and connection not in self.denied:
             self.link_class = self.selected
             size = self.ends and 2 ** self.ends["size"]
@@ -279,18 +279,18 @@ class Wire:
         self.put(side, connection, "CC", lengths.CONFIRMED.get(self.link_class), index)
 
     def open(self, side, connection):
-        """An end of a transport connection is open."""
+        """Opens one end of a transport connection."""
         self.links[side, connection] = Link(self.window if self.link_class == "2" else None)
 
     def agreed(self, message, side, connection, index):
-        """A CC: the CN follows."""
+        """A CC arrives: the CN is sent."""
         self.open(side, connection)
         fields = dict(self.asked.get(self.asked_at.get(connection), {}))
         fields.update(self.opening.get(("Connect", connection), {}))
         self.send(side, connection, "connect", index, fields)
 
     def data_arrives(self, packet, side, index):
-        """A data unit: acknowledged in class 2, and the last of its TSDU brings it."""
+        """A data unit arrives: class 2 acknowledges it, and the last one of a TSDU delivers that."""
         message = packet.run.message
         link = self.links.get((side, message.connection))
         if link is None or link.closing:
@@ -302,7 +302,7 @@ class Wire:
             self.deliver(message, side, index)
 
     def acknowledged(self, side, connection, index):
-        """An acknowledgement: one more may be sent."""
+        """An acknowledgement arrives: one more data unit may be sent."""
         link = self.links.get((side, connection))
         if link is not None and not link.closing:
             if link.credit is not None:
@@ -310,7 +310,7 @@ class Wire:
             self.flush(side, connection, index)
 
     def deliver(self, message, side, index):
-        """A message arrives at the session of the other side, and may be seen there."""
+        """A message arrives at the session of the other side, and may cause an indication there."""
         key = side, message.connection
         message.arrived = True
         name = SHOWN_BY.get(message.name)
@@ -327,7 +327,7 @@ class Wire:
             self.close(key, index)
 
     def see(self, key, name):
-        """Whether the next that the user was shown by this carry is so named; then it was seen."""
+        """Takes the next indication that this carry caused, if it has this name; whether it did."""
         shown = self.unread.get(key[1])
         if not shown or self.lines[shown[0]].name != name:
             return False
@@ -335,7 +335,7 @@ class Wire:
         return True
 
     def settle(self, key, name, fields):
-        """The numbers of the indications."""
+        """Follows the numbers that indications name."""
         number = fields.get("number")
         if name in ("Minor", "Major"):
             self.next[key] = int(number) + 1
@@ -346,7 +346,7 @@ class Wire:
             self.next[key] = 0 if fields["serial"] == "-" else int(fields["serial"])
 
     def aborted(self, key, index):
-        """An AB: it is answered, or closes the connection where one was sent here too."""
+        """An AB arrives: it is answered, or closes the connection if this side has sent one too."""
         if key in self.aborting:
             self.close(key, index)
         else:
@@ -364,7 +364,7 @@ class Wire:
             self.put(*key, "DR", lengths.CLOSING, index)
 
     def closed(self, message, side, connection, index):
-        """A DR: a refusal, or the end of an open connection, which is confirmed."""
+        """A DR arrives: it refuses a connection, or ends an open one and is confirmed."""
         link = self.links.get((side, connection))
         if link is None:
             if self.see((side, connection), "Refused"):

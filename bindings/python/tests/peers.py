@@ -8,7 +8,7 @@ import unittest
 
 from osi_session import Classes, End, Terms
 
-# Seconds that nothing takes, however much other work the machine has.
+# In seconds: nothing takes as long as this, even on a busy machine.
 LONGEST = 60
 
 
@@ -68,7 +68,7 @@ class Peer:
         self.writer.write(b"".join(packet for packet in packets(octets) if not self.holds_back(packet)))
 
     async def until(self, holds):
-        """Waits until this holds of what was shown."""
+        """Waits until this holds of the indications."""
         while not holds():
             self.came.clear()
             self.flush()
@@ -91,7 +91,7 @@ HAS_OPENSSL = shutil.which("openssl") is not None
 
 
 def contexts(folder):
-    """A context of a server with a certificate of its own, and one of a client that trusts it."""
+    """A context of a server with a certificate, and one of a client that trusts it."""
     certificate, key = os.path.join(folder, "certificate.pem"), os.path.join(folder, "key.pem")
     words = ["openssl", "req", "-x509", "-newkey", "rsa:2048", "-nodes", "-days", "2", "-subj", "/CN=localhost"]
     words += ["-addext", "subjectAltName=DNS:localhost", "-keyout", key, "-out", certificate]

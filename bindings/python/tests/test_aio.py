@@ -24,7 +24,7 @@ from osi_session import (
 
 UNITS = Units.HALF_DUPLEX | Units.MINOR_SYNC | Units.NEGOTIATED_RELEASE
 TOKENS = Tokens.DATA | Tokens.MINOR | Tokens.RELEASE
-# Seconds that nothing takes, however much other work the machine has.
+# In seconds: nothing takes as long as this, even on a busy machine.
 LONGEST = 60
 
 

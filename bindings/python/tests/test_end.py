@@ -72,7 +72,7 @@ class Pair:
         self.caller, self.called = End.caller(Terms(caller)), End.called(Terms(called))
 
     def carry(self):
-        """Both ways until nothing is left: what the caller and the called end were shown."""
+        """Carries octets both ways until nothing is left; the indications of the caller and of the called end."""
         by_caller, by_called = [], []
         for _ in range(3):
             by_called += carry(self.caller, self.called)
@@ -517,7 +517,7 @@ class Codes(Case):
 
     @unittest.skipUnless(sys.platform == "linux", "the limit of a process's memory is that of Linux")
     def test_no_memory(self):
-        """In a process of its own, which may have 64 MiB more than it has."""
+        """In another process, which may take 64 MiB more than it has."""
         done = subprocess.run([sys.executable, "-c", WITHOUT_MEMORY], capture_output=True, text=True, timeout=60)
         self.assertEqual((done.stdout, done.returncode), ("NO_MEMORY, and nothing has changed\n", 0), done.stderr)
 

@@ -347,7 +347,7 @@ class Sessions(Case):
 
 
 class Bounds(Case):
-    """What a line keeps, whatever its peer does."""
+    """What a line keeps, with peers of several kinds."""
 
     async def serving(self, handler, protocol=aio.EndProtocol):
         lines = []

@@ -1,0 +1,196 @@
+"""Tests of scripts/judge, over what `osi` printed of examples/disputes; with captures if tshark is installed."""
+import contextlib
+import io
+import os
+import shutil
+import tempfile
+import unittest
+from unittest import mock
+
+from ladders import judged, script, test_judged, verdicts
+
+from . import judging, listing, program, streams
+
+DISPUTES = test_judged.DISPUTES
+LAST = ("frame 16, 0.005600 seconds: left broke the protocol first, in its packet 143. It sent data (DT); it did not hold the data token.")
+
+
+def call(*words):
+    """The status of the program, and what it wrote; `osi` is not run."""
+    out, err = io.StringIO(), io.StringIO()
+    shown = mock.patch.object(listing, "shown", lambda osi, octets: test_judged.answer(osi, "show", octets.hex()).splitlines())
+    with contextlib.redirect_stdout(out), contextlib.redirect_stderr(err), shown, mock.patch.object(script, "run", test_judged.answer):
+        status = judging.main(list(words))
+    return status, out.getvalue(), err.getvalue()
+
+
+def verdict_of(name):
+    """The lines of the verdict on a dispute."""
+    return test_judged.stored(name)[2][-1].rows
+
+
+class Room(unittest.TestCase):
+    """A folder for what is written."""
+
+    def setUp(self):
+        self.room = tempfile.TemporaryDirectory()
+        self.addCleanup(self.room.cleanup)
+
+    def path(self, name):
+        return os.path.join(self.room.name, name)
+
+    def refused(self, *words):
+        """What is said of words that are refused: one line, and nothing is written."""
+        before = sorted(os.listdir(self.room.name))
+        status, out, err = call(*words, "--pictures", self.path("pictures"))
+        self.assertEqual((status, out, err.count("\n"), err.startswith("judge: ")), (2, "", 1, True), err)
+        self.assertEqual(sorted(os.listdir(self.room.name)), before)
+        return err
+
+
+class Texts(Room):
+    """Captures as texts, which need no tshark."""
+
+    def follow(self, name="restart"):
+        return os.path.join(DISPUTES, name + ".follow")
+
+    def test_the_verdict_is_told_with_its_frame_and_time(self):
+        self.assertEqual(call(self.follow()), (1, "\n".join(["text", *verdict_of("restart"), LAST, ""]), ""))
+
+    def test_the_status_is_0_if_both_kept_the_protocol(self):
+        self.assertEqual(call(self.follow("restart_cured")), (0, "\n".join(["text", *verdict_of("restart_cured"), ""]), ""))
+
+    def test_both_directions_are_listed_with_frames_and_times(self):
+        rows = call(self.follow(), "--show")[1].splitlines()
+        self.assertIn("    16    0.005600 left  packet 143 length 19 code f0", rows)
+        self.assertEqual(rows[2], "                   left    CR credit 0 dst 0000 src 0001 class 0 options 0 size 0a")
+        self.assertEqual(rows[-len(verdict_of("restart")) - 1:], [*verdict_of("restart"), LAST])
+
+    def test_left_is_the_side_of_the_first_octet(self):
+        with open(self.follow(), encoding="ascii") as file:
+            rows = [row if row.startswith("#") else row[1:] if row.startswith("\t") else "\t" + row for row in file.read().splitlines()]
+        with open(self.path("turned"), "w", encoding="ascii") as file:
+            file.write("\n".join(rows) + "\n")
+        self.assertEqual(call(self.path("turned")), call(self.follow()))
+
+    def test_a_picture_is_written(self):
+        self.assertEqual(call(self.follow(), "--pictures", self.path("new"))[0], 1)
+        self.assertEqual(os.listdir(self.path("new")), ["stream-0.svg"])
+        with open(self.path("new/stream-0.svg"), encoding="utf-8") as file:
+            self.assertIn("the data token was with right since left's packet 126", file.read())
+
+    def test_what_can_not_be_read_is_refused(self):
+        self.assertIn("no such file", self.refused(self.path("nothing")))
+        self.refused(os.path.join(script.TOP, "README.md"))
+        self.refused(self.follow(), "--wrong")
+        self.refused()
+
+    def test_a_missing_tshark_is_named(self):
+        with open(self.path("run.pcap"), "wb") as file:
+            file.write(bytes.fromhex("d4c3b2a102000400"))
+        with mock.patch.object(program.tshark.shutil, "which", lambda name: None):
+            self.assertIn("there is no tshark", self.refused(self.path("run.pcap")))
+
+
+class Streams(Room):
+    """Streams as tshark prints them, without tshark."""
+
+    LEFT, RIGHT = ("192.0.2.1", 40000), ("192.0.2.2", 102)
+
+    def setUp(self):
+        super().setUp()
+        self.sequences = {}
+        self.found = [self.segment(*each) for each in enumerate(judged.read(test_judged.stored("restart")[0]))]
+        patched = mock.patch.object(program.tshark, "segments", lambda path: iter(self.found))
+        patched.start()
+        self.addCleanup(patched.stop)
+
+    def segment(self, place, piece, stream=4):
+        """A segment of a stream; the sequence numbers of a side count its octets."""
+        made = object.__new__(program.tshark.Segment)
+        made.frame, made.time, made.stream, made.is_first = place + 1, 1000 + place / 8, stream, False
+        made.source, made.target = (self.LEFT, self.RIGHT) if piece.side == "left" else (self.RIGHT, self.LEFT)
+        made.sequence = self.sequences.get((stream, piece.side), 1)
+        self.sequences[stream, piece.side] = made.sequence + len(piece.octets)
+        made.octets = piece.octets
+        return made
+
+    def test_a_stream_is_judged_and_named(self):
+        status, out, err = call("run.pcap")
+        self.assertEqual((status, err), (1, ""))
+        self.assertEqual(out.splitlines()[0], "stream 4 192.0.2.1:40000 192.0.2.2:102")
+        self.assertEqual(out.splitlines()[1:-1], verdict_of("restart"))
+        self.assertIn("frame 13, 1.500000 seconds: left broke the protocol first", out)
+
+    def test_a_stream_that_lost_segments_is_named_and_not_judged(self):
+        del self.found[5]
+        self.assertRegex(call("run.pcap")[1], r"^stream 4 \S+ \S+ not judged: lost segments: 14 octets or more are not in the capture\n$")
+
+    def test_a_stream_that_begins_in_the_middle_is_named_and_not_judged(self):
+        del self.found[:2]
+        status, out, _ = call("run.pcap", "--pictures", self.path("pictures"))
+        self.assertEqual((status, out.partition(" not ")[2], os.listdir(self.room.name)), (1, "judged: begins in the middle\n", []))
+
+    def test_each_stream_is_judged_by_itself(self):
+        cured = judged.read(test_judged.stored("restart_cured")[0])
+        self.found += [self.segment(100 + place, piece, 5) for place, piece in enumerate(cured)]
+        rows = call("run.pcap", "--pictures", self.path("pictures"))[1].splitlines()
+        self.assertEqual([row.split()[1] for row in rows if row.startswith("stream ")], ["4", "5"])
+        self.assertEqual(rows[-1], "both kept the protocol")
+        self.assertEqual(sorted(os.listdir(self.path("pictures"))), ["stream-4.svg", "stream-5.svg"])
+        self.assertEqual(call("run.pcap", "--stream", "5")[0], 0)
+        self.assertIn("stream 6 carries no TPKT", self.refused("run.pcap", "--stream", "6"))
+
+    def test_answers_that_are_no_packets_are_judged_if_the_beginning_is_there(self):
+        pieces = [judged.Piece("left", self.found[0].octets), judged.Piece("right", b"220 ready\r\n")]
+        self.sequences.clear()
+        self.found = [self.segment(place, piece, 7) for place, piece in enumerate(pieces)]
+        stream = streams.joined(iter(self.found))[7]
+        self.assertEqual(judging.why_not(stream), "begins in the middle")
+        self.sequences.clear()
+        begun = [self.segment(place, judged.Piece(side, b""), 7) for place, side in enumerate(("left", "right"))]
+        for each in begun:
+            each.is_first, each.sequence = True, 0
+        self.assertIsNone(judging.why_not(streams.joined(iter(begun + self.found))[7]))
+
+    def test_a_capture_without_packets_is_refused(self):
+        self.found = self.found[2:3]
+        self.found[0].octets = b"GET / HTTP/1.0\r\n"
+        self.assertIn("no TCP stream carries TPKT", self.refused("run.pcap"))
+
+
+@unittest.skipUnless(all(map(shutil.which, ("tshark", "editcap"))), "tshark and its tools are not installed")
+class Captures(Room):
+    """A capture of the network, which tshark reads."""
+
+    def setUp(self):
+        super().setUp()
+        self.assertEqual(program.main(["join", os.path.join(DISPUTES, "restart"), "-o", self.path("run.pcap")]), 0)
+
+    def test_it_is_judged(self):
+        status, out, err = call(self.path("run.pcap"))
+        self.assertEqual((status, out.splitlines()[1:-1], err), (1, verdict_of("restart"), ""))
+        self.assertEqual(out.splitlines()[-1], LAST)
+
+    def test_a_lost_segment_is_named(self):
+        script_of = ["editcap", self.path("run.pcap"), self.path("cut.pcap"), "9"]
+        self.assertEqual(judging.listing.subprocess.run(script_of, capture_output=True, check=False).returncode, 0)
+        self.assertIn("not judged: lost segments", call(self.path("cut.pcap"))[1])
+
+    def test_a_file_that_is_no_capture_is_refused(self):
+        with open(self.path("bad.pcap"), "wb") as file:
+            file.write(b"\x0a\x0d\x0d\x0a" + bytes(40))
+        self.refused(self.path("bad.pcap"))
+
+
+class Lines(unittest.TestCase):
+    """The lines that are printed of a verdict."""
+
+    def test_a_verdict_without_a_break_has_no_sentence_more(self):
+        found = object.__new__(judging.Judged)
+        found.verdict = verdicts.read("not judged: the connection is not of class 0\n")[0]
+        self.assertEqual(found.lines(), ["not judged: the connection is not of class 0"])
+
+
+if __name__ == "__main__":
+    unittest.main()

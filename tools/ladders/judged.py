@@ -1,0 +1,315 @@
+"""The picture of a capture of both sides: its packets in the order in which they passed, the state of each side, and the verdict."""
+import re
+import time
+
+from . import captures, script, verdicts
+from .history import TOKENS, Band
+from .picture import Arrow, Picture, Row
+from .transcript import SIDES, BadInput, other
+
+KEY = ("● a packet as it passed the tap; the number before it is its offset in its direction · × the packet that broke the protocol",
+       "Grey, beside a packet: how each side stood after it, by osi judge, if that side had received everything that had passed.",
+       "Bands beside a life line, from left to right: the data (d), minor (m), major (M) and release (r) tokens that this side held.")
+# The program is asked after so many packets at most, so many of them before the break; only once if that took more than SLOW
+# seconds, and no more after LONGEST seconds.
+MOST, BEFORE, SLOW, LONGEST = 300, 270, 5, 60
+SIDES_OF = "arc?"
+SESSION = re.compile(r"    ([A-Z]+)((?: .*)?)")
+
+
+class Piece:
+    """Octets of one side that passed together."""
+
+    __slots__ = ("side", "octets")
+
+    def __init__(self, side, octets):
+        self.side, self.octets = side, octets
+
+
+def read(text):
+    """Reads a capture as `osi judge` does: a line is a piece of one side, left is the side of the first octet, and an octet
+    belongs to the line of its first digit."""
+    found, half = [], ""
+    for row in text.split("\n"):
+        digits = re.sub(r"[ \t\r]", "", row.partition("#")[0])
+        if not re.fullmatch("[0-9a-fA-F]*", digits):
+            raise BadInput("the capture has something other than hexadecimal digits, blanks and comments")
+        if half and digits:
+            found[-1][1], digits, half = found[-1][1] + half + digits[0], digits[1:], ""
+        if len(digits) % 2:
+            digits, half = digits[:-1], digits[-1]
+        if digits or half:
+            found.append([row.startswith("\t"), digits])
+    if half or not found:
+        raise BadInput("the capture has no octets" if not found else "the capture ends within an octet")
+    return [Piece(SIDES[tabbed != found[0][0]], bytes.fromhex(digits)) for tabbed, digits in found if digits]
+
+
+def text_of(pieces):
+    """A capture as `osi judge` reads it."""
+    return "".join("\t" * (piece.side == "right") + piece.octets.hex() + "\n" for piece in pieces)
+
+
+class Step:
+    """A packet, or the octets at the end of a side that are none; and the verdict on everything up to it, if it is known."""
+
+    def __init__(self, packet, start, passed):
+        self.packet, self.side, self.start, self.passed, self.verdict = packet, packet.side, start, passed, None
+        self.bands = []
+
+    @property
+    def tokens(self):
+        """The tokens that a GT in it names."""
+        given = [int(text, 16) for row in self.packet.lines for text in re.findall(r"^    GT 16=([0-9a-f]{2})", row)]
+        return [name for name, bit, _ in TOKENS if given and given[0] & bit]
+
+    def since(self, side, token):
+        """Since when a side held a token when this packet passed, or None."""
+        for band in self.bands:
+            if (band.side, band.token) == (side, token):
+                return band.since
+        return None
+
+
+def steps_of(pieces, listings):
+    """The packets of both listings, and the octets that are none, in the order in which their last octets passed."""
+    ends = {side: [] for side in SIDES}
+    for place, piece in enumerate(pieces):
+        before = ends[piece.side][-1][0] if ends[piece.side] else 0
+        ends[piece.side].append((before + len(piece.octets), place))
+    found = []
+    for side in SIDES:
+        whole, start, place = (ends[side][-1][0] if ends[side] else 0), 0, 0
+        for packet in captures.read(side, listings[side]) if listings[side] else []:
+            length = packet.octets or whole - start
+            if not length:
+                continue
+            if start + length > whole or not packet.lines[0].startswith(("rest", f"packet {start} ", f"fault {start} ")):
+                raise BadInput(f"the listing of {side} is not that of the capture: {packet.lines[0]}")
+            while ends[side][place][0] < start + length:
+                place += 1
+            found.append((ends[side][place][1], start + length, Step(packet, start, (side, start + length))))
+            start += length
+    return [step for _, _, step in sorted(found, key=lambda each: each[:2])]
+
+
+def up_to(pieces, steps, last):
+    """The pieces up to the last octet of a step, and so much of the other side as had passed by then."""
+    side, end = steps[last].passed
+    kept, counts = [], dict.fromkeys(SIDES, 0)
+    for piece in pieces:
+        octets = piece.octets[:end - counts[side]] if piece.side == side else piece.octets
+        counts[piece.side] += len(piece.octets)
+        kept.append(Piece(piece.side, octets))
+        if counts[side] >= end:
+            break
+    return kept
+
+
+def window(steps, verdict):
+    """The steps after which the program is asked: all of them, or those around the break if there are very many."""
+    if len(steps) <= MOST:
+        return range(len(steps))
+    broken = broken_step(steps, verdict)
+    first = max(0, (len(steps) if broken is None else broken) - BEFORE)
+    return range(min(first, len(steps) - MOST), min(first, len(steps) - MOST) + MOST)
+
+
+def ask(pieces, steps, judge):
+    """The verdict on everything. Steps get the verdict on everything up to them, those that are nearest to the break first."""
+    began = time.monotonic()
+    whole = verdicts.printed(judge(text_of(pieces)))
+    broken, places = broken_step(steps, whole), window(steps, whole)
+    nearest = sorted(places, key=lambda place: abs(place - (places[-1] if broken is None else broken)))
+    for place in nearest if time.monotonic() - began < SLOW else ():
+        if time.monotonic() - began > LONGEST:
+            break
+        steps[place].verdict = verdicts.printed(judge(text_of(up_to(pieces, steps, place))))
+    return whole
+
+
+def given(steps, told):
+    """The verdict on everything, from stored verdicts: one for each step, or only one."""
+    if len(told) == len(steps):
+        for step, verdict in zip(steps, told):
+            step.verdict = verdict
+    elif len(told) != 1:
+        raise BadInput(f"there are {len(told)} verdicts and {len(steps)} packets")
+    return told[-1]
+
+
+def broken_step(steps, verdict, side=None):
+    """The step of the packet that a side broke the protocol with, the first that did if none is named; or None."""
+    side = side or verdict.first
+    found = side and verdict.break_of(side)
+    offsets = [(step.side, step.start) for step in steps]
+    place = (side, int(found["offset"])) if found else None
+    return offsets.index(place) if place in offsets else None
+
+
+def picture_of(text, listings, title, judge=None, told=None):
+    """The picture of a capture. `judge` gives what `osi judge` prints for a text; or `told` has the verdicts."""
+    pieces = read(text)
+    steps = steps_of(pieces, listings)
+    if not steps:
+        raise BadInput("there is no packet in the capture")
+    verdict = given(steps, told) if told else ask(pieces, steps, judge)
+    made = Picture(title, describe(steps, verdict))
+    made.key, made.connections = KEY, [1]
+    made.spans = {(side, 1): (0, end_of(steps, side)) for side in SIDES}
+    made.bands = bands_of(steps)
+    add_rows(made, steps, verdict)
+    broken = broken_step(steps, verdict)
+    made.verdict = verdicts.box(verdict, None if broken is None else steps[broken])
+    made.is_wrong = verdict.first is not None
+    made.notes = notes_of(steps)
+    return made
+
+
+def told(text, listings, judge):
+    """What `osi judge` prints after each packet, one text after the other."""
+    pieces = read(text)
+    steps = steps_of(pieces, listings)
+    whole = ask(pieces, steps, judge)
+    kept = [step.verdict for step in steps if step.verdict]
+    return "".join(row + "\n" for verdict in (kept if len(kept) == len(steps) else [whole]) for row in verdict.rows)
+
+
+def described(packet):
+    """A packet in a line, as the text of its row."""
+    if not packet.octets:
+        return packet.lines[0]
+    units = [row for row in packet.lines[1:] if row.startswith("    ")]
+    named = [told for told in (of_session(row) for row in units) if told]
+    if not named:
+        named = [row.strip().split(" ")[0] + (", unfinished" if " eot 0 " in row else "") for row in packet.lines[1:2]]
+        named += [row.strip() for row in units if row.strip().startswith("fault")]
+    return f"{packet.lines[0].split(' ')[1]}: " + " ".join(named)
+
+
+def of_session(row):
+    """A session unit in some words: its name, its number, tokens, sides and octets; nothing of an empty GT."""
+    found = SESSION.fullmatch(row)
+    if not found:
+        return None
+    name, values = found.group(1), dict(re.findall(r"(\d+)=([0-9a-f]*)", found.group(2)))
+    parts = [values["20"]] if "20" in values else []
+    parts += [bytes.fromhex(values["42"]).decode("ascii", "replace")] if "42" in values else []
+    parts += [" ".join(verdicts.letters(int(values["16"], 16)))] if "16" in values else []
+    parts += ["sides " + sides_of(int(values["26"], 16))] if "26" in values else []
+    parts += [values["17"] + reason_of(int(values["17"], 16))] if "17" in values else []
+    parts += re.findall(r" octets (\d+)", found.group(2))[:1] and [found.group(2).split(" octets ")[1] + " octets"]
+    return " ".join([name, *parts]) if parts or name != "GT" else None
+
+
+def reason_of(bits):
+    """What the bits of an abort say."""
+    return ", protocol error" if bits & 4 else ", by the user" if bits & 2 else ""
+
+
+def sides_of(setting):
+    """The letters of a token setting, as transcripts have them: data, minor, major, release."""
+    return "".join(SIDES_OF[setting >> 2 * place & 3] for place in range(4))
+
+
+def describe(steps, verdict):
+    """A description of the picture, for a reader who can't see it."""
+    counts = {side: sum(step.side == side for step in steps) for side in SIDES}
+    return (f"A ladder of a capture of both sides, time downwards: {counts['left']} packets of left and {counts['right']} of right, "
+            f"in the order in which they passed. {' '.join(verdicts.box(verdict)[:2])}")
+
+
+def add_rows(made, steps, verdict):
+    """Adds for each packet its row and its arrow, and a row with the state of the other side if that has changed."""
+    broken = {broken_step(steps, verdict, side) for side in SIDES if verdict.break_of(side)}
+    has_points = {side: any(state and state.numbers["next"] for state in states(steps, side)) for side in SIDES}
+    shown, over = dict.fromkeys(SIDES), set()
+    for place, step in enumerate(steps):
+        index, is_wrong = 2 * place, place in broken
+        mark = "refused" if is_wrong else "call" if step.packet.octets else "carried"
+        row = Row(index, "; ".join(line.strip() for line in step.packet.lines), described(step.packet), step.side, 1, mark)
+        made.rows.append(row)
+        if is_wrong:
+            row.note = "this broke the protocol" if made_wrong(verdict, step.side) else "this left the profile"
+            over.add(step.side)
+        for side in (step.side, other(step.side)):
+            state = step.verdict and side not in over and step.verdict.state(side)
+            told = state and state.text(has_points[side])
+            if not told or told == shown[side]:
+                continue
+            shown[side] = told
+            if side == step.side:
+                row.note = told
+            else:
+                made.rows.append(Row(index + 1, told, told, side, 1, "standing"))
+                made.rows[-1].muted = True
+        if step.packet.octets:
+            made.arrows.append(arrow_of(step, index, made.rows[-1].index, is_wrong))
+
+
+def made_wrong(verdict, side):
+    """Whether a side broke the protocol, and didn't only leave the profile."""
+    return verdict.fields(side, "broke", "stopped") is not None
+
+
+def arrow_of(step, index, end, is_wrong):
+    """The arrow of a packet."""
+    names = [row.split()[0] for row in step.packet.lines[1:] if SESSION.fullmatch(row)] or \
+        [row.split()[0] for row in step.packet.lines[1:2]]
+    label = " ".join(name for name in names if name != "GT" or len(names) == 1) or "packet"
+    arrow = Arrow(step.side, 1, index, end, 0, 1, f"{label} {step.packet.octets}",
+                  f"{step.side}: packet {step.start}, {label}, {step.packet.octets} octets")
+    arrow.wrong, arrow.carry = is_wrong, index
+    return arrow
+
+
+def states(steps, side):
+    """How a side stood after each step, or None."""
+    return [step.verdict and step.verdict.state(side) for step in steps]
+
+
+def end_of(steps, side):
+    """The row at which the connection of a side has ended, or None."""
+    for place, step in enumerate(steps):
+        state = step.verdict and step.verdict.state(side)
+        if state and state.phase == "Ended" and not step.verdict.break_of(side):
+            return 2 * place + (side != step.side)
+    return None
+
+
+def bands_of(steps):
+    """The tokens that each side held, from the row of a packet to that of another; each step knows those that are held as it passes."""
+    found, is_open = [], {}
+    for place, step in enumerate(steps):
+        step.bands = list(is_open.values())
+        for side in SIDES:
+            state = step.verdict and step.verdict.state(side)
+            over = step.verdict and step.verdict.break_of(side)
+            row = 2 * place + (side != step.side)
+            for name, bit, _ in TOKENS:
+                held = bool(state and not over and state.held & bit)
+                if held and (side, name) not in is_open:
+                    since = f"{step.side}'s packet {step.start}" if place and steps[place - 1].verdict else None
+                    is_open[side, name] = Band(side, 1, name, row, since)
+                    found.append(is_open[side, name])
+                elif not held and (side, name) in is_open:
+                    is_open.pop((side, name)).end = row
+    for band in is_open.values():
+        band.end = 2 * len(steps)
+    return found
+
+
+def notes_of(steps):
+    """The notes below the picture."""
+    asked = [place for place, step in enumerate(steps) if step.verdict]
+    if len(asked) == len(steps):
+        return []
+    if not asked:
+        return ["How each side stood is not shown: one judgement took too long to be asked for after each packet, or only one was given."]
+    return [f"How each side stood is shown from packet {steps[asked[0]].start} of {steps[asked[0]].side} to packet "
+            f"{steps[asked[-1]].start} of {steps[asked[-1]].side}: of {len(steps)} packets, the {len(asked)} around the verdict."]
+
+
+def runner(program, progress):
+    """A function that gives what `osi judge` prints for a text; `program` is the name or path of `osi`."""
+    return lambda text: script.run(program, "judge", text, progress("osi judge"))

@@ -1,0 +1,186 @@
+"""Reads what `osi judge` prints, and tells it in sentences."""
+import re
+
+from .history import TOKENS
+from .transcript import SIDES, BadInput, other
+
+STATE = r"phase (?P<phase>\w+) held (?P<held>[0-9a-f]{2}) next (?P<next>\d+) below (?P<below>\d+) lowest (?P<lowest>\d+)"
+OWN = r"(?P<side>left|right) (?P<reference>\d+) "
+PLACE = r"packet (?P<offset>\d+) (?P<what>\w+) (?P<rule>\w+)"
+LINES = {name: re.compile(text) for name, text in (
+    ("read", r"(?P<side>left|right) packets (?P<packets>\d+) octets (?P<octets>\d+) rest (?P<rest>\d+)"),
+    ("kept", OWN + r"kept (?P<count>\d+) " + STATE + r"(?: owes (?P<owes>\w+))?"),
+    ("broke", OWN + "broke " + PLACE),
+    ("knew", OWN + r"knew (?P<taken>\d+) of (?P<passed>\d+) " + STATE),
+    ("fault", OWN + r"fault (?P<at>\d+) (?P<fault>\w+)(?: (?P<code>\d+))?"),
+    ("leaves", OWN + "leaves " + PLACE),
+    ("stopped", r"(?P<side>left|right) broke " + PLACE),
+    ("without", OWN + r"(?P<why>refused|unanswered|too many)"))}
+LAST = re.compile(r"both kept the protocol|not judged: (?P<why>.+)"
+                  r"|(?P<first>left|right) (?P<did>broke the protocol|leaves the profile) first, "
+                  r"packet (?P<offset>\d+): (?P<what>\w+) (?P<rule>\w+)")
+# What a side sent, by the call that sends such a unit.
+SENT = {"Connect": "a connect request (CN)", "Accept": "an acceptance (AC)", "Refuse": "a refusal (RF)", "Data": "data (DT)",
+        "Give": "tokens (GT)", "Please": "a request for tokens (PT)", "Minor": "a minor synchronization point (MIP)",
+        "MinorConfirm": "the confirmation of a minor point (MIA)", "Major": "a major synchronization point (MAP)",
+        "MajorConfirm": "the confirmation of a major point (MAA)", "Restart": "a restart (RS)",
+        "RestartConfirm": "the answer to a restart (RA)", "Release": "a request for the release (FN)",
+        "ReleaseAccept": "the agreement to a release (DN)", "ReleaseRefuse": "the refusal of a release (NF)",
+        "Abort": "an abort (AB)", "AbortAccept": "the answer to an abort (AA)", "TSDU": "a TSDU", "TPKT": "octets",
+        "TPDU": "a transport unit", "DT": "a data unit of transport", "DR": "a disconnect request (DR)"}
+# Why that was wrong; `{..}` is filled from the state of the side.
+REASONS = {"BadState": "a session may not send that in the phase {phase}", "Ended": "its connection had ended",
+           "NotSelected": "that needs a functional unit or a token that isn't selected", "Empty": "it has nothing in it",
+           "TokenAlreadyHeld": "it held these tokens itself", "TooLong": "that is longer than the agreed size, or than X.225 allows",
+           "BadNumber": "its number is not one that is allowed: the next number was {next}, all below {below} were confirmed, and a "
+                        "restart may go back to {lowest}",
+           "SerialsUsedUp": "the numbers are used up", "BadTokens": "it puts tokens on a side that was not asked for",
+           "BadEnclosure": "a part of the data is out of its place", "NoFault": "it reports a protocol error, and there had been none",
+           "NothingToAnswer": "there was nothing to answer", "WrongForm": "class 0 has no such unit",
+           "UnexpectedUnit": "a unit of this kind has no place there", "TsduTooLong": "it makes a TSDU longer than 1,048,576 octets",
+           "Outside": "X.225 allows that, and the sessions of this product leave it out"}
+# The tokens that a call needs; Give needs those that it gives.
+NEEDS = {"Data": ("data",), "Minor": ("data", "minor"), "Major": ("data", "minor", "major"),
+         "Release": tuple(name for name, _, _ in TOKENS)}
+WITHOUT_NUMBERS = ("WaitTransport", "WaitCn", "Connecting", "Answering", "Aborting", "Ended")
+
+
+class State:
+    """The state of a session: its phase, the tokens that it holds as bits, and the numbers of points."""
+
+    __slots__ = ("phase", "held", "numbers", "owes")
+
+    def __init__(self, fields):
+        self.phase, self.held, self.owes = fields["phase"], int(fields["held"], 16), fields.get("owes")
+        self.numbers = {name: int(fields[name]) for name in ("next", "below", "lowest")}
+
+    def text(self, has_points):
+        """The state in a line: phase, tokens, the next number if there are points, and what it has to answer."""
+        parts = [self.phase]
+        parts += ["".join(letters(self.held))] if self.held else []
+        parts += [f"next {self.numbers['next']}"] if has_points and self.phase not in WITHOUT_NUMBERS else []
+        return ", ".join(parts + ([f"owes {self.owes}"] if self.owes else []))
+
+
+class Verdict:
+    """What `osi judge` printed: `lines` by side and name, and the fields of the last line, which may be missing."""
+
+    def __init__(self, rows):
+        self.rows, self.lines = rows, {}
+        found = LAST.fullmatch(rows[-1])
+        self.last = found.groupdict() if found else {**dict.fromkeys(LAST.groupindex), "why": "osi judge names no verdict"}
+        for row in rows[:-1] if found else rows:
+            name, fields = line_of(row)
+            self.lines[fields["side"], name] = fields
+
+    @property
+    def first(self):
+        """The side that broke the protocol or left the profile first, or None."""
+        return self.last["first"]
+
+    def fields(self, side, *names):
+        """The fields of the first of these lines that a side has, or None."""
+        return next((self.lines[side, name] for name in names if (side, name) in self.lines), None)
+
+    def state(self, side):
+        """The state of a side, or None if it is not printed."""
+        found = self.fields(side, "kept", "knew")
+        return State(found) if found else None
+
+    def break_of(self, side):
+        """Where a side broke the protocol or left the profile: offset, what and rule; or None."""
+        return self.fields(side, "broke", "leaves", "stopped")
+
+
+def line_of(row):
+    """The name of a line and its fields."""
+    for name, pattern in LINES.items():
+        found = pattern.fullmatch(row)
+        if found:
+            return name, found.groupdict()
+    raise BadInput(f"`osi judge` prints no such line: {row[:60]!r}")
+
+
+def read(text):
+    """Reads verdicts, one after the other: each ends with its last line."""
+    found, rows = [], []
+    for row in text.rstrip("\n").split("\n"):
+        rows.append(row)
+        if LAST.fullmatch(row):
+            found.append(Verdict(rows))
+            rows = []
+    if rows or not found:
+        raise BadInput("what `osi judge` printed has no verdict as its last line")
+    return found
+
+
+def printed(text):
+    """What `osi judge` printed of one capture."""
+    return Verdict(text.rstrip("\n").split("\n"))
+
+
+def letters(bits):
+    """The names of tokens as letters: d, m, M, r."""
+    return [letter for (_, bit, _), letter in zip(TOKENS, "dmMr") if bits & bit]
+
+
+def sentence(verdict):
+    """The last line as a sentence."""
+    if verdict.first is None:
+        return "Both sides kept the protocol." if verdict.last["why"] is None else f"Not judged: {verdict.last['why']}."
+    did = "broke the protocol first" if verdict.last["did"].startswith("broke") else "was the first to leave the profile"
+    return f"{verdict.first} {did}, in its packet {verdict.last['offset']}."
+
+
+def reason(verdict, side, packet=None):
+    """What a side sent that it may not send, and why it may not. `packet` is what is known of the packet, if anything is."""
+    found = verdict.break_of(side)
+    sent = SENT.get(found["what"], found["what"])
+    if found["rule"] == "TokenNotHeld":
+        return f"It sent {sent}; {tokens_missed(verdict, side, found['what'], packet)}."
+    if found["rule"] not in REASONS:
+        return f"It sent {sent} that can't be read: {found['rule']}."
+    state = verdict.state(side)
+    known = {"phase": state.phase, **state.numbers} if state else {"phase": "that it was in", "next": "?", "below": "?", "lowest": "?"}
+    return f"It sent {sent}; {REASONS[found['rule']].format(**known)}."
+
+
+def tokens_missed(verdict, side, what, packet):
+    """Which tokens a side did not hold, and since when the other side held them, if that is known."""
+    state = verdict.state(side)
+    needed = (packet and packet.tokens) if what == "Give" else NEEDS.get(what)
+    missed = [name for name, bit, _ in TOKENS if name in (needed or ()) and state and not state.held & bit]
+    since = {name: packet.since(other(side), name) for name in missed} if packet else {}
+    told = [f"the {tokens} with {other(side)} since {place}" for tokens, place in together(since)]
+    if told:
+        return ", and ".join(told)
+    return f"it did not hold the {missed[0]} token" if len(missed) == 1 else "it did not hold the tokens for that"
+
+
+def together(since):
+    """Tokens that a side held since the same packet, in words, with that packet."""
+    for place in dict.fromkeys(place for place in since.values() if place):
+        names = [name for name in since if since[name] == place]
+        yield ", ".join(names[:-1]) + " and " * (len(names) > 1) + names[-1] + (" tokens were" if len(names) > 1 else " token was"), place
+
+
+def excuse(verdict, side):
+    """How much the session that came nearest had received of what had passed."""
+    knew = verdict.fields(side, "knew")
+    if not knew or verdict.break_of(side) is None:
+        return None
+    return (f"The session that comes nearest had taken {knew['taken']} of the {knew['passed']} TSDUs of {other(side)} that had passed, "
+            f"and was in the phase {knew['phase']}.")
+
+
+def box(verdict, packet=None):
+    """The lines of the box below a picture, the most important first."""
+    rows = [sentence(verdict)]
+    if verdict.first:
+        rows += [text for text in (reason(verdict, verdict.first, packet), excuse(verdict, verdict.first)) if text]
+    for side in SIDES:
+        later = verdict.break_of(side)
+        if later and verdict.first not in (None, side):
+            rows.append(f"Later {side} broke the protocol too, in its packet {later['offset']}: {later['what']} {later['rule']}.")
+    rows[0] = rows[0][0].upper() + rows[0][1:]
+    return rows + [f"osi judge: {verdict.rows[-1]}"]
