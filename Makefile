@@ -70,7 +70,9 @@ dist: all lib
 check-dist: all lib
 	scripts/check_dist
 
-release: all lib
+release:
+	@scripts/release --check
+	$(MAKE) all lib
 	scripts/release
 
 check-release:

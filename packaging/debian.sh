@@ -1,6 +1,7 @@
 # What scripts/dist makes of an installation for Debian, as its policy and lintian want packages: read by scripts/dist.
 debian=$version-1
 maintainer="${DEBFULLNAME:-The maintainers of osi} <${DEBEMAIL:-osi@localhost}>"
+homepage=$(sed -n 's|^repository = "\(https://.*\)"$|\1|p' bindings/rust/Cargo.toml)
 libdir=/usr/lib/x86_64-linux-gnu
 
 # The newest version of the C library that a file asks for.
@@ -34,6 +35,7 @@ control() {
     {
         printf 'Package: %s\nSource: osi\nVersion: %s\nArchitecture: %s\nMaintainer: %s\n' "$1" "$debian" "$2" "$maintainer"
         printf 'Installed-Size: %s\nDepends: %s\nSection: %s\nPriority: optional\n' "$size" "$3" "$4"
+        [ -z "$homepage" ] || printf 'Homepage: %s\n' "$homepage"
         [ -z "$5" ] || printf '%s\n' "$5"
         printf 'Description: %s\n' "$6"
         fmt -w 78 <<<"$7" | sed 's/^/ /'

@@ -63,6 +63,7 @@ def _metadata():
         f"License-Expression: {_field('license')}",
         *(f"License-File: {name}" for name, _ in _licences()),
         f"Keywords: {','.join(_list('keywords'))}",
+        *(f"Project-URL: {name}, {link}" for name, link in re.findall(r'^(\w+) = "(https://.*)"$', _project(), re.MULTILINE)),
         *(f"Classifier: {each}" for each in _list("classifiers")),
         f"Requires-Python: {_field('requires-python')}",
         "Description-Content-Type: text/markdown",

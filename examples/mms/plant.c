@@ -43,32 +43,34 @@ static void put_voltage(const struct plant *p, struct ber_writer *w)
     put_float(w, 230.25f);
 }
 
-static void put_name(const struct plant *p, struct ber_writer *w)
-{
-    (void)p;
-    ber_put_text(w, 0x8a, "plant 1");
-}
-
 /* Types, in the form of a TypeDescription. */
 static const uint8_t is_boolean[] = {0x83, 0x00};
 static const uint8_t is_unsigned[] = {0x86, 0x01, 0x20};
 static const uint8_t is_float[] = {0xa7, 0x06, 0x02, 0x01, 0x20, 0x02, 0x01, 0x08};
 static const uint8_t is_text[] = {0x8a, 0x01, 0xc0};
 
-/* Names are in the order of their octets, in which a GetNameList returns them. */
+/* Names are in the order of their octets, in which a GetNameList returns them. Those with a $ are the name plates of a logical
+ * device and of its hardware, as IEC 61850-8-1 spells them: a client of IEC 61850 looks for them first. */
 static const struct variable {
     const char *domain; /* empty for none */
     const char *item;
+    const char *text; /* its value; NULL if `put` writes it */
     void (*put)(const struct plant *, struct ber_writer *);
     const uint8_t *type;
     size_t type_length;
 } variables[] = {
-    {"", "clock", put_clock, is_unsigned, sizeof is_unsigned},
-    {"", "reads", put_reads, is_unsigned, sizeof is_unsigned},
-    {"plant", "breaker", put_breaker, is_boolean, sizeof is_boolean},
-    {"plant", "current", put_current, is_float, sizeof is_float},
-    {"plant", "name", put_name, is_text, sizeof is_text},
-    {"plant", "voltage", put_voltage, is_float, sizeof is_float},
+    {"", "clock", NULL, put_clock, is_unsigned, sizeof is_unsigned},
+    {"", "reads", NULL, put_reads, is_unsigned, sizeof is_unsigned},
+    {"plant", "LLN0$DC$NamPlt$configRev", "1", NULL, is_text, sizeof is_text},
+    {"plant", "LLN0$DC$NamPlt$d", "a plant", NULL, is_text, sizeof is_text},
+    {"plant", "LPHD1$DC$PhyNam$model", "examples/mms", NULL, is_text, sizeof is_text},
+    {"plant", "LPHD1$DC$PhyNam$serNum", "1", NULL, is_text, sizeof is_text},
+    {"plant", "LPHD1$DC$PhyNam$swRev", "1", NULL, is_text, sizeof is_text},
+    {"plant", "LPHD1$DC$PhyNam$vendor", "OSI session", NULL, is_text, sizeof is_text},
+    {"plant", "breaker", NULL, put_breaker, is_boolean, sizeof is_boolean},
+    {"plant", "current", NULL, put_current, is_float, sizeof is_float},
+    {"plant", "name", "plant 1", NULL, is_text, sizeof is_text},
+    {"plant", "voltage", NULL, put_voltage, is_float, sizeof is_float},
 };
 #define VARIABLES (sizeof variables / sizeof variables[0])
 static const char domain[] = "plant";
@@ -79,6 +81,14 @@ static const struct variable *find(const struct mms_name *name)
         if (strcmp(variables[i].domain, name->domain) == 0 && strcmp(variables[i].item, name->item) == 0)
             return &variables[i];
     return NULL;
+}
+
+static void put_value(const struct plant *p, const struct variable *v, struct ber_writer *w)
+{
+    if (v->text != NULL)
+        ber_put_text(w, 0x8a, v->text);
+    else
+        v->put(p, w);
 }
 
 /* ---- answers */
@@ -172,7 +182,7 @@ static void put_result(const struct plant *p, struct ber item, struct ber_writer
     if (is_named)
         v = find(&name);
     if (v != NULL && !ber_find(item, 0xa5, &octets))
-        v->put(p, w);
+        put_value(p, v, w);
     else
         ber_put_number(w, 0x80, v != NULL || !is_named ? 9 : 10); /* object-access-unsupported, non-existent */
 }

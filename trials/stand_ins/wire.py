@@ -1,4 +1,4 @@
-"""Packets of RFC 1006 over TCP, as clients and servers of S7 exchange them."""
+"""Packets of RFC 1006 over TCP, as a client exchanges them."""
 import socket
 
 # The setup of S7: how many requests may be open at once, and how long a PDU may be.
@@ -6,11 +6,10 @@ S7_SETUP = bytes.fromhex("0300001902f08032010000040000080000f0000001000101e0")
 
 
 class Wire:
-    """A connection to a server, or one that a server took."""
+    """A connection to a server."""
 
-    def __init__(self, host, port, made=None):
-        self.made = made or socket.create_connection((host, port), 10)
-        self.made.settimeout(10)
+    def __init__(self, host, port):
+        self.made = socket.create_connection((host, port), 10)
 
     def __enter__(self):
         return self
