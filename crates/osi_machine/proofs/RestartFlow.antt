@@ -42,8 +42,8 @@ flow_before s r u us a f st more = search (arith, drops_waiting, before, next_dr
 
 -- ---- the restart
 
-restart_fits : (s r : State) (k : ResyncType) (n : ℕ) (w : TokenSetting) (o : List ℕ) → Asks s r → Fits s (RS k n w o) → Fits r (RS k n w o)
-restart_fits s r k n w o a f = search (arith, restart_kept, and_parts)
+restart_kept_fits : (s r : State) (k : ResyncType) (n : ℕ) (w : TokenSetting) (o : List ℕ) → Asks s r → Fits s (RS k n w o) → Fits r (RS k n w o)
+restart_kept_fits s r k n w o a f = search (arith, restart_kept, and_parts)
 
 -- nothing comes after it
 after_due : (s : State) (us : List Meaning) → is_restart_due s.phase ≡ true → AllFit s us → AllEmpty us
@@ -51,7 +51,7 @@ after_due s us d f = all_empty s us (λ u p. none_due s.phase u d p) (excluded i
 
 flow_stop : (s r : State) (u : Meaning) (us : List Meaning) → Asks s r → Fits s u → stops s u ≡ true → AllFit (next s u) us → Flow s r (u ∷ us)
 unfolding restarted_at
-flow_stop s r u us a f st more = search (arith, after_due, restart_due, empty_end, restart_next, stood, restart_fits, empty_fits, empty_heard, empty_view, yielded, restart_kept)
+flow_stop s r u us a f st more = search (arith, after_due, restart_due, empty_end, restart_next, stood, restart_kept_fits, empty_fits, empty_heard, empty_view, yielded, restart_kept)
 
 pub restart_flow : (s r : State) (us : List Meaning) → Asks s r → AllFit s us → Flow s r us
 restart_flow s r [] a f = record { fits = tt; heard = refl; view = λ v. refl; end = inl (a.lives, refl) }

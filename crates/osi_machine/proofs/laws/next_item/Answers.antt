@@ -9,4 +9,4 @@ of_both : SessionLaws → (w : Core) → IsReached w → OfBoth TakesTheNextItem
 of_both laws w r = let s = reached_stands laws w r in (takes_the_next_item laws w s, takes_the_next_item laws (turned w) (turned_stands w s))
 
 pub returns : goal.returns
-returns c = of_both (record { sound = c.numbers_stay_in_order.ensures.kept; sendable = c.what_is_sent_can_be_sent.ensures.called; one_unit = c.what_two_units_do.ensures.alone; passed = c.what_an_accepted_call_passed.ensures.passed })
+returns c = of_both (assumption)
