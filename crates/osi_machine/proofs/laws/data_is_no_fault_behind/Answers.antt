@@ -1,4 +1,4 @@
-use Rattle.osi_machine.proofs.CalmLaws.{over_calm, behind_is_no_fault}
+use Rattle.osi_machine.proofs.tables.data_behind_is_no_fault.{over_calm, behind_is_no_fault}
 use Rattle.osi_machine.proofs.laws.data_is_no_fault_behind.Goals as goal
 
 pub returns-clause-under_way : goal.returns-clause-under_way

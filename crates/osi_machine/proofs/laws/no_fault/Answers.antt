@@ -1,8 +1,8 @@
 use Rattle.osi_machine.specs.Core.{turned}
 use Rattle.osi_machine.proofs.Vocabulary.{Core, IsReached, OfBoth, TakesNoFault}
-use Rattle.osi_machine.proofs.CoreLaws.{SessionLaws}
-use Rattle.osi_machine.proofs.Dispatch.{turned_stands}
-use Rattle.osi_machine.proofs.Promises.{reached_stands, takes_no_fault}
+use Rattle.osi_machine.proofs.invariant.each_step_keeps_one_side.{SessionLaws}
+use Rattle.osi_machine.proofs.each_step_keeps_both_sides.{turned_stands}
+use Rattle.osi_machine.proofs.promises.what_two_users_may_rely_on.{reached_stands, takes_no_fault}
 use Rattle.osi_machine.proofs.laws.no_fault.Goals as goal
 
 of_both : SessionLaws → (w : Core) → IsReached w → OfBoth TakesNoFault w

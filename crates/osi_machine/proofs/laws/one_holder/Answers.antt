@@ -1,7 +1,7 @@
 use Rattle.osi_machine.specs.Core.{turned}
-use Rattle.osi_machine.proofs.CoreLaws.{SessionLaws}
-use Rattle.osi_machine.proofs.Dispatch.{turned_stands}
-use Rattle.osi_machine.proofs.Promises.{reached_stands, holds_its_own, one_holder}
+use Rattle.osi_machine.proofs.invariant.each_step_keeps_one_side.{SessionLaws}
+use Rattle.osi_machine.proofs.each_step_keeps_both_sides.{turned_stands}
+use Rattle.osi_machine.proofs.promises.what_two_users_may_rely_on.{reached_stands, holds_its_own, one_holder}
 use Rattle.osi_machine.proofs.laws.one_holder.Goals as goal
 
 pub returns-clause-both : goal.returns-clause-both

@@ -1,4 +1,4 @@
-use Rattle.osi_machine.proofs.TablePromises.{are_as_tables, is_legal}
+use Rattle.osi_machine.proofs.tables.what_two_tables_tell.{are_as_tables, is_legal}
 use Rattle.osi_machine.proofs.laws.the_tables_are_the_machine.Goals as goal
 
 pub returns-clause-same : goal.returns-clause-same

@@ -1,6 +1,6 @@
-use Rattle.osi_machine.proofs.CoreLaws.{SessionLaws}
-use Rattle.osi_machine.proofs.Promises.{offer_stands}
-use Rattle.osi_machine.proofs.ViewRun.{are_told, told_agree}
+use Rattle.osi_machine.proofs.invariant.each_step_keeps_one_side.{SessionLaws}
+use Rattle.osi_machine.proofs.promises.what_two_users_may_rely_on.{offer_stands}
+use Rattle.osi_machine.proofs.promises.what_a_record_tells.{are_told, told_agree}
 use Rattle.osi_machine.proofs.laws.what_a_record_tells.Goals as goal
 
 pub returns-clause-told : goal.returns-clause-told

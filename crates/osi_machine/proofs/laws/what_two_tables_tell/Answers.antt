@@ -1,4 +1,4 @@
-use Rattle.osi_machine.proofs.TablePromises.{table_holders, table_faults, table_faultless, table_agreements, table_duplex, table_confirmations, table_losses, table_offers}
+use Rattle.osi_machine.proofs.tables.what_two_tables_tell.{table_holders, table_faults, table_faultless, table_agreements, table_duplex, table_confirmations, table_losses, table_offers}
 use Rattle.osi_machine.proofs.laws.what_two_tables_tell.Goals as goal
 
 pub returns-clause-holder : goal.returns-clause-holder
