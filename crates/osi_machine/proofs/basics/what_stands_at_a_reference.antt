@@ -18,21 +18,21 @@ replaced_other (suc k) (suc r) (w ∷ ws) v n = replaced_other k r ws v (λ e. n
 pub with_other : {C : Type 0} → (k r : ℕ) (ws : List C) (v : C) → (k ≡ r → ⊥) → connection_at k (with_connection r v ws) ≡ connection_at k ws
 with_other k r ws v n = grind (arith, replaced_other)
 
-replaced_same : (r : ℕ) (ls : List Line) (l x : Line) → slice_get ls r ≡ Some l → slice_get (replaced r x ls) r ≡ Some x
+replaced_same : {C : Type 0} → (r : ℕ) (ls : List C) (l x : C) → slice_get ls r ≡ Some l → slice_get (replaced r x ls) r ≡ Some x
 replaced_same r [] l x e = absurd (cc)
 replaced_same zero (y ∷ ls) l x e = refl
 replaced_same (suc r) (y ∷ ls) l x e = replaced_same r ls l x e
 
-pub with_same : (r : ℕ) (ls : List Line) (l x : Line) → connection_at r ls ≡ Some l → connection_at r (with_connection r x ls) ≡ Some x
+pub with_same : {C : Type 0} → (r : ℕ) (ls : List C) (l x : C) → connection_at r ls ≡ Some l → connection_at r (with_connection r x ls) ≡ Some x
 with_same zero ls l x e = absurd (cc)
 with_same (suc r) ls l x e = replaced_same r ls l x e
 
-replaced_count : (r : ℕ) (ls : List Line) (x : Line) → length (replaced r x ls) ≡ length ls
+pub replaced_count : {C : Type 0} → (r : ℕ) (ls : List C) (x : C) → length (replaced r x ls) ≡ length ls
 replaced_count r [] x = refl
 replaced_count zero (y ∷ ls) x = refl
 replaced_count (suc r) (y ∷ ls) x = ap suc (replaced_count r ls x)
 
-pub with_count : (r : ℕ) (ls : List Line) (x : Line) → length (with_connection r x ls) ≡ length ls
+pub with_count : {C : Type 0} → (r : ℕ) (ls : List C) (x : C) → length (with_connection r x ls) ≡ length ls
 with_count zero ls x = refl
 with_count (suc r) ls x = replaced_count r ls x
 

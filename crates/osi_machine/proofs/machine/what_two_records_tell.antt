@@ -6,8 +6,8 @@ use Rattle.osi_machine.specs.Core.{turned as turned_core}
 use Rattle.osi_machine.proofs.Vocabulary.{or_comm, slice_get, is_over, FunctionalUnits, Item, Point, PointKind, points, Begins, Agree}
 use Rattle.osi_machine.proofs.Vocabulary.{Offer, Left, Right, Core, is_opening, World, turned, Machine, Entry, connection_at, Told, told_of}
 use Rattle.osi_machine.proofs.Vocabulary.{IsRun, OfEach, HasOneHolder, ShowNoFault, RecordsAgree, ShownAsAsked, ConfirmedThere}
-use Rattle.osi_machine.proofs.Vocabulary.{ConfirmedInBoth}
-use Rattle.osi_machine.proofs.basics.what_holds_in_each_phase.{by_test}
+use Rattle.osi_machine.proofs.Vocabulary.{ConfirmedInBoth, untold, Side}
+use Rattle.osi_machine.proofs.basics.what_holds_in_each_phase.{by_test, by_either}
 use Rattle.osi_machine.proofs.basics.what_a_restart_leaves_of_a_history.{points_append}
 use Rattle.osi_machine.proofs.channels.a_held_token_keeps_units_out.{flush_open}
 use Rattle.osi_machine.proofs.channels.what_a_side_will_have_seen.{begins_points}
@@ -18,9 +18,9 @@ use Rattle.osi_machine.proofs.each_step_keeps_both_sides.{turned_stands}
 use Rattle.osi_machine.proofs.promises.what_two_users_may_rely_on.{views_agree, got_what_was_said, confirmed_is_seen, none_in_nil}
 use Rattle.osi_machine.proofs.promises.what_two_users_may_rely_on.{sees_the_history}
 use Rattle.osi_machine.proofs.promises.what_a_record_tells.{Tells}
-use Rattle.osi_machine.proofs.whole.every_step_is_simulated.{turned_repeats}
-use Rattle.osi_machine.proofs.whole.every_stage_of_a_connection.{Stage, Whole, whole_kept}
+use Rattle.osi_machine.proofs.whole.every_stage_of_a_connection.{Stage, Whole, whole_kept, turned_stage}
 use Rattle.osi_machine.proofs.machine.every_connection_of_a_run.{Lines, IsGood, all_good}
+use Rattle.osi_machine.proofs.whole.every_step_is_simulated.{Repeats}
 
 -- ---- one connection of a run
 
@@ -63,6 +63,22 @@ one_holder_there w s t k = grind arith
 pub show_no_fault : (b : Bool) (w : World) (s t : Told) → Stage b w s t → ShowNoFault w s t
 show_no_fault b w s t h4 = search arith
 
+-- ---- before a connection is agreed to
+
+-- the record tells nothing that was seen or received
+record Silent (t : Told) : Type 0 where
+  view : t.view ≡ []
+  indicated : t.indicated ≡ []
+
+silent : (d : Side) (o : Offer) (t : Told) → t ≡ untold d o → Silent t
+silent Left o t e = record { view = ap (λ (x : Told). x.view) e; indicated = ap (λ (x : Told). x.indicated) e }
+silent Right o t e = record { view = ap (λ (x : Told). x.view) e; indicated = ap (λ (x : Told). x.indicated) e }
+
+agreed_or_not : (b : Bool) (w : World) (s t : Told) → Stage b w s t → Silent s ⊎ Repeats b w s t
+agreed_or_not b w s t (inl h) = inl (silent Left w.offer s h.own_told)
+agreed_or_not b w s t (inr (inl h)) = inl (silent Right w.offer s h.peer_told)
+agreed_or_not b w s t (inr (inr h)) = inr h
+
 -- ---- the views
 
 -- a record without duplex tells what its side has seen
@@ -84,11 +100,10 @@ nil_agree : {A : Type 0} → (xs ys : List A) → xs ≡ [] → Agree xs ys
 nil_agree xs ys e = inl (subst (λ r. Begins r ys) (sym e) (ys, refl))
 
 pub records_agree : (b : Bool) (w : World) (s t : Told) → Stage b w s t → RecordsAgree w s t
-records_agree b w s t (inl h) d e = nil_agree s.view t.view (ap (λ (x : Told). x.view) h.own_told)
-records_agree b w s t (inr (inl h)) d e = nil_agree s.view t.view (ap (λ (x : Told). x.view) h.peer_told)
-records_agree b w s t (inr (inr h)) d e =
-    subst (λ (v : List Item). Agree v t.view) (sym (told_view s h.core h.stands h.own d))
-    (subst (Agree h.core.own.view) (sym (turned_view t h.core (turned_stands h.core h.stands) h.peer e)) (views_agree h.core h.stands))
+records_agree b w s t g d e = by_either (agreed_or_not b w s t g)
+    (λ q. nil_agree s.view t.view q.view)
+    (λ h. subst (λ (v : List Item). Agree v t.view) (sym (told_view s h.core h.stands h.own d))
+    (subst (Agree h.core.own.view) (sym (turned_view t h.core (turned_stands h.core h.stands) h.peer e)) (views_agree h.core h.stands)))
 
 -- ---- with duplex
 
@@ -127,19 +142,14 @@ shown_there s t c k h j d = by_test (is_opening c.own.session.phase)
     asked e true f = (j.silent f).0 ∙ sym (k.consistent.peer.fresh f).said
     asked e false f = j.said (same_duplex c k e f ∙ own_duplex e)
 
+shown_here : (b : Bool) (w : World) (s t : Told) → Stage b w s t → (s.duplex || t.duplex) ≡ true → Begins s.indicated t.requested
+shown_here b w s t g d = by_either (agreed_or_not b w s t g)
+    (λ q. begins_nil s.indicated t.requested q.indicated)
+    (λ h. shown_there s t h.core h.stands h.own h.peer d)
+
 pub shown_as_asked : (b : Bool) (w : World) (s t : Told) → Stage b w s t → ShownAsAsked w s t
-shown_as_asked b w s t (inl h) d = (
-  begins_nil s.indicated t.requested (ap (λ (x : Told). x.indicated) h.own_told),
-  begins_nil t.indicated s.requested (ap (λ (x : Told). x.indicated) h.peer_told),
-)
-shown_as_asked b w s t (inr (inl h)) d = (
-  begins_nil s.indicated t.requested (ap (λ (x : Told). x.indicated) h.peer_told),
-  begins_nil t.indicated s.requested (ap (λ (x : Told). x.indicated) h.own_told),
-)
-shown_as_asked b w s t (inr (inr h)) d = (
-  shown_there s t h.core h.stands h.own h.peer d,
-  shown_there t s (turned_core h.core) (turned_stands h.core h.stands) h.peer h.own (or_comm t.duplex s.duplex ∙ d),
-)
+shown_as_asked b w s t g d =
+    (shown_here b w s t g d, shown_here b (turned w) t s (turned_stage b w s t g) (or_comm t.duplex s.duplex ∙ d))
 
 -- ---- what is confirmed
 
@@ -175,42 +185,29 @@ other_view t c s h e d = by_test (is_opening c.peer.session.phase)
     h.view (ap (λ (u : FunctionalUnits). u.duplex) units ∙ d))
 
 pub confirmed_there : (b : Bool) (w : World) (s t : Told) → Stage b w s t → ConfirmedThere w s t
-confirmed_there b w s t (inl h) before n kind octets p q r =
-    absurd (none_in_nil before (Point n kind octets) (subst (Begins (before ++ Point n kind octets ∷ [])) (ap (λ (x : Told). x.view) h.own_told) p))
-confirmed_there b w s t (inr (inl h)) before n kind octets p q r =
-    absurd (none_in_nil before (Point n kind octets) (subst (Begins (before ++ Point n kind octets ∷ [])) (ap (λ (x : Told). x.view) h.peer_told) p))
-confirmed_there b w s t (inr (inr h)) before n kind octets p q r =
-    let k = told_point s h.core h.stands h.own before n kind octets p in
+confirmed_there b w s t g before n kind octets p q r = by_either (agreed_or_not b w s t g)
+    (λ y. absurd (none_in_nil before (Point n kind octets) (subst (Begins (before ++ Point n kind octets ∷ [])) y.view p)))
+    (λ h. let k = told_point s h.core h.stands h.own before n kind octets p in
     subst (Begins (before ++ Point n kind octets ∷ [])) (sym (other_view t h.core h.stands h.peer k.0 k.1))
-    (confirmed_is_seen h.core h.stands before n kind octets
-    (subst (Begins (before ++ Point n kind octets ∷ [])) (h.own.view k.1) p)
-    (subst (λ (k : ℕ). n < k) h.projects.own.counted.acked q)
-    (sym h.peer.asking ∙ r))
-
-turned_stage_of : (b : Bool) (w : World) (s t : Told) → Stage b w s t → ConfirmedThere (turned w) t s
-turned_stage_of b w s t (inl h) before n kind octets p q r =
-    absurd (none_in_nil before (Point n kind octets) (subst (Begins (before ++ Point n kind octets ∷ [])) (ap (λ (x : Told). x.view) h.peer_told) p))
-turned_stage_of b w s t (inr (inl h)) before n kind octets p q r =
-    absurd (none_in_nil before (Point n kind octets) (subst (Begins (before ++ Point n kind octets ∷ [])) (ap (λ (x : Told). x.view) h.own_told) p))
-turned_stage_of b w s t (inr (inr h)) before n kind octets p q r = confirmed_there b (turned w) t s (inr (inr (turned_repeats b w s t h))) before n kind octets p q r
+    (confirmed_is_seen h.core h.stands before n kind octets (subst (Begins (before ++ Point n kind octets ∷ [])) (h.own.view k.1) p)
+    (subst (λ (k : ℕ). n < k) h.projects.own.counted.acked q) (sym h.peer.asking ∙ r)))
 
 -- ---- of each connection of each run
 
-pub holders : SessionLaws → (m : Machine) → IsRun m → OfEach HasOneHolder m
-holders laws m h r w e = one_holder_there w (told_of Left r w.offer m.journal) (told_of Right r w.offer m.journal)
+module _ (laws : SessionLaws) (m : Machine) (h : IsRun m) where
+  pub holders : OfEach HasOneHolder m
+  holders r w e = one_holder_there w (told_of Left r w.offer m.journal) (told_of Right r w.offer m.journal)
 
-pub no_faults : SessionLaws → (m : Machine) → IsRun m → OfEach ShowNoFault m
-no_faults laws m h r w e = show_no_fault m.broken w (told_of Left r w.offer m.journal) (told_of Right r w.offer m.journal) (stage_at laws m h r w e)
+  pub no_faults : OfEach ShowNoFault m
+  no_faults r w e = show_no_fault m.broken w _ _ (stage_at laws m h r w e)
 
-pub agreements : SessionLaws → (m : Machine) → IsRun m → OfEach RecordsAgree m
-agreements laws m h r w e = records_agree m.broken w (told_of Left r w.offer m.journal) (told_of Right r w.offer m.journal) (stage_at laws m h r w e)
+  pub agreements : OfEach RecordsAgree m
+  agreements r w e = records_agree m.broken w _ _ (stage_at laws m h r w e)
 
-pub duplex_agreements : SessionLaws → (m : Machine) → IsRun m → OfEach ShownAsAsked m
-duplex_agreements laws m h r w e = shown_as_asked m.broken w (told_of Left r w.offer m.journal) (told_of Right r w.offer m.journal) (stage_at laws m h r w e)
+  pub duplex_agreements : OfEach ShownAsAsked m
+  duplex_agreements r w e = shown_as_asked m.broken w _ _ (stage_at laws m h r w e)
 
-pub confirmations : SessionLaws → (m : Machine) → IsRun m → OfEach ConfirmedInBoth m
-confirmations laws m h r w e =
-    let k = stage_at laws m h r w e in (
-      confirmed_there m.broken w (told_of Left r w.offer m.journal) (told_of Right r w.offer m.journal) k,
-      turned_stage_of m.broken w (told_of Left r w.offer m.journal) (told_of Right r w.offer m.journal) k,
-    )
+  pub confirmations : OfEach ConfirmedInBoth m
+  confirmations r w e =
+      let k = stage_at laws m h r w e in
+      (confirmed_there m.broken w _ _ k, confirmed_there m.broken (turned w) _ _ (turned_stage m.broken w _ _ k))

@@ -1,14 +1,15 @@
--- Data anywhere in flight to a side is no fault there, once what is ahead of it was taken.
--- For the law `data_is_no_fault_behind`.
-use Rattle.std.proofs.Common.{◌≡◌, refl, sym, ◌∙◌, ap, subst, ℕ, Bool, true, false, if◌then◌else◌, List, [], ◌∷◌, ◌++◌, map, Some, None, Ok}
-use Rattle.std.proofs.Common.{Err, ◌⊎◌, inl, inr, append_assoc, arith}
+-- Data anywhere in flight to a side is no fault there; a side whose transport connection closes is over.
+-- For the laws `data_is_no_fault_behind`, `the_next_is_no_fault` and `who_is_left_is_over`.
+use Rattle.std.proofs.Common.{◌≡◌, refl, sym, ◌∙◌, ap, subst, ℕ, Bool, true, false, if◌then◌else◌, List, [], ◌∷◌, ◌++◌, map, None, Ok, Err}
+use Rattle.std.proofs.Common.{◌⊎◌, inl, inr, append_assoc, arith}
 use Rattle.osi_session.specs.Moves.{answered as answered_move}
+use Rattle.osi_session.proofs.VerdictLaws.{good_is_fine}
 use Rattle.osi_machine.specs.Calm.{left_by, after_calls, after_message, IsCalm, StaysCalm, IsNoFaultBehind}
 use Rattle.osi_machine.proofs.Vocabulary.{cases_Bool, AllByRecursion, list_any, Input, called, taken, Standing, react, verdict, is_faulty}
 use Rattle.osi_machine.proofs.Vocabulary.{respond_all, acting, and_then, said_of, State, Meaning, DT, Call, HasSerial, CallError, Granted}
 use Rattle.osi_machine.proofs.Vocabulary.{Answer, Outcome, allowed, is_over, is_wait_transport, respond_unit, Core, stays_in_core, answered}
-use Rattle.osi_machine.proofs.Vocabulary.{taking, Message, unit, ask, agree, deny, bye, over, World, turned, session_of, Machine}
-use Rattle.osi_machine.proofs.Vocabulary.{connection_at, Told, IsRun, Tables, IsTableRun, AtEachSide}
+use Rattle.osi_machine.proofs.Vocabulary.{taking, Message, unit, ask, agree, deny, bye, over, World, session_of, Told, Tables, IsTableRun}
+use Rattle.osi_machine.proofs.Vocabulary.{AtEachSide, Fits, IsNoFaultNext, is_leaving, IsOverWhenLeft}
 use Rattle.osi_machine.proofs.basics.what_holds_in_each_phase.{excluded}
 use Rattle.osi_machine.proofs.invariant.what_holds_of_both_sides.{Stands}
 use Rattle.osi_machine.proofs.invariant.each_step_keeps_one_side.{SessionLaws}
@@ -17,14 +18,20 @@ use Rattle.osi_machine.proofs.whole.how_a_core_simulates_a_connection.{IsTail, C
 use Rattle.osi_machine.proofs.whole.a_call.{stop_over}
 use Rattle.osi_machine.proofs.whole.a_unit_is_taken.{over_next}
 use Rattle.osi_machine.proofs.whole.every_step_is_simulated.{refused}
-use Rattle.osi_machine.proofs.whole.before_it_is_agreed_to.{Way, replies}
-use Rattle.osi_machine.proofs.whole.every_stage_of_a_connection.{Stage, turned_stage}
-use Rattle.osi_machine.proofs.machine.what_two_records_tell.{stage_at}
+use Rattle.osi_machine.proofs.whole.before_it_is_agreed_to.{Way, replies, asks}
+use Rattle.osi_machine.proofs.whole.every_stage_of_a_connection.{Stage}
 use Rattle.osi_machine.proofs.machine.a_connection_is_early_or_dead.{no_unit_asked}
 use Rattle.osi_machine.proofs.tables.a_line_is_a_connection.{SaysItsUnit}
-use Rattle.osi_machine.proofs.tables.what_two_tables_tell.{sides_of_runs}
-use Rattle.osi_machine.proofs.tables.what_is_next_is_no_fault.{unit_when_over}
+use Rattle.osi_machine.proofs.tables.what_two_tables_tell.{of_stages}
 use Rattle.osi_session.specs.declared.faults.CallError.TheVariants as error
+
+-- ---- a unit that fits, and any unit at a side that is over
+
+unit_that_fits : (s : State) (u : Meaning) → Fits s u → is_over s.phase ≡ false → is_faulty (verdict s u) ≡ false
+unit_that_fits s u f o = search (arith, cases_Bool, good_is_fine)
+
+unit_when_over : (s : State) (u : Meaning) → is_over s.phase ≡ true → is_faulty (verdict s u) ≡ false
+unit_when_over s u o = rw o refl
 
 -- ---- a side that is over stays so
 
@@ -206,11 +213,27 @@ no_unit_replied way = grind arith
 no_fault_behind : SessionLaws → SaysItsUnit → (b : Bool) (w : World) (t u : Told) → Stage b w t u → IsNoFaultBehind (session_of w) w.peer.channel
 no_fault_behind laws says b w t u h6 ms octets rest e = search (arith, not_both, has_unit, no_unit_replied, no_unit_asked, cases_Bool, over_calm, session_is, carried_calm)
 
-no_faults_behind : SessionLaws → SaysItsUnit → (m : Machine) → IsRun m → (r : ℕ) (w : World) → connection_at r m.worlds ≡ Some w
-    → IsNoFaultBehind (session_of w) w.peer.channel × IsNoFaultBehind (session_of (turned w)) w.own.channel
-no_faults_behind laws says m h r w e =
-    let s = stage_at laws m h r w e in
-    (no_fault_behind laws says m.broken w _ _ s, no_fault_behind laws says m.broken (turned w) _ _ (turned_stage m.broken w _ _ s))
-
 pub behind_is_no_fault : SessionLaws → SaysItsUnit → (t : Tables) → IsTableRun t → AtEachSide IsNoFaultBehind t
-behind_is_no_fault laws says = sides_of_runs laws says IsNoFaultBehind (no_faults_behind laws says)
+behind_is_no_fault laws says = of_stages laws says IsNoFaultBehind (no_fault_behind laws says)
+
+-- data that comes next has nothing ahead of it
+pub next_is_no_fault : SessionLaws → SaysItsUnit → (t : Tables) → IsTableRun t → AtEachSide IsNoFaultNext t
+next_is_no_fault laws says t h side r l e octets ms q = behind_is_no_fault laws says t h side r l e [] octets ms q [] tt octets
+
+-- ---- who is left
+
+no_unit_leaves : (us : List Meaning) → list_any is_leaving (map unit us) ≡ false
+no_unit_leaves [] = refl
+no_unit_leaves (u ∷ us) = no_unit_leaves us
+
+no_reply_leaves : (way : Way) → list_any is_leaving (replies way) ≡ false
+no_reply_leaves way = grind arith
+
+no_ask_leaves : (way : Way) → list_any is_leaving (asks way) ≡ false
+no_ask_leaves way = grind arith
+
+over_when_left : (b : Bool) (w : World) (t u : Told) → Stage b w t u → IsOverWhenLeft (session_of w) w.peer.channel
+over_when_left b w t u h4 e = search (arith, not_both, no_reply_leaves, no_ask_leaves, cases_Bool, no_unit_leaves)
+
+pub left_is_over : SessionLaws → SaysItsUnit → (t : Tables) → IsTableRun t → AtEachSide IsOverWhenLeft t
+left_is_over laws says = of_stages laws says IsOverWhenLeft over_when_left

@@ -98,18 +98,15 @@ whole_kept laws terms = record {
   starts = λ o small profile. record { offer = refl; stage = inl (asked_opens o small profile) };
   lost = λ o small profile. record { offer = refl; stage = inl (lost_opens o small profile) };
   turns = λ b w o s t h. record { offer = h.offer; stage = turned_stage b w s t h.stage };
-  calls = λ b w o s t c small given h. record { offer = call_offer b c w (allowed (session_of w) c) ∙ h.offer; stage = called_stage laws b w s t c small h.stage };
-  takes = λ b w o s t k x xs e h c. record {
+  calls = λ b w o s t c small given h.
+      record { offer = call_offer b c w (allowed (session_of w) c) ∙ h.offer; stage = called_stage laws b w s t c small h.stage };
+  takes = λ b w o s t k x xs e h. record {
     offer = message_offer b terms k w.own.transport (without_first w xs) x ∙ h.offer;
     stage = taken_stage laws terms b w s t k x xs e h.stage;
   };
   closes = λ b w o s t k x xs e h c. record {
     offer = message_offer b terms k w.own.transport (without_first w xs) x ∙ h.offer;
     stage = closed_stage laws terms b w s t k x xs e h.stage c;
-  };
-  takes_last = λ b w o s t k x xs e h c. record {
-    offer = message_offer b terms k w.own.transport (without_first w xs) x ∙ h.offer;
-    stage = taken_stage laws terms b w s t k x xs e h.stage;
   };
   ends = λ b w o s t k h. record { offer = h.offer; stage = ended_stage b w s t k h.stage };
   breaks = λ w o s t k j h. record { offer = h.offer; stage = broken_stage w s t k j h.stage };

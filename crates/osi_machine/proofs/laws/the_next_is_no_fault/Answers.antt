@@ -1,4 +1,4 @@
-use Rattle.osi_machine.proofs.tables.what_is_next_is_no_fault.{next_is_no_fault}
+use Rattle.osi_machine.proofs.tables.data_behind_is_no_fault.{next_is_no_fault}
 use Rattle.osi_machine.proofs.laws.the_next_is_no_fault.Goals as goal
 
 pub returns : goal.returns

@@ -1,4 +1,4 @@
-use Rattle.osi_machine.proofs.tables.what_is_next_is_no_fault.{left_is_over}
+use Rattle.osi_machine.proofs.tables.data_behind_is_no_fault.{left_is_over}
 use Rattle.osi_machine.proofs.laws.who_is_left_is_over.Goals as goal
 
 pub returns : goal.returns
