@@ -8,6 +8,7 @@ use Rattle.osi_machine.proofs.Vocabulary.{Good, Item, seen, is_plain, Fits, AllF
 use Rattle.osi_machine.proofs.Vocabulary.{append-nil, FunctionalUnits, Tokens, Token, has, available, data_token, lower, is_answering}
 use Rattle.osi_machine.proofs.Vocabulary.{is_connecting, is_release_due, is_releasing, cutat, AreNumberedFrom, turned_owners, is_own}
 use Rattle.osi_machine.proofs.Vocabulary.{is_to_own, hears, data_in, data_of, needs_token, Party, Core, AreConsistent, and_from, not-true}
+use Rattle.osi_machine.proofs.Vocabulary.{Phase}
 use Rattle.osi_machine.proofs.basics.what_holds_in_each_phase.{excluded, by_test, implied_both, implied_two, by_either}
 use Rattle.osi_machine.proofs.basics.what_a_restart_leaves_of_a_history.{cut_append}
 use Rattle.osi_machine.proofs.channels.a_unit_is_dropped_bad_or_acted_on.{next_acted, next_dropped, restart_acted, none_due, next_cases}
@@ -16,7 +17,7 @@ use Rattle.osi_machine.proofs.channels.what_every_unit_in_flight_keeps.{due_end,
 use Rattle.osi_machine.proofs.channels.what_every_unit_in_flight_keeps.{view_append, data_append}
 use Rattle.osi_machine.proofs.channels.a_deaf_side_acts_on_nothing.{not_both}
 use Rattle.osi_machine.proofs.invariant.what_holds_of_both_sides.{flushed, hearing, matched, Meeting, Half, Views, Counting, Counts}
-use Rattle.osi_machine.proofs.invariant.what_holds_of_both_sides.{IsOfProfile, Stands}
+use Rattle.osi_machine.proofs.invariant.what_holds_of_both_sides.{IsOfProfile, Stands, phase_there}
 use Rattle.osi_machine.proofs.calls.a_unit_that_changes_no_state.{none_owed}
 use Rattle.osi_machine.proofs.takes.a_unit_that_cuts_nothing.{none_due_there}
 
@@ -256,255 +257,254 @@ pub record Sending (w : Core) (k : Shift) (m : Meaning) (more : List Item) : Typ
   pub one_way : (flushed w.own w.peer).units.half_duplex ≡ true
       → (list_any (needs_token data_token) (w.own.sent ++ m ∷ []) && list_any (needs_token data_token) w.peer.sent) ≡ false
 
-pub runs : (w : Core) (k : Shift) (m : Meaning) (more : List Item) → Sending w k m more → Stands w → Shifts k w.own.session w.peer.sent
-runs w k m more g h = shifts k w.own.session w.peer.sent g.now g.none h.own.fits
-
-pub listens : (w : Core) (k : Shift) (m : Meaning) (more : List Item) → Sending w k m more → is_restarting w.own.session.phase ≡ false
-listens w k m more g = inv_listens k w.own.session g.now
-
-pub owed : (w : Core) (k : Shift) (m : Meaning) (more : List Item) → Sending w k m more → Stands w → is_restart_due (flushed w.peer w.own).phase ≡ false
-owed w k m more g h = none_owed w.owner w.own w.peer h.own (listens w k m more g)
-
--- the other has asked for a restart, and discards it; or acts on it
-record Deaf (w : Core) (k : Shift) (m : Meaning) : Type 0 where
-  asked : is_restarting (flushed w.peer w.own).phase ≡ true
-  due : Due (flushed w.own w.peer) (flush (k.to w.own.session) w.peer.sent)
-  same : next (flushed w.peer w.own) m ≡ flushed w.peer w.own
-
-record Acts (w : Core) (k : Shift) (m : Meaning) : Type 0 where
-  listens : is_restarting (flushed w.peer w.own).phase ≡ false
-  inv : k.inv (flushed w.own w.peer)
-  there : flush (k.to w.own.session) w.peer.sent ≡ k.to (flushed w.own w.peer)
-  same : next (flushed w.peer w.own) m ≡ becomes (flushed w.peer w.own) m
-  acts : drops (flushed w.peer w.own) m ≡ false
-
 pub drops_waiting : (s : State) (m : Meaning) → is_restarting s.phase ≡ true → passes_restarting m ≡ false → drops s m ≡ true
 drops_waiting s m h k = grind arith
 
 acts_listening : (s : State) (m : Meaning) → is_restarting s.phase ≡ false → has_no_effect m ≡ false → drops s m ≡ false
 acts_listening s m h k = rw (k, h) refl
 
-sides : (w : Core) (k : Shift) (m : Meaning) (more : List Item) → Sending w k m more → Stands w → Deaf w k m ⊎ Acts w k m
-sides w k m more g h = by_either (runs w k m more g h).flush
-    (λ z. let l = not-true (is_restarting (flushed w.peer w.own).phase) (implied_both matched (λ p q. may_hold p) (λ p q. not (is_restarting q)) refl (flushed w.own w.peer).phase (flushed w.peer w.own).phase h.own.meeting.meets (k.holds (flushed w.own w.peer) z.1)) in
-    let a = acts_listening (flushed w.peer w.own) m l g.unit.effect in
-    inr (record { listens = l; inv = z.1; there = z.0; same = next_acted (flushed w.peer w.own) m a; acts = a }))
-    (λ d. let r = implied_both matched (λ p q. is_restart_due p) (λ p q. is_restarting q) refl (flushed w.own w.peer).phase (flushed w.peer w.own).phase h.own.meeting.meets d.due in
-    inl (record { asked = r; due = d; same = next_dropped (flushed w.peer w.own) m (drops_waiting (flushed w.peer w.own) m r g.unit.waits) }))
+module _ (w : Core) (k : Shift) (m : Meaning) (more : List Item) (g : Sending w k m more) (h : Stands w) where
+  -- the caller when it has taken all, before the call and after it; the other, before the unit and after it
+  abbrev was : State
+  was = flushed w.own w.peer
 
-other_fits : (w : Core) (k : Shift) (m : Meaning) (more : List Item) → Sending w k m more → Stands w → Fits (flushed w.peer w.own) m
-other_fits w k m more g h = by_either (sides w k m more g h)
-    (λ d. record { plain = g.unit.plain; good = λ a. absurd (let b = drops_waiting (flushed w.peer w.own) m d.asked g.unit.waits in cc) })
-    (λ a. record { plain = g.unit.plain; good = λ b. g.good a.listens a.inv })
+  abbrev end : State
+  end = flush (k.to w.own.session) w.peer.sent
 
--- ---- what both will be
+  abbrev there : State
+  there = flushed w.peer w.own
 
-pub meets_after : (w : Core) (k : Shift) (m : Meaning) (more : List Item) → Sending w k m more → Stands w
-    → matched (flush (k.to w.own.session) w.peer.sent).phase (next (flushed w.peer w.own) m).phase ≡ true
-meets_after w k m more g h = by_either (sides w k m more g h)
-    (λ d. subst (λ (q : State). matched (flush (k.to w.own.session) w.peer.sent).phase q.phase ≡ true) (sym d.same)
-    (implied_two (λ p q. is_restart_due p && is_restarting q) (λ p q. matched p q) refl (flush (k.to w.own.session) w.peer.sent).phase (flushed w.peer w.own).phase
-    (and_from (is_restart_due (flush (k.to w.own.session) w.peer.sent).phase) (is_restarting (flushed w.peer w.own).phase) d.due.other d.asked)))
-    (λ a. subst (λ (q : State). matched q.phase (next (flushed w.peer w.own) m).phase ≡ true) (sym a.there)
-    (subst (λ (q : State). matched (k.to (flushed w.own w.peer)).phase q.phase ≡ true) (sym a.same) (g.meets a.listens a.inv)))
+  abbrev then_there : State
+  then_there = next there m
 
-own_still : (w : Core) (k : Shift) (m : Meaning) (more : List Item) → Sending w k m more → Stands w → Still (flushed w.own w.peer) (flush (k.to w.own.session) w.peer.sent)
-own_still w k m more g h = shifted_still k (flushed w.own w.peer) (flush (k.to w.own.session) w.peer.sent) (runs w k m more g h).flush
+  abbrev caller : Party
+  caller = sender w.own (k.to w.own.session) m more
 
-other_still : (w : Core) (k : Shift) (m : Meaning) (more : List Item) → Sending w k m more → Still (flushed w.peer w.own) (next (flushed w.peer w.own) m)
-other_still w k m more g = next_cases (Still (flushed w.peer w.own)) (flushed w.peer w.own) m (λ d. still (flushed w.peer w.own)) (λ d. g.unit.keeps (flushed w.peer w.own))
+  runs : Shifts k w.own.session w.peer.sent
+  runs = shifts k w.own.session w.peer.sent g.now g.none h.own.fits
 
-other_end : (w : Core) (m : Meaning) → flush w.peer.session (w.own.sent ++ m ∷ []) ≡ next (flushed w.peer w.own) m
-other_end w m = flush_append w.peer.session w.own.sent m
+  listens : is_restarting w.own.session.phase ≡ false
+  listens = inv_listens k w.own.session g.now
 
-other_heard : (w : Core) (k : Shift) (m : Meaning) (more : List Item) → Sending w k m more → Stands w
-    → heard w.peer.session (w.own.sent ++ m ∷ []) ≡ next (flushed w.peer w.own) m
-other_heard w k m more g h =
-    heard_append w.peer.session w.own.sent m h.peer.fits (owed w k m more g h)
-    ∙ ap (λ (b : Bool). if b then flushed w.peer w.own else next (flushed w.peer w.own) m) (g.unit.quiet (flushed w.peer w.own))
+  owed : is_restart_due there.phase ≡ false
+  owed = none_owed w.owner w.own w.peer h.own listens
 
-heard_end : (w : Core) (k : Shift) (m : Meaning) (more : List Item) → Sending w k m more → Stands w → hearing w.peer w.own ≡ flushed w.peer w.own
-heard_end w k m more g h = heard_flush w.peer.session w.own.sent h.peer.fits (owed w k m more g h)
+  -- the other has asked for a restart, and discards the unit; or acts on it
+  record Deaf : Type 0 where
+    asked : is_restarting there.phase ≡ true
+    due : Due was end
+    same : then_there ≡ there
 
--- ---- the half of the caller
+  record Acts : Type 0 where
+    listens : is_restarting there.phase ≡ false
+    inv : k.inv was
+    there_is : end ≡ k.to was
+    same : then_there ≡ becomes there m
+    acts : drops there m ≡ false
 
-own_half : (w : Core) (k : Shift) (m : Meaning) (more : List Item) → Sending w k m more → Stands w → Half w.owner (sender w.own (k.to w.own.session) m more) w.peer
-own_half w k m more g h = record {
-  fits = (runs w k m more g h).fits;
-  meeting = subst (λ (q : State). Meeting w.owner (k.to w.own.session) (flush (k.to w.own.session) w.peer.sent) q (heard (k.to w.own.session) w.peer.sent) w.peer.session) (sym (other_end w m))
-      (subst (λ (q : State). Meeting w.owner (k.to w.own.session) (flush (k.to w.own.session) w.peer.sent) (next (flushed w.peer w.own) m) q w.peer.session) (sym (runs w k m more g h).heard.0)
-      (record {
-        meets = meets_after w k m more g h;
-        units = a.units ∙ h.own.meeting.units ∙ sym b.units;
-        base = a.base ∙ h.own.meeting.base ∙ sym b.base;
-        restart = λ r. absurd (let l = (shifted_listens k (flushed w.own w.peer) (flush (k.to w.own.session) w.peer.sent) (runs w k m more g h).flush).1 in cc);
-        connect = λ r. absurd (let l = not_connecting (runs w k m more g h).flush in cc);
-        holds = λ t. ap (λ (s : Tokens). has s t) (k.same w.own.session g.now).held ∙ h.own.meeting.holds t;
-        wants = λ l t. ap (λ (s : Tokens). has s t) (k.same (hearing w.own w.peer) i).held ∙ h.own.meeting.wants (k.holds (hearing w.own w.peer) i) t;
-        absent = λ t n. h.own.meeting.absent t (ap (λ (u : FunctionalUnits). has (available u) t) (sym a.units) ∙ n);
-        released = λ r. h.own.meeting.released (g.release (hearing w.own w.peer) i r);
-      }));
-}
-  where
-    i : k.inv (hearing w.own w.peer)
-    i = (runs w k m more g h).heard.1
+  sides : Deaf ⊎ Acts
+  sides = by_either runs.flush
+      (λ z. let l = not-true (is_restarting there.phase) (phase_there may_hold (λ q. not (is_restarting q)) refl h.own (k.holds was z.1)) in
+      let a = acts_listening there m l g.unit.effect in
+      inr (record { listens = l; inv = z.1; there_is = z.0; same = next_acted there m a; acts = a }))
+      (λ d. let r = phase_there is_restart_due is_restarting refl h.own d.due in
+      inl (record { asked = r; due = d; same = next_dropped there m (drops_waiting there m r g.unit.waits) }))
 
-    a : Still (flushed w.own w.peer) (flush (k.to w.own.session) w.peer.sent)
-    a = own_still w k m more g h
+  other_fits : Fits there m
+  other_fits = by_either sides
+      (λ d. record { plain = g.unit.plain; good = λ a. absurd (let b = drops_waiting there m d.asked g.unit.waits in cc) })
+      (λ a. record { plain = g.unit.plain; good = λ b. g.good a.listens a.inv })
 
-    b : Still (flushed w.peer w.own) (next (flushed w.peer w.own) m)
-    b = other_still w k m more g
+  -- ---- what both will be
 
-    not_connecting : Shifted k (flushed w.own w.peer) (flush (k.to w.own.session) w.peer.sent) → is_connecting (flush (k.to w.own.session) w.peer.sent).phase ≡ false
-    not_connecting (inl (e, j)) = ap (λ (q : State). is_connecting q.phase) e ∙ excluded may_hold is_connecting refl (k.to (flushed w.own w.peer)).phase (k.holds_after (flushed w.own w.peer) j)
-    not_connecting (inr d) = excluded is_restart_due is_connecting refl (flush (k.to w.own.session) w.peer.sent).phase d.other
+  meets_after : matched end.phase then_there.phase ≡ true
+  meets_after = by_either sides
+      (λ d. subst (λ (q : State). matched end.phase q.phase ≡ true) (sym d.same)
+      (implied_two (λ p q. is_restart_due p && is_restarting q) matched refl end.phase there.phase
+      (and_from (is_restart_due end.phase) (is_restarting there.phase) d.due.other d.asked)))
+      (λ a. subst (λ (q : State). matched q.phase then_there.phase ≡ true) (sym a.there_is)
+      (subst (λ (q : State). matched (k.to was).phase q.phase ≡ true) (sym a.same) (g.meets a.listens a.inv)))
 
--- ---- the half of the other
+  own_still : Still was end
+  own_still = shifted_still k was end runs.flush
 
-other_wants : (w : Core) (k : Shift) (m : Meaning) (more : List Item) → Sending w k m more → Stands w → may_hold (next (flushed w.peer w.own) m).phase ≡ true
-    → (t : Token) → has (next (flushed w.peer w.own) m).held t ≡ (is_own (turned_owners w.owner t) || is_to_own (turned_owners w.owner t))
-other_wants w k m more g h may t =
-    ap (λ (s : Tokens). has s t) (other_still w k m more g).held
-    ∙ subst (λ (q : State). has q.held t ≡ (is_own (turned_owners w.owner t) || is_to_own (turned_owners w.owner t))) (heard_end w k m more g h)
-    (h.peer.meeting.wants (ap (λ (q : State). may_hold q.phase) (heard_end w k m more g h) ∙ by_either (sides w k m more g h)
-    (λ d. ap (λ (q : State). may_hold q.phase) (sym d.same) ∙ may)
-    (λ a. implied_both matched (λ p q. may_hold p) (λ p q. may_hold q) refl (flushed w.own w.peer).phase (flushed w.peer w.own).phase h.own.meeting.meets (k.holds (flushed w.own w.peer) a.inv))) t)
+  other_still : Still there then_there
+  other_still = next_cases (Still there) there m (λ d. still there) (λ d. g.unit.keeps there)
 
-other_restart : (w : Core) (k : Shift) (m : Meaning) (more : List Item) → Sending w k m more → Stands w → is_restarting (next (flushed w.peer w.own) m).phase ≡ true
-    → ((next (flushed w.peer w.own) m).numbers.next ≡ (flush (k.to w.own.session) w.peer.sent).numbers.next)
-    × ((next (flushed w.peer w.own) m).wishes ≡ (flush (k.to w.own.session) w.peer.sent).wishes)
-other_restart w k m more g h r = by_either (sides w k m more g h)
-    (λ d. let old = h.peer.meeting.restart d.asked in
-    (ap (λ (q : State). q.numbers.next) d.same ∙ old.0 ∙ sym d.due.next, ap (λ (q : State). q.wishes) d.same ∙ old.1 ∙ sym d.due.same.wishes))
-    (λ a. absurd (not_both _ (next_hears (flushed w.peer w.own) m (ap not a.listens)) r))
+  other_end : flush w.peer.session (w.own.sent ++ m ∷ []) ≡ then_there
+  other_end = flush_append w.peer.session w.own.sent m
 
-other_released : (w : Core) (k : Shift) (m : Meaning) (more : List Item) → Sending w k m more → Stands w → is_release_due (next (flushed w.peer w.own) m).phase ≡ true
-    → is_releasing (k.to w.own.session).phase ≡ true
-other_released w k m more g h r = by_either (runs w k m more g h).flush
-    (λ z. g.releasing (flushed w.own w.peer) z.1 (ap (λ (q : State). is_releasing q.phase) (sym z.0) ∙ here))
-    (λ d. absurd (let n = excluded is_restart_due is_releasing refl (flush (k.to w.own.session) w.peer.sent).phase d.other in let p = here in cc))
-  where
-    here : is_releasing (flush (k.to w.own.session) w.peer.sent).phase ≡ true
-    here = implied_both matched (λ p q. is_release_due q) (λ p q. is_releasing p) refl (flush (k.to w.own.session) w.peer.sent).phase (next (flushed w.peer w.own) m).phase (meets_after w k m more g h) r
+  other_heard : heard w.peer.session (w.own.sent ++ m ∷ []) ≡ then_there
+  other_heard = heard_append w.peer.session w.own.sent m h.peer.fits owed ∙ ap (λ (b : Bool). if b then there else then_there) (g.unit.quiet there)
 
-peer_half : (w : Core) (k : Shift) (m : Meaning) (more : List Item) → Sending w k m more → Stands w → Half (turned_owners w.owner) w.peer (sender w.own (k.to w.own.session) m more)
-peer_half w k m more g h = record {
-  fits = fit_append w.peer.session w.own.sent m h.peer.fits (other_fits w k m more g h);
-  meeting = subst (λ (q : State). Meeting (turned_owners w.owner) w.peer.session q (flush (k.to w.own.session) w.peer.sent) (heard w.peer.session (w.own.sent ++ m ∷ [])) (k.to w.own.session)) (sym (other_end w m))
-      (subst (λ (q : State). Meeting (turned_owners w.owner) w.peer.session (next fy m) (flush (k.to w.own.session) w.peer.sent) q (k.to w.own.session)) (sym (other_heard w k m more g h))
-      (record {
-        meets = implied_two matched (λ p q. matched q p) refl (flush (k.to w.own.session) w.peer.sent).phase (next fy m).phase (meets_after w k m more g h);
-        units = b.units ∙ h.peer.meeting.units ∙ sym a.units;
-        base = b.base ∙ h.peer.meeting.base ∙ sym a.base;
-        restart = other_restart w k m more g h;
-        connect = λ r. absurd (not_answering (runs w k m more g h).flush (implied_both matched (λ p q. is_connecting q) (λ p q. is_answering p) refl (flush (k.to w.own.session) w.peer.sent).phase (next fy m).phase (meets_after w k m more g h) r));
-        holds = h.peer.meeting.holds;
-        wants = other_wants w k m more g h;
-        absent = λ t n. h.peer.meeting.absent t (ap (λ (u : FunctionalUnits). has (available u) t) (sym b.units) ∙ n);
-        released = other_released w k m more g h;
-      }));
-}
-  where
-    fy : State
-    fy = flushed w.peer w.own
+  heard_end : hearing w.peer w.own ≡ there
+  heard_end = heard_flush w.peer.session w.own.sent h.peer.fits owed
 
-    a : Still (flushed w.own w.peer) (flush (k.to w.own.session) w.peer.sent)
-    a = own_still w k m more g h
+  -- the other, by what it was just before a restart
+  heard_phase : (f : Phase → Bool) → f there.phase ≡ true → f (hearing w.peer w.own).phase ≡ true
+  heard_phase f e = ap (λ (q : State). f q.phase) heard_end ∙ e
 
-    b : Still fy (next fy m)
-    b = other_still w k m more g
+  then_heard : (f : Phase → Bool) → f (heard w.peer.session (w.own.sent ++ m ∷ [])).phase ≡ true → f then_there.phase ≡ true
+  then_heard f e = ap (λ (q : State). f q.phase) (sym other_heard) ∙ e
 
-    not_answering : Shifted k (flushed w.own w.peer) (flush (k.to w.own.session) w.peer.sent) → is_answering (flush (k.to w.own.session) w.peer.sent).phase ≡ true → ⊥
-    not_answering (inl (e, j)) r = let n = ap (λ (q : State). is_answering q.phase) e ∙ excluded may_hold is_answering refl (k.to (flushed w.own w.peer)).phase (k.holds_after (flushed w.own w.peer) j) in cc
-    not_answering (inr d) r = let n = excluded is_restart_due is_answering refl (flush (k.to w.own.session) w.peer.sent).phase d.other in cc
+  -- ---- the half of the caller
 
--- ---- what was seen
+  own_half : Half w.owner caller w.peer
+  own_half = record {
+    fits = runs.fits;
+    meeting = subst (λ (q : State). Meeting w.owner (k.to w.own.session) end q (heard (k.to w.own.session) w.peer.sent) w.peer.session) (sym other_end)
+        (subst (λ (q : State). Meeting w.owner (k.to w.own.session) end then_there q w.peer.session) (sym runs.heard.0) (record {
+          meets = meets_after;
+          units = own_still.units ∙ h.own.meeting.units ∙ sym other_still.units;
+          base = own_still.base ∙ h.own.meeting.base ∙ sym other_still.base;
+          restart = λ r. absurd (let l = (shifted_listens k was end runs.flush).1 in cc);
+          connect = λ r. absurd (let l = not_connecting runs.flush in cc);
+          holds = λ t. ap (λ (s : Tokens). has s t) (k.same w.own.session g.now).held ∙ h.own.meeting.holds t;
+          wants = λ l t. ap (λ (s : Tokens). has s t) (k.same (hearing w.own w.peer) i).held ∙ h.own.meeting.wants (k.holds (hearing w.own w.peer) i) t;
+          absent = λ t n. h.own.meeting.absent t (ap (λ (u : FunctionalUnits). has (available u) t) (sym own_still.units) ∙ n);
+          released = λ r. h.own.meeting.released (g.release (hearing w.own w.peer) i r);
+        }));
+  }
+    where
+      i : k.inv (hearing w.own w.peer)
+      i = runs.heard.1
 
-own_views : (w : Core) (k : Shift) (m : Meaning) (more : List Item) → Sending w k m more → Stands w
-    → Views (w.history ++ more) (sender w.own (k.to w.own.session) m more) w.peer
-own_views w k m more g h = record {
-  ends = λ l. shift_view k w.own.session w.peer.sent (w.own.view ++ more) g.now g.none h.own.fits ∙ g.sees (ap not (inv_listens k (hearing w.own w.peer) (runs w k m more g h).heard.1));
-  cut = λ r. absurd (
-      let l = after_listens k (hearing w.own w.peer) (runs w k m more g h).heard.1 in
-      let c = ap (λ (q : State). is_restarting q.phase) (sym (runs w k m more g h).heard.0) ∙ r in
-      cc);
-  due = λ r. absurd (let n = excluded may_hold is_restart_due refl (k.to w.own.session).phase (k.holds_after w.own.session g.now) in cc);
-  stream = λ d. streams (ap (λ (u : FunctionalUnits). u.duplex) (sym (own_still w k m more g h).units) ∙ d);
-}
-  where
-    streams : (flushed w.own w.peer).units.duplex ≡ true → (w.own.got ++ data_of w.peer.sent ≡ w.peer.said) × (w.history ++ more ≡ [])
-    streams d = let s = h.own_views.stream d in (s.0, ap (λ (v : List Item). w.history ++ v) (g.duplex d) ∙ append-nil w.history ∙ s.1)
+      not_connecting : Shifted k was end → is_connecting end.phase ≡ false
+      not_connecting (inl (e, j)) = ap (λ (q : State). is_connecting q.phase) e ∙ excluded may_hold is_connecting refl (k.to was).phase (k.holds_after was j)
+      not_connecting (inr d) = excluded is_restart_due is_connecting refl end.phase d.other
 
-peer_sees : (w : Core) (k : Shift) (m : Meaning) (more : List Item) → Sending w k m more → Stands w → hears (next (flushed w.peer w.own) m).phase ≡ true
-    → heard_view w.peer.session (w.own.sent ++ m ∷ []) w.peer.view ≡ w.history ++ more
-peer_sees w k m more g h l = by_either (sides w k m more g h)
-    (λ d. absurd (not_both _ (ap (λ (q : State). hears q.phase) (sym d.same) ∙ l) d.asked))
-    (λ a. view_append w.peer.session w.own.sent m w.peer.view h.peer.fits (owed w k m more g h)
-    ∙ ap (λ (b : Bool). if b then heard_view w.peer.session w.own.sent w.peer.view else view_next (flushed w.peer w.own) m (heard_view w.peer.session w.own.sent w.peer.view)) (g.unit.quiet (flushed w.peer w.own))
-    ∙ ap (λ (b : Bool). if b then heard_view w.peer.session w.own.sent w.peer.view else seen (flushed w.peer w.own) m (heard_view w.peer.session w.own.sent w.peer.view)) a.acts
-    ∙ g.shows (flushed w.peer w.own) (heard_view w.peer.session w.own.sent w.peer.view)
-    ∙ ap (λ (v : List Item). v ++ more) (h.peer_views.ends (ap (λ (q : State). hears q.phase) (heard_end w k m more g h) ∙ ap not a.listens)))
+  -- ---- the half of the other
 
-peer_views : (w : Core) (k : Shift) (m : Meaning) (more : List Item) → Sending w k m more → Stands w
-    → Views (w.history ++ more) w.peer (sender w.own (k.to w.own.session) m more)
-peer_views w k m more g h = record {
-  ends = λ l. peer_sees w k m more g h (ap (λ (q : State). hears q.phase) (sym (other_heard w k m more g h)) ∙ l);
-  cut = λ r. cuts (by_test (is_restarting (flushed w.peer w.own).phase)
-      (λ e. e)
-      (λ e. let r : is_restarting (next (flushed w.peer w.own) m).phase ≡ true = (ap (λ (q : State). is_restarting q.phase) (sym (other_heard w k m more g h)) ∙ r) in absurd (not_both _ (next_hears (flushed w.peer w.own) m (ap not e)) r)));
-  due = λ r. absurd (none_due_there w.owner w.own w.peer h.own h.peer (listens w k m more g) r);
-  stream = λ d. streams (ap (λ (u : FunctionalUnits). u.duplex) (sym (other_still w k m more g).units) ∙ ap (λ (q : State). q.units.duplex) (sym (other_end w m)) ∙ d);
-}
-  where
-    cuts : is_restarting (flushed w.peer w.own).phase ≡ true → w.peer.view ≡ cutat w.peer.session.base (w.history ++ more) w.peer.session.numbers.next
-    cuts r =
-        let c = h.peer_views.cut (ap (λ (q : State). is_restarting q.phase) (heard_end w k m more g h) ∙ r) in
-        c ∙ sym (cut_append w.peer.session.base w.peer.session.numbers.next w.history more w.peer.view c h.consistent.peer.count)
+  other_wants : may_hold then_there.phase ≡ true → (t : Token) → has then_there.held t ≡ (is_own (turned_owners w.owner t) || is_to_own (turned_owners w.owner t))
+  other_wants may t =
+      ap (λ (s : Tokens). has s t) other_still.held
+      ∙ subst (λ (q : State). has q.held t ≡ (is_own (turned_owners w.owner t) || is_to_own (turned_owners w.owner t))) heard_end
+      (h.peer.meeting.wants (heard_phase may_hold (by_either sides
+      (λ d. ap (λ (q : State). may_hold q.phase) (sym d.same) ∙ may)
+      (λ a. phase_there may_hold may_hold refl h.own (k.holds was a.inv)))) t)
 
-    streams : (flushed w.peer w.own).units.duplex ≡ true → (w.peer.got ++ data_of (w.own.sent ++ m ∷ []) ≡ w.own.said ++ []) × (w.history ++ more ≡ [])
-    streams d =
-        let s = h.peer_views.stream d in
-        let e = data_append w.own.sent (m ∷ []) ∙ ap (λ (r : List (List ℕ)). data_of w.own.sent ++ (r ++ [])) g.unit.empty ∙ append-nil (data_of w.own.sent) in (
-          ap (λ (r : List (List ℕ)). w.peer.got ++ r) e ∙ s.0 ∙ sym (append-nil w.own.said),
-          ap (λ (v : List Item). w.history ++ v) (g.duplex (ap (λ (u : FunctionalUnits). u.duplex) h.own.meeting.units ∙ d)) ∙ append-nil w.history ∙ s.1,
-        )
+  other_restart : is_restarting then_there.phase ≡ true → (then_there.numbers.next ≡ end.numbers.next) × (then_there.wishes ≡ end.wishes)
+  other_restart r = by_either sides
+      (λ d. let old = h.peer.meeting.restart d.asked in
+      (ap (λ (q : State). q.numbers.next) d.same ∙ old.0 ∙ sym d.due.next, ap (λ (q : State). q.wishes) d.same ∙ old.1 ∙ sym d.due.same.wishes))
+      (λ a. absurd (not_both _ (next_hears there m (ap not a.listens)) r))
 
--- ---- the numbers
+  other_released : is_release_due then_there.phase ≡ true → is_releasing (k.to w.own.session).phase ≡ true
+  other_released r = by_either runs.flush
+      (λ z. g.releasing was z.1 (ap (λ (q : State). is_releasing q.phase) (sym z.0) ∙ here))
+      (λ d. absurd (let n = excluded is_restart_due is_releasing refl end.phase d.other in let p = here in cc))
+    where
+      here : is_releasing end.phase ≡ true
+      here = implied_both matched (λ p q. is_release_due q) (λ p q. is_releasing p) refl end.phase then_there.phase meets_after r
 
-own_counts : (w : Core) (k : Shift) (m : Meaning) (more : List Item) → Sending w k m more → Stands w → Counts (sender w.own (k.to w.own.session) m more) w.peer
-own_counts w k m more g h =
-    subst (λ (q : State). Counting (k.to w.own.session) (heard (k.to w.own.session) w.peer.sent) q w.peer.session) (sym (other_heard w k m more g h))
-    (subst (λ (q : State). Counting (k.to w.own.session) q (next (flushed w.peer w.own) m) w.peer.session) (sym (runs w k m more g h).heard.0)
-    (record { flag = g.flag; below = g.below; reach = g.reach }))
+  peer_half : Half (turned_owners w.owner) w.peer caller
+  peer_half = record {
+    fits = fit_append w.peer.session w.own.sent m h.peer.fits other_fits;
+    meeting = subst (λ (q : State). Meeting (turned_owners w.owner) w.peer.session q end (heard w.peer.session (w.own.sent ++ m ∷ [])) (k.to w.own.session)) (sym other_end)
+        (subst (λ (q : State). Meeting (turned_owners w.owner) w.peer.session then_there end q (k.to w.own.session)) (sym other_heard) (record {
+          meets = implied_two matched (λ p q. matched q p) refl end.phase then_there.phase meets_after;
+          units = other_still.units ∙ h.peer.meeting.units ∙ sym own_still.units;
+          base = other_still.base ∙ h.peer.meeting.base ∙ sym own_still.base;
+          restart = other_restart;
+          connect = λ r. absurd (not_answering runs.flush
+              (implied_both matched (λ p q. is_connecting q) (λ p q. is_answering p) refl end.phase then_there.phase meets_after r));
+          holds = h.peer.meeting.holds;
+          wants = other_wants;
+          absent = λ t n. h.peer.meeting.absent t (ap (λ (u : FunctionalUnits). has (available u) t) (sym other_still.units) ∙ n);
+          released = other_released;
+        }));
+  }
+    where
+      not_answering : Shifted k was end → is_answering end.phase ≡ true → ⊥
+      not_answering (inl (e, j)) r =
+          let n = ap (λ (q : State). is_answering q.phase) e ∙ excluded may_hold is_answering refl (k.to was).phase (k.holds_after was j) in cc
+      not_answering (inr d) r = let n = excluded is_restart_due is_answering refl end.phase d.other in cc
 
-peer_counts : (w : Core) (k : Shift) (m : Meaning) (more : List Item) → Sending w k m more → Stands w → Counts w.peer (sender w.own (k.to w.own.session) m more)
-peer_counts w k m more g h =
-    subst (λ (q : State). Counting w.peer.session q (heard (k.to w.own.session) w.peer.sent) (k.to w.own.session)) (sym (other_heard w k m more g h))
-    (subst (λ (q : State). Counting w.peer.session (next (flushed w.peer w.own) m) q (k.to w.own.session)) (sym (runs w k m more g h).heard.0)
-    (record {
-      flag = g.other_flag;
-      below = λ l n from. g.other_below n (subst (λ (b : ℕ). b ≤ n) (other_still w k m more g).base from);
-      reach = g.other_reach;
-    }))
+  -- ---- what was seen
 
--- ---- both at once
+  own_views : Views (w.history ++ more) caller w.peer
+  own_views = record {
+    ends = λ l. shift_view k w.own.session w.peer.sent (w.own.view ++ more) g.now g.none h.own.fits
+        ∙ g.sees (ap not (inv_listens k (hearing w.own w.peer) runs.heard.1));
+    cut = λ r. absurd (
+        let l = after_listens k (hearing w.own w.peer) runs.heard.1 in
+        let c = ap (λ (q : State). is_restarting q.phase) (sym runs.heard.0) ∙ r in
+        cc);
+    due = λ r. absurd (let n = excluded may_hold is_restart_due refl (k.to w.own.session).phase (k.holds_after w.own.session g.now) in cc);
+    stream = λ d. streams (ap (λ (u : FunctionalUnits). u.duplex) (sym own_still.units) ∙ d);
+  }
+    where
+      streams : was.units.duplex ≡ true → (w.own.got ++ data_of w.peer.sent ≡ w.peer.said) × (w.history ++ more ≡ [])
+      streams d = let s = h.own_views.stream d in (s.0, ap (λ (v : List Item). w.history ++ v) (g.duplex d) ∙ append-nil w.history ∙ s.1)
 
-pub sending_stands : (w : Core) (k : Shift) (m : Meaning) (more : List Item) → Sending w k m more → Stands w
-    → AreConsistent (after_sending w (k.to w.own.session) m more) → Stands (after_sending w (k.to w.own.session) m more)
-sending_stands w k m more g h c = record {
-  consistent = c;
-  own = own_half w k m more g h;
-  peer = peer_half w k m more g h;
-  own_views = own_views w k m more g h;
-  peer_views = peer_views w k m more g h;
-  own_counts = own_counts w k m more g h;
-  peer_counts = peer_counts w k m more g h;
-  pair =
-      let e = own_still w k m more g h in
-      record {
-        numbered = subst (λ (b : ℕ). AreNumberedFrom b (w.history ++ more)) (sym e.base) (g.numbered h.pair.numbered);
-        one_way = λ d. g.one_way (ap (λ (u : FunctionalUnits). u.half_duplex) (sym e.units) ∙ d);
-        callers = h.pair.callers ∙ ap not (sym (k.same w.own.session g.now).is_caller);
-        profile = subst IsOfProfile (sym e.units) h.pair.profile;
-      };
-}
+  peer_sees : hears then_there.phase ≡ true → heard_view w.peer.session (w.own.sent ++ m ∷ []) w.peer.view ≡ w.history ++ more
+  peer_sees l = by_either sides
+      (λ d. absurd (not_both _ (ap (λ (q : State). hears q.phase) (sym d.same) ∙ l) d.asked))
+      (λ a. view_append w.peer.session w.own.sent m w.peer.view h.peer.fits owed
+      ∙ ap (λ (b : Bool). if b then v else view_next there m v) (g.unit.quiet there)
+      ∙ ap (λ (b : Bool). if b then v else seen there m v) a.acts
+      ∙ g.shows there v
+      ∙ ap (λ (v : List Item). v ++ more) (h.peer_views.ends (heard_phase hears (ap not a.listens))))
+    where
+      v : List Item
+      v = heard_view w.peer.session w.own.sent w.peer.view
+
+  peer_views : Views (w.history ++ more) w.peer caller
+  peer_views = record {
+    ends = λ l. peer_sees (then_heard hears l);
+    cut = λ r. cuts (by_test (is_restarting there.phase) (λ e. e)
+        (λ e. let r : is_restarting then_there.phase ≡ true = then_heard is_restarting r in
+        absurd (not_both _ (next_hears there m (ap not e)) r)));
+    due = λ r. absurd (none_due_there w.owner w.own w.peer h.own h.peer listens r);
+    stream = λ d. streams (ap (λ (u : FunctionalUnits). u.duplex) (sym other_still.units) ∙ ap (λ (q : State). q.units.duplex) (sym other_end) ∙ d);
+  }
+    where
+      cuts : is_restarting there.phase ≡ true → w.peer.view ≡ cutat w.peer.session.base (w.history ++ more) w.peer.session.numbers.next
+      cuts r =
+          let c = h.peer_views.cut (heard_phase is_restarting r) in
+          c ∙ sym (cut_append w.peer.session.base w.peer.session.numbers.next w.history more w.peer.view c h.consistent.peer.count)
+
+      streams : there.units.duplex ≡ true → (w.peer.got ++ data_of (w.own.sent ++ m ∷ []) ≡ w.own.said ++ []) × (w.history ++ more ≡ [])
+      streams d =
+          let s = h.peer_views.stream d in
+          let e = data_append w.own.sent (m ∷ []) ∙ ap (λ (r : List (List ℕ)). data_of w.own.sent ++ (r ++ [])) g.unit.empty
+          ∙ append-nil (data_of w.own.sent) in (
+            ap (λ (r : List (List ℕ)). w.peer.got ++ r) e ∙ s.0 ∙ sym (append-nil w.own.said),
+            ap (λ (v : List Item). w.history ++ v) (g.duplex (ap (λ (u : FunctionalUnits). u.duplex) h.own.meeting.units ∙ d)) ∙ append-nil w.history ∙ s.1,
+          )
+
+  -- ---- the numbers
+
+  own_counts : Counts caller w.peer
+  own_counts =
+      subst (λ (q : State). Counting (k.to w.own.session) (heard (k.to w.own.session) w.peer.sent) q w.peer.session) (sym other_heard)
+      (subst (λ (q : State). Counting (k.to w.own.session) q then_there w.peer.session) (sym runs.heard.0)
+      (record { flag = g.flag; below = g.below; reach = g.reach }))
+
+  peer_counts : Counts w.peer caller
+  peer_counts =
+      subst (λ (q : State). Counting w.peer.session q (heard (k.to w.own.session) w.peer.sent) (k.to w.own.session)) (sym other_heard)
+      (subst (λ (q : State). Counting w.peer.session then_there q (k.to w.own.session)) (sym runs.heard.0) (record {
+        flag = g.other_flag;
+        below = λ l n from. g.other_below n (subst (λ (b : ℕ). b ≤ n) other_still.base from);
+        reach = g.other_reach;
+      }))
+
+  -- ---- both at once
+
+  pub sending_stands : AreConsistent (after_sending w (k.to w.own.session) m more) → Stands (after_sending w (k.to w.own.session) m more)
+  sending_stands c = record {
+    consistent = c;
+    own = own_half;
+    peer = peer_half;
+    own_views = own_views;
+    peer_views = peer_views;
+    own_counts = own_counts;
+    peer_counts = peer_counts;
+    pair = record {
+      numbered = subst (λ (b : ℕ). AreNumberedFrom b (w.history ++ more)) (sym own_still.base) (g.numbered h.pair.numbered);
+      one_way = λ d. g.one_way (ap (λ (u : FunctionalUnits). u.half_duplex) (sym own_still.units) ∙ d);
+      callers = h.pair.callers ∙ ap not (sym (k.same w.own.session g.now).is_caller);
+      profile = subst IsOfProfile (sym own_still.units) h.pair.profile;
+    };
+  }

@@ -15,7 +15,7 @@ use Rattle.osi_machine.proofs.channels.what_every_unit_in_flight_keeps.{heard_tu
 use Rattle.osi_machine.proofs.channels.a_deaf_side_acts_on_nothing.{not_both}
 use Rattle.osi_machine.proofs.channels.a_held_token_keeps_units_out.{flush_open, heard_open}
 use Rattle.osi_machine.proofs.channels.what_a_side_will_have_seen.{until_heard, view_cases, heard_counted, view_grows, major_came}
-use Rattle.osi_machine.proofs.invariant.what_holds_of_both_sides.{flushed, hearing, matched, Stands}
+use Rattle.osi_machine.proofs.invariant.what_holds_of_both_sides.{flushed, hearing, Stands, phase_there}
 use Rattle.osi_machine.proofs.invariant.each_step_keeps_one_side.{IsGranted, granted}
 use Rattle.osi_machine.proofs.calls.a_unit_that_changes_no_state.{end_units, list_any_append, none_owed}
 use Rattle.osi_machine.proofs.calls.a_change_of_phase_and_numbers.{Shift, listening_stands, none_never, Sending, sending_stands}
@@ -159,7 +159,7 @@ confirm_sending w n octets k h = record {
       let fy = flushed w.peer w.own in
       let a = own_answers w n k in
       record {
-        expected = implied_both matched (λ p q. is_confirming p) (λ p q. takes_minor_ack q) refl (flushed w.own w.peer).phase (flushed w.peer w.own).phase h.own.meeting.meets i.phase;
+        expected = phase_there is_confirming takes_minor_ack refl h.own i.phase;
         met = (
           ap (λ (u : FunctionalUnits). u.minor) (sym h.own.meeting.units ∙ end_units w.owner w.own w.peer h.own (open_now w a)) ∙ k.selected,
           (

@@ -10,13 +10,13 @@ use Rattle.osi_machine.proofs.Vocabulary.{takes_restart, lower, point_sent, poin
 use Rattle.osi_machine.proofs.Vocabulary.{has_no_effect, passes_restarting, Minor, Major, after, Item, PointKind, Point, points, minor_kind}
 use Rattle.osi_machine.proofs.Vocabulary.{major_point, AreNumberedFrom, is_plain, heard_view, stops, needs_token, Core, answered}
 use Rattle.osi_machine.proofs.Vocabulary.{is_opening, AreConsistent}
-use Rattle.osi_machine.proofs.basics.what_holds_in_each_phase.{implied_both, implied, excluded, by_test}
+use Rattle.osi_machine.proofs.basics.what_holds_in_each_phase.{implied, excluded, by_test}
 use Rattle.osi_machine.proofs.channels.what_every_unit_in_flight_keeps.{heard_flush, heard_sends}
 use Rattle.osi_machine.proofs.channels.a_deaf_side_acts_on_nothing.{not_both}
 use Rattle.osi_machine.proofs.channels.a_held_token_keeps_units_out.{Holds, empty_has, united_has, nothing_to_see, heard_holds, none_needs}
 use Rattle.osi_machine.proofs.channels.a_held_token_keeps_units_out.{flush_open, heard_open}
 use Rattle.osi_machine.proofs.channels.what_a_side_will_have_seen.{heard_counted, unseen, numbered_point}
-use Rattle.osi_machine.proofs.invariant.what_holds_of_both_sides.{flushed, hearing, matched, IsOfProfile, Stands}
+use Rattle.osi_machine.proofs.invariant.what_holds_of_both_sides.{flushed, hearing, matched, IsOfProfile, Stands, phase_there}
 use Rattle.osi_machine.proofs.invariant.each_step_keeps_one_side.{IsGranted, granted}
 use Rattle.osi_machine.proofs.calls.a_unit_that_changes_no_state.{HasRight, right_of, other_lacks, end_units, none_owed}
 use Rattle.osi_machine.proofs.calls.a_change_of_phase_and_numbers.{Shift, listening_stands, none_never, Sending, sending_stands}
@@ -227,7 +227,7 @@ point_one_way w m a h = and_right (list_any (needs_token data_token) (w.own.sent
 -- ---- the other takes it
 
 there_ready : (w : Core) → Stands w → (flushed w.own w.peer).phase ≡ Ready → is_ready (flushed w.peer w.own).phase ≡ true
-there_ready w h e = implied_both matched (λ p q. is_ready p) (λ p q. is_ready q) refl (flushed w.own w.peer).phase (flushed w.peer w.own).phase h.own.meeting.meets (ap is_ready e)
+there_ready w h e = phase_there is_ready is_ready refl h.own (ap is_ready e)
 
 there_lacks : (w : Core) (t : Token) → Points w → Stands w → HasRight w.own.session t → is_ready (flushed w.peer w.own).phase ≡ true → not (has (flushed w.peer w.own).held t) ≡ true
 there_lacks w t a h right r =

@@ -9,12 +9,12 @@ use Rattle.osi_machine.proofs.Vocabulary.{is_disjoint, is_ready, is_releasing, i
 use Rattle.osi_machine.proofs.Vocabulary.{passes_restarting, has_no_effect, may_hold, becomes, next, Good, Release, ReleaseRefuse}
 use Rattle.osi_machine.proofs.Vocabulary.{AreNumberedFrom, turned_owners, is_plain, Fits, AllFit, flush, stops, heard_view, needs_token}
 use Rattle.osi_machine.proofs.Vocabulary.{Core, answered, is_opening}
-use Rattle.osi_machine.proofs.basics.what_holds_in_each_phase.{implied_both, implied, excluded, by_either, by_test}
+use Rattle.osi_machine.proofs.basics.what_holds_in_each_phase.{implied, excluded, by_either, by_test}
 use Rattle.osi_machine.proofs.channels.a_unit_is_dropped_bad_or_acted_on.{next_cases, fit_cases, next_acted, next_dropped, next_hears}
 use Rattle.osi_machine.proofs.channels.what_every_unit_in_flight_keeps.{kept_all, kept_heard, heard_flush}
 use Rattle.osi_machine.proofs.channels.a_deaf_side_acts_on_nothing.{not_both}
 use Rattle.osi_machine.proofs.channels.a_held_token_keeps_units_out.{each_has, flush_open, none_needs}
-use Rattle.osi_machine.proofs.invariant.what_holds_of_both_sides.{flushed, hearing, matched, IsOfProfile, Stands}
+use Rattle.osi_machine.proofs.invariant.what_holds_of_both_sides.{flushed, hearing, IsOfProfile, Stands, phase_there}
 use Rattle.osi_machine.proofs.invariant.each_step_keeps_one_side.{IsGranted, granted}
 use Rattle.osi_machine.proofs.calls.a_unit_that_changes_no_state.{HasRight, right_of, other_lacks, end_units, list_any_append, none_owed}
 use Rattle.osi_machine.proofs.calls.tokens_that_are_given.{is_empty_of, within_has, disjoint_has}
@@ -161,7 +161,7 @@ duplex_none : (w : Core) → Asks w → Stands w → w.own.session.units.duplex 
 duplex_none w a h d = by_test (list_any is_finish w.peer.sent)
     (λ e. absurd (
     let r = finish_ends w.own.session w.peer.sent (excluded is_ready is_restarting refl w.own.session.phase a.phase) (open_now w a) (profile.alone d).2 h.own.fits e in
-    let m = implied_both matched (λ p q. is_release_due p) (λ p q. is_releasing q) refl (flushed w.own w.peer).phase (flushed w.peer w.own).phase h.own.meeting.meets r in
+    let m = phase_there is_release_due is_releasing refl h.own r in
     let n = unreleased w.peer.session w.own.sent there h.peer.fits in
     cc))
     (λ e. e)
@@ -253,7 +253,7 @@ release_sending w octets a h =
       unit = assumption;
       shows = λ s v. sym (append-nil v);
       good = λ l i.
-          let ready = implied_both matched (λ p q. is_ready p) (λ p q. is_ready q) refl (flushed w.own w.peer).phase (flushed w.peer w.own).phase h.own.meeting.meets (ap is_ready i.phase) in
+          let ready = phase_there is_ready is_ready refl h.own (ap is_ready i.phase) in
           record {
             expected = ready;
             met = (is_empty_of (flushed w.peer w.own).held (λ t. other_lacks w.owner w.own w.peer t h.own h.peer (open_now w a) (a.right t) owed (implied is_ready may_hold refl (flushed w.peer w.own).phase ready)), tt);
@@ -307,7 +307,7 @@ record Refuses (w : Core) : Type 0 where
   selected : w.own.session.units.negotiated_release ≡ true
 
 other_releasing : (w : Core) → Stands w → (flushed w.own w.peer).phase ≡ ReleaseDue → is_releasing (flushed w.peer w.own).phase ≡ true
-other_releasing w h i = implied_both matched (λ p q. is_release_due p) (λ p q. is_releasing q) refl (flushed w.own w.peer).phase (flushed w.peer w.own).phase h.own.meeting.meets (ap is_release_due i)
+other_releasing w h i = phase_there is_release_due is_releasing refl h.own (ap is_release_due i)
 
 refusal_sending : (w : Core) (octets : List ℕ) → Refuses w → Stands w → Sending w refusal_shift (NF octets) []
 refusal_sending w octets a h =

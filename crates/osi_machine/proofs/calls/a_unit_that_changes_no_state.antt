@@ -8,7 +8,7 @@ use Rattle.osi_machine.proofs.Vocabulary.{is_restart_due, becomes, Item, Owners,
 use Rattle.osi_machine.proofs.Vocabulary.{is_absent, seen, Fits, AllFit, flush, heard, hears, heard_view, Party, is_opening, not_from_false}
 use Rattle.osi_machine.proofs.Vocabulary.{append-nil, Data, drops, Octets, Point, cutat, AreNumberedFrom, view_next, data_of, Core}
 use Rattle.osi_machine.proofs.Vocabulary.{answered, IsConsistent, AreConsistent, and_from, not-true, and_right, Please, needs_token}
-use Rattle.osi_machine.proofs.basics.what_holds_in_each_phase.{implied_both, implied, excluded, if_first, by_either, implied_two}
+use Rattle.osi_machine.proofs.basics.what_holds_in_each_phase.{implied, excluded, if_first, by_either, implied_two}
 use Rattle.osi_machine.proofs.basics.what_a_restart_leaves_of_a_history.{cut_append}
 use Rattle.osi_machine.proofs.channels.a_unit_is_dropped_bad_or_acted_on.{next_cases, next_hears}
 use Rattle.osi_machine.proofs.channels.what_every_unit_in_flight_keeps.{fit_append, flush_append, kept_heard, heard_flush, heard_append}
@@ -17,8 +17,8 @@ use Rattle.osi_machine.proofs.channels.what_every_unit_in_flight_keeps.{data_app
 use Rattle.osi_machine.proofs.channels.a_deaf_side_acts_on_nothing.{not_both}
 use Rattle.osi_machine.proofs.channels.a_held_token_keeps_units_out.{flush_open, is_lively, ends_lively, is_talking, Talks, ends_talking}
 use Rattle.osi_machine.proofs.channels.a_held_token_keeps_units_out.{nothing_to_see, none_needs}
-use Rattle.osi_machine.proofs.invariant.what_holds_of_both_sides.{flushed, hearing, matched, Half, Views, Counting, Counts, IsOfProfile}
-use Rattle.osi_machine.proofs.invariant.what_holds_of_both_sides.{Pair, Stands}
+use Rattle.osi_machine.proofs.invariant.what_holds_of_both_sides.{flushed, hearing, Half, Views, Counting, Counts, IsOfProfile, Pair}
+use Rattle.osi_machine.proofs.invariant.what_holds_of_both_sides.{Stands, phase_there}
 
 -- ---- a unit that changes no state
 
@@ -98,9 +98,9 @@ pub other_takes_data : (o : Owners) (x y : Party) → Half o x y → IsOfProfile
     → is_restarting (flushed y x).phase ≡ false → takes_data (flushed y x).phase ≡ true
 other_takes_data o x y h p ready right listens =
     elim (ends_talking x.session y.sent (talks o x y h p ready right) h.fits) [
-      | inl t ↦ implied_both matched (λ p q. is_talking p) (λ p q. takes_data q) refl (flushed x y).phase (flushed y x).phase h.meeting.meets t.phase
+      | inl t ↦ phase_there is_talking takes_data refl h t.phase
       | inr due ↦ absurd (
-          let r = implied_both matched (λ p q. is_restart_due p) (λ p q. is_restarting q) refl (flushed x y).phase (flushed y x).phase h.meeting.meets due in
+          let r = phase_there is_restart_due is_restarting refl h due in
           cc)
     ]
 
@@ -134,9 +134,9 @@ please_fits o x y tokens octets h asks within = record {
   plain = refl;
   good = λ d. record {
     expected = by_either (ends_lively x.session y.sent (implied may_ask is_lively refl x.session.phase asks) h.fits)
-        (λ t. implied_both matched (λ p q. is_lively p) (λ p q. takes_please q) refl (flushed x y).phase (flushed y x).phase h.meeting.meets t)
+        (λ t. phase_there is_lively takes_please refl h t)
         (λ due. absurd (dropped _ _ d
-        (implied_both matched (λ p q. is_restart_due p) (λ p q. is_restarting q) refl (flushed x y).phase (flushed y x).phase h.meeting.meets due)));
+        (phase_there is_restart_due is_restarting refl h due)));
     met = (all, tt);
   };
 }

@@ -8,13 +8,13 @@ use Rattle.osi_machine.proofs.Vocabulary.{available, lacks, may_ask, is_restart_
 use Rattle.osi_machine.proofs.Vocabulary.{append-nil, FunctionalUnits, may_give, may_hold, is_restarting, Give, drops, next, cutat, Owner}
 use Rattle.osi_machine.proofs.Vocabulary.{ToThem, turned_owner, turned_owners, is_own, is_to_own, is_absent, passed_to, flush, heard, hears}
 use Rattle.osi_machine.proofs.Vocabulary.{heard_view, data_of, Party, Core, answered, is_opening, AreConsistent}
-use Rattle.osi_machine.proofs.basics.what_holds_in_each_phase.{excluded, cut_or, implied_both, implied, by_either}
+use Rattle.osi_machine.proofs.basics.what_holds_in_each_phase.{excluded, cut_or, implied, by_either}
 use Rattle.osi_machine.proofs.channels.a_unit_is_dropped_bad_or_acted_on.{next_acted, restart_due, due_next, next_cases, next_dropped}
 use Rattle.osi_machine.proofs.channels.what_every_unit_in_flight_keeps.{Steps, fit_append, flush_append, heard_flush, heard_append}
 use Rattle.osi_machine.proofs.channels.what_every_unit_in_flight_keeps.{data_append, Runs, alike, alike_view}
 use Rattle.osi_machine.proofs.channels.a_held_token_keeps_units_out.{each_has, empty_has, united_has, without_has}
-use Rattle.osi_machine.proofs.invariant.what_holds_of_both_sides.{flushed, hearing, matched, Meeting, Half, Views, IsOfProfile, Stands}
-use Rattle.osi_machine.proofs.invariant.what_holds_of_both_sides.{Like, like, itself, Tokens_of, retoken, recount}
+use Rattle.osi_machine.proofs.invariant.what_holds_of_both_sides.{flushed, hearing, Meeting, Half, Views, IsOfProfile, Stands, Like, like}
+use Rattle.osi_machine.proofs.invariant.what_holds_of_both_sides.{itself, Tokens_of, retoken, recount, phase_there}
 use Rattle.osi_machine.proofs.calls.a_unit_that_changes_no_state.{end_units, other_lacks, view_idle, list_any_append, none_owed}
 use Rattle.osi_machine.proofs.calls.an_answer_settles_the_tokens.{each_of}
 
@@ -172,9 +172,9 @@ dropped_not e r h k = grind arith
 
 other_asks : (w : Core) (k : Tokens) → Giving w k → Half w.owner w.own w.peer → drops (flushed w.peer w.own) (GT k) ≡ false → may_ask (flushed w.peer w.own).phase ≡ true
 other_asks w k g h d = by_either (runs w k g h).flush
-    (λ z. implied_both matched (λ p q. may_ask p) (λ p q. may_ask q) refl (flushed w.own w.peer).phase (flushed w.peer w.own).phase h.meeting.meets z.1.phase)
+    (λ z. phase_there may_ask may_ask refl h z.1.phase)
     (λ z. absurd (dropped_not _ _ d
-    (implied_both matched (λ p q. is_restart_due p) (λ p q. is_restarting q) refl (flushed w.own w.peer).phase (flushed w.peer w.own).phase h.meeting.meets z.1)))
+    (phase_there is_restart_due is_restarting refl h z.1)))
 
 give_fits : (w : Core) (k : Tokens) → Giving w k → Half w.owner w.own w.peer → Half (turned_owners w.owner) w.peer w.own → Fits (flushed w.peer w.own) (GT k)
 give_fits w k g h j = record {

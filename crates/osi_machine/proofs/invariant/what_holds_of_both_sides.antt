@@ -11,7 +11,7 @@ use Rattle.osi_machine.proofs.Vocabulary.{AreNumberedFrom, Owners, is_own, is_to
 use Rattle.osi_machine.proofs.Vocabulary.{heard_view, data_of, needs_token, Party, Core, AreConsistent, eqb-true, and_parts, names}
 use Rattle.osi_machine.proofs.Vocabulary.{functional_units, both_units, units_within, has_data, has_points, is_profile, base_for}
 use Rattle.osi_machine.proofs.Vocabulary.{serial_for, agreed_base}
-use Rattle.osi_machine.proofs.basics.what_holds_in_each_phase.{cut_or, by_test}
+use Rattle.osi_machine.proofs.basics.what_holds_in_each_phase.{cut_or, by_test, implied_both, every_two}
 
 -- the state of x when it has taken all that y has sent, and just before a restart that takes effect
 abbrev pub flushed : Party → Party → State
@@ -54,6 +54,11 @@ pub record Half (o : Owners) (x y : Party) : Type 0 where
   -- no unit in flight will be a fault
   pub fits : AllFit x.session y.sent
   pub meeting : Meeting o x.session (flushed x y) (flushed y x) (hearing x y) y.session
+
+-- what follows of the phases in which both meet
+pub phase_there : (f g : Phase → Bool) → every_two (λ p q. not (matched p q && f p) || g q) ≡ true → {o : Owners} {x y : Party} → Half o x y
+    → f (flushed x y).phase ≡ true → g (flushed y x).phase ≡ true
+phase_there f g e {x} {y} h t = implied_both matched (λ p q. f p) (λ p q. g q) e (flushed x y).phase (flushed y x).phase h.meeting.meets t
 
 -- what was seen
 pub record Views (h : List Item) (x y : Party) : Type 0 where
