@@ -71,7 +71,7 @@ heard_number w a h = search (arith, heard_counted, heard_base, heeds)
 all_above : (w : Core) (n : ℕ) → Answers w.own.session → Stands w → is_restarting (flushed w.peer w.own).phase ≡ false
     → (hearing w.own w.peer).base ≤ n → n < w.own.session.base + points w.history → n < w.peer.session.numbers.next
 all_above w n a h l from to =
-    other_above w n h (same_base w a h) (other_saw w h (ends_same w a h) l (there_sends w a h)) (subst (λ (b : ℕ). b ≤ n) (heard_base w a h) from) to
+    other_above w h n (same_base w a h) (other_saw w h (ends_same w a h) l (there_sends w a h)) (subst (λ (b : ℕ). b ≤ n) (heard_base w a h) from) to
 
 -- the other does not answer
 none_back : (w : Core) → Answers w.own.session → Stands w → w.peer.session.numbers.answers ≡ true → ⊥

@@ -1,27 +1,21 @@
 -- Every unit in flight can be written, and the numbers of each session are in order.
 -- For the law `what_is_under_way_can_be_sent`.
-use Rattle.std.proofs.Common.{◌≡◌, refl, sym, subst, ℕ, zero, suc, ◌+◌, Bool, true, false, if◌then◌else◌, List, [], ◌∷◌, ◌++◌, map, length}
-use Rattle.std.proofs.Common.{take, Option, Some, None, is_some, Ok, Err, arith}
+use Rattle.std.proofs.Common.{◌≡◌, refl, sym, subst, ℕ, zero, suc, Bool, true, false, List, [], ◌∷◌, ◌++◌, length, take, Option, Some, None}
+use Rattle.std.proofs.Common.{Ok, Err, arith, ap, ◌∙◌}
 use Rattle.osi_session.specs.Moves.{answered as answered_move, after_inputs}
 use Rattle.osi_session.specs.Runs.{HasNumbers}
 use Rattle.osi_session.specs.Sessions.{CanBeSent}
 use Rattle.osi_message.specs.Written.{is_second, user_data_of}
-use Rattle.osi_machine.specs.Tables.{asked_with, shortened, after_call, message_taken, closed, ended_at, start, seen_from, side_of, stays}
-use Rattle.osi_machine.specs.Tables.{noted, transport_of, refusal, asked_in, call_in, shown_in_order, marked_ended, after_end, closes_by}
-use Rattle.osi_machine.specs.Tables.{without_first, taken_in, delivered_to, cut_channels, step, run}
+use Rattle.osi_machine.specs.Tables.{asked_with, shortened, after_call, message_taken, closed, ended_at, start, without_first, run, turned}
 use Rattle.osi_machine.proofs.Vocabulary.{leb-true, ltb-false, or_parts, not-false, AllByRecursion, Input, called, taken, opened, refused}
 use Rattle.osi_machine.proofs.Vocabulary.{broken as broken_off, Standing, Move, react, Said, said_of, IsAddress, State, Meaning}
 use Rattle.osi_machine.proofs.Vocabulary.{WaitTransport, Call, HasSerial, Granted, Answer, IsSound, IsSendable, allowed, respond}
-use Rattle.osi_machine.proofs.Vocabulary.{without_tokens, awaiting, Offer, CanBeOffered, Side, Left, Right, offering, offer_sent, Class}
-use Rattle.osi_machine.proofs.Vocabulary.{class_2, Message, unit, ask, agree, deny, bye, over, Transport, not_yet, waiting, linked, closing}
-use Rattle.osi_machine.proofs.Vocabulary.{gone, put, replied, Terms, accepts, denies, Ending, closed_here, Refusal, Step, call_answered}
-use Rattle.osi_machine.proofs.Vocabulary.{ended, connection_at, is_given, is_long_selector, is_long, refusal_by, learns, HasNumber, Line}
-use Rattle.osi_machine.proofs.Vocabulary.{Turn, Tables, in_transport, puts, made, ends_there, ended_lines, after_turn, AreSendable}
-use Rattle.osi_machine.proofs.Vocabulary.{IsSoundLine, AreSoundLines, IsTableRun}
+use Rattle.osi_machine.proofs.Vocabulary.{without_tokens, awaiting, Offer, CanBeOffered, offering, offer_sent, Message, unit, ask, agree}
+use Rattle.osi_machine.proofs.Vocabulary.{deny, bye, over, Transport, not_yet, waiting, linked, closing, gone, put, replied, Terms, accepts}
+use Rattle.osi_machine.proofs.Vocabulary.{denies, connection_at, is_given, is_long_selector, is_long, HasNumber, Line, Tables, in_transport}
+use Rattle.osi_machine.proofs.Vocabulary.{puts, made, ends_there, AreSendable, IsSoundLine, AreSoundLines, IsTableRun, cut_line}
 use Rattle.osi_machine.proofs.basics.what_holds_in_each_phase.{by_test}
-use Rattle.osi_machine.proofs.basics.what_stands_at_a_reference.{all_more, all_with, all_at}
-use Rattle.osi_machine.proofs.machine.every_connection_of_a_run.{if_none}
-use Rattle.osi_session.specs.declared.faults.CallError.TheVariants as error
+use Rattle.osi_machine.proofs.tables.every_line_of_a_run.{all_know, Knows, Holds, Words, Claim, IsKept}
 
 -- what is proved of one session
 pub record SendLaws : Type 0 where
@@ -162,82 +156,39 @@ awaiting_sound = grind arith
 asked_line : (b : Bool) (o : Offer) → CanBeOffered o → is_long o ≡ false → IsSoundLine (asked_with b o)
 asked_line b o small h = search (arith, calling_sound, offer_sendable, put_sendable, awaiting_sound)
 
-asked_short : (ended_now : Bool) (known : Option Class) (asked : List Transport) (o : Offer) → refusal_by ended_now known asked o ≡ None → is_long o ≡ false
-asked_short ended_now known asked o h = grind (arith, if_none)
-
 -- ---- all connections
 
-side_line : (side : Side) (l : Line) → IsSoundLine l → IsSoundLine (seen_from side l)
-side_line Left l h = h
-side_line Right l h = record { own = h.peer; peer = h.own }
-
-abbrev Sound : Tables → Type 0
-Sound t = AllByRecursion IsSoundLine t.lines
-
-if_sound : (b : Bool) (t u : Tables) → Sound t → Sound u → Sound (if b then t else u)
-if_sound b t u h k = grind arith
-
-asked_sound : (t : Tables) (o : Offer) → CanBeOffered o → Sound t → (a : Option Refusal) → refusal t o ≡ a → Sound (asked_in t o a)
-asked_sound t o small h (Some e) q = h
-asked_sound t o small h None q = all_more IsSoundLine t.lines (asked_with t.broken o) (asked_line t.broken o small (asked_short (is_some t.left_end) t.known (map transport_of t.lines) o q)) h
-
-call_sound : SendLaws → (t : Tables) (side : Side) (r : ℕ) (c : Call) → HasSerial c → Sound t → (a : Option Line) → connection_at r t.lines ≡ a → Sound (call_in t side r c (side_of side a))
-call_sound laws t side r c small h None e = h
-call_sound laws t side r c small h (Some l) e =
-    if_sound (is_given (seen_from side l).own.transport)
-    (noted (call_answered side r c (react (seen_from side l).own.session (called c)).error ∷ []) (stays t side r (after_call t.broken c (seen_from side l))))
-    (noted (call_answered side r c (Some error.NoSuchConnection) ∷ []) t)
-    (all_with IsSoundLine r _ t.lines (side_line side _ (called_line laws t.broken c (seen_from side l) small (side_line side l (all_at IsSoundLine r t.lines l e h)))) h) h
+turned_line : (l : Line) → IsSoundLine l → IsSoundLine (turned l)
+turned_line l h = record { own = h.peer; peer = h.own }
 
 ends_line : SendLaws → (keep : ℕ) (l : Line) → IsSoundLine l → IsSoundLine (ends_there keep l)
 ends_line laws keep l h = by_test (is_given l.own.transport) (λ e. rw e (ended_line laws keep l h)) (λ e. rw e h)
 
-ended_lines_sound : SendLaws → (side : Side) (keep : ℕ → ℕ) (k : ℕ) (ls : List Line) → AllByRecursion IsSoundLine ls → AllByRecursion IsSoundLine (ended_lines side keep k ls)
-ended_lines_sound laws side keep k [] h = tt
-ended_lines_sound laws side keep k (l ∷ ls) h = (side_line side _ (ends_line laws (keep k) (seen_from side l) (side_line side l h.0)), ended_lines_sound laws side keep (k + 1) ls h.1)
+cut_sound : (left right : ℕ) (l : Line) → IsSoundLine l → IsSoundLine (cut_line left right l)
+cut_sound left right l h = record {
+  own = record { sound = h.own.sound; waits = h.own.waits; under_way = take_sendable left l.own.channel h.own.under_way };
+  peer = record { sound = h.peer.sound; waits = h.peer.waits; under_way = take_sendable right l.peer.channel h.peer.under_way };
+}
 
-marked_sound : (side : Side) (e : Ending) (t : Tables) → Sound t → Sound (marked_ended side e t)
-marked_sound side e t h = grind arith
+-- whatever was sent and received
+abbrev Sound : Claim
+Sound b l x y = IsSoundLine l
 
-end_sound : SendLaws → (side : Side) (e : Ending) (keep : ℕ → ℕ) (t : Tables) → Sound t → Sound (after_end side e keep t)
-end_sound laws side e keep t h = marked_sound side e
-    (noted (shown_in_order side 1 t.lines ++ ended side e ∷ []) (record t { lines = ended_lines side keep 1 t.lines })) (ended_lines_sound laws side keep 1 t.lines h)
+sound_kept : SendLaws → IsKept Sound HasNumber
+sound_kept laws = record {
+  new = λ b o small short. asked_line b o small short;
+  turns = λ b l x y h. turned_line l h;
+  call = λ b side r c l x y small given h. called_line laws b c l small h;
+  take = λ b terms keep l m xs x y e h. message_line laws b terms keep l.own.transport l m xs (subst AreSendable e h.peer.under_way) h;
+  close = λ b terms keep to_keep tr l m x y c h. closed_line b to_keep (message_taken b terms keep tr l m).line h;
+  end = λ b keep l x y h. ends_line laws keep l h;
+  cut = λ b left right l x y h. cut_sound left right l h;
+}
 
-closes_sound : SendLaws → (known : Option Class) (t : Tables) (side : Side) (r : ℕ) (keep : ℕ → ℕ) (l : Line) → IsSoundLine l → Sound t → Sound (closes_by known t side r keep l)
-closes_sound laws (Some class_2) t side r keep l k h = all_with IsSoundLine r _ t.lines (side_line side _ (closed_line t.broken (keep r) l k)) h
-closes_sound laws _ t side r keep l k h = end_sound laws side closed_here keep (stays t side r l) (all_with IsSoundLine r _ t.lines (side_line side l k) h)
-
-turn_sound : SendLaws → (t : Tables) (side : Side) (r : ℕ) (keep : ℕ → ℕ) (x : Turn) → IsSoundLine x.line → Sound t → Sound (after_turn t side r keep x)
-turn_sound laws t side r keep x k h = search (arith, if_sound, closes_sound, all_with, side_line)
-
-taken_sound : SendLaws → (t : Tables) (side : Side) (r : ℕ) (keep : ℕ → ℕ) (l : Line) → IsSoundLine l → Sound t → (ms : List Message) → AreSendable ms → Sound (taken_in t side r keep l ms)
-taken_sound laws t side r keep l k h [] s = h
-taken_sound laws t side r keep l k h (x ∷ xs) s =
-    turn_sound laws (record t { known = learns t.terms l.own.transport x t.known }) side r keep (message_taken t.broken t.terms (keep r) l.own.transport (without_first l xs) x)
-    (message_line laws t.broken t.terms (keep r) l.own.transport l x xs s k) h
-
-delivery_sound : SendLaws → (t : Tables) (side : Side) (r : ℕ) (keep : ℕ → ℕ) → Sound t → (a : Option Line) → connection_at r t.lines ≡ a → Sound (delivered_to t side r keep (side_of side a))
-delivery_sound laws t side r keep h None e = h
-delivery_sound laws t side r keep h (Some l) e =
-    let k = side_line side l (all_at IsSoundLine r t.lines l e h) in
-    taken_sound laws t side r keep (seen_from side l) k h (seen_from side l).peer.channel k.peer.under_way
-
-cut_sound : (left right : ℕ → ℕ) (k : ℕ) (ls : List Line) → AllByRecursion IsSoundLine ls → AllByRecursion IsSoundLine (cut_channels left right k ls)
-cut_sound left right k [] h = tt
-cut_sound left right k (l ∷ ls) h = (
-  record {
-    own = record { sound = h.0.own.sound; waits = h.0.own.waits; under_way = take_sendable (left k) l.own.channel h.0.own.under_way };
-    peer = record { sound = h.0.peer.sound; waits = h.0.peer.waits; under_way = take_sendable (right k) l.peer.channel h.0.peer.under_way };
-  },
-  cut_sound left right (k + 1) ls h.1,
-)
-
-step_sound : SendLaws → (t : Tables) (s : Step) → HasNumber s → Sound t → Sound (step t s)
-step_sound laws t s small h = search (arith, asked_sound, call_sound, if_sound, delivery_sound, cut_sound, end_sound)
-
-run_sound : SendLaws → (t : Tables) (steps : List Step) → AllByRecursion HasNumber steps → Sound t → Sound (run t steps)
-run_sound laws t [] small h = h
-run_sound laws t (s ∷ steps) small h = run_sound laws (step t s) steps small.1 (step_sound laws t s small.0 h)
+known_sound : (r : ℕ) (t : Tables) (x y : Words) (l : Line) → Knows Sound r t x y → connection_at r t.lines ≡ Some l → IsSoundLine l
+known_sound r t x y l h e = subst (Holds Sound t.broken x y) e h
 
 pub are_sound : SendLaws → (t : Tables) → IsTableRun t → AreSoundLines t
-are_sound laws t h r l e = all_at IsSoundLine r t.lines l e (subst Sound h.reached (run_sound laws (start h.agreed) h.steps h.numbered tt))
+are_sound laws t h r l e =
+    known_sound r (run (start h.agreed) h.steps) _ _ l (all_know Sound HasNumber (sound_kept laws) r h.agreed h.steps h.numbered)
+    (ap (λ (u : Tables). connection_at r u.lines) h.reached ∙ e)

@@ -12,6 +12,7 @@ use Rattle.osi_machine.proofs.Vocabulary.{Offer, ask, bye, over, linked, closing
 use Rattle.osi_machine.proofs.Vocabulary.{ends_there, cut_line, said_to, heard_of, is_parting}
 use Rattle.osi_machine.proofs.basics.what_holds_in_each_phase.{excluded, implied, by_test}
 use Rattle.osi_machine.proofs.machine.a_connection_is_early_or_dead.{is_agree}
+use Rattle.osi_machine.proofs.tables.every_line_of_a_run.{Words, and_more, silent}
 
 -- what is proved of one session
 pub record SayLaws : Type 0 where
@@ -24,22 +25,11 @@ pub lost_ends : (s : Standing) → is_ended (after_input s broken_off).state.pha
 unfolding react
 lost_ends s = refl
 
--- what a side has sent and received
-pub record Words : Type 0 where
-  pub said : List Meaning
-  pub heard : List Meaning
-
-abbrev pub silent : Words
-silent = record { said = []; heard = [] }
-
 abbrev pub says_more : Words → List Meaning → Words
 says_more w said = record w { said = w.said ++ said }
 
 abbrev pub hears_more : Words → List Meaning → Words
 hears_more w heard = record w { heard = w.heard ++ heard }
-
-abbrev pub and_more : Words → List Meaning → List Meaning → Words
-and_more w said heard = record { said = w.said ++ said; heard = w.heard ++ heard }
 
 -- ---- channels
 
