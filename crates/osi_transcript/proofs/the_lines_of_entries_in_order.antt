@@ -1,4 +1,5 @@
--- The lines of entries one after the other.
+-- The lines of entries, one after the other.
+-- For `push_entries` and all that adds entries to a transcript.
 use Rattle.std.proofs.Common.{◌≡◌, ◌≢◌, ◌∙◌, ℕ, ◌+◌, ◌<◌, false, List, [], ◌∷◌, ◌++◌, get_or, length, map, take, drop, Some, None, refl, sym, ap, ap₂, subst, arith, ◌≤◌}
 use Rattle.std.proofs.lemmas.Grind.{flat_map-append}
 use Rattle.std.proofs.lemmas.List.{append_assoc, append-nil, length-append, map-append, drop-map, length-map, take_more}

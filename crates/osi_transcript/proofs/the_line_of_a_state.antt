@@ -1,4 +1,5 @@
 -- The line of a connection's state in memory.
+-- For `push_side`, which writes the states of one end.
 use Rattle.std.proofs.Common.{◌≡◌, ◌∙◌, ◌+◌, ◌-◌, ◌<◌, ◌++◌, ◌&&◌, Bool, true, false, List, [], ℕ, zero, suc, refl, sym, ap, subst, add-one, arith}
 use Rattle.std.specs.Prelude.{Some, None, nat_lt, nat_le, if◌then◌else◌}
 use Rattle.std.proofs.lemmas.Bool.Decides.{nat_tests}

@@ -1,4 +1,5 @@
--- Lines of a script one after the other.
+-- Lines of a script, one after the other.
+-- For `play`, `play_line` and `play_event`.
 use Rattle.std.proofs.Common.{◌≡◌, ◌∙◌, ℕ, Bool, true, false, List, [], ◌∷◌, ◌++◌, Option, Some, None, inl, inr, refl, sym, ap, subst}
 use Rattle.std.proofs.lemmas.List.{append_assoc, append-nil}
 use Rattle.osi_pair.specs.Ends.{TwoEnds}
