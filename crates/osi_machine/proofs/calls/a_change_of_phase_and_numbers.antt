@@ -33,7 +33,7 @@ pub record Still (s r : State) : Type 0 where
 pub still : (s : State) → Still s s
 still s = record { units = refl; wishes = refl; held = refl; proposed = refl; base = refl; is_caller = refl }
 
--- The effect of such a change (to), what is true before it (inv), and the units that never arrive (never). A good unit
+-- The effect of such a change to, what is true before it inv, and the units that never arrive (never). A good unit
 -- stays good, and leads to the same state before the change and after it.
 pub record Shift : Type 1 where
   pub never : Meaning → Bool

@@ -31,32 +31,33 @@ record Answers (s : State) : Type 0 where
   phase : is_confirming s.phase ≡ true
   answers : s.numbers.answers ≡ true
 
-open_now : (w : Core) → Answers w.own.session → is_opening w.own.session.phase ≡ false
-open_now w a = excluded is_confirming is_opening refl w.own.session.phase a.phase
+module _ (w : Core) (a : Answers w.own.session) where
+  open_now : is_opening w.own.session.phase ≡ false
+  open_now = excluded is_confirming is_opening refl w.own.session.phase a.phase
 
-listens : (w : Core) → Answers w.own.session → is_restarting w.own.session.phase ≡ false
-listens w a = excluded is_confirming is_restarting refl w.own.session.phase a.phase
+  listens : is_restarting w.own.session.phase ≡ false
+  listens = excluded is_confirming is_restarting refl w.own.session.phase a.phase
 
-ends_same : (w : Core) → Answers w.own.session → Stands w → hearing w.peer w.own ≡ flushed w.peer w.own
-ends_same w a h = heard_flush w.peer.session w.own.sent h.peer.fits (none_owed w.owner w.own w.peer h.own (listens w a))
+  ends_same : Stands w → hearing w.peer w.own ≡ flushed w.peer w.own
+  ends_same h = heard_flush w.peer.session w.own.sent h.peer.fits (none_owed w.owner w.own w.peer h.own listens)
 
-there_base : (w : Core) → Answers w.own.session → Stands w → (flushed w.peer w.own).base ≡ w.own.session.base
-there_base w a h = sym h.own.meeting.base ∙ (flush_open w.own.session w.peer.sent (open_now w a) h.own.fits).base
+  there_base : Stands w → (flushed w.peer w.own).base ≡ w.own.session.base
+  there_base h = sym h.own.meeting.base ∙ (flush_open w.own.session w.peer.sent open_now h.own.fits).base
 
-heard_base : (w : Core) → Answers w.own.session → Stands w → (hearing w.own w.peer).base ≡ w.own.session.base
-heard_base w a h = (heard_open w.own.session w.peer.sent (open_now w a) h.own.fits).base
+  heard_base : Stands w → (hearing w.own w.peer).base ≡ w.own.session.base
+  heard_base h = (heard_open w.own.session w.peer.sent open_now h.own.fits).base
 
-same_base : (w : Core) → Answers w.own.session → Stands w → w.peer.session.base ≡ w.own.session.base ⊎ (is_opening w.peer.session.phase ≡ true)
-same_base w a h = by_test (is_opening w.peer.session.phase)
-    (λ e. inr e)
-    (λ e. inl (sym (flush_open w.peer.session w.own.sent e h.peer.fits).base ∙ there_base w a h))
+  same_base : Stands w → w.peer.session.base ≡ w.own.session.base ⊎ (is_opening w.peer.session.phase ≡ true)
+  same_base h = by_test (is_opening w.peer.session.phase)
+      (λ e. inr e)
+      (λ e. inl (sym (flush_open w.peer.session w.own.sent e h.peer.fits).base ∙ there_base h))
 
-heeds : (w : Core) → Answers w.own.session → Stands w → not (is_restarting (hearing w.own w.peer).phase) ≡ true
-heeds w a h = kept_heard (λ (q : State). not (is_restarting q.phase) ≡ true) (λ q u p g. next_hears q u p) w.own.session w.peer.sent (ap not (listens w a)) h.own.fits
+  heeds : Stands w → not (is_restarting (hearing w.own w.peer).phase) ≡ true
+  heeds h = kept_heard (λ (q : State). not (is_restarting q.phase) ≡ true) (λ q u p g. next_hears q u p) w.own.session w.peer.sent (ap not listens) h.own.fits
 
--- points flow one way
-there_sends : (w : Core) → Answers w.own.session → Stands w → (flushed w.peer w.own).numbers.answers ≡ false
-there_sends w a h = ap (λ (q : State). q.numbers.answers) (sym (ends_same w a h)) ∙ h.own_counts.flag a.answers
+  -- points flow one way
+  there_sends : Stands w → (flushed w.peer w.own).numbers.answers ≡ false
+  there_sends h = ap (λ (q : State). q.numbers.answers) (sym (ends_same h)) ∙ h.own_counts.flag a.answers
 
 own_count : (w : Core) → Stands w → w.own.session.numbers.next ≡ w.own.session.base + points w.own.view
 own_count w h = h.consistent.own.count

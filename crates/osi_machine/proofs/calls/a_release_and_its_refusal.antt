@@ -9,7 +9,7 @@ use Rattle.osi_machine.proofs.Vocabulary.{is_disjoint, is_ready, is_releasing, i
 use Rattle.osi_machine.proofs.Vocabulary.{passes_restarting, has_no_effect, may_hold, becomes, next, Good, Release, ReleaseRefuse}
 use Rattle.osi_machine.proofs.Vocabulary.{AreNumberedFrom, turned_owners, is_plain, Fits, AllFit, flush, stops, heard_view, needs_token}
 use Rattle.osi_machine.proofs.Vocabulary.{Core, answered, is_opening}
-use Rattle.osi_machine.proofs.basics.what_holds_in_each_phase.{implied, excluded, by_either, by_test}
+use Rattle.osi_machine.proofs.basics.what_holds_in_each_phase.{implied, excluded, by_either, by_test, cut_or}
 use Rattle.osi_machine.proofs.channels.a_unit_is_dropped_bad_or_acted_on.{next_cases, fit_cases, next_acted, next_dropped, next_hears}
 use Rattle.osi_machine.proofs.channels.what_every_unit_in_flight_keeps.{kept_all, kept_heard, heard_flush}
 use Rattle.osi_machine.proofs.channels.a_deaf_side_acts_on_nothing.{not_both}
@@ -150,43 +150,6 @@ record Asks (w : Core) : Type 0 where
   right : (t : Token) → HasRight w.own.session t
   caller : (not w.own.session.units.duplex || w.own.session.is_caller) ≡ true
 
-open_now : (w : Core) → Asks w → is_opening w.own.session.phase ≡ false
-open_now w a = excluded is_ready is_opening refl w.own.session.phase a.phase
-
-own_units : (w : Core) → Asks w → Stands w → (flushed w.own w.peer).units ≡ w.own.session.units
-own_units w a h = end_units w.owner w.own w.peer h.own (open_now w a)
-
--- with duplex
-duplex_none : (w : Core) → Asks w → Stands w → w.own.session.units.duplex ≡ true → list_any is_finish w.peer.sent ≡ false
-duplex_none w a h d = by_test (list_any is_finish w.peer.sent)
-    (λ e. absurd (
-    let r = finish_ends w.own.session w.peer.sent (excluded is_ready is_restarting refl w.own.session.phase a.phase) (open_now w a) (profile.alone d).2 h.own.fits e in
-    let m = phase_there is_release_due is_releasing refl h.own r in
-    let n = unreleased w.peer.session w.own.sent there h.peer.fits in
-    cc))
-    (λ e. e)
-  where
-    profile : IsOfProfile w.own.session.units
-    profile = subst IsOfProfile (own_units w a h) h.pair.profile
-
-    here : w.own.session.is_caller ≡ true
-    here = cut w.own.session.units.duplex w.own.session.is_caller d a.caller
-      where
-        cut : (p q : Bool) → p ≡ true → (not p || q) ≡ true → q ≡ true
-        cut true q e f = f
-        cut false q e f = absurd (cc)
-
-    there : is_releasing w.peer.session.phase ≡ false
-    there = by_test (is_releasing w.peer.session.phase)
-        (λ e. absurd (
-        let units = sym (end_units (turned_owners w.owner) w.peer w.own h.peer (excluded is_releasing is_opening refl w.peer.session.phase e))
-        ∙ sym h.own.meeting.units ∙ own_units w a h in
-        let c = h.consistent.peer.asker e (ap (λ (v : FunctionalUnits). v.duplex) units ∙ d) in
-        let n = h.pair.callers in
-        let m = here in
-        cc))
-        (λ e. e)
-
 -- with the data token
 finish_needs : (us : List Meaning) → list_any (needs_token data_token) us ≡ false → list_any is_finish us ≡ false
 finish_needs [] h = refl
@@ -197,21 +160,54 @@ finish_needs (u ∷ us) h = by u (or_parts (needs_token data_token u) (list_any 
     by (FN o) p more = absurd (let a = p.0 in cc)
     by _ p more = more p.1
 
-held_none : (w : Core) → Asks w → Stands w → has w.own.session.held data_token ≡ true → list_any (needs_token data_token) w.peer.sent ≡ false
-held_none w a h e = none_needs data_token w.own.session w.peer.sent (record { held = e; phase = implied is_ready may_hold refl w.own.session.phase a.phase }) h.own.fits
-
 no_half : (u : FunctionalUnits) → has (available u) data_token ≡ false → u.half_duplex ≡ false
 unfolding available
 no_half u h = h
 
-release_one_way : (w : Core) (octets : List ℕ) → Asks w → Stands w → (flushed w.own w.peer).units.half_duplex ≡ true
-    → (list_any (needs_token data_token) (w.own.sent ++ FN octets ∷ []) && list_any (needs_token data_token) w.peer.sent) ≡ false
-release_one_way w octets a h d = by_either (a.right data_token)
-    (λ e. and_right (list_any (needs_token data_token) (w.own.sent ++ FN octets ∷ [])) (list_any (needs_token data_token) w.peer.sent) (held_none w a h e))
-    (λ e. absurd (
-    let n = no_half w.own.session.units e in
-    let y = ap (λ (v : FunctionalUnits). v.half_duplex) (sym (own_units w a h)) ∙ d in
-    cc))
+module _ (w : Core) (a : Asks w) (h : Stands w) where
+  open_now : is_opening w.own.session.phase ≡ false
+  open_now = excluded is_ready is_opening refl w.own.session.phase a.phase
+
+  own_units : (flushed w.own w.peer).units ≡ w.own.session.units
+  own_units = end_units w.owner w.own w.peer h.own open_now
+
+  -- with duplex
+  duplex_none : w.own.session.units.duplex ≡ true → list_any is_finish w.peer.sent ≡ false
+  duplex_none d = by_test (list_any is_finish w.peer.sent)
+      (λ e. absurd (
+      let r = finish_ends w.own.session w.peer.sent (excluded is_ready is_restarting refl w.own.session.phase a.phase) open_now (profile.alone d).2 h.own.fits e in
+      let m = phase_there is_release_due is_releasing refl h.own r in
+      let n = unreleased w.peer.session w.own.sent there h.peer.fits in
+      cc))
+      (λ e. e)
+    where
+      profile : IsOfProfile w.own.session.units
+      profile = subst IsOfProfile own_units h.pair.profile
+
+      here : w.own.session.is_caller ≡ true
+      here = cut_or w.own.session.units.duplex w.own.session.is_caller a.caller d
+
+      there : is_releasing w.peer.session.phase ≡ false
+      there = by_test (is_releasing w.peer.session.phase)
+          (λ e. absurd (
+          let units = sym (end_units (turned_owners w.owner) w.peer w.own h.peer (excluded is_releasing is_opening refl w.peer.session.phase e))
+          ∙ sym h.own.meeting.units ∙ own_units in
+          let c = h.consistent.peer.asker e (ap (λ (v : FunctionalUnits). v.duplex) units ∙ d) in
+          let n = h.pair.callers in
+          let m = here in
+          cc))
+          (λ e. e)
+
+  held_none : has w.own.session.held data_token ≡ true → list_any (needs_token data_token) w.peer.sent ≡ false
+  held_none e = none_needs data_token w.own.session w.peer.sent (record { held = e; phase = implied is_ready may_hold refl w.own.session.phase a.phase }) h.own.fits
+
+  release_one_way : (octets : List ℕ) → (flushed w.own w.peer).units.half_duplex ≡ true → (list_any (needs_token data_token) (w.own.sent ++ FN octets ∷ []) && list_any (needs_token data_token) w.peer.sent) ≡ false
+  release_one_way octets d = by_either (a.right data_token)
+      (λ e. and_right (list_any (needs_token data_token) (w.own.sent ++ FN octets ∷ [])) (list_any (needs_token data_token) w.peer.sent) (held_none e))
+      (λ e. absurd (
+      let n = no_half w.own.session.units e in
+      let y = ap (λ (v : FunctionalUnits). v.half_duplex) (sym own_units) ∙ d in
+      cc))
 
 -- ---- a call that changes no number
 
@@ -256,7 +252,7 @@ release_sending w octets a h =
           let ready = phase_there is_ready is_ready refl h.own (ap is_ready i.phase) in
           record {
             expected = ready;
-            met = (is_empty_of (flushed w.peer w.own).held (λ t. other_lacks w.owner w.own w.peer t h.own h.peer (open_now w a) (a.right t) owed (implied is_ready may_hold refl (flushed w.peer w.own).phase ready)), tt);
+            met = (is_empty_of (flushed w.peer w.own).held (λ t. other_lacks w.owner w.own w.peer t h.own h.peer (open_now w a h) (a.right t) owed (implied is_ready may_hold refl (flushed w.peer w.own).phase ready)), tt);
           };
       meets = λ l i. refl;
       release = λ s i r. absurd (cc);
@@ -270,7 +266,7 @@ release_sending w octets a h =
       other_below = λ k from to. h.peer_counts.below n.heeds k (subst (λ (q : State). q.base ≤ k) (sym n.heard) from) (subst (λ (v : Numbers). k < v.confirmed) n.numbers to);
       other_reach = λ f. subst (λ (v : Numbers). lower w.own.session.numbers.next v.confirmed ≤ w.own.session.numbers.confirmed) (sym n.numbers) (h.peer_counts.reach f);
       numbered = λ p. subst (AreNumberedFrom (flushed w.own w.peer).base) (sym (append-nil w.history)) p;
-      one_way = release_one_way w octets a h;
+      one_way = release_one_way w a h octets;
     }
 
 pub release_stands : (w : Core) (octets : List ℕ) → IsGranted w (Release octets) → Stands w → Stands (answered w (Release octets) (Ok (granted w.own.session (Release octets))))

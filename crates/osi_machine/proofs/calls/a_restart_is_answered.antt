@@ -38,36 +38,37 @@ restarted w a o = becomes (flushed w.peer w.own) (answer w.own.session a o)
 
 -- ---- what is in flight: nothing to this side, and nothing that the other heeds
 
-none_under_way : (w : Core) → is_restart_due w.own.session.phase ≡ true → Stands w → AllEmpty w.peer.sent
-none_under_way w due s =
-    all_empty w.own.session w.peer.sent (λ u p. none_due w.own.session.phase u due p) (excluded is_restart_due is_restarting refl w.own.session.phase due) s.own.fits
+module _ (w : Core) (due : is_restart_due w.own.session.phase ≡ true) (s : Stands w) where
+  none_under_way : AllEmpty w.peer.sent
+  none_under_way =
+      all_empty w.own.session w.peer.sent (λ u p. none_due w.own.session.phase u due p) (excluded is_restart_due is_restarting refl w.own.session.phase due) s.own.fits
 
-own_end : (w : Core) → is_restart_due w.own.session.phase ≡ true → Stands w → flushed w.own w.peer ≡ w.own.session
-own_end w due s = empty_end w.own.session w.peer.sent (none_under_way w due s)
+  own_end : flushed w.own w.peer ≡ w.own.session
+  own_end = empty_end w.own.session w.peer.sent none_under_way
 
-own_heard : (w : Core) → is_restart_due w.own.session.phase ≡ true → Stands w → hearing w.own w.peer ≡ w.own.session
-own_heard w due s = empty_heard w.own.session w.peer.sent (none_under_way w due s)
+  own_heard : hearing w.own w.peer ≡ w.own.session
+  own_heard = empty_heard w.own.session w.peer.sent none_under_way
 
-other_waits : (w : Core) → is_restart_due w.own.session.phase ≡ true → Stands w → is_restarting (flushed w.peer w.own).phase ≡ true
-other_waits w due s = search (arith, own_end, implied_two, and_from)
+  other_waits : is_restarting (flushed w.peer w.own).phase ≡ true
+  other_waits = search (arith, own_end, implied_two, and_from)
 
-other_end : (w : Core) → is_restart_due w.own.session.phase ≡ true → Stands w → flushed w.peer w.own ≡ w.peer.session
-other_end w due s = deaf_end w.peer.session w.own.sent (other_waits w due s) s.peer.fits
+  other_end : flushed w.peer w.own ≡ w.peer.session
+  other_end = deaf_end w.peer.session w.own.sent other_waits s.peer.fits
 
-other_heard : (w : Core) → is_restart_due w.own.session.phase ≡ true → Stands w → hearing w.peer w.own ≡ w.peer.session
-other_heard w due s = deaf_heard w.peer.session w.own.sent (other_waits w due s) s.peer.fits
+  other_heard : hearing w.peer w.own ≡ w.peer.session
+  other_heard = deaf_heard w.peer.session w.own.sent other_waits s.peer.fits
 
-other_asks : (w : Core) → is_restart_due w.own.session.phase ≡ true → Stands w → is_restarting w.peer.session.phase ≡ true
-other_asks w due s = ap (λ (r : State). is_restarting r.phase) (sym (other_end w due s)) ∙ other_waits w due s
+  other_asks : is_restarting w.peer.session.phase ≡ true
+  other_asks = ap (λ (r : State). is_restarting r.phase) (sym other_end) ∙ other_waits
 
-other_owes_none : (w : Core) → is_restart_due w.own.session.phase ≡ true → Stands w → is_restart_due (flushed w.peer w.own).phase ≡ false
-other_owes_none w due s = excluded is_restarting is_restart_due refl (flushed w.peer w.own).phase (other_waits w due s)
+  other_owes_none : is_restart_due (flushed w.peer w.own).phase ≡ false
+  other_owes_none = excluded is_restarting is_restart_due refl (flushed w.peer w.own).phase other_waits
 
-other_units : (w : Core) → is_restart_due w.own.session.phase ≡ true → Stands w → (flushed w.peer w.own).units ≡ w.own.session.units
-other_units w due s = sym s.own.meeting.units ∙ ap (λ (r : State). r.units) (own_end w due s)
+  other_units : (flushed w.peer w.own).units ≡ w.own.session.units
+  other_units = sym s.own.meeting.units ∙ ap (λ (r : State). r.units) own_end
 
-other_wishes : (w : Core) → is_restart_due w.own.session.phase ≡ true → Stands w → (flushed w.peer w.own).wishes ≡ w.own.session.wishes
-other_wishes w due s = (s.peer.meeting.restart (other_waits w due s)).1 ∙ ap (λ (r : State). r.wishes) (own_end w due s)
+  other_wishes : (flushed w.peer w.own).wishes ≡ w.own.session.wishes
+  other_wishes = (s.peer.meeting.restart other_waits).1 ∙ ap (λ (r : State). r.wishes) own_end
 
 answer_next : (s : State) (n : ℕ) (t : TokenSetting) (o : List ℕ) → next s (RA n t o) ≡ becomes s (RA n t o)
 answer_next s n t o = next_acted s (RA n t o) (and_false (is_restarting s.phase))
@@ -93,88 +94,85 @@ will_hold w a o t due s = search (arith, other_units, asker_holds)
 
 -- ---- the two halves
 
-own_half : (w : Core) (a : Sides) (o : List ℕ) → is_restart_due w.own.session.phase ≡ true → Stands w
-    → Half (settled_by (confirmed w.own.session a)) (answerer w.own a o) w.peer
-own_half w a o due s = search (arith, none_under_way, empty_fits, empty_end, empty_heard, end_after, other_units, own_end, own_held, own_wanted, own_absent, there)
+module _ (w : Core) (a : Sides) (o : List ℕ) (due : is_restart_due w.own.session.phase ≡ true) (s : Stands w) where
+  own_half : Half (settled_by (confirmed w.own.session a)) (answerer w.own a o) w.peer
+  own_half = search (arith, none_under_way, empty_fits, empty_end, empty_heard, end_after, other_units, own_end, own_held, own_wanted, own_absent, there)
 
-peer_half : (w : Core) (a : Sides) (o : List ℕ) → is_restart_due w.own.session.phase ≡ true → Stands w
-    → Half (turned_owners (settled_by (confirmed w.own.session a))) w.peer (answerer w.own a o)
-peer_half w a o due s =
-    let r = confirmed w.own.session a in
-    let u = answer w.own.session a o in
-    let none = none_under_way w due s in
-    let owners = turned_owners (settled_by (confirmed w.own.session a)) in
-    let no_tokens = s.consistent.peer.sound.tokens (excluded is_restarting may_hold refl w.peer.session.phase (other_asks w due s)) in
-    record {
-      fits = fit_append w.peer.session w.own.sent u s.peer.fits (answer_fits w a o due s);
-      meeting = subst (λ (e : State). Meeting owners w.peer.session e (flush r w.peer.sent) (heard w.peer.session (w.own.sent ++ u ∷ [])) r) (sym (end_after w a o))
-          (subst (λ (e : State). Meeting owners w.peer.session (restarted w a o) (flush r w.peer.sent) e r) (sym (heard_after w a o due s))
-          (subst (λ (e : State). Meeting owners w.peer.session (restarted w a o) e (restarted w a o) r) (sym (empty_end r w.peer.sent none)) (record {
-            meets = refl;
-            units = other_units w due s;
-            base = sym s.own.meeting.base ∙ ap (λ (r : State). r.base) (own_end w due s);
-            restart = λ k. absurd (cc);
-            connect = λ k. absurd (cc);
-            holds = λ t. ap (λ (v : Tokens). has v t) no_tokens ∙ none_held t ∙ their_held (has (held_by w.own.session a) t) (has (available w.own.session.units) t);
-            wants = λ m t. will_hold w a o t due s ∙ their_wanted (has (held_by w.own.session a) t) (has (available w.own.session.units) t);
-            absent = λ t z. their_absent (has (held_by w.own.session a) t) (has (available w.own.session.units) t) (there w a t)
-                (ap (λ (v : FunctionalUnits). has (available v) t) (sym (other_units w due s)) ∙ z);
-            released = λ d. absurd (cc);
-          })));
-    }
+  peer_half : Half (turned_owners (settled_by (confirmed w.own.session a))) w.peer (answerer w.own a o)
+  peer_half =
+      let r = confirmed w.own.session a in
+      let u = answer w.own.session a o in
+      let none = none_under_way w due s in
+      let owners = turned_owners (settled_by (confirmed w.own.session a)) in
+      let no_tokens = s.consistent.peer.sound.tokens (excluded is_restarting may_hold refl w.peer.session.phase (other_asks w due s)) in
+      record {
+        fits = fit_append w.peer.session w.own.sent u s.peer.fits (answer_fits w a o due s);
+        meeting = subst (λ (e : State). Meeting owners w.peer.session e (flush r w.peer.sent) (heard w.peer.session (w.own.sent ++ u ∷ [])) r) (sym (end_after w a o))
+            (subst (λ (e : State). Meeting owners w.peer.session (restarted w a o) (flush r w.peer.sent) e r) (sym (heard_after w a o due s))
+            (subst (λ (e : State). Meeting owners w.peer.session (restarted w a o) e (restarted w a o) r) (sym (empty_end r w.peer.sent none)) (record {
+              meets = refl;
+              units = other_units w due s;
+              base = sym s.own.meeting.base ∙ ap (λ (r : State). r.base) (own_end w due s);
+              restart = λ k. absurd (cc);
+              connect = λ k. absurd (cc);
+              holds = λ t. ap (λ (v : Tokens). has v t) no_tokens ∙ none_held t ∙ their_held (has (held_by w.own.session a) t) (has (available w.own.session.units) t);
+              wants = λ m t. will_hold w a o t due s ∙ their_wanted (has (held_by w.own.session a) t) (has (available w.own.session.units) t);
+              absent = λ t z. their_absent (has (held_by w.own.session a) t) (has (available w.own.session.units) t) (there w a t)
+                  (ap (λ (v : FunctionalUnits). has (available v) t) (sym (other_units w due s)) ∙ z);
+              released = λ d. absurd (cc);
+            })));
+      }
 
--- ---- what was seen
+  -- ---- what was seen
 
-own_views : (w : Core) (a : Sides) (o : List ℕ) → is_restart_due w.own.session.phase ≡ true → Stands w → Views (w.history ++ []) (answerer w.own a o) w.peer
-own_views w a o due s = search (arith, none_under_way, own_heard, excluded, empty_view, empty_heard, own_end, empty_end)
+  own_views : Views (w.history ++ []) (answerer w.own a o) w.peer
+  own_views = search (arith, none_under_way, own_heard, excluded, empty_view, empty_heard, own_end, empty_end)
 
-peer_views : (w : Core) (a : Sides) (o : List ℕ) → is_restart_due w.own.session.phase ≡ true → Stands w → Views (w.history ++ []) w.peer (answerer w.own a o)
-peer_views w a o due s = record {
-  ends = λ l. view_append w.peer.session w.own.sent u w.peer.view s.peer.fits (other_owes_none w due s)
-      ∙ ap (λ (b : Bool). if b then heard_view w.peer.session w.own.sent w.peer.view else heard_view w.peer.session w.own.sent w.peer.view) (and_false (is_restarting (flushed w.peer w.own).phase))
-      ∙ deaf_view w.peer.session w.own.sent w.peer.view (other_waits w due s) s.peer.fits
-      ∙ s.own_views.due due ∙ sym (append-nil w.history);
-  cut = λ c. absurd (let e = ap (λ (q : State). is_restarting q.phase) (sym (heard_after w a o due s)) ∙ c in cc);
-  due = λ d. absurd (let e = excluded is_restarting is_restart_due refl w.peer.session.phase (other_asks w due s) in cc);
-  stream = λ d. streams (s.peer_views.stream (ap (λ (q : State). q.units.duplex) (sym (end_after w a o)) ∙ d));
-}
-  where
-    u : Meaning
-    u = answer w.own.session a o
+  peer_views : Views (w.history ++ []) w.peer (answerer w.own a o)
+  peer_views = record {
+    ends = λ l. view_append w.peer.session w.own.sent u w.peer.view s.peer.fits (other_owes_none w due s)
+        ∙ ap (λ (b : Bool). if b then heard_view w.peer.session w.own.sent w.peer.view else heard_view w.peer.session w.own.sent w.peer.view) (and_false (is_restarting (flushed w.peer w.own).phase))
+        ∙ deaf_view w.peer.session w.own.sent w.peer.view (other_waits w due s) s.peer.fits
+        ∙ s.own_views.due due ∙ sym (append-nil w.history);
+    cut = λ c. absurd (let e = ap (λ (q : State). is_restarting q.phase) (sym (heard_after w a o due s)) ∙ c in cc);
+    due = λ d. absurd (let e = excluded is_restarting is_restart_due refl w.peer.session.phase (other_asks w due s) in cc);
+    stream = λ d. streams (s.peer_views.stream (ap (λ (q : State). q.units.duplex) (sym (end_after w a o)) ∙ d));
+  }
+    where
+      u : Meaning
+      u = answer w.own.session a o
 
-    streams : (w.peer.got ++ data_of w.own.sent ≡ w.own.said) × (w.history ≡ [])
-        → (w.peer.got ++ data_of (w.own.sent ++ answer w.own.session a o ∷ []) ≡ w.own.said ++ []) × (w.history ++ [] ≡ [])
-    streams old = (
-      ap (λ (d : List (List ℕ)). w.peer.got ++ d) (data_append w.own.sent (u ∷ []) ∙ append-nil (data_of w.own.sent)) ∙ old.0 ∙ sym (append-nil w.own.said),
-      append-nil w.history ∙ old.1,
-    )
+      streams : (w.peer.got ++ data_of w.own.sent ≡ w.own.said) × (w.history ≡ [])
+          → (w.peer.got ++ data_of (w.own.sent ++ answer w.own.session a o ∷ []) ≡ w.own.said ++ []) × (w.history ++ [] ≡ [])
+      streams old = (
+        ap (λ (d : List (List ℕ)). w.peer.got ++ d) (data_append w.own.sent (u ∷ []) ∙ append-nil (data_of w.own.sent)) ∙ old.0 ∙ sym (append-nil w.own.said),
+        append-nil w.history ∙ old.1,
+      )
 
--- ---- the numbers
+  -- ---- the numbers
 
-own_counts : (w : Core) (a : Sides) (o : List ℕ) → is_restart_due w.own.session.phase ≡ true → Stands w → Counts (answerer w.own a o) w.peer
-own_counts w a o due s = search (arith, own_heard, empty_heard, none_under_way, heard_after, other_end, other_heard, other_waits, own_end)
+  own_counts : Counts (answerer w.own a o) w.peer
+  own_counts = search (arith, own_heard, empty_heard, none_under_way, heard_after, other_end, other_heard, other_waits, own_end)
 
-peer_counts : (w : Core) (a : Sides) (o : List ℕ) → is_restart_due w.own.session.phase ≡ true → Stands w → Counts w.peer (answerer w.own a o)
-peer_counts w a o due s =
-    let r = confirmed w.own.session a in
-    let old = subst (λ (e : State). Counting w.peer.session e (hearing w.own w.peer) w.own.session) (other_heard w due s ∙ sym (other_end w due s)) s.peer_counts in
-    let new = subst (λ (e : State). Counting w.peer.session (flushed w.peer w.own) e w.own.session) (own_heard w due s) old in
-    let listens = ap not (excluded is_restart_due is_restarting refl w.own.session.phase due) in
-    subst (λ (e : State). Counting w.peer.session e (heard r w.peer.sent) r) (sym (heard_after w a o due s))
-    (subst (λ (e : State). Counting w.peer.session (restarted w a o) e r) (sym (empty_heard r w.peer.sent (none_under_way w due s)))
-    (record { flag = new.flag; below = λ l. new.below listens; reach = new.reach }))
+  peer_counts : Counts w.peer (answerer w.own a o)
+  peer_counts =
+      let r = confirmed w.own.session a in
+      let old = subst (λ (e : State). Counting w.peer.session e (hearing w.own w.peer) w.own.session) (other_heard w due s ∙ sym (other_end w due s)) s.peer_counts in
+      let new = subst (λ (e : State). Counting w.peer.session (flushed w.peer w.own) e w.own.session) (own_heard w due s) old in
+      let listens = ap not (excluded is_restart_due is_restarting refl w.own.session.phase due) in
+      subst (λ (e : State). Counting w.peer.session e (heard r w.peer.sent) r) (sym (heard_after w a o due s))
+      (subst (λ (e : State). Counting w.peer.session (restarted w a o) e r) (sym (empty_heard r w.peer.sent (none_under_way w due s)))
+      (record { flag = new.flag; below = λ l. new.below listens; reach = new.reach }))
 
--- ---- both at once
+  -- ---- both at once
 
-pair_kept : (w : Core) (a : Sides) (o : List ℕ) → is_restart_due w.own.session.phase ≡ true → Stands w → Pair (w.history ++ []) (answerer w.own a o) w.peer
-pair_kept w a o due s =
-    let r = confirmed w.own.session a in
-    let end = empty_end r w.peer.sent (none_under_way w due s) in
-    grind (arith, own_end, flushed, append-nil, list_any_append, IsOfProfile)
+  pair_kept : Pair (w.history ++ []) (answerer w.own a o) w.peer
+  pair_kept =
+      let r = confirmed w.own.session a in
+      let end = empty_end r w.peer.sent (none_under_way w due s) in
+      grind (arith, own_end, flushed, append-nil, list_any_append, IsOfProfile)
 
--- ---- the call
+  -- ---- the call
 
-pub restart_confirm_stands : (w : Core) (a : Sides) (o : List ℕ) → is_restart_due w.own.session.phase ≡ true → Stands w
-    → AreConsistent (answered w (RestartConfirm a o) (Ok (record { next = confirmed w.own.session a; sent = answer w.own.session a o })))
-    → Stands (answered w (RestartConfirm a o) (Ok (record { next = confirmed w.own.session a; sent = answer w.own.session a o })))
-restart_confirm_stands w a o due s c = assumption (own_half w a o due s, peer_half w a o due s, own_views w a o due s, peer_views w a o due s, own_counts w a o due s, peer_counts w a o due s, pair_kept w a o due s)
+  pub restart_confirm_stands : AreConsistent (answered w (RestartConfirm a o) (Ok (record { next = confirmed w.own.session a; sent = answer w.own.session a o }))) → Stands (answered w (RestartConfirm a o) (Ok (record { next = confirmed w.own.session a; sent = answer w.own.session a o })))
+  restart_confirm_stands c = assumption (own_half, peer_half, own_views, peer_views, own_counts, peer_counts, pair_kept)

@@ -9,7 +9,7 @@ use Rattle.osi_machine.proofs.Vocabulary.{FunctionalUnits, Restarting, may_resta
 use Rattle.osi_machine.proofs.Vocabulary.{hears, Core, is_opening, append-nil, leb-true, has, available, is_release_due, is_restartable}
 use Rattle.osi_machine.proofs.Vocabulary.{offered, Restart, IsSound, cutat, Begins, Owner, turned_owner, turned_owners, is_own, is_to_own}
 use Rattle.osi_machine.proofs.Vocabulary.{is_absent, own_to_pool, given_up, data_of, Party, answered, AreConsistent}
-use Rattle.osi_machine.proofs.basics.what_holds_in_each_phase.{excluded, if_first, by_test, implied_both, implied, implied_two}
+use Rattle.osi_machine.proofs.basics.what_holds_in_each_phase.{excluded, if_first, by_test, implied, implied_two}
 use Rattle.osi_machine.proofs.basics.what_a_restart_leaves_of_a_history.{upto_append}
 use Rattle.osi_machine.proofs.channels.a_unit_is_dropped_bad_or_acted_on.{fit_cases, next_dropped, none_due, restart_due, and_false}
 use Rattle.osi_machine.proofs.channels.a_unit_is_dropped_bad_or_acted_on.{next_hears}
@@ -22,7 +22,7 @@ use Rattle.osi_machine.proofs.channels.a_held_token_keeps_units_out.{becomes_ope
 use Rattle.osi_machine.proofs.channels.a_held_token_keeps_units_out.{heard_open}
 use Rattle.osi_machine.proofs.channels.what_a_side_will_have_seen.{begins_points, listener_count, listener_begins, Grown, heard_grown}
 use Rattle.osi_machine.proofs.invariant.what_holds_of_both_sides.{flushed, hearing, matched, Stands, Meeting, Half, Views, Counting, Counts}
-use Rattle.osi_machine.proofs.invariant.what_holds_of_both_sides.{IsOfProfile, Pair}
+use Rattle.osi_machine.proofs.invariant.what_holds_of_both_sides.{IsOfProfile, Pair, phase_there}
 use Rattle.osi_machine.proofs.invariant.each_step_keeps_one_side.{below_if, IsGranted, granted}
 use Rattle.osi_machine.proofs.calls.a_unit_that_changes_no_state.{end_units, none_owed, list_any_append}
 use Rattle.osi_machine.proofs.calls.a_change_of_phase_and_numbers.{drops_waiting, listening_stands}
@@ -136,124 +136,6 @@ pub record Restarts (w : Core) (n : ℕ) : Type 0 where
 abbrev pub asked : State → ℕ → TokenSetting → State
 asked s n t = record (without_tokens Restarting s) { wishes = t; numbers = restarted_at n s.numbers }
 
-pub listens : (w : Core) (n : ℕ) → Restarts w n → is_restarting w.own.session.phase ≡ false
-listens w n q = excluded may_restart is_restarting refl w.own.session.phase q.phase
-
-pub begun : (w : Core) (n : ℕ) → Restarts w n → is_opening w.own.session.phase ≡ false
-begun w n q = excluded may_restart is_opening refl w.own.session.phase q.phase
-
-pub flows : (w : Core) (n : ℕ) (t : TokenSetting) → Restarts w n → Stands w → Flow w.own.session (asked w.own.session n t) w.peer.sent
-flows w n t q s = restart_flow w.own.session (asked w.own.session n t) w.peer.sent
-    (record { lives = implied may_restart is_lively refl w.own.session.phase q.phase; asked = refl; units = refl; base = refl }) s.own.fits
-
--- the other side will owe it no answer
-pub not_due : (w : Core) (n : ℕ) → Restarts w n → Stands w → is_restart_due (flushed w.peer w.own).phase ≡ false
-not_due w n q s = none_owed w.owner w.own w.peer s.own (listens w n q)
-
-pub other_heard : (w : Core) (n : ℕ) → Restarts w n → Stands w → hearing w.peer w.own ≡ flushed w.peer w.own
-other_heard w n q s = heard_flush w.peer.session w.own.sent s.peer.fits (not_due w n q s)
-
-pub other_units : (w : Core) (n : ℕ) → Restarts w n → Stands w → (flushed w.peer w.own).units ≡ w.own.session.units
-other_units w n q s = sym s.own.meeting.units ∙ end_units w.owner w.own w.peer s.own (begun w n q)
-
-pub other_base : (w : Core) (n : ℕ) → Restarts w n → Stands w → (flushed w.peer w.own).base ≡ w.own.session.base
-other_base w n q s = sym s.own.meeting.base ∙ (flush_open w.own.session w.peer.sent (begun w n q) s.own.fits).base
-
--- if no restart arrives at this side, the other takes one; if one arrives, the other has requested it
-pub other_takes : (w : Core) → Stands w → Lively (flushed w.own w.peer)
-    → (takes_restart (flushed w.peer w.own).phase ≡ true) × (is_restarting (flushed w.peer w.own).phase ≡ false)
-other_takes w s l = search (arith, and_from, implied_two, not-true)
-
-pub other_asked : (w : Core) → Stands w → is_restart_due (flushed w.own w.peer).phase ≡ true → is_restarting (flushed w.peer w.own).phase ≡ true
-other_asked w s d =
-    let fx = (flushed w.own w.peer).phase in
-    let fy = (flushed w.peer w.own).phase in
-    implied_both matched (λ p q. is_restart_due p) (λ p q. is_restarting q) refl fx fy s.own.meeting.meets d
-
--- the sides will meet
-pub ends_meet : (w : Core) (n : ℕ) (t : TokenSetting) → Restarts w n → Stands w
-    → Met (flush (asked w.own.session n t) w.peer.sent) (crossed (flushed w.peer w.own) n t)
-unfolding restarted_at
-ends_meet w n t q s = elim (flows w n t q s).end [
-  | inl e ↦ subst (λ (r : State). Met r (crossed (flushed w.peer w.own) n t)) (sym e.1)
-      (meets_one (asked w.own.session n t) (flushed w.peer w.own) n t refl refl refl (listening_stands (flushed w.peer w.own) n (other_takes w s e.0).1))
-  | inr e ↦
-      let a = other_asked w s e.0 in
-      let same = s.peer.meeting.restart a in
-      let caller = ap (λ (r : State). r.is_caller) (deaf_end w.peer.session w.own.sent a s.peer.fits) ∙ s.pair.callers in
-      subst (λ (r : State). Met r (crossed (flushed w.peer w.own) n t)) (sym e.1)
-      (meets_both (asked w.own.session n t) (flushed w.peer w.own) n (flushed w.own w.peer).numbers.next t (flushed w.own w.peer).wishes refl refl refl a same.0 same.1 caller)
-]
-
--- ---- the restart fits
-
--- this side has seen no more than there is
-pub own_hears : (w : Core) (n : ℕ) → Restarts w n → Stands w → hears (hearing w.own w.peer).phase ≡ true
-own_hears w n q s =
-    kept_heard (λ (r : State). hears r.phase ≡ true) (λ r u h f. next_hears r u h) w.own.session w.peer.sent (ap not (listens w n q)) s.own.fits
-
-other_top : (w : Core) (n : ℕ) → Restarts w n → Stands w → is_restarting (flushed w.peer w.own).phase ≡ false → n ≤ (flushed w.peer w.own).numbers.next
-other_top w n q s l =
-    let e = other_heard w n q s in
-    let heeds = ap (λ (r : State). hears r.phase) e ∙ ap not l in
-    let all = listener_count w.history w.peer w.own s.consistent.peer s.peer.fits s.peer_views heeds in
-    let there = sym (ap (λ (r : State). r.numbers.next) e) ∙ all ∙ ap (λ (r : State). r.base + points w.history) e in
-    let base = other_base w n q s in
-    let seen = begins_points w.own.view w.history (listener_begins w.history w.own w.peer s.own_views (own_hears w n q s)) in
-    let count = s.consistent.own.count in
-    let top = q.top in
-    omega arith
-
-restart_met : (s : State) (n : ℕ) → s.base ≤ n → ((is_restarting s.phase ≡ false) → n ≤ s.numbers.next)
-    → (nat_le s.base n && (is_restarting s.phase || nat_le n s.numbers.next)) ≡ true
-restart_met s n from to = search (arith, le-leb)
-
-pub restart_fits : (w : Core) (n : ℕ) (t : TokenSetting) (o : List ℕ) → Restarts w n → Stands w → Fits (flushed w.peer w.own) (RS resync.Restart n t o)
-restart_fits w n t o q s = record {
-  plain = refl;
-  good = λ d. record {
-    expected = elim (flows w n t q s).end [
-      | inl e ↦ (other_takes w s e.0).0
-      | inr e ↦ implied is_restarting takes_restart refl (flushed w.peer w.own).phase (other_asked w s e.0)
-    ];
-    met = (
-      (rw (ap (λ (u : FunctionalUnits). u.resynchronize) (other_units w n q s) ∙ q.selected) refl),
-      (restart_met (flushed w.peer w.own) n (subst (λ (b : ℕ). b ≤ n) (sym (other_base w n q s)) q.low) (other_top w n q s), tt),
-    );
-  };
-}
-
--- ---- both sides after the call
-
-abbrev asker : Party → ℕ → TokenSetting → List ℕ → Party
-asker x n t o = record {
-  session = asked x.session n t;
-  view = cutat x.session.base x.view n;
-  said = x.said ++ [];
-  got = x.got;
-  sent = x.sent ++ RS resync.Restart n t o ∷ [];
-}
-
--- the other, when all is taken, and before that restart
-other_end : (w : Core) (n : ℕ) (t : TokenSetting) (o : List ℕ) → flush w.peer.session (w.own.sent ++ RS resync.Restart n t o ∷ []) ≡ crossed (flushed w.peer w.own) n t
-other_end w n t o = flush_append w.peer.session w.own.sent (RS resync.Restart n t o) ∙ restart_next (flushed w.peer w.own) resync.Restart n t o
-
-other_before : (w : Core) (n : ℕ) (t : TokenSetting) (o : List ℕ) → Restarts w n → Stands w
-    → heard w.peer.session (w.own.sent ++ RS resync.Restart n t o ∷ []) ≡ hearing w.peer w.own
-other_before w n t o q s =
-    heard_restart w.peer.session w.own.sent resync.Restart n t o s.peer.fits (not_due w n q s) ∙ sym (other_heard w n q s)
-
-own_units : (w : Core) (n : ℕ) (t : TokenSetting) → Restarts w n → Stands w → (flush (asked w.own.session n t) w.peer.sent).units ≡ w.own.session.units
-own_units w n t q s = (flush_open (asked w.own.session n t) w.peer.sent refl (flows w n t q s).fits).units
-
-own_base : (w : Core) (n : ℕ) (t : TokenSetting) → Restarts w n → Stands w → (flush (asked w.own.session n t) w.peer.sent).base ≡ w.own.session.base
-own_base w n t q s = (flush_open (asked w.own.session n t) w.peer.sent refl (flows w n t q s).fits).base
-
-was_units : (w : Core) (n : ℕ) → Restarts w n → Stands w → (flushed w.own w.peer).units ≡ w.own.session.units
-was_units w n q s = (flush_open w.own.session w.peer.sent (begun w n q) s.own.fits).units
-
--- ---- tokens
-
 given_own : (p : Owner) → false ≡ is_own (own_to_pool p)
 given_own p = grind arith
 
@@ -266,140 +148,263 @@ given_theirs p = grind arith
 given_wanted : (p : Owner) → (is_own (turned_owner p) || is_to_own (turned_owner p)) ≡ (is_own (turned_owner (own_to_pool p)) || is_to_own (turned_owner (own_to_pool p)))
 given_wanted p = grind arith
 
--- ---- the two halves
-
-own_half : (w : Core) (n : ℕ) (t : TokenSetting) (o : List ℕ) → Restarts w n → Stands w → Half (given_up w.owner) (asker w.own n t o) w.peer
-own_half w n t o q s =
-    let flow : Flow w.own.session (asked w.own.session n t) w.peer.sent = flows w n t q s in
-    let met : Met (flush (asked w.own.session n t) w.peer.sent) (crossed (flushed w.peer w.own) n t) = ends_meet w n t q s in
-    record {
-      fits = flow.fits;
-      meeting = subst (λ (e : State). Meeting (given_up w.owner) (asked w.own.session n t) (flush (asked w.own.session n t) w.peer.sent) e (heard (asked w.own.session n t) w.peer.sent) w.peer.session) (sym (other_end w n t o))
-          (subst (λ (e : State). Meeting (given_up w.owner) (asked w.own.session n t) (flush (asked w.own.session n t) w.peer.sent) (crossed (flushed w.peer w.own) n t) e w.peer.session) (sym flow.heard) (record {
-            meets = met.meets;
-            units = own_units w n t q s ∙ sym (crossed_units (flushed w.peer w.own) n t ∙ other_units w n q s);
-            base = own_base w n t q s ∙ sym (crossed_base (flushed w.peer w.own) n t ∙ other_base w n q s);
-            restart = met.restart;
-            connect = λ c. absurd (let e = met.connect in cc);
-            holds = λ k. none_held k ∙ given_own (w.owner k);
-            wants = λ m. absurd (cc);
-            absent = λ k z. given_absent (w.owner k) (s.own.meeting.absent k
-                (ap (λ (u : FunctionalUnits). has (available u) k) (was_units w n q s ∙ sym (own_units w n t q s)) ∙ z));
-            released = λ d. absurd (cc);
-          }));
-    }
-
--- the other owes no answer to a release
-no_release : (w : Core) (n : ℕ) (t : TokenSetting) → Restarts w n → Stands w → is_release_due (hearing w.peer w.own).phase ≡ true → ⊥
-no_release w n t q s d = grind arith
-
-peer_half : (w : Core) (n : ℕ) (t : TokenSetting) (o : List ℕ) → Restarts w n → Stands w → Half (turned_owners (given_up w.owner)) w.peer (asker w.own n t o)
-peer_half w n t o q s =
-    let end : State = flush (asked w.own.session n t) w.peer.sent in
-    let met : Met (flush (asked w.own.session n t) w.peer.sent) (crossed (flushed w.peer w.own) n t) = ends_meet w n t q s in
-    record {
-      fits = fit_append w.peer.session w.own.sent (RS resync.Restart n t o) s.peer.fits (restart_fits w n t o q s);
-      meeting = subst (λ (e : State). Meeting (turned_owners (given_up w.owner)) w.peer.session e end (heard w.peer.session (w.own.sent ++ RS resync.Restart n t o ∷ [])) (asked w.own.session n t)) (sym (other_end w n t o))
-          (subst (λ (e : State). Meeting (turned_owners (given_up w.owner)) w.peer.session (crossed (flushed w.peer w.own) n t) end e (asked w.own.session n t)) (sym (other_before w n t o q s)) (record {
-            meets = met.turned;
-            units = sym (own_units w n t q s ∙ sym (crossed_units (flushed w.peer w.own) n t ∙ other_units w n q s));
-            base = sym (own_base w n t q s ∙ sym (crossed_base (flushed w.peer w.own) n t ∙ other_base w n q s));
-            restart = met.back;
-            connect = λ c. absurd (let e = met.other_connect in cc);
-            holds = λ k. s.peer.meeting.holds k ∙ given_theirs (w.owner k);
-            wants = λ m k. s.peer.meeting.wants m k ∙ given_wanted (w.owner k);
-            absent = λ k z. grind arith;
-            released = λ d. absurd (no_release w n t q s d);
-          }));
-    }
-
--- ---- what was seen
-
 -- what the restart leaves of the history is what it leaves of what was seen
 pub same_cut : (base n : ℕ) (v h : List Item) → Begins v h → n ≤ base + points v → cutat base v n ≡ cutat base h n
 same_cut base n v h b le = sym (ap (λ (r : List Item). cutat base r n) (sym b.1) ∙ upto_append (n - base) v b.0 (omega arith))
 
-own_views : (w : Core) (n : ℕ) (t : TokenSetting) (o : List ℕ) → Restarts w n → Stands w → Views (w.history ++ []) (asker w.own n t o) w.peer
-unfolding restarted_at
-own_views w n t o q s = record {
-  ends = λ l. absurd (let e = subst (λ (r : State). hears r.phase ≡ true) (flows w n t q s).heard l in cc);
-  cut = λ c.
-      let le = subst (λ (k : ℕ). n ≤ k) s.consistent.own.count q.top in
-      same_cut w.own.session.base n w.own.view w.history (listener_begins w.history w.own w.peer s.own_views (own_hears w n q s)) le
-      ∙ ap (λ (h : List Item). cutat w.own.session.base h n) (sym (append-nil w.history));
-  due = λ d. absurd (cc);
-  stream = λ d.
-      let k = s.own_views.stream (ap (λ (u : FunctionalUnits). u.duplex) (was_units w n q s ∙ sym (own_units w n t q s)) ∙ d) in
-      (k.0, append-nil w.history ∙ k.1);
+restart_met : (s : State) (n : ℕ) → s.base ≤ n → ((is_restarting s.phase ≡ false) → n ≤ s.numbers.next)
+    → (nat_le s.base n && (is_restarting s.phase || nat_le n s.numbers.next)) ≡ true
+restart_met s n from to = search (arith, le-leb)
+
+abbrev asker : Party → ℕ → TokenSetting → List ℕ → Party
+asker x n t o = record {
+  session = asked x.session n t;
+  view = cutat x.session.base x.view n;
+  said = x.said ++ [];
+  got = x.got;
+  sent = x.sent ++ RS resync.Restart n t o ∷ [];
 }
 
-peer_views : (w : Core) (n : ℕ) (t : TokenSetting) (o : List ℕ) → Restarts w n → Stands w → Views (w.history ++ []) w.peer (asker w.own n t o)
-peer_views w n t o q s = record {
-  ends = λ l. view_restart w.peer.session w.own.sent resync.Restart n t o w.peer.view s.peer.fits (not_due w n q s)
-      ∙ s.peer_views.ends (subst (λ (r : State). hears r.phase ≡ true) (other_before w n t o q s) l) ∙ sym (append-nil w.history);
-  cut = λ c. s.peer_views.cut (subst (λ (r : State). is_restarting r.phase ≡ true) (other_before w n t o q s) c)
-      ∙ ap (λ (h : List Item). cutat w.peer.session.base h w.peer.session.numbers.next) (sym (append-nil w.history));
-  due = λ d. absurd (
-      let e = due_end w.peer.session w.own.sent d s.peer.fits in
-      let f = subst (λ (r : State). is_restart_due r.phase ≡ true) (sym e) d in
-      let g = not_due w n q s in
-      cc);
-  stream = λ d. streams (s.peer_views.stream (duplex d));
-}
-  where
-    duplex : (flush w.peer.session (w.own.sent ++ RS resync.Restart n t o ∷ [])).units.duplex ≡ true → (flushed w.peer w.own).units.duplex ≡ true
-    duplex d = ap (λ (u : FunctionalUnits). u.duplex) (sym (crossed_units (flushed w.peer w.own) n t)) ∙ ap (λ (r : State). r.units.duplex) (sym (other_end w n t o)) ∙ d
+module _ (w : Core) (n : ℕ) (t : TokenSetting) (o : List ℕ) (q : Restarts w n) (s : Stands w) where
+  -- this side and the other, when each has taken all; and this one after the call
+  abbrev fx : State
+  fx = flushed w.own w.peer
 
-    streams : (w.peer.got ++ data_of w.own.sent ≡ w.own.said) × (w.history ≡ [])
-        → (w.peer.got ++ data_of (w.own.sent ++ RS resync.Restart n t o ∷ []) ≡ w.own.said ++ []) × (w.history ++ [] ≡ [])
-    streams old = (
-      ap (λ (d : List (List ℕ)). w.peer.got ++ d) (data_append w.own.sent (RS resync.Restart n t o ∷ []) ∙ append-nil (data_of w.own.sent)) ∙ old.0 ∙ sym (append-nil w.own.said),
-      append-nil w.history ∙ old.1,
-    )
+  abbrev fy : State
+  fy = flushed w.peer w.own
 
--- ---- the numbers
+  abbrev end : State
+  end = flush (asked w.own.session n t) w.peer.sent
 
-grown : (w : Core) (n : ℕ) → Restarts w n → Stands w → Grown w.own.session.numbers.confirmed (hearing w.own w.peer)
-grown w n q s =
-    heard_grown w.own.session.numbers.confirmed w.own.session w.peer.sent
-    (record { phase = begun w n q; from = omega arith; to = s.consistent.own.sound.ordered.confirmed_to }) s.own.fits
+  abbrev asks : Party
+  asks = asker w.own n t o
 
-own_counts : (w : Core) (n : ℕ) (t : TokenSetting) (o : List ℕ) → Restarts w n → Stands w → Counts (asker w.own n t o) w.peer
-unfolding restarted_at
-own_counts w n t o q s =
-    subst (λ (e : State). Counting (asked w.own.session n t) e (heard w.peer.session (w.own.sent ++ RS resync.Restart n t o ∷ [])) w.peer.session) (sym (flows w n t q s).heard)
-    (subst (λ (e : State). Counting (asked w.own.session n t) (asked w.own.session n t) e w.peer.session) (sym (other_before w n t o q s)) (record {
-      flag = s.own_counts.flag;
-      below = λ l k from to.
-          let up = lower_second n w.own.session.numbers.confirmed in
-          let grew = (grown w n q s).from in
-          let base = (heard_open w.own.session w.peer.sent (begun w n q) s.own.fits).base in
-          s.own_counts.below l k (omega arith) (omega arith);
-      reach = λ f.
-          let up = lower_second n w.own.session.numbers.confirmed in
-          let grew = (grown w n q s).from in
-          lower_less w.peer.session.numbers.next _ _ w.peer.session.numbers.confirmed (omega arith) (s.own_counts.reach f);
-    }))
+  pub listens : is_restarting w.own.session.phase ≡ false
+  listens = excluded may_restart is_restarting refl w.own.session.phase q.phase
 
-peer_counts : (w : Core) (n : ℕ) (t : TokenSetting) (o : List ℕ) → Restarts w n → Stands w → Counts w.peer (asker w.own n t o)
-unfolding restarted_at
-peer_counts w n t o q s =
-    subst (λ (e : State). Counting w.peer.session e (heard (asked w.own.session n t) w.peer.sent) (asked w.own.session n t)) (sym (other_before w n t o q s))
-    (subst (λ (e : State). Counting w.peer.session (hearing w.peer w.own) e (asked w.own.session n t)) (sym (flows w n t q s).heard) (record {
-      flag = λ f. by_test (w.own.session.numbers.answers)
-          (λ e. let f : (hearing w.own w.peer).numbers.answers ≡ false = (s.peer_counts.flag f) in absurd (let k = (heard_turned w.own.session w.peer.sent (record { phase = begun w n q; answers = e }) s.own.fits).answers in cc))
-          (λ e. e);
-      below = λ l. absurd (cc);
-      reach = λ f. lower_both n w.own.session.numbers.next _ w.own.session.numbers.confirmed q.top (s.peer_counts.reach f);
-    }))
+  pub begun : is_opening w.own.session.phase ≡ false
+  begun = excluded may_restart is_opening refl w.own.session.phase q.phase
 
--- ---- both at once
+  pub flows : Flow w.own.session (asked w.own.session n t) w.peer.sent
+  flows = restart_flow w.own.session (asked w.own.session n t) w.peer.sent
+      (record { lives = implied may_restart is_lively refl w.own.session.phase q.phase; asked = refl; units = refl; base = refl }) s.own.fits
 
-pair_kept : (w : Core) (n : ℕ) (t : TokenSetting) (o : List ℕ) → Restarts w n → Stands w → Pair (w.history ++ []) (asker w.own n t o) w.peer
-pair_kept w n t o q s =
-    let was : (flushed w.own w.peer).base ≡ w.own.session.base = (flush_open w.own.session w.peer.sent (begun w n q) s.own.fits).base in
-    let same : (flushed w.own w.peer).units ≡ (flush (asked w.own.session n t) w.peer.sent).units = was_units w n q s ∙ sym (own_units w n t q s) in
-    grind (arith, asked, append-nil, own_base, list_any_append, IsOfProfile)
+  -- the other side will owe it no answer
+  pub not_due : is_restart_due fy.phase ≡ false
+  not_due = none_owed w.owner w.own w.peer s.own listens
+
+  pub other_heard : hearing w.peer w.own ≡ fy
+  other_heard = heard_flush w.peer.session w.own.sent s.peer.fits not_due
+
+  pub other_units : fy.units ≡ w.own.session.units
+  other_units = sym s.own.meeting.units ∙ end_units w.owner w.own w.peer s.own begun
+
+  pub other_base : fy.base ≡ w.own.session.base
+  other_base = sym s.own.meeting.base ∙ (flush_open w.own.session w.peer.sent begun s.own.fits).base
+
+  -- if no restart arrives at this side, the other takes one; if one arrives, the other has requested it
+  pub other_takes : Lively fx → (takes_restart fy.phase ≡ true) × (is_restarting fy.phase ≡ false)
+  other_takes l = search (arith, and_from, implied_two, not-true)
+
+  pub other_asked : is_restart_due fx.phase ≡ true → is_restarting fy.phase ≡ true
+  other_asked d = phase_there is_restart_due is_restarting refl s.own d
+
+  -- the sides will meet
+  pub ends_meet : Met end (crossed fy n t)
+  unfolding restarted_at
+  ends_meet = elim flows.end [
+    | inl e ↦ subst (λ (r : State). Met r (crossed fy n t)) (sym e.1)
+        (meets_one (asked w.own.session n t) fy n t refl refl refl (listening_stands fy n (other_takes e.0).1))
+    | inr e ↦
+        let a = other_asked e.0 in
+        let same = s.peer.meeting.restart a in
+        let caller = ap (λ (r : State). r.is_caller) (deaf_end w.peer.session w.own.sent a s.peer.fits) ∙ s.pair.callers in
+        subst (λ (r : State). Met r (crossed fy n t)) (sym e.1)
+        (meets_both (asked w.own.session n t) fy n fx.numbers.next t fx.wishes refl refl refl a same.0 same.1 caller)
+  ]
+
+  -- ---- the restart fits
+
+  -- this side has seen no more than there is
+  pub own_hears : hears (hearing w.own w.peer).phase ≡ true
+  own_hears =
+      kept_heard (λ (r : State). hears r.phase ≡ true) (λ r u h f. next_hears r u h) w.own.session w.peer.sent (ap not listens) s.own.fits
+
+  other_top : is_restarting fy.phase ≡ false → n ≤ fy.numbers.next
+  other_top l =
+      let e = other_heard in
+      let heeds = ap (λ (r : State). hears r.phase) e ∙ ap not l in
+      let all = listener_count w.history w.peer w.own s.consistent.peer s.peer.fits s.peer_views heeds in
+      let there = sym (ap (λ (r : State). r.numbers.next) e) ∙ all ∙ ap (λ (r : State). r.base + points w.history) e in
+      let base = other_base in
+      let seen = begins_points w.own.view w.history (listener_begins w.history w.own w.peer s.own_views own_hears) in
+      let count = s.consistent.own.count in
+      let top = q.top in
+      omega arith
+
+  pub restart_fits : Fits fy (RS resync.Restart n t o)
+  restart_fits = record {
+    plain = refl;
+    good = λ d. record {
+      expected = elim flows.end [
+        | inl e ↦ (other_takes e.0).0
+        | inr e ↦ implied is_restarting takes_restart refl fy.phase (other_asked e.0)
+      ];
+      met = (
+        (rw (ap (λ (u : FunctionalUnits). u.resynchronize) other_units ∙ q.selected) refl),
+        (restart_met fy n (subst (λ (b : ℕ). b ≤ n) (sym other_base) q.low) other_top, tt),
+      );
+    };
+  }
+
+  -- ---- both sides after the call
+
+  -- the other, when all is taken, and before that restart
+  other_end : flush w.peer.session (w.own.sent ++ RS resync.Restart n t o ∷ []) ≡ crossed fy n t
+  other_end = flush_append w.peer.session w.own.sent (RS resync.Restart n t o) ∙ restart_next fy resync.Restart n t o
+
+  other_before : heard w.peer.session (w.own.sent ++ RS resync.Restart n t o ∷ []) ≡ hearing w.peer w.own
+  other_before = heard_restart w.peer.session w.own.sent resync.Restart n t o s.peer.fits not_due ∙ sym other_heard
+
+  own_units : end.units ≡ w.own.session.units
+  own_units = (flush_open (asked w.own.session n t) w.peer.sent refl flows.fits).units
+
+  own_base : end.base ≡ w.own.session.base
+  own_base = (flush_open (asked w.own.session n t) w.peer.sent refl flows.fits).base
+
+  was_units : fx.units ≡ w.own.session.units
+  was_units = (flush_open w.own.session w.peer.sent begun s.own.fits).units
+
+  -- ---- the two halves
+
+  own_half : Half (given_up w.owner) asks w.peer
+  own_half =
+      let flow : Flow w.own.session (asked w.own.session n t) w.peer.sent = flows in
+      let met : Met end (crossed fy n t) = ends_meet in
+      record {
+        fits = flow.fits;
+        meeting = subst (λ (e : State). Meeting (given_up w.owner) (asked w.own.session n t) end e (heard (asked w.own.session n t) w.peer.sent) w.peer.session) (sym other_end)
+            (subst (λ (e : State). Meeting (given_up w.owner) (asked w.own.session n t) end (crossed fy n t) e w.peer.session) (sym flow.heard) (record {
+              meets = met.meets;
+              units = own_units ∙ sym (crossed_units fy n t ∙ other_units);
+              base = own_base ∙ sym (crossed_base fy n t ∙ other_base);
+              restart = met.restart;
+              connect = λ c. absurd (let e = met.connect in cc);
+              holds = λ k. none_held k ∙ given_own (w.owner k);
+              wants = λ m. absurd (cc);
+              absent = λ k z. given_absent (w.owner k) (s.own.meeting.absent k
+                  (ap (λ (u : FunctionalUnits). has (available u) k) (was_units ∙ sym own_units) ∙ z));
+              released = λ d. absurd (cc);
+            }));
+      }
+
+  -- the other owes no answer to a release
+  no_release : is_release_due (hearing w.peer w.own).phase ≡ true → ⊥
+  no_release d = grind arith
+
+  peer_half : Half (turned_owners (given_up w.owner)) w.peer asks
+  peer_half =
+      let end : State = end in
+      let met : Met end (crossed fy n t) = ends_meet in
+      record {
+        fits = fit_append w.peer.session w.own.sent (RS resync.Restart n t o) s.peer.fits restart_fits;
+        meeting = subst (λ (e : State). Meeting (turned_owners (given_up w.owner)) w.peer.session e end (heard w.peer.session (w.own.sent ++ RS resync.Restart n t o ∷ [])) (asked w.own.session n t)) (sym other_end)
+            (subst (λ (e : State). Meeting (turned_owners (given_up w.owner)) w.peer.session (crossed fy n t) end e (asked w.own.session n t)) (sym other_before) (record {
+              meets = met.turned;
+              units = sym (own_units ∙ sym (crossed_units fy n t ∙ other_units));
+              base = sym (own_base ∙ sym (crossed_base fy n t ∙ other_base));
+              restart = met.back;
+              connect = λ c. absurd (let e = met.other_connect in cc);
+              holds = λ k. s.peer.meeting.holds k ∙ given_theirs (w.owner k);
+              wants = λ m k. s.peer.meeting.wants m k ∙ given_wanted (w.owner k);
+              absent = λ k z. grind arith;
+              released = λ d. absurd (no_release d);
+            }));
+      }
+
+  -- ---- what was seen
+
+  own_views : Views (w.history ++ []) asks w.peer
+  unfolding restarted_at
+  own_views = record {
+    ends = λ l. absurd (let e = subst (λ (r : State). hears r.phase ≡ true) flows.heard l in cc);
+    cut = λ c.
+        let le = subst (λ (k : ℕ). n ≤ k) s.consistent.own.count q.top in
+        same_cut w.own.session.base n w.own.view w.history (listener_begins w.history w.own w.peer s.own_views own_hears) le
+        ∙ ap (λ (h : List Item). cutat w.own.session.base h n) (sym (append-nil w.history));
+    due = λ d. absurd (cc);
+    stream = λ d.
+        let k = s.own_views.stream (ap (λ (u : FunctionalUnits). u.duplex) (was_units ∙ sym own_units) ∙ d) in
+        (k.0, append-nil w.history ∙ k.1);
+  }
+
+  peer_views : Views (w.history ++ []) w.peer asks
+  peer_views = record {
+    ends = λ l. view_restart w.peer.session w.own.sent resync.Restart n t o w.peer.view s.peer.fits not_due
+        ∙ s.peer_views.ends (subst (λ (r : State). hears r.phase ≡ true) other_before l) ∙ sym (append-nil w.history);
+    cut = λ c. s.peer_views.cut (subst (λ (r : State). is_restarting r.phase ≡ true) other_before c)
+        ∙ ap (λ (h : List Item). cutat w.peer.session.base h w.peer.session.numbers.next) (sym (append-nil w.history));
+    due = λ d. absurd (
+        let e = due_end w.peer.session w.own.sent d s.peer.fits in
+        let f = subst (λ (r : State). is_restart_due r.phase ≡ true) (sym e) d in
+        let g = not_due in
+        cc);
+    stream = λ d. streams (s.peer_views.stream (duplex d));
+  }
+    where
+      duplex : (flush w.peer.session (w.own.sent ++ RS resync.Restart n t o ∷ [])).units.duplex ≡ true → fy.units.duplex ≡ true
+      duplex d = ap (λ (u : FunctionalUnits). u.duplex) (sym (crossed_units fy n t)) ∙ ap (λ (r : State). r.units.duplex) (sym other_end) ∙ d
+
+      streams : (w.peer.got ++ data_of w.own.sent ≡ w.own.said) × (w.history ≡ [])
+          → (w.peer.got ++ data_of (w.own.sent ++ RS resync.Restart n t o ∷ []) ≡ w.own.said ++ []) × (w.history ++ [] ≡ [])
+      streams old = (
+        ap (λ (d : List (List ℕ)). w.peer.got ++ d) (data_append w.own.sent (RS resync.Restart n t o ∷ []) ∙ append-nil (data_of w.own.sent)) ∙ old.0 ∙ sym (append-nil w.own.said),
+        append-nil w.history ∙ old.1,
+      )
+
+  -- ---- the numbers
+
+  grown : Grown w.own.session.numbers.confirmed (hearing w.own w.peer)
+  grown =
+      heard_grown w.own.session.numbers.confirmed w.own.session w.peer.sent
+      (record { phase = begun; from = omega arith; to = s.consistent.own.sound.ordered.confirmed_to }) s.own.fits
+
+  own_counts : Counts asks w.peer
+  unfolding restarted_at
+  own_counts =
+      subst (λ (e : State). Counting (asked w.own.session n t) e (heard w.peer.session (w.own.sent ++ RS resync.Restart n t o ∷ [])) w.peer.session) (sym flows.heard)
+      (subst (λ (e : State). Counting (asked w.own.session n t) (asked w.own.session n t) e w.peer.session) (sym other_before) (record {
+        flag = s.own_counts.flag;
+        below = λ l k from to.
+            let up = lower_second n w.own.session.numbers.confirmed in
+            let grew = grown.from in
+            let base = (heard_open w.own.session w.peer.sent begun s.own.fits).base in
+            s.own_counts.below l k (omega arith) (omega arith);
+        reach = λ f.
+            let up = lower_second n w.own.session.numbers.confirmed in
+            let grew = grown.from in
+            lower_less w.peer.session.numbers.next _ _ w.peer.session.numbers.confirmed (omega arith) (s.own_counts.reach f);
+      }))
+
+  peer_counts : Counts w.peer asks
+  unfolding restarted_at
+  peer_counts =
+      subst (λ (e : State). Counting w.peer.session e (heard (asked w.own.session n t) w.peer.sent) (asked w.own.session n t)) (sym other_before)
+      (subst (λ (e : State). Counting w.peer.session (hearing w.peer w.own) e (asked w.own.session n t)) (sym flows.heard) (record {
+        flag = λ f. by_test (w.own.session.numbers.answers)
+            (λ e. let f : (hearing w.own w.peer).numbers.answers ≡ false = (s.peer_counts.flag f) in absurd (let k = (heard_turned w.own.session w.peer.sent (record { phase = begun; answers = e }) s.own.fits).answers in cc))
+            (λ e. e);
+        below = λ l. absurd (cc);
+        reach = λ f. lower_both n w.own.session.numbers.next _ w.own.session.numbers.confirmed q.top (s.peer_counts.reach f);
+      }))
+
+  -- ---- both at once
+
+  pair_kept : Pair (w.history ++ []) asks w.peer
+  pair_kept =
+      let was : fx.base ≡ w.own.session.base = (flush_open w.own.session w.peer.sent begun s.own.fits).base in
+      let same : fx.units ≡ end.units = was_units ∙ sym own_units in
+      grind (arith, asked, append-nil, own_base, list_any_append, IsOfProfile)
 
 -- ---- the call
 

@@ -136,159 +136,156 @@ connected w u n a z o = becomes (flushed w.peer w.own) (acceptance w.own.session
 
 -- ---- nothing is in flight
 
-none_under_way : (w : Core) (u : ℕ) → Accepts w u → AllEmpty w.peer.sent
-none_under_way w u q =
-    all_empty w.own.session w.peer.sent (λ m p. none_answering w.own.session.phase m q.answering p) (excluded is_answering is_restarting refl w.own.session.phase q.answering) q.all.own.fits
+module _ (w : Core) (u : ℕ) (q : Accepts w u) where
+  none_under_way : AllEmpty w.peer.sent
+  none_under_way =
+      all_empty w.own.session w.peer.sent (λ m p. none_answering w.own.session.phase m q.answering p) (excluded is_answering is_restarting refl w.own.session.phase q.answering) q.all.own.fits
 
-own_end : (w : Core) (u : ℕ) → Accepts w u → flushed w.own w.peer ≡ w.own.session
-own_end w u q = empty_end w.own.session w.peer.sent (none_under_way w u q)
+  own_end : flushed w.own w.peer ≡ w.own.session
+  own_end = empty_end w.own.session w.peer.sent none_under_way
 
-own_heard : (w : Core) (u : ℕ) → Accepts w u → hearing w.own w.peer ≡ w.own.session
-own_heard w u q = empty_heard w.own.session w.peer.sent (none_under_way w u q)
+  own_heard : hearing w.own w.peer ≡ w.own.session
+  own_heard = empty_heard w.own.session w.peer.sent none_under_way
 
-other_waits : (w : Core) (u : ℕ) → Accepts w u → is_connecting (flushed w.peer w.own).phase ≡ true
-other_waits w u q = search (arith, own_end, implied_two, and_from)
+  other_waits : is_connecting (flushed w.peer w.own).phase ≡ true
+  other_waits = search (arith, own_end, implied_two, and_from)
 
-other_connects : (w : Core) (u : ℕ) → Accepts w u → is_connecting w.peer.session.phase ≡ true
-other_connects w u q = (waiting w.peer.session w.own.sent (other_waits w u q) q.all.peer.fits).1
+  other_connects : is_connecting w.peer.session.phase ≡ true
+  other_connects = (waiting w.peer.session w.own.sent other_waits q.all.peer.fits).1
 
-other_heard : (w : Core) (u : ℕ) → Accepts w u → hearing w.peer w.own ≡ w.peer.session
-other_heard w u q = empty_heard w.peer.session w.own.sent (waiting w.peer.session w.own.sent (other_waits w u q) q.all.peer.fits).0
+  other_heard : hearing w.peer w.own ≡ w.peer.session
+  other_heard = empty_heard w.peer.session w.own.sent (waiting w.peer.session w.own.sent other_waits q.all.peer.fits).0
 
-other_owes_none : (w : Core) (u : ℕ) → Accepts w u → is_restart_due (flushed w.peer w.own).phase ≡ false
-other_owes_none w u q = excluded is_connecting is_restart_due refl (flushed w.peer w.own).phase (other_waits w u q)
+  other_owes_none : is_restart_due (flushed w.peer w.own).phase ≡ false
+  other_owes_none = excluded is_connecting is_restart_due refl (flushed w.peer w.own).phase other_waits
 
-other_units : (w : Core) (u : ℕ) → Accepts w u → (flushed w.peer w.own).units ≡ w.own.session.units
-other_units w u q = sym q.all.own.meeting.units ∙ ap (λ (r : State). r.units) (own_end w u q)
+  other_units : (flushed w.peer w.own).units ≡ w.own.session.units
+  other_units = sym q.all.own.meeting.units ∙ ap (λ (r : State). r.units) own_end
 
-other_wishes : (w : Core) (u : ℕ) → Accepts w u → (flushed w.peer w.own).wishes ≡ w.own.session.wishes
-other_wishes w u q = (q.all.peer.meeting.connect (other_waits w u q)).0 ∙ ap (λ (r : State). r.wishes) (own_end w u q)
+module _ (w : Core) (u : ℕ) where
+  other_wishes : Accepts w u → (flushed w.peer w.own).wishes ≡ w.own.session.wishes
+  other_wishes q = (q.all.peer.meeting.connect (other_waits w u q)).0 ∙ ap (λ (r : State). r.wishes) (own_end w u q)
 
-other_fresh : (w : Core) (u : ℕ) → Accepts w u → IsFresh w.peer
-other_fresh w u q = q.all.consistent.peer.fresh (implied is_connecting is_opening refl w.peer.session.phase (other_connects w u q))
+  other_fresh : Accepts w u → IsFresh w.peer
+  other_fresh q = q.all.consistent.peer.fresh (implied is_connecting is_opening refl w.peer.session.phase (other_connects w u q))
 
--- ---- the AC
+  -- ---- the AC
 
-agreed_units : (w : Core) (u : ℕ) → Accepts w u → both_units (flushed w.peer w.own).units (functional_units u) ≡ functional_units u
-agreed_units w u q =
-    ap (λ (v : FunctionalUnits). both_units v (functional_units u)) (other_units w u q) ∙ within_both (functional_units u) w.own.session.units q.within
+  agreed_units : Accepts w u → both_units (flushed w.peer w.own).units (functional_units u) ≡ functional_units u
+  agreed_units q =
+      ap (λ (v : FunctionalUnits). both_units v (functional_units u)) (other_units w u q) ∙ within_both (functional_units u) w.own.session.units q.within
 
-agreed_first : (w : Core) (u n : ℕ) → Accepts w u
-    → agreed_base (both_units (flushed w.peer w.own).units (functional_units u)) (serial_for (functional_units u) n) (flushed w.peer w.own).proposed ≡ base_for (functional_units u) n
-agreed_first w u n q = search (arith, agreed_units, same_first)
+  agreed_first : (n : ℕ) → Accepts w u → agreed_base (both_units (flushed w.peer w.own).units (functional_units u)) (serial_for (functional_units u) n) (flushed w.peer w.own).proposed ≡ base_for (functional_units u) n
+  agreed_first n q = search (arith, agreed_units, same_first)
 
-accept_fits : (w : Core) (u n : ℕ) (a : Sides) (z : TsduMaximumSize) (o : List ℕ) → Accepts w u → are_sizes (answered_sizes w.own.session.sizes z) ≡ true
-    → Fits (flushed w.peer w.own) (acceptance w.own.session u n a z o)
-accept_fits w u n a z o q k = search (arith, other_waits, and_from, agreed_units, profile_data, other_wishes, settled_answers)
+  accept_fits : (n : ℕ) (a : Sides) (z : TsduMaximumSize) (o : List ℕ) → Accepts w u → are_sizes (answered_sizes w.own.session.sizes z) ≡ true → Fits (flushed w.peer w.own) (acceptance w.own.session u n a z o)
+  accept_fits n a z o q k = search (arith, other_waits, and_from, agreed_units, profile_data, other_wishes, settled_answers)
 
-accept_kept : (w : Core) (u : ℕ) → Accepts w u → (is_restarting (flushed w.peer w.own).phase && true) ≡ false
-accept_kept w u q = ap (λ (b : Bool). b && true) (excluded is_connecting is_restarting refl (flushed w.peer w.own).phase (other_waits w u q))
+  accept_kept : Accepts w u → (is_restarting (flushed w.peer w.own).phase && true) ≡ false
+  accept_kept q = ap (λ (b : Bool). b && true) (excluded is_connecting is_restarting refl (flushed w.peer w.own).phase (other_waits w u q))
 
-accept_next : (w : Core) (u n : ℕ) (a : Sides) (z : TsduMaximumSize) (o : List ℕ) → Accepts w u → next (flushed w.peer w.own) (acceptance w.own.session u n a z o) ≡ connected w u n a z o
-accept_next w u n a z o q = next_acted (flushed w.peer w.own) (acceptance w.own.session u n a z o) (accept_kept w u q)
+  accept_next : (n : ℕ) (a : Sides) (z : TsduMaximumSize) (o : List ℕ) → Accepts w u → next (flushed w.peer w.own) (acceptance w.own.session u n a z o) ≡ connected w u n a z o
+  accept_next n a z o q = next_acted (flushed w.peer w.own) (acceptance w.own.session u n a z o) (accept_kept q)
 
-end_after : (w : Core) (u n : ℕ) (a : Sides) (z : TsduMaximumSize) (o : List ℕ) → Accepts w u → flush w.peer.session (w.own.sent ++ acceptance w.own.session u n a z o ∷ []) ≡ connected w u n a z o
-end_after w u n a z o q = flush_append w.peer.session w.own.sent (acceptance w.own.session u n a z o) ∙ accept_next w u n a z o q
+  end_after : (n : ℕ) (a : Sides) (z : TsduMaximumSize) (o : List ℕ) → Accepts w u → flush w.peer.session (w.own.sent ++ acceptance w.own.session u n a z o ∷ []) ≡ connected w u n a z o
+  end_after n a z o q = flush_append w.peer.session w.own.sent (acceptance w.own.session u n a z o) ∙ accept_next n a z o q
 
-heard_after : (w : Core) (u n : ℕ) (a : Sides) (z : TsduMaximumSize) (o : List ℕ) → Accepts w u → heard w.peer.session (w.own.sent ++ acceptance w.own.session u n a z o ∷ []) ≡ connected w u n a z o
-heard_after w u n a z o q =
-    heard_append w.peer.session w.own.sent (acceptance w.own.session u n a z o) q.all.peer.fits (other_owes_none w u q) ∙ accept_next w u n a z o q
+  heard_after : (n : ℕ) (a : Sides) (z : TsduMaximumSize) (o : List ℕ) → Accepts w u → heard w.peer.session (w.own.sent ++ acceptance w.own.session u n a z o ∷ []) ≡ connected w u n a z o
+  heard_after n a z o q =
+      heard_append w.peer.session w.own.sent (acceptance w.own.session u n a z o) q.all.peer.fits (other_owes_none w u q) ∙ accept_next n a z o q
 
--- ---- tokens
+  -- ---- tokens
 
-there : (w : Core) (u : ℕ) (a : Sides) (t : Token) → has (held_by w.own.session u a) t ≡ true → has (available (functional_units u)) t ≡ true
-there w u a t h = answerer_there (functional_units u) (settle (functional_units u) w.own.session.wishes a) t h
+  there : (a : Sides) (t : Token) → has (held_by w.own.session u a) t ≡ true → has (available (functional_units u)) t ≡ true
+  there a t h = answerer_there (functional_units u) (settle (functional_units u) w.own.session.wishes a) t h
 
-will_hold : (w : Core) (u n : ℕ) (a : Sides) (z : TsduMaximumSize) (o : List ℕ) (t : Token) → Accepts w u
-    → has (connected w u n a z o).held t ≡ (has (available (functional_units u)) t && not (has (held_by w.own.session u a) t))
-will_hold w u n a z o t q = search (arith, agreed_units, asker_holds)
+  will_hold : (n : ℕ) (a : Sides) (z : TsduMaximumSize) (o : List ℕ) (t : Token) → Accepts w u → has (connected w u n a z o).held t ≡ (has (available (functional_units u)) t && not (has (held_by w.own.session u a) t))
+  will_hold n a z o t q = search (arith, agreed_units, asker_holds)
 
--- ---- the two halves
+  -- ---- the two halves
 
-own_half : (w : Core) (u n : ℕ) (a : Sides) (z : TsduMaximumSize) (o : List ℕ) → Accepts w u → Half (settled_by (accepting w.own.session u n a z)) (accepter w.own u n a z o) w.peer
-own_half w u n a z o q = search (arith, none_under_way, empty_fits, empty_end, empty_heard, end_after, agreed_units, agreed_first, own_held, own_wanted, own_absent, there)
+  own_half : (n : ℕ) (a : Sides) (z : TsduMaximumSize) (o : List ℕ) → Accepts w u → Half (settled_by (accepting w.own.session u n a z)) (accepter w.own u n a z o) w.peer
+  own_half n a z o q = search (arith, none_under_way, empty_fits, empty_end, empty_heard, end_after, agreed_units, agreed_first, own_held, own_wanted, own_absent, there)
 
-peer_half : (w : Core) (u n : ℕ) (a : Sides) (z : TsduMaximumSize) (o : List ℕ) → Accepts w u → are_sizes (answered_sizes w.own.session.sizes z) ≡ true
-    → Half (turned_owners (settled_by (accepting w.own.session u n a z))) w.peer (accepter w.own u n a z o)
-peer_half w u n a z o q k =
-    let r = accepting w.own.session u n a z in
-    let m = acceptance w.own.session u n a z o in
-    let none = none_under_way w u q in
-    let owners = turned_owners (settled_by (accepting w.own.session u n a z)) in
-    let no_tokens = q.all.consistent.peer.sound.tokens (excluded is_connecting may_hold refl w.peer.session.phase (other_connects w u q)) in
-    record {
-      fits = fit_append w.peer.session w.own.sent m q.all.peer.fits (accept_fits w u n a z o q k);
-      meeting = subst (λ (e : State). Meeting owners w.peer.session e (flush r w.peer.sent) (heard w.peer.session (w.own.sent ++ m ∷ [])) r) (sym (end_after w u n a z o q))
-          (subst (λ (e : State). Meeting owners w.peer.session (connected w u n a z o) (flush r w.peer.sent) e r) (sym (heard_after w u n a z o q))
-          (subst (λ (e : State). Meeting owners w.peer.session (connected w u n a z o) e (connected w u n a z o) r) (sym (empty_end r w.peer.sent none)) (record {
-            meets = refl;
-            units = agreed_units w u q;
-            base = agreed_first w u n q;
-            restart = λ k. absurd (cc);
-            connect = λ k. absurd (cc);
-            holds = λ t. ap (λ (v : Tokens). has v t) no_tokens ∙ none_held t ∙ their_held (has (held_by w.own.session u a) t) (has (available (functional_units u)) t);
-            wants = λ h t. will_hold w u n a z o t q ∙ their_wanted (has (held_by w.own.session u a) t) (has (available (functional_units u)) t);
-            absent = λ t k. their_absent (has (held_by w.own.session u a) t) (has (available (functional_units u)) t) (there w u a t)
-                (ap (λ (v : FunctionalUnits). has (available v) t) (sym (agreed_units w u q)) ∙ k);
-            released = λ d. absurd (cc);
-          })));
-    }
+  peer_half : (n : ℕ) (a : Sides) (z : TsduMaximumSize) (o : List ℕ) → Accepts w u → are_sizes (answered_sizes w.own.session.sizes z) ≡ true → Half (turned_owners (settled_by (accepting w.own.session u n a z))) w.peer (accepter w.own u n a z o)
+  peer_half n a z o q k =
+      let r = accepting w.own.session u n a z in
+      let m = acceptance w.own.session u n a z o in
+      let none = none_under_way w u q in
+      let owners = turned_owners (settled_by (accepting w.own.session u n a z)) in
+      let no_tokens = q.all.consistent.peer.sound.tokens (excluded is_connecting may_hold refl w.peer.session.phase (other_connects w u q)) in
+      record {
+        fits = fit_append w.peer.session w.own.sent m q.all.peer.fits (accept_fits n a z o q k);
+        meeting = subst (λ (e : State). Meeting owners w.peer.session e (flush r w.peer.sent) (heard w.peer.session (w.own.sent ++ m ∷ [])) r) (sym (end_after n a z o q))
+            (subst (λ (e : State). Meeting owners w.peer.session (connected w u n a z o) (flush r w.peer.sent) e r) (sym (heard_after n a z o q))
+            (subst (λ (e : State). Meeting owners w.peer.session (connected w u n a z o) e (connected w u n a z o) r) (sym (empty_end r w.peer.sent none)) (record {
+              meets = refl;
+              units = agreed_units q;
+              base = agreed_first n q;
+              restart = λ k. absurd (cc);
+              connect = λ k. absurd (cc);
+              holds = λ t. ap (λ (v : Tokens). has v t) no_tokens ∙ none_held t ∙ their_held (has (held_by w.own.session u a) t) (has (available (functional_units u)) t);
+              wants = λ h t. will_hold n a z o t q ∙ their_wanted (has (held_by w.own.session u a) t) (has (available (functional_units u)) t);
+              absent = λ t k. their_absent (has (held_by w.own.session u a) t) (has (available (functional_units u)) t) (there a t)
+                  (ap (λ (v : FunctionalUnits). has (available v) t) (sym (agreed_units q)) ∙ k);
+              released = λ d. absurd (cc);
+            })));
+      }
 
--- ---- what was seen
+  -- ---- what was seen
 
-own_seen : (w : Core) (u : ℕ) → Accepts w u → w.own.view ≡ w.history
-own_seen w u q = search (arith, own_heard, excluded, empty_view, none_under_way)
+  own_seen : Accepts w u → w.own.view ≡ w.history
+  own_seen q = search (arith, own_heard, excluded, empty_view, none_under_way)
 
-own_views : (w : Core) (u n : ℕ) (a : Sides) (z : TsduMaximumSize) (o : List ℕ) → Accepts w u → Views (w.history ++ []) (accepter w.own u n a z o) w.peer
-own_views w u n a z o q = search (arith, none_under_way, empty_view, own_seen, empty_heard, within_duplex, empty_end, own_end)
+module _ (w : Core) (u n : ℕ) (a : Sides) (z : TsduMaximumSize) (o : List ℕ) (q : Accepts w u) where
+  own_views : Views (w.history ++ []) (accepter w.own u n a z o) w.peer
+  own_views = search (arith, none_under_way, empty_view, own_seen, empty_heard, within_duplex, empty_end, own_end)
 
-peer_views : (w : Core) (u n : ℕ) (a : Sides) (z : TsduMaximumSize) (o : List ℕ) → Accepts w u → Views (w.history ++ []) w.peer (accepter w.own u n a z o)
-peer_views w u n a z o q = record {
-  ends = λ l. view_append w.peer.session w.own.sent m w.peer.view q.all.peer.fits (other_owes_none w u q)
-      ∙ if_first (drops (flushed w.peer w.own) m) (heard_view w.peer.session w.own.sent w.peer.view) (heard_view w.peer.session w.own.sent w.peer.view) refl
-      ∙ q.all.peer_views.ends listens ∙ sym (append-nil w.history);
-  cut = λ c. absurd (let e = ap (λ (s : State). is_restarting s.phase) (sym (heard_after w u n a z o q)) ∙ c in cc);
-  due = λ d. absurd (let e = excluded is_connecting is_restart_due refl w.peer.session.phase (other_connects w u q) in cc);
-  stream = λ d. streams (q.all.peer_views.stream (duplex d));
-}
-  where
-    m : Meaning
-    m = acceptance w.own.session u n a z o
+  peer_views : Views (w.history ++ []) w.peer (accepter w.own u n a z o)
+  peer_views = record {
+    ends = λ l. view_append w.peer.session w.own.sent m w.peer.view q.all.peer.fits (other_owes_none w u q)
+        ∙ if_first (drops (flushed w.peer w.own) m) (heard_view w.peer.session w.own.sent w.peer.view) (heard_view w.peer.session w.own.sent w.peer.view) refl
+        ∙ q.all.peer_views.ends listens ∙ sym (append-nil w.history);
+    cut = λ c. absurd (let e = ap (λ (s : State). is_restarting s.phase) (sym (heard_after w u n a z o q)) ∙ c in cc);
+    due = λ d. absurd (let e = excluded is_connecting is_restart_due refl w.peer.session.phase (other_connects w u q) in cc);
+    stream = λ d. streams (q.all.peer_views.stream (duplex d));
+  }
+    where
+      m : Meaning
+      m = acceptance w.own.session u n a z o
 
-    listens : hears (hearing w.peer w.own).phase ≡ true
-    listens = ap (λ (r : State). hears r.phase) (other_heard w u q) ∙ ap not (excluded is_connecting is_restarting refl w.peer.session.phase (other_connects w u q))
+      listens : hears (hearing w.peer w.own).phase ≡ true
+      listens = ap (λ (r : State). hears r.phase) (other_heard w u q) ∙ ap not (excluded is_connecting is_restarting refl w.peer.session.phase (other_connects w u q))
 
-    duplex : (flush w.peer.session (w.own.sent ++ acceptance w.own.session u n a z o ∷ [])).units.duplex ≡ true → (flushed w.peer w.own).units.duplex ≡ true
-    duplex d =
-        let now = ap (λ (v : FunctionalUnits). v.duplex) (sym (agreed_units w u q)) ∙ ap (λ (s : State). s.units.duplex) (sym (end_after w u n a z o q)) ∙ d in
-        ap (λ (v : FunctionalUnits). v.duplex) (other_units w u q) ∙ within_duplex (functional_units u) w.own.session.units q.within now
+      duplex : (flush w.peer.session (w.own.sent ++ acceptance w.own.session u n a z o ∷ [])).units.duplex ≡ true → (flushed w.peer w.own).units.duplex ≡ true
+      duplex d =
+          let now = ap (λ (v : FunctionalUnits). v.duplex) (sym (agreed_units w u q)) ∙ ap (λ (s : State). s.units.duplex) (sym (end_after w u n a z o q)) ∙ d in
+          ap (λ (v : FunctionalUnits). v.duplex) (other_units w u q) ∙ within_duplex (functional_units u) w.own.session.units q.within now
 
-    streams : (w.peer.got ++ data_of w.own.sent ≡ w.own.said) × (w.history ≡ [])
-        → (w.peer.got ++ data_of (w.own.sent ++ acceptance w.own.session u n a z o ∷ []) ≡ w.own.said ++ []) × (w.history ++ [] ≡ [])
-    streams old = (
-      ap (λ (d : List (List ℕ)). w.peer.got ++ d) (data_append w.own.sent (m ∷ []) ∙ append-nil (data_of w.own.sent)) ∙ old.0 ∙ sym (append-nil w.own.said),
-      append-nil w.history ∙ old.1,
-    )
+      streams : (w.peer.got ++ data_of w.own.sent ≡ w.own.said) × (w.history ≡ [])
+          → (w.peer.got ++ data_of (w.own.sent ++ acceptance w.own.session u n a z o ∷ []) ≡ w.own.said ++ []) × (w.history ++ [] ≡ [])
+      streams old = (
+        ap (λ (d : List (List ℕ)). w.peer.got ++ d) (data_append w.own.sent (m ∷ []) ∙ append-nil (data_of w.own.sent)) ∙ old.0 ∙ sym (append-nil w.own.said),
+        append-nil w.history ∙ old.1,
+      )
 
--- ---- the numbers
+  -- ---- the numbers
 
-own_counts : (w : Core) (u n : ℕ) (a : Sides) (z : TsduMaximumSize) (o : List ℕ) → Accepts w u → Counts (accepter w.own u n a z o) w.peer
-own_counts w u n a z o q = search (arith, empty_heard, none_under_way, other_fresh)
+  own_counts : Counts (accepter w.own u n a z o) w.peer
+  own_counts = search (arith, empty_heard, none_under_way, other_fresh)
 
-peer_counts : (w : Core) (u n : ℕ) (a : Sides) (z : TsduMaximumSize) (o : List ℕ) → Accepts w u → Counts w.peer (accepter w.own u n a z o)
-peer_counts w u n a z o q = search (arith, heard_after, empty_heard, none_under_way)
+  peer_counts : Counts w.peer (accepter w.own u n a z o)
+  peer_counts = search (arith, heard_after, empty_heard, none_under_way)
 
--- ---- both at once
+  -- ---- both at once
 
-pair_kept : (w : Core) (u n : ℕ) (a : Sides) (z : TsduMaximumSize) (o : List ℕ) → Accepts w u → Pair (w.history ++ []) (accepter w.own u n a z o) w.peer
-pair_kept w u n a z o q = search (arith, empty_end, none_under_way, own_seen, implied, within_half, list_any_append, own_end)
+  pair_kept : Pair (w.history ++ []) (accepter w.own u n a z o) w.peer
+  pair_kept = search (arith, empty_end, none_under_way, own_seen, implied, within_half, list_any_append, own_end)
 
--- ---- the call
+  -- ---- the call
 
-all_kept : (w : Core) (u n : ℕ) (a : Sides) (z : TsduMaximumSize) (o : List ℕ) → Accepts w u → are_sizes (answered_sizes w.own.session.sizes z) ≡ true
-    → AreConsistent (answered w (Accept u n a z o) (Ok (record { next = accepting w.own.session u n a z; sent = acceptance w.own.session u n a z o })))
-    → Stands (answered w (Accept u n a z o) (Ok (record { next = accepting w.own.session u n a z; sent = acceptance w.own.session u n a z o })))
-all_kept w u n a z o q k c = assumption (own_half w u n a z o q, peer_half w u n a z o q k, own_views w u n a z o q, peer_views w u n a z o q, own_counts w u n a z o q, peer_counts w u n a z o q, pair_kept w u n a z o q)
+  all_kept : are_sizes (answered_sizes w.own.session.sizes z) ≡ true → AreConsistent (answered w (Accept u n a z o) (Ok (record { next = accepting w.own.session u n a z; sent = acceptance w.own.session u n a z o }))) → Stands (answered w (Accept u n a z o) (Ok (record { next = accepting w.own.session u n a z; sent = acceptance w.own.session u n a z o })))
+  all_kept k c = assumption (own_half w u n a z o q, peer_half w u n a z o q k, own_views, peer_views, own_counts, peer_counts, pair_kept)
 
 pub accept_stands : (w : Core) (u n : ℕ) (a : Sides) (z : TsduMaximumSize) (o : List ℕ) → IsGranted w (Accept u n a z o) → Stands w
     → Stands (answered w (Accept u n a z o) (Ok (granted w.own.session (Accept u n a z o))))

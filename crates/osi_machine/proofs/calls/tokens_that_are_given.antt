@@ -210,87 +210,82 @@ giver x k = record { session = less k x.session; view = x.view ++ []; said = x.s
 other_end : (w : Core) (k : Tokens) → flush w.peer.session (w.own.sent ++ GT k ∷ []) ≡ next (flushed w.peer w.own) (GT k)
 other_end w k = flush_append w.peer.session w.own.sent (GT k)
 
--- the other side listens to the giver, so it receives everything
-other_heard : (w : Core) (k : Tokens) → Giving w k → Half w.owner w.own w.peer → Half (turned_owners w.owner) w.peer w.own
-    → heard w.peer.session (w.own.sent ++ GT k ∷ []) ≡ next (flushed w.peer w.own) (GT k)
-other_heard w k g h j = heard_append w.peer.session w.own.sent (GT k) j.fits (none_owed w.owner w.own w.peer h (excluded may_give is_restarting refl w.own.session.phase g.phase))
+module _ (w : Core) (k : Tokens) (g : Giving w k) (h : Half w.owner w.own w.peer) where
+  -- the other side listens to the giver, so it receives everything
+  other_heard : Half (turned_owners w.owner) w.peer w.own → heard w.peer.session (w.own.sent ++ GT k ∷ []) ≡ next (flushed w.peer w.own) (GT k)
+  other_heard j = heard_append w.peer.session w.own.sent (GT k) j.fits (none_owed w.owner w.own w.peer h (excluded may_give is_restarting refl w.own.session.phase g.phase))
 
-heard_end : (w : Core) (k : Tokens) → Giving w k → Half w.owner w.own w.peer → Half (turned_owners w.owner) w.peer w.own → hearing w.peer w.own ≡ flushed w.peer w.own
-heard_end w k g h j = heard_flush w.peer.session w.own.sent j.fits (none_owed w.owner w.own w.peer h (excluded may_give is_restarting refl w.own.session.phase g.phase))
+  heard_end : Half (turned_owners w.owner) w.peer w.own → hearing w.peer w.own ≡ flushed w.peer w.own
+  heard_end j = heard_flush w.peer.session w.own.sent j.fits (none_owed w.owner w.own w.peer h (excluded may_give is_restarting refl w.own.session.phase g.phase))
 
-own_tokens : (w : Core) (k : Tokens) → Giving w k → Half w.owner w.own w.peer
-    → Tokens_of (passed_to ToThem k w.owner) (less k w.own.session) (flush (less k w.own.session) w.peer.sent) (heard (less k w.own.session) w.peer.sent)
-own_tokens w k g h = record {
-  holds = λ t. without_has w.own.session.held k t ∙ still_held (has k t) (has w.own.session.held t) (w.owner t) (h.meeting.holds t);
-  wants = by (runs w k g h).heard;
-  absent = λ t n. gone t (has k t) refl n;
-}
-  where
-    by : Fewer k (hearing w.own w.peer) (heard (less k w.own.session) w.peer.sent) → may_hold (heard (less k w.own.session) w.peer.sent).phase ≡ true → (t : Token)
-        → has (heard (less k w.own.session) w.peer.sent).held t ≡ (is_own (passed_to ToThem k w.owner t) || is_to_own (passed_to ToThem k w.owner t))
-    by (inl (e, v)) m t =
-        ap (λ (q : State). has q.held t) e ∙ without_has (hearing w.own w.peer).held k t
-        ∙ still_wanted (has k t) (has (hearing w.own w.peer).held t) (w.owner t) (h.meeting.wants (ap (λ (q : State). may_hold q.phase) (sym e) ∙ m) t)
-    by (inr (e, due)) m t = absurd (
-        let d = excluded is_restart_due may_hold refl (hearing w.own w.peer).phase due in
-        let n = ap (λ (q : State). may_hold q.phase) (sym e) ∙ m in
-        cc)
+  own_tokens : Tokens_of (passed_to ToThem k w.owner) (less k w.own.session) (flush (less k w.own.session) w.peer.sent) (heard (less k w.own.session) w.peer.sent)
+  own_tokens = record {
+    holds = λ t. without_has w.own.session.held k t ∙ still_held (has k t) (has w.own.session.held t) (w.owner t) (h.meeting.holds t);
+    wants = by (runs w k g h).heard;
+    absent = λ t n. gone t (has k t) refl n;
+  }
+    where
+      by : Fewer k (hearing w.own w.peer) (heard (less k w.own.session) w.peer.sent) → may_hold (heard (less k w.own.session) w.peer.sent).phase ≡ true → (t : Token)
+          → has (heard (less k w.own.session) w.peer.sent).held t ≡ (is_own (passed_to ToThem k w.owner t) || is_to_own (passed_to ToThem k w.owner t))
+      by (inl (e, v)) m t =
+          ap (λ (q : State). has q.held t) e ∙ without_has (hearing w.own w.peer).held k t
+          ∙ still_wanted (has k t) (has (hearing w.own w.peer).held t) (w.owner t) (h.meeting.wants (ap (λ (q : State). may_hold q.phase) (sym e) ∙ m) t)
+      by (inr (e, due)) m t = absurd (
+          let d = excluded is_restart_due may_hold refl (hearing w.own w.peer).phase due in
+          let n = ap (λ (q : State). may_hold q.phase) (sym e) ∙ m in
+          cc)
 
-    units : (flush (less k w.own.session) w.peer.sent).units ≡ (flushed w.own w.peer).units
-    units = (like (flushed w.own w.peer) (flush (less k w.own.session) w.peer.sent) (but_held k (flushed w.own w.peer) _ (runs w k g h).flush)).units
+      units : (flush (less k w.own.session) w.peer.sent).units ≡ (flushed w.own w.peer).units
+      units = (like (flushed w.own w.peer) (flush (less k w.own.session) w.peer.sent) (but_held k (flushed w.own w.peer) _ (runs w k g h).flush)).units
 
-    now : (flushed w.own w.peer).units ≡ w.own.session.units
-    now = end_units w.owner w.own w.peer h (excluded may_give is_opening refl w.own.session.phase g.phase)
+      now : (flushed w.own w.peer).units ≡ w.own.session.units
+      now = end_units w.owner w.own w.peer h (excluded may_give is_opening refl w.own.session.phase g.phase)
 
-    gone : (t : Token) (b : Bool) → has k t ≡ b → has (available (flush (less k w.own.session) w.peer.sent).units) t ≡ false → is_absent (if b then ToThem else w.owner t) ≡ true
-    gone t true p n = absurd (
-        let there = within_has k (available w.own.session.units) t g.selected p in
-        let none = ap (λ (u : FunctionalUnits). has (available u) t) (sym now ∙ sym units) ∙ n in
-        cc)
-    gone t false p n = h.meeting.absent t (ap (λ (u : FunctionalUnits). has (available u) t) (sym units) ∙ n)
+      gone : (t : Token) (b : Bool) → has k t ≡ b → has (available (flush (less k w.own.session) w.peer.sent).units) t ≡ false → is_absent (if b then ToThem else w.owner t) ≡ true
+      gone t true p n = absurd (
+          let there = within_has k (available w.own.session.units) t g.selected p in
+          let none = ap (λ (u : FunctionalUnits). has (available u) t) (sym now ∙ sym units) ∙ n in
+          cc)
+      gone t false p n = h.meeting.absent t (ap (λ (u : FunctionalUnits). has (available u) t) (sym units) ∙ n)
 
-owned_by : (w : Core) (k : Tokens) → Giving w k → Half w.owner w.own w.peer → (t : Token) → has k t ≡ true → is_own (w.owner t) ≡ true
-owned_by w k g h t p = sym (h.meeting.holds t) ∙ within_has k w.own.session.held t g.held p
+  owned_by : (t : Token) → has k t ≡ true → is_own (w.owner t) ≡ true
+  owned_by t p = sym (h.meeting.holds t) ∙ within_has k w.own.session.held t g.held p
 
-peer_tokens : (w : Core) (k : Tokens) → Giving w k → Half w.owner w.own w.peer → Half (turned_owners w.owner) w.peer w.own
-    → Tokens_of (turned_owners (passed_to ToThem k w.owner)) w.peer.session (next (flushed w.peer w.own) (GT k)) (next (flushed w.peer w.own) (GT k))
-peer_tokens w k g h j = search (arith, not_yet_held, owned_by, heard_end, excluded, next_dropped, next_acted, united_has, will_be_held, within_has, given_like, end_units)
+  peer_tokens : Half (turned_owners w.owner) w.peer w.own → Tokens_of (turned_owners (passed_to ToThem k w.owner)) w.peer.session (next (flushed w.peer w.own) (GT k)) (next (flushed w.peer w.own) (GT k))
+  peer_tokens j = search (arith, not_yet_held, owned_by, heard_end, excluded, next_dropped, next_acted, united_has, will_be_held, within_has, given_like, end_units)
 
--- ---- what was seen, and the numbers
+  -- ---- what was seen, and the numbers
 
-own_like_heard : (w : Core) (k : Tokens) → Giving w k → Half w.owner w.own w.peer → Like (hearing w.own w.peer) (heard (less k w.own.session) w.peer.sent)
-own_like_heard w k g h = like _ _ (but_held k (hearing w.own w.peer) _ (runs w k g h).heard)
+  own_like_heard : Like (hearing w.own w.peer) (heard (less k w.own.session) w.peer.sent)
+  own_like_heard = like _ _ (but_held k (hearing w.own w.peer) _ (runs w k g h).heard)
 
-peer_like_heard : (w : Core) (k : Tokens) → Giving w k → Half w.owner w.own w.peer → Half (turned_owners w.owner) w.peer w.own
-    → Like (hearing w.peer w.own) (heard w.peer.session (w.own.sent ++ GT k ∷ []))
-peer_like_heard w k g h j = search (arith, other_heard, heard_end, given_like)
+  peer_like_heard : Half (turned_owners w.owner) w.peer w.own → Like (hearing w.peer w.own) (heard w.peer.session (w.own.sent ++ GT k ∷ []))
+  peer_like_heard j = search (arith, other_heard, heard_end, given_like)
 
-same_seen : (w : Core) (k : Tokens) → Giving w k → Half w.owner w.own w.peer → (v : List Item)
-    → heard_view (less k w.own.session) w.peer.sent v ≡ heard_view w.own.session w.peer.sent v
-same_seen w k g h v = alike_view (Fewer k) (fewer_step k) (fewer_shows k) w.own.session (less k w.own.session) w.peer.sent v (inl (refl, gives w k g)) h.fits
+  same_seen : (v : List Item) → heard_view (less k w.own.session) w.peer.sent v ≡ heard_view w.own.session w.peer.sent v
+  same_seen v = alike_view (Fewer k) (fewer_step k) (fewer_shows k) w.own.session (less k w.own.session) w.peer.sent v (inl (refl, gives w k g)) h.fits
 
-own_like_end : (w : Core) (k : Tokens) → Giving w k → Half w.owner w.own w.peer → Like (flushed w.own w.peer) (flush (less k w.own.session) w.peer.sent)
-own_like_end w k g h = like _ _ (but_held k (flushed w.own w.peer) _ (runs w k g h).flush)
+  own_like_end : Like (flushed w.own w.peer) (flush (less k w.own.session) w.peer.sent)
+  own_like_end = like _ _ (but_held k (flushed w.own w.peer) _ (runs w k g h).flush)
 
-own_views : (w : Core) (k : Tokens) → Giving w k → Half w.owner w.own w.peer → Views w.history w.own w.peer → Views (w.history ++ []) (giver w.own k) w.peer
-own_views w k g h v = grind (arith, same_seen, append-nil, own_like_heard, own_like_end)
+  own_views : Views w.history w.own w.peer → Views (w.history ++ []) (giver w.own k) w.peer
+  own_views v = grind (arith, same_seen, append-nil, own_like_heard, own_like_end)
 
-peer_views : (w : Core) (k : Tokens) → Giving w k → Half w.owner w.own w.peer → Half (turned_owners w.owner) w.peer w.own → Views w.history w.peer w.own
-    → Views (w.history ++ []) w.peer (giver w.own k)
-peer_views w k g h j v = record {
-  ends = λ l. view_idle (GT k) (λ s a. refl) w.peer.session w.own.sent w.peer.view j.fits (fit_append w.peer.session w.own.sent (GT k) j.fits (give_fits w k g h j))
-      ∙ v.ends (ap hears (sym (peer_like_heard w k g h j).phase) ∙ l) ∙ sym (append-nil w.history);
-  cut = λ r. v.cut (ap is_restarting (sym (peer_like_heard w k g h j).phase) ∙ r)
-      ∙ ap (λ (a : List Item). cutat w.peer.session.base a w.peer.session.numbers.next) (sym (append-nil w.history));
-  due = λ d. ap (λ (a : List Item). a ++ []) (v.due d);
-  stream = λ d. streams (v.stream (ap (λ (u : FunctionalUnits). u.duplex) (sym (subst (Like (flushed w.peer w.own)) (sym (other_end w k)) (given_like k (flushed w.peer w.own))).units) ∙ d));
-}
-  where
-    streams : (w.peer.got ++ data_of w.own.sent ≡ w.own.said) × (w.history ≡ []) → (w.peer.got ++ data_of (w.own.sent ++ GT k ∷ []) ≡ w.own.said ++ []) × (w.history ++ [] ≡ [])
-    streams old = (
-      ap (λ (r : List (List ℕ)). w.peer.got ++ r) (data_append w.own.sent (GT k ∷ []) ∙ append-nil (data_of w.own.sent)) ∙ old.0 ∙ sym (append-nil w.own.said),
-      append-nil w.history ∙ old.1,
-    )
+  peer_views : Half (turned_owners w.owner) w.peer w.own → Views w.history w.peer w.own → Views (w.history ++ []) w.peer (giver w.own k)
+  peer_views j v = record {
+    ends = λ l. view_idle (GT k) (λ s a. refl) w.peer.session w.own.sent w.peer.view j.fits (fit_append w.peer.session w.own.sent (GT k) j.fits (give_fits w k g h j))
+        ∙ v.ends (ap hears (sym (peer_like_heard j).phase) ∙ l) ∙ sym (append-nil w.history);
+    cut = λ r. v.cut (ap is_restarting (sym (peer_like_heard j).phase) ∙ r)
+        ∙ ap (λ (a : List Item). cutat w.peer.session.base a w.peer.session.numbers.next) (sym (append-nil w.history));
+    due = λ d. ap (λ (a : List Item). a ++ []) (v.due d);
+    stream = λ d. streams (v.stream (ap (λ (u : FunctionalUnits). u.duplex) (sym (subst (Like (flushed w.peer w.own)) (sym (other_end w k)) (given_like k (flushed w.peer w.own))).units) ∙ d));
+  }
+    where
+      streams : (w.peer.got ++ data_of w.own.sent ≡ w.own.said) × (w.history ≡ []) → (w.peer.got ++ data_of (w.own.sent ++ GT k ∷ []) ≡ w.own.said ++ []) × (w.history ++ [] ≡ [])
+      streams old = (
+        ap (λ (r : List (List ℕ)). w.peer.got ++ r) (data_append w.own.sent (GT k ∷ []) ∙ append-nil (data_of w.own.sent)) ∙ old.0 ∙ sym (append-nil w.own.said),
+        append-nil w.history ∙ old.1,
+      )
 
 -- ---- the call
 

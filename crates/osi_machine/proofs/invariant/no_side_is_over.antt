@@ -28,8 +28,7 @@ alive o x y h = by_test (is_over x.session.phase)
 -- it is no fault
 pub first_is_no_fault : (o : Owners) (x y : Party) (u : Meaning) (us : List Meaning) → y.sent ≡ u ∷ us → Half o x y
     → respond_unit x.session u ≡ (if drops x.session u then nothing x.session else good x.session u)
-first_is_no_fault o x y u us e h =
-    no_fault x.session u (alive o x y h) (subst (AllFit x.session) e h.fits).0
+first_is_no_fault o x y u us e h = no_fault x.session u (alive o x y h) (subst (AllFit x.session) e h.fits).0
 
 -- the taker after it
 abbrev pub taken_party : (x : Party) (u : Meaning) → Party

@@ -125,8 +125,7 @@ call_tells t s (Major octets) v said got k p n f h =
     (one_point_more (t.base + points t.view) s.numbers.next t.view v major_point octets h.pointed)
 call_tells t s (MajorConfirm octets) v said got k p n f h =
     calm_tells _ _ _ _ _ refl h.base (none_more t v s.units.duplex h.view) (not_asking t s v said got h (excluded is_major_due is_restarting refl s.phase p)) (λ o. h.duplex (implied is_major_due is_open refl s.phase p)) h.fine (λ d. h.said d ∙ sym (append-nil said)) h.got (same_points t s v said got h)
-call_tells t s (Restart m wishes octets) v said got k p n f h =
-    grind (arith, append-nil, cut_points)
+call_tells t s (Restart m wishes octets) v said got k p n f h = grind (arith, append-nil, cut_points)
 call_tells t s (RestartConfirm sides octets) v said got k p n f h =
     calm_tells _ _ _ _ _ refl h.base (none_more t v s.units.duplex h.view) (not_asking t s v said got h (excluded is_restart_due is_restarting refl s.phase p)) (λ o. h.duplex (implied is_restart_due is_open refl s.phase p)) h.fine (λ d. h.said d ∙ sym (append-nil said)) h.got (same_points t s v said got h)
 call_tells t s (Release octets) v said got k p n f h =

@@ -100,22 +100,22 @@ record HasCore (s : State) (sent : List Meaning) : Type 0 where
 abbrev Lives : State → List Meaning → Type 0
 Lives s sent = (is_over s.phase ≡ true) ⊎ HasCore s sent
 
-granted : SessionLaws → (c : Core) (call : Call) (sent : List Meaning) → HasSerial call → Stands c → c.peer.sent ≡ sent → (g : Granted) → allowed c.own.session call ≡ Ok g → (k : Bool) → stays_in_core call ≡ k → Lives g.next sent
-granted laws c call sent small stands way g e true q = inr (record {
-  core = answered c call (Ok g);
-  stands = subst (λ (a : Answer). Stands (answered c call a)) e
-      (subst (λ (b : Bool). Stands (if b then answered c call (allowed c.own.session call) else c)) q (called_stands laws c call small stands));
-  is = refl;
-  way = way;
-})
-granted laws c call sent small stands way g e false q =
-    inl (ap (λ (x : Granted). is_over x.next.phase) (laws.passed c.own.session call g e).gives ∙ stop_over c.own.session call q)
+module _ (laws : SessionLaws) (c : Core) (call : Call) (sent : List Meaning) (small : HasSerial call) (stands : Stands c) (way : c.peer.sent ≡ sent) where
+  granted : (g : Granted) → allowed c.own.session call ≡ Ok g → (k : Bool) → stays_in_core call ≡ k → Lives g.next sent
+  granted g e true q = inr (record {
+    core = answered c call (Ok g);
+    stands = subst (λ (a : Answer). Stands (answered c call a)) e
+        (subst (λ (b : Bool). Stands (if b then answered c call (allowed c.own.session call) else c)) q (called_stands laws c call small stands));
+    is = refl;
+    way = way;
+  })
+  granted g e false q =
+      inl (ap (λ (x : Granted). is_over x.next.phase) (laws.passed c.own.session call g e).gives ∙ stop_over c.own.session call q)
 
-answers : SessionLaws → (c : Core) (call : Call) (sent : List Meaning) → HasSerial call → Stands c → c.peer.sent ≡ sent → (a : Answer) → allowed c.own.session call ≡ a → Lives (left_by c.own.session (called call)) sent
-answers laws c call sent small stands way (Ok g) e =
-    subst (λ (s : State). Lives s sent) (sym (accepted c.own.session call g e)) (granted laws c call sent small stands way g e (stays_in_core call) refl)
-answers laws c call sent small stands way (Err x) e =
-    inr (record { core = c; stands = stands; is = unmoved c.own.session call x e; way = way })
+  answers : (a : Answer) → allowed c.own.session call ≡ a → Lives (left_by c.own.session (called call)) sent
+  answers (Ok g) e =
+      subst (λ (s : State). Lives s sent) (sym (accepted c.own.session call g e)) (granted g e (stays_in_core call) refl)
+  answers (Err x) e = inr (record { core = c; stands = stands; is = unmoved c.own.session call x e; way = way })
 
 one_call : SessionLaws → (s : State) (call : Call) (sent : List Meaning) → HasSerial call → Lives s sent → Lives (left_by s (called call)) sent
 one_call laws s call sent small (inl o) = inl (ap (λ (x : State). is_over x.phase) (unmoved s call error.Ended (refused s call o)) ∙ o)

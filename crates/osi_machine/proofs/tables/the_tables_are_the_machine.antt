@@ -50,8 +50,7 @@ got_at : (ls : List Line) (ws : List World) (r : ℕ) → AllTabled ls ws → At
 got_at [] [] r h = tt
 got_at (l ∷ ls) (w ∷ ws) zero h = h.0
 got_at (l ∷ ls) (w ∷ ws) (suc r) h = got_at ls ws r h.1
-got_at [] (w ∷ ws) r h = absurd h
-got_at (l ∷ ls) [] r h = absurd h
+got_at _ _ r h = absurd h
 
 pub line_there : (ls : List Line) (ws : List World) (r : ℕ) → AllTabled ls ws → At (connection_at r ls) (connection_at r ws)
 line_there ls ws zero h = tt
@@ -61,8 +60,7 @@ replaced_tabled : (ls : List Line) (ws : List World) (r : ℕ) (l : Line) (w : W
 replaced_tabled [] [] r l w h k = tt
 replaced_tabled (x ∷ ls) (v ∷ ws) zero l w h k = (h, k.1)
 replaced_tabled (x ∷ ls) (v ∷ ws) (suc r) l w h k = (k.0, replaced_tabled ls ws r l w h k.1)
-replaced_tabled [] (v ∷ ws) r l w h k = absurd k
-replaced_tabled (x ∷ ls) [] r l w h k = absurd k
+replaced_tabled _ _ r l w h k = absurd k
 
 with_tabled : (ls : List Line) (ws : List World) (r : ℕ) (l : Line) (w : World) → Tabled l w → AllTabled ls ws → AllTabled (with_connection r l ls) (with_connection r w ws)
 with_tabled ls ws zero l w h k = k
@@ -75,8 +73,7 @@ side_tabled Right l w h = turned_tabled l w h
 appended : (ls : List Line) (ws : List World) (l : Line) (w : World) → Tabled l w → AllTabled ls ws → AllTabled (ls ++ l ∷ []) (ws ++ w ∷ [])
 appended [] [] l w h k = (h, tt)
 appended (x ∷ ls) (v ∷ ws) l w h k = (k.0, appended ls ws l w h k.1)
-appended [] (v ∷ ws) l w h k = absurd k
-appended (x ∷ ls) [] l w h k = absurd k
+appended _ _ l w h k = absurd k
 
 -- ---- a side as it was left
 
@@ -90,8 +87,7 @@ transports_as : (ls : List Line) (ws : List World) → AllTabled ls ws → map t
 transports_as [] [] h = refl
 transports_as (l ∷ ls) (w ∷ ws) h =
     ap (λ (x : Line). x.own.transport ∷ map tables.transport_of ls) h.0.same ∙ ap (λ (ts : List Transport). w.own.transport ∷ ts) (transports_as ls ws h.1)
-transports_as [] (w ∷ ws) h = absurd h
-transports_as (l ∷ ls) [] h = absurd h
+transports_as _ _ h = absurd h
 
 asked_follows : (m : Machine) (ls : List Line) (o : Offer) (a : Option Refusal) → AllTabled ls m.worlds
     → Follows (tables.noted (connect_answered o a ∷ []) (tables.asked_in (tables_of m ls) o a)) (noted (connect_answered o a ∷ []) (asked_in m o a))
@@ -142,8 +138,7 @@ call_follows : SessionLaws → (terms : Terms) (m : Machine) (ls : List Line) (s
 call_follows laws terms m ls side r c small k g None None e h = record { lines = ls; all = k; same = refl }
 call_follows laws terms m ls side r c small k g (Some l) (Some w) e h =
     line_call laws m ls side r c small k (tables.seen_from side l) (seen_from side w) (side_tabled side l w h) (stage_from m.broken side w (stage_of terms m g r w e))
-call_follows laws terms m ls side r c small k g None (Some w) e h = absurd h
-call_follows laws terms m ls side r c small k g (Some l) None e h = absurd h
+call_follows laws terms m ls side r c small k g _ _ e h = absurd h
 
 -- ---- the end of a side
 
@@ -160,16 +155,14 @@ ended_tabled side keep r (l ∷ ls) (w ∷ ws) h =
           (subst (λ (x : Line). Tabled (tables.ends_there (keep r) x) (ends_there (keep r) (seen_from side w))) (sym k.same) (ends_tabled (keep r) (seen_from side w) k.first k.second k.seated)),
       ended_tabled side keep (r + 1) ls ws h.1,
     )
-ended_tabled side keep r [] (w ∷ ws) h = absurd h
-ended_tabled side keep r (l ∷ ls) [] h = absurd h
+ended_tabled side keep r _ _ h = absurd h
 
 shown_tabled : (side : Side) (r : ℕ) (ls : List Line) (ws : List World) → AllTabled ls ws → tables.shown_in_order side r ls ≡ shown_in_order side r ws
 shown_tabled side r [] [] h = refl
 shown_tabled side r (l ∷ ls) (w ∷ ws) h =
     let k = side_tabled side l w h.0 in
     search (arith, shown_as, shown_tabled side (r + 1) ls ws h.1)
-shown_tabled side r [] (w ∷ ws) h = absurd h
-shown_tabled side r (l ∷ ls) [] h = absurd h
+shown_tabled side r _ _ h = absurd h
 
 marked_follows : (side : Side) (e : Ending) (t : Tables) (m : Machine) → Follows t m → Follows (tables.marked_ended side e t) (marked_ended side e m)
 marked_follows Left e t m h = record { lines = h.lines; all = h.all; same = ap (tables.marked_ended Left e) h.same }
@@ -243,8 +236,7 @@ delivery_follows laws says terms m ls side r keep k g (Some l) (Some w) e h =
     let q = side_tabled side l w h in
     subst (λ (x : Line). Follows (tables.taken_in (tables_of m ls) side r keep x x.peer.channel) (taken_in m side r keep v v.peer.channel)) (sym q.same)
     (taken_follows laws says m ls side r keep v q.first q.second k (stage_from m.broken side w (stage_of terms m g r w e)) q.seated v.peer.channel refl)
-delivery_follows laws says terms m ls side r keep k g None (Some w) e h = absurd h
-delivery_follows laws says terms m ls side r keep k g (Some l) None e h = absurd h
+delivery_follows laws says terms m ls side r keep k g _ _ e h = absurd h
 
 -- ---- a break
 
@@ -254,43 +246,42 @@ cut_tabled left right r (l ∷ ls) (w ∷ ws) h = (
   search (arith, break_tabled),
   cut_tabled left right (r + 1) ls ws h.1,
 )
-cut_tabled left right r [] (w ∷ ws) h = absurd h
-cut_tabled left right r (l ∷ ls) [] h = absurd h
+cut_tabled left right r _ _ h = absurd h
 
 -- ---- a step, and a list of steps
 
 pub end_as : (side : Side) (m : Machine) (ls : List Line) → tables.end_of side (tables_of m ls) ≡ end_of side m
 end_as side m ls = grind arith
 
-step_of : SessionLaws → SaysItsUnit → (terms : Terms) (m : Machine) (ls : List Line) (s : Step) → HasNumber s → AllTabled ls m.worlds → IsGood terms Whole m → Follows (tables.step (tables_of m ls) s) (step m s)
-step_of laws says terms m ls (connects o) small k g =
-    subst (λ (a : Option Refusal). Follows (tables.noted (connect_answered o a ∷ []) (tables.asked_in (tables_of m ls) o a)) (step m (connects o)))
-    (sym (ap (λ (ts : List Transport). refusal_by (is_some m.left_end) m.known ts o) (transports_as ls m.worlds k)))
-    (asked_follows m ls o (refusal m o) k)
-step_of laws says terms m ls (calls side r c) small k g =
-    call_follows laws terms m ls side r c small k g (connection_at r ls) (connection_at r m.worlds) refl (line_there ls m.worlds r k)
-step_of laws says terms m ls (delivers side r keep) small k g =
-    subst (λ (e : Option Ending). Follows (if is_some e then tables_of m ls else tables.delivered_to (tables_of m ls) side r keep (tables.side_of side (connection_at r ls))) (step m (delivers side r keep)))
-    (sym (end_as side m ls))
-    (if_follows (is_some (end_of side m)) _ _ _ _ (record { lines = ls; all = k; same = refl })
-    (delivery_follows laws says terms m ls side r keep k g (connection_at r ls) (connection_at r m.worlds) refl (line_there ls m.worlds r k)))
-step_of laws says terms m ls (breaks left right) small k g = if_follows m.broken _ _ _ _ (record { lines = ls; all = k; same = refl })
-    (record { lines = tables.cut_channels left right 1 ls; all = cut_tabled left right 1 ls m.worlds k; same = refl })
-step_of laws says terms m ls (ends side e keep) small k g =
-    subst (λ (x : Option Ending). Follows (if is_some x || not (is_told e m.broken) then tables_of m ls else tables.after_end side e keep (tables_of m ls)) (step m (ends side e keep)))
-    (sym (end_as side m ls))
-    (if_follows (is_some (end_of side m) || not (is_told e m.broken)) _ _ _ _ (record { lines = ls; all = k; same = refl })
-    (end_follows side e keep (tables_of m ls) m (record { lines = ls; all = k; same = refl })))
+module _ (laws : SessionLaws) (says : SaysItsUnit) (terms : Terms) where
+  step_of : (m : Machine) (ls : List Line) (s : Step) → HasNumber s → AllTabled ls m.worlds → IsGood terms Whole m → Follows (tables.step (tables_of m ls) s) (step m s)
+  step_of m ls (connects o) small k g =
+      subst (λ (a : Option Refusal). Follows (tables.noted (connect_answered o a ∷ []) (tables.asked_in (tables_of m ls) o a)) (step m (connects o)))
+      (sym (ap (λ (ts : List Transport). refusal_by (is_some m.left_end) m.known ts o) (transports_as ls m.worlds k)))
+      (asked_follows m ls o (refusal m o) k)
+  step_of m ls (calls side r c) small k g =
+      call_follows laws terms m ls side r c small k g (connection_at r ls) (connection_at r m.worlds) refl (line_there ls m.worlds r k)
+  step_of m ls (delivers side r keep) small k g =
+      subst (λ (e : Option Ending). Follows (if is_some e then tables_of m ls else tables.delivered_to (tables_of m ls) side r keep (tables.side_of side (connection_at r ls))) (step m (delivers side r keep)))
+      (sym (end_as side m ls))
+      (if_follows (is_some (end_of side m)) _ _ _ _ (record { lines = ls; all = k; same = refl })
+      (delivery_follows laws says terms m ls side r keep k g (connection_at r ls) (connection_at r m.worlds) refl (line_there ls m.worlds r k)))
+  step_of m ls (breaks left right) small k g = if_follows m.broken _ _ _ _ (record { lines = ls; all = k; same = refl })
+      (record { lines = tables.cut_channels left right 1 ls; all = cut_tabled left right 1 ls m.worlds k; same = refl })
+  step_of m ls (ends side e keep) small k g =
+      subst (λ (x : Option Ending). Follows (if is_some x || not (is_told e m.broken) then tables_of m ls else tables.after_end side e keep (tables_of m ls)) (step m (ends side e keep)))
+      (sym (end_as side m ls))
+      (if_follows (is_some (end_of side m) || not (is_told e m.broken)) _ _ _ _ (record { lines = ls; all = k; same = refl })
+      (end_follows side e keep (tables_of m ls) m (record { lines = ls; all = k; same = refl })))
 
-step_follows : SessionLaws → SaysItsUnit → (terms : Terms) (t : Tables) (m : Machine) (s : Step) → HasNumber s → Follows t m → IsGood terms Whole m → Follows (tables.step t s) (step m s)
-step_follows laws says terms t m s small h g = subst (λ (x : Tables). Follows (tables.step x s) (step m s)) (sym h.same) (step_of laws says terms m h.lines s small h.all g)
+  step_follows : (t : Tables) (m : Machine) (s : Step) → HasNumber s → Follows t m → IsGood terms Whole m → Follows (tables.step t s) (step m s)
+  step_follows t m s small h g = subst (λ (x : Tables). Follows (tables.step x s) (step m s)) (sym h.same) (step_of m h.lines s small h.all g)
 
-run_follows : SessionLaws → SaysItsUnit → (terms : Terms) (t : Tables) (m : Machine) (steps : List Step) → AllByRecursion HasNumber steps → Follows t m → IsGood terms Whole m
-    → Follows (tables.run t steps) (run m steps)
-run_follows laws says terms t m [] small h g = h
-run_follows laws says terms t m (s ∷ steps) small h g =
-    run_follows laws says terms (tables.step t s) (step m s) steps small.1 (step_follows laws says terms t m s small.0 h g) (step_good terms Whole (whole_kept laws terms) m s small.0 g)
+  run_follows : (t : Tables) (m : Machine) (steps : List Step) → AllByRecursion HasNumber steps → Follows t m → IsGood terms Whole m → Follows (tables.run t steps) (run m steps)
+  run_follows t m [] small h g = h
+  run_follows t m (s ∷ steps) small h g =
+      run_follows (tables.step t s) (step m s) steps small.1 (step_follows t m s small.0 h g) (step_good terms Whole (whole_kept laws terms) m s small.0 g)
 
-pub all_follow : SessionLaws → SaysItsUnit → (terms : Terms) (steps : List Step) → AllByRecursion HasNumber steps → Follows (tables.run (tables.start terms) steps) (run (start terms) steps)
-all_follow laws says terms steps small =
-    run_follows laws says terms (tables.start terms) (start terms) steps small (record { lines = []; all = tt; same = refl }) (record { offers = []; lines = tt; fresh = λ d n o l. refl; none = λ d o. refl; agreed = refl; asked = refl })
+  pub all_follow : (steps : List Step) → AllByRecursion HasNumber steps → Follows (tables.run (tables.start terms) steps) (run (start terms) steps)
+  all_follow steps small =
+      run_follows (tables.start terms) (start terms) steps small (record { lines = []; all = tt; same = refl }) (record { offers = []; lines = tt; fresh = λ d n o l. refl; none = λ d o. refl; agreed = refl; asked = refl })

@@ -35,70 +35,68 @@ record Pointed (w : Core) (u : Meaning) (us : List Meaning) (r : State) : Type 0
   opened : is_opening r.phase ≡ false
   numbers : r.numbers ≡ point_taken w.own.session.numbers
 
--- no point is in flight in the other direction
-none_back : (w : Core) (u : Meaning) (us : List Meaning) (r : State) → Stands (at w (u ∷ us)) → Pointed w u us r → list_any (needs_token data_token) w.own.sent ≡ false
-none_back w u us r h k =
-    let units = (flush_open w.own.session (u ∷ us) (excluded is_ready is_opening refl w.own.session.phase k.ready) h.own.fits).units in
-    let two = half w.own.session.units (subst IsOfProfile units h.pair.profile) k.selected in
-    by (list_any (needs_token data_token) w.own.sent) (needs_token data_token u) (list_any (needs_token data_token) us) k.needs
-    (h.pair.one_way (ap (λ (v : FunctionalUnits). v.half_duplex) units ∙ two))
-  where
-    by : (a b c : Bool) → b ≡ true → (a && (b || c)) ≡ false → a ≡ false
-    by false b c e f = refl
-    by true true c e f = absurd (cc)
-    by true false c e f = absurd (cc)
+module _ (w : Core) (u : Meaning) (us : List Meaning) (r : State) where
+  -- no point is in flight in the other direction
+  none_back : Stands (at w (u ∷ us)) → Pointed w u us r → list_any (needs_token data_token) w.own.sent ≡ false
+  none_back h k =
+      let units = (flush_open w.own.session (u ∷ us) (excluded is_ready is_opening refl w.own.session.phase k.ready) h.own.fits).units in
+      let two = half w.own.session.units (subst IsOfProfile units h.pair.profile) k.selected in
+      by (list_any (needs_token data_token) w.own.sent) (needs_token data_token u) (list_any (needs_token data_token) us) k.needs
+      (h.pair.one_way (ap (λ (v : FunctionalUnits). v.half_duplex) units ∙ two))
+    where
+      by : (a b c : Bool) → b ≡ true → (a && (b || c)) ≡ false → a ≡ false
+      by false b c e f = refl
+      by true true c e f = absurd (cc)
+      by true false c e f = absurd (cc)
 
--- the other side does not answer
-other_sends : (w : Core) (u : Meaning) (us : List Meaning) (r : State) → Stands (at w (u ∷ us)) → Pointed w u us r → w.peer.session.numbers.answers ≡ false
-unfolding point_taken
-other_sends w u us r h k = false_from_ne_true w.peer.session.numbers.answers (λ a.
-    let no = h.peer_counts.flag a in
-    let turned = heard_turned r us (record { phase = k.opened; answers = ap (λ (v : Numbers). v.answers) k.numbers }) (subst (λ (q : State). AllFit q us) k.next h.own.fits.1) in
-    let yes = ap (λ (q : State). q.numbers.answers) (heard_is w.own.session r u us k.stays k.next) ∙ turned.answers in
-    cc)
+  -- the other side does not answer
+  other_sends : Stands (at w (u ∷ us)) → Pointed w u us r → w.peer.session.numbers.answers ≡ false
+  unfolding point_taken
+  other_sends h k = false_from_ne_true w.peer.session.numbers.answers (λ a.
+      let no = h.peer_counts.flag a in
+      let turned = heard_turned r us (record { phase = k.opened; answers = ap (λ (v : Numbers). v.answers) k.numbers }) (subst (λ (q : State). AllFit q us) k.next h.own.fits.1) in
+      let yes = ap (λ (q : State). q.numbers.answers) (heard_is w.own.session r u us k.stays k.next) ∙ turned.answers in
+      cc)
 
-listens : (w : Core) (u : Meaning) (us : List Meaning) (r : State) → Pointed w u us r → is_restarting w.own.session.phase ≡ false
-listens w u us r k = excluded is_ready is_restarting refl w.own.session.phase k.ready
+  listens : Pointed w u us r → is_restarting w.own.session.phase ≡ false
+  listens k = excluded is_ready is_restarting refl w.own.session.phase k.ready
 
--- nothing is confirmed that this side has not seen
-none_above : (w : Core) (u : Meaning) (us : List Meaning) (r : State) → Stands (at w (u ∷ us)) → Pointed w u us r
-    → (heard w.peer.session w.own.sent).numbers.confirmed ≤ w.own.session.numbers.next
-none_above w u us r h k = by (nat_lt w.own.session.numbers.next (heard w.peer.session w.own.sent).numbers.confirmed)
-    (ltb-true w.own.session.numbers.next (heard w.peer.session w.own.sent).numbers.confirmed)
-    (ltb-false w.own.session.numbers.next (heard w.peer.session w.own.sent).numbers.confirmed)
-  where
-    owed : is_restart_due (flush w.peer.session w.own.sent).phase ≡ false
-    owed = none_owed w.owner w.own (rest_of w.peer (u ∷ us)) h.own (listens w u us r k)
+  -- nothing is confirmed that this side has not seen
+  none_above : Stands (at w (u ∷ us)) → Pointed w u us r → (heard w.peer.session w.own.sent).numbers.confirmed ≤ w.own.session.numbers.next
+  none_above h k = by (nat_lt w.own.session.numbers.next (heard w.peer.session w.own.sent).numbers.confirmed)
+      (ltb-true w.own.session.numbers.next (heard w.peer.session w.own.sent).numbers.confirmed)
+      (ltb-false w.own.session.numbers.next (heard w.peer.session w.own.sent).numbers.confirmed)
+    where
+      owed : is_restart_due (flush w.peer.session w.own.sent).phase ≡ false
+      owed = none_owed w.owner w.own (rest_of w.peer (u ∷ us)) h.own (listens k)
 
-    base : (heard w.peer.session w.own.sent).base ≡ w.own.session.base
-    base = ap (λ (q : State). q.base) (heard_flush w.peer.session w.own.sent h.peer.fits owed) ∙ sym h.own.meeting.base
-        ∙ (flush_open w.own.session (u ∷ us) (excluded is_ready is_opening refl w.own.session.phase k.ready) h.own.fits).base
+      base : (heard w.peer.session w.own.sent).base ≡ w.own.session.base
+      base = ap (λ (q : State). q.base) (heard_flush w.peer.session w.own.sent h.peer.fits owed) ∙ sym h.own.meeting.base
+          ∙ (flush_open w.own.session (u ∷ us) (excluded is_ready is_opening refl w.own.session.phase k.ready) h.own.fits).base
 
-    heeds : hears (heard w.own.session (u ∷ us)).phase ≡ true
-    heeds = kept_heard (λ (q : State). hears q.phase ≡ true) (λ q m p g. next_hears q m p) w.own.session (u ∷ us) (ap not (listens w u us r k)) h.own.fits
+      heeds : hears (heard w.own.session (u ∷ us)).phase ≡ true
+      heeds = kept_heard (λ (q : State). hears q.phase ≡ true) (λ q m p g. next_hears q m p) w.own.session (u ∷ us) (ap not (listens k)) h.own.fits
 
-    from : (heard w.peer.session w.own.sent).base ≤ w.own.session.numbers.next
-    from = subst (λ (b : ℕ). b ≤ w.own.session.numbers.next) (sym base)
-        (let a = h.consistent.own.sound.ordered.confirmed_from in let b = h.consistent.own.sound.ordered.confirmed_to in omega arith)
+      from : (heard w.peer.session w.own.sent).base ≤ w.own.session.numbers.next
+      from = subst (λ (b : ℕ). b ≤ w.own.session.numbers.next) (sym base)
+          (let a = h.consistent.own.sound.ordered.confirmed_from in let b = h.consistent.own.sound.ordered.confirmed_to in omega arith)
 
-    by : (b : Bool) → (b ≡ true → w.own.session.numbers.next < (heard w.peer.session w.own.sent).numbers.confirmed)
-        → (b ≡ false → (heard w.peer.session w.own.sent).numbers.confirmed ≤ w.own.session.numbers.next)
-        → (heard w.peer.session w.own.sent).numbers.confirmed ≤ w.own.session.numbers.next
-    by true f g = absurd (let n = h.peer_counts.below heeds w.own.session.numbers.next from (f refl) in omega arith)
-    by false f g = g refl
+      by : (b : Bool) → (b ≡ true → w.own.session.numbers.next < (heard w.peer.session w.own.sent).numbers.confirmed)
+          → (b ≡ false → (heard w.peer.session w.own.sent).numbers.confirmed ≤ w.own.session.numbers.next)
+          → (heard w.peer.session w.own.sent).numbers.confirmed ≤ w.own.session.numbers.next
+      by true f g = absurd (let n = h.peer_counts.below heeds w.own.session.numbers.next from (f refl) in omega arith)
+      by false f g = g refl
 
-point_flag : (w : Core) (u : Meaning) (us : List Meaning) (r : State) → Stands (at w (u ∷ us)) → Pointed w u us r → (heard w.peer.session w.own.sent).numbers.answers ≡ false
-point_flag w u us r h k = heard_sends w.peer.session w.own.sent (none_back w u us r h k) (other_sends w u us r h k)
+  point_flag : Stands (at w (u ∷ us)) → Pointed w u us r → (heard w.peer.session w.own.sent).numbers.answers ≡ false
+  point_flag h k = heard_sends w.peer.session w.own.sent (none_back h k) (other_sends h k)
 
-point_below : (w : Core) (u : Meaning) (us : List Meaning) (r : State) → Stands (at w (u ∷ us)) → Pointed w u us r → hears (heard w.own.session (u ∷ us)).phase ≡ true
-    → (n : ℕ) → (heard w.peer.session w.own.sent).base ≤ n → n < (heard w.peer.session w.own.sent).numbers.confirmed → n < r.numbers.next
-unfolding point_taken
-point_below w u us r h k l n from to = subst (λ (v : Numbers). n < v.next) (sym k.numbers) (let a = h.peer_counts.below l n from to in omega arith)
+  point_below : Stands (at w (u ∷ us)) → Pointed w u us r → hears (heard w.own.session (u ∷ us)).phase ≡ true → (n : ℕ) → (heard w.peer.session w.own.sent).base ≤ n → n < (heard w.peer.session w.own.sent).numbers.confirmed → n < r.numbers.next
+  unfolding point_taken
+  point_below h k l n from to = subst (λ (v : Numbers). n < v.next) (sym k.numbers) (let a = h.peer_counts.below l n from to in omega arith)
 
-point_reach : (w : Core) (u : Meaning) (us : List Meaning) (r : State) → Stands (at w (u ∷ us)) → Pointed w u us r
-    → lower r.numbers.next (heard w.peer.session w.own.sent).numbers.confirmed ≤ r.numbers.confirmed
-unfolding point_taken
-point_reach w u us r h k = search (arith, reach_point, none_above)
+  point_reach : Stands (at w (u ∷ us)) → Pointed w u us r → lower r.numbers.next (heard w.peer.session w.own.sent).numbers.confirmed ≤ r.numbers.confirmed
+  unfolding point_taken
+  point_reach h k = search (arith, reach_point, none_above)
 
 -- ---- the two kinds of points
 

@@ -30,47 +30,43 @@ record Comes (w : Core) (k : ResyncType) (n : ℕ) (t : TokenSetting) (o : List 
   all : Stands (at w (RS k n t o ∷ us))
   wins : stands w.own.session n ≡ true
 
-fit_first : (w : Core) (k : ResyncType) (n : ℕ) (t : TokenSetting) (o : List ℕ) (us : List Meaning) → Comes w k n t o us → Fits w.own.session (RS k n t o)
-fit_first w k n t o us c = search arith
+module _ (w : Core) (k : ResyncType) (n : ℕ) (t : TokenSetting) (o : List ℕ) (us : List Meaning) (c : Comes w k n t o us) where
+  fit_first : Fits w.own.session (RS k n t o)
+  fit_first = search arith
 
--- nothing comes after it
-none_behind : (w : Core) (k : ResyncType) (n : ℕ) (t : TokenSetting) (o : List ℕ) (us : List Meaning) → Comes w k n t o us → AllEmpty us
-none_behind w k n t o us c = grind (arith, restart_due, all_empty, none_due)
+  -- nothing comes after it
+  none_behind : AllEmpty us
+  none_behind = grind (arith, restart_due, all_empty, none_due)
 
-end_is : (w : Core) (k : ResyncType) (n : ℕ) (t : TokenSetting) (o : List ℕ) (us : List Meaning) → Comes w k n t o us
-    → flush w.own.session (RS k n t o ∷ us) ≡ answering w.own.session n t
-end_is w k n t o us c = empty_end (next w.own.session (RS k n t o)) us (none_behind w k n t o us c) ∙ restart_next w.own.session k n t o ∙ stood w.own.session n t c.wins
+  end_is : flush w.own.session (RS k n t o ∷ us) ≡ answering w.own.session n t
+  end_is = empty_end (next w.own.session (RS k n t o)) us none_behind ∙ restart_next w.own.session k n t o ∙ stood w.own.session n t c.wins
 
-heard_is : (w : Core) (k : ResyncType) (n : ℕ) (t : TokenSetting) (o : List ℕ) (us : List Meaning) → Comes w k n t o us
-    → heard w.own.session (RS k n t o ∷ us) ≡ w.own.session
-heard_is w k n t o us c = ap (λ (b : Bool). if b then w.own.session else heard (next w.own.session (RS k n t o)) us) c.wins
+  heard_is : heard w.own.session (RS k n t o ∷ us) ≡ w.own.session
+  heard_is = ap (λ (b : Bool). if b then w.own.session else heard (next w.own.session (RS k n t o)) us) c.wins
 
-other_waits : (w : Core) (k : ResyncType) (n : ℕ) (t : TokenSetting) (o : List ℕ) (us : List Meaning) → Comes w k n t o us
-    → is_restarting (flush w.peer.session w.own.sent).phase ≡ true
-other_waits w k n t o us c = search (arith, end_is, implied_two, and_from)
+  other_waits : is_restarting (flush w.peer.session w.own.sent).phase ≡ true
+  other_waits = search (arith, end_is, implied_two, and_from)
 
-other_end : (w : Core) (k : ResyncType) (n : ℕ) (t : TokenSetting) (o : List ℕ) (us : List Meaning) → Comes w k n t o us → flush w.peer.session w.own.sent ≡ w.peer.session
-other_end w k n t o us c = deaf_end w.peer.session w.own.sent (other_waits w k n t o us c) c.all.peer.fits
+  other_end : flush w.peer.session w.own.sent ≡ w.peer.session
+  other_end = deaf_end w.peer.session w.own.sent other_waits c.all.peer.fits
 
-asking_now : (w : Core) (k : ResyncType) (n : ℕ) (t : TokenSetting) (o : List ℕ) (us : List Meaning) → Comes w k n t o us → is_restarting w.peer.session.phase ≡ true
-asking_now w k n t o us c = ap (λ (r : State). is_restarting r.phase) (sym (other_end w k n t o us c)) ∙ other_waits w k n t o us c
+  asking_now : is_restarting w.peer.session.phase ≡ true
+  asking_now = ap (λ (r : State). is_restarting r.phase) (sym other_end) ∙ other_waits
 
-heard_asking : (w : Core) (k : ResyncType) (n : ℕ) (t : TokenSetting) (o : List ℕ) (us : List Meaning) → Comes w k n t o us
-    → is_restarting (heard w.peer.session w.own.sent).phase ≡ true
-heard_asking w k n t o us c = ap (λ (r : State). is_restarting r.phase) (deaf_heard w.peer.session w.own.sent (other_waits w k n t o us c) c.all.peer.fits) ∙ asking_now w k n t o us c
+  heard_asking : is_restarting (heard w.peer.session w.own.sent).phase ≡ true
+  heard_asking = ap (λ (r : State). is_restarting r.phase) (deaf_heard w.peer.session w.own.sent other_waits c.all.peer.fits) ∙ asking_now
 
--- ---- its number
+  -- ---- its number
 
-same_number : (w : Core) (k : ResyncType) (n : ℕ) (t : TokenSetting) (o : List ℕ) (us : List Meaning) → Comes w k n t o us → w.peer.session.numbers.next ≡ n
-unfolding restarted_at
-same_number w k n t o us c = grind (arith, other_end, other_waits, end_is)
+  same_number : w.peer.session.numbers.next ≡ n
+  unfolding restarted_at
+  same_number = grind (arith, other_end, other_waits, end_is)
 
-same_base : (w : Core) (k : ResyncType) (n : ℕ) (t : TokenSetting) (o : List ℕ) (us : List Meaning) → Comes w k n t o us → w.peer.session.base ≡ w.own.session.base
-same_base w k n t o us c =
-    ap (λ (r : State). r.base) (sym (other_end w k n t o us c)) ∙ c.all.peer.meeting.base ∙ ap (λ (r : State). r.base) (end_is w k n t o us c)
+  same_base : w.peer.session.base ≡ w.own.session.base
+  same_base = ap (λ (r : State). r.base) (sym other_end) ∙ c.all.peer.meeting.base ∙ ap (λ (r : State). r.base) end_is
 
-top : (w : Core) (k : ResyncType) (n : ℕ) (t : TokenSetting) (o : List ℕ) (us : List Meaning) → Comes w k n t o us → n ≤ w.own.session.numbers.next
-top w k n t o us c = grind (arith, fit_first, restart_kept, and_parts, stood_below)
+  top : n ≤ w.own.session.numbers.next
+  top = grind (arith, fit_first, restart_kept, and_parts, stood_below)
 
 -- what it leaves of what was seen is what it leaves of the history
 cut_twice : (base n m : ℕ) (h : List Item) → n ≤ m → cutat base (cutat base h m) n ≡ cutat base h n
@@ -97,73 +93,69 @@ pool_theirs p = grind arith
 taker : (w : Core) (n : ℕ) (t : TokenSetting) → Party
 taker w n t = party_after w.own (answering w.own.session n t) (cutat w.own.session.base w.own.view n) w.own.got
 
-was_met : (w : Core) (k : ResyncType) (n : ℕ) (t : TokenSetting) (o : List ℕ) (us : List Meaning) → Comes w k n t o us
-    → Meeting w.owner w.own.session (answering w.own.session n t) (flush w.peer.session w.own.sent) w.own.session w.peer.session
-was_met w k n t o us c = search (arith, end_is, heard_is)
+module _ (w : Core) (k : ResyncType) (n : ℕ) (t : TokenSetting) (o : List ℕ) (us : List Meaning) (c : Comes w k n t o us) where
+  was_met : Meeting w.owner w.own.session (answering w.own.session n t) (flush w.peer.session w.own.sent) w.own.session w.peer.session
+  was_met = search (arith, end_is, heard_is)
 
-was_met_there : (w : Core) (k : ResyncType) (n : ℕ) (t : TokenSetting) (o : List ℕ) (us : List Meaning) → Comes w k n t o us
-    → Meeting (turned_owners w.owner) w.peer.session (flush w.peer.session w.own.sent) (answering w.own.session n t) (heard w.peer.session w.own.sent) w.own.session
-was_met_there w k n t o us c = search (arith, end_is)
+  was_met_there : Meeting (turned_owners w.owner) w.peer.session (flush w.peer.session w.own.sent) (answering w.own.session n t) (heard w.peer.session w.own.sent) w.own.session
+  was_met_there = search (arith, end_is)
 
-taker_half : (w : Core) (k : ResyncType) (n : ℕ) (t : TokenSetting) (o : List ℕ) (us : List Meaning) → Comes w k n t o us → Half (pooled w.owner) (taker w n t) (rest_of w.peer us)
-unfolding taker
-taker_half w k n t o us c = search (arith, was_met, none_behind, empty_fits, empty_end, empty_heard, none_held, pool_own)
+  taker_half : Half (pooled w.owner) (taker w n t) (rest_of w.peer us)
+  unfolding taker
+  taker_half = search (arith, was_met, none_behind, empty_fits, empty_end, empty_heard, none_held, pool_own)
 
-giver_half : (w : Core) (k : ResyncType) (n : ℕ) (t : TokenSetting) (o : List ℕ) (us : List Meaning) → Comes w k n t o us
-    → Half (turned_owners (pooled w.owner)) (rest_of w.peer us) (taker w n t)
-unfolding taker
-giver_half w k n t o us c = search (arith, was_met_there, none_behind, asking_now, heard_asking, excluded, empty_end, none_held, pool_theirs)
+  giver_half : Half (turned_owners (pooled w.owner)) (rest_of w.peer us) (taker w n t)
+  unfolding taker
+  giver_half = search (arith, was_met_there, none_behind, asking_now, heard_asking, excluded, empty_end, none_held, pool_theirs)
 
 -- ---- what was seen
 
 none_left : (k : ℕ) (h : List Item) → h ≡ [] → upto k h ≡ []
 none_left k h e = grind arith
 
-taker_views : (w : Core) (k : ResyncType) (n : ℕ) (t : TokenSetting) (o : List ℕ) (us : List Meaning) → Comes w k n t o us
-    → Views (cutat w.own.session.base w.history n) (taker w n t) (rest_of w.peer us)
-unfolding taker
-taker_views w k n t o us c = search (arith, none_behind, empty_view, same_cut, empty_heard, heard_asking, same_base, same_number, end_is, empty_end, none_left)
+module _ (w : Core) (k : ResyncType) (n : ℕ) (t : TokenSetting) (o : List ℕ) (us : List Meaning) (c : Comes w k n t o us) where
+  taker_views : Views (cutat w.own.session.base w.history n) (taker w n t) (rest_of w.peer us)
+  unfolding taker
+  taker_views = search (arith, none_behind, empty_view, same_cut, empty_heard, heard_asking, same_base, same_number, end_is, empty_end, none_left)
 
-giver_views : (w : Core) (k : ResyncType) (n : ℕ) (t : TokenSetting) (o : List ℕ) (us : List Meaning) → Comes w k n t o us
-    → Views (cutat w.own.session.base w.history n) (rest_of w.peer us) (taker w n t)
-unfolding taker
-giver_views w k n t o us c = search (arith, not_both, heard_asking, same_number, cut_twice, same_base, excluded, asking_now, none_left)
+  giver_views : Views (cutat w.own.session.base w.history n) (rest_of w.peer us) (taker w n t)
+  unfolding taker
+  giver_views = search (arith, not_both, heard_asking, same_number, cut_twice, same_base, excluded, asking_now, none_left)
 
--- ---- the numbers
+  -- ---- the numbers
 
-taker_counts : (w : Core) (k : ResyncType) (n : ℕ) (t : TokenSetting) (o : List ℕ) (us : List Meaning) → Comes w k n t o us → Counts (taker w n t) (rest_of w.peer us)
-unfolding taker restarted_at
-taker_counts w k n t o us c =
-    let old = subst (λ (e : State). Counting w.own.session e (heard w.peer.session w.own.sent) w.peer.session) (heard_is w k n t o us c) c.all.own_counts in
-    subst (λ (e : State). Counting (answering w.own.session n t) e (heard w.peer.session w.own.sent) w.peer.session)
-    (sym (empty_heard (answering w.own.session n t) us (none_behind w k n t o us c))) (record {
-      flag = old.flag;
-      below = λ l. absurd (not_both _ l (heard_asking w k n t o us c));
-      reach = λ f. lower_less w.peer.session.numbers.next _ w.own.session.numbers.confirmed w.peer.session.numbers.confirmed
-          (lower_second n w.own.session.numbers.confirmed) (old.reach f);
-    })
+  taker_counts : Counts (taker w n t) (rest_of w.peer us)
+  unfolding taker restarted_at
+  taker_counts =
+      let old = subst (λ (e : State). Counting w.own.session e (heard w.peer.session w.own.sent) w.peer.session) (heard_is w k n t o us c) c.all.own_counts in
+      subst (λ (e : State). Counting (answering w.own.session n t) e (heard w.peer.session w.own.sent) w.peer.session)
+      (sym (empty_heard (answering w.own.session n t) us (none_behind w k n t o us c))) (record {
+        flag = old.flag;
+        below = λ l. absurd (not_both _ l (heard_asking w k n t o us c));
+        reach = λ f. lower_less w.peer.session.numbers.next _ w.own.session.numbers.confirmed w.peer.session.numbers.confirmed
+            (lower_second n w.own.session.numbers.confirmed) (old.reach f);
+      })
 
-giver_counts : (w : Core) (k : ResyncType) (n : ℕ) (t : TokenSetting) (o : List ℕ) (us : List Meaning) → Comes w k n t o us → Counts (rest_of w.peer us) (taker w n t)
-unfolding taker restarted_at
-giver_counts w k n t o us c =
-    let old = subst (λ (e : State). Counting w.peer.session (heard w.peer.session w.own.sent) e w.own.session) (heard_is w k n t o us c) c.all.peer_counts in
-    subst (λ (e : State). Counting w.peer.session (heard w.peer.session w.own.sent) e (answering w.own.session n t))
-    (sym (empty_heard (answering w.own.session n t) us (none_behind w k n t o us c))) (record {
-      flag = old.flag;
-      below = λ l a from to.
-          let high = subst (λ (v : State). a < v.numbers.confirmed) (deaf_heard w.peer.session w.own.sent (other_waits w k n t o us c) c.all.peer.fits) to in
-          let order = c.all.consistent.peer.sound.ordered.confirmed_to in
-          let same = same_number w k n t o us c in
-          omega arith;
-      reach = λ f. lower_both n w.own.session.numbers.next _ w.own.session.numbers.confirmed (top w k n t o us c) (old.reach f);
-    })
+  giver_counts : Counts (rest_of w.peer us) (taker w n t)
+  unfolding taker restarted_at
+  giver_counts =
+      let old = subst (λ (e : State). Counting w.peer.session (heard w.peer.session w.own.sent) e w.own.session) (heard_is w k n t o us c) c.all.peer_counts in
+      subst (λ (e : State). Counting w.peer.session (heard w.peer.session w.own.sent) e (answering w.own.session n t))
+      (sym (empty_heard (answering w.own.session n t) us (none_behind w k n t o us c))) (record {
+        flag = old.flag;
+        below = λ l a from to.
+            let high = subst (λ (v : State). a < v.numbers.confirmed) (deaf_heard w.peer.session w.own.sent (other_waits w k n t o us c) c.all.peer.fits) to in
+            let order = c.all.consistent.peer.sound.ordered.confirmed_to in
+            let same = same_number w k n t o us c in
+            omega arith;
+        reach = λ f. lower_both n w.own.session.numbers.next _ w.own.session.numbers.confirmed (top w k n t o us c) (old.reach f);
+      })
 
--- ---- both at once
+  -- ---- both at once
 
-pair_after : (w : Core) (k : ResyncType) (n : ℕ) (t : TokenSetting) (o : List ℕ) (us : List Meaning) → Comes w k n t o us
-    → Pair (cutat w.own.session.base w.history n) (taker w n t) (rest_of w.peer us)
-unfolding taker
-pair_after w k n t o us c = search (arith, end_is, empty_end, none_behind, numbered_cut, one_less)
+  pair_after : Pair (cutat w.own.session.base w.history n) (taker w n t) (rest_of w.peer us)
+  unfolding taker
+  pair_after = search (arith, end_is, empty_end, none_behind, numbered_cut, one_less)
 
 -- ---- all that is true of both sides
 

@@ -45,30 +45,26 @@ pub record Gains (w : Core) (u : Meaning) (us : List Meaning) (r : State) (k : T
 to_own_is : (p : Owner) → is_to_own p ≡ true → p ≡ ToOwn
 to_own_is p h = grind arith
 
-rest : (w : Core) (u : Meaning) (us : List Meaning) (r : State) (k : Tokens) → Stands (at w (u ∷ us)) → Gains w u us r k → AllFit r us
-rest w u us r k h g = search arith
+module _ (w : Core) (u : Meaning) (us : List Meaning) (r : State) (k : Tokens) where
+  rest : Stands (at w (u ∷ us)) → Gains w u us r k → AllFit r us
+  rest h g = search arith
 
--- it will be held
-will_hold : (w : Core) (u : Meaning) (us : List Meaning) (r : State) (k : Tokens) (t : Token) → Stands (at w (u ∷ us)) → Gains w u us r k → has k t ≡ true
-    → Holds t (heard w.own.session (u ∷ us))
-will_hold w u us r k t h g e = search (arith, heard_is, heard_holds, rest)
+  -- it will be held
+  will_hold : (t : Token) → Stands (at w (u ∷ us)) → Gains w u us r k → has k t ≡ true → Holds t (heard w.own.session (u ∷ us))
+  will_hold t h g e = search (arith, heard_is, heard_holds, rest)
 
--- it was in flight
-was_to_own : (w : Core) (u : Meaning) (us : List Meaning) (r : State) (k : Tokens) (t : Token) → Stands (at w (u ∷ us)) → Gains w u us r k → has k t ≡ true
-    → w.owner t ≡ ToOwn
-was_to_own w u us r k t h g e = search (arith, will_hold, to_own_is)
+  -- it was in flight
+  was_to_own : (t : Token) → Stands (at w (u ∷ us)) → Gains w u us r k → has k t ≡ true → w.owner t ≡ ToOwn
+  was_to_own t h g e = search (arith, will_hold, to_own_is)
 
-own_tokens : (w : Core) (u : Meaning) (us : List Meaning) (r : State) (k : Tokens) → Stands (at w (u ∷ us)) → Gains w u us r k
-    → Tokens_of (passed_to Own k w.owner) r (flush w.own.session (u ∷ us)) (heard w.own.session (u ∷ us))
-own_tokens w u us r k h g = search (arith, will_hold, flush_is, flush_open, excluded, rest)
+  own_tokens : Stands (at w (u ∷ us)) → Gains w u us r k → Tokens_of (passed_to Own k w.owner) r (flush w.own.session (u ∷ us)) (heard w.own.session (u ∷ us))
+  own_tokens h g = search (arith, will_hold, flush_is, flush_open, excluded, rest)
 
-other_tokens : (w : Core) (u : Meaning) (us : List Meaning) (r : State) (k : Tokens) → Stands (at w (u ∷ us)) → Gains w u us r k
-    → Tokens_of (turned_owners (passed_to Own k w.owner)) w.peer.session (flush w.peer.session w.own.sent) (heard w.peer.session w.own.sent)
-other_tokens w u us r k h g = search (arith, was_to_own, flush_is, flush_open, excluded, rest)
+  other_tokens : Stands (at w (u ∷ us)) → Gains w u us r k → Tokens_of (turned_owners (passed_to Own k w.owner)) w.peer.session (flush w.peer.session w.own.sent) (heard w.peer.session w.own.sent)
+  other_tokens h g = search (arith, was_to_own, flush_is, flush_open, excluded, rest)
 
-pub gains_moves : (w : Core) (u : Meaning) (us : List Meaning) (r : State) (k : Tokens) → Stands (at w (u ∷ us)) → Gains w u us r k
-    → Moves w u us r w.own.view w.own.got (passed_to Own k w.owner)
-gains_moves w u us r k h g = search (arith, fit_acts, alive, none_got, if_second, own_tokens, other_tokens, no_cut, excluded, rest, heard_is, same_stream)
+  pub gains_moves : Stands (at w (u ∷ us)) → Gains w u us r k → Moves w u us r w.own.view w.own.got (passed_to Own k w.owner)
+  gains_moves h g = search (arith, fit_acts, alive, none_got, if_second, own_tokens, other_tokens, no_cut, excluded, rest, heard_is, same_stream)
 
 pub gains_stand : SessionLaws → (w : Core) (u : Meaning) (us : List Meaning) (r : State) (k : Tokens) → w.peer.sent ≡ u ∷ us → Stands w
     → (Stands (at w (u ∷ us)) → Gains w u us r k) → Stands (taking w (u ∷ us))
@@ -149,25 +145,24 @@ accept_taken laws w v u n sides z o us e d s =
 abbrev called : State → ℕ → Option ℕ → TokenSetting → TsduMaximumSize → State
 called s u n x z = record s { phase = Answering; units = functional_units u; wishes = x; proposed = unwrap_or n 0; sizes = z }
 
--- a CN that can't be accepted would end the called side, and two sides in this invariant do not meet so
-pub acceptable : (w : Core) (v : Bool) (u : ℕ) (n : Option ℕ) (x : TokenSetting) (from to : Option (List ℕ)) (z : TsduMaximumSize) (o : List ℕ) (us : List Meaning)
-    → drops w.own.session (CN v u n x from to z o) ≡ false → Stands (at w (CN v u n x from to z o ∷ us)) → is_acceptable v u z ≡ true
-acceptable w v u n x from to z o us d h = by_test (is_acceptable v u z)
-    (λ e. e)
-    (λ e. absurd (not_both _
-    (implied_two matched (λ p q. not (is_over p)) refl (flush w.own.session ((CN v u n x from to z o) ∷ us)).phase (flush w.peer.session w.own.sent).phase h.own.meeting.meets)
-    (over_kept (next w.own.session (CN v u n x from to z o)) us (ended e) f.1)))
-  where
-    f : AllFit w.own.session ((CN v u n x from to z o) ∷ us)
-    f = h.own.fits
+module _ (w : Core) (v : Bool) (u : ℕ) (n : Option ℕ) (x : TokenSetting) (from to : Option (List ℕ)) (z : TsduMaximumSize) (o : List ℕ) (us : List Meaning) (d : drops w.own.session (CN v u n x from to z o) ≡ false) (h : Stands (at w (CN v u n x from to z o ∷ us))) where
+  -- a CN that can't be accepted would end the called side, and two sides in this invariant do not meet so
+  pub acceptable : is_acceptable v u z ≡ true
+  acceptable = by_test (is_acceptable v u z)
+      (λ e. e)
+      (λ e. absurd (not_both _
+      (implied_two matched (λ p q. not (is_over p)) refl (flush w.own.session ((CN v u n x from to z o) ∷ us)).phase (flush w.peer.session w.own.sent).phase h.own.meeting.meets)
+      (over_kept (next w.own.session (CN v u n x from to z o)) us (ended e) f.1)))
+    where
+      f : AllFit w.own.session ((CN v u n x from to z o) ∷ us)
+      f = h.own.fits
 
-    ended : is_acceptable v u z ≡ false → is_over (next w.own.session (CN v u n x from to z o)).phase ≡ true
-    ended e = ap (λ (r : State). is_over r.phase)
-        (next_acted w.own.session (CN v u n x from to z o) d ∙ ap (λ (b : Bool). if b then called w.own.session u n x z else without_tokens Ended w.own.session) e)
+      ended : is_acceptable v u z ≡ false → is_over (next w.own.session (CN v u n x from to z o)).phase ≡ true
+      ended e = ap (λ (r : State). is_over r.phase)
+          (next_acted w.own.session (CN v u n x from to z o) d ∙ ap (λ (b : Bool). if b then called w.own.session u n x z else without_tokens Ended w.own.session) e)
 
-connect_calm : (w : Core) (v : Bool) (u : ℕ) (n : Option ℕ) (x : TokenSetting) (from to : Option (List ℕ)) (z : TsduMaximumSize) (o : List ℕ) (us : List Meaning)
-    → drops w.own.session (CN v u n x from to z o) ≡ false → Stands (at w (CN v u n x from to z o ∷ us)) → Calm w (CN v u n x from to z o) us (called w.own.session u n x z)
-connect_calm w v u n x from to z o us d h = search (arith, next_acted, acceptable)
+  connect_calm : Calm w (CN v u n x from to z o) us (called w.own.session u n x z)
+  connect_calm = search (arith, next_acted, acceptable)
 
 pub connect_taken : SessionLaws → (w : Core) (v : Bool) (u : ℕ) (n : Option ℕ) (x : TokenSetting) (from to : Option (List ℕ)) (z : TsduMaximumSize) (o : List ℕ) (us : List Meaning)
     → w.peer.sent ≡ CN v u n x from to z o ∷ us → drops w.own.session (CN v u n x from to z o) ≡ false → Stands w → Stands (taking w (CN v u n x from to z o ∷ us))

@@ -80,39 +80,34 @@ record Takes (broken : Bool) (w : World) (c : Core) (u : Meaning) (us : List Mea
   lives : stopped w.own ≡ false
   channel : w.peer.channel ≡ unit u ∷ ms
 
-fits_first : (broken : Bool) (w : World) (c : Core) (u : Meaning) (us : List Meaning) (ms : List Message) → Takes broken w c u us ms → Fits c.own.session u
-fits_first broken w c u us ms k = search arith
+module _ (broken : Bool) (w : World) (c : Core) (u : Meaning) (us : List Meaning) (ms : List Message) (k : Takes broken w c u us ms) where
+  fits_first : Fits c.own.session u
+  fits_first = search arith
 
-lives_then : (broken : Bool) (w : World) (c : Core) (u : Meaning) (us : List Meaning) (ms : List Message) → Takes broken w c u us ms
-    → is_over (respond_unit c.own.session u).next.phase ≡ false
-lives_then broken w c u us ms k = alive (taking c (u ∷ us)).owner (taking c (u ∷ us)).own (taking c (u ∷ us)).peer k.then_all.own
+  lives_then : is_over (respond_unit c.own.session u).next.phase ≡ false
+  lives_then = alive (taking c (u ∷ us)).owner (taking c (u ∷ us)).own (taking c (u ∷ us)).peer k.then_all.own
 
-no_reply : (broken : Bool) (w : World) (c : Core) (u : Meaning) (us : List Meaning) (ms : List Message) → Takes broken w c u us ms → (respond_unit c.own.session u).reply ≡ None
-no_reply broken w c u us ms k = search (arith, fits_first, no_fault, plain_reply, acceptable)
+  no_reply : (respond_unit c.own.session u).reply ≡ None
+  no_reply = search (arith, fits_first, no_fault, plain_reply, acceptable)
 
-same_channel : (broken : Bool) (w : World) (c : Core) (u : Meaning) (us : List Meaning) (ms : List Message) → Takes broken w c u us ms
-    → put broken (replied (respond_unit c.own.session u).reply) w.own.channel ≡ w.own.channel
-same_channel broken w c u us ms k = ap (λ (r : Option Meaning). put broken (replied r) w.own.channel) (no_reply broken w c u us ms k) ∙ put_nothing broken w.own.channel
+  same_channel : put broken (replied (respond_unit c.own.session u).reply) w.own.channel ≡ w.own.channel
+  same_channel = ap (λ (r : Option Meaning). put broken (replied r) w.own.channel) no_reply ∙ put_nothing broken w.own.channel
 
-was_alike : (broken : Bool) (w : World) (c : Core) (u : Meaning) (us : List Meaning) (ms : List Message) → Takes broken w c u us ms → Alike w c
-was_alike broken w c u us ms k = k.old.own.alike k.lives
+  was_alike : Alike w c
+  was_alike = k.old.own.alike k.lives
 
-taker_mark : (broken : Bool) (w : World) (c : Core) (u : Meaning) (us : List Meaning) (ms : List Message) → Takes broken w c u us ms
-    → (if is_acted_on c.own.session u then mark_after c.own.session u w.history w.own.mark else w.own.mark)
-    ≡ length (if is_acted_on c.own.session u then seen c.own.session u c.own.view else c.own.view)
-taker_mark broken w c u us ms k = search (arith, seen_mark, cuts_alike, was_alike)
+  taker_mark : (if is_acted_on c.own.session u then mark_after c.own.session u w.history w.own.mark else w.own.mark) ≡ length (if is_acted_on c.own.session u then seen c.own.session u c.own.view else c.own.view)
+  taker_mark = search (arith, seen_mark, cuts_alike, was_alike)
 
-taker_owns : (broken : Bool) (w : World) (c : Core) (u : Meaning) (us : List Meaning) (ms : List Message) → Takes broken w c u us ms → (t : Token)
-    → is_own (left_by (respond_unit c.own.session u).next (if is_acted_on c.own.session u then owners_after c.own.session u w.owner else w.owner) t)
-    ≡ is_own ((if is_acted_on c.own.session u then owners_after c.own.session u c.owner else c.owner) t)
-taker_owns broken w c u us ms k t =
-    ap (λ (o : Owners). is_own (o t))
-    (left_lives (respond_unit c.own.session u).next (if is_acted_on c.own.session u then owners_after c.own.session u w.owner else w.owner) (lives_then broken w c u us ms k))
-    ∙ by (is_acted_on c.own.session u)
-  where
-    by : (b : Bool) → is_own ((if b then owners_after c.own.session u w.owner else w.owner) t) ≡ is_own ((if b then owners_after c.own.session u c.owner else c.owner) t)
-    by true = owns_after c.own.session u w.owner c.owner t ((was_alike broken w c u us ms k).owns t)
-    by false = (was_alike broken w c u us ms k).owns t
+  taker_owns : (t : Token) → is_own (left_by (respond_unit c.own.session u).next (if is_acted_on c.own.session u then owners_after c.own.session u w.owner else w.owner) t) ≡ is_own ((if is_acted_on c.own.session u then owners_after c.own.session u c.owner else c.owner) t)
+  taker_owns t =
+      ap (λ (o : Owners). is_own (o t))
+      (left_lives (respond_unit c.own.session u).next (if is_acted_on c.own.session u then owners_after c.own.session u w.owner else w.owner) lives_then)
+      ∙ by (is_acted_on c.own.session u)
+    where
+      by : (b : Bool) → is_own ((if b then owners_after c.own.session u w.owner else w.owner) t) ≡ is_own ((if b then owners_after c.own.session u c.owner else c.owner) t)
+      by true = owns_after c.own.session u w.owner c.owner t ((was_alike).owns t)
+      by false = (was_alike).owns t
 
 -- its sender
 carried_on : (broken : Bool) (channel channel' : List Message) (sent : List Meaning) (s r : State) (b : Bool) → channel' ≡ channel → b ≡ false → Carried broken false channel sent s

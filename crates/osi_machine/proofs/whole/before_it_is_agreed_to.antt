@@ -258,34 +258,31 @@ refused_now broken w t u reason h e = search (arith, answered, absent_left, call
 asks_none : (way : Way) (m : Message) (ms : List Message) → m ∷ ms ≡ replies way → asks way ≡ []
 asks_none way m ms e = grind arith
 
-caller_agreed : (broken : Bool) (terms : Terms) (k : ℕ) (w : World) (t u : Told) → Opens w t u → w.own.channel ≡ [] → is_begun w.peer.transport ≡ true
-    → OpenTaken broken t u (message_taken broken terms k w.own.transport (without_first w []) agree)
-caller_agreed broken terms k w t u h e b = search (arith, start_repeats, answered)
+module _ (broken : Bool) (terms : Terms) (k : ℕ) (w : World) (t u : Told) where
+  caller_agreed : Opens w t u → w.own.channel ≡ [] → is_begun w.peer.transport ≡ true → OpenTaken broken t u (message_taken broken terms k w.own.transport (without_first w []) agree)
+  caller_agreed h e b = search (arith, start_repeats, answered)
 
-caller_denied : (broken : Bool) (terms : Terms) (k : ℕ) (w : World) (t u : Told) (reason : ℕ) → Opens w t u → w.own.channel ≡ []
-    → OpenTaken broken t u (message_taken broken terms k w.own.transport (without_first w []) (deny reason))
-caller_denied broken terms k w t u reason h e = search (arith, refused_now, answered)
+  caller_denied : (reason : ℕ) → Opens w t u → w.own.channel ≡ [] → OpenTaken broken t u (message_taken broken terms k w.own.transport (without_first w []) (deny reason))
+  caller_denied reason h e = search (arith, refused_now, answered)
 
-by_way : (broken : Bool) (terms : Terms) (k : ℕ) (w : World) (t u : Told) (m : Message) (ms : List Message) → Opens w t u → w.own.channel ≡ []
-    → (way : Way) → m ∷ ms ≡ replies way → suits way w.peer.transport ≡ true → OpenTaken broken t u (message_taken broken terms k w.own.transport (without_first w ms) m)
-by_way broken terms k w t u m ms h e nothing_sent f b = absurd (cc)
-by_way broken terms k w t u m ms h e asked f b = absurd (cc)
-by_way broken terms k w t u m ms h e agreed f b =
-    let same : agree ≡ m = cc in
-    let none : [] ≡ ms = cc in
-    subst (λ (x : Message). OpenTaken broken t u (message_taken broken terms k w.own.transport (without_first w ms) x)) same
-    (subst (λ (xs : List Message). OpenTaken broken t u (message_taken broken terms k w.own.transport (without_first w xs) agree)) none (caller_agreed broken terms k w t u h e b))
-by_way broken terms k w t u m ms h e (denied r) f b =
-    let same : deny r ≡ m = cc in
-    let none : [] ≡ ms = cc in
-    subst (λ (x : Message). OpenTaken broken t u (message_taken broken terms k w.own.transport (without_first w ms) x)) same
-    (subst (λ (xs : List Message). OpenTaken broken t u (message_taken broken terms k w.own.transport (without_first w xs) (deny r))) none (caller_denied broken terms k w t u r h e))
+  by_way : (m : Message) (ms : List Message) → Opens w t u → w.own.channel ≡ [] → (way : Way) → m ∷ ms ≡ replies way → suits way w.peer.transport ≡ true → OpenTaken broken t u (message_taken broken terms k w.own.transport (without_first w ms) m)
+  by_way m ms h e nothing_sent f b = absurd (cc)
+  by_way m ms h e asked f b = absurd (cc)
+  by_way m ms h e agreed f b =
+      let same : agree ≡ m = cc in
+      let none : [] ≡ ms = cc in
+      subst (λ (x : Message). OpenTaken broken t u (message_taken broken terms k w.own.transport (without_first w ms) x)) same
+      (subst (λ (xs : List Message). OpenTaken broken t u (message_taken broken terms k w.own.transport (without_first w xs) agree)) none (caller_agreed h e b))
+  by_way m ms h e (denied r) f b =
+      let same : deny r ≡ m = cc in
+      let none : [] ≡ ms = cc in
+      subst (λ (x : Message). OpenTaken broken t u (message_taken broken terms k w.own.transport (without_first w ms) x)) same
+      (subst (λ (xs : List Message). OpenTaken broken t u (message_taken broken terms k w.own.transport (without_first w xs) (deny r))) none (caller_denied r h e))
 
-pub caller_takes : (broken : Bool) (terms : Terms) (k : ℕ) (w : World) (t u : Told) (m : Message) (ms : List Message) → Opens w t u → w.peer.channel ≡ m ∷ ms
-    → OpenTaken broken t u (message_taken broken terms k w.own.transport (without_first w ms) m)
-caller_takes broken terms k w t u m ms h e =
-    let f = sym e ∙ h.peer_channel in
-    by_way broken terms k w t u m ms h (h.own_channel ∙ asks_none h.way m ms f) h.way f h.suited
+  pub caller_takes : (m : Message) (ms : List Message) → Opens w t u → w.peer.channel ≡ m ∷ ms → OpenTaken broken t u (message_taken broken terms k w.own.transport (without_first w ms) m)
+  caller_takes m ms h e =
+      let f = sym e ∙ h.peer_channel in
+      by_way m ms h (h.own_channel ∙ asks_none h.way m ms f) h.way f h.suited
 
 -- ---- what the called side takes
 

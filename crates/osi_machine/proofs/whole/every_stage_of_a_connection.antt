@@ -58,22 +58,21 @@ called_stage laws b w s t c small (inr (inr h)) =
 pub message_offer : (b : Bool) (terms : Terms) (k : ℕ) (tr : Transport) (w : World) (m : Message) → (message_taken b terms k tr w m).world.offer ≡ w.offer
 message_offer b terms k tr w m = grind arith
 
-taken_stage : SessionLaws → (terms : Terms) (b : Bool) (w : World) (s t : Told) (k : ℕ) (x : Message) (xs : List Message) → w.peer.channel ≡ x ∷ xs → Stage b w s t
-    → Stage b (taking_of b terms k w x xs).world (told_all s (taking_of b terms k w x xs).shown) t
-taken_stage laws terms b w s t k x xs e (inl h) = by_either (caller_takes b terms k w s t x xs h e).leads
-    (λ y. inl y)
-    (λ y. inr (inr y))
-taken_stage laws terms b w s t k x xs e (inr (inl h)) = inr (inl (called_takes b terms k w t s x xs h e).leads)
-taken_stage laws terms b w s t k x xs e (inr (inr h)) = inr (inr (message_repeats laws b terms k w s t x xs h e).repeats)
+module _ (laws : SessionLaws) (terms : Terms) (b : Bool) (w : World) (s t : Told) (k : ℕ) (x : Message) (xs : List Message) (e : w.peer.channel ≡ x ∷ xs) where
+  taken_stage : Stage b w s t → Stage b (taking_of b terms k w x xs).world (told_all s (taking_of b terms k w x xs).shown) t
+  taken_stage (inl h) = by_either (caller_takes b terms k w s t x xs h e).leads
+      (λ y. inl y)
+      (λ y. inr (inr y))
+  taken_stage (inr (inl h)) = inr (inl (called_takes b terms k w t s x xs h e).leads)
+  taken_stage (inr (inr h)) = inr (inr (message_repeats laws b terms k w s t x xs h e).repeats)
 
-closed_stage : SessionLaws → (terms : Terms) (b : Bool) (w : World) (s t : Told) (k : ℕ) (x : Message) (xs : List Message) → w.peer.channel ≡ x ∷ xs → Stage b w s t
-    → (taking_of b terms k w x xs).closes ≡ true → Stage b (closed b k (taking_of b terms k w x xs).world) (told_all s (taking_of b terms k w x xs).shown) t
-closed_stage laws terms b w s t k x xs e (inl h) c = not_both (taking_of b terms k w x xs).closes c (caller_takes b terms k w s t x xs h e).stays_open
-closed_stage laws terms b w s t k x xs e (inr (inl h)) c = not_both (taking_of b terms k w x xs).closes c (called_takes b terms k w t s x xs h e).stays_open
-closed_stage laws terms b w s t k x xs e (inr (inr h)) c =
-    let y = message_repeats laws b terms k w s t x xs h e in
-    let both = y.over_now c in
-    inr (inr (close_repeats b k (taking_of b terms k w x xs).world (told_all s (taking_of b terms k w x xs).shown) t y.repeats both.0 both.1))
+  closed_stage : Stage b w s t → (taking_of b terms k w x xs).closes ≡ true → Stage b (closed b k (taking_of b terms k w x xs).world) (told_all s (taking_of b terms k w x xs).shown) t
+  closed_stage (inl h) c = not_both (taking_of b terms k w x xs).closes c (caller_takes b terms k w s t x xs h e).stays_open
+  closed_stage (inr (inl h)) c = not_both (taking_of b terms k w x xs).closes c (called_takes b terms k w t s x xs h e).stays_open
+  closed_stage (inr (inr h)) c =
+      let y = message_repeats laws b terms k w s t x xs h e in
+      let both = y.over_now c in
+      inr (inr (close_repeats b k (taking_of b terms k w x xs).world (told_all s (taking_of b terms k w x xs).shown) t y.repeats both.0 both.1))
 
 -- ---- an end, and a break
 
