@@ -85,20 +85,15 @@ Fewer k s r = ((r ≡ less k s) × Gives k s) ⊎ ((r ≡ s) × (is_restart_due 
 gives_something : (k : Tokens) (s : State) → Gives k s → is_empty s.held ≡ true → ⊥
 gives_something k s h e = grind (arith, is_empty_of, empty_has)
 
+swap : (a b c : Bool) → (b ≡ true → a ≡ true) → (c && a) ≡ false → (a && not b || c) ≡ ((a || c) && not b)
+swap a b c f g = grind arith
+
 -- giving and getting other tokens, in either order
 given_and_got : (k j : Tokens) (s : State) → Gives k s → is_disjoint j s.held ≡ true → united (without s.held k) j ≡ without (united s.held j) k
 given_and_got k j s h d = tokens_same _ _ (λ t.
     united_has (without s.held k) j t ∙ ap (λ (b : Bool). b || has j t) (without_has s.held k t)
     ∙ swap (has s.held t) (has k t) (has j t) (h.all t) (disjoint_has j s.held t d)
     ∙ sym (without_has (united s.held j) k t ∙ ap (λ (b : Bool). b && not (has k t)) (united_has s.held j t)))
-  where
-    swap : (a b c : Bool) → (b ≡ true → a ≡ true) → (c && a) ≡ false → (a && not b || c) ≡ ((a || c) && not b)
-    swap true true true f g = absurd (cc)
-    swap true true false f g = refl
-    swap true false c f g = refl
-    swap false true c f g = absurd (let p = f refl in cc)
-    swap false false true f g = refl
-    swap false false false f g = refl
 
 -- what such a unit leaves
 fewer_becomes : (k : Tokens) (s : State) (u : Meaning) → Fits s u → Good s u → stops s u ≡ false → Gives k s → (becomes (less k s) u ≡ less k (becomes s u)) × Gives k (becomes s u)

@@ -5,15 +5,13 @@ use Rattle.std.proofs.Common.{inl, inr, ◌∙◌, ap}
 use Rattle.osi_machine.proofs.Vocabulary.{list_any, Lost, Phase, Call, Answer, allowed, is_over, shows_loss, Message, Transport, waiting}
 use Rattle.osi_machine.proofs.Vocabulary.{gone, World, turned, session_of, put, after_answer, Terms, message_taken, ended_at, shown_at_end}
 use Rattle.osi_machine.proofs.Vocabulary.{is_waiting, without_first, Told, or_parts, not-true, append-nil, unit, agree, bye, denies, closed}
-use Rattle.osi_machine.proofs.Vocabulary.{Shown, State, Meaning, take_expected, respond_unit, shown_for, ask, deny, over, not_yet, linked}
-use Rattle.osi_machine.proofs.Vocabulary.{closing, accepts}
+use Rattle.osi_machine.proofs.Vocabulary.{Shown, State, Meaning, take_expected, respond_unit, shown_for, linked}
 use Rattle.osi_machine.proofs.basics.what_holds_in_each_phase.{implied, if_no, by_test}
 use Rattle.osi_machine.proofs.whole.how_a_core_simulates_a_connection.{not_both, stopped}
 use Rattle.osi_machine.proofs.whole.a_close_a_break_and_an_end.{is_unit, comes_unit}
 use Rattle.osi_machine.proofs.whole.every_step_is_simulated.{refused}
 use Rattle.osi_machine.proofs.whole.before_it_is_agreed_to.{Way, asks, Opens, is_early, refused_early, caller_refuses, called_refuses}
-use Rattle.osi_machine.proofs.whole.before_it_is_agreed_to.{caller_ends, called_ends, called_takes, nothing_sent, asked, agreed, denied}
-use Rattle.osi_machine.proofs.whole.before_it_is_agreed_to.{replies}
+use Rattle.osi_machine.proofs.whole.before_it_is_agreed_to.{caller_ends, called_ends, called_takes, replies}
 use Rattle.osi_machine.proofs.whole.every_stage_of_a_connection.{Stage, turned_back}
 use Rattle.osi_machine.proofs.machine.every_connection_of_a_run.{cut_to}
 
@@ -172,62 +170,36 @@ unit_keeps s u = search (arith, good_keeps)
 
 -- ---- a message
 
+no_bye_back : (way : Way) (r : ℕ) (ms : List Message) → bye r ∷ ms ≡ replies way → ⊥
+no_bye_back way r ms e = grind arith
+
+no_bye_out : (way : Way) (r : ℕ) (ms : List Message) → bye r ∷ ms ≡ asks way → ⊥
+no_bye_out way r ms e = grind arith
+
 -- a close comes only if the session is over
-close_quiet : (b : Bool) (w : World) (t u : Told) (r : ℕ) (ms : List Message) → Stage b w t u → w.peer.channel ≡ bye r ∷ ms → shows_loss w.own.kept.phase ≡ false
-close_quiet b w t u r ms (inl h) e = absurd (none h.way (sym e ∙ h.peer_channel))
-  where
-    none : (way : Way) → bye r ∷ ms ≡ replies way → ⊥
-    none nothing_sent f = absurd (cc)
-    none asked f = absurd (cc)
-    none agreed f = absurd (cc)
-    none (denied x) f = absurd (cc)
-close_quiet b w t u r ms (inr (inl h)) e = absurd (none h.way (sym e ∙ h.own_channel))
-  where
-    none : (way : Way) → bye r ∷ ms ≡ asks way → ⊥
-    none nothing_sent f = absurd (cc)
-    none asked f = absurd (cc)
-    none agreed f = absurd (cc)
-    none (denied x) f = absurd (cc)
+close_quiet : (b : Bool) (w : World) (t u : Told) (r : ℕ) (ms : List Message) → Stage b w t u → w.peer.channel ≡ bye r ∷ ms
+    → shows_loss w.own.kept.phase ≡ false
+close_quiet b w t u r ms (inl h) e = absurd (no_bye_back h.way r ms (sym e ∙ h.peer_channel))
+close_quiet b w t u r ms (inr (inl h)) e = absurd (no_bye_out h.way r ms (sym e ∙ h.own_channel))
 close_quiet b w t u r ms (inr (inr h)) e = by_test (stopped w.own)
     (λ o. over_quiet w.own.kept.phase o)
     (λ l. absurd (let x = comes_unit b w h.core (bye r) ms h.projects l e in cc))
 
-pub message_keeps : (b : Bool) (terms : Terms) (keep : ℕ) (w : World) (t u : Told) (x : Message) (xs : List Message) → Stage b w t u → w.peer.channel ≡ x ∷ xs
-    → list_any is_lost (message_taken b terms keep w.own.transport (without_first w xs) x).shown ≡ false
+-- what is neither a unit nor a close shows no loss
+abbrev is_heard : Transport → Message → Bool
+is_heard linked (unit u) = true
+is_heard linked (bye r) = true
+is_heard tr m = false
+
+shows_none : (b : Bool) (terms : Terms) (keep : ℕ) (tr : Transport) (w : World) (m : Message) → is_heard tr m ≡ false
+    → list_any is_lost (message_taken b terms keep tr w m).shown ≡ false
+shows_none b terms keep tr w m h = grind arith
+
+pub message_keeps : (b : Bool) (terms : Terms) (keep : ℕ) (w : World) (t u : Told) (x : Message) (xs : List Message) → Stage b w t u
+    → w.peer.channel ≡ x ∷ xs → list_any is_lost (message_taken b terms keep w.own.transport (without_first w xs) x).shown ≡ false
 message_keeps b terms keep w t u x xs h e = by w.own.transport x e
   where
-    asked_keeps : (d : Terms) → list_any is_lost (message_taken b d keep not_yet (without_first w xs) ask).shown ≡ false
-    asked_keeps (accepts class) = refl
-    asked_keeps (denies reason) = refl
-
     by : (tr : Transport) (m : Message) → w.peer.channel ≡ m ∷ xs → list_any is_lost (message_taken b terms keep tr (without_first w xs) m).shown ≡ false
     by linked (unit v) f = unit_keeps (session_of (without_first w xs)) v
     by linked (bye r) f = ap (list_any is_lost) (quiet_end w (close_quiet b w t u r xs h f))
-    by linked ask f = refl
-    by linked agree f = refl
-    by linked (deny r) f = refl
-    by linked over f = refl
-    by not_yet ask f = asked_keeps terms
-    by not_yet agree f = refl
-    by not_yet (unit v) f = refl
-    by not_yet (deny r) f = refl
-    by not_yet (bye r) f = refl
-    by not_yet over f = refl
-    by waiting ask f = refl
-    by waiting agree f = refl
-    by waiting (unit v) f = refl
-    by waiting (deny r) f = refl
-    by waiting (bye r) f = refl
-    by waiting over f = refl
-    by closing ask f = refl
-    by closing agree f = refl
-    by closing (unit v) f = refl
-    by closing (deny r) f = refl
-    by closing (bye r) f = refl
-    by closing over f = refl
-    by gone ask f = refl
-    by gone agree f = refl
-    by gone (unit v) f = refl
-    by gone (deny r) f = refl
-    by gone (bye r) f = refl
-    by gone over f = refl
+    by tr m f = shows_none b terms keep tr (without_first w xs) m refl

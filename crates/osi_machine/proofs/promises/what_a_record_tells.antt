@@ -16,7 +16,7 @@ use Rattle.osi_machine.proofs.Vocabulary.{drops, allowed, respond_unit, Agree, i
 use Rattle.osi_machine.proofs.Vocabulary.{Left, Right, Offer, answered, taking, takes, core_step, core_run, core_start, IsNumberedStep}
 use Rattle.osi_machine.proofs.Vocabulary.{Entry, call_answered, shown_at, error_of, told_entry, told_by, is_of, record_of, untold}
 use Rattle.osi_machine.proofs.Vocabulary.{call_entries, take_entries, core_entries, core_journal, left_told, right_told, AreTold}
-use Rattle.osi_machine.proofs.basics.what_holds_in_each_phase.{implied, excluded, by_test}
+use Rattle.osi_machine.proofs.basics.what_holds_in_each_phase.{implied, excluded, by_test, every}
 use Rattle.osi_machine.proofs.basics.what_a_restart_leaves_of_a_history.{cut_points, one_point_more, no_point_more}
 use Rattle.osi_machine.proofs.channels.a_unit_is_dropped_bad_or_acted_on.{fit_acts, no_fault}
 use Rattle.osi_machine.proofs.invariant.what_holds_of_both_sides.{Stands}
@@ -101,37 +101,61 @@ next_point t s v said got h c d = let a = h.base in let b = ap points (h.view d)
 octets_said : (b : Bool) (t v : List (List ℕ)) (octets : List ℕ) → t ≡ v → b ≡ true → t ++ octets ∷ [] ≡ v ++ (if b then octets ∷ [] else [])
 octets_said b t v octets e d = rw (e, d) refl
 
-pub call_tells : (t : Told) (s : State) (c : Call) (v : List Item) (said got : List (List ℕ)) → stays_in_core c ≡ true → may_call s.phase c ≡ true → s.numbers.next ≡ s.base + points v
-    → (is_opening s.phase ≡ true → (v ≡ []) × (said ≡ []) × (got ≡ [])) → Tells t s v said got
+-- from a phase (f) of an open connection, in which no restart is awaited, to one in which nothing is opened
+module _ (f : Phase → Bool) (opens : every (λ p. not (f p) || is_open p) ≡ true) (calms : every (λ p. not (f p) || not (is_restarting p)) ≡ true) where
+  open_tells : (t r : Told) (s q : State) (v v' : List Item) (said said' got got' : List (List ℕ)) → f s.phase ≡ true → calm q.phase ≡ true
+      → q.units ≡ s.units → q.base ≡ s.base → r.base ≡ t.base → r.asking ≡ t.asking → r.duplex ≡ t.duplex → r.faulted ≡ t.faulted
+      → Tells t s v said got → (s.units.duplex ≡ false → r.view ≡ v') → (s.units.duplex ≡ true → r.requested ≡ said')
+      → (s.units.duplex ≡ true → r.indicated ≡ got') → points r.view ≡ points v' → Tells r q v' said' got'
+  open_tells t r s q v v' said said' got got' p c u b b' a d e h view asked told k =
+      let w : q.units.duplex ≡ s.units.duplex = ap (λ (z : FunctionalUnits). z.duplex) u in
+      calm_tells r q v' said' got' c (b' ∙ h.base ∙ sym b) (λ x. view (sym w ∙ x))
+      (a ∙ not_asking t s v said got h (excluded f is_restarting calms s.phase p))
+      (λ o. d ∙ h.duplex (implied f is_open opens s.phase p) ∙ sym w) (e ∙ h.fine) (λ x. asked (sym w ∙ x)) (λ x. told (sym w ∙ x)) k
+
+  -- a call that says nothing, and a unit that brings nothing
+  quiet_call : (t : Told) (s q : State) (v : List Item) (said got : List (List ℕ)) → f s.phase ≡ true → calm q.phase ≡ true → q.units ≡ s.units
+      → q.base ≡ s.base → Tells t s v said got → Tells t q (v ++ []) (said ++ []) got
+  quiet_call t s q v said got p c u b h =
+      open_tells t t s q v (v ++ []) said (said ++ []) got got p c u b refl refl refl refl h (none_more t v s.units.duplex h.view)
+      (λ d. h.said d ∙ sym (append-nil said)) h.got (same_points t s v said got h)
+
+  quiet_unit : (t : Told) (s q : State) (v : List Item) (said got : List (List ℕ)) → f s.phase ≡ true → calm q.phase ≡ true → q.units ≡ s.units
+      → q.base ≡ s.base → Tells t s v said got → Tells t q v said (got ++ [])
+  quiet_unit t s q v said got p c u b h =
+      open_tells t t s q v v said said got (got ++ []) p c u b refl refl refl refl h h.view h.said (λ d. h.got d ∙ sym (append-nil got)) h.pointed
+
+pub call_tells : (t : Told) (s : State) (c : Call) (v : List Item) (said got : List (List ℕ)) → stays_in_core c ≡ true → may_call s.phase c ≡ true
+    → s.numbers.next ≡ s.base + points v → (is_opening s.phase ≡ true → (v ≡ []) × (said ≡ []) × (got ≡ [])) → Tells t s v said got
     → Tells (told_call t c) (after s c) (view_called s c v) (said ++ speaks s c) got
 unfolding calm
 call_tells t s (Accept requirements serial sides sizes octets) v said got k p n f h =
     let o = implied is_answering is_opening refl s.phase p in
-    calm_tells _ _ _ _ _ refl refl (λ d. h.fresh o ∙ sym (append-nil v ∙ (f o).0)) (not_asking t s v said got h (excluded is_answering is_restarting refl s.phase p)) (λ o. refl) h.fine (λ d. (h.silent o).0 ∙ sym (append-nil said ∙ (f o).1)) (λ d. (h.silent o).1 ∙ sym (f o).2) (same_points t s v said got h)
+    calm_tells _ _ _ _ _ refl refl (λ d. h.fresh o ∙ sym (append-nil v ∙ (f o).0))
+    (not_asking t s v said got h (excluded is_answering is_restarting refl s.phase p)) (λ o. refl) h.fine
+    (λ d. (h.silent o).0 ∙ sym (append-nil said ∙ (f o).1)) (λ d. (h.silent o).1 ∙ sym (f o).2) (same_points t s v said got h)
 call_tells t s (Data octets) v said got k p n f h =
-    calm_tells _ _ _ _ _ (implied is_ready calm refl s.phase p) h.base
-    (λ d. data_added s.units.duplex t.view v octets (h.view d) d) (not_asking t s v said got h (excluded is_ready is_restarting refl s.phase p)) (λ o. h.duplex (implied is_ready is_open refl s.phase p)) h.fine (λ d. octets_said s.units.duplex t.requested said octets (h.said d) d) h.got
+    open_tells is_ready refl refl t _ s _ v _ said _ got _ p (implied is_ready calm refl s.phase p) refl refl refl refl refl refl h
+    (λ d. data_added s.units.duplex t.view v octets (h.view d) d) (λ d. octets_said s.units.duplex t.requested said octets (h.said d) d) h.got
     (octets_called s.units.duplex t.view v octets h.pointed)
-call_tells t s (Give tokens) v said got k p n f h = same_tells t s _ v _ said _ got got refl refl refl refl (append-nil v) (append-nil said) refl h
-call_tells t s (Please tokens octets) v said got k p n f h = same_tells t s _ v _ said _ got got refl refl refl refl (append-nil v) (append-nil said) refl h
 call_tells t s (Minor confirm octets) v said got k p n f h =
-    calm_tells _ _ _ _ _ (implied is_ready calm refl s.phase p) h.base
-    (λ d. point_added s.numbers.next t.base t.view v (minor_kind confirm) octets (next_point t s v said got h n d) (h.view d)) (not_asking t s v said got h (excluded is_ready is_restarting refl s.phase p)) (λ o. h.duplex (implied is_ready is_open refl s.phase p)) h.fine (λ d. h.said d ∙ sym (append-nil said)) h.got
-    (one_point_more (t.base + points t.view) s.numbers.next t.view v (minor_kind confirm) octets h.pointed)
-call_tells t s (MinorConfirm m octets) v said got k p n f h = same_tells t s _ v _ said _ got got refl refl refl refl (append-nil v) (append-nil said) refl h
+    open_tells is_ready refl refl t _ s _ v _ said _ got _ p (implied is_ready calm refl s.phase p) refl refl refl refl refl refl h
+    (λ d. point_added s.numbers.next t.base t.view v (minor_kind confirm) octets (next_point t s v said got h n d) (h.view d))
+    (λ d. h.said d ∙ sym (append-nil said)) h.got (one_point_more (t.base + points t.view) s.numbers.next t.view v (minor_kind confirm) octets h.pointed)
 call_tells t s (Major octets) v said got k p n f h =
-    calm_tells _ _ _ _ _ refl h.base
-    (λ d. point_added s.numbers.next t.base t.view v major_point octets (next_point t s v said got h n d) (h.view d)) (not_asking t s v said got h (excluded is_ready is_restarting refl s.phase p)) (λ o. h.duplex (implied is_ready is_open refl s.phase p)) h.fine (λ d. h.said d ∙ sym (append-nil said)) h.got
-    (one_point_more (t.base + points t.view) s.numbers.next t.view v major_point octets h.pointed)
-call_tells t s (MajorConfirm octets) v said got k p n f h =
-    calm_tells _ _ _ _ _ refl h.base (none_more t v s.units.duplex h.view) (not_asking t s v said got h (excluded is_major_due is_restarting refl s.phase p)) (λ o. h.duplex (implied is_major_due is_open refl s.phase p)) h.fine (λ d. h.said d ∙ sym (append-nil said)) h.got (same_points t s v said got h)
+    open_tells is_ready refl refl t _ s _ v _ said _ got _ p refl refl refl refl refl refl refl h
+    (λ d. point_added s.numbers.next t.base t.view v major_point octets (next_point t s v said got h n d) (h.view d))
+    (λ d. h.said d ∙ sym (append-nil said)) h.got (one_point_more (t.base + points t.view) s.numbers.next t.view v major_point octets h.pointed)
+call_tells t s (MajorConfirm octets) v said got k p n f h = quiet_call is_major_due refl refl t s _ v said got p refl refl refl h
 call_tells t s (Restart m wishes octets) v said got k p n f h = grind (arith, append-nil, cut_points)
-call_tells t s (RestartConfirm sides octets) v said got k p n f h =
-    calm_tells _ _ _ _ _ refl h.base (none_more t v s.units.duplex h.view) (not_asking t s v said got h (excluded is_restart_due is_restarting refl s.phase p)) (λ o. h.duplex (implied is_restart_due is_open refl s.phase p)) h.fine (λ d. h.said d ∙ sym (append-nil said)) h.got (same_points t s v said got h)
-call_tells t s (Release octets) v said got k p n f h =
-    calm_tells _ _ _ _ _ refl h.base (none_more t v s.units.duplex h.view) (not_asking t s v said got h (excluded is_ready is_restarting refl s.phase p)) (λ o. h.duplex (implied is_ready is_open refl s.phase p)) h.fine (λ d. h.said d ∙ sym (append-nil said)) h.got (same_points t s v said got h)
-call_tells t s (ReleaseRefuse octets) v said got k p n f h =
-    calm_tells _ _ _ _ _ refl h.base (none_more t v s.units.duplex h.view) (not_asking t s v said got h (excluded is_release_due is_restarting refl s.phase p)) (λ o. h.duplex (implied is_release_due is_open refl s.phase p)) h.fine (λ d. h.said d ∙ sym (append-nil said)) h.got (same_points t s v said got h)
+call_tells t s (RestartConfirm sides octets) v said got k p n f h = quiet_call is_restart_due refl refl t s _ v said got p refl refl refl h
+call_tells t s (Release octets) v said got k p n f h = quiet_call is_ready refl refl t s _ v said got p refl refl refl h
+call_tells t s (ReleaseRefuse octets) v said got k p n f h = quiet_call is_release_due refl refl t s _ v said got p refl refl refl h
+call_tells t s (Give tokens) v said got k p n f h = same_tells t s _ v _ said _ got got refl refl refl refl (append-nil v) (append-nil said) refl h
+call_tells t s (Please tokens octets) v said got k p n f h =
+    same_tells t s _ v _ said _ got got refl refl refl refl (append-nil v) (append-nil said) refl h
+call_tells t s (MinorConfirm m octets) v said got k p n f h =
+    same_tells t s _ v _ said _ got got refl refl refl refl (append-nil v) (append-nil said) refl h
 call_tells t s _ v said got k p n f h = absurd (cc)
 
 -- ---- a unit that is acted on
@@ -166,31 +190,32 @@ unit_tells t s (AC w r n x z o) v said got p g f h =
     calm_tells _ _ _ _ _ refl (ap (λ (a : FunctionalUnits). agreed_base (both_units a (functional_units r)) n t.proposed) k.0 ∙ ap (agreed_base (both_units s.units (functional_units r)) n) k.1)
     (λ d. h.fresh open_now ∙ sym (f open_now).0) (not_asking t s v said got h (excluded is_connecting is_restarting refl s.phase g.expected)) (λ o. ap (λ (a : FunctionalUnits). (both_units a (functional_units r)).duplex) k.0) h.fine (λ d. (h.silent open_now).0 ∙ sym (f open_now).1) (λ d. (h.silent open_now).1 ∙ sym (append-nil got ∙ (f open_now).2)) h.pointed
 unit_tells t s (DT o) v said got p g f h =
-    calm_tells _ _ _ _ _ (implied takes_data calm refl s.phase g.expected) h.base
-    (λ d. data_taken s.units.duplex t.view v o (h.view d) d) (not_asking t s v said got h (excluded takes_data is_restarting refl s.phase g.expected)) (λ o. h.duplex (implied takes_data is_open refl s.phase g.expected)) h.fine h.said (λ d. octets_said s.units.duplex t.indicated got o (h.got d) d)
+    open_tells takes_data refl refl t _ s _ v _ said _ got _ g.expected (implied takes_data calm refl s.phase g.expected) refl refl refl refl refl refl h
+    (λ d. data_taken s.units.duplex t.view v o (h.view d) d) h.said (λ d. octets_said s.units.duplex t.indicated got o (h.got d) d)
     (octets_taken s.units.duplex t.view v o h.pointed)
-unit_tells t s (GT k) v said got p g f h = same_tells t s _ v v said said got _ refl refl refl refl refl refl (append-nil got) h
-unit_tells t s (PT k o) v said got p g f h = same_tells t s _ v v said said got _ refl refl refl refl refl refl (append-nil got) h
 unit_tells t s (MIP c n o) v said got p g f h =
-    calm_tells _ _ _ _ _ (implied is_ready calm refl s.phase g.expected) h.base
-    (λ d. ap (λ (r : List Item). r ++ Point n (minor_kind c) o ∷ []) (h.view d)) (not_asking t s v said got h (excluded is_ready is_restarting refl s.phase g.expected)) (λ o. h.duplex (implied is_ready is_open refl s.phase g.expected)) h.fine h.said (λ d. h.got d ∙ sym (append-nil got))
+    open_tells is_ready refl refl t _ s _ v _ said _ got _ g.expected (implied is_ready calm refl s.phase g.expected) refl refl refl refl refl refl h
+    (λ d. ap (λ (r : List Item). r ++ Point n (minor_kind c) o ∷ []) (h.view d)) h.said (λ d. h.got d ∙ sym (append-nil got))
     (one_point_more n n t.view v (minor_kind c) o h.pointed)
-unit_tells t s (MIA n o) v said got p g f h = same_tells t s _ v v said said got _ refl refl refl refl refl refl (append-nil got) h
 unit_tells t s (MAP n o) v said got p g f h =
-    calm_tells _ _ _ _ _ refl h.base
-    (λ d. ap (λ (r : List Item). r ++ Point n major_point o ∷ []) (h.view d)) (not_asking t s v said got h (excluded is_ready is_restarting refl s.phase g.expected)) (λ o. h.duplex (implied is_ready is_open refl s.phase g.expected)) h.fine h.said (λ d. h.got d ∙ sym (append-nil got))
+    open_tells is_ready refl refl t _ s _ v _ said _ got _ g.expected refl refl refl refl refl refl refl h
+    (λ d. ap (λ (r : List Item). r ++ Point n major_point o ∷ []) (h.view d)) h.said (λ d. h.got d ∙ sym (append-nil got))
     (one_point_more n n t.view v major_point o h.pointed)
-unit_tells t s (MAA n o) v said got p g f h =
-    calm_tells _ _ _ _ _ refl h.base h.view (not_asking t s v said got h (excluded is_major_asked is_restarting refl s.phase g.expected)) (λ o. h.duplex (implied is_major_asked is_open refl s.phase g.expected)) h.fine h.said (λ d. h.got d ∙ sym (append-nil got)) h.pointed
+unit_tells t s (MAA n o) v said got p g f h = quiet_unit is_major_asked refl refl t s _ v said got g.expected refl refl refl h
 unit_tells t s (RS j n w o) v said got p g f h =
     either (λ a q z. Tells (told_all t a) q z said (got ++ [])) (stands s n) _ _ _ s (cutat s.base v n) v
-    (λ e. calm_tells _ _ _ _ _ refl h.base (λ d. ap (λ (b : ℕ). cutat b t.view n) h.base ∙ ap (λ (r : List Item). cutat s.base r n) (h.view d)) refl (λ o. h.duplex (implied takes_restart is_open refl s.phase g.expected)) h.fine h.said (λ d. h.got d ∙ sym (append-nil got)) (cut_points t.base s.base n t.view v h.base h.pointed))
+    (λ e. calm_tells _ _ _ _ _ refl h.base (λ d. ap (λ (b : ℕ). cutat b t.view n) h.base ∙ ap (λ (r : List Item). cutat s.base r n) (h.view d)) refl
+    (λ o. h.duplex (implied takes_restart is_open refl s.phase g.expected)) h.fine h.said (λ d. h.got d ∙ sym (append-nil got))
+    (cut_points t.base s.base n t.view v h.base h.pointed))
     (λ e. same_tells t s s v v said said got _ refl refl refl refl refl refl (append-nil got) h)
-unit_tells t s (RA n w o) v said got p g f h = calm_tells _ _ _ _ _ refl h.base h.view refl (λ o. h.duplex (implied is_restarting is_open refl s.phase g.expected)) h.fine h.said (λ d. h.got d ∙ sym (append-nil got)) h.pointed
-unit_tells t s (FN o) v said got p g f h =
-    calm_tells _ _ _ _ _ refl h.base h.view (not_asking t s v said got h (excluded is_ready is_restarting refl s.phase g.expected)) (λ o. h.duplex (implied is_ready is_open refl s.phase g.expected)) h.fine h.said (λ d. h.got d ∙ sym (append-nil got)) h.pointed
-unit_tells t s (NF o) v said got p g f h =
-    calm_tells _ _ _ _ _ refl h.base h.view (not_asking t s v said got h (excluded is_releasing is_restarting refl s.phase g.expected)) (λ o. h.duplex (implied is_releasing is_open refl s.phase g.expected)) h.fine h.said (λ d. h.got d ∙ sym (append-nil got)) h.pointed
+unit_tells t s (RA n w o) v said got p g f h =
+    calm_tells _ _ _ _ _ refl h.base h.view refl (λ o. h.duplex (implied is_restarting is_open refl s.phase g.expected)) h.fine h.said
+    (λ d. h.got d ∙ sym (append-nil got)) h.pointed
+unit_tells t s (FN o) v said got p g f h = quiet_unit is_ready refl refl t s _ v said got g.expected refl refl refl h
+unit_tells t s (NF o) v said got p g f h = quiet_unit is_releasing refl refl t s _ v said got g.expected refl refl refl h
+unit_tells t s (GT k) v said got p g f h = same_tells t s _ v v said said got _ refl refl refl refl refl refl (append-nil got) h
+unit_tells t s (PT k o) v said got p g f h = same_tells t s _ v v said said got _ refl refl refl refl refl refl (append-nil got) h
+unit_tells t s (MIA n o) v said got p g f h = same_tells t s _ v v said said got _ refl refl refl refl refl refl (append-nil got) h
 unit_tells t s _ v said got p g f h = absurd (cc)
 
 -- ---- a record, entry by entry
