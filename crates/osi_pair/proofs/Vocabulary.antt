@@ -6,7 +6,7 @@ pub use Rattle.std.proofs.lemmas.List.{append-nil, append_assoc, length-append, 
 pub use Rattle.std.proofs.lemmas.List.Sums.{sum_by-cons}
 pub use Rattle.std.specs.List.{AllByRecursion, flat_map, list_any, slice_get}
 pub use Rattle.std.specs.Prelude.{IfSome, List, None, nat_le, ◌≡◌}
-pub use Rattle.osi_between.proofs.JoinedMoves.{given_live, within_given}
+pub use Rattle.osi_between.proofs.joined.joined_carriers_stay_joined.{given_live, within_given}
 pub use Rattle.osi_between.specs.Addresses.{reference_of, units_of}
 pub use Rattle.osi_between.specs.Between.{Acted, AreBetween, AreJoinedBy, Between, Both, Carries, IsAllThere, IsOnTheWay, IsStill, Same, Took, answers_in, arriving, becomes, broken_at, fresh_between, fresh_both, handed_over, is_cut, last_of, lost_from, put_in, reach_less, reach_of, side, still_to_tell, to_come, told_of, under_way, units_from, with_side, within_reach}
 pub use Rattle.osi_between.specs.Course.{Course, Holds, IsTsap, accepting, asking, at_end, from_end, met, progress_of, unasked, withdrawing}

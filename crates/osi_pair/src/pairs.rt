@@ -94,7 +94,7 @@ impl Pair {
     /// them.
     ///
     /// [`IsSafe`]: ../specs/Promises.antt
-    #[tactic(auto, using(crate::proofs::Growing::does_add))]
+    #[tactic(auto, using(crate::proofs::event::the_journal_only_grows::does_add))]
     pub fn apply(&mut self, event: &Event) -> Result<Applied, PairError>
         ensures does { IfOk result (λ applied. Does event.now self.old applied.carried self.new) }
         ensures carried { IfOk result (λ applied. CarriesAsMuch event.now self.old applied) }

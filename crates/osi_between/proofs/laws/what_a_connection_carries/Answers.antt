@@ -1,4 +1,4 @@
-use Rattle.osi_between.proofs.Meetings.{take_here, send_here, close_here, mirror_stands, mirror_twice}
+use Rattle.osi_between.proofs.meeting.a_connection_after_each_unit_and_call.{take_here, send_here, close_here, mirror_stands, mirror_twice}
 use Rattle.osi_between.proofs.laws.what_a_connection_carries.Goals as goal
 
 pub returns-clause-taken : goal.returns-clause-taken

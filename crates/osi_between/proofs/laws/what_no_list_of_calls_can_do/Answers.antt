@@ -1,7 +1,7 @@
 use Rattle.osi_between.proofs.Vocabulary.{fresh_both, fresh_between, terms_of}
-use Rattle.osi_between.proofs.Journeys.{all_stay}
-use Rattle.osi_between.proofs.Tellings.{told_from, told_fresh}
-use Rattle.osi_between.proofs.Terms.{begins}
+use Rattle.osi_between.proofs.between.two_carriers_after_a_list_of_moves.{all_stay}
+use Rattle.osi_between.proofs.between.what_is_reported_over_a_list_of_moves.{told_from, told_fresh}
+use Rattle.osi_between.proofs.between.any_terms_provide_what_is_asked.{begins}
 use Rattle.osi_between.proofs.laws.what_no_list_of_calls_can_do.Goals as goal
 
 pub returns-clause-stays : goal.returns-clause-stays

@@ -1,7 +1,7 @@
 use Rattle.std.proofs.Common.{◌≡◌, ◌∙◌, ℕ, ◌+◌, ◌-◌, ◌<◌, ◌≤◌, List, inl, inr, map, sym, ap, subst, arith, vec_len, vec_capacity, vec_items}
 use Rattle.osi_pair.specs.declared.entries.Entry.{Entry}
 use Rattle.osi_pair.proofs.Vocabulary.{ltb-true, CarriesPiece, entry_by}
-use Rattle.osi_pair.proofs.Pieces.{carries_then, not_refused, was_refused}
+use Rattle.osi_pair.proofs.carry.pieces_are_one_carry.{carries_then, not_refused, was_refused}
 use Rattle.osi_pair.proofs.carrying.carry.Goals as goal
 use Rattle.osi_pair.proofs.carrying.carry.Goals.{then-used-eq0-via-then-used-eq0, then-used-eq0-via-else-used-eq0+then-carried-octets, then-used-eq0-via-else-used-eq0+else-carried-octets+then-is_err}
 

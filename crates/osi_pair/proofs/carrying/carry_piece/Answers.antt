@@ -1,6 +1,6 @@
 use Rattle.std.proofs.Common.{map}
 use Rattle.osi_pair.specs.Entries.{entry_by}
-use Rattle.osi_pair.proofs.Showing.{says_all}
+use Rattle.osi_pair.proofs.carry.users_receive_one_after_the_other.{says_all}
 use Rattle.osi_pair.proofs.carrying.carry_piece.Goals as goal
 
 pub returns-clause-carries : goal.returns-clause-carries

@@ -1,6 +1,6 @@
-use Rattle.osi_pair.proofs.StandingConnect.{connect_at}
-use Rattle.osi_pair.proofs.StandingCalled.{call_at}
-use Rattle.osi_pair.proofs.StandingOctets.{call_in_octets}
+use Rattle.osi_pair.proofs.call.a_request_is_the_machines.{connect_at}
+use Rattle.osi_pair.proofs.call.a_call_keeps_the_match.{call_at}
+use Rattle.osi_pair.proofs.call.what_a_call_sends_can_be_written.{call_in_octets}
 use Rattle.osi_pair.proofs.standing.how_two_ends_are_called.Goals as goal
 
 pub returns-clause-calls : goal.returns-clause-calls

@@ -1,11 +1,11 @@
-use Rattle.osi_pair.proofs.StandingAhead.{TakeLaws}
-use Rattle.osi_pair.proofs.StandingAnswering.{AnswerLaws}
-use Rattle.osi_pair.proofs.SameCarry.{same_carry}
-use Rattle.osi_pair.proofs.StandingCarried.{CarryLaws, carries_stand}
-use Rattle.osi_pair.proofs.StandingMoved.{MovingLaws}
-use Rattle.osi_pair.proofs.StandingPacket.{PacketLaws}
-use Rattle.osi_pair.proofs.StandingStarved.{StarveLaws}
-use Rattle.osi_pair.proofs.StandingTelling.{packet_stands}
+use Rattle.osi_pair.proofs.flight.who_receives_what_is_in_flight.{TakeLaws}
+use Rattle.osi_pair.proofs.packet.when_a_session_replies_or_closes.{AnswerLaws}
+use Rattle.osi_pair.proofs.same.a_carry_in_any_pieces.{same_carry}
+use Rattle.osi_pair.proofs.carry.a_carry_is_deliveries.{CarryLaws, carries_stand}
+use Rattle.osi_pair.proofs.packet.a_session_that_moved.{MovingLaws}
+use Rattle.osi_pair.proofs.packet.a_packet_is_one_delivery_or_none.{PacketLaws}
+use Rattle.osi_pair.proofs.ending.memory_runs_out_for_an_event.{StarveLaws}
+use Rattle.osi_pair.proofs.packet.each_packet_keeps_the_match.{packet_stands}
 use Rattle.osi_pair.proofs.standing.how_two_ends_carry.Goals as goal
 
 pub returns : goal.returns

@@ -1,5 +1,5 @@
-use Rattle.osi_pair.proofs.StandingBreak.{fresh_at, break_at}
-use Rattle.osi_pair.proofs.StandingTold.{told_at}
+use Rattle.osi_pair.proofs.ending.a_break_is_the_machines.{fresh_at, break_at}
+use Rattle.osi_pair.proofs.ending.a_told_side_ends.{told_at}
 use Rattle.osi_pair.proofs.standing.how_two_ends_stand.Goals as goal
 
 pub returns-clause-begins : goal.returns-clause-begins

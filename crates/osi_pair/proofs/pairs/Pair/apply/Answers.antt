@@ -1,8 +1,8 @@
 use Rattle.std.proofs.Common.{List, OnOk, IfOk, subst}
 use Rattle.osi_pair.specs.Memory.{ends_in}
 use Rattle.osi_pair.proofs.Vocabulary.{Step, StandsAfter, TwoEnds, CarriesAsMuch, StandsAt}
-use Rattle.osi_pair.proofs.Applying.{result_reached, result_stands, result_carries}
-use Rattle.osi_pair.proofs.StandingEvent.{EventLaws}
+use Rattle.osi_pair.proofs.event.an_event_is_applied_or_refused.{result_reached, result_stands, result_carries}
+use Rattle.osi_pair.proofs.event.what_an_event_does.{EventLaws}
 use Rattle.osi_pair.proofs.pairs.Pair.apply.Goals as goal
 
 pub invariant_of-self : goal.invariant_of-self

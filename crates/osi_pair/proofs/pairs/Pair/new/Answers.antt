@@ -1,6 +1,6 @@
 use Rattle.std.proofs.Common.{[], sym, subst}
 use Rattle.osi_pair.proofs.Vocabulary.{TwoEnds, HoldLess, StandsAt}
-use Rattle.osi_pair.proofs.HoldingLess.{fresh_less}
+use Rattle.osi_pair.proofs.event.each_end_holds_less_than_a_packet.{fresh_less}
 use Rattle.osi_pair.proofs.pairs.Pair.new.Goals as goal
 
 pub returns-clause-stands : goal.returns-clause-stands

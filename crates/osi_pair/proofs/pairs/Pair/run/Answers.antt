@@ -2,7 +2,7 @@ use Rattle.std.proofs.Common.{◌≡◌, ◌∙◌, ◌<◌, List, [], ◌∷◌
 use Rattle.std.proofs.lemmas.Option.{slice_get_read}
 use Rattle.osi_pair.specs.declared.faults.PairError.TheVariants.{OutOfMemory}
 use Rattle.osi_pair.proofs.Vocabulary.{take_more, take_all, TwoEnds, misfit, error_by_rule, WantsMemory, HappenAll, Event}
-use Rattle.osi_pair.proofs.Running.{happen_more, runs_through}
+use Rattle.osi_pair.proofs.event.events_happen_in_turn.{happen_more, runs_through}
 use Rattle.osi_pair.proofs.pairs.Pair.run.Goals as goal
 
 pub events-preserved : goal.events-preserved
