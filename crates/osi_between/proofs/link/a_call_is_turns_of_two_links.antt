@@ -1,12 +1,16 @@
 -- The effect of a carrier's calls on an open link, as turns of the two links of its connection.
 -- For connections of class 2 and class 0.
-use Rattle.std.proofs.Common.{◌≡◌, ℕ, ◌<◌, Bool, true, false, List, [], ◌∷◌, ◌++◌, map, take, drop, Option, Result, Ok, Err, refl, sym, ◌∙◌, ap, subst, arith, append_assoc, nat_lt, length, if◌then◌else◌, IfOk}
-use Rattle.osi_class.specs.Runs.{hand_in, give_out, take_in, hand_out, MovesAlong}
-use Rattle.osi_class.proofs.Classes.{zero_turns}
-use Rattle.osi_class.proofs.Oldest.{said, oldest_in_class_0, oldest_in_class_2}
-use Rattle.osi_class.proofs.Short.{stays_short}
-use Rattle.osi_class.proofs.SoundLaws.{move_sound, move_same}
-use Rattle.osi_between.proofs.Vocabulary.{flat_map, AllByRecursion, append-nil, map-append, flat_map-append, IsOctets, Value, LeftMoves, LinkPair, swapped, Turn, at_left, TurnsAlong, opposite, left_in, right_out, under_way_before, under_way, HasWholeTsdus, IsShortTsdu, TakesOldest, Ends, Flow, Sender, all_given, Joining, with_part, Standing, Given, taken, taken_by, unit_of, with_tsdu, with_joined, with_sender, HasGivenInRange, LinkFault, TsduTooLong, in_range, stays_octets, unit_fits, agree_turns, drained_moves, drained_ends, drained_leaves, choose_ok, at_ok, turns_keep, whole_kept, stays_whole, other_way, pumped, handed_out, IsWell, IsSettled, AgreeIn, AreOpen, links, Passes, after_send, after_take, LeftTakes}
+use Rattle.osi_between.proofs.Vocabulary.{◌≡◌, ℕ, ◌<◌, Bool, true, false, List, [], ◌∷◌, ◌++◌, map, take, drop, Option, Result, Ok, Err}
+use Rattle.osi_between.proofs.Vocabulary.{refl, sym, ◌∙◌, ap, subst, arith, append_assoc, nat_lt, length, if◌then◌else◌, IfOk, hand_in}
+use Rattle.osi_between.proofs.Vocabulary.{give_out, take_in, hand_out, MovesAlong, zero_turns, said, oldest_in_class_0, oldest_in_class_2}
+use Rattle.osi_between.proofs.Vocabulary.{stays_short, move_sound, move_same, flat_map, AllByRecursion, append-nil, map-append}
+use Rattle.osi_between.proofs.Vocabulary.{flat_map-append, IsOctets, Value, LeftMoves, LinkPair, swapped, Turn, at_left, TurnsAlong}
+use Rattle.osi_between.proofs.Vocabulary.{opposite, left_in, right_out, under_way_before, under_way, HasWholeTsdus, IsShortTsdu}
+use Rattle.osi_between.proofs.Vocabulary.{TakesOldest, Ends, Flow, Sender, all_given, Joining, with_part, Standing, Given, taken, taken_by}
+use Rattle.osi_between.proofs.Vocabulary.{unit_of, with_tsdu, with_joined, with_sender, HasGivenInRange, LinkFault, TsduTooLong, in_range}
+use Rattle.osi_between.proofs.Vocabulary.{stays_octets, unit_fits, agree_turns, drained_moves, drained_ends, drained_leaves, choose_ok}
+use Rattle.osi_between.proofs.Vocabulary.{at_ok, turns_keep, whole_kept, stays_whole, other_way, pumped, handed_out, IsWell, IsSettled}
+use Rattle.osi_between.proofs.Vocabulary.{AgreeIn, AreOpen, links, Passes, after_send, after_take, LeftTakes}
 
 -- ---- turns one after the other
 
@@ -23,12 +27,15 @@ along_join : (a b c : LinkPair) (ts us : List Turn) → TurnsAlong a ts b → Tu
 along_join a b c [] us e more = subst (λ (p : LinkPair). TurnsAlong p us c) e more
 along_join a b c (t ∷ ts) us (mid, first, rest) more = (mid, first, along_join mid b c ts us rest more)
 
-joined_outs : (f : Turn → List (List ℕ)) (ts us : List Turn) (xs ys : List (List ℕ)) → flat_map f ts ≡ xs → flat_map f us ≡ ys → flat_map f (ts ++ us) ≡ xs ++ ys
-joined_outs f ts us xs ys a b = flat_map-append f ts us ∙ ap (λ (l : List (List ℕ)). l ++ flat_map f us) a ∙ ap (λ (l : List (List ℕ)). xs ++ l) b
+joined_outs : (f : Turn → List (List ℕ)) (ts us : List Turn) (xs ys : List (List ℕ)) → flat_map f ts ≡ xs → flat_map f us ≡ ys →
+    flat_map f (ts ++ us) ≡ xs ++ ys
+joined_outs f ts us xs ys a b =
+    flat_map-append f ts us ∙ ap (λ (l : List (List ℕ)). l ++ flat_map f us) a ∙ ap (λ (l : List (List ℕ)). xs ++ l) b
 
-joined_backs : (f : Turn → List (List ℕ)) (ts us : List Turn) (xs ys : List (List ℕ)) → flat_map f (map opposite ts) ≡ xs → flat_map f (map opposite us) ≡ ys →
-    flat_map f (map opposite (ts ++ us)) ≡ xs ++ ys
-joined_backs f ts us xs ys a b = ap (λ (l : List Turn). flat_map f l) (map-append opposite ts us) ∙ joined_outs f (map opposite ts) (map opposite us) xs ys a b
+joined_backs : (f : Turn → List (List ℕ)) (ts us : List Turn) (xs ys : List (List ℕ)) → flat_map f (map opposite ts) ≡ xs →
+    flat_map f (map opposite us) ≡ ys → flat_map f (map opposite (ts ++ us)) ≡ xs ++ ys
+joined_backs f ts us xs ys a b =
+    ap (λ (l : List Turn). flat_map f l) (map-append opposite ts us) ∙ joined_outs f (map opposite ts) (map opposite us) xs ys a b
 
 pub turned_join : (a b c : LinkPair) (i j o p : List (List ℕ)) → Turned a b i o → Turned b c j p → Turned a c (i ++ j) (o ++ p)
 turned_join a b c i j o p first second = grind (arith, along_join, joined_outs, joined_backs)
@@ -60,7 +67,8 @@ gives_out_back [] = refl
 gives_out_back (g ∷ gs) = gives_out_back gs
 
 -- all that a link gives
-pub turned_pumped : (l r : Standing) (out back : List Given) → Turned (links l out r back) (links (pumped l) (out ++ all_given l) r back) [] []
+pub turned_pumped : (l r : Standing) (out back : List Given) →
+    Turned (links l out r back) (links (pumped l) (out ++ all_given l) r back) [] []
 turned_pumped l r out back = record {
   turns = map at_left (map give_out (all_given l));
   along = gives_along l r out back (all_given l) (pumped l) (drained_moves l);
@@ -72,7 +80,8 @@ turned_pumped l r out back = record {
 
 -- ---- handing in and out
 
-pub turned_in : (l r : Standing) (out back : List Given) (tsdu : List ℕ) → Turned (links l out r back) (links (with_tsdu l tsdu) out r back) (tsdu ∷ []) []
+pub turned_in : (l r : Standing) (out back : List Given) (tsdu : List ℕ) →
+    Turned (links l out r back) (links (with_tsdu l tsdu) out r back) (tsdu ∷ []) []
 turned_in l r out back tsdu = record {
   turns = at_left (hand_in tsdu) ∷ [];
   along = (links (with_tsdu l tsdu) out r back, record { moves = refl; given = sym (append-nil out); comes = refl; right = refl }, refl);
@@ -100,16 +109,19 @@ turned_out_by l r out back (t ∷ ts) e =
       got = refl;
     }
 
-pub turned_out : (l r : Standing) (out back : List Given) → Turned (links l out r back) (links (handed_out l) out r back) [] (take 1 l.ends.joining.whole)
+pub turned_out : (l r : Standing) (out back : List Given) →
+    Turned (links l out r back) (links (handed_out l) out r back) [] (take 1 l.ends.joining.whole)
 turned_out l r out back = turned_out_by l r out back l.ends.joining.whole refl
 
 -- ---- what turns keep
 
 agree_turned : (two : Bool) (old new : LinkPair) (i o : List (List ℕ)) → Turned old new i o → AgreeIn two old → AgreeIn two new
-agree_turned false old new i o t a = record {
-  agree = zero_turns t.turns old new a.agree t.along;
-  agree_back = zero_turns (map opposite t.turns) (swapped old) (swapped new) a.agree_back (other_way old new t.turns t.along);
-}
+agree_turned false old new i o t a =
+    assumption (
+      zero_turns t.turns old new a.agree t.along,
+      zero_turns (map opposite t.turns) (swapped old) (swapped new) a.agree_back
+          (other_way old new t.turns t.along),
+    )
 agree_turned true old new i o t a = search (
   agree_turns t.turns old new a.window a.agree t.along,
   agree_turns (map opposite t.turns) (swapped old) (swapped new) a.back a.agree_back (other_way old new t.turns t.along),
@@ -121,7 +133,8 @@ turned_any old new i o t =
     ap (λ (l : List (List ℕ)). under_way_before old l) (sym (append-nil (flat_map left_in t.turns) ∙ t.sent))
     ∙ turns_keep old new t.turns [] t.along ∙ ap (λ (l : List (List ℕ)). l ++ under_way new) t.none
 
-pub turned_any_back : (old new : LinkPair) (i o : List (List ℕ)) → Turned old new i o → under_way (swapped old) ≡ o ++ under_way (swapped new)
+pub turned_any_back : (old new : LinkPair) (i o : List (List ℕ)) → Turned old new i o →
+    under_way (swapped old) ≡ o ++ under_way (swapped new)
 turned_any_back old new i o t =
     ap (λ (l : List (List ℕ)). under_way_before (swapped old) l) (sym (append-nil (flat_map left_in (map opposite t.turns)) ∙ t.sent_back))
     ∙ turns_keep (swapped old) (swapped new) (map opposite t.turns) [] (other_way old new t.turns t.along)
@@ -136,27 +149,30 @@ pub turned_left : (old new : LinkPair) (i o : List (List ℕ)) → Turned old ne
 turned_left old new i o t whole = grind (arith, append-nil, whole_kept, map, other_way)
 
 -- open links stay open if the one that turned is settled again
-pub turned_passes : (two : Bool) (old new : LinkPair) (i o : List (List ℕ)) → Turned old new i o → AllByRecursion IsShortTsdu i → AgreeIn two old →
-    HasWholeTsdus old → HasWholeTsdus (swapped old) → AllByRecursion IsShortTsdu (under_way old) → AllByRecursion IsShortTsdu (under_way (swapped old)) →
-    AllByRecursion HasGivenInRange new.rightward → AllByRecursion HasGivenInRange new.leftward → IsSettled new.left → IsSettled new.right → Passes two old new i o
+pub turned_passes : (two : Bool) (old new : LinkPair) (i o : List (List ℕ)) → Turned old new i o → AllByRecursion IsShortTsdu i →
+    AgreeIn two old → HasWholeTsdus old → HasWholeTsdus (swapped old) → AllByRecursion IsShortTsdu (under_way old) →
+    AllByRecursion IsShortTsdu (under_way (swapped old)) → AllByRecursion HasGivenInRange new.rightward →
+    AllByRecursion HasGivenInRange new.leftward → IsSettled new.left → IsSettled new.right → Passes two old new i o
 turned_passes two old new i o t short agree whole whole_back s s_back range range_back left right =
     let back = other_way old new t.turns t.along in
-    record {
-      rightward = turned_right old new i o t whole;
-      leftward = turned_left old new i o t whole_back;
-      stay_open = record {
-        agree = agree_turned two old new i o t agree;
-        whole = stays_whole old new t.turns whole t.along;
-        whole_back = stays_whole (swapped old) (swapped new) (map opposite t.turns) whole_back back;
-        short = stays_short old new t.turns whole s (subst (λ (l : List (List ℕ)). AllByRecursion IsShortTsdu l) (sym t.sent) short) t.along;
-        short_back = stays_short (swapped old) (swapped new) (map opposite t.turns) whole_back s_back
-            (subst (λ (l : List (List ℕ)). AllByRecursion IsShortTsdu l) (sym t.sent_back) tt) back;
-        range = range;
-        range_back = range_back;
-        left = left;
-        right = right;
-      };
-    }
+    assumption (
+      turned_right old new i o t whole,
+      turned_left old new i o t whole_back,
+      agree_turned two old new i o t agree,
+      stays_whole
+          old new t.turns whole t.along,
+      stays_whole (swapped old) (swapped new)
+          (map opposite t.turns) whole_back back,
+      stays_short old new t.turns whole s
+          (subst (λ (l : List (List ℕ)). AllByRecursion IsShortTsdu l) (sym t.sent) short) t.along,
+      stays_short (swapped old) (swapped new)
+          (map opposite t.turns) whole_back s_back
+          (subst (λ (l : List (List ℕ)). AllByRecursion IsShortTsdu l) (sym t.sent_back) tt) back,
+      range,
+      range_back,
+      left,
+      right,
+    )
 
 -- ---- a link between calls
 
@@ -164,7 +180,7 @@ turned_passes two old new i o t short agree whole whole_back s s_back range rang
 gives_well : (gs : List Given) (s t : Standing) → IsWell s → MovesAlong s (map give_out gs) t → IsWell t × AllByRecursion HasGivenInRange gs
 gives_well [] s t h e = (subst (λ (l : Standing). IsWell l) (sym e) h, tt)
 gives_well (g ∷ gs) s t h (mid, first, rest) =
-    let well : IsWell mid = record { sound = move_sound (give_out g) s mid h.sound tt first; octets = stays_octets s mid g h.sound h.octets first } in
+    let well : IsWell mid = assumption (move_sound (give_out g) s mid h.sound tt first, stays_octets s mid g h.sound h.octets first) in
     let more = gives_well gs mid t well rest in
     (more.0, (in_range s mid g h.sound h.octets first, more.1))
 
@@ -178,12 +194,14 @@ octets_behind : (ts : List (List ℕ)) (t : List ℕ) → AllByRecursion IsOctet
 octets_behind [] t h is = (is, tt)
 octets_behind (u ∷ ts) t h is = (h.0, octets_behind ts t h.1 is)
 
-pub range_behind : (us vs : List Given) → AllByRecursion HasGivenInRange us → AllByRecursion HasGivenInRange vs → AllByRecursion HasGivenInRange (us ++ vs)
+pub range_behind : (us vs : List Given) → AllByRecursion HasGivenInRange us → AllByRecursion HasGivenInRange vs →
+    AllByRecursion HasGivenInRange (us ++ vs)
 range_behind [] vs a b = b
 range_behind (u ∷ us) vs a b = (a.0, range_behind us vs a.1 b)
 
 with_well : (s : Standing) (tsdu : List ℕ) → IsWell s → IsOctets tsdu → IsWell (with_tsdu s tsdu)
-with_well s tsdu h is = record { sound = move_sound (hand_in tsdu) s (with_tsdu s tsdu) h.sound tt refl; octets = octets_behind s.ends.unsent tsdu h.octets is }
+with_well s tsdu h is = assumption
+    (move_sound (hand_in tsdu) s (with_tsdu s tsdu) h.sound tt refl, octets_behind s.ends.unsent tsdu h.octets is)
 
 out_well : (s : Standing) → IsWell s → IsWell (handed_out s)
 out_well s h = grind arith
@@ -219,21 +237,27 @@ joined_unsent e flow r = grind arith
 sender_unsent : (e : Ends) (f : Flow) (r : Result Sender LinkFault) → IfOk (with_sender e f r) (Unsent e.unsent)
 sender_unsent e f r = grind arith
 
-taken_unsent_by : (e : Ends) (flow : Option Flow) (destination : ℕ) (g : Given) → IfOk (taken_by e flow (unit_of destination g)) (Unsent e.unsent)
+taken_unsent_by : (e : Ends) (flow : Option Flow) (destination : ℕ) (g : Given) →
+    IfOk (taken_by e flow (unit_of destination g)) (Unsent e.unsent)
 taken_unsent_by e flow destination g = grind (arith, joined_unsent, choose_ok, sender_unsent)
 
-taken_well : (s t : Standing) (destination : ℕ) (g : Given) → destination < 65536 → HasGivenInRange g → IsWell s → taken s (unit_of destination g) ≡ Ok t → IsWell t
-taken_well s t destination g few range h e = record {
-  sound = move_sound (take_in (unit_of destination g)) s t h.sound (unit_fits destination g few range).in_range e;
-  octets = subst (λ (l : List (List ℕ)). AllByRecursion IsOctets l)
-      (sym (at_ok (Unsent s.ends.unsent) (taken s (unit_of destination g)) t (taken_unsent_by s.ends s.flow destination g) e)) h.octets;
-}
+taken_well : (s t : Standing) (destination : ℕ) (g : Given) → destination < 65536 → HasGivenInRange g → IsWell s →
+    taken s (unit_of destination g) ≡ Ok t → IsWell t
+taken_well s t destination g few range h e =
+    assumption (
+      move_sound (take_in (unit_of destination g)) s t h.sound (unit_fits destination g few range).in_range e,
+      subst
+          (λ (l : List (List ℕ)). AllByRecursion IsOctets l)
+          (sym (at_ok (Unsent s.ends.unsent) (taken s (unit_of destination g)) t (taken_unsent_by s.ends s.flow destination g) e)) h.octets,
+    )
 
 -- ---- the two calls at the left, whatever the peer
 
 -- a unit that the left link takes, whatever its peer
-pub turned_take : (l t r : Standing) (out : List Given) (g : Given) (rest : List Given) (destination : ℕ) → taken l (unit_of destination g) ≡ Ok t →
-    Turned (links l out r (g ∷ rest)) (links (pumped (handed_out t)) (out ++ all_given (handed_out t)) r rest) [] (take 1 t.ends.joining.whole)
+pub turned_take : (l t r : Standing) (out : List Given) (g : Given) (rest : List Given) (destination : ℕ) →
+    taken l (unit_of destination g) ≡ Ok t →
+    Turned (links l out r (g ∷ rest)) (links (pumped (handed_out t)) (out ++ all_given (handed_out t)) r rest) []
+    (take 1 t.ends.joining.whole)
 turned_take l t r out g rest destination is =
     let old = links l out r (g ∷ rest) in
     let mid = links t out r rest in
@@ -242,16 +266,26 @@ turned_take l t r out g rest destination is =
     let got = take 1 t.ends.joining.whole in
     let turn : LeftMoves (take_in (unit_of destination g)) old mid =
     record { moves = is; given = sym (append-nil out); comes = (g, said destination g, refl); right = refl } in
-    let first : Turned old mid [] [] = record { turns = at_left (take_in (unit_of destination g)) ∷ []; along = (mid, turn, refl); sent = refl; none = refl; sent_back = refl; got = refl } in
+    let first : Turned old mid [] [] =
+    record {
+      turns = at_left (take_in (unit_of destination g)) ∷ [];
+      along = (mid, turn, refl);
+      sent = refl;
+      none = refl;
+      sent_back = refl;
+      got = refl;
+    } in
     let all : Turned old new [] (got ++ []) =
-    turned_join old after new [] [] got [] (turned_join old mid after [] [] [] got first (turned_out t r out rest)) (turned_pumped (handed_out t) r out rest) in
+    turned_join old after new [] [] got [] (turned_join old mid after [] [] [] got first (turned_out t r out rest))
+    (turned_pumped (handed_out t) r out rest) in
     subst (λ (l : List (List ℕ)). Turned old new [] l) (append-nil got) all
 
 -- a TSDU that is handed in at the left, whatever its peer
 pub turned_send : (l r : Standing) (out back : List Given) (tsdu : List ℕ) →
     Turned (links l out r back) (links (pumped (with_tsdu l tsdu)) (out ++ all_given (with_tsdu l tsdu)) r back) (tsdu ∷ []) []
 turned_send l r out back tsdu =
-    turned_join (links l out r back) (links (with_tsdu l tsdu) out r back) (links (pumped (with_tsdu l tsdu)) (out ++ all_given (with_tsdu l tsdu)) r back) (tsdu ∷ []) [] [] []
+    turned_join (links l out r back) (links (with_tsdu l tsdu) out r back)
+    (links (pumped (with_tsdu l tsdu)) (out ++ all_given (with_tsdu l tsdu)) r back) (tsdu ∷ []) [] [] []
     (turned_in l r out back tsdu) (turned_pumped (with_tsdu l tsdu) r out back)
 
 -- ---- the two calls at the left of open links
@@ -266,14 +300,15 @@ sends_passes two p tsdu a short octets =
     (range_behind p.rightward (all_given (with_tsdu p.left tsdu)) a.range (pumped_well (with_tsdu p.left tsdu) well).1) a.range_back
     (pumped_settled (with_tsdu p.left tsdu) a.left.limit a.left.handed well) a.right
 
-oldest_taken : (two : Bool) (p : LinkPair) (unit : Given) (rest : List Given) (destination : ℕ) → AreOpen two p → AgreeIn two p → p.leftward ≡ unit ∷ rest →
-    TakesOldest (swapped p) (unit_of destination unit) rest
-oldest_taken false p unit rest destination a z e = oldest_in_class_0 (swapped p) unit rest destination z.agree_back a.whole_back a.short_back e
+oldest_taken : (two : Bool) (p : LinkPair) (unit : Given) (rest : List Given) (destination : ℕ) → AreOpen two p → AgreeIn two p →
+    p.leftward ≡ unit ∷ rest → TakesOldest (swapped p) (unit_of destination unit) rest
+oldest_taken false p unit rest destination a z e =
+    oldest_in_class_0 (swapped p) unit rest destination z.agree_back a.whole_back a.short_back e
 oldest_taken true p unit rest destination a t e =
     oldest_in_class_2 (swapped p) t.back t.window unit rest destination t.agree_back t.agree a.whole_back a.short_back e
 
-left_takes_by : (two : Bool) (p : LinkPair) (g : Given) (rest : List Given) (destination : ℕ) → destination < 65536 → AreOpen two p → p.leftward ≡ g ∷ rest →
-    TakesOldest (swapped p) (unit_of destination g) rest → LeftTakes two p (unit_of destination g) rest
+left_takes_by : (two : Bool) (p : LinkPair) (g : Given) (rest : List Given) (destination : ℕ) → destination < 65536 → AreOpen two p →
+    p.leftward ≡ g ∷ rest → TakesOldest (swapped p) (unit_of destination g) rest → LeftTakes two p (unit_of destination g) rest
 left_takes_by two p g rest destination few a e t =
     let range = subst (λ (us : List Given). AllByRecursion HasGivenInRange us) e a.range_back in
     let well = out_well t.new (taken_well p.left t.new destination g few range.0 a.left.well t.taken) in
@@ -291,6 +326,7 @@ left_takes_by two p g rest destination few a e t =
           (pumped_settled (handed_out t.new) limit (taken_one p.left t.new (unit_of destination g) a.left.handed t.taken) well) a.right;
     }
 
-pub left_takes : (two : Bool) (p : LinkPair) (unit : Given) (rest : List Given) (destination : ℕ) → destination < 65536 → AreOpen two p → p.leftward ≡ unit ∷ rest →
-    LeftTakes two p (unit_of destination unit) rest
-left_takes two p unit rest destination few a e = left_takes_by two p unit rest destination few a e (oldest_taken two p unit rest destination a a.agree e)
+pub left_takes : (two : Bool) (p : LinkPair) (unit : Given) (rest : List Given) (destination : ℕ) → destination < 65536 → AreOpen two p →
+    p.leftward ≡ unit ∷ rest → LeftTakes two p (unit_of destination unit) rest
+left_takes two p unit rest destination few a e =
+    left_takes_by two p unit rest destination few a e (oldest_taken two p unit rest destination a a.agree e)

@@ -1,8 +1,14 @@
 -- What is in flight for a connection, after each unit that one of its two carriers takes and after each call.
 -- For connections of class 2 and class 0.
-use Rattle.std.proofs.Common.{◌≡◌, ℕ, ◌<◌, true, List, [], ◌∷◌, ◌++◌, map, take, Some, None, refl, sym, ap, ◌∙◌, arith, append_assoc}
 use Rattle.osi_between.specs.Meeting.{Carries}
-use Rattle.osi_between.proofs.Vocabulary.{flat_map, append-nil, map-append, Value, data0, disconnected, LinkPair, swapped, parts_under_way, under_way, under_way_before, fresh_ends, all_given, Joining, Standing, Given, unit_of, with_tsdu, zero_standing, tsdus_after, uncut, drained_leaves, Happening, tsdu, closed, pumped, handed_out, Meeting, talking, left_here, left_there, left_both, waiting_here, waiting_there, parted, here, there, addressed, leaving, told_open, told_at, messages_back, messages_out, Message, message, bye, over, parting, messages_after, uncut_units, kind_of, AreLike, AreOpen, links, LeftTakes, after_take, after_send}
+use Rattle.osi_between.proofs.Vocabulary.{◌≡◌, ℕ, ◌<◌, true, List, [], ◌∷◌, ◌++◌, map, take, Some, None, refl, sym, ap, ◌∙◌, arith}
+use Rattle.osi_between.proofs.Vocabulary.{append_assoc, flat_map, append-nil, map-append, Value, data0, disconnected, LinkPair, swapped}
+use Rattle.osi_between.proofs.Vocabulary.{parts_under_way, under_way, under_way_before, fresh_ends, all_given, Joining, Standing, Given}
+use Rattle.osi_between.proofs.Vocabulary.{unit_of, with_tsdu, zero_standing, tsdus_after, uncut, drained_leaves, Happening, tsdu, closed}
+use Rattle.osi_between.proofs.Vocabulary.{pumped, handed_out, Meeting, talking, left_here, left_there, left_both, waiting_here}
+use Rattle.osi_between.proofs.Vocabulary.{waiting_there, parted, here, there, addressed, leaving, told_open, told_at, messages_back}
+use Rattle.osi_between.proofs.Vocabulary.{messages_out, Message, message, bye, over, parting, messages_after, uncut_units, kind_of, AreLike}
+use Rattle.osi_between.proofs.Vocabulary.{AreOpen, links, LeftTakes, after_take, after_send}
 use Rattle.osi_between.proofs.unit.units_are_read_as_messages.{tsdu_messages, messages_behind, messages_front, kinds_begun, kinds_join}
 use Rattle.osi_between.proofs.link.a_call_is_turns_of_two_links.{turned_any, turned_any_back, turned_take, turned_send}
 use Rattle.osi_between.proofs.unit.what_a_taken_unit_means.{same_like}
@@ -28,14 +34,16 @@ pub under_way_is : (p : LinkPair) (later : List (List ℕ)) → p.right.ends.joi
 under_way_is p later e = grind arith
 
 pub pair_before : (n : ℕ) (p : LinkPair) (later : List (List ℕ)) → p.right.ends.joining.whole ≡ [] →
-    messages_after p.right.ends.joining.begun (addressed n p.rightward ++ uncut_units (p.left.ends.unsent ++ later)) ≡ map message (under_way_before p later)
+    messages_after p.right.ends.joining.begun (addressed n p.rightward ++ uncut_units (p.left.ends.unsent ++ later)) ≡ map message
+    (under_way_before p later)
 pair_before n p later e =
     tsdu_messages n p.rightward p.right.ends.joining.begun (p.left.ends.unsent ++ later) ∙ ap (map message) (sym (under_way_is p later e))
 
 pub pair_messages : (n : ℕ) (p : LinkPair) → p.right.ends.joining.whole ≡ [] →
     messages_after p.right.ends.joining.begun (addressed n p.rightward ++ uncut_units p.left.ends.unsent) ≡ map message (under_way p)
 pair_messages n p e =
-    ap (λ (ts : List (List ℕ)). messages_after p.right.ends.joining.begun (addressed n p.rightward ++ uncut_units ts)) (sym (append-nil p.left.ends.unsent))
+    ap (λ (ts : List (List ℕ)). messages_after p.right.ends.joining.begun (addressed n p.rightward ++ uncut_units ts))
+    (sym (append-nil p.left.ends.unsent))
     ∙ pair_before n p [] e
 
 -- a link with nothing to send, which has taken nothing
@@ -57,20 +65,22 @@ talking_takes n p unit rest a t =
       stays = messages_out n (talking p);
       lost = [];
       told = told_tsdus n got;
-      leftward = pair_messages n (swapped p) a.left.handed ∙ ap (map message) t.passes.leftward ∙ map-append message got (under_way (swapped q))
+      leftward = pair_messages n (swapped p) a.left.handed ∙ ap (map message) t.passes.leftward
+          ∙ map-append message got (under_way (swapped q))
           ∙ ap (λ (l : List Message). map message got ++ l) (sym (pair_messages n (swapped q) t.passes.stay_open.left.handed));
       before = sym (append-nil (messages_out n (talking p)));
       after = sym same ∙ sym (append-nil (messages_out n (talking p)));
     }
 
 -- the prefix of what is in flight to a closing link, by kind
-pub kinds_of_tsdu : (us : List Value) (octets : List ℕ) → map kind_of (messages_after [] (us ++ data0 true octets ∷ [])) ≡ map kind_of (messages_after [] us ++ message octets ∷ [])
+pub kinds_of_tsdu : (us : List Value) (octets : List ℕ) →
+    map kind_of (messages_after [] (us ++ data0 true octets ∷ [])) ≡ map kind_of (messages_after [] us ++ message octets ∷ [])
 kinds_of_tsdu us octets =
     kinds_join us (data0 true octets ∷ []) [] ∙ sym (map-append kind_of (messages_after [] us) (message octets ∷ []))
 
-abbrev pub talking_sends : (n : ℕ) (p : LinkPair) (octets : List ℕ) → AreOpen true p → under_way p ++ octets ∷ [] ≡ under_way (after_send p octets) →
-    under_way (swapped p) ≡ under_way (swapped (after_send p octets)) → AreOpen true (after_send p octets) →
-    Carries n (talking p) (talking (after_send p octets)) [] (message octets ∷ [])
+abbrev pub talking_sends : (n : ℕ) (p : LinkPair) (octets : List ℕ) → AreOpen true p →
+    under_way p ++ octets ∷ [] ≡ under_way (after_send p octets) → under_way (swapped p) ≡ under_way (swapped (after_send p octets)) →
+    AreOpen true (after_send p octets) → Carries n (talking p) (talking (after_send p octets)) [] (message octets ∷ [])
 talking_sends n p octets a rightward leftward b =
     let q = after_send p octets in
     record {
@@ -95,10 +105,13 @@ behind_leaving n us reason begun some =
     alone begun (us ++ leaving n reason ∷ [])
     ∙ messages_behind us begun (leaving n reason ∷ []) (bye reason ∷ []) (λ b. ap (λ (m : Message). m ∷ []) (parting_is n reason some))
 
-pub behind_over : (n : ℕ) (us : List Value) (begun : List ℕ) → messages_after begun ((us ++ disconnected n n ∷ []) ++ uncut_units []) ≡ messages_after begun us ++ over ∷ []
-behind_over n us begun = alone begun (us ++ disconnected n n ∷ []) ∙ messages_behind us begun (disconnected n n ∷ []) (over ∷ []) (λ b. refl)
+pub behind_over : (n : ℕ) (us : List Value) (begun : List ℕ) →
+    messages_after begun ((us ++ disconnected n n ∷ []) ++ uncut_units []) ≡ messages_after begun us ++ over ∷ []
+behind_over n us begun =
+    alone begun (us ++ disconnected n n ∷ []) ∙ messages_behind us begun (disconnected n n ∷ []) (over ∷ []) (λ b. refl)
 
-abbrev pub talking_closes : (n : ℕ) (p : LinkPair) (reason : ℕ) → 0 < n → Carries n (talking p) (left_here p p.leftward reason) [] (bye reason ∷ [])
+abbrev pub talking_closes : (n : ℕ) (p : LinkPair) (reason : ℕ) → 0 < n →
+    Carries n (talking p) (left_here p p.leftward reason) [] (bye reason ∷ [])
 talking_closes n p reason some =
     let us = addressed n p.rightward in
     let begun = p.right.ends.joining.begun in
@@ -115,8 +128,8 @@ talking_closes n p reason some =
 
 -- ---- the other has closed
 
-abbrev pub behind_takes : (n : ℕ) (p : LinkPair) (hs : List Given) (reason : ℕ) (g : Given) (gs : List Given) → 0 < n → AreOpen true p → p.leftward ≡ g ∷ gs →
-    (t : LeftTakes true p (unit_of n g) gs) →
+abbrev pub behind_takes : (n : ℕ) (p : LinkPair) (hs : List Given) (reason : ℕ) (g : Given) (gs : List Given) → 0 < n → AreOpen true p →
+    p.leftward ≡ g ∷ gs → (t : LeftTakes true p (unit_of n g) gs) →
     Carries n (left_there p hs reason) (left_there (after_take p t.link gs) (hs ++ all_given (handed_out t.link)) reason)
     (map (tsdu n) (take 1 t.link.ends.joining.whole)) []
 behind_takes n p hs reason g gs some a e t =
@@ -129,10 +142,13 @@ behind_takes n p hs reason g gs some a e t =
     let begun = p.left.ends.joining.begun in
     let next = link.ends.joining.begun in
     let came : messages_after begun (addressed n (g ∷ gs)) ≡ map message got ++ messages_after next (addressed n gs) =
-    sym (alone begun (addressed n (g ∷ gs))) ∙ pair_messages n (swapped v) a.left.handed ∙ ap (map message) (turned_any_back v w [] got turned)
+    sym (alone begun (addressed n (g ∷ gs))) ∙ pair_messages n (swapped v) a.left.handed
+    ∙ ap (map message) (turned_any_back v w [] got turned)
     ∙ map-append message got (under_way (swapped w))
-    ∙ ap (λ (l : List Message). map message got ++ l) (sym (pair_messages n (swapped w) t.passes.stay_open.left.handed) ∙ alone next (addressed n gs)) in
-    let same : messages_after [] (addressed n hs ++ uncut_units p.left.ends.unsent) ≡ messages_after [] (addressed n (hs ++ given) ++ uncut_units link.ends.unsent) =
+    ∙ ap (λ (l : List Message). map message got ++ l)
+    (sym (pair_messages n (swapped w) t.passes.stay_open.left.handed) ∙ alone next (addressed n gs)) in
+    let same : messages_after [] (addressed n hs ++ uncut_units p.left.ends.unsent) ≡ messages_after []
+    (addressed n (hs ++ given) ++ uncut_units link.ends.unsent) =
     pair_messages n v refl ∙ ap (map message) (turned_any v w [] got turned) ∙ sym (pair_messages n w refl) in
     record {
       arrived = map message got;
@@ -149,7 +165,8 @@ behind_takes n p hs reason g gs some a e t =
     }
 
 abbrev pub behind_sends : (n : ℕ) (p : LinkPair) (hs : List Given) (reason : ℕ) (octets : List ℕ) →
-    Carries n (left_there p hs reason) (left_there (after_send p octets) (hs ++ all_given (with_tsdu p.left octets)) reason) [] (message octets ∷ [])
+    Carries n (left_there p hs reason) (left_there (after_send p octets) (hs ++ all_given (with_tsdu p.left octets)) reason) []
+    (message octets ∷ [])
 behind_sends n p hs reason octets =
     let link = pumped (with_tsdu p.left octets) in
     let given = all_given (with_tsdu p.left octets) in
@@ -158,22 +175,26 @@ behind_sends n p hs reason octets =
     let turned = turned_send p.left bare hs p.leftward octets in
     let us = addressed n hs in
     let unsent = p.left.ends.unsent in
-    let same : messages_after [] (addressed n (hs ++ given) ++ uncut_units link.ends.unsent) ≡ messages_after [] (us ++ uncut_units (unsent ++ octets ∷ [])) =
+    let same : messages_after [] (addressed n (hs ++ given) ++ uncut_units link.ends.unsent) ≡ messages_after []
+    (us ++ uncut_units (unsent ++ octets ∷ [])) =
     pair_messages n w refl ∙ ap (map message) (sym (turned_any v w (octets ∷ []) [] turned)) ∙ sym (pair_before n v (octets ∷ []) refl) in
     let parts : us ++ uncut_units (unsent ++ octets ∷ []) ≡ (us ++ uncut_units unsent) ++ data0 true octets ∷ [] =
-    ap (λ (l : List Value). us ++ l) (map-append (data0 true) unsent (octets ∷ [])) ∙ sym (append_assoc us (uncut_units unsent) (data0 true octets ∷ [])) in
+    ap (λ (l : List Value). us ++ l) (map-append (data0 true) unsent (octets ∷ []))
+    ∙ sym (append_assoc us (uncut_units unsent) (data0 true octets ∷ [])) in
     record {
       arrived = [];
       stays = messages_out n (left_there p hs reason);
       lost = [];
       told = refl;
-      leftward = ap (λ (j : Joining). messages_after j.begun ((addressed n p.leftward ++ leaving n reason ∷ []) ++ [])) (sym (drained_leaves (with_tsdu p.left octets)).1);
+      leftward = ap (λ (j : Joining). messages_after j.begun ((addressed n p.leftward ++ leaving n reason ∷ []) ++ []))
+          (sym (drained_leaves (with_tsdu p.left octets)).1);
       before = ap (map kind_of) (sym (append-nil (messages_out n (left_there p hs reason))));
       after = ap (map kind_of) (same ∙ ap (messages_after []) parts) ∙ kinds_of_tsdu (us ++ uncut_units unsent) octets;
     }
 
 -- what was not yet cut is lost
-pub kinds_lost : (us vs : List Value) → map kind_of (messages_after [] (us ++ vs)) ≡ map kind_of (messages_after [] us ++ messages_after [] vs)
+pub kinds_lost : (us vs : List Value) →
+    map kind_of (messages_after [] (us ++ vs)) ≡ map kind_of (messages_after [] us ++ messages_after [] vs)
 kinds_lost us vs = kinds_join us vs [] ∙ sym (map-append kind_of (messages_after [] us) (messages_after [] vs))
 
 abbrev pub leaving_takes : (n : ℕ) (p : LinkPair) (hs : List Given) (reason : ℕ) → 0 < n → p.leftward ≡ [] →
@@ -204,7 +225,8 @@ behind_closes n p hs reason other some = record {
 -- ---- this side has closed
 
 -- a unit that is ignored, by kind
-pub kinds_first : (u : Value) (us : List Value) → map kind_of (messages_after [] (u ∷ us)) ≡ map kind_of (messages_after [] (u ∷ []) ++ messages_after [] us)
+pub kinds_first : (u : Value) (us : List Value) →
+    map kind_of (messages_after [] (u ∷ us)) ≡ map kind_of (messages_after [] (u ∷ []) ++ messages_after [] us)
 kinds_first u us = kinds_join (u ∷ []) us [] ∙ sym (map-append kind_of (messages_after [] (u ∷ [])) (messages_after [] us))
 
 -- what is in flight from here does not change
@@ -224,11 +246,14 @@ still_carries n old new arrived told leftward same = record {
 }
 
 abbrev pub ignores : (n : ℕ) (old new : Meeting) (g : Given) → ((m : Message) → told_at n (here n old) m ≡ []) →
-    AreLike (here n new) (messages_back n old) (messages_after [] (unit_of n g ∷ []) ++ messages_back n new) → Still n old new → Carries n old new [] []
+    AreLike (here n new) (messages_back n old) (messages_after [] (unit_of n g ∷ []) ++ messages_back n new) → Still n old new →
+    Carries n old new [] []
 ignores n old new g silent leftward same =
-    still_carries n old new (messages_after [] (unit_of n g ∷ [])) (told_nothing (messages_after [] (unit_of n g ∷ [])) (told_at n (here n old)) silent) leftward same
+    still_carries n old new (messages_after [] (unit_of n g ∷ []))
+    (told_nothing (messages_after [] (unit_of n g ∷ [])) (told_at n (here n old)) silent) leftward same
 
-abbrev pub both_takes : (n : ℕ) (hs : List Given) (reason other : ℕ) → 0 < n → Carries n (left_both hs reason [] other) (waiting_there hs (Some reason)) [] []
+abbrev pub both_takes : (n : ℕ) (hs : List Given) (reason other : ℕ) → 0 < n →
+    Carries n (left_both hs reason [] other) (waiting_there hs (Some reason)) [] []
 both_takes n hs reason other some =
     still_carries n (left_both hs reason [] other) (waiting_there hs (Some reason)) (bye other ∷ []) refl
     (ap (λ (m : Message). m ∷ []) (parting_is n other some)) refl

@@ -1,13 +1,15 @@
 -- The units for one connection among those of all, and the references that they ask for.
 -- For octets on their way, joined carriers, class 0 and the invariant.
-use Rattle.std.proofs.Common.{◌≡◌, ◌≢◌, ℕ, zero, suc, ◌+◌, ◌==◌, Bool, true, List, [], ◌∷◌, ◌++◌, refl, sym, ap, ◌∙◌, arith, if◌then◌else◌}
-use Rattle.osi_between.proofs.Vocabulary.{eq-eqb, ne_eqb, flat_map-append, Value, reference_of, units_of, AreFor, asked_by, requests, behind, live_behind, live_after, HasPlace, HasPlaces}
+use Rattle.osi_between.proofs.Vocabulary.{◌≡◌, ◌≢◌, ℕ, zero, suc, ◌+◌, ◌==◌, Bool, true, List, [], ◌∷◌, ◌++◌, refl, sym, ap, ◌∙◌, arith}
+use Rattle.osi_between.proofs.Vocabulary.{if◌then◌else◌, eq-eqb, ne_eqb, flat_map-append, Value, reference_of, units_of, AreFor, asked_by}
+use Rattle.osi_between.proofs.Vocabulary.{requests, behind, live_behind, live_after, HasPlace, HasPlaces}
 
-pub units_of_by : (n : ℕ) (u : Value) (us : List Value) (b : Bool) → (reference_of u == n) ≡ b → units_of n (u ∷ us) ≡ (if b then u ∷ units_of n us else units_of n us)
+pub units_of_by : (n : ℕ) (u : Value) (us : List Value) (b : Bool) → (reference_of u == n) ≡ b →
+    units_of n (u ∷ us) ≡ (if b then u ∷ units_of n us else units_of n us)
 units_of_by n u us b e = ap (λ (c : Bool). if◌then◌else◌ {A = List Value} c (u ∷ units_of n us) (units_of n us)) e
 
-units_join_by : (n : ℕ) (u : Value) (us vs : List Value) (b : Bool) → (reference_of u == n) ≡ b → units_of n (us ++ vs) ≡ units_of n us ++ units_of n vs →
-    units_of n (u ∷ (us ++ vs)) ≡ units_of n (u ∷ us) ++ units_of n vs
+units_join_by : (n : ℕ) (u : Value) (us vs : List Value) (b : Bool) → (reference_of u == n) ≡ b →
+    units_of n (us ++ vs) ≡ units_of n us ++ units_of n vs → units_of n (u ∷ (us ++ vs)) ≡ units_of n (u ∷ us) ++ units_of n vs
 units_join_by n u us vs b e more = grind (arith, units_of_by)
 
 pub units_join : (n : ℕ) (us vs : List Value) → units_of n (us ++ vs) ≡ units_of n us ++ units_of n vs
@@ -46,7 +48,8 @@ one_more g a = omega arith
 pub behind_join : (g a b : ℕ) → behind g (a + b) ≡ behind g a ++ behind (g + a) b
 behind_join g zero b = ap (λ (m : ℕ). behind g m) (zero_more b) ∙ ap (λ (m : ℕ). behind m b) (none_more g)
 behind_join g (suc a) b =
-    ap (λ (m : ℕ). behind g m) (suc_more a b) ∙ ap (λ (l : List ℕ). (g + 1) ∷ l) (behind_join (g + 1) a b ∙ ap (λ (m : ℕ). behind (g + 1) a ++ behind m b) (one_more g a))
+    ap (λ (m : ℕ). behind g m) (suc_more a b)
+    ∙ ap (λ (l : List ℕ). (g + 1) ∷ l) (behind_join (g + 1) a b ∙ ap (λ (m : ℕ). behind (g + 1) a ++ behind m b) (one_more g a))
 
 -- ---- places
 
@@ -75,4 +78,8 @@ rest_none (x ∷ xs) ys e = cc
 
 pub places_for : (refs : List ℕ) (us : List Value) → requests us ≡ [] → HasPlaces refs us
 places_for refs [] e = tt
-places_for refs (u ∷ us) e = (place_for refs u (front_none (asked_by u) (requests us) e), places_for (live_behind refs u) us (rest_none (asked_by u) (requests us) e))
+places_for refs (u ∷ us) e = (
+  place_for refs u (front_none (asked_by u) (requests us) e),
+  places_for (live_behind refs u) us
+      (rest_none (asked_by u) (requests us) e),
+)

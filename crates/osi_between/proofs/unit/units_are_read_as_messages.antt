@@ -1,7 +1,8 @@
 -- Units read as messages.
 -- For units, connections of class 2 and the invariant.
-use Rattle.std.proofs.Common.{◌≡◌, ℕ, false, List, [], ◌∷◌, ◌++◌, map, refl, ap}
-use Rattle.osi_between.proofs.Vocabulary.{Value, data0, data2, acknowledge, error, parts_under_way, Given, part0, part2, ack, tsdus_after, uncut, addressed, Message, message, messages_after, uncut_units, kind_of}
+use Rattle.osi_between.proofs.Vocabulary.{◌≡◌, ℕ, false, List, [], ◌∷◌, ◌++◌, map, refl, ap, Value, data0, data2, acknowledge, error}
+use Rattle.osi_between.proofs.Vocabulary.{parts_under_way, Given, part0, part2, ack, tsdus_after, uncut, addressed, Message, message}
+use Rattle.osi_between.proofs.Vocabulary.{messages_after, uncut_units, kind_of}
 
 behind_one : (m : Message) (xs ys : List Message) → xs ≡ ys → m ∷ xs ≡ m ∷ ys
 behind_one m xs ys e = ap (λ (l : List Message). m ∷ l) e
@@ -42,7 +43,8 @@ kinds_begun (acknowledge credit destination number ∷ us) b c = kinds_begun us 
 kinds_begun (error destination cause ∷ us) b c = kinds_begun us b c
 kinds_begun us b c = refl
 
-pub kinds_join : (us vs : List Value) (b : List ℕ) → map kind_of (messages_after b (us ++ vs)) ≡ map kind_of (messages_after b us) ++ map kind_of (messages_after [] vs)
+pub kinds_join : (us vs : List Value) (b : List ℕ) →
+    map kind_of (messages_after b (us ++ vs)) ≡ map kind_of (messages_after b us) ++ map kind_of (messages_after [] vs)
 kinds_join [] vs b = kinds_begun vs b []
 kinds_join (data0 false octets ∷ us) vs b = kinds_join us vs (b ++ octets)
 kinds_join (data2 destination number false octets ∷ us) vs b = kinds_join us vs (b ++ octets)
@@ -59,7 +61,8 @@ begun_after begun (acknowledge credit destination number ∷ units) = begun_afte
 begun_after begun (error destination cause ∷ units) = begun_after begun units
 begun_after begun (unit ∷ units) = begun_after [] units
 
-pub messages_part : (us : List Value) (begun : List ℕ) (vs : List Value) → messages_after begun (us ++ vs) ≡ messages_after begun us ++ messages_after (begun_after begun us) vs
+pub messages_part : (us : List Value) (begun : List ℕ) (vs : List Value) →
+    messages_after begun (us ++ vs) ≡ messages_after begun us ++ messages_after (begun_after begun us) vs
 messages_part [] begun vs = refl
 messages_part (data0 false octets ∷ us) begun vs = messages_part us (begun ++ octets) vs
 messages_part (data2 destination number false octets ∷ us) begun vs = messages_part us (begun ++ octets) vs
@@ -68,5 +71,6 @@ messages_part (error destination cause ∷ us) begun vs = messages_part us begun
 messages_part (u ∷ us) begun vs = behind_one _ _ _ (messages_part us [] vs)
 
 -- the messages of units are a prefix of those of more units
-pub messages_front : (us : List Value) (begun : List ℕ) (vs : List Value) → (lost : List Message) × (messages_after begun (us ++ vs) ≡ messages_after begun us ++ lost)
+pub messages_front : (us : List Value) (begun : List ℕ) (vs : List Value) →
+    (lost : List Message) × (messages_after begun (us ++ vs) ≡ messages_after begun us ++ lost)
 messages_front us begun vs = (messages_after (begun_after begun us) vs, messages_part us begun vs)

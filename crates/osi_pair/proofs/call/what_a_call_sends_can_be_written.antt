@@ -1,11 +1,10 @@
 -- What a call and an offer send can be written.
 -- For calls and the laws of `standing`.
-use Rattle.std.proofs.Common.{◌≡◌, refl, sym, ◌∙◌, subst, ℕ, ◌<◌, ◌==◌, ◌&&◌, ◌||◌, Bool, true, false, [], ◌∷◌, arith}
-use Rattle.std.proofs.lemmas.Nat.{and_le_r}
-use Rattle.std.specs.Int.RustNames.{bit_and}
-use Rattle.osi_spdu.specs.declared.fields.TsduMaximumSize.{TsduMaximumSize}
-use Rattle.osi_session.specs.Calls.{Refusal, Unspecified, Congestion, WithData, refusal_reason}
-use Rattle.osi_pair.proofs.Vocabulary.{eqb-true, are_sizes, is_size, IsOctets, IsInOctets, IsSendable, names, AllHold, needs, sends, octets_of, Passed, Call, Accept, Refuse, Abort, answered_sizes, is_profile, SessionStep as Step, SessionState as State}
+use Rattle.osi_session.specs.Calls.{Refusal}
+use Rattle.osi_pair.proofs.Vocabulary.{◌≡◌, refl, sym, ◌∙◌, subst, ℕ, ◌<◌, ◌==◌, ◌&&◌, ◌||◌, Bool, true, false, arith, and_le_r, bit_and}
+use Rattle.osi_pair.proofs.Vocabulary.{TsduMaximumSize, Unspecified, Congestion, WithData, refusal_reason, eqb-true, are_sizes, is_size}
+use Rattle.osi_pair.proofs.Vocabulary.{IsOctets, IsInOctets, IsSendable, names, AllHold, needs, sends, octets_of, Passed, Call, Accept}
+use Rattle.osi_pair.proofs.Vocabulary.{Refuse, Abort, answered_sizes, is_profile, SessionStep as Step, SessionState as State}
 
 both_right : (a b : Bool) → (a && b) ≡ true → b ≡ true
 both_right a b h = grind arith
@@ -40,8 +39,13 @@ reason_small Congestion = omega arith
 reason_small (WithData octets) = omega arith
 
 says_in : (s : State) (c : Call) → AllHold (needs s c) → IsSendable (sends s c) → IsOctets (octets_of c) → IsInOctets (sends s c)
-says_in s (Accept requirements serial sides sizes octets) needed sendable h =
-    (profile_small requirements (both_right _ (is_profile requirements) needed.0), asker_small (answered_sizes s.sizes sizes) sendable.sized, answerer_small (answered_sizes s.sizes sizes) sendable.sized, h)
+says_in s (Accept requirements serial sides sizes octets) needed sendable h = (
+  profile_small requirements (both_right _ (is_profile requirements) needed.0),
+  asker_small
+      (answered_sizes s.sizes sizes) sendable.sized,
+  answerer_small (answered_sizes s.sizes sizes) sendable.sized,
+  h,
+)
 says_in s (Refuse refusal) needed sendable h = (reason_small refusal, h)
 says_in s (Abort octets) needed sendable h = (omega arith, h)
 says_in s c needed sendable h = search
@@ -49,4 +53,5 @@ says_in s c needed sendable h = search
 -- what an accepted call sends
 pub call_in_octets : (s : State) (c : Call) (x : Step) → Passed s c x → IsSendable x.sent → IsOctets (octets_of c) → IsInOctets x.sent
 call_in_octets s c x passed sendable h =
-    subst (λ (y : Step). IsInOctets y.sent) (sym passed.gives) (says_in s c passed.needed (subst (λ (y : Step). IsSendable y.sent) passed.gives sendable) h)
+    subst (λ (y : Step). IsInOctets y.sent) (sym passed.gives)
+    (says_in s c passed.needed (subst (λ (y : Step). IsSendable y.sent) passed.gives sendable) h)

@@ -1,15 +1,16 @@
 -- The effect of octets that are carried if memory suffices: the calls by which the end is fed and indications are
 -- fetched, whatever the pieces, and the entries of the journal.
 -- For pairs in the same state.
-use Rattle.std.proofs.Common.{◌≡◌, ◌≢◌, ℕ, ◌+◌, ◌-◌, ◌≤◌, List, [], ◌∷◌, ◌++◌, map, take, sum, Option, Some, None, is_some, refl, sym, ap, ap₂, subst, ◌∙◌, ◌⊎◌, inl, inr, arith}
-use Rattle.std.proofs.Math.Seq.{take-add}
-use Rattle.std.proofs.lemmas.List.{drop-drop}
-use Rattle.std.proofs.lemmas.List.Concat.{flat_map-append}
-use Rattle.osi_stack.proofs.Endings.{stops_not}
-use Rattle.osi_stack.proofs.Rooms.{found_how}
 use Rattle.osi_stack.specs.Calls.{without_first}
-use Rattle.osi_stack.specs.Runs.{Call, feeding, telling, CallsInRoom, used_in, told_in, carried_in}
-use Rattle.osi_pair.proofs.Vocabulary.{append-nil, append_assoc, length-take, map-append, sum_by-cons, flat_map, first_shown, Held, IsPacket, ArePackets, Rows, EndReason, NoMemory, Step, Shown, carried, FindsNoMemory, Starves, End, Holding, ends_end as ends, EndLine as Line, Crossing, CarriesPiece, CarriesPieces, crossing, TwoEnds, end_at, reachable, Entry, shows, reach_after, other, StandsAt, ShowsFirst, end_entries, shown_entries, told_entries, waiting_in, quieted, Side}
+use Rattle.osi_stack.specs.Runs.{Call}
+use Rattle.osi_pair.proofs.Vocabulary.{◌≡◌, ◌≢◌, ℕ, ◌+◌, ◌-◌, ◌≤◌, List, [], ◌∷◌, ◌++◌, map, take, sum, Option, Some, None, is_some, refl}
+use Rattle.osi_pair.proofs.Vocabulary.{sym, ap, ap₂, subst, ◌∙◌, ◌⊎◌, inl, inr, arith, take-add, drop-drop, flat_map-append, stops_not}
+use Rattle.osi_pair.proofs.Vocabulary.{found_how, feeding, telling, CallsInRoom, used_in, told_in, carried_in, append-nil, append_assoc}
+use Rattle.osi_pair.proofs.Vocabulary.{length-take, map-append, sum_by-cons, flat_map, first_shown, Held, IsPacket, ArePackets, Rows}
+use Rattle.osi_pair.proofs.Vocabulary.{EndReason, NoMemory, Step, Shown, carried, FindsNoMemory, Starves, End, Holding, ends_end as ends}
+use Rattle.osi_pair.proofs.Vocabulary.{EndLine as Line, Crossing, CarriesPiece, CarriesPieces, crossing, TwoEnds, end_at, reachable, Entry}
+use Rattle.osi_pair.proofs.Vocabulary.{shows, reach_after, other, StandsAt, ShowsFirst, end_entries, shown_entries, told_entries}
+use Rattle.osi_pair.proofs.Vocabulary.{waiting_in, quieted, Side}
 use Rattle.osi_pair.proofs.carry.a_carry_is_deliveries.{CarryLaws, SoFar, piece_laws, pieces_stand}
 use Rattle.osi_pair.proofs.packet.a_packet_is_one_delivery_or_none.{quiet_of}
 use Rattle.osi_pair.proofs.carry.packets_are_taken_in_turn.{GoesOn, still_goes}
@@ -21,14 +22,14 @@ use Rattle.osi_pair.proofs.packet.a_packet_is_taken.{packet_at}
 use Rattle.osi_pair.proofs.turn.a_turn_keeps_the_match.{with_holding}
 use Rattle.osi_pair.proofs.ending.want_of_memory_is_an_end.{has_starved}
 use Rattle.osi_pair.proofs.carry.pending_indications_one_by_one.{none_waits, next_is}
+use Rattle.osi_pair.proofs.flight.whether_something_is_cut_off.{Lasts}
 
 -- ---- an allocation failure ends an end
 
 -- a packet for which there is none
 starved_named : CarryLaws → (s : Side) (p : TwoEnds) (steps : List Step) (packet octets : List ℕ) (none : Held) (new : End) →
-    StandsAt p steps → (end_at s p).end.carrier.ended ≡ None →
-    IsPacket packet octets → (end_at s p).held.octets ≡ octets ++ none.octets → Starves (end_at s p).end packet new →
-    new.carrier.ended ≡ Some NoMemory
+    StandsAt p steps → Lasts s p → IsPacket packet octets → (end_at s p).held.octets ≡ octets ++ none.octets →
+    Starves (end_at s p).end packet new → new.carrier.ended ≡ Some NoMemory
 starved_named laws s p steps packet octets none new at alive is cut starved =
     let pa = packet_at laws.few.packets s p steps packet octets none at alive is cut in
     elim (has_starved (record { starved = laws.few.starved; acts = laws.few.acts }) s p at.now
@@ -54,8 +55,8 @@ memory_by laws f q steps k new before octets z (inr st) =
 
 -- a piece for which there is none
 memory_named : CarryLaws → (f : Side) (q : TwoEnds) (steps : List Step) (most used : ℕ) (new : Holding) → StandsAt q steps →
-    (end_at (other f) q).end.carrier.ended ≡ None → most ≤ reachable f q →
-    FindsNoMemory (end_at (other f) q) (piece_of f most q) used new → new.end.carrier.ended ≡ Some NoMemory
+    Lasts (other f) q → most ≤ reachable f q → FindsNoMemory (end_at (other f) q) (piece_of f most q) used new →
+    new.end.carrier.ended ≡ Some NoMemory
 memory_named laws f q steps most used new at alive le d =
     let long = piece_long f most q le in
     let bound = d.bound in
@@ -168,8 +169,8 @@ carried_none_yet s old new same = record {
 
 -- the journal entries of both ends
 says_then : (s : Side) (first mid last : List Entry) (xs ys : List (ℕ × Shown)) (o m n : Option EndReason) →
-    mid ≡ first ++ told_entries s o m xs → last ≡ mid ++ told_entries s m n ys →
-    (m ≡ None → o ≡ None) → ((reason : EndReason) → m ≡ Some reason → (n ≡ m) × (ys ≡ [])) → last ≡ first ++ told_entries s o n (xs ++ ys)
+    mid ≡ first ++ told_entries s o m xs → last ≡ mid ++ told_entries s m n ys → (m ≡ None → o ≡ None) →
+    ((reason : EndReason) → m ≡ Some reason → (n ≡ m) × (ys ≡ [])) → last ≡ first ++ told_entries s o n (xs ++ ys)
 says_then s first mid last xs ys o None n h k alive over =
     let none : o ≡ None = alive refl in
     k ∙ ap (λ (t : List Entry). t ++ told_entries s None n ys) (h ∙ ap (λ (x : Option EndReason). first ++ told_entries s x None xs) none)
@@ -235,8 +236,8 @@ over_told old between new first same none h quiet =
     )
 
 piece_carried : CarryLaws → (f : Side) (q : TwoEnds) (steps : List Step) (most used : ℕ) (new : Crossing) → StandsAt q steps →
-    most ≤ reachable f q → CarriesPiece (other f) most (crossing f q) used new →
-    new.to.end.carrier.ended ≢ Some NoMemory → waiting_in new.to.end.lines ≡ [] → IsCarried (other f) (crossing f q) used new
+    most ≤ reachable f q → CarriesPiece (other f) most (crossing f q) used new → new.to.end.carrier.ended ≢ Some NoMemory →
+    waiting_in new.to.end.lines ≡ [] → IsCarried (other f) (crossing f q) used new
 piece_carried laws f q steps most used new at le piece memory quiet =
     let s = other f in
     let out = (end_at f q).end.carrier.outgoing in
@@ -279,9 +280,8 @@ quiet_behind f p steps most octets new x =
     ∙ quiet_of (other f) q at.now (tables_at q (steps ++ x.stands.more)) at.stands
 
 pub pieces_carried : CarryLaws → (f : Side) (p : TwoEnds) (steps : List Step) (most : ℕ) (pieces : List ℕ) (new : Crossing) →
-    StandsAt p steps → most ≤ reachable f p →
-    CarriesPieces (other f) most pieces (crossing f p) new → new.to.end.carrier.ended ≢ Some NoMemory →
-    IsCarried (other f) (crossing f p) (sum pieces) new
+    StandsAt p steps → most ≤ reachable f p → CarriesPieces (other f) most pieces (crossing f p) new →
+    new.to.end.carrier.ended ≢ Some NoMemory → IsCarried (other f) (crossing f p) (sum pieces) new
 pieces_carried laws f p steps most [] new at le c memory = carried_none_yet (other f) (crossing f p) new c
 pieces_carried laws f p steps most (used ∷ before) new at le c memory =
     let s = other f in

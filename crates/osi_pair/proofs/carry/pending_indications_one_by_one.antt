@@ -1,8 +1,8 @@
 -- What is pending for the users, one by one.
 -- For carries.
-use Rattle.std.proofs.Common.{◌≡◌, ◌∙◌, ℕ, [], ◌∷◌, ◌++◌, Some, None, refl, arith}
 use Rattle.osi_stack.specs.Calls.{without_first}
-use Rattle.osi_pair.proofs.Vocabulary.{Rows, Shown, first_shown, waiting_in, quieted, EndLine as Line}
+use Rattle.osi_pair.proofs.Vocabulary.{◌≡◌, ℕ, [], ◌∷◌, Some, None, refl, arith, Rows, Shown, first_shown, waiting_in, quieted}
+use Rattle.osi_pair.proofs.Vocabulary.{EndLine as Line}
 
 -- if no indication is given first, none is pending
 pub none_waits : (lines : Rows Line) → first_shown lines ≡ None → waiting_in lines ≡ []

@@ -1,10 +1,9 @@
 -- Pieces are carried one after the other.
 -- For the code of `carrying`.
-use Rattle.std.proofs.Common.{◌≡◌, ◌∙◌, ℕ, ◌+◌, ◌-◌, Bool, true, false, List, [], ◌∷◌, sum, map, Result, Ok, Err, OnOk, OnErr, is_err, sym, ap, subst}
-use Rattle.std.proofs.Math.Nat.{add_comm}
 use Rattle.osi_pair.specs.Carrying.{Carries}
 use Rattle.osi_pair.specs.declared.entries.Entry.{Entry}
-use Rattle.osi_pair.proofs.Vocabulary.{sum_by-cons, Holding, Crossing, CarriesPiece, entry_by, Side}
+use Rattle.osi_pair.proofs.Vocabulary.{◌≡◌, ◌∙◌, ℕ, ◌+◌, ◌-◌, Bool, true, false, List, ◌∷◌, sum, map, Result, Ok, Err, OnOk, OnErr, is_err}
+use Rattle.osi_pair.proofs.Vocabulary.{sym, ap, subst, add_comm, sum_by-cons, Holding, Crossing, CarriesPiece, entry_by, Side}
 
 pub carries_more : (side : Side) (most carried used : ℕ) (old mid new : Crossing) → Carries side most old carried mid →
     CarriesPiece side (most - carried) mid used new → Carries side most old (carried + used) new
@@ -15,11 +14,13 @@ carries_more side most carried used old mid new h more = record {
 }
 
 -- the same, if the journal is then given room
-pub carries_then : (side : Side) (most carried used : ℕ) (old mid : Crossing) (from to : Holding) (said after : List Entry) → Carries side most old carried mid →
+pub carries_then : (side : Side) (most carried used : ℕ) (old mid : Crossing) (from to : Holding) (said after : List Entry) →
+    Carries side most old carried mid →
     CarriesPiece side (most - carried) mid used (record { from = from; to = to; journal = map entry_by said }) → after ≡ said →
     Carries side most old (carried + used) (record { from = from; to = to; journal = map entry_by after })
 carries_then side most carried used old mid from to said after h more same =
-    subst (λ (l : List Entry). Carries side most old (carried + used) (record { from = from; to = to; journal = map entry_by l })) (sym same)
+    subst (λ (l : List Entry). Carries side most old (carried + used) (record { from = from; to = to; journal = map entry_by l }))
+    (sym same)
     (carries_more side most carried used old mid (record { from = from; to = to; journal = map entry_by said }) h more)
 
 -- if nothing was refused, what holds of a success holds

@@ -1,8 +1,9 @@
 -- Users receive indications one after the other.
 -- For the code of `carrying` and the code of `telling`.
-use Rattle.std.proofs.Common.{◌≡◌, ◌∙◌, ℕ, ◌+◌, List, [], ◌∷◌, ◌++◌, length, Option, Some, None, sym, ap, ap₂, subst, inl}
 use Rattle.osi_stack.specs.Calls.{without_first}
-use Rattle.osi_pair.proofs.Vocabulary.{append_assoc, length-append, map-append, Rows, EndReason, Shown, first_shown, Holding, Entry, shows, waiting_in, quieted, shown_entries, end_entries, told_entries, Tells, Side, EndLine as Line}
+use Rattle.osi_pair.proofs.Vocabulary.{◌≡◌, ◌∙◌, ℕ, ◌+◌, List, [], ◌∷◌, ◌++◌, length, Option, Some, None, sym, ap, ap₂, subst, inl}
+use Rattle.osi_pair.proofs.Vocabulary.{append_assoc, length-append, map-append, Rows, EndReason, Shown, first_shown, Holding, Entry, shows}
+use Rattle.osi_pair.proofs.Vocabulary.{waiting_in, quieted, shown_entries, end_entries, told_entries, Tells, Side, EndLine as Line}
 use Rattle.osi_pair.proofs.carry.pending_indications_one_by_one.{none_waits, none_taken, next_is}
 
 -- a user received this many indications
@@ -60,9 +61,10 @@ shown_end side old before count mid new after h e is =
     subst (λ (x : Holding). Tells side old before x after) (sym same) (shown_all side old before count mid after h e)
 
 -- one more is given, and noted
-pub shown_then : (side : Side) (old : Holding) (before : List Entry) (count : ℕ) (mid new : Holding) (after said : List Entry) (p : ℕ × Shown) →
-    HasShown side old before count mid after → first_shown mid.end.lines ≡ Some p →
+pub shown_then : (side : Side) (old : Holding) (before : List Entry) (count : ℕ) (mid new : Holding) (after said : List Entry)
+    (p : ℕ × Shown) → HasShown side old before count mid after → first_shown mid.end.lines ≡ Some p →
     new ≡ record mid { end = record mid.end { lines = without_first mid.end.lines } } → said ≡ after ++ shows side p.0 p.1 ∷ [] →
     HasShown side old before (count + 1) new said
 shown_then side old before count mid new after said p h e is says =
-    subst (λ (l : List Entry). HasShown side old before (count + 1) new l) (sym says) (shown_more side old before count mid new after p h e is)
+    subst (λ (l : List Entry). HasShown side old before (count + 1) new l) (sym says)
+    (shown_more side old before count mid new after p h e is)

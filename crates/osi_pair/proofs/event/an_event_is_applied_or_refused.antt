@@ -1,23 +1,26 @@
 -- The state after an event that is applied or refused.
 -- For the code of `Pair`.
-use Rattle.std.proofs.Common.{◌≡◌, List, Result, Ok, Err, OnOk, OnErr, IfOk, None, sym, subst}
-use Rattle.osi_pair.specs.declared.faults.PairError.{PairError}
-use Rattle.osi_pair.proofs.Vocabulary.{Step, CanHappen, StandsAfter, TwoEnds, misfit, Does, CarriesAsMuch, CarriesWhereQuiet, IsReached, StandsAt, Applied, Event}
+use Rattle.osi_pair.proofs.Vocabulary.{◌≡◌, List, Result, Ok, Err, OnOk, OnErr, IfOk, None, sym, subst, PairError, Step, CanHappen}
+use Rattle.osi_pair.proofs.Vocabulary.{StandsAfter, TwoEnds, misfit, Does, CarriesAsMuch, CarriesWhereQuiet, IsReached, StandsAt, Applied}
+use Rattle.osi_pair.proofs.Vocabulary.{Event}
 use Rattle.osi_pair.proofs.carry.nothing_holds_up_a_carry.{carries_as_much}
 use Rattle.osi_pair.proofs.event.two_ends_after_an_event.{reached_event}
 use Rattle.osi_pair.proofs.event.what_an_event_does.{EventLaws, event_stands}
 
-pub result_reached : EventLaws → (event : Event) (old new : TwoEnds) (result : Result Applied PairError) → CanHappen event → OnOk result (misfit event old ≡ None) →
-    IfOk result (λ applied. Does event old applied.carried new) → OnErr result (new ≡ old) → IsReached old → IsReached new
+pub result_reached : EventLaws → (event : Event) (old new : TwoEnds) (result : Result Applied PairError) → CanHappen event →
+    OnOk result (misfit event old ≡ None) → IfOk result (λ applied. Does event old applied.carried new) → OnErr result (new ≡ old) →
+    IsReached old → IsReached new
 result_reached laws event old new (Ok applied) can fits does same at = reached_event laws event old new applied.carried can fits does at
 result_reached laws event old new (Err error) can fits does same at = subst IsReached (sym same) at
 
-pub result_stands : EventLaws → (event : Event) (old new : TwoEnds) (result : Result Applied PairError) → CanHappen event → OnOk result (misfit event old ≡ None) →
-    IfOk result (λ applied. Does event old applied.carried new) → OnOk result ((steps : List Step) → StandsAt old steps → StandsAfter event old new steps)
-result_stands laws event old new (Ok applied) can fits does = λ steps s. event_stands laws event old new applied.carried steps can fits does s
+pub result_stands : EventLaws → (event : Event) (old new : TwoEnds) (result : Result Applied PairError) → CanHappen event →
+    OnOk result (misfit event old ≡ None) → IfOk result (λ applied. Does event old applied.carried new) →
+    OnOk result ((steps : List Step) → StandsAt old steps → StandsAfter event old new steps)
+result_stands laws event old new (Ok applied) can fits does =
+    λ steps s. event_stands laws event old new applied.carried steps can fits does s
 result_stands laws event old new (Err error) can fits does = tt
 
-pub result_carries : (event : Event) (old : TwoEnds) (result : Result Applied PairError) → IsReached old → IfOk result (λ applied. CarriesWhereQuiet event old applied) →
-    IfOk result (λ applied. CarriesAsMuch event old applied)
+pub result_carries : (event : Event) (old : TwoEnds) (result : Result Applied PairError) → IsReached old →
+    IfOk result (λ applied. CarriesWhereQuiet event old applied) → IfOk result (λ applied. CarriesAsMuch event old applied)
 result_carries event old (Ok applied) at h = carries_as_much event old applied at h
 result_carries event old (Err error) at h = tt

@@ -1,8 +1,10 @@
 -- Events that happen one after the other, and their steps of the machine.
 -- For the code of `Pair`.
-use Rattle.std.proofs.Common.{List, [], ◌∷◌, ◌++◌, Option, Some, None, refl, sym, subst}
 use Rattle.osi_pair.specs.declared.events.Event.TheVariants.{Call}
-use Rattle.osi_pair.proofs.Vocabulary.{append_assoc, append-nil, EndReason, Step, connects, calls, breaks, ends, told_of_break, called_by, StandsAfter, asked_of, TwoEnds, end_at, Happens, HappenAll, AreStepsOf, StandsBehind, RunsThrough, side_in, offer_in, StandsAt, StandsAtTold, Event, Connect, Carry, Break, Told, Side}
+use Rattle.osi_pair.proofs.Vocabulary.{List, [], ◌∷◌, ◌++◌, Option, Some, None, refl, sym, subst, append_assoc, append-nil, EndReason, Step}
+use Rattle.osi_pair.proofs.Vocabulary.{connects, calls, breaks, ends, told_of_break, called_by, StandsAfter, asked_of, TwoEnds, end_at}
+use Rattle.osi_pair.proofs.Vocabulary.{Happens, HappenAll, AreStepsOf, StandsBehind, RunsThrough, side_in, offer_in, StandsAt, StandsAtTold}
+use Rattle.osi_pair.proofs.Vocabulary.{Event, Connect, Carry, Break, Told, Side}
 
 -- one more event happens
 pub happen_more : (events : List Event) (event : Event) (old mid new : TwoEnds) → HappenAll events old mid → Happens event mid new →
@@ -16,7 +18,8 @@ record StandsBehindOne (event : Event) (p : TwoEnds) (steps : List Step) : Type 
   are : AreStepsOf event more
   stands : StandsAt p (steps ++ more)
 
-told_behind : (before : Option EndReason) (side : Side) (p : TwoEnds) (steps : List Step) → StandsAtTold before side p steps → StandsBehindOne (Told side) p steps
+told_behind : (before : Option EndReason) (side : Side) (p : TwoEnds) (steps : List Step) → StandsAtTold before side p steps →
+    StandsBehindOne (Told side) p steps
 told_behind (Some reason) side p steps s = record {
   more = [];
   are = tt;
@@ -40,7 +43,8 @@ one_behind (Break left right) old new steps s = record { more = breaks s.keep_le
 one_behind (Told side) old new steps s = told_behind (end_at side old).end.carrier.ended side new steps s
 
 -- the steps of all of them
-all_behind : (events : List Event) (old new : TwoEnds) (steps : List Step) → HappenAll events old new → StandsAt old steps → StandsBehind events new steps
+all_behind : (events : List Event) (old new : TwoEnds) (steps : List Step) → HappenAll events old new → StandsAt old steps →
+    StandsBehind events new steps
 all_behind [] old new steps h s = record {
   more = [];
   are = refl;

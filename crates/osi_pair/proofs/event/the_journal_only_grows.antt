@@ -1,9 +1,11 @@
 -- The journal only grows.
 -- For the code of `Pair`.
-use Rattle.std.proofs.Common.{◌≡◌, ◌∙◌, ℕ, List, [], ◌∷◌, ◌++◌, Option, Some, None, IsSome, refl, sym, ap, subst}
 use Rattle.osi_pair.specs.Entries.{calls}
 use Rattle.osi_pair.specs.declared.events.Event.TheVariants.{Call}
-use Rattle.osi_pair.proofs.Vocabulary.{append_assoc, append-nil, EndReason, Crossing, CarriesPieces, crossing, TwoEnds, end_at, after_call, Entry, Does, IsToldOfBreak, Adds, told_entries, Event, Connect, Carry, Break, Told, Side, Left, Right, Call as Asked, called_by, call_error, Holding}
+use Rattle.osi_pair.proofs.Vocabulary.{◌≡◌, ◌∙◌, ℕ, List, [], ◌∷◌, ◌++◌, Option, Some, None, IsSome, refl, sym, ap, subst, append_assoc}
+use Rattle.osi_pair.proofs.Vocabulary.{append-nil, EndReason, Crossing, CarriesPieces, crossing, TwoEnds, end_at, after_call, Entry, Does}
+use Rattle.osi_pair.proofs.Vocabulary.{IsToldOfBreak, Adds, told_entries, Event, Connect, Carry, Break, Told, Side, Left, Right}
+use Rattle.osi_pair.proofs.Vocabulary.{Call as Asked, called_by, call_error, Holding}
 
 adds_none : (old new : List Entry) → new ≡ old → Adds old new
 adds_none old new same = record { more = []; is = same ∙ sym (append-nil old) }
@@ -14,7 +16,8 @@ adds_more old mid new entries h is = record {
   is = is ∙ ap (λ (l : List Entry). l ++ entries) h.is ∙ append_assoc old h.more entries;
 }
 
-pieces_add : (side : Side) (most : ℕ) (pieces : List ℕ) (old new : Crossing) → CarriesPieces side most pieces old new → Adds old.journal new.journal
+pieces_add : (side : Side) (most : ℕ) (pieces : List ℕ) (old new : Crossing) → CarriesPieces side most pieces old new →
+    Adds old.journal new.journal
 pieces_add side most [] old new h = adds_none old.journal new.journal (ap (λ (c : Crossing). c.journal) h)
 pieces_add side most (used ∷ before) old new h =
     adds_more old.journal h.0.journal new.journal (told_entries side h.0.to.end.carrier.ended new.to.end.carrier.ended h.2.first)
@@ -25,11 +28,13 @@ told_adds : (side : Side) (old new : Holding) (before after : List Entry) (was :
 told_adds side old new before after None e h =
     let more = h.hears e in
     record { more = told_entries side old.end.carrier.ended new.end.carrier.ended more.first; is = more.says }
-told_adds side old new before after (Some reason) e h = adds_none before after (h.over (subst (λ (o : Option EndReason). IsSome o) (sym e) refl)).1
+told_adds side old new before after (Some reason) e h =
+    adds_none before after (h.over (subst (λ (o : Option EndReason). IsSome o) (sym e) refl)).1
 
 call_adds : (side : Side) (r : ℕ) (c : Asked) (old new : TwoEnds) → new ≡ after_call side r c old → Adds old.journal new.journal
 call_adds Left r c old new h = record { more = calls Left r c (call_error r c old.left.end) ∷ []; is = ap (λ (p : TwoEnds). p.journal) h }
-call_adds Right r c old new h = record { more = calls Right r c (call_error r c old.right.end) ∷ []; is = ap (λ (p : TwoEnds). p.journal) h }
+call_adds Right r c old new h =
+    record { more = calls Right r c (call_error r c old.right.end) ∷ []; is = ap (λ (p : TwoEnds). p.journal) h }
 
 pub does_add : (event : Event) (old new : TwoEnds) (octets : ℕ) → Does event old octets new → Adds old.journal new.journal
 does_add (Connect asked) old new octets h = record { more = _; is = ap (λ (p : TwoEnds). p.journal) h.0 }

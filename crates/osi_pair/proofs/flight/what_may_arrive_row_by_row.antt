@@ -1,10 +1,14 @@
 -- What may arrive at an end, row by row: the state of the connection there, the message that arrives with the unit, if
 -- any, and the answer that is put.
 -- For what is in flight, turns, breaks and ends, packets and carries.
-use Rattle.std.proofs.Common.{◌≡◌, ℕ, zero, suc, true, false, List, [], ◌∷◌, Some, refl, arith}
 use Rattle.osi_between.specs.Messages.{Message, ask, agree, deny, bye, over}
 use Rattle.osi_between.specs.Progress as progress
-use Rattle.osi_pair.proofs.Vocabulary.{flat_map, AllByRecursion, Value, request, confirm, disconnect, disconnected, data0, data2, acknowledge, Place, never, was_given, connection_in, Happening, tsdu, closed, asked, linked, closing, told_of, answers_in, progress_of, message, messages_after, begun_at, Progress, not_yet, awaiting, in_use, shutting, behind_arrivals, behind_puts, may_arrive, Terms, by_two, by_zero, refusing, accepts_in, Link as Standing, told_opened as opened, told_refused as refused}
+use Rattle.osi_pair.proofs.Vocabulary.{◌≡◌, ℕ, zero, suc, true, false, List, [], ◌∷◌, Some, refl, arith, flat_map, AllByRecursion, Value}
+use Rattle.osi_pair.proofs.Vocabulary.{request, confirm, disconnect, disconnected, data0, data2, acknowledge, Place, never, was_given}
+use Rattle.osi_pair.proofs.Vocabulary.{connection_in, Happening, tsdu, closed, asked, linked, closing, told_of, answers_in, progress_of}
+use Rattle.osi_pair.proofs.Vocabulary.{message, messages_after, begun_at, Progress, not_yet, awaiting, in_use, shutting, behind_arrivals}
+use Rattle.osi_pair.proofs.Vocabulary.{behind_puts, may_arrive, Terms, by_two, by_zero, refusing, accepts_in, Link as Standing}
+use Rattle.osi_pair.proofs.Vocabulary.{told_opened as opened, told_refused as refused}
 use Rattle.osi_pair.proofs.flight.which_unit_arrives_first.{comes}
 
 pub data Row : Type 0 where
@@ -96,67 +100,90 @@ pub record HasRow (terms : Terms) (n : ℕ) (place : Place) (arrived put : List 
   pub answers : put ≡ put_for row
   pub told : flat_map (told_of terms n place) arrived ≡ told_for n row
 
-row_never : (terms : Terms) (n : ℕ) (u : Value) → comes (accepts_in terms) never u ≡ true → HasRow terms n never (messages_after [] (u ∷ [])) (answers_in terms never u)
+row_never : (terms : Terms) (n : ℕ) (u : Value) → comes (accepts_in terms) never u ≡ true →
+    HasRow terms n never (messages_after [] (u ∷ [])) (answers_in terms never u)
 row_never by_two n (request c) h = record { row = begins; is = tt; stands = refl; comes_as = refl; answers = refl; told = refl }
 row_never by_zero n (request c) h = record { row = begins; is = tt; stands = refl; comes_as = refl; answers = refl; told = refl }
-row_never (refusing reason) n (request c) h = record { row = refuses reason; is = refl; stands = refl; comes_as = refl; answers = refl; told = refl }
+row_never (refusing reason) n (request c) h =
+    record { row = refuses reason; is = refl; stands = refl; comes_as = refl; answers = refl; told = refl }
 row_never terms n u h = cc
 
-row_confirm : (terms : Terms) (n : ℕ) (u : Value) → accepts_in terms ≡ true → messages_after [] (u ∷ []) ≡ agree ∷ [] → HasRow terms n (was_given (Some asked)) (agree ∷ []) (answers_in terms (was_given (Some asked)) u)
+row_confirm : (terms : Terms) (n : ℕ) (u : Value) → accepts_in terms ≡ true → messages_after [] (u ∷ []) ≡ agree ∷ [] →
+    HasRow terms n (was_given (Some asked)) (agree ∷ []) (answers_in terms (was_given (Some asked)) u)
 row_confirm (refusing reason) n u e h = cc
 row_confirm terms n u e h = record { row = agrees; is = tt; stands = refl; comes_as = refl; answers = refl; told = refl }
 
-row_asked : (terms : Terms) (n : ℕ) (u : Value) → comes (accepts_in terms) (was_given (Some asked)) u ≡ true → HasRow terms n (was_given (Some asked)) (messages_after [] (u ∷ [])) (answers_in terms (was_given (Some asked)) u)
+row_asked : (terms : Terms) (n : ℕ) (u : Value) → comes (accepts_in terms) (was_given (Some asked)) u ≡ true →
+    HasRow terms n (was_given (Some asked)) (messages_after [] (u ∷ [])) (answers_in terms (was_given (Some asked)) u)
 row_asked by_two n (confirm destination c) h = row_confirm by_two n (confirm destination c) refl refl
 row_asked by_zero n (confirm destination c) h = row_confirm by_zero n (confirm destination c) refl refl
-row_asked (refusing reason) n (disconnect destination zero why user) h = record { row = denies why; is = tt; stands = refl; comes_as = refl; answers = refl; told = refl }
+row_asked (refusing reason) n (disconnect destination zero why user) h =
+    record { row = denies why; is = tt; stands = refl; comes_as = refl; answers = refl; told = refl }
 row_asked terms n u h = cc
 
 -- at an open connection, if CRs are accepted
-row_quiet : (terms : Terms) (n peer : ℕ) (link : Standing) (put : List Message) → accepts_in terms ≡ true → put ≡ [] → HasRow terms n (was_given (Some (linked peer link))) [] put
+row_quiet : (terms : Terms) (n peer : ℕ) (link : Standing) (put : List Message) → accepts_in terms ≡ true → put ≡ [] →
+    HasRow terms n (was_given (Some (linked peer link))) [] put
 row_quiet (refusing reason) n peer link put e none = cc
 row_quiet terms n peer link put e none = record { row = quiet; is = tt; stands = refl; comes_as = refl; answers = none; told = refl }
 
-row_tells : (terms : Terms) (n peer : ℕ) (link : Standing) (octets : List ℕ) (put : List Message) → accepts_in terms ≡ true → put ≡ [] → HasRow terms n (was_given (Some (linked peer link))) (message octets ∷ []) put
+row_tells : (terms : Terms) (n peer : ℕ) (link : Standing) (octets : List ℕ) (put : List Message) → accepts_in terms ≡ true → put ≡ [] →
+    HasRow terms n (was_given (Some (linked peer link))) (message octets ∷ []) put
 row_tells (refusing reason) n peer link octets put e none = cc
-row_tells terms n peer link octets put e none = record { row = tells octets; is = tt; stands = refl; comes_as = refl; answers = none; told = refl }
+row_tells terms n peer link octets put e none =
+    record { row = tells octets; is = tt; stands = refl; comes_as = refl; answers = none; told = refl }
 
-row_leaves : (terms : Terms) (n peer : ℕ) (link : Standing) (reason : ℕ) (put : List Message) → accepts_in terms ≡ true → put ≡ over ∷ [] → HasRow terms n (was_given (Some (linked peer link))) (bye reason ∷ []) put
+row_leaves : (terms : Terms) (n peer : ℕ) (link : Standing) (reason : ℕ) (put : List Message) → accepts_in terms ≡ true → put ≡ over ∷ [] →
+    HasRow terms n (was_given (Some (linked peer link))) (bye reason ∷ []) put
 row_leaves (refusing reason) n peer link why put e one = cc
-row_leaves terms n peer link reason put e one = record { row = leaves reason; is = tt; stands = refl; comes_as = refl; answers = one; told = refl }
+row_leaves terms n peer link reason put e one =
+    record { row = leaves reason; is = tt; stands = refl; comes_as = refl; answers = one; told = refl }
 
-row_linked : (terms : Terms) (n peer : ℕ) (link : Standing) (u : Value) → accepts_in terms ≡ true → comes true (was_given (Some (linked peer link))) u ≡ true →
+row_linked : (terms : Terms) (n peer : ℕ) (link : Standing) (u : Value) → accepts_in terms ≡ true →
+    comes true (was_given (Some (linked peer link))) u ≡ true →
     ((v : Value) → answers_in terms (was_given (Some (linked peer link))) v ≡ answers_in by_two (was_given (Some (linked peer link))) v) →
-    HasRow terms n (was_given (Some (linked peer link))) (messages_after link.ends.joining.begun (u ∷ [])) (answers_in terms (was_given (Some (linked peer link))) u)
+    HasRow terms n (was_given (Some (linked peer link))) (messages_after link.ends.joining.begun (u ∷ []))
+    (answers_in terms (was_given (Some (linked peer link))) u)
 row_linked terms n peer link (data0 false user) e h a = row_quiet terms n peer link _ e (a (data0 false user))
 row_linked terms n peer link (data0 true user) e h a = row_tells terms n peer link _ _ e (a (data0 true user))
-row_linked terms n peer link (data2 destination number false user) e h a = row_quiet terms n peer link _ e (a (data2 destination number false user))
-row_linked terms n peer link (data2 destination number true user) e h a = row_tells terms n peer link _ _ e (a (data2 destination number true user))
-row_linked terms n peer link (acknowledge credit destination number) e h a = row_quiet terms n peer link _ e (a (acknowledge credit destination number))
-row_linked terms n peer link (disconnect destination (suc source) reason user) e h a = row_leaves terms n peer link reason _ e (a (disconnect destination (suc source) reason user))
+row_linked terms n peer link (data2 destination number false user) e h a =
+    row_quiet terms n peer link _ e (a (data2 destination number false user))
+row_linked terms n peer link (data2 destination number true user) e h a =
+    row_tells terms n peer link _ _ e (a (data2 destination number true user))
+row_linked terms n peer link (acknowledge credit destination number) e h a =
+    row_quiet terms n peer link _ e (a (acknowledge credit destination number))
+row_linked terms n peer link (disconnect destination (suc source) reason user) e h a =
+    row_leaves terms n peer link reason _ e (a (disconnect destination (suc source) reason user))
 row_linked terms n peer link u e h a = cc
 
 -- at one that is closing
-row_still : (terms : Terms) (n peer : ℕ) (put : List Message) → accepts_in terms ≡ true → put ≡ [] → HasRow terms n (was_given (Some (closing peer))) [] put
+row_still : (terms : Terms) (n peer : ℕ) (put : List Message) → accepts_in terms ≡ true → put ≡ [] →
+    HasRow terms n (was_given (Some (closing peer))) [] put
 row_still (refusing reason) n peer put e none = cc
 row_still terms n peer put e none = record { row = still; is = tt; stands = refl; comes_as = refl; answers = none; told = refl }
 
-row_shut : (terms : Terms) (n peer : ℕ) (m : Message) (put : List Message) → accepts_in terms ≡ true → may_arrive shutting m ≡ true → put ≡ [] →
-    HasRow terms n (was_given (Some (closing peer))) (m ∷ []) put
-row_shut by_two n peer (message octets) put e may none = record { row = ignores octets; is = tt; stands = refl; comes_as = refl; answers = none; told = refl }
-row_shut by_zero n peer (message octets) put e may none = record { row = ignores octets; is = tt; stands = refl; comes_as = refl; answers = none; told = refl }
-row_shut by_two n peer (bye reason) put e may none = record { row = ends (bye reason); is = tt; stands = refl; comes_as = refl; answers = none; told = refl }
-row_shut by_zero n peer (bye reason) put e may none = record { row = ends (bye reason); is = tt; stands = refl; comes_as = refl; answers = none; told = refl }
-row_shut by_two n peer over put e may none = record { row = ends over; is = tt; stands = refl; comes_as = refl; answers = none; told = refl }
-row_shut by_zero n peer over put e may none = record { row = ends over; is = tt; stands = refl; comes_as = refl; answers = none; told = refl }
+row_shut : (terms : Terms) (n peer : ℕ) (m : Message) (put : List Message) → accepts_in terms ≡ true → may_arrive shutting m ≡ true →
+    put ≡ [] → HasRow terms n (was_given (Some (closing peer))) (m ∷ []) put
+row_shut by_two n peer (message octets) put e may none =
+    record { row = ignores octets; is = tt; stands = refl; comes_as = refl; answers = none; told = refl }
+row_shut by_zero n peer (message octets) put e may none =
+    record { row = ignores octets; is = tt; stands = refl; comes_as = refl; answers = none; told = refl }
+row_shut by_two n peer (bye reason) put e may none =
+    record { row = ends (bye reason); is = tt; stands = refl; comes_as = refl; answers = none; told = refl }
+row_shut by_zero n peer (bye reason) put e may none =
+    record { row = ends (bye reason); is = tt; stands = refl; comes_as = refl; answers = none; told = refl }
+row_shut by_two n peer over put e may none =
+    record { row = ends over; is = tt; stands = refl; comes_as = refl; answers = none; told = refl }
+row_shut by_zero n peer over put e may none =
+    record { row = ends over; is = tt; stands = refl; comes_as = refl; answers = none; told = refl }
 row_shut terms n peer m put e may none = cc
 
 -- what may arrive of this one unit
 abbrev May : Progress → List Message → Type 0
 May from arrived = AllByRecursion (λ m. may_arrive from m ≡ true) arrived
 
-row_closing : (terms : Terms) (n peer : ℕ) (u : Value) (put : List Message) → accepts_in terms ≡ true → May shutting (messages_after [] (u ∷ [])) → put ≡ [] →
-    HasRow terms n (was_given (Some (closing peer))) (messages_after [] (u ∷ [])) put
+row_closing : (terms : Terms) (n peer : ℕ) (u : Value) (put : List Message) → accepts_in terms ≡ true →
+    May shutting (messages_after [] (u ∷ [])) → put ≡ [] → HasRow terms n (was_given (Some (closing peer))) (messages_after [] (u ∷ [])) put
 row_closing terms n peer (request c) put e may none = row_shut terms n peer ask put e may.0 none
 row_closing terms n peer (confirm destination c) put e may none = row_shut terms n peer agree put e may.0 none
 row_closing terms n peer (disconnect destination source reason user) put e may none = row_shut terms n peer _ put e may.0 none
@@ -177,5 +204,6 @@ row_of by_zero n (was_given (Some (closing peer))) u h may = row_closing by_zero
 row_of terms n place u h may = grind arith
 
 -- the state of the connection then
-pub row_after : (terms : Terms) (row : Row) → is_row terms row → behind_puts (behind_arrivals (accepts_in terms) (before row) (arrived_in row)) (put_for row) ≡ after row
+pub row_after : (terms : Terms) (row : Row) → is_row terms row →
+    behind_puts (behind_arrivals (accepts_in terms) (before row) (arrived_in row)) (put_for row) ≡ after row
 row_after terms row is = grind arith

@@ -1,14 +1,20 @@
 -- Two ends that match a list of steps keep the promises of the machine.
 -- For packets, carries, the promises, pairs in the same state and the laws of `promises`.
-use Rattle.std.proofs.Common.{◌≡◌, refl, sym, ◌∙◌, ap, subst, ℕ, ◌<◌, ◌≤◌, Bool, true, false, ◌&&◌, List, [], ◌∷◌, map, Option, Some, None, option_map, is_some, IsSome, inl, inr, ◌⊎◌, if◌then◌else◌, arith}
-use Rattle.osi_carrier.specs.declared.ends.EndReason.TheVariants as why
 use Rattle.osi_machine.specs.AsTables as tables
 use Rattle.osi_machine.specs.Floor.{State}
 use Rattle.osi_machine.specs.Machine as entries
 use Rattle.osi_machine.specs.Runs as runs
 use Rattle.osi_machine.specs.Views.{Told, told_of}
-use Rattle.osi_machine.proofs.Tokens.{none_held}
-use Rattle.osi_pair.proofs.Vocabulary.{or_parts, list_any, absent, beyond, Rows, value_at, Connection, EndReason, terms_of, IsTableRun, OfEachLine, HoldNoneTwice, AreAgreed, IsSeenInBoth, TellsNoFault, LosesAsItEnds, AreOffered, offers_in, Token, has, Ending, IsLegal, Step, connection_at, is_loss, loses, Tables, run, start, Listener, Standing, held_by, numbers_of, Holding, session_at, session_in, TwoEnds, end_at, Entry, with_word, journal_in, IsLegalJournal, AllWereAskedFor, OfEachConnection, HaveOneHolder, AgreeUnlessDuplex, IsShownAsAsked, IsSeenThere, confirmed_at, ConfirmedIsSeen, is_fault, HasNoFault, EndsForFewReasons, ending_of, LoseAsTheyEnd, side_in, entry_in, ending_in, terms_in, HasLine, IsInOrder, StandsAt, joining, Side, Left, Right}
+use Rattle.osi_pair.proofs.Vocabulary.{◌≡◌, refl, sym, ◌∙◌, ap, subst, ℕ, ◌<◌, ◌≤◌, Bool, true, false, ◌&&◌, List, [], ◌∷◌, map, Option}
+use Rattle.osi_pair.proofs.Vocabulary.{Some, None, option_map, is_some, IsSome, inl, inr, ◌⊎◌, if◌then◌else◌, arith, none_held, or_parts}
+use Rattle.osi_pair.proofs.Vocabulary.{list_any, absent, beyond, Rows, value_at, Connection, EndReason, terms_of, IsTableRun, OfEachLine}
+use Rattle.osi_pair.proofs.Vocabulary.{HoldNoneTwice, AreAgreed, IsSeenInBoth, TellsNoFault, LosesAsItEnds, AreOffered, offers_in, Token}
+use Rattle.osi_pair.proofs.Vocabulary.{has, Ending, IsLegal, Step, connection_at, is_loss, loses, Tables, run, start, Listener, Standing}
+use Rattle.osi_pair.proofs.Vocabulary.{held_by, numbers_of, Holding, session_at, session_in, TwoEnds, end_at, Entry, with_word, journal_in}
+use Rattle.osi_pair.proofs.Vocabulary.{IsLegalJournal, AllWereAskedFor, OfEachConnection, HaveOneHolder, AgreeUnlessDuplex, IsShownAsAsked}
+use Rattle.osi_pair.proofs.Vocabulary.{IsSeenThere, confirmed_at, ConfirmedIsSeen, is_fault, HasNoFault, EndsForFewReasons, ending_of}
+use Rattle.osi_pair.proofs.Vocabulary.{LoseAsTheyEnd, side_in, entry_in, ending_in, terms_in, HasLine, IsInOrder, StandsAt, joining, Side}
+use Rattle.osi_pair.proofs.Vocabulary.{Left, Right}
 
 -- ---- plain facts
 
@@ -23,7 +29,8 @@ rest_same x y xs ys e = cc
 words_by : (js : List entries.Entry) (es : List Entry) → map Some js ≡ map entry_in es → journal_in es ≡ js
 words_by [] [] e = refl
 words_by (j ∷ js) (x ∷ es) e =
-    ap (λ (o : Option entries.Entry). with_word o (journal_in es)) (sym (first_same (Some j) (entry_in x) (map Some js) (map entry_in es) e))
+    ap (λ (o : Option entries.Entry). with_word o (journal_in es))
+    (sym (first_same (Some j) (entry_in x) (map Some js) (map entry_in es) e))
     ∙ ap (λ (l : List entries.Entry). j ∷ l) (words_by js es (rest_same (Some j) (entry_in x) (map Some js) (map entry_in es) e))
 words_by js es e = grind arith
 
@@ -38,18 +45,23 @@ is_run p steps h = grind arith
 journal_at : (p : TwoEnds) (steps : List Step) → StandsAt p steps → journal_in p.journal ≡ (tables_at p steps).journal
 journal_at p steps h = words_by (tables_at p steps).journal p.journal h.stands.journal
 
-pub legal_journal : ((t : Tables) (h : IsTableRun t) → IsLegal h.agreed t.journal) → (p : TwoEnds) (steps : List Step) → StandsAt p steps → IsLegalJournal p
+pub legal_journal : ((t : Tables) (h : IsTableRun t) → IsLegal h.agreed t.journal) → (p : TwoEnds) (steps : List Step) → StandsAt p steps →
+    IsLegalJournal p
 unfolding is_run
-legal_journal legal p steps h = record {
-  words = ap (λ (l : List entries.Entry). map Some l) (journal_at p steps h) ∙ h.stands.journal;
-  legal = subst (λ (l : List entries.Entry). IsLegal (terms_in (terms_of p.left.end.carrier.local p.right.end.carrier.local)) l) (sym (journal_at p steps h))
-      (legal (tables_at p steps) (is_run p steps h));
-}
+legal_journal legal p steps h =
+    assumption (
+      ap (λ (l : List entries.Entry). map Some l) (journal_at p steps h)
+          ∙ h.stands.journal,
+      subst
+          (λ (l : List entries.Entry). IsLegal (terms_in (terms_of p.left.end.carrier.local p.right.end.carrier.local)) l)
+          (sym (journal_at p steps h)) (legal (tables_at p steps) (is_run p steps h)),
+    )
 
 -- ---- connections
 
 -- the line of a reference, in the tables that match the journal of two ends
-pub line_at : (r : ℕ) (p : TwoEnds) (steps : List Step) (h : StandsAt p steps) → 0 < r → r ≤ p.left.end.carrier.given → HasLine r p h.now (tables_at p steps)
+pub line_at : (r : ℕ) (p : TwoEnds) (steps : List Step) (h : StandsAt p steps) → 0 < r → r ≤ p.left.end.carrier.given →
+    HasLine r p h.now (tables_at p steps)
 line_at r p steps h above within = h.stands.lines r above (let same = h.stands.given in omega arith)
 
 pub all_asked : ((t : Tables) → IsTableRun t → AreOffered t) → (p : TwoEnds) (steps : List Step) → StandsAt p steps → AllWereAskedFor p
@@ -62,9 +74,11 @@ all_asked offered p steps h r above within =
     }
 
 -- a statement about each connection of the tables holds for the two ends
-of_each : (P : State → State → Told → Told → Type 0) (Q : ℕ → Told → Told → Type 0) (p : TwoEnds) (steps : List Step) (h : StandsAt p steps) →
-    ((r : ℕ) (line : HasLine r p h.now (tables_at p steps)) (left right : Told) → P line.line.own.session.state line.line.peer.session.state left right → Q r left right) →
-    OfEachLine P (tables_at p steps) → OfEachConnection Q p
+of_each : (P : State → State → Told → Told → Type 0) (Q : ℕ → Told → Told → Type 0) (p : TwoEnds) (steps : List Step)
+    (h : StandsAt p steps) →
+    ((r : ℕ) (line : HasLine r p h.now (tables_at p steps)) (left right : Told) →
+    P line.line.own.session.state line.line.peer.session.state left right → Q r left right) → OfEachLine P (tables_at p steps) →
+    OfEachConnection Q p
 of_each P Q p steps h follows all r o above within found =
     let line = line_at r p steps h above within in
     let same = journal_at p steps h in
@@ -72,11 +86,15 @@ of_each P Q p steps h follows all r o above within found =
     (follows r line (told_of (side_in Left) r o (tables_at p steps).journal) (told_of (side_in Right) r o (tables_at p steps).journal)
     (all r line.line o line.found (ap (λ (l : List entries.Entry). connection_at r (offers_in l)) (sym same) ∙ found)))
 
-pub agreement : ((t : Tables) → IsTableRun t → OfEachLine AreAgreed t) → (p : TwoEnds) (steps : List Step) → StandsAt p steps → OfEachConnection AgreeUnlessDuplex p
-agreement all p steps h = of_each AreAgreed AgreeUnlessDuplex p steps h (λ r line left right said. said) (all (tables_at p steps) (is_run p steps h))
+pub agreement : ((t : Tables) → IsTableRun t → OfEachLine AreAgreed t) → (p : TwoEnds) (steps : List Step) → StandsAt p steps →
+    OfEachConnection AgreeUnlessDuplex p
+agreement all p steps h =
+    of_each AreAgreed AgreeUnlessDuplex p steps h (λ r line left right said. said) (all (tables_at p steps) (is_run p steps h))
 
-pub duplex : ((t : Tables) → IsTableRun t → OfEachLine tables.IsShownAsAsked t) → (p : TwoEnds) (steps : List Step) → StandsAt p steps → OfEachConnection IsShownAsAsked p
-duplex all p steps h = of_each tables.IsShownAsAsked IsShownAsAsked p steps h (λ r line left right said. said) (all (tables_at p steps) (is_run p steps h))
+pub duplex : ((t : Tables) → IsTableRun t → OfEachLine tables.IsShownAsAsked t) → (p : TwoEnds) (steps : List Step) → StandsAt p steps →
+    OfEachConnection IsShownAsAsked p
+duplex all p steps h = of_each tables.IsShownAsAsked IsShownAsAsked p steps h (λ r line left right said. said)
+    (all (tables_at p steps) (is_run p steps h))
 
 -- ---- faults
 
@@ -84,7 +102,8 @@ duplex all p steps h = of_each tables.IsShownAsAsked IsShownAsAsked p steps h (�
 entry_fine : (word : entries.Entry) (x : Entry) → Some word ≡ entry_in x → runs.is_fault word ≡ false → is_fault x ≡ false
 entry_fine word x e h = grind arith
 
-journal_fine : (words : List entries.Entry) (journal : List Entry) → map Some words ≡ map entry_in journal → list_any runs.is_fault words ≡ false → list_any is_fault journal ≡ false
+journal_fine : (words : List entries.Entry) (journal : List Entry) → map Some words ≡ map entry_in journal →
+    list_any runs.is_fault words ≡ false → list_any is_fault journal ≡ false
 journal_fine words [] e h = refl
 journal_fine [] (x ∷ journal) e h = absurd (cc)
 journal_fine (word ∷ words) (x ∷ journal) e h =
@@ -101,14 +120,17 @@ no_fault all p steps h = journal_fine (tables_at p steps).journal p.journal h.st
 no_session : (r : ℕ) (h : Holding) → value_at r h.end.carrier.live ≡ None → session_at r h.end ≡ None
 no_session r h e = ap (λ (o : Option Connection). if is_some o then session_in (value_at r h.end.lines) else None) e
 
-pub outside_by : (r most : ℕ) (h : Holding) (ended : Option EndReason) → h.end.carrier.ended ≡ ended → (IsSome h.end.carrier.ended → h.end.carrier.live ≡ []) →
-    (h.end.carrier.ended ≡ None → IsInOrder h.end) → h.end.carrier.given ≤ most → (r ≡ 0) ⊎ (most < r) → value_at r h.end.carrier.live ≡ None
+pub outside_by : (r most : ℕ) (h : Holding) (ended : Option EndReason) → h.end.carrier.ended ≡ ended →
+    (IsSome h.end.carrier.ended → h.end.carrier.live ≡ []) → (h.end.carrier.ended ≡ None → IsInOrder h.end) → h.end.carrier.given ≤ most →
+    (r ≡ 0) ⊎ (most < r) → value_at r h.end.carrier.live ≡ None
 outside_by r most h None e over order given (inl none) = absent r 0 h.end.carrier.live (omega arith) (order e).sound.orderly.rise
-outside_by r most h None e over order given (inr above) = beyond r h.end.carrier.given h.end.carrier.live (order e).sound.orderly.up_to (omega arith)
+outside_by r most h None e over order given (inr above) =
+    beyond r h.end.carrier.given h.end.carrier.live (order e).sound.orderly.up_to (omega arith)
 outside_by r most h (Some why) e over order given out =
     ap (λ (rows : Rows Connection). value_at r rows) (over (subst (λ (o : Option EndReason). IsSome o) (sym e) refl))
 
-pub outside : (side : Side) (r : ℕ) (p : TwoEnds) (steps : List Step) → StandsAt p steps → (r ≡ 0) ⊎ (p.left.end.carrier.given < r) → session_at r (end_at side p).end ≡ None
+pub outside : (side : Side) (r : ℕ) (p : TwoEnds) (steps : List Step) → StandsAt p steps → (r ≡ 0) ⊎ (p.left.end.carrier.given < r) →
+    session_at r (end_at side p).end ≡ None
 outside Left r p steps h out = no_session r p.left
     (outside_by r p.left.end.carrier.given p.left p.left.end.carrier.ended refl h.stands.over_left h.stands.order_left (omega arith) out)
 outside Right r p steps h out = no_session r p.right
@@ -128,9 +150,11 @@ says_by n h s joined false e seated = of_none (ap (λ (b : Bool). if b then sess
 -- ---- tokens
 
 none_holds : (o other : Option Listener) (t : Token) → o ≡ None → (has (held_by o) t && has (held_by other) t) ≡ false
-none_holds o other t e = ap (λ (x : Option Listener). has (held_by x) t && has (held_by other) t) e ∙ ap (λ (b : Bool). b && has (held_by other) t) (none_held t)
+none_holds o other t e =
+    ap (λ (x : Option Listener). has (held_by x) t && has (held_by other) t) e ∙ ap (λ (b : Bool). b && has (held_by other) t) (none_held t)
 
-one_holds : (n : ℕ) (left right : Holding) (s q : Standing) (t : Token) → Says n left s → Says n right q → (has s.state.held t && has q.state.held t) ≡ false →
+one_holds : (n : ℕ) (left right : Holding) (s q : Standing) (t : Token) → Says n left s → Says n right q →
+    (has s.state.held t && has q.state.held t) ≡ false →
     (has (held_by (session_at n left.end)) t && has (held_by (session_at n right.end)) t) ≡ false
 one_holds n left right s q t h6 other none = grind arith
 
@@ -150,7 +174,8 @@ one_holder holder offered p steps h r t = by (within r p.left.end.carrier.given)
         let offer = offered (tables_at p steps) (is_run p steps h) r line.line line.found in
         one_holds r p.left p.right line.line.own.session line.line.peer.session t
         (says_by r p.left line.line.own.session line.is.left.joined (is_some (value_at r p.left.end.carrier.live)) refl line.is.left.live)
-        (says_by r p.right line.line.peer.session line.is.right.joined (is_some (value_at r p.right.end.carrier.live)) refl line.is.right.live)
+        (says_by r p.right line.line.peer.session line.is.right.joined
+        (is_some (value_at r p.right.end.carrier.live)) refl line.is.right.live)
         (holder (tables_at p steps) (is_run p steps h) r line.line offer.offer line.found offer.found t)
 
 -- ---- confirmed points
@@ -170,9 +195,11 @@ confirmed_is_seen all p steps h = of_each IsSeenInBoth (ConfirmedIsSeen p) p ste
         IsSeenInBoth line.line.own.session.state line.line.peer.session.state left right → ConfirmedIsSeen p r left right
     follows r line left right seen =
         let own = no_more r p.left line.line.own.session
-        (says_by r p.left line.line.own.session line.is.left.joined (is_some (value_at r p.left.end.carrier.live)) refl line.is.left.live) in
+        (says_by r p.left line.line.own.session line.is.left.joined
+        (is_some (value_at r p.left.end.carrier.live)) refl line.is.left.live) in
         let peer = no_more r p.right line.line.peer.session
-        (says_by r p.right line.line.peer.session line.is.right.joined (is_some (value_at r p.right.end.carrier.live)) refl line.is.right.live) in (
+        (says_by r p.right line.line.peer.session line.is.right.joined
+        (is_some (value_at r p.right.end.carrier.live)) refl line.is.right.live) in (
           fewer_seen (confirmed_at Left r p) line.line.own.session.state.numbers.confirmed left right own seen.0,
           fewer_seen (confirmed_at Right r p) line.line.peer.session.state.numbers.confirmed right left peer seen.1,
         )
@@ -189,7 +216,9 @@ same_end t o h = grind arith
 pub losses : ((t : Tables) → IsTableRun t → LosesAsItEnds t) → (p : TwoEnds) (steps : List Step) → StandsAt p steps → LoseAsTheyEnd p
 losses lost p steps h Left shown =
     ap (λ (o : Option Ending). loses o) (sym (same_end (tables_at p steps).left_end p.left.end.carrier.ended h.stands.left_end))
-    ∙ lost (tables_at p steps) (is_run p steps h) (side_in Left) (ap (λ (l : List entries.Entry). list_any (is_loss (side_in Left)) l) (sym (journal_at p steps h)) ∙ shown)
+    ∙ lost (tables_at p steps) (is_run p steps h) (side_in Left)
+    (ap (λ (l : List entries.Entry). list_any (is_loss (side_in Left)) l) (sym (journal_at p steps h)) ∙ shown)
 losses lost p steps h Right shown =
     ap (λ (o : Option Ending). loses o) (sym (same_end (tables_at p steps).right_end p.right.end.carrier.ended h.stands.right_end))
-    ∙ lost (tables_at p steps) (is_run p steps h) (side_in Right) (ap (λ (l : List entries.Entry). list_any (is_loss (side_in Right)) l) (sym (journal_at p steps h)) ∙ shown)
+    ∙ lost (tables_at p steps) (is_run p steps h) (side_in Right)
+    (ap (λ (l : List entries.Entry). list_any (is_loss (side_in Right)) l) (sym (journal_at p steps h)) ∙ shown)

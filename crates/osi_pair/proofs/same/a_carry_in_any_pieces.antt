@@ -1,16 +1,14 @@
 -- Two carries of equally many octets, between pairs of ends in the same state, lead to the same state if memory
 -- suffices, however the octets are cut into pieces.
 -- For pairs in the same state and the laws of `standing`.
-use Rattle.std.proofs.Common.{◌≡◌, ℕ, ◌<◌, ◌^◌, List, [], ◌∷◌, ◌++◌, min, take, Option, Some, None, refl, sym, ap, subst, ◌∙◌, ◌⊎◌, inl, inr, arith}
-use Rattle.osi_carrier.proofs.Lasting.{PacketLaws}
-use Rattle.osi_stack.proofs.Endings.{in_room, pieces_end}
-use Rattle.osi_stack.proofs.Runs.{calls_read, pieces_alike}
-use Rattle.osi_stack.specs.Runs.{Call, feeding, telling, carrying, Calls, CallsInRoom, HasRoom, AreAlike, put_back, used_in, told_in, carried_in}
-use Rattle.osi_tpkt.proofs.Fronts.{empty_partial, completed_partial, partial_not_whole}
-use Rattle.osi_tpkt.proofs.PacketLaws.{one_packet}
-use Rattle.osi_tpkt.proofs.Streams.{one_list}
-use Rattle.osi_pair.specs.SameEnds.{IsSameEnd, AreSameEnds, FoundMemory}
-use Rattle.osi_pair.proofs.Vocabulary.{append-nil, flat_map, Rows, EndReason, IsPartial, Shown, carried, RunsDry, StopsBehind, Refuses, End, Holding, EndLine as Line, Crossing, CarriesFrom, crossing, TwoEnds, end_at, reachable, Entry, reach_after, other, IsReached, told_entries, waiting_in, quieted, Side, Left, Right}
+use Rattle.osi_stack.specs.Runs.{Call, AreAlike}
+use Rattle.osi_pair.proofs.Vocabulary.{◌≡◌, ℕ, ◌<◌, ◌^◌, List, [], ◌∷◌, ◌++◌, min, take, Option, Some, None, refl, sym, ap, subst, ◌∙◌, ◌⊎◌}
+use Rattle.osi_pair.proofs.Vocabulary.{inl, inr, arith, PacketLaws, in_room, pieces_end, calls_read, pieces_alike, feeding, telling}
+use Rattle.osi_pair.proofs.Vocabulary.{carrying, Calls, CallsInRoom, HasRoom, put_back, used_in, told_in, carried_in, empty_partial}
+use Rattle.osi_pair.proofs.Vocabulary.{completed_partial, partial_not_whole, one_packet, one_list, IsSameEnd, AreSameEnds, FoundMemory}
+use Rattle.osi_pair.proofs.Vocabulary.{append-nil, flat_map, Rows, EndReason, IsPartial, Shown, carried, RunsDry, StopsBehind, Refuses, End}
+use Rattle.osi_pair.proofs.Vocabulary.{Holding, EndLine as Line, Crossing, CarriesFrom, crossing, TwoEnds, end_at, reachable, Entry}
+use Rattle.osi_pair.proofs.Vocabulary.{reach_after, other, IsReached, told_entries, waiting_in, quieted, Side, Left, Right}
 use Rattle.osi_pair.proofs.carry.a_carry_with_enough_memory.{IsCarried, pieces_carried}
 use Rattle.osi_pair.proofs.carry.a_carry_is_deliveries.{CarryLaws, carries_stand}
 use Rattle.osi_pair.proofs.packet.a_packet_is_one_delivery_or_none.{quiet_of}
@@ -63,8 +61,8 @@ plain_same a b h alive =
 
 plain_goes : (old new : Holding) (piece : List ℕ) (used : ℕ) →
     (RunsDry old piece used new ⊎ StopsBehind old piece used new) ⊎ Refuses old piece used new →
-    (RunsDry (plain old) piece used (plain new) ⊎ StopsBehind (plain old) piece used (plain new)) ⊎ Refuses (plain old) piece used
-    (plain new)
+    (RunsDry (plain old) piece used (plain new) ⊎ StopsBehind (plain old) piece used (plain new))
+    ⊎ Refuses (plain old) piece used (plain new)
 plain_goes old new piece used (inl (inl d)) = inl (inl (record {
   units = d.units;
   all = d.all;
@@ -144,8 +142,8 @@ turned : (a b : Holding) (xs ys : List Call) → AreAlike b ys a xs → AreAlike
 turned a b xs ys h = record { octets = sym h.octets; end = sym h.end; told = sym h.told }
 
 one_by : (h a b : Holding) (xs ys : List Call) (o m : Option EndReason) → a.end.carrier.ended ≡ o → b.end.carrier.ended ≡ m →
-    IsPartial h.held.octets → h.held.offset < 2 ^ 64 → h.end.carrier.ended ≡ None →
-    CallsInRoom h xs a → CallsInRoom h ys b → flat_map used_in xs ≡ flat_map used_in ys → AreOne a xs b ys
+    IsPartial h.held.octets → h.held.offset < 2 ^ 64 → h.end.carrier.ended ≡ None → CallsInRoom h xs a → CallsInRoom h ys b →
+    flat_map used_in xs ≡ flat_map used_in ys → AreOne a xs b ys
 one_by h a b xs ys None None e f partial bound alive x y used =
     let both = pieces_alike empty_partial one_list h a b xs ys partial bound (in_room h xs a x) (in_room h ys b y) used e f in
     record { alike = both.0; offset = λ lasts. both.1 }
@@ -186,9 +184,8 @@ record IsFedOnce (a b : Holding) (xs ys : List Call) : Type 0 where
   told : flat_map told_in xs ≡ flat_map told_in ys
 
 fed_by : (s : Side) (p q a b : Crossing) (n : ℕ) (o : Option EndReason) → p.to.end.carrier.ended ≡ o → IsSameEnd p.to q.to →
-    p.from.end ≡ q.from.end → IsPartial p.to.held.octets →
-    (x : IsCarried s p n a) → (y : IsCarried s q n b) → waiting_in a.to.end.lines ≡ [] → waiting_in b.to.end.lines ≡ [] →
-    IsFedOnce a.to b.to x.calls y.calls
+    p.from.end ≡ q.from.end → IsPartial p.to.held.octets → (x : IsCarried s p n a) → (y : IsCarried s q n b) →
+    waiting_in a.to.end.lines ≡ [] → waiting_in b.to.end.lines ≡ [] → IsFedOnce a.to b.to x.calls y.calls
 fed_by s p q a b n (Some reason) e same from partial x y quiet still =
     let over = x.over reason e in
     let there = y.over reason (ap (λ (z : End). z.carrier.ended) (sym same.end) ∙ e) in
@@ -203,15 +200,15 @@ fed_by s p q a b n None e same from partial x y quiet still =
     let bound : p.to.held.offset < 2 ^ 64 = same.counted e in
     let one = one_by h (plain a.to) (plain b.to) x.calls y.calls a.to.end.carrier.ended b.to.end.carrier.ended refl refl partial bound e
     here there used in
-    record {
-      same = record {
-        end = hushed_same (plain a.to) (plain b.to) x.calls y.calls one.alike x.untaken y.untaken quiet still;
-        octets = one.alike.octets;
-        offset = one.offset;
-        counted = counted_by h (plain a.to) x.calls bound here;
-      };
-      told = told_same (plain a.to) (plain b.to) x.calls y.calls one.alike quiet still;
-    }
+    assumption (
+      hushed_same (plain a.to)
+          (plain b.to) x.calls y.calls one.alike x.untaken y.untaken quiet still,
+      one.alike.octets,
+      one.offset,
+      counted_by h
+          (plain a.to) x.calls bound here,
+      told_same (plain a.to) (plain b.to) x.calls y.calls one.alike quiet still,
+    )
 
 -- ---- a carry
 
@@ -230,8 +227,7 @@ quiet_then laws f most p new octets at c =
     quiet_of (other f) new x.stands.now (tables_at new (at.steps ++ x.more)) x.stands.stands
 
 pub same_carry : CarryLaws → (f : Side) (most : ℕ) (p q a b : TwoEnds) (octets : ℕ) → IsReached p → IsReached q → AreSameEnds p q →
-    CarriesFrom f most p octets a → CarriesFrom f most q octets b →
-    FoundMemory a → FoundMemory b → AreSameEnds a b
+    CarriesFrom f most p octets a → CarriesFrom f most q octets b → FoundMemory a → FoundMemory b → AreSameEnds a b
 same_carry laws f most p q a b octets at there same c d found found_too =
     let s = other f in
     let x = carried_at laws f most p a octets at c found in

@@ -1,12 +1,17 @@
 -- The same event leads two pairs of ends in the same state to the same state, if memory suffices.
 -- For the laws of `standing`.
-use Rattle.std.proofs.Common.{◌≡◌, ℕ, ◌+◌, ◌<◌, ◌^◌, Bool, true, false, not, List, [], ◌∷◌, ◌++◌, length, min, Option, Some, None, is_some, IsSome, refl, sym, ap, ap₂, subst, ◌∙◌, if◌then◌else◌}
 use Rattle.osi_session.specs.Listening.{called}
 use Rattle.osi_session.specs.declared.faults.CallError.TheVariants as refused
 use Rattle.osi_pair.specs.declared.events.Event.TheVariants.{Call}
 use Rattle.osi_pair.specs.Entries.{calls}
-use Rattle.osi_pair.specs.SameEnds.{IsSameEnd, AreSameEnds, FoundMemory}
-use Rattle.osi_pair.proofs.Vocabulary.{value_at, EndReason, Call as Asked, called_by, CallError, connect_error, call_error, session_refusal, session_in, session_at, to_session, has_given, Between, Tables, Shown, End, Holding, ConnectError, TwoEnds, end_at, asked_of, answer_with, connected_by, called_by_error, after_connect, after_call, after_break, CarriesFrom, Entry, asks, Does, IsToldOfBreak, TellsBreak, IsReached, other, Stands, told_entries, waiting_in, quieted, Event, Connect, Carry, Break, Told, Reach, Side, Left, Right, ConnectCall as Wanted}
+use Rattle.osi_pair.proofs.Vocabulary.{◌≡◌, ℕ, ◌+◌, ◌<◌, ◌^◌, Bool, true, false, not, List, [], ◌∷◌, ◌++◌, length, min, Option, Some, None}
+use Rattle.osi_pair.proofs.Vocabulary.{is_some, IsSome, refl, sym, ap, ap₂, subst, ◌∙◌, if◌then◌else◌, IsSameEnd, AreSameEnds, FoundMemory}
+use Rattle.osi_pair.proofs.Vocabulary.{value_at, EndReason, Call as Asked, called_by, CallError, connect_error, call_error, session_refusal}
+use Rattle.osi_pair.proofs.Vocabulary.{session_in, session_at, to_session, has_given, Between, Tables, Shown, End, Holding, ConnectError}
+use Rattle.osi_pair.proofs.Vocabulary.{TwoEnds, end_at, asked_of, answer_with, connected_by, called_by_error, after_connect, after_call}
+use Rattle.osi_pair.proofs.Vocabulary.{after_break, CarriesFrom, Entry, asks, Does, IsToldOfBreak, TellsBreak, IsReached, other, Stands}
+use Rattle.osi_pair.proofs.Vocabulary.{told_entries, waiting_in, quieted, Event, Connect, Carry, Break, Told, Reach, Side, Left, Right}
+use Rattle.osi_pair.proofs.Vocabulary.{ConnectCall as Wanted}
 use Rattle.osi_stack.specs.Calls.{breaks, connects as asks_for}
 use Rattle.osi_pair.proofs.carry.a_carry_with_enough_memory.{all_told, quieted_is}
 use Rattle.osi_pair.proofs.same.a_carry_in_any_pieces.{same_at, same_both, same_moved, same_done}
@@ -93,8 +98,8 @@ over_refused r call e none =
 unchanged : (r : ℕ) (call : Asked) (h : Holding) → IsRefused r call h.end → called_by_error (call_error r call h.end) r call h ≡ h
 unchanged r call h out = ap (λ (o : Option CallError). called_by_error o r call h) out.is
 
-same_called : (r : ℕ) (call : Asked) (a b : Holding) (o : Option EndReason) → a.end.carrier.ended ≡ o → (IsSome a.end.carrier.ended →
-    a.end.carrier.live ≡ []) → IsSameEnd a b →
+same_called : (r : ℕ) (call : Asked) (a b : Holding) (o : Option EndReason) → a.end.carrier.ended ≡ o →
+    (IsSome a.end.carrier.ended → a.end.carrier.live ≡ []) → IsSameEnd a b →
     IsSameEnd (called_by_error (call_error r call a.end) r call a) (called_by_error (call_error r call b.end) r call b)
 same_called r call a b None e over h =
     same_moved (record a { end = call_does (call_error r call a.end) r call a.end })
@@ -152,9 +157,8 @@ record IsToldOnce (a b : Holding) (after others : List Entry) : Type 0 where
   journal : after ≡ others
 
 told_by : (s : Side) (p q a b : Holding) (before after earlier others : List Entry) (o : Option EndReason) → p.end.carrier.ended ≡ o →
-    IsSameEnd p q → before ≡ earlier →
-    waiting_in a.end.lines ≡ [] → waiting_in b.end.lines ≡ [] → IsToldOfBreak s p before a after → IsToldOfBreak s q earlier b others →
-    IsToldOnce a b after others
+    IsSameEnd p q → before ≡ earlier → waiting_in a.end.lines ≡ [] → waiting_in b.end.lines ≡ [] → IsToldOfBreak s p before a after →
+    IsToldOfBreak s q earlier b others → IsToldOnce a b after others
 unfolding break_does
 told_by s p q a b before after earlier others (Some reason) e same journal quiet still h k =
     let x = h.over (ap is_some e) in
@@ -170,12 +174,12 @@ told_by s p q a b before after earlier others None e same journal quiet still h 
     let first : x.first ≡ y.first =
     sym (all_told (record p { end = breaks p.end }) a x.first x.shows quiet) ∙ ap (λ (z : End). waiting_in (breaks z).lines) same.end
     ∙ all_told (record q { end = breaks q.end }) b y.first y.shows still in
-    record {
-      same = done;
-      journal = x.says ∙ ap (λ (j : List Entry). j ++ told_entries s p.end.carrier.ended a.end.carrier.ended x.first) journal
+    assumption (
+      done,
+      x.says ∙ ap (λ (j : List Entry). j ++ told_entries s p.end.carrier.ended a.end.carrier.ended x.first) journal
           ∙ ap₂ (λ (z w : End). earlier ++ told_entries s z.carrier.ended w.carrier.ended x.first) same.end done.end
-          ∙ ap (λ (w : List (ℕ × Shown)). earlier ++ told_entries s q.end.carrier.ended b.end.carrier.ended w) first ∙ sym y.says;
-    }
+          ∙ ap (λ (w : List (ℕ × Shown)). earlier ++ told_entries s q.end.carrier.ended b.end.carrier.ended w) first ∙ sym y.says,
+    )
 
 same_told : (s : Side) (p q a b : TwoEnds) → AreSameEnds p q → waiting_in (end_at s a).end.lines ≡ [] →
     waiting_in (end_at s b).end.lines ≡ [] → TellsBreak s p a → TellsBreak s q b → AreSameEnds a b
@@ -198,8 +202,7 @@ CarriesOnce = (side : Side) (most : ℕ) (p q a b : TwoEnds) (octets : ℕ) → 
     FoundMemory a → FoundMemory b → AreSameEnds a b
 
 pub same_event : CarriesOnce → (event : Event) (p q a b : TwoEnds) (octets : ℕ) → IsReached p → IsReached q → IsReached a → IsReached b →
-    AreSameEnds p q →
-    Does event p octets a → Does event q octets b → FoundMemory a → FoundMemory b → AreSameEnds a b
+    AreSameEnds p q → Does event p octets a → Does event q octets b → FoundMemory a → FoundMemory b → AreSameEnds a b
 same_event law (Connect asked) p q a b octets at there later too h x y found memory = same_ends _ _ a b (same_connect asked p q h) x.0 y.0
 same_event law (Call side reference request) p q a b octets at there later too h x y found memory =
     same_ends _ _ a b (same_call side reference.0 (called_by request) p q at h) x.0 y.0

@@ -1,10 +1,13 @@
 -- The answer of a session, as octets of a TSDU.
 -- For packets.
-use Rattle.std.proofs.Common.{◌≡◌, ◌<◌, ◌≤◌, ℕ, ◌&&◌, Bool, true, false, not, if◌then◌else◌, [], length, Some, None, IfSome, refl, sym, ap, subst, ◌∙◌, arith}
 use Rattle.osi_message.specs.Written.{unit_of}
 use Rattle.osi_session.specs.Respond.{over}
-use Rattle.osi_stack.proofs.Shortness.{SpduLaws, sent_short}
-use Rattle.osi_pair.proofs.Vocabulary.{IsOctets, Offer, offer_sent, IsInOctets, Meaning, CN, RF, AB, AA, Said, said_of, IsSendable, written, Input, opened, refused, broken, taken, Standing, denied, rests, react, is_wait_transport, is_aborting, is_ended, Outcome, in_aborting, in_ended, reply_for, respond, respond_unit, Verdict, dropped, faulty, fine, verdict, enacted, functional_units, has_data, are_sizes, SessionState as State}
+use Rattle.osi_pair.proofs.Vocabulary.{◌≡◌, ◌<◌, ◌≤◌, ℕ, ◌&&◌, Bool, true, false, not, if◌then◌else◌, [], length, Some, None, IfSome, refl}
+use Rattle.osi_pair.proofs.Vocabulary.{sym, ap, subst, ◌∙◌, arith, SpduLaws, sent_short, IsOctets, Offer, offer_sent, IsInOctets, Meaning}
+use Rattle.osi_pair.proofs.Vocabulary.{CN, RF, AB, AA, Said, said_of, IsSendable, written, Input, opened, refused, broken, taken, Standing}
+use Rattle.osi_pair.proofs.Vocabulary.{denied, rests, react, is_wait_transport, is_aborting, is_ended, Outcome, in_aborting, in_ended}
+use Rattle.osi_pair.proofs.Vocabulary.{reply_for, respond, respond_unit, Verdict, dropped, faulty, fine, verdict, enacted, functional_units}
+use Rattle.osi_pair.proofs.Vocabulary.{has_data, are_sizes, SessionState as State}
 
 -- what is sent can be handed to the carrier
 pub record CanGo (x : Meaning) : Type 0 where
@@ -53,13 +56,15 @@ over_answer : (b : Bool) (s : State) (u m : Meaning) → (if b then in_aborting 
 over_answer true s u m e = let no : None ≡ Some m = sym (grind arith) ∙ e in absurd cc
 over_answer false s u m e = ended_answer s u m e
 
-connect_answer : (version some : Bool) (m : Meaning) → (if not version then Some (RF 132 []) else (if not some then Some (RF 134 []) else None)) ≡ Some m → IsAnswer m
+connect_answer : (version some : Bool) (m : Meaning) →
+    (if not version then Some (RF 132 []) else (if not some then Some (RF 134 []) else None)) ≡ Some m → IsAnswer m
 connect_answer false some m e = same_answer (RF 132 []) m (refuse_answer 132 (omega arith)) e
 connect_answer true false m e = same_answer (RF 134 []) m (refuse_answer 134 (omega arith)) e
 connect_answer true true m e = absurd cc
 
 good_answer : (u m : Meaning) → reply_for u ≡ Some m → IsAnswer m
-good_answer (CN version requirements serial wishes from to sizes octets) m e = connect_answer version (has_data (functional_units requirements) && are_sizes sizes) m e
+good_answer (CN version requirements serial wishes from to sizes octets) m e =
+    connect_answer version (has_data (functional_units requirements) && are_sizes sizes) m e
 good_answer (AB bits octets) m e = same_answer AA m accept_answer e
 good_answer u m e = absurd cc
 
@@ -102,7 +107,8 @@ unfolding react silent_refused
 goes_refused x reason waits = grind arith
 
 -- a session that waited has ended then
-pub ended_refused : (x : Standing) (reason : ℕ) → is_wait_transport x.state.phase ≡ true → is_ended (react x (refused reason)).next.state.phase ≡ true
+pub ended_refused : (x : Standing) (reason : ℕ) → is_wait_transport x.state.phase ≡ true →
+    is_ended (react x (refused reason)).next.state.phase ≡ true
 unfolding react
 ended_refused x reason e = grind arith
 

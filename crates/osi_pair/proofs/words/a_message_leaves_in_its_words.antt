@@ -1,9 +1,11 @@
 -- The words in which a message leaves are that message.
 -- For calls.
-use Rattle.std.proofs.Common.{◌≡◌, refl, sym, ap, subst, ◌∙◌, ℕ, ◌-◌, ◌≤◌, Bool, true, false, if◌then◌else◌, List, [], ◌∷◌, ◌++◌, length, map, Some, None, append_assoc, arith}
 use Rattle.osi_between.specs.Messages as carrier
 use Rattle.osi_message.specs.Words as sent
-use Rattle.osi_pair.proofs.Vocabulary.{append-nil, length-append, unit, Meaning, DT, is_parted, words_sent, AreLater, AreParts, joined, Words, word_octets, First, Middle, Last, is_size, word_in, Word, whole, part, joins, left_of, AreInOrder, most_data}
+use Rattle.osi_pair.proofs.Vocabulary.{◌≡◌, refl, sym, ap, subst, ℕ, ◌≤◌, Bool, true, false, List, [], ◌∷◌, ◌++◌, length, map, Some, None}
+use Rattle.osi_pair.proofs.Vocabulary.{append_assoc, arith, append-nil, length-append, unit, Meaning, DT, is_parted, words_sent, AreLater}
+use Rattle.osi_pair.proofs.Vocabulary.{AreParts, joined, Words, word_octets, First, Middle, Last, is_size, word_in, Word, whole, part}
+use Rattle.osi_pair.proofs.Vocabulary.{joins, left_of, AreInOrder, most_data}
 use Rattle.osi_pair.proofs.words.added_and_cut_words_are_messages.{AreWords, wholes}
 
 -- a word of the sender, among those in flight
@@ -25,7 +27,8 @@ record AreRest (begun : List ℕ) (words : List Word) (all : List ℕ) : Type 0 
   left : left_of (Some begun) words ≡ None
   order : AreInOrder (Some begun) words
 
-rest_is : (begun : List ℕ) (words : Words) → AreLater words → length (begun ++ joined words) ≤ most_data → AreRest begun (map word_of words) (begun ++ joined words)
+rest_is : (begun : List ℕ) (words : Words) → AreLater words → length (begun ++ joined words) ≤ most_data →
+    AreRest begun (map word_of words) (begun ++ joined words)
 rest_is begun (sent.part Last octets ∷ []) later short = grind (arith, append-nil, length)
 rest_is begun (sent.part Middle octets ∷ words) later short =
     let front : begun ++ (octets ++ joined words) ≡ (begun ++ octets) ++ joined words = sym (append_assoc begun octets (joined words)) in
@@ -35,7 +38,8 @@ rest_is begun (sent.part Middle octets ∷ words) later short =
     grind arith
 rest_is begun words later short = search
 
-parts_are : (words : Words) → AreParts words → length (joined words) ≤ most_data → AreWords (map word_of words) (unit (DT (joined words)) ∷ [])
+parts_are : (words : Words) → AreParts words → length (joined words) ≤ most_data →
+    AreWords (map word_of words) (unit (DT (joined words)) ∷ [])
 parts_are (sent.part First octets ∷ words) parts short =
     let more = rest_is octets words parts short in
     let fits : length octets ≤ most_data = omega (arith, short, length-append octets (joined words)) in
@@ -50,7 +54,8 @@ word_alone limit m h = grind arith
 
 -- what the parts mean by the crate below
 pub record PartLaws : Type 0 where
-  pub parts : (limit : ℕ) (octets : List ℕ) → is_size limit ≡ true → is_parted limit (DT octets) ≡ true → AreParts (words_sent limit (DT octets))
+  pub parts : (limit : ℕ) (octets : List ℕ) → is_size limit ≡ true → is_parted limit (DT octets) ≡ true →
+      AreParts (words_sent limit (DT octets))
   pub joined : (limit : ℕ) (octets : List ℕ) → joined (words_sent limit (DT octets)) ≡ octets
 
 -- a Data has at most this many octets
@@ -58,19 +63,24 @@ abbrev pub IsBounded : Meaning → Type 0
 IsBounded (DT octets) = length octets ≤ most_data
 IsBounded m = Unit {0}
 
-in_parts : PartLaws → (limit : ℕ) (octets : List ℕ) → is_size limit ≡ true → is_parted limit (DT octets) ≡ true → length octets ≤ most_data → AreWords (map word_of (words_sent limit (DT octets))) (unit (DT octets) ∷ [])
+in_parts : PartLaws → (limit : ℕ) (octets : List ℕ) → is_size limit ≡ true → is_parted limit (DT octets) ≡ true →
+    length octets ≤ most_data → AreWords (map word_of (words_sent limit (DT octets))) (unit (DT octets) ∷ [])
 in_parts laws limit octets size parted short =
     let all = laws.joined limit octets in
     subst (λ (o : List ℕ). AreWords (map word_of (words_sent limit (DT octets))) (unit (DT o) ∷ [])) all
-    (parts_are (words_sent limit (DT octets)) (laws.parts limit octets size parted) (subst (λ (o : List ℕ). length o ≤ most_data) (sym all) short))
+    (parts_are (words_sent limit (DT octets)) (laws.parts limit octets size parted)
+    (subst (λ (o : List ℕ). length o ≤ most_data) (sym all) short))
 
 by_itself : (limit : ℕ) (m : Meaning) → is_parted limit m ≡ false → AreWords (map word_of (words_sent limit m)) (unit m ∷ [])
-by_itself limit m e = subst (λ (words : Words). AreWords (map word_of words) (unit m ∷ [])) (sym (word_alone limit m e)) (wholes (unit m ∷ []))
+by_itself limit m e = subst (λ (words : Words). AreWords (map word_of words) (unit m ∷ [])) (sym (word_alone limit m e))
+    (wholes (unit m ∷ []))
 
-data_words : PartLaws → (limit : ℕ) (octets : List ℕ) (parted : Bool) → is_parted limit (DT octets) ≡ parted → is_size limit ≡ true → length octets ≤ most_data → AreWords (map word_of (words_sent limit (DT octets))) (unit (DT octets) ∷ [])
+data_words : PartLaws → (limit : ℕ) (octets : List ℕ) (parted : Bool) → is_parted limit (DT octets) ≡ parted → is_size limit ≡ true →
+    length octets ≤ most_data → AreWords (map word_of (words_sent limit (DT octets))) (unit (DT octets) ∷ [])
 data_words laws limit octets true e size short = in_parts laws limit octets size e short
 data_words laws limit octets false e size short = by_itself limit (DT octets) e
 
-pub words_of_message : PartLaws → (limit : ℕ) (m : Meaning) → is_size limit ≡ true → IsBounded m → AreWords (map word_of (words_sent limit m)) (unit m ∷ [])
+pub words_of_message : PartLaws → (limit : ℕ) (m : Meaning) → is_size limit ≡ true → IsBounded m →
+    AreWords (map word_of (words_sent limit m)) (unit m ∷ [])
 words_of_message laws limit (DT octets) size short = data_words laws limit octets (is_parted limit (DT octets)) refl size short
 words_of_message laws limit m size short = by_itself limit m refl

@@ -1,7 +1,9 @@
 -- Words that are added, words that are cut off, and the messages that they then make.
 -- For words, what is in flight, turns, calls and packets.
-use Rattle.std.proofs.Common.{◌≡◌, refl, ◌∙◌, ap, subst, sym, ℕ, ◌≤◌, List, [], ◌∷◌, ◌++◌, length, take, map, Option, Some, None, append_assoc, ◌⊎◌, inl, inr, true, arith}
-use Rattle.osi_pair.proofs.Vocabulary.{take-append_seam, append-nil, length-append, Message, unit, ask, agree, deny, bye, over, DT, First, Middle, Last, Word, whole, part, begun_octets, joins, left_of, MayFollow, IsBegun, AreInOrder, list_any, is_leaving}
+use Rattle.osi_pair.proofs.Vocabulary.{◌≡◌, refl, ◌∙◌, ap, subst, sym, ℕ, ◌≤◌, List, [], ◌∷◌, ◌++◌, length, take, map, Option, Some, None}
+use Rattle.osi_pair.proofs.Vocabulary.{append_assoc, ◌⊎◌, inl, inr, true, arith, take-append_seam, append-nil, length-append, Message, unit}
+use Rattle.osi_pair.proofs.Vocabulary.{ask, agree, deny, bye, over, DT, First, Middle, Last, Word, whole, part, begun_octets, joins}
+use Rattle.osi_pair.proofs.Vocabulary.{left_of, MayFollow, IsBegun, AreInOrder, list_any, is_leaving}
 
 pub joins_append : (b : Option (List ℕ)) (xs ys : List Word) → joins b (xs ++ ys) ≡ joins b xs ++ joins (left_of b xs) ys
 joins_append b [] ys = refl
@@ -70,7 +72,11 @@ Next b left ms = IsRest b ms ⊎ ((list_any is_leaving ms ≡ true) ⊎ IsCut le
 
 next_more : (b x : List ℕ) (left : Option (List ℕ)) (ms : List Message) → Next (b ++ x) left ms → Next b left ms
 next_more b x left ms (inl more) =
-    inl (record { rest = x ++ more.rest; others = more.others; is = more.is ∙ ap (λ (o : List ℕ). unit (DT o) ∷ more.others) (append_assoc b x more.rest) })
+    inl (record {
+      rest = x ++ more.rest;
+      others = more.others;
+      is = more.is ∙ ap (λ (o : List ℕ). unit (DT o) ∷ more.others) (append_assoc b x more.rest);
+    })
 next_more b x left ms (inr other) = inr other
 
 pub next_is : (b : List ℕ) (words : List Word) → AreInOrder (Some b) words → Next b (left_of (Some b) words) (joins (Some b) words)
@@ -78,7 +84,8 @@ next_is b [] h = inr (inr (record { none = refl; begins = tt }))
 next_is b (whole (bye r) ∷ words) h = inr (inl refl)
 next_is b (whole over ∷ words) h = inr (inl refl)
 next_is b (part Last x ∷ words) h = inl (record { rest = x; others = joins None words; is = refl })
-next_is b (part Middle x ∷ words) h = next_more b x (left_of (Some (b ++ x)) words) (joins (Some (b ++ x)) words) (next_is (b ++ x) words h.2)
+next_is b (part Middle x ∷ words) h =
+    next_more b x (left_of (Some (b ++ x)) words) (joins (Some (b ++ x)) words) (next_is (b ++ x) words h.2)
 next_is b _ h = let no : Some b ≡ None = h.0 in cc
 
 -- ---- what is in flight
@@ -86,8 +93,11 @@ next_is b _ h = let no : Some b ≡ None = h.0 in cc
 -- the words without a suffix make the messages without a suffix
 pub cut_behind : (b : Option (List ℕ)) (kept gone : List Word) → AreInOrder b (kept ++ gone) →
     (take (length (joins b kept)) (joins b (kept ++ gone)) ≡ joins b kept) × AreInOrder b kept
-cut_behind b kept gone h =
-    (ap (take (length (joins b kept))) (joins_append b kept gone) ∙ take-append_seam (joins b kept) (joins (left_of b kept) gone), order_front b kept gone h)
+cut_behind b kept gone h = (
+  ap (take (length (joins b kept))) (joins_append b kept gone)
+      ∙ take-append_seam (joins b kept) (joins (left_of b kept) gone),
+  order_front b kept gone h,
+)
 
 pub cut_fits : (b : Option (List ℕ)) (kept gone : List Word) → length (joins b kept) ≤ length (joins b (kept ++ gone))
 cut_fits b kept gone =
@@ -108,8 +118,8 @@ pub wholes : (ms : List Message) → AreWords (map whole ms) ms
 wholes ms = record { joined = joins_whole ms; left = whole_left ms; order = whole_order ms }
 
 -- words are added after words that are complete
-pub put_words : (b : Option (List ℕ)) (words more : List Word) (ms : List Message) → AreInOrder b words → left_of b words ≡ None → AreWords more ms →
-    (joins b (words ++ more) ≡ joins b words ++ ms) × (left_of b (words ++ more) ≡ None) × AreInOrder b (words ++ more)
+pub put_words : (b : Option (List ℕ)) (words more : List Word) (ms : List Message) → AreInOrder b words → left_of b words ≡ None →
+    AreWords more ms → (joins b (words ++ more) ≡ joins b words ++ ms) × (left_of b (words ++ more) ≡ None) × AreInOrder b (words ++ more)
 put_words b words more ms h e are = grind (arith, joins_append, left_append, order_append)
 
 -- a message by which the sender leaves, after a prefix of them
@@ -137,7 +147,8 @@ pub record IsSame (left : Option (List ℕ)) (ms all : List Message) : Type 0 wh
 abbrev pub FrontOf : Option (List ℕ) → List Message → List Message → Type 0
 FrontOf left ms all = IsAhead ms all ⊎ ((list_any is_leaving all ≡ true) ⊎ IsSame left ms all)
 
-behind_it : (b : Option (List ℕ)) (left : Option (List ℕ)) (ms more all : List Message) → IsBegun b → ((x : List ℕ) → b ≡ Some x → Next x left more) → all ≡ ms ++ more → FrontOf left ms all
+behind_it : (b : Option (List ℕ)) (left : Option (List ℕ)) (ms more all : List Message) → IsBegun b →
+    ((x : List ℕ) → b ≡ Some x → Next x left more) → all ≡ ms ++ more → FrontOf left ms all
 behind_it None left ms more all some next e = absurd some
 behind_it (Some x) left ms more all some next e = elim (next x refl) [
   | inl r ↦ inl (record { octets = x ++ r.rest; rest = r.others; is = e ∙ ap (λ (l : List Message). ms ++ l) r.is })
@@ -145,13 +156,16 @@ behind_it (Some x) left ms more all some next e = elim (next x refl) [
   | inr (inr c) ↦ inr (inr (record { is = e ∙ ap (λ (l : List Message). ms ++ l) c.none ∙ append-nil ms; begins = c.begins }))
 ]
 
-pub front_of : (b : Option (List ℕ)) (kept gone : List Word) → AreInOrder b (kept ++ gone) → IsBegun (left_of b kept) → FrontOf (left_of b (kept ++ gone)) (joins b kept) (joins b (kept ++ gone))
+pub front_of : (b : Option (List ℕ)) (kept gone : List Word) → AreInOrder b (kept ++ gone) → IsBegun (left_of b kept) →
+    FrontOf (left_of b (kept ++ gone)) (joins b kept) (joins b (kept ++ gone))
 front_of b kept gone h some =
     behind_it (left_of b kept) (left_of b (kept ++ gone)) (joins b kept) (joins (left_of b kept) gone) (joins b (kept ++ gone)) some
     (λ x e. subst (λ (l : Option (List ℕ)). Next x l (joins (left_of b kept) gone)) (sym (left_append b kept gone))
-    (subst (λ (q : Option (List ℕ)). Next x (left_of q gone) (joins q gone)) (sym e) (next_is x gone (subst (λ (q : Option (List ℕ)). AreInOrder q gone) e (order_back b kept gone h)))))
+    (subst (λ (q : Option (List ℕ)). Next x (left_of q gone) (joins q gone)) (sym e)
+    (next_is x gone (subst (λ (q : Option (List ℕ)). AreInOrder q gone) e (order_back b kept gone h)))))
     (joins_append b kept gone)
 
 pub leave_behind : (b : Option (List ℕ)) (kept gone : List Word) (m : Message) → AreInOrder b (kept ++ gone) → MayLeave m →
-    (joins b (kept ++ whole m ∷ []) ≡ take (length (joins b kept)) (joins b (kept ++ gone)) ++ m ∷ []) × (left_of b (kept ++ whole m ∷ []) ≡ None) × AreInOrder b (kept ++ whole m ∷ [])
+    (joins b (kept ++ whole m ∷ []) ≡ take (length (joins b kept)) (joins b (kept ++ gone)) ++ m ∷ [])
+    × (left_of b (kept ++ whole m ∷ []) ≡ None) × AreInOrder b (kept ++ whole m ∷ [])
 leave_behind b kept gone m h leaves = grind (arith, take, length, cut_behind, joins_append, left_append, order_append, order_front)

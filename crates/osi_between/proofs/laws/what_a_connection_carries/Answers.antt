@@ -8,7 +8,8 @@ pub returns-clause-sent : goal.returns-clause-sent
 returns-clause-sent c = λ n s m link tsdu a is short octets. send_here n s m link tsdu a.few a.lasts a.orderly a.is is a.stands short octets
 
 pub returns-clause-closed : goal.returns-clause-closed
-returns-clause-closed c = λ n s m link reason a is small. close_here n s m link reason a.some a.few small a.lasts a.class a.orderly a.is is a.stands
+returns-clause-closed c =
+    λ n s m link reason a is small. close_here n s m link reason a.some a.few small a.lasts a.class a.orderly a.is is a.stands
 
 pub returns-clause-mirrored : goal.returns-clause-mirrored
 returns-clause-mirrored c = mirror_stands

@@ -1,4 +1,5 @@
-use Rattle.osi_between.proofs.between.every_move_keeps_the_invariant.{took, took_unit, sends, connects, closes, closes_ends, hands_over, tells, ends_at, breaks}
+use Rattle.osi_between.proofs.between.every_move_keeps_the_invariant.{took, took_unit, sends, connects, closes, closes_ends, hands_over}
+use Rattle.osi_between.proofs.between.every_move_keeps_the_invariant.{tells, ends_at, breaks}
 use Rattle.osi_between.proofs.between.nothing_is_in_flight_at_rest.{emptied}
 use Rattle.osi_between.proofs.between.tsdus_are_handed_in_together.{all_handed_in}
 use Rattle.osi_between.proofs.between.any_terms_provide_what_is_asked.{begins, provides}

@@ -1,5 +1,4 @@
-use Rattle.std.proofs.Common.{map}
-use Rattle.osi_pair.specs.Entries.{entry_by}
+use Rattle.osi_pair.proofs.Vocabulary.{map, entry_by}
 use Rattle.osi_pair.proofs.carry.users_receive_one_after_the_other.{says_all}
 use Rattle.osi_pair.proofs.carrying.carry_piece.Goals as goal
 
@@ -12,7 +11,8 @@ returns-clause-carries c =
       feeds = c.feed-used.ensures.feeds;
       taken = c.feed-used.ensures.taken;
       shows = told.shows;
-      says = says_all c.args.side (map entry_by c.args.journal.now.items) (map entry_by c.show.new.journal.items) (map entry_by c.note_end.new.journal.items)
+      says = says_all c.args.side (map entry_by c.args.journal.now.items) (map entry_by c.show.new.journal.items)
+          (map entry_by c.note_end.new.journal.items)
           told.first c.ended-before.result c.ended.result c.args.to.now.end.carrier.ended c.show.new.stack.end.carrier.ended
           told.says c.note_end.ensures c.ended-before.ensures c.ended.ensures;
     }

@@ -1,6 +1,4 @@
-use Rattle.std.proofs.Common.{◌∙◌, [], ◌∷◌, map, sym, ap, arith}
-use Rattle.osi_pair.specs.declared.entries.Entry.TheVariants.{Indication}
-use Rattle.osi_pair.proofs.Vocabulary.{map-append, shown_by, entry_by}
+use Rattle.osi_pair.proofs.Vocabulary.{◌∙◌, [], ◌∷◌, map, sym, ap, arith, Indication, map-append, shown_by, entry_by}
 use Rattle.osi_pair.proofs.carry.users_receive_one_after_the_other.{shown_end, shown_then}
 use Rattle.osi_pair.proofs.telling.show.Goals as goal
 
