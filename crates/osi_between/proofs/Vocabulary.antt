@@ -40,8 +40,8 @@ pub use Rattle.osi_class.specs.Ends.{Ends, fresh_ends}
 pub use Rattle.osi_class.specs.Flow.{Flow, Sender}
 pub use Rattle.osi_class.specs.Giving.{all_given}
 pub use Rattle.osi_class.specs.Joining.{Joining, with_part}
-pub use Rattle.osi_class.specs.Link.{Given, Standing, ack, fresh_two, is_of_two, part0, part2, taken, taken_by, two_standing}
-pub use Rattle.osi_class.specs.Link.{unit_of, with_joined, with_sender, with_tsdu, zero_standing}
+pub use Rattle.osi_class.specs.Link.{Given, Standing, ack, fresh_two, is_of_two, part0, part2, taken, taken_by, two_standing, unit_of}
+pub use Rattle.osi_class.specs.Link.{with_joined, with_sender, with_tsdu, zero_standing}
 pub use Rattle.osi_class.specs.Negotiation.{Selection, accept, refuse, selected_by, selected_size}
 pub use Rattle.osi_class.specs.Runs.{hand_in, give_out, take_in, hand_out, MovesAlong}
 pub use Rattle.osi_class.specs.Sound.{HasGivenInRange}
@@ -72,9 +72,9 @@ pub use Rattle.osi_carrier.specs.Packets.{ActsBy, Carrying, Feeds, FindsNoMemory
 pub use Rattle.osi_carrier.specs.Packets.{TakesPackets, after_packet, is_spoilt, waits}
 pub use Rattle.osi_carrier.specs.Place.{Place, connection_in, never, place_at, was_given}
 pub use Rattle.osi_carrier.specs.Pump.{pumped}
-pub use Rattle.osi_carrier.specs.React.{accepts, answers, answers_request, denies, handed_out, has_peer, in_class, in_two}
-pub use Rattle.osi_carrier.specs.React.{in_zero, is_full, is_of_peer, leaves, opens, pumps, react, settles, taking, to_asked, to_closing}
-pub use Rattle.osi_carrier.specs.React.{to_connection, to_linked, to_only, to_reference}
+pub use Rattle.osi_carrier.specs.React.{accepts, answers, answers_request, denies, handed_out, has_peer, in_class, in_two, in_zero, is_full}
+pub use Rattle.osi_carrier.specs.React.{is_of_peer, leaves, opens, pumps, react, settles, taking, to_asked, to_closing, to_connection}
+pub use Rattle.osi_carrier.specs.React.{to_linked, to_only, to_reference}
 pub use Rattle.osi_carrier.specs.References.{dropped, references}
 pub use Rattle.osi_carrier.specs.Rows.{Rows, put, value_at, without}
 pub use Rattle.osi_carrier.specs.State.{Connection, State, asked, closing, ends, linked, packets}
@@ -96,9 +96,9 @@ pub use Rattle.osi_between.specs.Joined.{ActsFor, AreJoined, Did, HasPlace, HasP
 pub use Rattle.osi_between.specs.Journey.{May, MayAll, Move, StayBetween, breaks, carries, closes, connects, ended_behind, ended_by_all}
 pub use Rattle.osi_between.specs.Journey.{hands_in, moved, takes, tells}
 pub use Rattle.osi_between.specs.Linked.{AreLinked, with_state, with_events, TakesFor, WasFed}
-pub use Rattle.osi_between.specs.Meeting.{Changes, Meeting, Moves, Stands, addressed, answers_of, back, farewell, here, leaving}
-pub use Rattle.osi_between.specs.Meeting.{left_both, left_here, left_there, messages_back, messages_out, mirror, out, parted, rows_with}
-pub use Rattle.osi_between.specs.Meeting.{talking, there, told_at, told_open, waiting_here, waiting_there}
+pub use Rattle.osi_between.specs.Meeting.{Changes, Meeting, Moves, Stands, addressed, answers_of, back, farewell, here, leaving, left_both}
+pub use Rattle.osi_between.specs.Meeting.{left_here, left_there, messages_back, messages_out, mirror, out, parted, rows_with, talking}
+pub use Rattle.osi_between.specs.Meeting.{there, told_at, told_open, waiting_here, waiting_there}
 pub use Rattle.osi_between.specs.Messages.{AreLike, Message, agree, ask, begun_at, bye, deny, kind_of, message, messages_after, messages_to}
 pub use Rattle.osi_between.specs.Messages.{over, parting, uncut_units}
 pub use Rattle.osi_between.specs.OpenLinks.{AgreeIn, AreOpen, IsSettled, IsWell, LeftTakes, Passes, after_send, after_take, links}

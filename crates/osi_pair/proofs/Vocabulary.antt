@@ -40,8 +40,7 @@ pub use Rattle.osi_carrier.proofs.Coming.{unit_packet}
 pub use Rattle.osi_carrier.proofs.Effects.{free_of, orderly_same, orderly_unit}
 pub use Rattle.osi_carrier.proofs.Lasting.{PacketLaws}
 pub use Rattle.osi_carrier.proofs.Reacts.{none_of}
-pub use Rattle.osi_carrier.specs.Calls.{begun_by, closed_with, ended_by, kept_in, may_connect}
-pub use Rattle.osi_carrier.specs.Calls.{open_link, or_else, sent, sent_all, sent_on}
+pub use Rattle.osi_carrier.specs.Calls.{begun_by, closed_with, ended_by, kept_in, may_connect, open_link, or_else, sent, sent_all, sent_on}
 pub use Rattle.osi_carrier.specs.Happenings.{Happening, closed, tsdu, opened as told_opened, refused as told_refused}
 pub use Rattle.osi_carrier.specs.Orderly.{AreUpTo, IsOrderly, RiseFrom}
 pub use Rattle.osi_carrier.specs.Place.{Place, connection_in, never, place_at, was_given}
@@ -61,8 +60,8 @@ pub use Rattle.osi_between.proofs.zero.the_one_connection_of_class_0.{one_place}
 pub use Rattle.osi_between.specs.Addresses.{reference_of, units_of}
 pub use Rattle.osi_between.specs.Between.{Acted, AreBetween, AreJoinedBy, Between, Both, Carries, IsAllThere, IsOnTheWay, IsStill, Same}
 pub use Rattle.osi_between.specs.Between.{Took, answers_in, arriving, becomes, broken_at, fresh_between, fresh_both, handed_over, is_cut}
-pub use Rattle.osi_between.specs.Between.{last_of, lost_from, put_in, reach_of, side, still_to_tell, to_come, told_of}
-pub use Rattle.osi_between.specs.Between.{under_way, units_from, with_side, within_reach}
+pub use Rattle.osi_between.specs.Between.{last_of, lost_from, put_in, reach_of, side, still_to_tell, to_come, told_of, under_way}
+pub use Rattle.osi_between.specs.Between.{units_from, with_side, within_reach}
 pub use Rattle.osi_between.specs.Course.{Course, Holds, IsTsap, accepting, asking, at_end, from_end, met, progress_of, withdrawing}
 pub use Rattle.osi_between.specs.Joined.{AreJoined}
 pub use Rattle.osi_between.specs.Meeting.{Meeting, addressed, here, leaving, left_here, left_there, mirror, out, parted, talking}
@@ -102,9 +101,8 @@ pub use Rattle.osi_session.proofs.ShownLaws.{words_show}
 pub use Rattle.osi_session.proofs.WordLaws.{kept_none, moves_as_whole, others, word_behind, words_of_message}
 pub use Rattle.osi_session.specs.Allowed.{AllHold, Answer, Passed, needs, octets_of, sends, Step as SessionStep}
 unfoldable pub use Rattle.osi_session.specs.Allowed.{allowed}
-pub use Rattle.osi_session.specs.Calls.{Abort, Accept, Call, HasSerial}
-pub use Rattle.osi_session.specs.Calls.{Refuse, called_by, Unspecified}
-pub use Rattle.osi_session.specs.Calls.{Congestion, WithData, refusal_reason}
+pub use Rattle.osi_session.specs.Calls.{Abort, Accept, Call, HasSerial, Refuse, called_by, Unspecified, Congestion, WithData}
+pub use Rattle.osi_session.specs.Calls.{refusal_reason}
 pub use Rattle.osi_session.specs.Joining.{joined_octets, respond_word}
 pub use Rattle.osi_session.specs.Kept.{IsJoined, IsJoinedAs, IsKept, IsKeptIn, IsNoFault, discards}
 pub use Rattle.osi_session.specs.Listening.{Listener, came, came_as, taker_of}
@@ -113,8 +111,8 @@ pub use Rattle.osi_session.specs.Moves.{taken}
 unfoldable pub use Rattle.osi_session.specs.Moves.{react}
 pub use Rattle.osi_session.specs.Parts.{part_comes}
 pub use Rattle.osi_session.specs.Phases.{is_aborting, is_ended, is_over, is_wait_transport, may_hold, shows_loss}
-pub use Rattle.osi_session.specs.Respond.{Outcome, Verdict, dropped, enacted, faulty, fine, in_aborting, in_ended, reply_for}
-pub use Rattle.osi_session.specs.Respond.{respond, respond_unit, verdict}
+pub use Rattle.osi_session.specs.Respond.{Outcome, Verdict, dropped, enacted, faulty, fine, in_aborting, in_ended, reply_for, respond}
+pub use Rattle.osi_session.specs.Respond.{respond_unit, verdict}
 unfoldable pub use Rattle.osi_session.specs.Respond.{respond_fault}
 pub use Rattle.osi_session.specs.Runs.{HasNumbersInWords}
 pub use Rattle.osi_session.specs.Sessions.{CanBeSent, awaits as awaits_cn}
@@ -142,15 +140,15 @@ pub use Rattle.osi_machine.specs.Core.{Offer, offer_sent}
 pub use Rattle.osi_machine.specs.Floor.{Token, has}
 pub use Rattle.osi_machine.specs.Machine.{Ending, HasNumber, IsLegal, Machine, Refusal, Step, breaks, call_answered, calls, closed_here}
 pub use Rattle.osi_machine.specs.Machine.{connect_answered, connection_at, connects, delivers, ends, has_ended, is_class_0, is_given}
-pub use Rattle.osi_machine.specs.Machine.{is_known, is_live, is_waiting, learns, live_count, negotiating, no_memory}
-pub use Rattle.osi_machine.specs.Machine.{not_selected, one_connection, references_used_up, replaced, shown_at, told_of_break}
-pub use Rattle.osi_machine.specs.Machine.{too_long, too_many, with_connection}
+pub use Rattle.osi_machine.specs.Machine.{is_known, is_live, is_waiting, learns, live_count, negotiating, no_memory, not_selected}
+pub use Rattle.osi_machine.specs.Machine.{one_connection, references_used_up, replaced, shown_at, told_of_break, too_long, too_many}
+pub use Rattle.osi_machine.specs.Machine.{with_connection}
 pub use Rattle.osi_machine.specs.Runs.{is_loss, loses}
 pub use Rattle.osi_machine.specs.Sayings.{units_in, IsHeardAsSaid}
-pub use Rattle.osi_machine.specs.Tables.{Line, Seat, Tables, Turn, after_end, after_turn, asked_in, asked_with, awaits, call_in}
-pub use Rattle.osi_machine.specs.Tables.{closes_by, cut_channels, end_of, ended_lines, ends_there, made, message_taken, puts}
-pub use Rattle.osi_machine.specs.Tables.{refusal, run, seen_from, shortened, shown_in_order, side_of, start, stays, step}
-pub use Rattle.osi_machine.specs.Tables.{transport_of, turned, unseen, without_first, noted as noted_in}
+pub use Rattle.osi_machine.specs.Tables.{Line, Seat, Tables, Turn, after_end, after_turn, asked_in, asked_with, awaits, call_in, closes_by}
+pub use Rattle.osi_machine.specs.Tables.{cut_channels, end_of, ended_lines, ends_there, made, message_taken, puts, refusal, run, seen_from}
+pub use Rattle.osi_machine.specs.Tables.{shortened, shown_in_order, side_of, start, stays, step, transport_of, turned, unseen}
+pub use Rattle.osi_machine.specs.Tables.{without_first, noted as noted_in}
 pub use Rattle.osi_machine.specs.Views.{is_side}
 pub use Rattle.osi_machine.specs.Worlds.{Message, Transport, World, accepts, agree, ask, bye, deny, over, put, replied, unit, waiting}
 pub use Rattle.osi_stack.proofs.Alike.{quieted_at}
@@ -171,14 +169,13 @@ pub use Rattle.osi_stack.proofs.Rooms.{found_how}
 pub use Rattle.osi_stack.proofs.Runs.{calls_read, pieces_alike}
 pub use Rattle.osi_stack.proofs.Shortness.{SpduLaws, sent_short}
 pub use Rattle.osi_stack.proofs.Soundness.{packet_rises, up_more}
-pub use Rattle.osi_stack.specs.Calls.{after_open, call_error, calls_with, carried, connect_error}
-pub use Rattle.osi_stack.specs.Calls.{first_shown, has_given, held_by, is_long, numbers_of, session_error}
-pub use Rattle.osi_stack.specs.Calls.{session_refusal, table_error}
+pub use Rattle.osi_stack.specs.Calls.{after_open, call_error, calls_with, carried, connect_error, first_shown, has_given, held_by, is_long}
+pub use Rattle.osi_stack.specs.Calls.{numbers_of, session_error, session_refusal, table_error}
 pub use Rattle.osi_stack.specs.Coming.{after_unit, carries_out}
 pub use Rattle.osi_stack.specs.Feeding.{Feeds, FindsNoMemory, Refuses, RunsDry, StopsBehind, TakesPackets, stops, uses_all}
 pub use Rattle.osi_stack.specs.Folds.{AllCameAbout, CameAbout}
-pub use Rattle.osi_stack.specs.Hearing.{RunsOut, Starves, after_packet, all_lost, attends, concludes, hears, hears_first}
-pub use Rattle.osi_stack.specs.Hearing.{hears_next, hears_times, opens, shown_at_loss, starves, with_carrier, with_events, ends as ends_end}
+pub use Rattle.osi_stack.specs.Hearing.{RunsOut, Starves, after_packet, all_lost, attends, concludes, hears, hears_first, hears_next}
+pub use Rattle.osi_stack.specs.Hearing.{hears_times, opens, shown_at_loss, starves, with_carrier, with_events, ends as ends_end}
 pub use Rattle.osi_stack.specs.Links.{AreApart, IsSound, Soundness, needs_link}
 pub use Rattle.osi_stack.specs.Messages.{Says, kept_at, put_by, told_all}
 pub use Rattle.osi_stack.specs.Moving.{answers, by_line, limit_for, line_after, line_by, to_session}
@@ -211,8 +208,7 @@ pub use Rattle.osi_pair.specs.Sides.{other}
 pub use Rattle.osi_pair.specs.Standing.{AreAlike, AreArrivals, AreDeliveries, AreUnderWay, Goes, HasJoined, HasLine, IsInOrder, IsLine}
 pub use Rattle.osi_pair.specs.Standing.{IsSeated, IsUnderWay, Stands, StandsAt, StandsAtArrivals, StandsAtBreak, StandsAtDeliveries}
 pub use Rattle.osi_pair.specs.Standing.{StandsAtEnd, StandsAtTold, answer_in, carriers_of, class_in, ending_in, entry_in, is_caller}
-pub use Rattle.osi_pair.specs.Standing.{is_parting, joining, message_in, offer_in, packet_taken, side_in, terms_in}
-pub use Rattle.osi_pair.specs.Standing.{transport_in, word_in}
+pub use Rattle.osi_pair.specs.Standing.{is_parting, joining, message_in, offer_in, packet_taken, side_in, terms_in, transport_in, word_in}
 pub use Rattle.osi_pair.specs.Telling.{ShowsFirst, Tells, end_entries, quieted, shown_entries, told_entries, waiting_in}
 pub use Rattle.osi_pair.specs.Words.{AreInOrder, IsBegun, MayFollow, Word, begun_octets, joins, left_of, most_data, part, whole}
 pub use Rattle.osi_pair.specs.declared.entries.Entry.TheVariants.{Indication}

@@ -2,8 +2,9 @@
 -- For the code of `carrying`.
 use Rattle.osi_pair.specs.Carrying.{Carries}
 use Rattle.osi_pair.specs.declared.entries.Entry.{Entry}
-use Rattle.osi_pair.proofs.Vocabulary.{◌≡◌, ◌∙◌, ℕ, ◌+◌, ◌-◌, Bool, true, false, List, ◌∷◌, sum, map, Result, Ok, Err, OnOk, OnErr, is_err}
-use Rattle.osi_pair.proofs.Vocabulary.{sym, ap, subst, add_comm, sum_by-cons, Holding, Crossing, CarriesPiece, entry_by, Side}
+use Rattle.osi_pair.proofs.Vocabulary.{◌<◌, ◌≤◌, ◌⊎◌, inl, inr, refl, arith, ◌≡◌, ◌∙◌, ℕ, ◌+◌, ◌-◌, Bool, true, false, List, ◌∷◌, sum, map}
+use Rattle.osi_pair.proofs.Vocabulary.{Result, Ok, Err, OnOk, OnErr, is_err, sym, ap, subst, add_comm, sum_by-cons, Holding, Crossing}
+use Rattle.osi_pair.proofs.Vocabulary.{CarriesPiece, entry_by, Side}
 
 pub carries_more : (side : Side) (most carried used : ℕ) (old mid new : Crossing) → Carries side most old carried mid →
     CarriesPiece side (most - carried) mid used new → Carries side most old (carried + used) new
@@ -32,3 +33,14 @@ not_refused P (Err x) b e f h = cc
 pub was_refused : {T E : Type 0} (P : Type 0) (r : Result T E) (b : Bool) → b ≡ is_err r → b ≡ true → OnErr r P → P
 was_refused P (Ok x) b e f h = cc
 was_refused P (Err x) b e f h = h
+
+-- an end that takes nothing of something has pending indications
+pub held_up : (waiting : Bool) (most used : ℕ) → (waiting ≡ false → 0 < most → 0 < used) → 0 < most → used ≡ 0 → waiting ≡ true
+held_up true most used h some none = refl
+held_up false most used h some none = let more = h refl some in absurd (omega arith)
+
+-- room that was refused was used up by the last piece
+pub refused_late : (len room old before after new : ℕ) → room < len + 82 → (len + 81 < room) ⊎ (before < after) → old ≤ before →
+    new ≡ after → old < new
+refused_late len room old before after new full (inl there) le same = absurd (omega arith)
+refused_late len room old before after new full (inr more) le same = omega arith

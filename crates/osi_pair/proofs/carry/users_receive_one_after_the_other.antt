@@ -1,9 +1,10 @@
 -- Users receive indications one after the other.
 -- For the code of `carrying` and the code of `telling`.
 use Rattle.osi_stack.specs.Calls.{without_first}
-use Rattle.osi_pair.proofs.Vocabulary.{◌≡◌, ◌∙◌, ℕ, ◌+◌, List, [], ◌∷◌, ◌++◌, length, Option, Some, None, sym, ap, ap₂, subst, inl}
-use Rattle.osi_pair.proofs.Vocabulary.{append_assoc, length-append, map-append, Rows, EndReason, Shown, first_shown, Holding, Entry, shows}
-use Rattle.osi_pair.proofs.Vocabulary.{waiting_in, quieted, shown_entries, end_entries, told_entries, Tells, Side, EndLine as Line}
+use Rattle.osi_pair.proofs.Vocabulary.{◌≡◌, ◌∙◌, ℕ, ◌+◌, List, [], ◌∷◌, ◌++◌, length, Option, Some, None, sym, ap, ap₂, subst, inl, inr}
+use Rattle.osi_pair.proofs.Vocabulary.{zero, suc, refl, ◌<◌, ◌⊎◌, arith, length-map, append_assoc, length-append, map-append, Rows}
+use Rattle.osi_pair.proofs.Vocabulary.{EndReason, Shown, first_shown, Holding, Entry, shows, waiting_in, quieted, shown_entries}
+use Rattle.osi_pair.proofs.Vocabulary.{end_entries, told_entries, Tells, Side, EndLine as Line}
 use Rattle.osi_pair.proofs.carry.pending_indications_one_by_one.{none_waits, none_taken, next_is}
 
 -- a user received this many indications
@@ -68,3 +69,20 @@ pub shown_then : (side : Side) (old : Holding) (before : List Entry) (count : �
 shown_then side old before count mid new after said p h e is says =
     subst (λ (l : List Entry). HasShown side old before (count + 1) new l) (sym says)
     (shown_more side old before count mid new after p h e is)
+
+-- there is room as before, or something was noted
+pub notes_by : (side : Side) (old : Holding) (before : List Entry) (count : ℕ) (new : Holding) (after : List Entry) (len room : ℕ) →
+    HasShown side old before count new after → len + 81 < room + count → (len + 81 < room) ⊎ (length before < length after)
+notes_by side old before count new after len room h few = by count refl
+  where
+    all : length after ≡ length before + count
+    all = ap length h.says ∙ length-append before (shown_entries side h.first)
+        ∙ ap (λ n. length before + n) (length-map h.first (λ (q : ℕ × Shown). shows side q.0 q.1) ∙ h.many)
+
+    by : (n : ℕ) → count ≡ n → (len + 81 < room) ⊎ (length before < length after)
+    by zero e = inl (omega arith)
+    by (suc n) e = inr (omega (arith, all))
+
+-- and what was noted before the end was
+pub notes_then : (old before after first : List Entry) → before ≡ old ++ first → length before < length after → length old < length after
+notes_then old before after first says more = let all = ap length says ∙ length-append old first in omega arith

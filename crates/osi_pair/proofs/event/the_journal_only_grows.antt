@@ -2,10 +2,10 @@
 -- For the code of `Pair`.
 use Rattle.osi_pair.specs.Entries.{calls}
 use Rattle.osi_pair.specs.declared.events.Event.TheVariants.{Call}
-use Rattle.osi_pair.proofs.Vocabulary.{◌≡◌, ◌∙◌, ℕ, List, [], ◌∷◌, ◌++◌, Option, Some, None, IsSome, refl, sym, ap, subst, append_assoc}
-use Rattle.osi_pair.proofs.Vocabulary.{append-nil, EndReason, Crossing, CarriesPieces, crossing, TwoEnds, end_at, after_call, Entry, Does}
-use Rattle.osi_pair.proofs.Vocabulary.{IsToldOfBreak, Adds, told_entries, Event, Connect, Carry, Break, Told, Side, Left, Right}
-use Rattle.osi_pair.proofs.Vocabulary.{Call as Asked, called_by, call_error, Holding}
+use Rattle.osi_pair.proofs.Vocabulary.{length, ◌≤◌, arith, length-append, ◌≡◌, ◌∙◌, ℕ, List, [], ◌∷◌, ◌++◌, Option, Some, None, IsSome}
+use Rattle.osi_pair.proofs.Vocabulary.{refl, sym, ap, subst, append_assoc, append-nil, EndReason, Crossing, CarriesPieces, crossing}
+use Rattle.osi_pair.proofs.Vocabulary.{TwoEnds, end_at, after_call, Entry, Does, IsToldOfBreak, Adds, told_entries, Event, Connect, Carry}
+use Rattle.osi_pair.proofs.Vocabulary.{Break, Told, Side, Left, Right, Call as Asked, called_by, call_error, Holding}
 
 adds_none : (old new : List Entry) → new ≡ old → Adds old new
 adds_none old new same = record { more = []; is = same ∙ sym (append-nil old) }
@@ -16,7 +16,7 @@ adds_more old mid new entries h is = record {
   is = is ∙ ap (λ (l : List Entry). l ++ entries) h.is ∙ append_assoc old h.more entries;
 }
 
-pieces_add : (side : Side) (most : ℕ) (pieces : List ℕ) (old new : Crossing) → CarriesPieces side most pieces old new →
+pub pieces_add : (side : Side) (most : ℕ) (pieces : List ℕ) (old new : Crossing) → CarriesPieces side most pieces old new →
     Adds old.journal new.journal
 pieces_add side most [] old new h = adds_none old.journal new.journal (ap (λ (c : Crossing). c.journal) h)
 pieces_add side most (used ∷ before) old new h =
@@ -35,6 +35,10 @@ call_adds : (side : Side) (r : ℕ) (c : Asked) (old new : TwoEnds) → new ≡ 
 call_adds Left r c old new h = record { more = calls Left r c (call_error r c old.left.end) ∷ []; is = ap (λ (p : TwoEnds). p.journal) h }
 call_adds Right r c old new h =
     record { more = calls Right r c (call_error r c old.right.end) ∷ []; is = ap (λ (p : TwoEnds). p.journal) h }
+
+-- so it gets no shorter
+pub no_shorter : (old new : List Entry) → Adds old new → length old ≤ length new
+no_shorter old new h = let all = ap length h.is ∙ length-append old h.more in omega arith
 
 pub does_add : (event : Event) (old new : TwoEnds) (octets : ℕ) → Does event old octets new → Adds old.journal new.journal
 does_add (Connect asked) old new octets h = record { more = _; is = ap (λ (p : TwoEnds). p.journal) h.0 }

@@ -1,5 +1,6 @@
 use Rattle.osi_pair.proofs.Vocabulary.{List, OnOk, IfOk, subst, ends_in, Step, StandsAfter, TwoEnds, CarriesAsMuch, StandsAt}
-use Rattle.osi_pair.proofs.event.an_event_is_applied_or_refused.{result_reached, result_stands, result_carries}
+use Rattle.osi_pair.specs.Events.{NotesIfCutShort}
+use Rattle.osi_pair.proofs.event.an_event_is_applied_or_refused.{result_reached, result_stands, result_carries, result_cut}
 use Rattle.osi_pair.proofs.event.what_an_event_does.{EventLaws}
 use Rattle.osi_pair.proofs.pairs.Pair.apply.Goals as goal
 
@@ -21,6 +22,13 @@ pub returns-clause-carried : goal.returns-clause-carried
 returns-clause-carried c =
     subst (λ (p : TwoEnds). IfOk c.apply.result (λ applied. CarriesAsMuch c.args.event.now p applied)) c.self.view_is
     (result_carries c.args.event.now (ends_in c.self.inside.ends) c.apply.result c.self.invariant c.apply.ensures.carried)
+
+pub returns-clause-cut : goal.returns-clause-cut
+returns-clause-cut c =
+    let laws : EventLaws = assumption in
+    subst (λ (p : TwoEnds). IfOk c.apply.result (λ applied. NotesIfCutShort p applied (ends_in c.apply.new.self))) c.self.view_is
+    (result_cut laws c.args.event.now (ends_in c.self.inside.ends) (ends_in c.apply.new.self) c.apply.result c.self.invariant
+    c.apply.ensures.carried c.apply.ensures.cut)
 
 pub returns-clause-safe : goal.returns-clause-safe
 returns-clause-safe c =

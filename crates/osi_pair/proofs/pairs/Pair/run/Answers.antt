@@ -17,6 +17,7 @@ events-preserved c =
       fits = c.in_default.ensures.fits;
       does = c.in_default.ensures.does;
       carried = c.in_default.ensures.carried;
+      cut = c.in_default.ensures.cut;
       stands = c.in_default.ensures.stands;
       safe = c.in_default.ensures.safe;
     }))
