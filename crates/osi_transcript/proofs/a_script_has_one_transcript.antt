@@ -16,7 +16,7 @@ use Rattle.osi_pair.specs.declared.faults.PairError.{PairError}
 use Rattle.osi_pair.specs.declared.reach.Reach.{Reach}
 use Rattle.osi_pair.specs.declared.sides.Side.{Side}
 use Rattle.osi_pair.specs.declared.sides.Side.TheVariants.{Left, Right}
-use Rattle.osi_pair.proofs.HoldingLess.{fresh_less}
+use Rattle.osi_pair.proofs.event.each_end_holds_less_than_a_packet.{fresh_less}
 use Rattle.osi_script.specs.Answers.{answer_line}
 use Rattle.osi_script.specs.Commands.{Command, Ends, Connect, OfUser, Carry, Break, Told, command_of}
 use Rattle.osi_script.specs.declared.answers.Answer.TheVariants.{LineFailed}
