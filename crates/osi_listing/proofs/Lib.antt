@@ -5,3 +5,4 @@ pub mod Counted
 pub mod Packets
 pub mod Standing
 pub mod OneListing
+pub mod Tracing

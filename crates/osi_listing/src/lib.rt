@@ -8,8 +8,10 @@ mod listing;
 mod pieces;
 mod session_lines;
 mod streams;
+mod traces;
 mod units;
 mod work;
 
 pub use counting::Counts;
 pub use pieces::{Lister, list};
+pub use traces::{Keeping, Trace};

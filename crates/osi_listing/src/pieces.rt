@@ -5,6 +5,7 @@ ghost use Rattle.osi_tpkt.specs.Packet.{IsFaultOf};
 ghost use Rattle.osi_listing.specs.Fed.{IsFed, IsLost, Feeds, StandsAt};
 ghost use Rattle.osi_listing.specs.Listing.{IsListing};
 ghost use Rattle.osi_listing.specs.SoFar.{IsListedSoFar};
+ghost use Rattle.osi_listing.specs.Traced.{counted_by, octets_fed, unfinished};
 
 use crate::counting::Counts;
 use crate::lines::{push_fault, push_rest};
@@ -38,8 +39,8 @@ enum Stage {
 /// Lists the octets of one direction of a byte connection, in whatever pieces they come: what it writes
 /// is what [`list`] writes of all of them.
 ///
-/// It keeps the octets of a packet that is not whole, at most 65,535, and those of the TSDU under way in each
-/// stream: at most 1,048,576 for class 0, and as many for each DST-REF of class 2 that came.
+/// It keeps the octets of a packet that is not whole, at most 65,535, and of each stream those of a TSDU that is not
+/// whole, at most 1,048,576. Class 0 is one stream; in class 2 each DST-REF is one.
 #[derive(Drop)]
 pub struct Lister {
     work: Work,
@@ -51,7 +52,8 @@ pub struct Lister {
 impl Lister {
     /// A lister of a stream that has not begun. It takes no memory until it is fed.
     pub fn new(alloc: Global) -> Self
-        ensures { IsFed result [] [] }
+        ensures fed { IsFed result [] [] }
+        ensures none { unfinished result ≡ 0 }
     {
         let work = Work::new(alloc);
         Lister {
@@ -147,16 +149,25 @@ impl Lister {
 
     /// How many lines of each kind there are so far.
     pub fn counts(&self) -> Counts
-        ensures { (octets lines : List ℕ) → IsFed self.now octets lines → IsListedSoFar octets lines result }
+        ensures value { result ≡ counted_by self.now }
+        ensures listed { (octets lines : List ℕ) → IsFed self.now octets lines → IsListedSoFar octets lines result }
     {
         self.work.counts
     }
 
     /// How many octets have come.
     pub fn octets(&self) -> u64
-        ensures { (octets lines : List ℕ) → IsFed self.now octets lines → result ≡ length octets }
+        ensures value { result ≡ octets_fed self.now }
+        ensures fed { (octets lines : List ℕ) → IsFed self.now octets lines → result ≡ length octets }
     {
         self.octets
+    }
+
+    /// How many streams of class 2 are within a TSDU: of each, the octets that came of it are kept.
+    pub fn unfinished(&self) -> usize
+        ensures { result ≡ unfinished self.now }
+    {
+        self.work.streams.unfinished()
     }
 
     /// Whether memory was wanting, so that nothing is listed any more.

@@ -1,6 +1,7 @@
 //! The packets of a stream, listed as they become whole.
 
 ghost use Rattle.std.specs.Prelude.{◌≡◌, ◌≢◌, ◌≤◌, ◌++◌, ℕ, List, [], length, IfOk, OnOk};
+ghost use Rattle.std.specs.BTreeMap.{btree_map_len};
 ghost use Rattle.osi_tpkt.specs.Held.{fresh};
 ghost use Rattle.osi_tpkt.specs.Packet.{IsOnePacket};
 ghost use Rattle.osi_listing.specs.Counting.{none};
@@ -40,6 +41,7 @@ impl Work {
     pub(crate) fn new(alloc: Global) -> Self
         ensures cutter { result.cutter ≡ fresh }
         ensures streams { Holds result.streams [] }
+        ensures none { btree_map_len result.streams.class_2 ≡ 0 }
         ensures counts { result.counts ≡ none }
         ensures offset { result.offset ≡ 0 }
     {
