@@ -20,9 +20,8 @@ octets_fed lister = lister.octets
 abbrev pub unfinished : Lister → ℕ
 unfinished lister = btree_map_len lister.work.streams.class_2
 
--- it has stopped: the lines that it gave are a prefix of the listing of the octets that it took, which are a prefix of those
--- that passed
-pub record HasStopped (octets given : List ℕ) : Type 0 where
+-- the lines that were given are a prefix of the listing so far of a prefix of the octets that passed
+pub record IsListedInPart (octets given : List ℕ) : Type 0 where
   pub took : List ℕ
   pub others : List ℕ
   pub lines : List ℕ
@@ -35,14 +34,14 @@ pub record HasStopped (octets given : List ℕ) : Type 0 where
 abbrev pub Stands : Keeping → Lister → List ℕ → List ℕ → Type 0
 Stands Lines lister octets given = IsFed lister octets given
 Stands Counters lister octets given = (lines : List ℕ) × IsFed lister octets lines × (given ≡ [])
-Stands Nothing lister octets given = HasStopped octets given
+Stands Nothing lister octets given = IsListedInPart octets given
 
 -- the lines that nobody has fetched
 abbrev pub unfetched : Trace → List ℕ
 unfetched t = t.text.items
 
--- These octets passed, and these lines were fetched. If the trace keeps lines, those and the lines that nobody has fetched
--- are the listing so far of the octets.
+-- These octets passed, and these lines were fetched. If the trace keeps lines, these and the lines that nobody has fetched are
+-- the listing so far of the octets. If it has stopped, they are a prefix of it.
 abbrev pub IsTraced : Trace → List ℕ → List ℕ → Type 0
 IsTraced t octets fetched = Stands t.keeping t.lister octets (fetched ++ unfetched t)
 

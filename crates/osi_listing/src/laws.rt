@@ -1,12 +1,15 @@
 //! Laws of listings. Each function does nothing: its clauses are the laws.
 
-ghost use Rattle.std.specs.Prelude.{◌≡◌, ℕ, List};
+ghost use Rattle.std.specs.Prelude.{◌≡◌, ◌++◌, ℕ, List};
 ghost use Rattle.std.specs.List.{flat_map};
 ghost use Rattle.osi_listing.specs.declared.counting.Counts.{Counts};
 ghost use Rattle.osi_listing.specs.declared.pieces.Lister.{Lister};
+ghost use Rattle.osi_listing.specs.declared.traces.Keeping.TheVariants.{Lines};
+ghost use Rattle.osi_listing.specs.declared.traces.Trace.{Trace};
 ghost use Rattle.osi_listing.specs.Fed.{Feeds, FeedsAll};
 ghost use Rattle.osi_listing.specs.Listing.{IsListing};
 ghost use Rattle.osi_listing.specs.SoFar.{IsListedSoFar};
+ghost use Rattle.osi_listing.specs.Traced.{IsTraced, IsListedInPart, counted, unfetched};
 
 use osi_tpkt::laws::a_stream_has_one_cut;
 
@@ -28,3 +31,11 @@ pub fn the_pieces_do_not_matter()
 {
     a_stream_has_one_cut();
 }
+
+/// The lines that were fetched of a trace are always a prefix of the listing of the octets that passed, or of a prefix of
+/// these if it has stopped. As long as it keeps lines, they are with those that nobody has fetched the whole listing so far.
+pub fn what_is_fetched_is_the_listing()
+    ensures whole { (trace : Trace) (octets fetched : List ℕ) → IsTraced trace octets fetched → trace.keeping ≡ Lines →
+        IsListedSoFar octets (fetched ++ unfetched trace) (counted trace) }
+    ensures begins { (trace : Trace) (octets fetched : List ℕ) → IsTraced trace octets fetched → IsListedInPart octets fetched }
+{}
