@@ -1,4 +1,4 @@
--- What a trace stands for.
+-- The meaning of a trace, and the effect of each of its calls.
 use Rattle.std.specs.Prelude.{◌≡◌, ℕ, ◌≤◌, Bool, true, false, List, [], ◌++◌, length, ⊤}
 use Rattle.std.specs.BTreeMap.{btree_map_len}
 use Rattle.osi_listing.specs.declared.counting.Counts.{Counts}

@@ -21,8 +21,8 @@ pub fn a_capture_has_one_listing()
     a_stream_has_one_cut();
 }
 
-/// However a stream is cut into the pieces that a lister is fed, the lister does what it does where it is
-/// fed all at once; and the octets that came determine the lines so far and what is counted.
+/// However a stream is cut into the pieces that a lister is fed, the result is the same as if it were fed all at once.
+/// The octets that came determine the lines so far and what is counted.
 pub fn the_pieces_do_not_matter()
     ensures pieces { (old new : Lister) (pieces : List (List ℕ)) (before after : List ℕ) → FeedsAll old pieces before after new →
         Feeds old (flat_map (λ piece. piece) pieces) before after new }
