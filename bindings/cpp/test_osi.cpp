@@ -615,7 +615,7 @@ static void an_end_is_traced()
     std::vector<std::string> lines;
     const auto keep = [&](std::string_view line) { lines.emplace_back(line); };
     CHECK(two.caller.traced(osi::direction::sent, keep) == code::ok && lines.size() == 5);
-    CHECK(lines.front() == "packet 0 length 18 code f0" && lines.back() == "    DT octets 5");
+    CHECK(lines.front() == "packet 0 length 16 code f0" && lines.back() == "    DT octets 5");
     const osi::counters seen = two.caller.counts();
     CHECK(seen.sent.packets == 1 && seen.sent.tsdus == 1 && seen.sent.session_units == 2 && seen.sent.refused == 0);
     CHECK(two.caller.trace(osi::tracing::off) == code::ok && two.caller.counts().sent.octets == 0);

@@ -141,12 +141,12 @@ class Traces(Case):
         pair.caller.trace(lambda direction, line: lines.append((direction.name, line)))
         pair.caller.data(1, b"hello")
         pair.carry()
-        told = ["packet 0 length 18 code f0", "  DT number 0 eot 1 octets 11", "    tsdu 11", "    GT", "    DT octets 5"]
+        told = ["packet 0 length 16 code f0", "  DT number 0 eot 1 octets 9", "    tsdu 9", "    GT", "    DT octets 5"]
         self.assertEqual([line for _, line in lines[:3]], told[:3])
         self.assertEqual({direction for direction, _ in lines}, {"SENT"})
         pair.called.abort(1)
         pair.carry()
-        self.assertEqual([line for direction, line in lines if direction == "RECEIVED"][0][:18], "packet 0 length 13")
+        self.assertEqual([line for direction, line in lines if direction == "RECEIVED"][0][:18], "packet 0 length 12")
         counters = pair.caller.counts()
         self.assertEqual((counters.sent.packets, counters.sent.tsdus, counters.sent.session_units), (1, 1, 2))
         self.assertEqual((counters.received.packets, counters.received.refused), (1, 0))
@@ -159,7 +159,7 @@ class Traces(Case):
         pair.caller.connect(ASKED)
         pair.carry()
         counters = pair.called.counts()
-        self.assertEqual((counters.received.packets, counters.received.tsdus, counters.sent.packets), (2, 1, 1))
+        self.assertEqual((counters.received.packets, counters.received.tsdus, counters.sent.packets), (2, 1, 2))
         pair.called.close()
         self.assertEqual(pair.called.counts(), Counters())
         self.refused(Code.SLOT_EMPTY, pair.called.trace)

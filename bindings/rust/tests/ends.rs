@@ -572,7 +572,7 @@ fn an_end_is_traced() {
     pair.caller.data(pair.of, b"hello").unwrap();
     pair.by_called();
     pair.caller.traced(|direction, line| lines.push((direction, line.map(str::to_string))));
-    assert_eq!(lines[0], (Direction::Sent, Some("packet 0 length 18 code f0".to_string())));
+    assert_eq!(lines[0], (Direction::Sent, Some("packet 0 length 16 code f0".to_string())));
     let counters = pair.caller.counts();
     assert_eq!((counters.sent.packets, counters.sent.tsdus, counters.sent.session_units), (1, 1, 2));
     assert_eq!(counters.received.octets, 0);

@@ -2,9 +2,9 @@
 //! session units (X.225). The program `osi show` prints such a listing of a capture; an end writes one of what passes into a log.
 //!
 //! ```text
-//! packet 0 length 18 code f0
-//!   DT number 0 eot 1 octets 11
-//!     tsdu 11
+//! packet 0 length 16 code f0
+//!   DT number 0 eot 1 octets 9
+//!     tsdu 9
 //!     GT
 //!     DT octets 5
 //! ```
