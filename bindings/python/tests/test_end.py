@@ -148,7 +148,7 @@ class Traces(Case):
         pair.carry()
         self.assertEqual([line for direction, line in lines if direction == "RECEIVED"][0][:18], "packet 0 length 12")
         counters = pair.caller.counts()
-        self.assertEqual((counters.sent.packets, counters.sent.tsdus, counters.sent.session_units), (1, 1, 2))
+        self.assertEqual((counters.sent.packets, counters.sent.tsdus, counters.sent.session_units), (2, 2, 3))
         self.assertEqual((counters.received.packets, counters.received.refused), (1, 0))
         pair.caller.trace()
         self.assertEqual(pair.caller.counts(), Counters(Tally(), Tally()))
