@@ -6,3 +6,4 @@ pub mod Packets
 pub mod Standing
 pub mod OneListing
 pub mod Tracing
+pub mod LittleIsKept

@@ -7,6 +7,8 @@ use Rattle.osi_listing.specs.declared.traces.Keeping.{Keeping}
 use Rattle.osi_listing.specs.declared.traces.Keeping.TheVariants.{Lines, Counters, Nothing}
 use Rattle.osi_listing.specs.declared.traces.Trace.{Trace}
 use Rattle.osi_listing.specs.Fed.{IsFed}
+use Rattle.osi_listing.specs.Joins.{join_value, join_at}
+use Rattle.osi_listing.specs.Streams as streams
 use Rattle.osi_listing.specs.SoFar.{IsListedSoFar}
 
 -- what a lister counted, and how many octets it was fed
@@ -19,6 +21,17 @@ octets_fed lister = lister.octets
 -- how many streams of class 2 are within a TSDU
 abbrev pub unfinished : Lister → ℕ
 unfinished lister = btree_map_len lister.work.streams.class_2
+
+-- the octets that are kept of a stream
+abbrev pub kept_of : streams.Join → ℕ
+kept_of (streams.Join.Begun octets) = length octets
+kept_of streams.Join.Dropping = 0
+
+-- what a lister keeps: less than a packet, and of each stream at most a TSDU
+pub record KeepsLittle (lister : Lister) : Type 0 where
+  pub packet : length lister.work.cutter.octets ≤ 65535
+  pub class_0 : kept_of (join_value lister.work.streams.class_0) ≤ 1048576
+  pub class_2 : (d : ℕ) → kept_of (join_at lister.work.streams.class_2 d) ≤ 1048576
 
 -- the lines that were given are a prefix of the listing so far of a prefix of the octets that passed
 pub record IsListedInPart (octets given : List ℕ) : Type 0 where

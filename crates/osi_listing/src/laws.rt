@@ -4,12 +4,13 @@ ghost use Rattle.std.specs.Prelude.{◌≡◌, ◌++◌, ℕ, List};
 ghost use Rattle.std.specs.List.{flat_map};
 ghost use Rattle.osi_listing.specs.declared.counting.Counts.{Counts};
 ghost use Rattle.osi_listing.specs.declared.pieces.Lister.{Lister};
+ghost use Rattle.osi_listing.specs.declared.pieces.Stage.TheVariants.{Going};
 ghost use Rattle.osi_listing.specs.declared.traces.Keeping.TheVariants.{Lines};
 ghost use Rattle.osi_listing.specs.declared.traces.Trace.{Trace};
-ghost use Rattle.osi_listing.specs.Fed.{Feeds, FeedsAll};
+ghost use Rattle.osi_listing.specs.Fed.{IsFed, Feeds, FeedsAll};
 ghost use Rattle.osi_listing.specs.Listing.{IsListing};
 ghost use Rattle.osi_listing.specs.SoFar.{IsListedSoFar};
-ghost use Rattle.osi_listing.specs.Traced.{IsTraced, IsListedInPart, counted, unfetched};
+ghost use Rattle.osi_listing.specs.Traced.{IsTraced, IsListedInPart, KeepsLittle, counted, unfetched};
 
 use osi_tpkt::laws::a_stream_has_one_cut;
 
@@ -38,4 +39,10 @@ pub fn what_is_fetched_is_the_listing()
     ensures whole { (trace : Trace) (octets fetched : List ℕ) → IsTraced trace octets fetched → trace.keeping ≡ Lines →
         IsListedSoFar octets (fetched ++ unfetched trace) (counted trace) }
     ensures begins { (trace : Trace) (octets fetched : List ℕ) → IsTraced trace octets fetched → IsListedInPart octets fetched }
+{}
+
+/// A lister keeps at most 65,535 octets of a packet, and of each stream at most 1,048,576 octets of a TSDU, until the stream has
+/// a fault.
+pub fn a_lister_keeps_little()
+    ensures { (lister : Lister) (octets lines : List ℕ) → IsFed lister octets lines → lister.stage ≡ Going → KeepsLittle lister }
 {}
