@@ -163,6 +163,7 @@ static void write_trace(struct gateway *g)
 static void show_all(struct gateway *g)
 {
     osi_indication shown;
+    write_trace(g);
     while (osi_next(&g->end, &shown)) {
         g->was_shown = true;
         if (g->log != NULL) {
@@ -188,7 +189,6 @@ static void feed_all(struct gateway *g, const uint8_t *piece, size_t length)
         osi_feed(&g->end, piece, length, &fed);
         piece += fed.used;
         length -= fed.used;
-        write_trace(g);
         show_all(g);
     }
 }
