@@ -5,3 +5,5 @@ pub mod Counted
 pub mod Packets
 pub mod Standing
 pub mod OneListing
+pub mod Tracing
+pub mod LittleIsKept

@@ -7,3 +7,4 @@ pub mod Counting
 pub mod Says
 pub mod SoFar
 pub mod Fed
+pub mod Traced

@@ -68,7 +68,7 @@ pub(crate) fn push_reference_field(
     text.extend_from_slice(&digits)
 }
 
-/// Adds a word and an octet, where it is there.
+/// Adds a word and an octet, if there is one.
 pub(crate) fn push_octet_field(
     text: &mut Vec<u8>,
     word: &str,
@@ -85,7 +85,7 @@ pub(crate) fn push_octet_field(
     }
 }
 
-/// Adds a word and octets, where they are there.
+/// Adds a word and octets, if there are any.
 pub(crate) fn push_octets_field(
     alloc: Global,
     text: &mut Vec<u8>,

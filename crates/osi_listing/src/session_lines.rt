@@ -76,7 +76,7 @@ fn push_each(
     Ok(())
 }
 
-/// A parameter or a group, where it is there.
+/// A parameter or a group, if it is present.
 fn push_parameter(
     alloc: Global,
     text: &mut Vec<u8>,
@@ -133,7 +133,7 @@ fn push_members(
     Ok(())
 }
 
-/// A parameter of a group, where it is there. Answers whether the next one is the first.
+/// A parameter of a group, if it is present. Returns whether the next one is the first.
 fn push_member(
     alloc: Global,
     text: &mut Vec<u8>,
@@ -153,7 +153,7 @@ fn push_member(
     Ok(false)
 }
 
-/// What stands in front of a parameter of a group.
+/// What separates a parameter of a group from the one before it.
 fn separator(is_first: bool) -> &'static str
     ensures { result.now ≡ separator_of is_first }
 {
@@ -211,7 +211,7 @@ fn fault_name(fault: SpduFault) -> &'static str
     }
 }
 
-/// The code of the parameter, where the fault is one of a parameter.
+/// The code of the parameter, if the fault is one of a parameter.
 fn push_fault_code(text: &mut Vec<u8>, fault: SpduFault) -> Result<(), AllocError>
     ensures { OnOk result (text.new.items ≡ text.old.items ++ session_fault_code fault) }
 {
