@@ -1,3 +1,4 @@
+pub mod Digits
 pub mod Fields
 pub mod Joining
 pub mod Listings

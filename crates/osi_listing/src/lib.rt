@@ -23,9 +23,11 @@
 //! let lines = trace.fetch(alloc);
 //! ```
 //!
-//! A listing never judges: it reads the grammar of units, and not whether a session may send them. `osi_judge` does that.
+//! A listing never judges: it reads the grammar of units, and not whether a session may send them. `osi_judge` does that, and
+//! `osi_dispute` makes a text of its verdict from pieces of lines that are public here ([`octets_of`], [`push_words`]).
 #![tactic(auto)]
 
+mod capture;
 mod counting;
 pub mod laws;
 mod lines;
@@ -37,6 +39,9 @@ mod traces;
 mod units;
 mod work;
 
+pub use capture::{CaptureFault, octets_of};
 pub use counting::Counts;
+pub use lines::{push_decimal, push_number_field, push_octet, push_words};
 pub use pieces::{Lister, list};
+pub use session_lines::{push_session_fault_code, session_fault_name, session_fault_offset};
 pub use traces::{Keeping, Trace};

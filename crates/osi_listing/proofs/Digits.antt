@@ -3,7 +3,7 @@ use Rattle.std.proofs.Common.{◌≡◌, ℕ, suc, take, Bool, true, false, cond
 use Rattle.std.specs.List.{before_first, flat_map, slice_split, onto_first, prefix_len}
 use Rattle.std.proofs.lemmas.Bool.Decides.{eqb_tells}
 use Rattle.std.proofs.lemmas.List.Splits.{slice_split-cons_yes, slice_split-cons_no}
-use Rattle.osi_tool.specs.Capture.{is_comment_sign, is_line_feed, is_blank, digits_of, later, digits_of_lines, digits_left}
+use Rattle.osi_listing.specs.Capture.{is_comment_sign, is_line_feed, is_blank, digits_of, later, digits_of_lines, digits_left}
 
 more_lines : (b : Bool) (c : ℕ) (parts : List (List ℕ)) (line : List ℕ) (lines : List (List ℕ)) → parts ≡ line ∷ lines →
     (first : List ℕ) × (others : List (List ℕ)) × (cond b ([] ∷ parts) (onto_first c parts) ≡ first ∷ others)

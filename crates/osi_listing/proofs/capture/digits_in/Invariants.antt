@@ -1,6 +1,6 @@
 use Rattle.std.proofs.Common.{◌≡◌, ◌++◌, drop}
-use Rattle.osi_tool.specs.Capture.{digits_of, digits_left}
-use Rattle.osi_tool.proofs.capture.digits_in.Given as goal
+use Rattle.osi_listing.specs.Capture.{digits_of, digits_left}
+use Rattle.osi_listing.proofs.capture.digits_in.Given as goal
 
 -- the digits taken and those still to come are those of the text
 abbrev pub invariant-text : goal.invariant-text

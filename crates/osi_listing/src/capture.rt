@@ -1,27 +1,37 @@
 //! Reading the text of a capture.
 
 ghost use Rattle.std.specs.Prelude.{◌≡◌, ◌∷◌, ◌++◌, ℕ, List, IfOk, Err};
-ghost use Rattle.osi_tool.specs.Capture.{digits_of, digits_left, is_blank, Captures, IsNoCapture};
+ghost use Rattle.osi_listing.specs.Capture.{digits_of, digits_left, is_blank, Captures, IsNoCapture};
 
-use crate::faults::ToolFault;
 use hex::FromHexError;
 use std::alloc::{AllocError, Global};
+use thiserror::Error;
+
+/// Why a text gives no octets.
+#[derive(Clone, Copy, PartialEq, Eq, Debug, Error)]
+pub enum CaptureFault {
+    /// The text is no capture: it has another character than digits, blanks and comments, or an odd
+    /// number of digits.
+    #[error("not the digits of octets")]
+    BadHex,
+    /// There was no memory.
+    #[error("out of memory")]
+    OutOfMemory,
+}
 
 /// The octets that a text captures: two hexadecimal digits of either case for each. Blanks, tabs and line ends are
 /// skipped, also between the two digits of an octet, and so are comments from `#` to the end of the line.
-pub fn octets_of(alloc: Global, text: &[u8]) -> Result<Vec<u8>, ToolFault>
+pub fn octets_of(alloc: Global, text: &[u8]) -> Result<Vec<u8>, CaptureFault>
     ensures ok { IfOk result (λ octets. Captures text.now octets.items) }
-    ensures bad_hex { result ≡ Err ToolFault.BadHex → IsNoCapture text.now }
-    ensures input { result ≡ Err ToolFault.Input → ⊥ }
-    ensures write { result ≡ Err ToolFault.Write → ⊥ }
+    ensures bad_hex { result ≡ Err CaptureFault.BadHex → IsNoCapture text.now }
 {
     let Ok(digits) = digits_in(alloc, text) else {
-        return Err(ToolFault::OutOfMemory);
+        return Err(CaptureFault::OutOfMemory);
     };
     match hex::decode(alloc, digits) {
         Ok(octets) => Ok(octets),
-        Err(FromHexError::OutOfMemory) => Err(ToolFault::OutOfMemory),
-        Err(_) => Err(ToolFault::BadHex),
+        Err(FromHexError::OutOfMemory) => Err(CaptureFault::OutOfMemory),
+        Err(_) => Err(CaptureFault::BadHex),
     }
 }
 

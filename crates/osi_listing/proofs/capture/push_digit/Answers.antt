@@ -1,8 +1,8 @@
 use Rattle.std.proofs.Common.{◌++◌, ◌∷◌, [], sym, ap, ◌∙◌, false}
 use Rattle.std.proofs.lemmas.List.{append_assoc}
-use Rattle.osi_tool.specs.Capture.{digits_left}
-use Rattle.osi_tool.proofs.Digits.{left_blank_of, left_digit_of}
-use Rattle.osi_tool.proofs.capture.push_digit.Goals as goal
+use Rattle.osi_listing.specs.Capture.{digits_left}
+use Rattle.osi_listing.proofs.Digits.{left_blank_of, left_digit_of}
+use Rattle.osi_listing.proofs.capture.push_digit.Goals as goal
 
 pub returns-then-is_blank_octet : goal.returns-then-is_blank_octet
 returns-then-is_blank_octet c = λ rest. ap (λ x. c.args.digits.now.items ++ x)
