@@ -110,8 +110,10 @@ def compare(name, room, counts):
         if is_listed() and octets:
             counts.check(f"examples/captures/{name}.{side}.hex has its listing", listing(octets).stdout == read(f"{name}.{side}.listing"))
     head, _, wanted = read(f"{name}.tshark").partition("\n")
-    if tshark_version() != head:
-        counts.skip(f"the words of tshark of examples/captures/{name}", f"package tshark; they are those of {head[2:]}")
+    here = tshark_version()
+    if here != head:
+        why = f"they are those of {head[2:]}, and here is {here[2:]}" if here else "package tshark"
+        counts.skip(f"the words of tshark of examples/captures/{name}", why)
         return
     said = words_of_tshark(name, pieces, room)
     counts.check(f"examples/captures/{name} has the words of tshark", said == wanted, said)
