@@ -1,17 +1,6 @@
-# Completion of osi(1) and osi-capture(1) for fish.
+# Completion of osi(1) for fish.
 complete -c osi -f -n __fish_use_subcommand -a show -d 'list a capture'
 complete -c osi -f -n __fish_use_subcommand -a pair -d 'run a script of two ends'
 complete -c osi -f -n __fish_use_subcommand -a help -d 'print help'
 complete -c osi -l help -d 'print help'
 complete -c osi -l version -d 'print the version'
-complete -c osi-capture -f -n __fish_use_subcommand -a list -d 'the streams with TPKT'
-complete -c osi-capture -f -n __fish_use_subcommand -a show -d 'both directions in their order'
-complete -c osi-capture -f -n __fish_use_subcommand -a split -d 'a file for each direction'
-complete -c osi-capture -f -n __fish_use_subcommand -a join -d 'a pcap of them'
-complete -c osi-capture -l stream -x -d 'the number of the stream'
-complete -c osi-capture -l port -x -d 'the port of TPKT'
-complete -c osi-capture -l json -d 'an object for each line'
-complete -c osi-capture -l columns -d 'the sides beside each other'
-complete -c osi-capture -l width -x -d 'the width in columns'
-complete -c osi-capture -l data -d 'the user data of each session unit'
-complete -c osi-capture -s o -r -d 'what is written'
