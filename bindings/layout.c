@@ -21,6 +21,8 @@ struct alignments {
     struct { char c; osi_tsap at; } osi_tsap;
     struct { char c; osi_selector at; } osi_selector;
     struct { char c; osi_addressing at; } osi_addressing;
+    struct { char c; osi_tally at; } osi_tally;
+    struct { char c; osi_counters at; } osi_counters;
 };
 
 #define ALIGNMENT(type) (offsetof(struct alignments, type.at) - offsetof(struct alignments, type))
@@ -103,6 +105,29 @@ static void addresses(void)
     FIELD(osi_addressing, called_tsap);
     FIELD(osi_addressing, calling_selector);
     FIELD(osi_addressing, called_selector);
+}
+
+static void counters(void)
+{
+    STRUCT(osi_tally);
+    FIELD(osi_tally, octets);
+    FIELD(osi_tally, packets);
+    FIELD(osi_tally, units);
+    FIELD(osi_tally, tsdus);
+    FIELD(osi_tally, session_units);
+    FIELD(osi_tally, refused);
+    STRUCT(osi_counters);
+    FIELD(osi_counters, received);
+    FIELD(osi_counters, sent);
+}
+
+static void trace(void)
+{
+    VALUE(OSI_TRACE_OFF);
+    VALUE(OSI_TRACE_COUNTS);
+    VALUE(OSI_TRACE_LINES);
+    VALUE(OSI_RECEIVED);
+    VALUE(OSI_SENT);
 }
 
 static void codes(void)
@@ -226,10 +251,12 @@ int main(void)
     opening();
     indication();
     addresses();
+    counters();
     codes();
     terms_and_sets();
     indications();
     ends();
     phases();
+    trace();
     return 0;
 }

@@ -495,6 +495,81 @@ typedef struct osi_addressing {
  * address), OSI_SLOT_EMPTY (the same). */
 uint32_t osi_addresses(osi_end *end, uint16_t reference, osi_addressing *shown);
 
+/* ---- trace and counters -------------------------------------------------------------------------------- */
+
+/* What osi_trace begins. */
+#define OSI_TRACE_OFF 0u    /* no trace */
+#define OSI_TRACE_COUNTS 1u /* counters only */
+#define OSI_TRACE_LINES 2u  /* counters, and lines for a log */
+
+/* Begins a trace in both directions: of the octets that osi_feed uses, and of those that osi_taken says
+ * are sent. It ends an earlier trace. An end begins without one. Call it right after osi_caller or
+ * osi_called: the first octet that a trace takes has to begin a packet. OSI_OK, OSI_BAD_ARGUMENT (none of
+ * the three), OSI_SLOT_EMPTY.
+ *
+ * A trace never changes what the end does, and its memory is bounded: in each direction it keeps a packet
+ * and TSDUs that are not whole yet (as osi_kept, but of at most 64 DST-REFs), and at most 1,048,576 octets
+ * of lines that you have not fetched. If it would keep more, or if an allocation fails, the trace of this
+ * direction stops. osi_trace_fetch says so. */
+uint32_t osi_trace(osi_end *end, uint32_t what) OSI_LOOK;
+
+/* The direction of a trace. */
+#define OSI_RECEIVED 0u
+#define OSI_SENT 1u
+
+/* Fetches the lines of a direction that you have not fetched: what `osi show` prints for the packets that
+ * were whole since then. OSI_OK, or the first that applies of OSI_BAD_ARGUMENT (no direction),
+ * OSI_SLOT_EMPTY, OSI_NO_MEMORY (this trace has stopped; you are told once, after its last lines) and
+ * OSI_NOTHING (no lines). After any of these but the first two, osi_trace_lines lends what was fetched. */
+uint32_t osi_trace_fetch(osi_end *end, uint32_t direction) OSI_LOOK;
+
+/* Lends the lines that were fetched last, each with its line feed. They are valid until the next call with
+ * this end. The end stays as it is. */
+void osi_trace_lines(osi_end *end, osi_octets *lines);
+
+/* A function for a log: it is called with each line, without its line feed. text is NULL if the trace of
+ * this direction has stopped. It may not call the end. */
+typedef void osi_on_line(void *context, uint32_t direction, const char *text, size_t length);
+
+/* Fetches the lines of both directions and passes each to a function. Call it after osi_feed and after
+ * osi_taken; then the lines come in the order in which the packets passed. */
+static inline void osi_trace_each(osi_end *end, osi_on_line *on_line, void *context)
+{
+    for (uint32_t direction = OSI_RECEIVED; direction <= OSI_SENT; direction++) {
+        osi_octets lines;
+        uint32_t code = osi_trace_fetch(end, direction);
+        osi_trace_lines(end, &lines);
+        const char *text = (const char *)lines.at;
+        for (size_t from = 0, to = 0; code == OSI_OK && to < lines.length; to++)
+            if (text[to] == '\n') {
+                on_line(context, direction, text + from, to - from);
+                from = to + 1;
+            }
+        if (code == OSI_NO_MEMORY)
+            on_line(context, direction, NULL, 0);
+    }
+}
+
+/* What the trace of one direction has counted; once it has stopped, up to then. */
+typedef struct osi_tally {
+    uint64_t octets;        /* octets */
+    uint64_t packets;       /* packets (RFC 1006 section 6) */
+    uint64_t units;         /* transport units (X.224 section 13) */
+    uint64_t tsdus;         /* whole TSDUs */
+    uint64_t session_units; /* session units (X.225 section 8) */
+    uint64_t refused;       /* packets, transport units and TSDUs that break a rule of spelling */
+} osi_tally;
+
+/* Both directions. */
+typedef struct osi_counters {
+    osi_tally received;
+    osi_tally sent;
+} osi_counters;
+
+/* Writes the counters to *shown: all 0 for a direction without a trace, and if the slot holds no end. The
+ * end stays as it is. */
+void osi_counts(osi_end *end, osi_counters *shown);
+
 /* ---- names ------------------------------------------------------------------------------------------- */
 
 /* The version of the library. OSI_VERSION is that of this header. */

@@ -596,6 +596,34 @@ inline std::string_view name(phase stands) noexcept { return osi_phase_name(deta
 inline std::string_view name(ending why) noexcept { return osi_end_name(detail::bits(why)); }
 inline std::string_view version() noexcept { return osi_version(); }
 
+/* What a trace keeps: nothing (there is none), counters, or counters and lines. */
+enum class tracing : std::uint32_t {
+    off = OSI_TRACE_OFF,
+    counts = OSI_TRACE_COUNTS,
+    lines = OSI_TRACE_LINES,
+};
+
+/* The direction of a trace. */
+enum class direction : std::uint32_t {
+    received = OSI_RECEIVED,
+    sent = OSI_SENT,
+};
+
+/* What the trace of one direction has counted; once it has stopped, up to then. */
+struct tally {
+    std::uint64_t octets = 0;
+    std::uint64_t packets = 0;       /* RFC 1006 section 6 */
+    std::uint64_t units = 0;         /* transport units (X.224 section 13) */
+    std::uint64_t tsdus = 0;         /* whole TSDUs */
+    std::uint64_t session_units = 0; /* X.225 section 8 */
+    std::uint64_t refused = 0;       /* packets, transport units and TSDUs that break a rule of spelling */
+};
+
+/* Both directions. */
+struct counters {
+    tally received, sent;
+};
+
 /* What end::feed did. */
 struct fed {
     std::size_t used = 0; /* how many octets of the piece were used, from the first */
@@ -626,6 +654,11 @@ constexpr bool names_point(tag shown) noexcept
 inline fault fault_of(const osi_fault &f) noexcept
 {
     return {static_cast<fault_kind>(f.fault), f.si, static_cast<spelling>(f.spelling), f.parameter, f.offset};
+}
+
+inline tally tally_of(const osi_tally &t) noexcept
+{
+    return {t.octets, t.packets, t.units, t.tsdus, t.session_units, t.refused};
 }
 
 inline indication indication_of(const osi_indication &said) noexcept
@@ -878,6 +911,42 @@ public:
         if (call(osi_addresses, of, &shown) != code::ok)
             return std::nullopt;
         return osi::addresses(shown);
+    }
+
+    /* ---- trace and counters */
+
+    /* Begins a trace in both directions, and ends an earlier one: ok, slot_empty. Call it right after you have made
+     * the end, because the first octet that a trace takes has to begin a packet. It never changes what the end does,
+     * and its memory is bounded (osi.h). */
+    code trace(tracing what) noexcept { return call(osi_trace, detail::bits(what)); }
+
+    /* Fetches the lines of one direction that you have not fetched, and passes each, without its line feed, to
+     * on_line(std::string_view), which may not call this end: ok, nothing (no lines), no_memory (this trace has
+     * stopped; you are told once, after its last lines), slot_empty. */
+    template <class OnLine>
+    code traced(direction of, OnLine &&on_line) noexcept(noexcept(on_line(std::string_view())))
+    {
+        const code fetched = call(osi_trace_fetch, detail::bits(of));
+        osi_octets lent = OSI_NO_OCTETS;
+        if (fetched == code::ok)
+            osi_trace_lines(slot_.get(), &lent);
+        std::string_view lines = octets(lent).text();
+        while (!lines.empty()) {
+            const std::size_t length = lines.find('\n');
+            on_line(lines.substr(0, length));
+            lines.remove_prefix(length == lines.npos ? lines.size() : length + 1);
+        }
+        return fetched;
+    }
+
+    /* What both traces have counted: all 0 without a trace. */
+    osi::counters counts() noexcept
+    {
+        if (!slot_)
+            return {};
+        osi_counters shown;
+        osi_counts(slot_.get(), &shown);
+        return {detail::tally_of(shown.received), detail::tally_of(shown.sent)};
     }
 
 private:

@@ -23,6 +23,7 @@ static void check(bool holds, const char *what, int line)
 
 #define ALL_UNITS (OSI_HALF_DUPLEX | OSI_MINOR_SYNC | OSI_MAJOR_SYNC | OSI_RESYNCHRONIZE | OSI_NEGOTIATED_RELEASE)
 #define ALL_TOKENS (OSI_TOKEN_DATA | OSI_TOKEN_MINOR | OSI_TOKEN_MAJOR | OSI_TOKEN_RELEASE)
+#define CHECK_QUIETLY(holds) ((holds) ? (void)0 : check(false, #holds, __LINE__))
 static const osi_sides asker = {OSI_ASKER, OSI_ASKER, OSI_ASKER, OSI_ASKER};
 static const osi_terms both = {OSI_CLASS_0 | OSI_CLASS_2, 13, 15};
 
@@ -314,6 +315,91 @@ static void a_connection_is_given_up_alone(void)
     CHECK(osi_disconnect(&p.caller, 1) == OSI_SLOT_EMPTY && !osi_is_over(&p.caller) && !osi_wants_write(&p.caller));
 }
 
+/* ---- trace and counters */
+
+struct log {
+    char text[8192];
+    size_t length;
+    unsigned lines, stopped;
+};
+
+static void on_line(void *context, uint32_t direction, const char *text, size_t length)
+{
+    struct log *log = context;
+    log->lines++;
+    log->stopped += text == NULL;
+    if (text != NULL && log->length + length + 2 < sizeof log->text) {
+        log->text[log->length++] = direction == OSI_SENT ? '>' : '<';
+        memcpy(log->text + log->length, text, length);
+        log->length += length;
+        log->text[log->length++] = '\n';
+    }
+}
+
+/* Each packet is traced as `osi show` has it, in the order in which the packets pass. */
+static void lines_are_traced(void)
+{
+    static const char wanted[] =
+        ">packet 0 length 20 code ef\n>  CR credit 15 dst 0000 src 0001 class 2 options 0 size 0d more 00 also 00\n"
+        "<packet 0 length 17 code df\n<  CC credit 15 dst 0001 src 0001 class 2 options 0 size 0d more 00\n";
+    struct pair pair = {OSI_END, OSI_END, 0};
+    osi_opening opening = OSI_OPENING;
+    struct log log = {"", 0, 0, 0};
+    CHECK(osi_caller(&pair.caller, &both) == OSI_OK && osi_called(&pair.called, &both) == OSI_OK);
+    CHECK(osi_trace(&pair.caller, 3) == OSI_BAD_ARGUMENT && osi_trace(&pair.caller, OSI_TRACE_LINES) == OSI_OK);
+    CHECK(osi_trace_fetch(&pair.caller, OSI_SENT) == OSI_NOTHING && osi_trace_fetch(&pair.caller, 2) == OSI_BAD_ARGUMENT);
+    CHECK(osi_connect(&pair.caller, &opening, &pair.of) == OSI_OK);
+    carry(&pair.caller, &pair.called);
+    osi_trace_each(&pair.caller, on_line, &log);
+    carry(&pair.called, &pair.caller);
+    osi_trace_each(&pair.caller, on_line, &log);
+    CHECK(log.length == sizeof wanted - 1 && memcmp(log.text, wanted, log.length) == 0);
+    osi_counters counters;
+    memset(&counters, 0x55, sizeof counters);
+    osi_counts(&pair.caller, &counters);
+    CHECK(counters.sent.octets == 20 && counters.sent.packets == 1 && counters.received.units == 1);
+    CHECK(counters.received.tsdus == 0 && counters.received.session_units == 0 && counters.received.refused == 0);
+    CHECK(osi_trace(&pair.caller, OSI_TRACE_OFF) == OSI_OK && osi_trace_fetch(&pair.caller, OSI_SENT) == OSI_NOTHING);
+    osi_counts(&pair.caller, &counters);
+    CHECK(counters.sent.octets + counters.received.octets + counters.sent.packets == 0);
+    let_go(&pair);
+    osi_octets lines = OSI_NO_OCTETS;
+    CHECK(osi_trace(&pair.caller, OSI_TRACE_LINES) == OSI_SLOT_EMPTY && osi_trace_fetch(&pair.caller, 0) == OSI_SLOT_EMPTY);
+    osi_trace_lines(&pair.caller, &lines);
+    memset(&counters, 0x55, sizeof counters);
+    osi_counts(&pair.caller, &counters);
+    CHECK(lines.at != NULL && lines.length == 0 && counters.received.octets == 0);
+}
+
+/* A trace stops if nobody fetches its lines, and says so once, after its last lines. Counters don't stop for that. */
+static void lines_that_nobody_fetches_are_bounded(void)
+{
+    static const uint8_t fault[] = {3, 0, 0, 7, 2, 0xF0, 0x80};
+    struct log log = {"", 0, 0, 0};
+    osi_end ends[2] = {OSI_END, OSI_END};
+    osi_fed fed;
+    osi_octets lines;
+    osi_counters counters;
+    for (uint32_t i = 0; i < 2; i++) {
+        CHECK(osi_called(&ends[i], &both) == OSI_OK && osi_trace(&ends[i], i + 1) == OSI_OK);
+        for (int n = 0; n < 20000; n++)
+            CHECK_QUIETLY(osi_feed(&ends[i], fault, sizeof fault, &fed) == OSI_OK && fed.used == sizeof fault);
+        CHECK(osi_ended(&ends[i], &(uint64_t){0}) != OSI_END_NONE);
+    }
+    osi_counts(&ends[0], &counters);
+    CHECK(counters.received.packets == 20000 && counters.received.tsdus == 20000 && counters.received.octets == 140000);
+    CHECK(osi_trace_fetch(&ends[0], OSI_RECEIVED) == OSI_NOTHING);
+    CHECK(osi_trace_fetch(&ends[1], OSI_RECEIVED) == OSI_OK);
+    osi_trace_lines(&ends[1], &lines);
+    CHECK(lines.length <= 1048576 && lines.length > 1048576 - 200 && memcmp(lines.at, "packet 0 length 7 code f0\n", 26) == 0);
+    osi_trace_each(&ends[1], on_line, &log);
+    CHECK(log.lines == 1 && log.stopped == 1);
+    osi_trace_each(&ends[1], on_line, &log);
+    CHECK(log.lines == 1 && osi_trace_fetch(&ends[1], OSI_RECEIVED) == OSI_NOTHING);
+    osi_free(&ends[0]);
+    osi_free(&ends[1]);
+}
+
 /* ---- names */
 
 static void names(void)
@@ -337,6 +423,8 @@ int main(void)
     indications_of_other_headers();
     addresses();
     a_connection_is_given_up_alone();
+    lines_are_traced();
+    lines_that_nobody_fetches_are_bounded();
     names();
     printf("%u passed, %u failed\n", passed, failed);
     return failed != 0;

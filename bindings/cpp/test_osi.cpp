@@ -603,6 +603,27 @@ static void codes_have_texts()
     CHECK(osi::text(osi::ending::no_memory_for_tsdu) != "a reason without a name");
 }
 
+/* ---- trace and counters */
+
+static void an_end_is_traced()
+{
+    pair two = opened(osi::classes::class_0);
+    CHECK(two.caller.trace(osi::tracing::lines) == code::ok);
+    CHECK(two.caller.traced(osi::direction::sent, [](std::string_view) {}) == code::nothing);
+    CHECK(two.caller.data(two.of, "hello") == code::ok);
+    two.carry();
+    std::vector<std::string> lines;
+    const auto keep = [&](std::string_view line) { lines.emplace_back(line); };
+    CHECK(two.caller.traced(osi::direction::sent, keep) == code::ok && lines.size() == 5);
+    CHECK(lines.front() == "packet 0 length 16 code f0" && lines.back() == "    DT octets 5");
+    const osi::counters seen = two.caller.counts();
+    CHECK(seen.sent.packets == 1 && seen.sent.tsdus == 1 && seen.sent.session_units == 2 && seen.sent.refused == 0);
+    CHECK(two.caller.trace(osi::tracing::off) == code::ok && two.caller.counts().sent.octets == 0);
+    osi::end none;
+    CHECK(none.trace(osi::tracing::lines) == code::slot_empty && none.counts().received.octets == 0);
+    CHECK(none.traced(osi::direction::sent, keep) == code::slot_empty);
+}
+
 int main()
 {
     octets_are_views();
@@ -623,6 +644,7 @@ int main()
     a_connection_is_given_up_alone();
     connections_have_addresses();
     data_in_parts_is_joined();
+    an_end_is_traced();
     bad_packets_end_an_end();
     connections_are_told_apart();
     terms_are_judged();

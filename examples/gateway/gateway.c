@@ -143,10 +143,27 @@ bool gateway_may_answer(struct gateway *g, uint16_t reference)
     return false;
 }
 
+static void write_line(void *file, uint32_t direction, const char *text, size_t length)
+{
+    const char sign = direction == OSI_SENT ? '>' : '<';
+    if (text != NULL)
+        fprintf(file, "%c %.*s\n", sign, (int)length, text);
+    else
+        fprintf(file, "%c the trace has stopped\n", sign);
+}
+
+/* Writes the lines of the packets that passed. */
+static void write_trace(struct gateway *g)
+{
+    if (g->trace != NULL)
+        osi_trace_each(&g->end, write_line, g->trace);
+}
+
 /* Fetches all pending indications. */
 static void show_all(struct gateway *g)
 {
     osi_indication shown;
+    write_trace(g);
     while (osi_next(&g->end, &shown)) {
         g->was_shown = true;
         if (g->log != NULL) {
@@ -220,6 +237,7 @@ static void transmit(struct gateway *g)
         g->sent_octets += (size_t)count;
         g->moved = now_in_milliseconds();
         osi_taken(&g->end, (size_t)count);
+        write_trace(g);
         if (g->stall_at > 0 && g->sent_octets == g->stall_at)
             stall();
     } else if (!comes_later()) {
@@ -309,7 +327,10 @@ bool gateway_open(struct gateway *g, int socket, bool calls, int count, char **w
     g->began = g->moved = now_in_milliseconds();
     g->sent = capture_file(capture, g->side);
     g->came = capture_file(capture, calls ? "right" : "left");
-    return (calls ? osi_caller(&g->end, &terms) : osi_called(&g->end, &terms)) == OSI_OK;
+    g->trace = capture_file(capture, "trace");
+    if ((calls ? osi_caller(&g->end, &terms) : osi_called(&g->end, &terms)) != OSI_OK)
+        return false;
+    return g->trace == NULL || osi_trace(&g->end, OSI_TRACE_LINES) == OSI_OK;
 }
 
 void gateway_close(struct gateway *g)
@@ -320,5 +341,7 @@ void gateway_close(struct gateway *g)
         fclose(g->sent);
     if (g->came != NULL)
         fclose(g->came);
+    if (g->trace != NULL)
+        fclose(g->trace);
     osi_free(&g->end);
 }

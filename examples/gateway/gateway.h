@@ -21,6 +21,7 @@ struct gateway {
     const char *side;      /* "left" calls, "right" is called */
     FILE *log;             /* the log of indications; NULL for none. It stays open */
     FILE *sent, *came;     /* the octets of each direction, as hexadecimal digits; NULL for none */
+    FILE *trace;           /* the lines of all packets, > for sent and < for received ones; NULL for none */
     size_t stall_at;       /* stops for good once this many octets were sent; 0 for never */
     size_t sent_octets;
     long long patience;    /* milliseconds until the first indication has to come, and that the peer may be silent */
@@ -43,7 +44,7 @@ FILE *log_file(int count, char **words);
  *
  *   --classes 0|2|20   the transport classes; --window 1 .. 15, of class 2
  *   --wait SECONDS     how long to wait for a peer; 10
- *   --capture NAME     the octets of each direction, in NAME.left and NAME.right */
+ *   --capture NAME     the octets of each direction, in NAME.left and NAME.right, and the lines of both in NAME.trace */
 bool gateway_open(struct gateway *g, int socket, bool calls, int count, char **words);
 
 /* The events that poll has to wait for at the socket, and for how many milliseconds at most. */

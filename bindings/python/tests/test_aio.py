@@ -8,6 +8,7 @@ from osi_session import (
     Connect,
     Connected,
     Data,
+    Direction,
     End,
     Given,
     Lost,
@@ -82,6 +83,18 @@ class Lines(unittest.IsolatedAsyncioTestCase):
             self.server.done.clear()
             self.assertIn(Data(of, b"hello"), self.server.shown)
             self.assertEqual(self.server.shown.pop(), Released(of, b""))
+
+    async def test_a_line_is_traced(self):
+        lines = []
+        async with aio.dial("127.0.0.1", self.port) as line:
+            line.end.trace(lambda direction, text: lines.append((direction, text)))
+            of = line.end.connect(Opening(UNITS))
+            await line.expect(Connected)
+            line.end.abort(of)
+        self.assertEqual([direction for direction, text in lines[:2]], [Direction.SENT] * 2)
+        self.assertTrue(lines[0][1].startswith("packet 0 length "))
+        self.assertIn("    AB", {text[:6] for _, text in lines})
+        self.assertIn("    AC", {text[:6] for direction, text in lines if direction == Direction.RECEIVED})
 
     async def test_much_data(self):
         """More than the transport takes at once, in messages of more than a packet."""

@@ -17,7 +17,9 @@ from osi_session import (
     Code,
     Connect,
     Connected,
+    Counters,
     Data,
+    Direction,
     End,
     Ending,
     Fault,
@@ -45,8 +47,10 @@ from osi_session import (
     Sides,
     Sizes,
     Spelling,
+    Tally,
     Terms,
     Tokens,
+    Trace,
     Units,
 )
 
@@ -129,6 +133,55 @@ class Case(unittest.TestCase):
 
     def shown(self, pair, *, to_caller=(), to_called=()):
         self.assertEqual(pair.carry(), (list(to_caller), list(to_called)))
+
+
+class Traces(Case):
+    def test_lines(self):
+        lines, pair = [], Pair.opened()
+        pair.caller.trace(lambda direction, line: lines.append((direction.name, line)))
+        pair.caller.data(1, b"hello")
+        pair.carry()
+        told = ["packet 0 length 16 code f0", "  DT number 0 eot 1 octets 9", "    tsdu 9", "    GT", "    DT octets 5"]
+        self.assertEqual([line for _, line in lines[:3]], told[:3])
+        self.assertEqual({direction for direction, _ in lines}, {"SENT"})
+        pair.called.abort(1)
+        pair.carry()
+        self.assertEqual([line for direction, line in lines if direction == "RECEIVED"][0][:18], "packet 0 length 12")
+        counters = pair.caller.counts()
+        self.assertEqual((counters.sent.packets, counters.sent.tsdus, counters.sent.session_units), (2, 2, 3))
+        self.assertEqual((counters.received.packets, counters.received.refused), (1, 0))
+        pair.caller.trace()
+        self.assertEqual(pair.caller.counts(), Counters(Tally(), Tally()))
+
+    def test_counters(self):
+        pair = Pair()
+        pair.called.trace(what=Trace.COUNTS)
+        pair.caller.connect(ASKED)
+        pair.carry()
+        counters = pair.called.counts()
+        self.assertEqual((counters.received.packets, counters.received.tsdus, counters.sent.packets), (2, 1, 2))
+        pair.called.close()
+        self.assertEqual(pair.called.counts(), Counters())
+        self.refused(Code.SLOT_EMPTY, pair.called.trace)
+
+    def test_a_function_that_fails_changes_nothing(self):
+        def fails(direction, line):
+            raise ValueError(line)
+
+        pair = Pair()
+        pair.caller.trace(fails)
+        with self.assertLogs("osi_session") as logged:
+            pair.caller.connect(ASKED)
+            self.assertEqual(len(pair.carry()[1]), 1)
+        self.assertGreater(len(logged.records), 2)
+
+    def test_a_stopped_trace_says_so_once(self):
+        lines, end = [], End.called()
+        end.trace(lambda direction, line: lines.append((direction, line)))
+        list(end.feed_all(packet(b"") * 20000))
+        self.assertEqual(lines, [(Direction.RECEIVED, None)])
+        list(end.feed_all(packet(b"")))
+        self.assertEqual(len(lines), 1)
 
 
 class Indications(Case):

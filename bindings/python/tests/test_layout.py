@@ -25,6 +25,8 @@ PREFIXES = {
     osi_session.Refusal: "OSI_REFUSAL_",
     osi_session.Phase: "OSI_PHASE_",
     osi_session.Reason: "OSI_END_",
+    osi_session.Trace: "OSI_TRACE_",
+    osi_session.Direction: "OSI_",
 }
 # Members that stand for more than one number, or for none, and so have no name in C.
 JOINED = {("Classes", "BOTH"), ("Classes", "NONE"), ("Units", "NONE"), ("Tokens", "NONE")}
@@ -62,7 +64,7 @@ def sections():
             continue
         name, value = number.group(1), int(number.group(2))
         begins = {"OSI_OK": "osi_code_name", "OSI_CLASS_0": None, "OSI_NONE": "osi_indication_name",
-                  "OSI_END_NONE": "osi_end_name", "OSI_PHASE_NONE": "osi_phase_name"}
+                  "OSI_END_NONE": "osi_end_name", "OSI_PHASE_NONE": "osi_phase_name", "OSI_TRACE_OFF": None}
         function = begins.get(name, function)
         if function:
             found[function][value] = name

@@ -48,7 +48,7 @@ fn answer(code: u32) -> Result<(), Error> {
 ///
 /// # Safety
 /// They are valid for `'a`, and nobody writes to them.
-unsafe fn lent<'a>(octets: ffi::osi_octets) -> &'a [u8] {
+pub(crate) unsafe fn lent<'a>(octets: ffi::osi_octets) -> &'a [u8] {
     // SAFETY: by the condition on the caller; the pointer is never null (`osi.h`).
     unsafe { slice::from_raw_parts(octets.at, octets.length) }
 }
@@ -83,7 +83,7 @@ impl End {
         Ok(end)
     }
 
-    fn at(&mut self) -> *mut ffi::osi_end {
+    pub(crate) fn at(&mut self) -> *mut ffi::osi_end {
         &mut *self.slot
     }
 

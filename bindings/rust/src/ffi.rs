@@ -112,7 +112,26 @@ pub struct osi_addressing {
     pub called_selector: osi_selector,
 }
 
+#[repr(C)]
+#[derive(Clone, Copy, Default)]
+pub struct osi_tally {
+    pub octets: u64,
+    pub packets: u64,
+    pub units: u64,
+    pub tsdus: u64,
+    pub session_units: u64,
+    pub refused: u64,
+}
+
+#[repr(C)]
+#[derive(Clone, Copy, Default)]
+pub struct osi_counters {
+    pub received: osi_tally,
+    pub sent: osi_tally,
+}
+
 pub const OSI_OK: u32 = 0;
+pub const OSI_NO_MEMORY: u32 = 3;
 pub const OSI_END_NONE: u32 = 0;
 
 /// A call of a user with user data alone.
@@ -208,6 +227,10 @@ extern "C" {
     pub fn osi_confirmed_below(end: *mut osi_end, reference: u16) -> u32;
     pub fn osi_lowest_restart(end: *mut osi_end, reference: u16) -> u32;
     pub fn osi_addresses(end: *mut osi_end, reference: u16, shown: *mut osi_addressing) -> u32;
+    pub fn osi_trace(end: *mut osi_end, what: u32) -> u32;
+    pub fn osi_trace_fetch(end: *mut osi_end, direction: u32) -> u32;
+    pub fn osi_trace_lines(end: *mut osi_end, lines: *mut osi_octets);
+    pub fn osi_counts(end: *mut osi_end, shown: *mut osi_counters);
     pub fn osi_version() -> *const c_char;
 }
 

@@ -88,6 +88,7 @@ mod end;
 mod ffi;
 mod indications;
 mod terms;
+mod traces;
 
 /// The version of the library for C. `CARGO_PKG_VERSION` is that of this crate.
 #[must_use]
@@ -102,6 +103,7 @@ pub use codes::{Ending, Error, Fault, Spelling};
 pub use end::{End, Fed};
 pub use indications::Indication;
 pub use terms::{Classes, Opening, Phase, Reference, Refusal, Side, Sides, Sizes, Terms, Tokens, Units};
+pub use traces::{Counters, Direction, Tally, Trace};
 
 /// These do not compile. Two threads can't use an end at the same time:
 ///

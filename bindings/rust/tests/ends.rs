@@ -1,8 +1,8 @@
 //! Two ends in memory: each kind of indication, each code that is quick to come by, and what is lent.
 
 use osi_session::{
-    Classes, End, Ending, Error, Fault, Indication, Opening, Phase, Reference, Refusal, Side, Sides, Sizes,
-    Spelling, Terms, Tokens, Units,
+    Classes, Counters, Direction, End, Ending, Error, Fault, Indication, Opening, Phase, Reference, Refusal,
+    Side, Sides, Sizes, Spelling, Terms, Tokens, Trace, Units,
 };
 use std::thread;
 
@@ -561,4 +561,33 @@ fn errors_are_errors() {
     assert_eq!(fault.to_string(), "the value of the parameter 20 is bad, at octet 4 of the TSDU");
     let ending: Box<dyn std::error::Error> = Box::new(Ending::PeerClosed { reason: 128 });
     assert_eq!(ending.to_string(), "the peer closed its connection, with the reason 128");
+}
+
+#[test]
+fn an_end_is_traced() {
+    let mut pair = Pair::opened(Classes::CLASS_0, &opening());
+    let mut lines = Vec::new();
+    pair.caller.trace(Trace::Lines);
+    pair.caller.traced(|_, line| panic!("{line:?}"));
+    pair.caller.data(pair.of, b"hello").unwrap();
+    pair.by_called();
+    pair.caller.traced(|direction, line| lines.push((direction, line.map(str::to_string))));
+    assert_eq!(lines[0], (Direction::Sent, Some("packet 0 length 16 code f0".to_string())));
+    let counters = pair.caller.counts();
+    assert_eq!((counters.sent.packets, counters.sent.tsdus, counters.sent.session_units), (1, 1, 2));
+    assert_eq!(counters.received.octets, 0);
+    pair.caller.trace(Trace::Off);
+    assert_eq!(pair.caller.counts(), Counters::default());
+}
+
+#[test]
+fn a_stopped_trace_says_so_once() {
+    let mut end = End::called(Terms::default()).unwrap();
+    let mut stopped = Vec::new();
+    end.trace(Trace::Lines);
+    let used = end.feed(&packet(&[]).repeat(20_000)).used;
+    assert_eq!(used, 140_000);
+    end.traced(|direction, line| stopped.push((direction, line.is_none())));
+    end.traced(|direction, line| stopped.push((direction, line.is_none())));
+    assert_eq!(stopped, [(Direction::Received, true)]);
 }

@@ -1,34 +1,16 @@
-pub mod Taking
-pub mod Turned
-pub mod MessageLaws
-pub mod Bringing
-pub mod MeetingMessages
-pub mod Changes
-pub mod Meetings
-pub mod Sendables
-pub mod Openings
-pub mod Courses
-pub mod CourseOpening
-pub mod Addressing
-pub mod JoinedSteps
-pub mod JoinedMoves
-pub mod JoinedAsks
-pub mod JoinedCalls
-pub mod OnTheWay
-pub mod Acting
-pub mod Linked
-pub mod Providing
-pub mod Betweens
-pub mod HandedIn
-pub mod Proposals
+-- The map of these proofs, in reading order. `Vocabulary` has the names that come from elsewhere.
 mod Vocabulary
-pub mod Zeros
-pub mod ZeroLaws
-pub mod Refusals
-pub mod Terms
-pub mod Emptied
-pub mod Journeys
-pub mod Holdings
-pub mod Firsts
-pub mod Tellings
-pub mod Having
+-- Units: that they fit packets, what they mean, and which connection they are for.
+pub mod unit
+-- The octets between two carriers.
+pub mod way
+-- The two links of a connection.
+pub mod link
+-- One connection of class 2, as both ends see it.
+pub mod meeting
+-- Two carriers that agree on class 2.
+pub mod joined
+-- Two carriers that agree on class 0, or on nothing.
+pub mod zero
+-- Two carriers, whatever they agree on.
+pub mod between

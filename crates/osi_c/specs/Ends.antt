@@ -1,5 +1,5 @@
 -- The effects of the functions that C calls: `old` and `new` are the contents of the slot.
-use Rattle.std.specs.Prelude.{◌≡◌, ℕ, ◌≤◌, ◌+◌, ◌-◌, ◌*◌, ◌^◌, min, Bool, true, false, not, ◌==◌, List, [], length, Option, Some, None, option_map}
+use Rattle.std.specs.Prelude.{◌≡◌, ℕ, ◌≤◌, ◌+◌, ◌-◌, ◌*◌, ◌^◌, min, Bool, true, false, not, ◌==◌, List, [], length, take, Option, Some, None, option_map}
 use Rattle.osi_tpkt.specs.Held.{fresh}
 use Rattle.osi_class.specs.declared.terms.Local.{Local}
 use Rattle.osi_carrier.specs.Calls.{closed_with, unsent_at, backlog_of}
@@ -26,7 +26,9 @@ use Rattle.osi_c.specs.Arguments.{IsTerms, SaysTerms, IsOpening, SaysOpening}
 use Rattle.osi_c.specs.Codes.{Answer, Done, Closed, BadArgument, Refused, Made, Begun, Unreadable, NoMemory, InUse, Fetching, Fetched, NoEnd, Nothing}
 use Rattle.osi_c.specs.declared.arguments.OsiTerms.{OsiTerms}
 use Rattle.osi_c.specs.declared.arguments.OsiOpening.{OsiOpening}
+use Rattle.osi_c.specs.Traced.{IsUntraced, Takes}
 use Rattle.osi_c.specs.declared.handles.Contents.{Contents}
+use Rattle.osi_c.specs.declared.traces.Traces.{Traces}
 
 -- the same contents with another end
 abbrev pub with_end : Contents → End → Contents
@@ -34,16 +36,22 @@ with_end c end = record c { stack = record c.stack { end = end } }
 
 -- ---- making an end
 
--- a fresh end
-abbrev pub begun : Bool → Local → Contents
-begun is_caller local = record { stack = record { end = fresh_end is_caller local; held = fresh }; last = None; reference = 0 }
+-- a fresh end, with these traces
+abbrev pub begun : Bool → Local → Traces → Contents
+begun is_caller local traces = record {
+  stack = record { end = fresh_end is_caller local; held = fresh };
+  last = None;
+  reference = 0;
+  traces = traces;
+}
 
 -- its transport protocol
 abbrev pub local_of : Contents → Local
 local_of c = c.stack.end.carrier.local
 
 abbrev pub Makes : Bool → OsiTerms → Option Made → Option Contents → Option Contents → Type 0
-Makes is_caller terms (Some Begun) None (Some new) = SaysTerms terms (local_of new) × (new ≡ begun is_caller (local_of new))
+Makes is_caller terms (Some Begun) None (Some new) =
+    SaysTerms terms (local_of new) × (new ≡ begun is_caller (local_of new) new.traces) × IsUntraced new.traces
 Makes is_caller terms (Some Unreadable) old new = (IsTerms terms → ⊥) × (new ≡ old)
 Makes is_caller terms (Some NoMemory) None new = IsTerms terms × (new ≡ None)
 Makes is_caller terms (Some InUse) (Some old) new = IsTerms terms × (new ≡ Some old)
@@ -90,11 +98,13 @@ Disconnects r (Some (Refused error)) (Some old) new =
 Disconnects r (Some Closed) None new = new ≡ None
 Disconnects r answer old new = ⊥
 
--- ---- octets
+-- ---- octets: a trace of what was received takes those that were used, and one of what was sent those that were taken
 
 abbrev pub FeedsTo : List ℕ → ℕ → Bool → Option (Answer CallError) → Option Contents → Option Contents → Type 0
 FeedsTo piece used waits (Some Done) (Some old) (Some new) =
     Feeds old.stack piece (record { used = used; whole = waits }) new.stack × (new.last ≡ old.last) × (new.reference ≡ old.reference)
+    × Takes (take used piece) old.traces.received new.traces.received
+    × (new.traces ≡ record old.traces { received = new.traces.received })
 FeedsTo piece used waits (Some Closed) None new = (used ≡ 0) × (waits ≡ false) × (new ≡ None)
 FeedsTo piece used waits answer old new = ⊥
 
@@ -108,8 +118,10 @@ abbrev pub wants_write : Option Contents → Bool
 wants_write c = not (length (outgoing c) == 0)
 
 abbrev pub Carries : ℕ → Option (Answer CallError) → Option Contents → Option Contents → Type 0
-Carries octets (Some Done) (Some old) new =
-    (octets ≤ length old.stack.end.carrier.outgoing) × (new ≡ Some (with_end old (carried octets old.stack.end)))
+Carries octets (Some Done) (Some old) (Some new) =
+    (octets ≤ length old.stack.end.carrier.outgoing)
+    × Takes (take octets old.stack.end.carrier.outgoing) old.traces.sent new.traces.sent
+    × (new ≡ record (with_end old (carried octets old.stack.end)) { traces = record old.traces { sent = new.traces.sent } })
 Carries octets (Some BadArgument) (Some old) new = (octets ≤ length old.stack.end.carrier.outgoing → ⊥) × (new ≡ Some old)
 Carries octets (Some Closed) None new = new ≡ None
 Carries octets answer old new = ⊥
@@ -135,6 +147,7 @@ Fetches (Some NoEnd) None new = new ≡ None
 Fetches (Some answer) (Some old) (Some new) =
     (answer ≡ answers_first (first_shown old.stack.end.lines)) × (told (Some new) ≡ first_shown old.stack.end.lines)
     × (new.stack ≡ record old.stack { end = record old.stack.end { lines = without_first old.stack.end.lines } })
+    × (new.traces ≡ old.traces)
 Fetches answer old new = ⊥
 
 -- ---- the states of an end and its connections; an empty slot has none

@@ -2,6 +2,8 @@ pub mod Owned
 pub mod Lent
 pub mod Codes
 pub mod Arguments
+pub mod Traced
 pub mod Ends
+pub mod Tracing
 pub mod Addressed
 pub mod Told

@@ -8,6 +8,7 @@ use crate::arguments::{OsiOpening, OsiTerms, opening, terms};
 use crate::codes::{BAD_ARGUMENT, CLOSED, IN_USE, NO_MEMORY, OK, connect_refusal};
 use crate::handles::{Contents, Handle};
 use crate::slots::OsiEnd;
+use crate::traces::Traces;
 use osi_stack::{Connect, Stack};
 use std::alloc::Global;
 use std::mem::replace;
@@ -27,6 +28,7 @@ pub extern "C" fn osi_caller(alloc: Global, end: &mut OsiEnd, own: &OsiTerms) ->
         stack: Stack::caller(alloc, local),
         last: None,
         reference: 0,
+        traces: Traces::none(alloc),
     };
     let Ok(inner) = Handle::new(alloc, contents) else {
         return NO_MEMORY;
@@ -50,6 +52,7 @@ pub extern "C" fn osi_called(alloc: Global, end: &mut OsiEnd, own: &OsiTerms) ->
         stack: Stack::called(alloc, local),
         last: None,
         reference: 0,
+        traces: Traces::none(alloc),
     };
     let Ok(inner) = Handle::new(alloc, contents) else {
         return NO_MEMORY;

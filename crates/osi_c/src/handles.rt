@@ -3,9 +3,12 @@
 mod loose;
 
 ghost use Rattle.std.specs.Prelude.{Option};
+ghost use Rattle.std.specs.Coded.{coded_option};
+ghost use Rattle.osi_c.specs.contracts.handles.Contents.{the_row};
 ghost use Rattle.osi_c.specs.declared.handles.Contents.{Contents};
 
 use crate::slots::OsiEnd;
+use crate::traces::Traces;
 use loose::Loose;
 use osi_session::Indication;
 use osi_stack::Stack;
@@ -13,20 +16,21 @@ use std::alloc::{AllocError, Global};
 use std::marker::Model;
 use std::ptr::null_mut;
 
-/// The contents of a C slot: the end; and the indication that C fetched last, with the reference of its connection. The
-/// indication's user data is lent until the next call.
+/// The contents of a C slot: the end; the indication that C fetched last, with the reference of its connection; and the
+/// traces. The indication's user data is lent until the next call.
 #[derive(Drop)]
 pub struct Contents {
     pub stack: Stack,
     pub last: Option<Indication>,
     pub reference: u16,
+    pub traces: Traces,
 }
 
 /// A box as a raw pointer, or null. It is not `Drop`, so a box can't be dropped without being freed.
 #[repr(C)]
 pub struct Handle {
     at: *mut u8,
-    pub ghost value: { Option Contents },
+    pub ghost value: { Option Contents } by { coded_option the_row.coded },
 }
 
 impl Model for Handle {

@@ -19,3 +19,5 @@ mod slots;
 mod standings;
 mod streams;
 mod telling;
+mod traces;
+mod tracing;

@@ -8,7 +8,9 @@ ghost use Rattle.osi_c.specs.Lent.{KeepsSlot};
 
 use crate::codes::{BAD_ARGUMENT, CLOSED, OK, end_code};
 use crate::slots::OsiEnd;
+use crate::traces::pass;
 use osi_carrier::Ref;
+use std::alloc::Global;
 
 /// The result of feeding.
 #[repr(C)]
@@ -22,7 +24,7 @@ pub struct OsiFed {
 
 /// Feeds octets from the peer.
 #[unsafe(no_mangle)]
-pub extern "C" fn osi_feed(end: &mut OsiEnd, piece: &[u8], fed: &mut OsiFed) -> u32
+pub extern "C" fn osi_feed(alloc: Global, end: &mut OsiEnd, piece: &[u8], fed: &mut OsiFed) -> u32
     ensures { FeedsTo piece.now fed.new.used fed.new.waits (answer_of result) end.old.inner.value end.new.inner.value }
 {
     if !end.full {
@@ -32,9 +34,11 @@ pub extern "C" fn osi_feed(end: &mut OsiEnd, piece: &[u8], fed: &mut OsiFed) -> 
         };
         return CLOSED;
     }
-    let did = end.get_mut().stack.feed(piece);
+    let contents = end.get_mut();
+    let did = contents.stack.feed(piece);
     fed.used = did.used;
     fed.waits = did.whole;
+    pass(alloc, &mut contents.traces.received, &piece[..did.used]);
     OK
 }
 
@@ -60,16 +64,18 @@ pub extern "C" fn osi_outgoing<'a>(end: &'a mut OsiEnd, octets: &mut &'a [u8])
 
 /// Says that the first `octets` of the lent octets were sent.
 #[unsafe(no_mangle)]
-pub extern "C" fn osi_taken(end: &mut OsiEnd, octets: usize) -> u32
+pub extern "C" fn osi_taken(alloc: Global, end: &mut OsiEnd, octets: usize) -> u32
     ensures { Carries octets (answer_of result) end.old.inner.value end.new.inner.value }
 {
     if !end.full {
         return CLOSED;
     }
     let contents = end.get_mut();
-    if octets > contents.stack.outgoing().len() {
+    let outgoing = contents.stack.outgoing();
+    if octets > outgoing.len() {
         return BAD_ARGUMENT;
     }
+    pass(alloc, &mut contents.traces.sent, &outgoing[..octets]);
     contents.stack.taken(octets);
     OK
 }

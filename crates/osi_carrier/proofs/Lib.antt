@@ -24,4 +24,5 @@ pub mod Lasting
 pub mod Outcomes
 pub mod Growing
 pub mod Naming
+pub mod NothingTakesNoRoom
 mod Vocabulary

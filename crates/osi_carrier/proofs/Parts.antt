@@ -1,32 +1,47 @@
--- Writing a TSDU straight from its octets, part after part.
-use Rattle.std.proofs.Common.{◌≡◌, ℕ, ◌+◌, ◌<◌, ◌≤◌, List, [], ◌∷◌, ◌++◌, length, drop, None, refl, sym, ap, ◌∙◌, subst, append_assoc, arith, length-drop}
+-- Writing a TSDU straight from its octets, part after part, and keeping what may not go yet.
+use Rattle.std.proofs.Common.{◌≡◌, ℕ, ◌+◌, ◌<◌, ◌≤◌, List, [], ◌∷◌, ◌++◌, length, drop, Option, Some, None, refl, sym, ap, ◌∙◌, subst, append_assoc, arith}
+use Rattle.std.proofs.Math.Seq.{drop-append-add}
+use Rattle.std.proofs.lemmas.List.{drop-drop}
 use Rattle.osi_class.proofs.PartLaws.{goes_at_once, some_rest}
 use Rattle.osi_carrier.proofs.Vocabulary.{Drained, drained, all_given, octets_of, octets_in, GoesAtOnce, GivesPart, with_rest, Standing, Given, next, unit_of, with_tsdu, drained_none, drained_some, pumped, written_by, packets}
 use Rattle.osi_carrier.proofs.Pumping.{IsPumping, pumping_first, pumping_next, pumping_octets, pumping_link, pumping_room}
 
--- all that is left of a TSDU goes now
-pub record GoesWhole (link : Standing) (rest : List ℕ) : Type 0 where
+-- what is left of a TSDU goes now, but for what is kept
+pub record Goes (link : Standing) (rest kept : List ℕ) : Type 0 where
   pub quiet : next link ≡ None
-  pub some : 0 < length (all_given (with_tsdu link rest))
-  pub whole : octets_in (all_given (with_tsdu link rest)) ≡ length rest
+  pub alone : link.ends.unsent ≡ []
+  pub left : kept ≡ drop (octets_in (all_given (with_tsdu link rest))) rest
 
--- some parts of a TSDU were written, and there is room for the others
-pub record IsParting (peer : ℕ) (first : Standing) (before : List ℕ) (link : Standing) (rest octets : List ℕ) (spare : ℕ) : Type 0 where
-  pub goes : GoesWhole link rest
+-- some parts of a TSDU were written, and there is room for the others that go
+pub record IsParting (peer : ℕ) (first : Standing) (before : List ℕ) (link : Standing) (rest kept octets : List ℕ) (spare : ℕ) : Type 0 where
+  pub goes : Goes link rest kept
   pub pumping : IsPumping peer first before (with_tsdu link rest) octets
   pub room : length (packets (written_by peer (with_tsdu link rest))) ≤ spare
 
-pub parting_first : (peer : ℕ) (link : Standing) (tsdu before : List ℕ) (spare : ℕ) → GoesWhole link tsdu →
-    length (packets (written_by peer (with_tsdu link tsdu))) ≤ spare → IsParting peer (with_tsdu link tsdu) before link tsdu before spare
-parting_first peer link tsdu before spare goes room = record { goes = goes; pumping = pumping_first peer (with_tsdu link tsdu) before; room = room }
+pub parting_first : (peer : ℕ) (link : Standing) (tsdu kept before : List ℕ) (spare : ℕ) → Goes link tsdu kept →
+    length (packets (written_by peer (with_tsdu link tsdu))) ≤ spare → IsParting peer (with_tsdu link tsdu) before link tsdu kept before spare
+parting_first peer link tsdu kept before spare goes room = record { goes = goes; pumping = pumping_first peer (with_tsdu link tsdu) before; room = room }
 
--- its next part may be given
-pub part_goes : (link : Standing) (rest : List ℕ) → GoesWhole link rest → GoesAtOnce link
-part_goes link rest h =
-    goes_at_once link rest h.quiet (λ (none : next (with_tsdu link rest) ≡ None). (let given : length (all_given (with_tsdu link rest)) ≡ 0 =
+-- a part of it may be given where any goes
+pub part_goes : (link : Standing) (rest : List ℕ) → next link ≡ None → 0 < length (all_given (with_tsdu link rest)) → GoesAtOnce link
+part_goes link rest quiet some =
+    goes_at_once link rest quiet (λ (none : next (with_tsdu link rest) ≡ None). (let given : length (all_given (with_tsdu link rest)) ≡ 0 =
     ap (λ (d : Drained). length d.units) (drained_none (with_tsdu link rest) none) in
-    let some = h.some in
     omega arith))
+
+-- nothing goes where no part may
+nothing_by : (link : Standing) (rest : List ℕ) (o : Option (Given × Standing)) → next link ≡ None → (GoesAtOnce link → ⊥) →
+    next (with_tsdu link rest) ≡ o → next (with_tsdu link rest) ≡ None
+nothing_by link rest None quiet never e = e
+nothing_by link rest (Some p) quiet never e =
+    absurd (never (goes_at_once link rest quiet (λ (none : next (with_tsdu link rest) ≡ None). (let no : Some p ≡ None = sym e ∙ none in cc))))
+
+pub nothing_goes : (link : Standing) (rest : List ℕ) → next link ≡ None → (GoesAtOnce link → ⊥) → next (with_tsdu link rest) ≡ None
+nothing_goes link rest quiet never = nothing_by link rest (next (with_tsdu link rest)) quiet never refl
+
+-- what is left behind so many octets of two pieces is left of the second
+pub left_behind : (head body rest : List ℕ) (octets n : ℕ) → length head + n ≡ octets → rest ≡ drop n body → rest ≡ drop octets (head ++ body)
+left_behind head body rest octets n is e = e ∙ sym (drop-append-add head body n) ∙ ap (λ (m : ℕ). drop m (head ++ body)) is
 
 -- what the link gives then, from the part on
 pub parts_from : (link new : Standing) (rest : List ℕ) (unit : Given) → 0 < link.ends.limit → GivesPart unit rest link new →
@@ -45,29 +60,26 @@ pub empty_list : (l : List ℕ) → length l ≡ 0 → l ≡ []
 empty_list [] h = refl
 empty_list (x ∷ l) h = absurd (omega arith)
 
-some_octets : (units : List Given) → 0 < octets_in units → 0 < length units
-some_octets [] h = h
-some_octets (u ∷ units) h = omega arith
-
--- what is left goes now too
-pub rest_goes : (link new : Standing) (rest : List ℕ) (unit : Given) → GoesWhole link rest → 0 < link.ends.limit → GivesPart unit rest link new →
-    0 < length (drop (octets_of unit) rest) → GoesWhole new (drop (octets_of unit) rest)
-rest_goes link new rest unit goes room part some =
+-- what is left of it goes now too, but for the same that is kept
+pub rest_goes : (link new : Standing) (rest kept : List ℕ) (unit : Given) → Goes link rest kept → 0 < link.ends.limit → GivesPart unit rest link new →
+    new.ends.unsent ≡ [] → 0 < length (drop (octets_of unit) rest) → Goes new (drop (octets_of unit) rest) kept
+rest_goes link new rest kept unit goes room part alone some =
     let behind = drop (octets_of unit) rest in
     let all = ap (λ (d : Drained). octets_in d.units) (parts_from link new rest unit room part) in
-    let left = ap (λ (s : Standing). octets_in (all_given s)) (some_rest new behind some) in
-    let long = length-drop (octets_of unit) rest in
-    let octets = part.octets in
-    let is = goes.whole in
-    let whole : octets_in (all_given (with_tsdu new behind)) ≡ length behind = omega arith in
-    record { quiet = part.last; some = some_octets (all_given (with_tsdu new behind)) (omega arith); whole = whole }
+    let after = ap (λ (s : Standing). octets_in (all_given s)) (some_rest new behind some) in
+    record {
+      quiet = part.last;
+      alone = alone;
+      left = goes.left ∙ ap (λ (n : ℕ). drop n rest) all ∙ sym (drop-drop (octets_in (all_given (with_rest new behind))) (octets_of unit) rest)
+          ∙ ap (λ (n : ℕ). drop n behind) after;
+    }
 
 -- the part was written
-pub parting_next : (peer : ℕ) (first link new : Standing) (before rest octets after : List ℕ) (unit : Given) (spare left : ℕ) →
-    IsParting peer first before link rest octets spare → 0 < link.ends.limit → GivesPart unit rest link new →
+pub parting_next : (peer : ℕ) (first link new : Standing) (before rest kept octets after : List ℕ) (unit : Given) (spare left : ℕ) →
+    IsParting peer first before link rest kept octets spare → 0 < link.ends.limit → GivesPart unit rest link new → new.ends.unsent ≡ [] →
     after ≡ octets ++ packets (unit_of peer unit ∷ []) → spare ≤ left + length (packets (unit_of peer unit ∷ [])) →
-    0 < length (drop (octets_of unit) rest) → IsParting peer first before new (drop (octets_of unit) rest) after left
-parting_next peer first link new before rest octets after unit spare left h room part put took some =
+    0 < length (drop (octets_of unit) rest) → IsParting peer first before new (drop (octets_of unit) rest) kept after left
+parting_next peer first link new before rest kept octets after unit spare left h room part alone put took some =
     let behind = drop (octets_of unit) rest in
     let step = parts_from link new rest unit room part in
     let more = pumping_next peer first (with_tsdu link rest) (with_rest new behind) before octets after unit h.pumping step put in
@@ -75,7 +87,7 @@ parting_next peer first link new before rest octets after unit spare left h room
     let enough = h.room in
     let fits : length (packets (written_by peer (with_rest new behind))) ≤ left = omega arith in
     record {
-      goes = rest_goes link new rest unit h.goes room part some;
+      goes = rest_goes link new rest kept unit h.goes room part alone some;
       pumping = subst (λ (s : Standing). IsPumping peer first before s after) (some_rest new behind some) more;
       room = subst (λ (s : Standing). length (packets (written_by peer s)) ≤ left) (some_rest new behind some) fits;
     }
@@ -85,10 +97,10 @@ pub record IsWhole (peer : ℕ) (first : Standing) (before : List ℕ) (now : St
   pub link : now ≡ pumped first
   pub written : octets ≡ before ++ packets (written_by peer first)
 
-pub parting_last : (peer : ℕ) (first link new : Standing) (before rest octets after : List ℕ) (unit : Given) (spare : ℕ) →
-    IsParting peer first before link rest octets spare → 0 < link.ends.limit → GivesPart unit rest link new →
+pub parting_last : (peer : ℕ) (first link new : Standing) (before rest kept octets after : List ℕ) (unit : Given) (spare : ℕ) →
+    IsParting peer first before link rest kept octets spare → 0 < link.ends.limit → GivesPart unit rest link new →
     after ≡ octets ++ packets (unit_of peer unit ∷ []) → drop (octets_of unit) rest ≡ [] → IsWhole peer first before new after
-parting_last peer first link new before rest octets after unit spare h room part put none =
+parting_last peer first link new before rest kept octets after unit spare h room part put none =
     let behind = drop (octets_of unit) rest in
     let step = parts_from link new rest unit room part in
     let more = pumping_next peer first (with_tsdu link rest) (with_rest new behind) before octets after unit h.pumping step put in
@@ -96,20 +108,39 @@ parting_last peer first link new before rest octets after unit spare h room part
     let end = drained_none new part.last in
     record { link = pumping_link peer first new before after all end; written = pumping_octets peer first new before after all end }
 
+-- no part goes any more, and what is left is kept
+pub record IsKept (peer : ℕ) (first : Standing) (before : List ℕ) (now : Standing) (octets : List ℕ) : Type 0 where
+  pub whole : IsWhole peer first before now octets
+  pub quiet : next now ≡ None
+
+pub parting_kept : (peer : ℕ) (first link now : Standing) (before rest kept octets : List ℕ) (spare : ℕ) →
+    IsParting peer first before link rest kept octets spare → (GoesAtOnce link → ⊥) → now ≡ with_tsdu link kept → IsKept peer first before now octets
+parting_kept peer first link now before rest kept octets spare h never is =
+    let then = with_tsdu link rest in
+    let none = nothing_goes link rest h.goes.quiet never in
+    let end = drained_none then none in
+    let all : kept ≡ rest = h.goes.left ∙ ap (λ (d : Drained). drop (octets_in d.units) rest) end in
+    let same : now ≡ then = is ∙ ap (with_tsdu link) all in
+    record {
+      whole = record { link = same ∙ pumping_link peer first then before octets h.pumping end; written = pumping_octets peer first then before octets h.pumping end };
+      quiet = ap next same ∙ none;
+    }
+
 -- the first part was written, which ends in front of these octets
-pub parting_then : (peer : ℕ) (link new : Standing) (tsdu rest before after : List ℕ) (unit : Given) (spare left : ℕ) → GoesWhole link tsdu →
-    length (packets (written_by peer (with_tsdu link tsdu))) ≤ spare → 0 < link.ends.limit → GivesPart unit tsdu link new → drop (octets_of unit) tsdu ≡ rest →
-    after ≡ before ++ packets (unit_of peer unit ∷ []) → spare ≤ left + length (packets (unit_of peer unit ∷ [])) → 0 < length rest →
-    IsParting peer (with_tsdu link tsdu) before new rest after left
-parting_then peer link new tsdu rest before after unit spare left goes room limit part behind put took some =
-    subst (λ (r : List ℕ). IsParting peer (with_tsdu link tsdu) before new r after left) behind
-    (parting_next peer (with_tsdu link tsdu) link new before tsdu before after unit spare left (parting_first peer link tsdu before spare goes room) limit part put took
-    (subst (λ (r : List ℕ). 0 < length r) (sym behind) some))
+pub parting_then : (peer : ℕ) (link new : Standing) (tsdu rest kept before after : List ℕ) (unit : Given) (spare left : ℕ) → Goes link tsdu kept →
+    length (packets (written_by peer (with_tsdu link tsdu))) ≤ spare → 0 < link.ends.limit → GivesPart unit tsdu link new → new.ends.unsent ≡ [] →
+    drop (octets_of unit) tsdu ≡ rest → after ≡ before ++ packets (unit_of peer unit ∷ []) → spare ≤ left + length (packets (unit_of peer unit ∷ [])) →
+    0 < length rest → IsParting peer (with_tsdu link tsdu) before new rest kept after left
+parting_then peer link new tsdu rest kept before after unit spare left goes room limit part alone behind put took some =
+    subst (λ (r : List ℕ). IsParting peer (with_tsdu link tsdu) before new r kept after left) behind
+    (parting_next peer (with_tsdu link tsdu) link new before tsdu kept before after unit spare left (parting_first peer link tsdu kept before spare goes room) limit
+    part alone put took (subst (λ (r : List ℕ). 0 < length r) (sym behind) some))
 
 -- and then all others
-pub parting_all : (peer : ℕ) (first link last : Standing) (before rest octets after : List ℕ) (spare : ℕ) → IsParting peer first before link rest octets spare →
+pub parting_all : (peer : ℕ) (first link last : Standing) (before rest kept octets after : List ℕ) (spare : ℕ) →
+    IsParting peer first before link rest kept octets spare →
     last ≡ pumped (with_tsdu link rest) → after ≡ octets ++ packets (written_by peer (with_tsdu link rest)) → IsWhole peer first before last after
-parting_all peer first link last before rest octets after spare h e put =
+parting_all peer first link last before rest kept octets after spare h e put =
     let others = packets (written_by peer (with_tsdu link rest)) in
     record {
       link = e ∙ h.pumping.link;

@@ -34,7 +34,7 @@ pub use Rattle.osi_tpkt.specs.Stream.Ending.{Faulty}
 pub use Rattle.osi_tpkt.specs.declared.cutting.Fed.{Fed}
 pub use Rattle.osi_tpkt.specs.declared.faults.TpktFault.{TpktFault}
 pub use Rattle.osi_tpkt.specs.declared.faults.TpktFault.TheVariants.{BadLength, BadVersion, OutOfMemory}
-pub use Rattle.osi_carrier.specs.Calls.{Tells, WaitsAlone, WaitsOn, asks, begun_by, class_error, close_error, closed_on, closed_with, closes, ended_by, fresh_state, kept_in, lengths_error, link_of, may_connect, open_link, or_else, pumps_all, room_error, send_all_error, send_error, sent, sent_all, sent_on, tsaps_at}
+pub use Rattle.osi_carrier.specs.Calls.{Tells, WaitsAlone, WaitsOn, WaitTogether, AllWaitOn, asks, begun_by, class_error, close_error, closed_on, closed_with, closes, ended_by, fresh_state, kept_in, lengths_error, link_of, may_connect, open_link, or_else, pumps_all, room_error, send_all_error, send_error, sent, sent_all, sent_on, tsaps_at}
 pub use Rattle.osi_carrier.specs.Fetching.{EndsOver, Faults, Fetches, IsNoFront, LacksRoom, PacketActs, PartHeld}
 unfoldable pub use Rattle.osi_carrier.specs.Growth.{grows}
 pub use Rattle.osi_carrier.specs.Happenings.{Happening, closed, faulted, happening, opened, refused, tsdu}

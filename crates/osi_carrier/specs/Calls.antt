@@ -1,9 +1,10 @@
 -- The results and effects of the calls of a carrier's user.
-use Rattle.std.specs.Prelude.{◌≡◌, ℕ, ◌+◌, Bool, List, [], ◌∷◌, length, nat_le, nat_lt, Option, Some, None, is_some, not, if◌then◌else◌}
+use Rattle.std.specs.Prelude.{◌≡◌, ℕ, ◌+◌, ◌<◌, ◌^◌, Bool, List, [], ◌∷◌, length, nat_le, nat_lt, Option, Some, None, is_some, not, if◌then◌else◌}
 use Rattle.std.specs.List.{list_any, sum_by}
 use Rattle.osi_tpdu.specs.Value.{request, disconnect}
 use Rattle.osi_class.specs.Giving.{one_by_one}
-use Rattle.osi_class.specs.Link.{Standing, next, with_tsdu, unsent_octets}
+use Rattle.osi_class.specs.Link.{Standing, next, with_tsdu, with_tsdus, unsent_octets}
+use Rattle.osi_class.specs.Tsdus.{octets_of_tsdus}
 use Rattle.osi_class.specs.declared.terms.Class.{Class}
 use Rattle.osi_class.specs.declared.terms.Class.TheVariants.{Zero, Two}
 use Rattle.osi_class.specs.declared.terms.Local.{Local}
@@ -129,6 +130,17 @@ pub record WaitsAlone (link : Standing) (tsdu : List ℕ) : Type 0 where
 abbrev pub WaitsOn : Option (ℕ × Standing) → List ℕ → Type 0
 WaitsOn None tsdu = ⊥
 WaitsOn (Some (peer, link)) tsdu = WaitsAlone link tsdu
+
+-- TSDUs that are handed in together only wait at their link: none of them may be sent now. Their octets can be counted.
+pub record WaitTogether (link : Standing) (tsdus : List (List ℕ)) : Type 0 where
+  pub alone : link.ends.unsent ≡ []
+  pub none : next (with_tsdus link tsdus) ≡ None
+  pub counted : octets_of_tsdus tsdus < 2 ^ 64
+
+-- at the link of an open connection
+abbrev pub AllWaitOn : Option (ℕ × Standing) → List (List ℕ) → Type 0
+AllWaitOn None tsdus = ⊥
+AllWaitOn (Some (peer, link)) tsdus = WaitTogether link tsdus
 
 -- in class 2 a DR asks the peer to close the connection; in class 0 the carrier ends
 abbrev pub closes : ℕ → ℕ → ℕ → Option Class → State → State

@@ -41,7 +41,7 @@ impl Carrier {
     ghost use Rattle.std.specs.Prelude.{◌≡◌, ◌≢◌, ◌+◌, ◌-◌, ◌*◌, ◌^◌, ◌≤◌, ◌++◌, true, false, None, Some, Err, [], length, map, min, drop, IfOk, IfErr, OnOk, OnErr, MatchResult, option_map, is_some};
     ghost use Rattle.osi_tpkt.specs.Held.{fresh};
     ghost use Rattle.osi_tpdu.specs.Limits.{tsap_octets};
-    ghost use Rattle.osi_carrier.specs.Calls.{fresh_state, may_connect, open_error, asks, open_link, close_error, send_error, send_all_error, call_error, closed_with, sent, sent_all, ended_by, kept_in, unsent_at, backlog_of, tsaps_at, Tells, WaitsOn};
+    ghost use Rattle.osi_carrier.specs.Calls.{fresh_state, may_connect, open_error, asks, open_link, close_error, send_error, send_all_error, call_error, closed_with, sent, sent_all, ended_by, kept_in, unsent_at, backlog_of, tsaps_at, Tells, WaitsOn, AllWaitOn};
     ghost use Rattle.osi_carrier.specs.Rows.{value_at};
     ghost use Rattle.osi_carrier.specs.Happenings.{happening};
     ghost use Rattle.osi_carrier.specs.Packets.{Feeds, waits};
@@ -93,14 +93,14 @@ impl Carrier {
     }
 
     /// Sends a TSDU of at most 1,048,576 octets on an open connection: all units that may be sent now
-    /// are written, and what may not is kept. Each error changes nothing.
+    /// are written, straight from its octets, and what may not is kept. Each error changes nothing.
     pub fn send(&mut self, reference: Ref, tsdu: &[u8]) -> Result<(), SendError>
         ensures ok { OnOk result (self.new ≡ record self.old { state = sent reference.0 tsdu.now self.old.state }) }
         ensures allowed { OnOk result (send_error tsdu.now (open_link reference.0 self.old.state) ≡ None) }
         ensures refused { IfErr result (λ e. call_error e ≡ send_error tsdu.now (open_link reference.0 self.old.state)) }
         ensures err { OnErr result (self.new ≡ self.old) }
     {
-        self.switch.send(reference.0, CowSlice::Borrowed(tsdu))
+        self.switch.send_headed(reference.0, &[], tsdu)
     }
 
     /// Sends a TSDU as [`Carrier::send`] does, with the room that its octets are in: those that may not
@@ -144,13 +144,15 @@ impl Carrier {
     }
 
     /// Sends TSDUs together as [`Carrier::send_all`] does, with the room that their octets are in: none of
-    /// them is copied before it is written.
+    /// them is copied before it is written. Where none may be sent now, nothing else waits at the connection and their
+    /// octets are fewer than 2^64, no memory is needed.
     pub fn send_all_owned(&mut self, reference: Ref, tsdus: Vec<Vec<u8>>) -> Result<(), SendError>
         ensures ok { OnOk result (self.new ≡ record self.old { state = sent_all reference.0 (map (λ v. v.items) tsdus.items) self.old.state }) }
         ensures allowed { OnOk result (send_all_error (map (λ v. v.items) tsdus.items) (open_link reference.0 self.old.state) ≡ None) }
         ensures refused { IfErr result (λ e. call_error e ≡ send_all_error (map (λ v. v.items) tsdus.items) (open_link reference.0 self.old.state)) }
         ensures err { OnErr result (self.new ≡ self.old) }
         ensures nothing { tsdus.items ≡ [] → result ≢ Err SendError.OutOfMemory }
+        ensures kept { AllWaitOn (open_link reference.0 self.old.state) (map (λ v. v.items) tsdus.items) → result ≢ Err SendError.OutOfMemory }
     {
         self.switch.send_all(reference.0, CowSlice::Owned(tsdus))
     }

@@ -1,11 +1,12 @@
 //! The links of open connections: units that come for them, and units that they give.
 
-ghost use Rattle.std.specs.Prelude.{◌≡◌, ◌<◌, ◌≤◌, ◌+◌, ◌++◌, [], None, true, false, nat_lt, length, map, IfOk, IsOk, OnOk, OnErr};
+ghost use Rattle.std.specs.Prelude.{◌≡◌, ◌<◌, ◌≤◌, ◌+◌, ◌^◌, ◌++◌, [], None, true, false, nat_lt, length, drop, map, IfOk, IsOk, OnOk, OnErr};
 ghost use Rattle.std.specs.Cow.{cow_slice_items, IsOwnedSlice};
 ghost use Rattle.osi_class.specs.AnyLink.{any_standing};
 ghost use Rattle.osi_class.specs.Giving.{all_given, octets_in, one_by_one};
 ghost use Rattle.osi_class.specs.Link.{next, with_tsdu, with_tsdus};
-ghost use Rattle.osi_carrier.specs.Calls.{WaitsAlone};
+ghost use Rattle.osi_class.specs.Tsdus.{octets_of_tsdus};
+ghost use Rattle.osi_carrier.specs.Calls.{WaitsAlone, WaitTogether};
 ghost use Rattle.osi_carrier.specs.Pump.{pumped, written_by, written_for};
 ghost use Rattle.osi_carrier.specs.State.{packets};
 
@@ -114,6 +115,7 @@ fn keep(link: &mut AnyLink, tsdu: CowSlice<'_, u8, Global>) -> Result<(), AllocE
 /// be sent now, or it takes several units. It is kept only in the first case, and copied only where it was
 /// borrowed. Want of memory changes nothing: the room for the units is made first.
 pub fn send_parts(
+    alloc: Global,
     link: &mut AnyLink,
     peer: u16,
     tsdu: CowSlice<'_, u8, Global>,
@@ -131,7 +133,7 @@ pub fn send_parts(
     let room = link.room_for(octets.len());
     out.reserve(room.octets + MOST_HEADERS * room.units)?;
     if room.octets == octets.len() && room.units > 0 {
-        write_parts(link, peer, octets, out);
+        write_parts(link, peer, octets, Vec::new(alloc), out);
         return Ok(());
     }
     keep(link, tsdu)?;
@@ -146,6 +148,7 @@ pub fn send_parts(
 fn keep_all(link: &mut AnyLink, tsdus: CowSlice<'_, Vec<u8>, Global>) -> Result<(), AllocError>
     ensures ok { OnOk result (any_standing link.new ≡ with_tsdus (any_standing link.old) (map (λ v. v.items) (cow_slice_items tsdus.entry))) }
     ensures err { OnErr result (link.new ≡ link.old) }
+    ensures alone { IsOwnedSlice tsdus.entry → (any_standing link.old).ends.unsent ≡ [] → octets_of_tsdus (map (λ v. v.items) (cow_slice_items tsdus.entry)) < 2 ^ 64 → IsOk result }
 {
     match tsdus {
         CowSlice::Borrowed(tsdus) => link.send_tsdus(tsdus),
@@ -154,7 +157,8 @@ fn keep_all(link: &mut AnyLink, tsdus: CowSlice<'_, Vec<u8>, Global>) -> Result<
 }
 
 /// Hands in TSDUs together at a link that gives nothing now, and writes all units that it gives then. Want of
-/// memory changes nothing: the room for the units is made first.
+/// memory changes nothing: the room for the units is made first. Owned ones that only wait need none.
+#[tactic(auto, using(crate::proofs::NothingTakesNoRoom::nothing_takes_no_room))]
 pub fn send_all_on(
     link: &mut AnyLink,
     peer: u16,
@@ -166,6 +170,7 @@ pub fn send_all_on(
     ensures ok { OnOk result (out.new.items ≡ out.old.items ++ packets (written_for peer (any_standing link.old) (map (λ v. v.items) (cow_slice_items tsdus.entry)))) }
     ensures pumped { OnOk result (next (any_standing link.new) ≡ None) }
     ensures err { OnErr result ((any_standing link.new ≡ any_standing link.old) × (out.new.items ≡ out.old.items)) }
+    ensures kept { IsOwnedSlice tsdus.entry → WaitTogether (any_standing link.old) (map (λ v. v.items) (cow_slice_items tsdus.entry)) → IsOk result }
 {
     many_go_as_one_by_one();
     what_units_take();
@@ -181,12 +186,13 @@ pub fn send_all_on(
     Ok(())
 }
 
-/// Writes a TSDU of which all units go now, part after part, straight from its octets. There is room for
-/// them in `out`.
-fn write_parts(link: &mut AnyLink, peer: u16, tsdu: &[u8], out: &mut BytesMut)
+/// Writes the units of a TSDU that go now, part after part, straight from its octets. There is room for them in
+/// `out`, and at least one goes where the TSDU has octets that are not `kept`: those that may not go yet, which the link
+/// then keeps.
+fn write_parts(link: &mut AnyLink, peer: u16, tsdu: &[u8], kept: Vec<u8>, out: &mut BytesMut)
     requires quiet { next (any_standing link.old) ≡ None }
-    requires some { 0 < length (all_given (with_tsdu (any_standing link.old) tsdu.now)) }
-    requires whole { octets_in (all_given (with_tsdu (any_standing link.old) tsdu.now)) ≡ length tsdu.now }
+    requires alone { (any_standing link.old).ends.unsent ≡ [] }
+    requires kept { kept.items ≡ drop (octets_in (all_given (with_tsdu (any_standing link.old) tsdu.now))) tsdu.now }
     requires room { length (packets (written_by peer (with_tsdu (any_standing link.old) tsdu.now))) ≤ out.old.spare }
     ensures link { any_standing link.new ≡ pumped (with_tsdu (any_standing link.old) tsdu.now) }
     ensures written { out.new.items ≡ out.old.items ++ packets (written_by peer (with_tsdu (any_standing link.old) tsdu.now)) }
@@ -196,7 +202,10 @@ fn write_parts(link: &mut AnyLink, peer: u16, tsdu: &[u8], out: &mut BytesMut)
     'parts: loop {
         let carried = link.limit().min(rest.len());
         let Some(slot) = link.give_slot() else {
-            unreachable!()
+            let Ok(()) = link.send_owned(kept) else {
+                unreachable!()
+            };
+            return;
         };
         let (part, behind) = rest.split_at(carried);
         let end = behind.is_empty();
@@ -210,13 +219,19 @@ fn write_parts(link: &mut AnyLink, peer: u16, tsdu: &[u8], out: &mut BytesMut)
     }
 }
 
-/// Writes a TSDU of which all units go now, and of which the first octets are given apart, part after part,
-/// straight from its octets. There is room for them in `out`.
-fn write_headed(link: &mut AnyLink, peer: u16, head: &[u8], body: &[u8], out: &mut BytesMut)
+/// The same of a TSDU of which the first octets are given apart, and of which a part goes now.
+fn write_headed(
+    link: &mut AnyLink,
+    peer: u16,
+    head: &[u8],
+    body: &[u8],
+    kept: Vec<u8>,
+    out: &mut BytesMut,
+)
     requires short { length head.now ≤ 123 }
     requires quiet { next (any_standing link.old) ≡ None }
     requires some { 0 < length (all_given (with_tsdu (any_standing link.old) (head.now ++ body.now))) }
-    requires whole { octets_in (all_given (with_tsdu (any_standing link.old) (head.now ++ body.now))) ≡ length (head.now ++ body.now) }
+    requires kept { kept.items ≡ drop (octets_in (all_given (with_tsdu (any_standing link.old) (head.now ++ body.now)))) (head.now ++ body.now) }
     requires room { length (packets (written_by peer (with_tsdu (any_standing link.old) (head.now ++ body.now)))) ≤ out.old.spare }
     ensures link { any_standing link.new ≡ pumped (with_tsdu (any_standing link.old) (head.now ++ body.now)) }
     ensures written { out.new.items ≡ out.old.items ++ packets (written_by peer (with_tsdu (any_standing link.old) (head.now ++ body.now))) }
@@ -234,7 +249,28 @@ fn write_headed(link: &mut AnyLink, peer: u16, head: &[u8], body: &[u8], out: &m
     if end {
         return;
     }
-    write_parts(link, peer, rest, out);
+    write_parts(link, peer, rest, kept, out);
+}
+
+/// What is left of a TSDU, which is given as its first octets and the others, behind so many octets: a copy. No memory
+/// is needed where nothing is left.
+#[tactic(auto, using(crate::proofs::Parts::left_behind))]
+fn rest_behind(
+    alloc: Global,
+    head: &[u8],
+    body: &[u8],
+    octets: usize,
+) -> Result<Vec<u8>, AllocError>
+    requires headed { length head.now ≤ octets }
+    requires within { octets ≤ length head.now + length body.now }
+    ensures ok { IfOk result (λ v. v.items ≡ drop octets (head.now ++ body.now)) }
+    ensures nothing { octets ≡ length head.now + length body.now → IsOk result }
+{
+    let (_, rest) = body.split_at(octets - head.len());
+    if rest.is_empty() {
+        return Ok(Vec::new(alloc));
+    }
+    Vec::from_slice(alloc, rest)
 }
 
 /// Both pieces in one room.
@@ -249,8 +285,9 @@ fn joined(alloc: Global, head: &[u8], body: &[u8]) -> Result<Vec<u8>, AllocError
 }
 
 /// Hands in a TSDU, which is given as its first octets and the others, at a link that gives nothing now, and
-/// writes all units that it gives then, where not all may be sent now, or it takes several units. Only in the first case
-/// it is kept, by a copy of its own. Want of memory changes nothing: the room for the units is made first.
+/// writes all units that it gives then, where not all may be sent now, or it takes several units. What goes now is
+/// written straight from these octets. Only what may not go yet is kept, by a copy of its own. Want of memory changes
+/// nothing: the room for the units and for what is kept is made first.
 #[inline(never)]
 pub fn send_headed_parts(
     alloc: Global,
@@ -270,10 +307,14 @@ pub fn send_headed_parts(
     let octets = head.len() + body.len();
     let room = link.room_for(octets);
     out.reserve(room.octets + MOST_HEADERS * room.units)?;
-    if room.octets == octets && room.units > 0 && head.len() <= LEAST_LIMIT {
-        write_headed(link, peer, head, body, out);
+    if room.units > 0 && head.len() <= LEAST_LIMIT {
+        let kept = rest_behind(alloc, head, body, room.octets)?;
+        write_headed(link, peer, head, body, kept, out);
         return Ok(());
     }
+    if head.is_empty() {
+        return send_parts(alloc, link, peer, CowSlice::Borrowed(body), out);
+    }
     let tsdu = joined(alloc, head, body)?;
-    send_parts(link, peer, CowSlice::Owned(tsdu), out)
+    send_parts(alloc, link, peer, CowSlice::Owned(tsdu), out)
 }

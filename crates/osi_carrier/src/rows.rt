@@ -2,7 +2,7 @@
 
 ghost use Rattle.std.specs.Prelude.{◌≡◌, ◌+◌, ◌*◌, ◌^◌, ◌-◌, ◌<◌, ◌≤◌, ◌∷◌, ◌++◌, ◌==◌, [], None, Some, true, length, map, min, is_some, IsOk, IfOk, IfSome, OnOk, OnErr};
 ghost use Rattle.std.specs.Cow.{cow_slice_items, IsOwnedSlice};
-ghost use Rattle.osi_carrier.specs.Calls.{backlog_of, begun_by, kept_in, link_of, unsent_at, unsent_by, WaitsAlone};
+ghost use Rattle.osi_carrier.specs.Calls.{backlog_of, begun_by, kept_in, link_of, unsent_at, unsent_by, WaitsAlone, WaitTogether};
 ghost use Rattle.osi_carrier.specs.Live.{connection, IsPumped};
 ghost use Rattle.osi_carrier.specs.Opened.{link_in, peer_in};
 ghost use Rattle.osi_carrier.specs.Orderly.{RiseFrom};
@@ -166,7 +166,8 @@ impl Row {
     }
 
     /// Hands in TSDUs together at the link of the connection, which is open with this reference of the
-    /// peer, and writes what the link gives then. Want of memory changes nothing.
+    /// peer, and writes what the link gives then. Want of memory changes nothing, and owned TSDUs that wait
+    /// alone need none.
     fn send_all(
         &mut self,
         peer: u16,
@@ -178,6 +179,7 @@ impl Row {
         ensures row { OnOk result (self.new ≡ (self.old.0, linked peer (one_by_one (link_in (Some self.old.1)) (map (λ v. v.items) (cow_slice_items tsdus.entry))))) }
         ensures ok { OnOk result (out.new.items ≡ out.old.items ++ packets (written_for peer (link_in (Some self.old.1)) (map (λ v. v.items) (cow_slice_items tsdus.entry)))) }
         ensures err { OnErr result ((self.new ≡ self.old) × (out.new.items ≡ out.old.items)) }
+        ensures kept { IsOwnedSlice tsdus.entry → WaitTogether (link_in (Some self.old.1)) (map (λ v. v.items) (cow_slice_items tsdus.entry)) → IsOk result }
     {
         match &mut self.phase {
             Phase::Asked | Phase::Closing(_) => unreachable!(),
@@ -402,6 +404,7 @@ impl Connections {
     /// of memory changes nothing, and an owned TSDU that waits alone needs none.
     pub fn send(
         &mut self,
+        alloc: Global,
         place: usize,
         reference: u16,
         peer: u16,
@@ -421,7 +424,7 @@ impl Connections {
         if send_whole(link, peer, &[], tsdu.as_slice(), out) {
             return Ok(());
         }
-        send_parts(link, peer, tsdu, out)
+        send_parts(alloc, link, peer, tsdu, out)
     }
 
     /// Hands in a TSDU, which is given as its first octets and the others, at the link of the connection at
@@ -463,6 +466,7 @@ impl Connections {
         ensures rows { OnOk result (self.new ≡ put reference (linked peer (one_by_one (link_in (value_at reference self.old)) (map (λ v. v.items) (cow_slice_items tsdus.entry)))) self.old) }
         ensures ok { OnOk result (out.new.items ≡ out.old.items ++ packets (written_for peer (link_in (value_at reference self.old)) (map (λ v. v.items) (cow_slice_items tsdus.entry)))) }
         ensures err { OnErr result ((self.new ≡ self.old) × (out.new.items ≡ out.old.items)) }
+        ensures kept { IsOwnedSlice tsdus.entry → WaitTogether (link_in (value_at reference self.old)) (map (λ v. v.items) (cow_slice_items tsdus.entry)) → IsOk result }
     {
         self.rows[place].send_all(peer, tsdus, out)
     }

@@ -47,6 +47,7 @@ pub fn put_disconnect(
 ) -> Result<(), AllocError>
     ensures ok { OnOk result (out.new.items ≡ out.old.items ++ packets (disconnect destination source reason [] ∷ [])) }
     ensures err { OnErr result (out.new.items ≡ out.old.items) }
+    ensures full { OnErr result (out.old.spare < length (packets (disconnect destination source reason [] ∷ []))) }
 {
     let unit = Tpdu::Dr(DisconnectRequest {
         destination,

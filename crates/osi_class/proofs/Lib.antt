@@ -15,6 +15,7 @@ pub mod PartLaws
 pub mod RoomLaws
 pub mod SendLaws
 pub mod Short
+pub mod SomeHaveNoMoreThanAll
 pub mod SoundLaws
 pub mod TakeLaws
 pub mod Together

@@ -66,6 +66,10 @@ more_credit (suc c) limit some =
     let one : suc c * limit ≡ limit + c * limit = omega arith in
     one ∙ ap (λ (n : ℕ). limit + n * limit) (sym same)
 
+-- with any credit as much goes as every unit carries
+pub one_unit_carries : (credit limit octets parts : ℕ) → 123 ≤ limit → 0 < min parts credit → min 123 octets ≤ min octets (credit * limit)
+one_unit_carries credit limit octets parts least some = let more = more_credit credit limit (omega arith) in omega (arith, more)
+
 no_tsdus : (limit : ℕ) (j : Joining) (a u c w x : ℕ) →
     next (two_standing (record { limit = limit; unsent = []; joining = j }) (two_flow a u c w x)) ≡ None
 no_tsdus limit j a u c w x =

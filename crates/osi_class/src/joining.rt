@@ -1,6 +1,7 @@
 //! Joining TSDUs from parts.
 
-ghost use Rattle.std.specs.Prelude.{◌≡◌, ◌≤◌, ◌+◌, [], true, length, map};
+ghost use Rattle.std.specs.Prelude.{◌≡◌, ◌<◌, ◌≤◌, ◌+◌, [], true, length, map, max, OnOk, OnErr};
+ghost use Rattle.std.specs.Vec.{vec_capacity};
 ghost use Rattle.osi_class.specs.Joining.{joined, joining};
 ghost use Rattle.osi_class.specs.Limits.{longest_tsdu};
 ghost use Rattle.osi_class.specs.Link.{part_needs_memory};
@@ -9,7 +10,7 @@ ghost use Rattle.osi_class.specs.Taking.{TakesUnit};
 use crate::faults::LinkFault;
 use crate::limits::LONGEST_TSDU;
 use crate::queue::Queue;
-use std::alloc::Global;
+use std::alloc::{AllocError, Global};
 use std::marker::Model;
 use std::mem;
 
@@ -29,6 +30,16 @@ impl Model for Begun {
     ghost view = { λ b. b.octets.items };
 
     ghost invariant = { λ b. length b.octets.items ≤ longest_tsdu };
+}
+
+/// Makes just the room that is missing for so many octets more. If memory runs out, nothing has changed; none is needed
+/// if there is room enough.
+fn make_room(octets: &mut Vec<u8>, more: usize) -> Result<(), AllocError>
+    ensures items { octets.new.items ≡ octets.old.items }
+    ensures exact { OnOk result (vec_capacity octets.new ≡ max (vec_capacity octets.old) (length octets.old.items + more)) }
+    ensures full { OnErr result (vec_capacity octets.old < length octets.old.items + more) }
+{
+    octets.reserve_exact(more)
 }
 
 impl Begun {
@@ -104,7 +115,7 @@ impl Begun {
         if whole.reserve().is_err() {
             return Err(LinkFault::OutOfMemory);
         }
-        if self.octets.reserve_exact(octets.len()).is_err() {
+        if make_room(&mut self.octets, octets.len()).is_err() {
             return Err(LinkFault::OutOfMemory);
         }
         if self.octets.extend_from_slice(octets).is_err() {

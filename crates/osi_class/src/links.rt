@@ -12,7 +12,7 @@ use std::alloc::AllocError;
 /// their order. What a link holds and each call does is stated on its `standing`, which both
 /// classes have; the laws over lists of calls are in [`crate::laws`].
 pub trait Link {
-    ghost use Rattle.std.specs.Prelude.{ℕ, List, ◌≡◌, ◌≤◌, ◌+◌, ◌*◌, ◌^◌, [], None, length, map, IfSome, IfNone, IsOk, IsSome, OnOk, OnErr, option_map};
+    ghost use Rattle.std.specs.Prelude.{ℕ, List, ◌≡◌, ◌<◌, ◌≤◌, ◌+◌, ◌*◌, ◌^◌, [], None, length, map, min, IfSome, IfNone, IsOk, IsSome, OnOk, OnErr, option_map};
     ghost use Rattle.std.specs.Borrow.{sem};
     ghost use Rattle.std.specs.Io.BufRead.{Rests};
     ghost use Rattle.osi_tpdu.specs.View.{value};
@@ -21,6 +21,7 @@ pub trait Link {
     ghost use Rattle.osi_class.specs.Link.{Standing, with_tsdu, with_tsdus, unsent_octets, given, taken, needs_memory, next, Gives, Hands, FitsAUnit};
     ghost use Rattle.osi_class.specs.Sound.{IsSound};
     ghost use Rattle.osi_class.specs.Taking.{TakesUnit};
+    ghost use Rattle.osi_class.specs.Tsdus.{octets_of_tsdus};
 
     ghost standing: { Self → Standing };
 
@@ -50,11 +51,13 @@ pub trait Link {
         ensures limit { (standing self.new).ends.limit ≡ (standing self.old).ends.limit };
 
     /// Hands in TSDUs together as [`Link::send_tsdus`] does, with the room that their octets are in: none is
-    /// copied. Where no memory is found, nothing has changed; where there are no TSDUs, none is needed.
+    /// copied. Where no memory is found, nothing has changed. None is needed where there are no TSDUs, and where
+    /// nothing is to be sent before them and their octets are fewer than 2^64.
     fn send_owned_tsdus(&mut self, tsdus: Vec<Vec<u8>>) -> Result<(), AllocError>
         ensures ok { OnOk result (standing self.new ≡ with_tsdus (standing self.old) (map (λ v. v.items) tsdus.items)) }
         ensures err { OnErr result (self.new ≡ self.old) }
         ensures nothing { tsdus.items ≡ [] → IsOk result }
+        ensures alone { (standing self.old).ends.unsent ≡ [] → octets_of_tsdus (map (λ v. v.items) tsdus.items) < 2 ^ 64 → IsOk result }
         ensures limit { (standing self.new).ends.limit ≡ (standing self.old).ends.limit };
 
     /// Lets the first part of a TSDU go at once, since nothing else is to be given: as many octets as a unit
@@ -69,6 +72,7 @@ pub trait Link {
         ensures at_once { GoesAtOnce (standing self.old) → IsSome result }
         ensures number { IfSome result IsNumbered }
         ensures none { IfNone result (self.new ≡ self.old) }
+        ensures alone { IfSome result (λ _. (standing self.new).ends.unsent ≡ []) }
         ensures at_least { 123 ≤ (standing self.old).ends.limit };
 
     /// Takes a unit that came for this connection. It is refused with the first fault that applies,
@@ -117,7 +121,8 @@ pub trait Link {
         ensures units { (tsdu : List ℕ) → length tsdu ≡ octets → next (standing self.now) ≡ None → result.units ≡ length (all_given (with_tsdu (standing self.now) tsdu)) }
         ensures octets { (tsdu : List ℕ) → length tsdu ≡ octets → next (standing self.now) ≡ None → result.octets ≡ octets_in (all_given (with_tsdu (standing self.now) tsdu)) }
         ensures few_units { 123 * result.units ≤ octets + 123 }
-        ensures few_octets { result.octets ≤ octets };
+        ensures few_octets { result.octets ≤ octets }
+        ensures some_octets { 0 < result.units → min 123 octets ≤ result.octets };
 
     /// How many octets the units take at most that [`Link::next_out`] gives, up to none, once these TSDUs
     /// are handed in together at a link that gives none now, with so many octets of headers for each unit

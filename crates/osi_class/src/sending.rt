@@ -1,6 +1,7 @@
 //! TSDUs to be sent, and their next part.
 
-ghost use Rattle.std.specs.Prelude.{◌≡◌, ◌≢◌, ◌≤◌, ◌<◌, ◌+◌, ◌^◌, ◌++◌, [], ◌∷◌, true, false, map, IfNone, IfOk, IsOk, OnOk, OnErr, option_map};
+ghost use Rattle.std.specs.Prelude.{◌≡◌, ◌≢◌, ◌≤◌, ◌<◌, ◌+◌, ◌^◌, ◌++◌, [], ◌∷◌, true, false, length, map, IfNone, IfOk, IsOk, OnOk, OnErr, option_map};
+ghost use Rattle.std.specs.Vec.{vec_capacity};
 ghost use Rattle.osi_class.specs.Tsdus.{give, octets_of_tsdus};
 
 use std::alloc::{AllocError, Global};
@@ -30,6 +31,7 @@ pub struct Outgoing {
 
 impl Model for Outgoing {
     ghost use Rattle.std.specs.Prelude.{◌≡◌, ◌≤◌, ◌<◌, ◌+◌, ◌^◌, ◌∷◌, length, drop, map, slice_range, if◌then◌else◌};
+    ghost use Rattle.std.specs.Vec.{vec_capacity};
     ghost use Rattle.osi_class.specs.Sending.{Sending};
     ghost use Rattle.osi_class.specs.Tsdus.{octets_of_tsdus};
 
@@ -38,15 +40,18 @@ impl Model for Outgoing {
     ghost view = { λ o. record {
       unsent = if o.has_more then drop o.to o.current.items ∷ map (λ v. v.items) o.queue.items else map (λ v. v.items) o.queue.items;
       part = slice_range o.current.items o.from o.to;
+      room = vec_capacity o.current;
+      is_owned = o.is_owned;
     } };
 
     ghost invariant = { λ o. (o.from ≤ o.to) × (o.to ≤ length o.current.items) ×
         (o.queued ≡ octets_of_tsdus (map (λ v. v.items) o.queue.items)) × (o.queued + length o.current.items < 2 ^ 64) };
 }
 
-/// The queued octets plus this many more, if these and those of the TSDU before them fit a `usize`.
+/// The queued octets plus this many more. `Err` exactly if these and those of the TSDU before them don't fit a `usize`.
 fn queued_with(queued: usize, more: usize, before: usize) -> Result<usize, AllocError>
-    ensures { IfOk result (λ octets. (octets ≡ queued + more) × (octets + before < 2 ^ 64)) }
+    ensures ok { IfOk result (λ octets. (octets ≡ queued + more) × (octets + before < 2 ^ 64)) }
+    ensures err { OnErr result (2 ^ 64 ≤ queued + more + before) }
 {
     if more > usize::MAX - before {
         return Err(AllocError);
@@ -57,9 +62,10 @@ fn queued_with(queued: usize, more: usize, before: usize) -> Result<usize, Alloc
     Ok(queued + more)
 }
 
-/// The number of octets of TSDUs, if it fits a `usize`.
+/// The number of octets of TSDUs. `Err` exactly if it doesn't fit a `usize`.
 fn octets_of(tsdus: &[Vec<u8>]) -> Result<usize, AllocError>
-    ensures { IfOk result (λ octets. octets ≡ octets_of_tsdus (map (λ v. v.items) tsdus.now)) }
+    ensures ok { IfOk result (λ octets. octets ≡ octets_of_tsdus (map (λ v. v.items) tsdus.now)) }
+    ensures err { OnErr result (2 ^ 64 ≤ octets_of_tsdus (map (λ v. v.items) tsdus.now)) }
 {
     let mut octets: usize = 0;
     'tsdus: for tsdu in tsdus {
@@ -117,10 +123,12 @@ impl Outgoing {
         self.queued
     }
 
-    /// Adds a copy of a TSDU to those to be sent.
+    /// Adds a copy of a TSDU to those to be sent. No memory is needed if nothing is to be sent and the buffer of the TSDU
+    /// before it is large enough.
     pub fn add(&mut self, tsdu: &[u8]) -> Result<(), AllocError>
         ensures ok { OnOk result (self.new.unsent ≡ self.old.unsent ++ tsdu.now ∷ []) }
         ensures err { OnErr result (self.new ≡ self.old) }
+        ensures alone { self.old.unsent ≡ [] → length tsdu.now ≤ self.old.room → IsOk result }
     {
         if !self.has_more && self.queue.is_empty() {
             return self.begin(tsdu);
@@ -149,14 +157,18 @@ impl Outgoing {
     }
 
     /// Adds TSDUs themselves to those to be sent: all or none. Their octets are not copied. For an empty list no memory
-    /// is needed.
+    /// is needed, and none if nothing is to be sent and the octets fit a `usize`.
     pub fn add_owned_all(&mut self, tsdus: Vec<Vec<u8>>) -> Result<(), AllocError>
         ensures ok { OnOk result (self.new.unsent ≡ self.old.unsent ++ map (λ v. v.items) tsdus.items) }
         ensures err { OnErr result (self.new ≡ self.old) }
         ensures nothing { tsdus.items ≡ [] → IsOk result }
+        ensures alone { self.old.unsent ≡ [] → octets_of_tsdus (map (λ v. v.items) tsdus.items) < 2 ^ 64 → IsOk result }
     {
         if tsdus.is_empty() {
             return Ok(());
+        }
+        if self.is_empty() {
+            return self.begin_all(tsdus);
         }
         let queued = queued_with(
             self.queued,
@@ -165,6 +177,25 @@ impl Outgoing {
         )?;
         let mut moved = VecDeque::from(tsdus);
         self.queue.append(&mut moved)?;
+        self.queued = queued;
+        Ok(())
+    }
+
+    /// Begins with these TSDUs themselves, if nothing is to be sent. Fails only if their octets don't fit a `usize`: no
+    /// memory is needed.
+    fn begin_all(&mut self, tsdus: Vec<Vec<u8>>) -> Result<(), AllocError>
+        requires { self.old.unsent ≡ [] }
+        ensures ok { OnOk result (self.new.unsent ≡ map (λ v. v.items) tsdus.items) }
+        ensures err { OnErr result (self.new ≡ self.old) }
+        ensures enough { octets_of_tsdus (map (λ v. v.items) tsdus.items) < 2 ^ 64 → IsOk result }
+    {
+        let queued = octets_of(tsdus.as_slice())?;
+        self.current = Vec::new(self.alloc);
+        self.is_owned = false;
+        self.from = 0;
+        self.to = 0;
+        self.has_more = false;
+        self.queue = VecDeque::from(tsdus);
         self.queued = queued;
         Ok(())
     }
@@ -196,6 +227,7 @@ impl Outgoing {
         requires { self.old.unsent ≡ [] }
         ensures ok { OnOk result (self.new.unsent ≡ tsdu.now ∷ []) }
         ensures err { OnErr result (self.new ≡ self.old) }
+        ensures enough { length tsdu.now ≤ self.old.room → IsOk result }
     {
         if self.current.capacity() < tsdu.len() {
             let room = Vec::with_capacity(self.alloc, tsdu.len())?;
@@ -215,7 +247,8 @@ impl Outgoing {
     /// Whether nothing is to be sent, and no buffer is to be freed.
     #[inline(always)]
     pub fn is_at_rest(&self) -> bool
-        ensures { result ≡ true → self.now.unsent ≡ [] }
+        ensures nothing { result ≡ true → self.now.unsent ≡ [] }
+        ensures freed { result ≡ true → self.now.is_owned ≡ false }
     {
         self.is_empty() && !self.is_owned
     }
@@ -227,6 +260,7 @@ impl Outgoing {
     pub fn advance(&mut self, limit: usize) -> Option<bool>
         ensures given { give limit self.old.unsent ≡ option_map (λ last. ((last, self.new.part), self.new.unsent)) result }
         ensures none { IfNone result ((self.old.unsent ≡ []) × (self.new.unsent ≡ [])) }
+        ensures freed { IfNone result ((self.new.is_owned ≡ false) × (self.new.room ≡ 0)) }
     {
         if !self.has_more {
             let Some(tsdu) = self.queue.pop_front() else {

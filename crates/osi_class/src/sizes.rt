@@ -38,12 +38,14 @@ pub fn count_parts(limit: usize, octets: usize) -> usize
 }
 
 /// How much of a TSDU of this many octets is given with this credit, in parts of at most `limit` octets.
+#[tactic(auto, using(crate::proofs::RoomLaws::one_unit_carries))]
 pub fn room_within(limit: usize, credit: u8, octets: usize) -> Room
     requires at_least { 123 ≤ limit }
     requires at_most { limit ≤ 8189 }
     ensures units { result.units ≡ min (parts_needed limit octets) credit }
     ensures octets { result.octets ≡ min octets (credit * limit) }
     ensures few_units { 123 * result.units ≤ octets + 123 }
+    ensures some_octets { 0 < result.units → min 123 octets ≤ result.octets }
 {
     let credit = usize::from(credit);
     Room {

@@ -11,3 +11,11 @@ pub mod FollowLaws
 pub mod JudgeLaws
 pub mod LineLaws
 pub mod FirstLaws
+pub mod a_tsdu_has_one_count
+pub mod a_call_may_be_said
+pub mod what_is_said_is_explained
+pub mod a_call_is_explained
+pub mod an_answer_says_itself
+pub mod a_run_is_explained
+pub mod a_caller_is_explained
+pub mod an_honest_side_is_kept

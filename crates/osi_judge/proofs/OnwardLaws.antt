@@ -7,8 +7,8 @@ use Rattle.osi_session.specs.Taking.{count_taken}
 use Rattle.osi_session.specs.Standing.{Seen, Takes, listens, after_count}
 use Rattle.osi_judge.specs.declared.members.Member.{Member}
 use Rattle.osi_judge.specs.declared.standings.Turn.{Turn}
-use Rattle.osi_judge.specs.declared.standings.Turn.TheVariants.{Goes, Stops}
-use Rattle.osi_judge.specs.Onward.{OwesTo, StopsBy, Quietly, GoesOn, Comes, stays, goes}
+use Rattle.osi_judge.specs.declared.standings.Turn.TheVariants.{Goes}
+use Rattle.osi_judge.specs.Onward.{StopsBy, Quietly, GoesOn, Comes, stays, goes}
 
 -- what a session does with a TSDU that it takes
 pub record Takings (s : Seen) (tsdu : List ℕ) (t : Taking) : Type 0 where

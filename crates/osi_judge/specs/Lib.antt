@@ -7,6 +7,7 @@ pub mod Walking
 pub mod Judging
 pub mod Sides
 pub mod Tapping
+pub mod Running
 pub mod Feeding
 pub mod Onward
 pub mod Following

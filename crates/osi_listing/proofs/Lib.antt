@@ -1,3 +1,4 @@
+pub mod Digits
 pub mod Fields
 pub mod Joining
 pub mod Listings
@@ -5,3 +6,5 @@ pub mod Counted
 pub mod Packets
 pub mod Standing
 pub mod OneListing
+pub mod Tracing
+pub mod LittleIsKept

@@ -1,4 +1,4 @@
--- What a lister stands for, and what each of its calls does.
+-- The meaning of a lister, and the effect of each of its calls.
 use Rattle.std.specs.Prelude.{◌≡◌, ◌≢◌, ℕ, ◌-◌, ◌<◌, ◌^◌, List, [], ◌∷◌, ◌++◌, length, drop, Option, Some, None}
 use Rattle.osi_tpkt.specs.Held.{Held}
 use Rattle.osi_tpkt.specs.Packet.{IsPacket, IsPartial, IsFaultOf}
@@ -39,7 +39,7 @@ IsReady held = (held.octets ≡ []) × (held.fault ≡ None)
 abbrev pub IsGoing : Held → Type 0
 IsGoing held = IsPartial held.octets × (held.fault ≡ None)
 
--- no packet stands whole at the front
+-- no whole packet is at the front
 abbrev pub IsWithoutPacket : List ℕ → Type 0
 IsWithoutPacket rest = (u b more : List ℕ) → IsPacket u b → rest ≢ b ++ more
 
@@ -70,7 +70,7 @@ Goes old before piece fault new after =
 
 -- ---- a lister
 
--- behind these octets it has written these lines
+-- after these octets it has written these lines
 abbrev pub StandsAt : Stage → Work → List ℕ → List ℕ → Type 0
 StandsAt stage.Going work octets lines =
     (rest : List ℕ) × Listed work.streams work.counts work.offset octets lines rest × Leaves work.cutter rest None
@@ -83,7 +83,7 @@ pub record IsFed (lister : Lister) (octets lines : List ℕ) : Type 0 where
   pub few : length octets < 2 ^ 64
   pub stands : StandsAt lister.stage lister.work octets lines
 
--- memory was wanting, and it lists no more
+-- memory ran out, and it lists no more
 abbrev pub IsLost : Lister → Type 0
 IsLost lister = lister.stage ≡ stage.Lost
 

@@ -1,3 +1,4 @@
+pub mod Capture
 pub mod Lines
 pub mod SessionLines
 pub mod Streams
@@ -7,3 +8,4 @@ pub mod Counting
 pub mod Says
 pub mod SoFar
 pub mod Fed
+pub mod Traced

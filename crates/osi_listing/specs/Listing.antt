@@ -15,7 +15,7 @@ use Rattle.osi_listing.specs.Streams.Outcome.{Nothing, Whole, TooLong}
 use Rattle.osi_listing.specs.Lines.{packet_length, packet_line, fault_line, rest_line, unit_line, unit_fault_line, tsdu_line, too_long_line}
 use Rattle.osi_listing.specs.SessionLines.{session_line, session_fault_line}
 
--- what stands on a line
+-- what a line is about
 pub data Entry : Type 0 where
   -- a packet, by its offset and its transport unit
   Packet : ℕ → List ℕ → Entry
@@ -61,12 +61,12 @@ outcome_entries Nothing = []
 outcome_entries (Whole tsdu) = Tsdu tsdu ∷ session_entries (tsdu_at tsdu)
 outcome_entries TooLong = TsduFault ∷ []
 
--- behind a data unit, what it brings to its stream
+-- after a data unit, what it brings to its stream
 abbrev pub part_entries : List Part → Option Part → List Entry
 part_entries earlier None = []
 part_entries earlier (Some p) = outcome_entries (brought (join_of p.stream earlier) p.end p.octets)
 
--- units, behind these data units of the capture
+-- units, after these data units of the capture
 abbrev pub unit_entries : List Part → List Value → List Entry
 unit_entries earlier [] = []
 unit_entries earlier (v ∷ vs) =
@@ -86,7 +86,7 @@ abbrev pub all_parts : List (List ℕ) → List Part
 all_parts [] = []
 all_parts (u ∷ us) = read_parts (units_of u) ++ all_parts us
 
--- packets with these transport units, of which the first stands at this offset, behind these data units
+-- packets with these transport units, the first of them at this offset, after these data units
 abbrev pub packet_entries : ℕ → List Part → List (List ℕ) → List Entry
 packet_entries at earlier [] = []
 packet_entries at earlier (u ∷ us) =
@@ -101,7 +101,7 @@ pub record IsText (entries : List Entry) (lines : List ℕ) (refused : Bool) : T
   pub text : lines ≡ flat_map line_of entries
   pub told : refused ≡ list_any is_refused entries
 
--- the lines of these octets, and the status: 1 where something was refused
+-- the lines of these octets, and the status: 1 if something was refused
 pub record IsListing (octets lines : List ℕ) (status : ℕ) : Type 0 where
   pub units : List (List ℕ)
   pub ending : Ending

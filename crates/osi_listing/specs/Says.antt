@@ -14,7 +14,7 @@ pub record Says (old new : List ℕ) (was now : Counts) (entries : List Entry) :
   pub text : new ≡ old ++ flat_map line_of entries
   pub told : now ≡ counted was entries
 
--- joins of all streams, behind these data units
+-- joins of all streams, after these data units
 pub record AreJoins (first : streams.Join) (others : ℕ → streams.Join) (earlier : List Part) : Type 0 where
   pub zero : first ≡ join_of None earlier
   pub two : (d : ℕ) → others d ≡ join_of (Some d) earlier

@@ -12,7 +12,7 @@ abbrev pub fault_entries : Ending → List Entry
 fault_entries (Faulty f) = PacketFault f ∷ []
 fault_entries (Rest n) = []
 
--- the packets that stand whole at the front of a stream, and the fault behind them
+-- the whole packets at the front of a stream, and the fault after them
 abbrev pub entries_so_far : List (List ℕ) → Ending → List Entry
 entries_so_far units ending = packet_entries 0 [] units ++ fault_entries ending
 

@@ -1,12 +1,16 @@
 //! Laws of listings. Each function does nothing: its clauses are the laws.
 
-ghost use Rattle.std.specs.Prelude.{◌≡◌, ℕ, List};
+ghost use Rattle.std.specs.Prelude.{◌≡◌, ◌++◌, ℕ, List};
 ghost use Rattle.std.specs.List.{flat_map};
 ghost use Rattle.osi_listing.specs.declared.counting.Counts.{Counts};
 ghost use Rattle.osi_listing.specs.declared.pieces.Lister.{Lister};
-ghost use Rattle.osi_listing.specs.Fed.{Feeds, FeedsAll};
+ghost use Rattle.osi_listing.specs.declared.pieces.Stage.TheVariants.{Going};
+ghost use Rattle.osi_listing.specs.declared.traces.Keeping.TheVariants.{Lines};
+ghost use Rattle.osi_listing.specs.declared.traces.Trace.{Trace};
+ghost use Rattle.osi_listing.specs.Fed.{IsFed, Feeds, FeedsAll};
 ghost use Rattle.osi_listing.specs.Listing.{IsListing};
 ghost use Rattle.osi_listing.specs.SoFar.{IsListedSoFar};
+ghost use Rattle.osi_listing.specs.Traced.{IsTraced, IsListedInPart, KeepsLittle, counted, unfetched};
 
 use osi_tpkt::laws::a_stream_has_one_cut;
 
@@ -18,8 +22,8 @@ pub fn a_capture_has_one_listing()
     a_stream_has_one_cut();
 }
 
-/// However a stream is cut into the pieces that a lister is fed, the lister does what it does where it is
-/// fed all at once; and the octets that came determine the lines so far and what is counted.
+/// However a stream is cut into the pieces that a lister is fed, the result is the same as if it were fed all at once.
+/// The octets that came determine the lines so far and what is counted.
 pub fn the_pieces_do_not_matter()
     ensures pieces { (old new : Lister) (pieces : List (List ℕ)) (before after : List ℕ) → FeedsAll old pieces before after new →
         Feeds old (flat_map (λ piece. piece) pieces) before after new }
@@ -28,3 +32,17 @@ pub fn the_pieces_do_not_matter()
 {
     a_stream_has_one_cut();
 }
+
+/// The lines that were fetched of a trace are always a prefix of the listing of the octets that passed, or of a prefix of
+/// these if it has stopped. As long as it keeps lines, they are with those that nobody has fetched the whole listing so far.
+pub fn what_is_fetched_is_the_listing()
+    ensures whole { (trace : Trace) (octets fetched : List ℕ) → IsTraced trace octets fetched → trace.keeping ≡ Lines →
+        IsListedSoFar octets (fetched ++ unfetched trace) (counted trace) }
+    ensures begins { (trace : Trace) (octets fetched : List ℕ) → IsTraced trace octets fetched → IsListedInPart octets fetched }
+{}
+
+/// A lister keeps at most 65,535 octets of a packet, and of each stream at most 1,048,576 octets of a TSDU, until the stream has
+/// a fault.
+pub fn a_lister_keeps_little()
+    ensures { (lister : Lister) (octets lines : List ℕ) → IsFed lister octets lines → lister.stage ≡ Going → KeepsLittle lister }
+{}

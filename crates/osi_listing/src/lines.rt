@@ -10,14 +10,14 @@ use osi_tpkt::TpktFault;
 use std::alloc::{AllocError, Global};
 
 /// Adds words to a text.
-pub(crate) fn push_words(text: &mut Vec<u8>, words: &str) -> Result<(), AllocError>
+pub fn push_words(text: &mut Vec<u8>, words: &str) -> Result<(), AllocError>
     ensures { OnOk result (text.new.items ≡ text.old.items ++ words.now) }
 {
     text.extend_from_slice(words.as_bytes())
 }
 
 /// Adds a number in decimal.
-pub(crate) fn push_decimal(text: &mut Vec<u8>, number: u64) -> Result<(), AllocError>
+pub fn push_decimal(text: &mut Vec<u8>, number: u64) -> Result<(), AllocError>
     ensures { OnOk result (text.new.items ≡ text.old.items ++ decimal number) }
 {
     let mut buffer = itoa::Buffer::new();
@@ -33,7 +33,7 @@ pub(crate) fn push_hex(alloc: Global, text: &mut Vec<u8>, octets: &[u8]) -> Resu
 }
 
 /// Adds an octet in hexadecimal.
-pub(crate) fn push_octet(text: &mut Vec<u8>, octet: u8) -> Result<(), AllocError>
+pub fn push_octet(text: &mut Vec<u8>, octet: u8) -> Result<(), AllocError>
     ensures { OnOk result (text.new.items ≡ text.old.items ++ encode_lower (octet ∷ [])) }
 {
     let mut digits = [0; 2];
@@ -42,11 +42,7 @@ pub(crate) fn push_octet(text: &mut Vec<u8>, octet: u8) -> Result<(), AllocError
 }
 
 /// Adds a word and a number.
-pub(crate) fn push_number_field(
-    text: &mut Vec<u8>,
-    word: &str,
-    number: u64,
-) -> Result<(), AllocError>
+pub fn push_number_field(text: &mut Vec<u8>, word: &str, number: u64) -> Result<(), AllocError>
     ensures { OnOk result (text.new.items ≡ text.old.items ++ number_field word.now number) }
 {
     push_words(text, word)?;
@@ -68,7 +64,7 @@ pub(crate) fn push_reference_field(
     text.extend_from_slice(&digits)
 }
 
-/// Adds a word and an octet, where it is there.
+/// Adds a word and an octet, if there is one.
 pub(crate) fn push_octet_field(
     text: &mut Vec<u8>,
     word: &str,
@@ -85,7 +81,7 @@ pub(crate) fn push_octet_field(
     }
 }
 
-/// Adds a word and octets, where they are there.
+/// Adds a word and octets, if there are any.
 pub(crate) fn push_octets_field(
     alloc: Global,
     text: &mut Vec<u8>,

@@ -43,7 +43,7 @@ pub(crate) fn list_packet(
     list_units(alloc, text, streams, counts, unit)
 }
 
-/// Lists the units of a packet, or their fault alone.
+/// Lists the units of a packet, or only their fault.
 fn list_units(
     alloc: Global,
     text: &mut Vec<u8>,
@@ -124,7 +124,7 @@ fn list_outcome(
     }
 }
 
-/// Lists a whole TSDU, and its session units or their fault alone.
+/// Lists a whole TSDU, and its session units or only their fault.
 fn list_tsdu(
     alloc: Global,
     text: &mut Vec<u8>,

@@ -5,6 +5,7 @@ ghost use Rattle.osi_tpkt.specs.Packet.{IsFaultOf};
 ghost use Rattle.osi_listing.specs.Fed.{IsFed, IsLost, Feeds, StandsAt};
 ghost use Rattle.osi_listing.specs.Listing.{IsListing};
 ghost use Rattle.osi_listing.specs.SoFar.{IsListedSoFar};
+ghost use Rattle.osi_listing.specs.Traced.{counted_by, octets_fed, unfinished};
 
 use crate::counting::Counts;
 use crate::lines::{push_fault, push_rest};
@@ -12,9 +13,11 @@ use crate::work::Work;
 use osi_tpkt::TpktFault;
 use std::alloc::{AllocError, Global};
 
-/// Lists captured octets: a line for each packet, for each of its transport units, for each whole
-/// TSDU and each of its session units, and one for the fault or the rest behind the packets. The status is 1 where something was
-/// refused, else 0.
+/// Lists captured octets: a line for each packet, for each of its transport units, for each whole TSDU and each of its
+/// session units, and one for the fault or the rest after the packets. The status is 1 if something was refused, else 0.
+///
+/// # Errors
+/// An allocation failed. Then the text may have gained some lines.
 pub fn list(alloc: Global, text: &mut Vec<u8>, octets: &[u8]) -> Result<u8, AllocError>
     ensures { IfOk result (λ status. (lines : List ℕ) × (text.new.items ≡ text.old.items ++ lines)
         × IsListing octets.now lines status) }
@@ -31,15 +34,15 @@ enum Stage {
     Going,
     /// The stream had a fault, which no packet follows.
     Faulty,
-    /// Memory was wanting.
+    /// Memory ran out.
     Lost,
 }
 
 /// Lists the octets of one direction of a byte connection, in whatever pieces they come: what it writes
 /// is what [`list`] writes of all of them.
 ///
-/// It keeps the octets of a packet that is not whole, at most 65,535, and those of the TSDU under way in each
-/// stream: at most 1,048,576 for class 0, and as many for each DST-REF of class 2 that came.
+/// It keeps the octets of a packet that is not whole, at most 65,535, and of each stream those of a TSDU that is not
+/// whole, at most 1,048,576. Class 0 is one stream; in class 2 each DST-REF is one.
 #[derive(Drop)]
 pub struct Lister {
     work: Work,
@@ -51,7 +54,8 @@ pub struct Lister {
 impl Lister {
     /// A lister of a stream that has not begun. It takes no memory until it is fed.
     pub fn new(alloc: Global) -> Self
-        ensures { IsFed result [] [] }
+        ensures fed { IsFed result [] [] }
+        ensures none { unfinished result ≡ 0 }
     {
         let work = Work::new(alloc);
         Lister {
@@ -62,10 +66,11 @@ impl Lister {
     }
 
     /// Takes the next octets of the stream, and adds the lines of the packets that they make whole to a
-    /// text, and the line of the fault that ends the stream. Of octets behind a fault nothing is said.
+    /// text, and the line of the fault that ends the stream. Octets after a fault add no line.
     ///
-    /// `Err` is answered where there is no memory, or where more than 2^64 - 1 octets have come. Then the
-    /// text may have gained some lines, and each further call answers `Err` and adds nothing.
+    /// # Errors
+    /// An allocation failed, or more than 2^64 - 1 octets have come. Then the text may have gained some lines, and each
+    /// further call answers `Err` and adds nothing.
     pub fn feed(
         &mut self,
         alloc: Global,
@@ -85,7 +90,7 @@ impl Lister {
         }
     }
 
-    /// What [`Lister::feed`] does, but that it does not keep that memory was wanting.
+    /// What [`Lister::feed`] does, but it doesn't remember that memory ran out.
     fn take(&mut self, alloc: Global, text: &mut Vec<u8>, piece: &[u8]) -> Result<(), AllocError>
         ensures fed { OnOk result (Feeds self.old piece.now text.old.items text.new.items self.new) }
         ensures again { IsLost self.old → IsErr result × (text.new.items ≡ text.old.items) }
@@ -101,7 +106,7 @@ impl Lister {
         }
     }
 
-    /// Lists on, where the stream had no fault.
+    /// Lists on, if the stream had no fault.
     fn list_on(&mut self, alloc: Global, text: &mut Vec<u8>, piece: &[u8]) -> Result<(), AllocError>
         ensures octets { self.new.octets ≡ self.old.octets }
         ensures listed { self.old.stage ≡ Stage.Going → OnOk result ((octets lines : List ℕ) →
@@ -119,10 +124,11 @@ impl Lister {
         }
     }
 
-    /// Ends the listing where the stream is over: adds the line of the octets left over, unless the stream
-    /// had a fault. The status is 1 where something was refused, else 0.
+    /// Ends the listing when the stream is over: adds the line of the octets left over, unless the stream had a fault.
+    /// The status is 1 if something was refused, else 0.
     ///
-    /// `Err` is answered where there is no memory, and always once [`Lister::feed`] has answered it.
+    /// # Errors
+    /// An allocation failed, here or in an earlier [`Lister::feed`].
     pub fn finish(&self, text: &mut Vec<u8>) -> Result<u8, AllocError>
         ensures listing { IfOk result (λ status. (octets lines : List ℕ) → IsFed self.now octets lines →
             (last : List ℕ) × (text.new.items ≡ text.old.items ++ last) × IsListing octets (lines ++ last) status) }
@@ -138,7 +144,7 @@ impl Lister {
         }
     }
 
-    /// 1 where a line says that something was refused, else 0.
+    /// 1 if a line says that something was refused, else 0.
     fn status(&self) -> u8
         ensures { result ≡ (if self.now.work.counts.refused == 0 then 0 else 1) }
     {
@@ -147,19 +153,28 @@ impl Lister {
 
     /// How many lines of each kind there are so far.
     pub fn counts(&self) -> Counts
-        ensures { (octets lines : List ℕ) → IsFed self.now octets lines → IsListedSoFar octets lines result }
+        ensures value { result ≡ counted_by self.now }
+        ensures listed { (octets lines : List ℕ) → IsFed self.now octets lines → IsListedSoFar octets lines result }
     {
         self.work.counts
     }
 
     /// How many octets have come.
     pub fn octets(&self) -> u64
-        ensures { (octets lines : List ℕ) → IsFed self.now octets lines → result ≡ length octets }
+        ensures value { result ≡ octets_fed self.now }
+        ensures fed { (octets lines : List ℕ) → IsFed self.now octets lines → result ≡ length octets }
     {
         self.octets
     }
 
-    /// Whether memory was wanting, so that nothing is listed any more.
+    /// How many streams of class 2 are within a TSDU: of each, the octets that came of it are kept.
+    pub fn unfinished(&self) -> usize
+        ensures { result ≡ unfinished self.now }
+    {
+        self.work.streams.unfinished()
+    }
+
+    /// Whether memory ran out, so that nothing is listed any more.
     pub fn is_lost(&self) -> bool
         ensures { IsTrue result ↔ IsLost self.now }
     {
@@ -167,7 +182,7 @@ impl Lister {
     }
 }
 
-/// A fault of octets that stand at an offset.
+/// A fault of octets at an offset.
 fn at(fault: TpktFault, offset: u64) -> TpktFault
     ensures { (start : ℕ) (octets : List ℕ) → IsFaultOf start octets fault → IsFaultOf offset octets result }
 {

@@ -76,7 +76,7 @@ fn push_each(
     Ok(())
 }
 
-/// A parameter or a group, where it is there.
+/// A parameter or a group, if it is present.
 fn push_parameter(
     alloc: Global,
     text: &mut Vec<u8>,
@@ -133,7 +133,7 @@ fn push_members(
     Ok(())
 }
 
-/// A parameter of a group, where it is there. Answers whether the next one is the first.
+/// A parameter of a group, if it is present. Returns whether the next one is the first.
 fn push_member(
     alloc: Global,
     text: &mut Vec<u8>,
@@ -153,7 +153,7 @@ fn push_member(
     Ok(false)
 }
 
-/// What stands in front of a parameter of a group.
+/// What separates a parameter of a group from the one before it.
 fn separator(is_first: bool) -> &'static str
     ensures { result.now ≡ separator_of is_first }
 {
@@ -176,14 +176,15 @@ pub(crate) fn push_session_fault(text: &mut Vec<u8>, fault: SpduFault) -> Result
     ensures { OnOk result (text.new.items ≡ text.old.items ++ session_fault_line fault) }
 {
     push_words(text, "    fault ")?;
-    push_decimal(text, offset(fault) as u64)?;
+    push_decimal(text, session_fault_offset(fault) as u64)?;
     push_words(text, " ")?;
-    push_words(text, fault_name(fault))?;
-    push_fault_code(text, fault)?;
+    push_words(text, session_fault_name(fault))?;
+    push_session_fault_code(text, fault)?;
     push_words(text, "\n")
 }
 
-fn offset(fault: SpduFault) -> usize
+/// The offset in the TSDU at which a fault is.
+pub fn session_fault_offset(fault: SpduFault) -> usize
     ensures { result ≡ session_fault_offset fault }
 {
     match fault {
@@ -197,7 +198,8 @@ fn offset(fault: SpduFault) -> usize
     }
 }
 
-fn fault_name(fault: SpduFault) -> &'static str
+/// The name of a fault.
+pub fn session_fault_name(fault: SpduFault) -> &'static str
     ensures { result.now ≡ session_fault_name fault }
 {
     match fault {
@@ -211,8 +213,8 @@ fn fault_name(fault: SpduFault) -> &'static str
     }
 }
 
-/// The code of the parameter, where the fault is one of a parameter.
-fn push_fault_code(text: &mut Vec<u8>, fault: SpduFault) -> Result<(), AllocError>
+/// Adds a blank and the code of the parameter, if the fault is one of a parameter.
+pub fn push_session_fault_code(text: &mut Vec<u8>, fault: SpduFault) -> Result<(), AllocError>
     ensures { OnOk result (text.new.items ≡ text.old.items ++ session_fault_code fault) }
 {
     match fault {

@@ -1,6 +1,6 @@
 //! Joining data units into TSDUs, stream by stream.
 
-ghost use Rattle.std.specs.Prelude.{◌≡◌, ◌==◌, ℕ, List, [], if◌then◌else◌, IfOk, OnOk};
+ghost use Rattle.std.specs.Prelude.{◌≡◌, ◌==◌, ℕ, List, [], if◌then◌else◌, IfOk, OnOk, IsTrue};
 ghost use Rattle.osi_listing.specs.Streams.{joined, brought};
 ghost use Rattle.osi_listing.specs.Streams.Join.{Begun};
 ghost use Rattle.osi_listing.specs.Joins.{join_value, outcome_value, join_at};
@@ -42,6 +42,16 @@ impl Join {
         }
     }
 
+    /// Whether nothing has to be kept of the stream, because it is between two TSDUs.
+    fn is_between(&self) -> bool
+        ensures { IsTrue result → join_value self.now ≡ Begun [] }
+    {
+        if self.is_dropped {
+            return false;
+        }
+        self.octets.is_empty()
+    }
+
     /// Takes the next part of the stream; EOT marks the last part of a TSDU.
     pub(crate) fn take(
         &mut self,
@@ -70,7 +80,7 @@ impl Join {
     }
 }
 
-/// The streams of class 2, each under its DST-REF.
+/// The streams of class 2 that are within a TSDU, each under its DST-REF.
 type References = BTreeMap<u16, Join>;
 
 /// Takes the next part of the stream with this DST-REF, and leaves the others as they were.
@@ -92,6 +102,9 @@ fn take_for(
         None => Join::new(alloc),
     };
     let outcome = join.take(alloc, end, part)?;
+    if join.is_between() {
+        return Ok(outcome);
+    }
     references.insert(destination, join)?;
     Ok(outcome)
 }
@@ -105,6 +118,7 @@ pub(crate) struct Streams {
 
 impl Streams {
     ghost use Rattle.std.specs.Prelude.{◌++◌, None, Some, option_to_list};
+    ghost use Rattle.std.specs.BTreeMap.{btree_map_len};
     ghost use Rattle.osi_tpdu.specs.View.{value};
     ghost use Rattle.osi_listing.specs.Streams.{Part, part_of};
     ghost use Rattle.osi_listing.specs.Says.{Holds};
@@ -112,12 +126,20 @@ impl Streams {
 
     /// No stream has begun.
     pub(crate) fn new(alloc: Global) -> Self
-        ensures { Holds result [] }
+        ensures holds { Holds result [] }
+        ensures none { btree_map_len result.class_2 ≡ 0 }
     {
         Streams {
             class_0: Join::new(alloc),
             class_2: BTreeMap::new(alloc),
         }
+    }
+
+    /// How many streams of class 2 are within a TSDU.
+    pub(crate) fn unfinished(&self) -> usize
+        ensures { result ≡ btree_map_len self.now.class_2 }
+    {
+        self.class_2.len()
     }
 
     /// Takes a unit; a data unit adds to its stream.

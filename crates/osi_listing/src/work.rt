@@ -1,6 +1,7 @@
 //! The packets of a stream, listed as they become whole.
 
 ghost use Rattle.std.specs.Prelude.{◌≡◌, ◌≢◌, ◌≤◌, ◌++◌, ℕ, List, [], length, IfOk, OnOk};
+ghost use Rattle.std.specs.BTreeMap.{btree_map_len};
 ghost use Rattle.osi_tpkt.specs.Held.{fresh};
 ghost use Rattle.osi_tpkt.specs.Packet.{IsOnePacket};
 ghost use Rattle.osi_listing.specs.Counting.{none};
@@ -13,7 +14,7 @@ use crate::streams::Streams;
 use osi_tpkt::{Cutter, TpktFault};
 use std::alloc::{AllocError, Global};
 
-/// What is known of a stream behind the packets that were listed.
+/// The state of a listing after the packets that were listed.
 #[derive(Drop)]
 pub(crate) struct Work {
     /// The octets of the packet under way.
@@ -40,6 +41,7 @@ impl Work {
     pub(crate) fn new(alloc: Global) -> Self
         ensures cutter { result.cutter ≡ fresh }
         ensures streams { Holds result.streams [] }
+        ensures none { btree_map_len result.streams.class_2 ≡ 0 }
         ensures counts { result.counts ≡ none }
         ensures offset { result.offset ≡ 0 }
     {
@@ -72,7 +74,7 @@ impl Work {
         }
     }
 
-    /// Goes on with the packet of which a part is held, where one is.
+    /// Completes the packet of which a part is held, if there is one.
     fn complete(
         &mut self,
         alloc: Global,
@@ -120,7 +122,7 @@ impl Work {
         Ok(())
     }
 
-    /// Lists the packets that stand whole at the front of a piece, where nothing is held. Gives what is left.
+    /// Lists the whole packets at the front of a piece, if nothing is held. Returns the rest.
     fn list_whole<'p>(
         &mut self,
         alloc: Global,
@@ -150,7 +152,7 @@ impl Work {
         Ok(rest)
     }
 
-    /// Holds what is left of a piece behind its packets, where nothing is held. Answers its fault.
+    /// Holds the rest of a piece after its packets, if nothing is held. Returns its fault.
     fn hold(&mut self, rest: &[u8]) -> Result<Option<TpktFault>, AllocError>
         ensures same { OnOk result (OnlyHolds self.old self.new) }
         ensures leaves { IsReady self.old.cutter → IsWithoutPacket rest.now → IfOk result (λ fault.

@@ -1,6 +1,7 @@
 //! Octets that a value owns.
 
-ghost use Rattle.std.specs.Prelude.{◌≡◌, ◌<◌, ◌≤◌, ◌++◌, [], drop, length, IfOk, OnOk, OnErr};
+ghost use Rattle.std.specs.Prelude.{◌≡◌, ◌<◌, ◌≤◌, ◌+◌, ◌++◌, [], drop, length, max, IfOk, OnOk, OnErr};
+ghost use Rattle.std.specs.Vec.{vec_capacity};
 
 use std::alloc::{AllocError, Global};
 use std::marker::Model;
@@ -21,6 +22,16 @@ impl Model for Octets {
     ghost view = { λ o. drop o.start o.items.items };
 
     ghost invariant = { λ o. o.start ≤ length o.items.items };
+}
+
+/// Makes just the room that is missing for so many octets more. If memory runs out, nothing has changed; none is needed
+/// if there is room enough.
+fn make_room(items: &mut Vec<u8>, more: usize) -> Result<(), AllocError>
+    ensures items { items.new.items ≡ items.old.items }
+    ensures exact { OnOk result (vec_capacity items.new ≡ max (vec_capacity items.old) (length items.old.items + more)) }
+    ensures full { OnErr result (vec_capacity items.old < length items.old.items + more) }
+{
+    items.reserve_exact(more)
 }
 
 impl Octets {
@@ -77,7 +88,7 @@ impl Octets {
         if last.is_empty() {
             return Ok(());
         }
-        self.items.reserve_exact(last.len())?;
+        make_room(&mut self.items, last.len())?;
         self.items.extend_from_slice(last)
     }
 

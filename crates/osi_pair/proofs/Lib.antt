@@ -1,73 +1,24 @@
-pub mod AllTaken
-pub mod NothingKept
+-- The map of these proofs, in reading order. `Vocabulary` has the names that come from elsewhere.
 mod Vocabulary
-pub mod Waiting
-pub mod Showing
-pub mod Pieces
-pub mod Running
-pub mod CarryingAll
-pub mod Applying
-pub mod HoldingLess
-pub mod StandingArriving
-pub mod StandingRows
-pub mod WordLaws
-mod WordsSent
-pub mod StandingWays
-pub mod StandingArrived
-pub mod StandingCut
-pub mod StandingTurned
-pub mod StandingAhead
-pub mod StandingSeats
-pub mod StandingListens
-pub mod StandingFinish
-pub mod StandingRests
-pub mod StandingResting
-pub mod StandingQuiet
-pub mod StandingHeard
-pub mod StandingMoves
-pub mod StandingFew
-pub mod StandingWaiting
-pub mod StandingReplies
-pub mod StandingOrder
-pub mod StandingHears
-pub mod StandingKnown
-pub mod StandingMoved
-pub mod StandingBegins
-pub mod StandingShown
-pub mod StandingActed
-pub mod StandingSends
-pub mod StandingCloses
-pub mod StandingAnswers
-pub mod StandingAnswering
-pub mod StandingParts
-pub mod StandingTelling
-pub mod StandingLeaves
-pub mod StandingPacket
-pub mod StandingTaken
-pub mod StandingHanded
-pub mod StandingPackets
-pub mod StandingPieces
-pub mod StandingCarried
-pub mod Growing
-pub mod StandingBreak
-pub mod StandingLost
-pub mod StandingEnding
-pub mod StandingEnded
-pub mod StandingUnheard
-pub mod StandingWant
-pub mod StandingStarved
-pub mod StandingShuts
-pub mod StandingTold
-pub mod StandingActs
-pub mod StandingAnswer
-pub mod StandingCall
-pub mod StandingOctets
-pub mod StandingCalled
-pub mod StandingPromises
-pub mod StandingRefusal
-pub mod StandingConnect
-pub mod StandingEvent
-pub mod Reaching
-pub mod CarriedInRoom
-pub mod SameCarry
-pub mod SameEvents
+-- Words that are in flight, and the messages that they make.
+pub mod words
+-- What is in flight between two ends, and which unit may arrive first.
+pub mod flight
+-- One session at one end: its seat, its moves, its replies, its pending indications.
+pub mod session
+-- One end acts for one connection: two ends match the tables again.
+pub mod turn
+-- A call of a user, and a request for a connection.
+pub mod call
+-- A break, the end of an end, and memory that runs out.
+pub mod ending
+-- One end takes a packet: no step of the tables, or one delivery.
+pub mod packet
+-- Octets are carried: packets one after the other, and the indications that users receive.
+pub mod carry
+-- What follows for the users of two ends that match the machine.
+pub mod promise
+-- Pairs of ends in the same state stay so.
+pub mod same
+-- Any event, and several.
+pub mod event

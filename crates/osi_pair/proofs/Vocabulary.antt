@@ -1,27 +1,48 @@
 -- What the proofs of this crate take from the library, from the crates below and from its own definitions.
-pub use Rattle.std.proofs.Math.Seq.{drop-nil, take-append_seam}
-pub use Rattle.std.proofs.lemmas.Bool.{cases_lt, eq-eqb, eqb-true, le-leb, leb-false, leb-true, lt-ltb, ltb-true, or_parts}
+pub use Rattle.std.proofs.Common.{refl, sym, ◌∙◌, ap, ℕ, zero, suc, ◌<◌, ◌≤◌, ◌&&◌, Bool, true, false, not, if◌then◌else◌, length, Option}
+pub use Rattle.std.proofs.Common.{Some, is_some, arith, ◌≢◌, subst, ◌==◌, nat_lt, [], ◌∷◌, ◌++◌, map, IsSome, Ok, Err, ◌+◌, ◌||◌}
+pub use Rattle.std.proofs.Common.{option_map, inl, ◌-◌, sum, min, take, ap₂, ◌⊎◌, inr, Result, drop, OnOk, OnErr, is_err, vec_len}
+pub use Rattle.std.proofs.Common.{vec_capacity, vec_items, IfOk, ◌^◌}
+pub use Rattle.std.proofs.Math.Nat.{add_comm}
+pub use Rattle.std.proofs.Math.Seq.{drop-nil, take-append_seam, take-add}
+pub use Rattle.std.proofs.lemmas.Bool.{eq-eqb, eqb-true, le-leb, leb-false, leb-true, lt-ltb, ltb-true, or_parts}
 pub use Rattle.std.proofs.lemmas.Bool.Decides.{nat_tests}
-pub use Rattle.std.proofs.lemmas.List.{append-nil, append_assoc, length-append, length-drop, length-map, length-take, map-append, take-append-drop, take_all, take_more}
+pub use Rattle.std.proofs.lemmas.List.{append-nil, append_assoc, length-append, length-drop, length-map, length-take, map-append}
+pub use Rattle.std.proofs.lemmas.List.{take-append-drop, take_all, take_more, drop-drop}
+pub use Rattle.std.proofs.lemmas.List.Concat.{flat_map-append}
+pub use Rattle.std.proofs.lemmas.List.Folds.{list_any-append}
 pub use Rattle.std.proofs.lemmas.List.Sums.{sum_by-cons}
+pub use Rattle.std.proofs.lemmas.Nat.{and_le_r}
+pub use Rattle.std.proofs.lemmas.Option.{slice_get_read}
+pub use Rattle.std.specs.Int.RustNames.{bit_and}
 pub use Rattle.std.specs.List.{AllByRecursion, flat_map, list_any, slice_get}
 pub use Rattle.std.specs.Prelude.{IfSome, List, None, nat_le, ◌≡◌}
-pub use Rattle.osi_between.proofs.JoinedMoves.{given_live, within_given}
-pub use Rattle.osi_between.specs.Addresses.{reference_of, units_of}
-pub use Rattle.osi_between.specs.Between.{Acted, AreBetween, AreJoinedBy, Between, Both, Carries, IsAllThere, IsOnTheWay, IsStill, Same, Took, answers_in, arriving, becomes, broken_at, fresh_between, fresh_both, handed_over, is_cut, last_of, lost_from, put_in, reach_less, reach_of, side, still_to_tell, to_come, told_of, under_way, units_from, with_side, within_reach}
-pub use Rattle.osi_between.specs.Course.{Course, Holds, IsTsap, accepting, asking, at_end, from_end, met, progress_of, unasked, withdrawing}
-pub use Rattle.osi_between.specs.Meeting.{Meeting, addressed, here, leaving, left_both, left_here, left_there, mirror, out, parted, talking, waiting_here, waiting_there}
-pub use Rattle.osi_between.specs.Messages.{AreLike, begun_at, kind_of, message, messages_after}
-pub use Rattle.osi_between.specs.Progress.{Progress, awaiting, behind_arrivals, behind_puts, class_behind_all, gone, in_use, leaves_use, may_arrive, not_yet, progress_in, references_for, shutting}
-pub use Rattle.osi_between.specs.Terms.{IsProposed, Terms, accepts_in, by_two, by_zero, class_of, refusing, terms_of}
-pub use Rattle.osi_between.specs.Zero.{AreJoinedZero, HasOne, ZeroCourse, given_in}
+pub use Rattle.osi_tpkt.proofs.Fronts.{completed_partial, empty_partial, partial_not_whole}
+pub use Rattle.osi_tpkt.proofs.PacketLaws.{one_packet}
+pub use Rattle.osi_tpkt.proofs.Streams.{one_list}
+pub use Rattle.osi_tpkt.specs.Held.{Held}
+pub use Rattle.osi_tpkt.specs.Octets.{IsOctets}
+pub use Rattle.osi_tpkt.specs.Packet.{IsFaultOf, IsPacket, IsPartial, packet_of}
+pub use Rattle.osi_tpkt.specs.Stream.{ArePackets, offset_of}
+pub use Rattle.osi_tpkt.specs.declared.cutting.Fed.{Fed}
+pub use Rattle.osi_tpkt.specs.declared.faults.TpktFault.{TpktFault}
+pub use Rattle.osi_tpdu.specs.Limits.{tsap_octets}
+pub use Rattle.osi_tpdu.specs.Value.{Value, acknowledge, confirm, data0, data2, disconnect, disconnected, request}
+pub use Rattle.osi_tpdu.specs.declared.tsaps.Tsap.{Tsap}
+pub use Rattle.osi_class.specs.Between.{IsShortTsdu, swapped}
+pub use Rattle.osi_class.specs.Link.{Given, unit_of, Standing as Link}
+pub use Rattle.osi_class.specs.declared.terms.Class.{Class}
+pub use Rattle.osi_class.specs.declared.terms.Class.TheVariants.{Two, Zero}
+pub use Rattle.osi_class.specs.declared.terms.Local.{Local}
 pub use Rattle.osi_carrier.proofs.Apart.{absent, beyond, push_here, put_here}
 pub use Rattle.osi_carrier.proofs.AtReferences.{push_other, put_other, put_rise, put_up, without_other}
+pub use Rattle.osi_carrier.proofs.Coming.{unit_packet}
 pub use Rattle.osi_carrier.proofs.Effects.{free_of, orderly_same, orderly_unit}
-pub use Rattle.osi_carrier.specs.Calls.{begun_by, class_error, closed_on, closed_with, closes, ended_by, kept_in, link_of, may_connect, open_link, or_else, room_error, sent, sent_all, sent_on}
+pub use Rattle.osi_carrier.proofs.Lasting.{PacketLaws}
+pub use Rattle.osi_carrier.proofs.Reacts.{none_of}
+pub use Rattle.osi_carrier.specs.Calls.{begun_by, closed_with, ended_by, kept_in, may_connect, open_link, or_else, sent, sent_all, sent_on}
 pub use Rattle.osi_carrier.specs.Happenings.{Happening, closed, tsdu, opened as told_opened, refused as told_refused}
 pub use Rattle.osi_carrier.specs.Orderly.{AreUpTo, IsOrderly, RiseFrom}
-pub use Rattle.osi_carrier.specs.Packets.{is_spoilt}
 pub use Rattle.osi_carrier.specs.Place.{Place, connection_in, never, place_at, was_given}
 pub use Rattle.osi_carrier.specs.Rows.{Rows, value_at, without, put as put_row}
 pub use Rattle.osi_carrier.specs.State.{Connection, State, asked, closing, linked, packets}
@@ -29,26 +50,40 @@ pub use Rattle.osi_carrier.specs.Told.{is_open}
 pub use Rattle.osi_carrier.specs.declared.ends.EndReason.{EndReason}
 pub use Rattle.osi_carrier.specs.declared.ends.EndReason.TheVariants.{Broken, Closed, NoMemory}
 pub use Rattle.osi_carrier.specs.declared.faults.OpenError.{OpenError}
-pub use Rattle.osi_class.specs.Between.{IsShortTsdu, swapped}
-pub use Rattle.osi_class.specs.Link.{Given, ack, part0, part2, unit_of, Standing as Link}
-pub use Rattle.osi_class.specs.declared.terms.Class.{Class}
-pub use Rattle.osi_class.specs.declared.terms.Class.TheVariants.{Two, Zero}
-pub use Rattle.osi_class.specs.declared.terms.Local.{Local}
-pub use Rattle.osi_machine.proofs.CalmLaws.{called_calm, left_is, over_calm}
-pub use Rattle.osi_machine.proofs.CoreLaws.{SessionLaws}
-pub use Rattle.osi_machine.proofs.Places.{cut_count, cut_there, none_there, with_count, with_other, with_same}
-pub use Rattle.osi_machine.specs.AsTables.{AreAgreed, AreOffered, AreSendable, AreSoundLines, AtEachSide, HoldNoneTwice, IsOverWhenLeft, IsSeenInBoth, IsSoundLine, IsSoundSeat, IsTableRun, LosesAsItEnds, OfEachLine, TellsNoFault, is_leaving, offers_in}
-pub use Rattle.osi_machine.specs.Calm.{IsCalm, IsNoFaultBehind, StaysCalm, after_message}
-pub use Rattle.osi_machine.specs.Core.{Offer, offer_sent}
-pub use Rattle.osi_machine.specs.Floor.{Token, data_token, has, major, minor, no_token, release}
-pub use Rattle.osi_machine.specs.Machine.{Ending, HasNumber, IsLegal, Machine, Refusal, Step, breaks, call_answered, calls, closed_here, connect_answered, connection_at, connects, delivers, ends, has_ended, is_class_0, is_given, is_known, is_live, is_long_selector, is_waiting, learns, live_count, negotiating, no_memory, not_selected, one_connection, references_used_up, refusal_by, replaced, shown_at, told_of_break, too_long, too_many, with_connection}
-pub use Rattle.osi_machine.specs.Runs.{is_loss, loses}
-pub use Rattle.osi_machine.specs.Tables.{Line, Seat, Tables, Turn, after_end, after_turn, asked_in, asked_with, awaits, call_in, calling, closes_by, cut_channels, delivered_to, end_of, ended_lines, ends_there, made, message_taken, puts, refusal, run, seen_from, shortened, shown_in_order, side_of, start, stays, step, taken_in, transport_of, turned, unseen, without_first, noted as noted_in}
-pub use Rattle.osi_machine.specs.Views.{is_side}
-pub use Rattle.osi_machine.specs.Worlds.{Kept, Message, Transport, World, accepts, agree, ask, bye, deny, over, put, replied, unit, waiting}
+pub use Rattle.osi_between.proofs.joined.joined_carriers_stay_joined.{given_live, within_given}
+pub use Rattle.osi_between.proofs.link.a_request_before_a_class_is_agreed.{source_is}
+pub use Rattle.osi_between.proofs.unit.the_units_of_one_connection.{first_of_all}
+pub use Rattle.osi_between.proofs.unit.units_are_read_as_messages.{messages_front}
+pub use Rattle.osi_between.proofs.zero.a_called_end_that_refuses_all.{none_open}
+pub use Rattle.osi_between.proofs.zero.class_0_provides_what_is_asked.{at_one}
+pub use Rattle.osi_between.proofs.zero.the_one_connection_of_class_0.{one_place}
+pub use Rattle.osi_between.specs.Addresses.{reference_of, units_of}
+pub use Rattle.osi_between.specs.Between.{Acted, AreBetween, AreJoinedBy, Between, Both, Carries, IsAllThere, IsOnTheWay, IsStill, Same}
+pub use Rattle.osi_between.specs.Between.{Took, answers_in, arriving, becomes, broken_at, fresh_between, fresh_both, handed_over, is_cut}
+pub use Rattle.osi_between.specs.Between.{last_of, lost_from, put_in, reach_of, side, still_to_tell, to_come, told_of, under_way}
+pub use Rattle.osi_between.specs.Between.{units_from, with_side, within_reach}
+pub use Rattle.osi_between.specs.Course.{Course, Holds, IsTsap, accepting, asking, at_end, from_end, met, progress_of, withdrawing}
+pub use Rattle.osi_between.specs.Joined.{AreJoined}
+pub use Rattle.osi_between.specs.Meeting.{Meeting, addressed, here, leaving, left_here, left_there, mirror, out, parted, talking}
+pub use Rattle.osi_between.specs.Meeting.{waiting_here, waiting_there}
+pub use Rattle.osi_between.specs.Messages.{AreLike, begun_at, kind_of, message, messages_after}
+pub use Rattle.osi_between.specs.Progress.{Progress, awaiting, behind_arrivals, behind_puts, class_behind_all, gone, in_use, leaves_use}
+pub use Rattle.osi_between.specs.Progress.{may_arrive, not_yet, progress_in, references_for, shutting}
+pub use Rattle.osi_between.specs.Terms.{Terms, accepts_in, by_two, by_zero, class_of, refusing, terms_of}
+pub use Rattle.osi_between.specs.Zero.{HasOne, ZeroCourse, given_in}
+pub use Rattle.osi_spdu.specs.Fields.{unit_bits}
+pub use Rattle.osi_spdu.specs.Kinds.{category_of}
+pub use Rattle.osi_spdu.specs.Known.{Units}
+pub use Rattle.osi_spdu.specs.Reading.{◌>>=◌, Next, Placed, next_at, unit_at, continued}
+pub use Rattle.osi_spdu.specs.Sizes.{are_sizes, named_by}
+pub use Rattle.osi_spdu.specs.Values.{is_size}
+pub use Rattle.osi_spdu.specs.declared.faults.SpduFault.{SpduFault}
+pub use Rattle.osi_spdu.specs.declared.fields.TsduMaximumSize.{TsduMaximumSize}
+pub use Rattle.osi_spdu.specs.declared.kinds.Category.{Category}
+pub use Rattle.osi_spdu.specs.declared.sizes.TsduSizes.{TsduSizes}
 pub use Rattle.osi_message.specs.InOctets.{IsInOctets}
 pub use Rattle.osi_message.specs.Meanings.{AA, AB, CN, DT, GT, Meaning, RF}
-pub use Rattle.osi_message.specs.Parting.{AreLater, AreParts, is_parted, is_whole, joined, parts_of, pieces, tsdus_of, tsdus_sent}
+pub use Rattle.osi_message.specs.Parting.{AreLater, AreParts, is_parted, joined, tsdus_of, tsdus_sent}
 unfoldable pub use Rattle.osi_message.specs.Parting.{words_sent}
 pub use Rattle.osi_message.specs.Reading.{Said, names, said_by_units, said_if_read, word}
 unfoldable pub use Rattle.osi_message.specs.Reading.{said_at}
@@ -59,86 +94,129 @@ pub use Rattle.osi_message.specs.declared.places.Place.{Place as PartPlace}
 pub use Rattle.osi_message.specs.declared.places.Place.TheVariants.{First, Last, Middle}
 pub use Rattle.osi_session.proofs.JoinedLaws.{inputs_kept, joined_holds}
 pub use Rattle.osi_session.proofs.KeptLaws.{call_keeps, first_arrives, gone_is, last_arrives, middle_arrives}
+pub use Rattle.osi_session.proofs.MoveLaws.{taken_is}
 pub use Rattle.osi_session.proofs.PhaseLaws.{excluded, implied}
+pub use Rattle.osi_session.proofs.SentLaws.{limit_sized}
+pub use Rattle.osi_session.proofs.ShownLaws.{words_show}
 pub use Rattle.osi_session.proofs.WordLaws.{kept_none, moves_as_whole, others, word_behind, words_of_message}
-pub use Rattle.osi_session.specs.Allowed.{AllHold, Answer, Passed, may_call, most_of, needs, octets_of, sends, sized, Step as SessionStep}
+pub use Rattle.osi_session.specs.Allowed.{AllHold, Answer, Passed, needs, octets_of, sends, Step as SessionStep}
 unfoldable pub use Rattle.osi_session.specs.Allowed.{allowed}
-pub use Rattle.osi_session.specs.Calls.{Abort, Accept, Call, Data, Give, HasSerial, Major, MajorConfirm, Minor, MinorConfirm, Please, Refuse, Release, ReleaseAccept, ReleaseRefuse, Restart, RestartConfirm, called_by}
+pub use Rattle.osi_session.specs.Calls.{Abort, Accept, Call, HasSerial, Refuse, called_by, Unspecified, Congestion, WithData}
+pub use Rattle.osi_session.specs.Calls.{refusal_reason}
 pub use Rattle.osi_session.specs.Joining.{joined_octets, respond_word}
 pub use Rattle.osi_session.specs.Kept.{IsJoined, IsJoinedAs, IsKept, IsKeptIn, IsNoFault, discards}
 pub use Rattle.osi_session.specs.Listening.{Listener, came, came_as, taker_of}
-pub use Rattle.osi_session.specs.Moves.{Input, Move, Standing, after_input, answered, begun, broken, called, denied, opened, refused, rests, taken}
+pub use Rattle.osi_session.specs.Moves.{Input, Move, Standing, after_input, answered, begun, broken, called, denied, opened, refused, rests}
+pub use Rattle.osi_session.specs.Moves.{taken}
 unfoldable pub use Rattle.osi_session.specs.Moves.{react}
 pub use Rattle.osi_session.specs.Parts.{part_comes}
-pub use Rattle.osi_session.specs.Phases.{is_aborting, is_ended, is_over, is_restarting, is_wait_cn, is_wait_transport, may_hold, shows_loss}
-pub use Rattle.osi_session.specs.Respond.{Outcome, Verdict, bad, dropped, enacted, faulty, fine, in_aborting, in_ended, nothing, reply_for, respond, respond_unit, verdict}
+pub use Rattle.osi_session.specs.Phases.{is_aborting, is_ended, is_over, is_wait_transport, may_hold, shows_loss}
+pub use Rattle.osi_session.specs.Respond.{Outcome, Verdict, dropped, enacted, faulty, fine, in_aborting, in_ended, reply_for, respond}
+pub use Rattle.osi_session.specs.Respond.{respond_unit, verdict}
 unfoldable pub use Rattle.osi_session.specs.Respond.{respond_fault}
 pub use Rattle.osi_session.specs.Runs.{HasNumbersInWords}
 pub use Rattle.osi_session.specs.Sessions.{CanBeSent, awaits as awaits_cn}
-pub use Rattle.osi_session.specs.Shown.{BadUnit, Lost, PeerAbort, Shown, shown_by}
-pub use Rattle.osi_session.specs.Sizes.{answered_sizes, fits_limit, limit_of}
+pub use Rattle.osi_session.specs.Shown.{Lost, Shown, shown_by}
+pub use Rattle.osi_session.specs.Sizes.{answered_sizes, limit_of}
 pub use Rattle.osi_session.specs.Sound.{IsSound as IsSoundState}
 pub use Rattle.osi_session.specs.Units.{functional_units, has_data}
 unfoldable pub use Rattle.osi_session.specs.Units.{is_profile}
-pub use Rattle.osi_session.specs.Whole.{in_words, is_apart, listening, standing_of}
+pub use Rattle.osi_session.specs.Whole.{in_words, is_apart, listening}
 pub use Rattle.osi_session.specs.declared.faults.CallError.{CallError}
 pub use Rattle.osi_session.specs.declared.phases.Phase.{Phase}
+pub use Rattle.osi_session.specs.declared.requests.Request.{Request}
 pub use Rattle.osi_session.specs.declared.state.State.{State as SessionState}
-pub use Rattle.osi_spdu.specs.Fields.{unit_bits}
-pub use Rattle.osi_spdu.specs.Known.{Contents, Units}
-pub use Rattle.osi_spdu.specs.Sizes.{are_sizes, named_by}
-pub use Rattle.osi_spdu.specs.Values.{is_size}
+pub use Rattle.osi_machine.proofs.CalmLaws.{called_calm, left_is, over_calm}
+pub use Rattle.osi_machine.proofs.CoreLaws.{SessionLaws}
+pub use Rattle.osi_machine.proofs.Places.{cut_count, cut_there, none_there, with_count, with_other, with_same}
+pub use Rattle.osi_machine.proofs.TableLines.{SaysItsUnit}
+pub use Rattle.osi_machine.proofs.TableRuns.{At, line_there, all_follow}
+pub use Rattle.osi_machine.proofs.Tokens.{none_held}
+pub use Rattle.osi_machine.specs.AsTables.{AreAgreed, AreOffered, AreSendable, AreSoundLines, AtEachSide, HoldNoneTwice, IsOverWhenLeft}
+pub use Rattle.osi_machine.specs.AsTables.{IsSeenInBoth, IsSoundLine, IsSoundSeat, IsTableRun, LosesAsItEnds, OfEachLine, TellsNoFault}
+pub use Rattle.osi_machine.specs.AsTables.{is_leaving, offers_in}
+pub use Rattle.osi_machine.specs.Calm.{IsCalm, IsNoFaultBehind, StaysCalm, after_message}
+pub use Rattle.osi_machine.specs.Core.{Offer, offer_sent}
+pub use Rattle.osi_machine.specs.Floor.{Token, has}
+pub use Rattle.osi_machine.specs.Machine.{Ending, HasNumber, IsLegal, Machine, Refusal, Step, breaks, call_answered, calls, closed_here}
+pub use Rattle.osi_machine.specs.Machine.{connect_answered, connection_at, connects, delivers, ends, has_ended, is_class_0, is_given}
+pub use Rattle.osi_machine.specs.Machine.{is_known, is_live, is_waiting, learns, live_count, negotiating, no_memory, not_selected}
+pub use Rattle.osi_machine.specs.Machine.{one_connection, references_used_up, replaced, shown_at, told_of_break, too_long, too_many}
+pub use Rattle.osi_machine.specs.Machine.{with_connection}
+pub use Rattle.osi_machine.specs.Runs.{is_loss, loses}
+pub use Rattle.osi_machine.specs.Sayings.{units_in, IsHeardAsSaid}
+pub use Rattle.osi_machine.specs.Tables.{Line, Seat, Tables, Turn, after_end, after_turn, asked_in, asked_with, awaits, call_in, closes_by}
+pub use Rattle.osi_machine.specs.Tables.{cut_channels, end_of, ended_lines, ends_there, made, message_taken, puts, refusal, run, seen_from}
+pub use Rattle.osi_machine.specs.Tables.{shortened, shown_in_order, side_of, start, stays, step, transport_of, turned, unseen}
+pub use Rattle.osi_machine.specs.Tables.{without_first, noted as noted_in}
+pub use Rattle.osi_machine.specs.Views.{is_side}
+pub use Rattle.osi_machine.specs.Worlds.{Message, Transport, World, accepts, agree, ask, bye, deny, over, put, replied, unit, waiting}
 pub use Rattle.osi_stack.proofs.Alike.{quieted_at}
-pub use Rattle.osi_stack.proofs.Events.{all_quiet, concluded_carrier, never_starved, starved_over}
-pub use Rattle.osi_stack.proofs.Folds.{at_line, came_moves, came_numbers, session_all}
+pub use Rattle.osi_stack.proofs.Endings.{stops_not, in_room, pieces_end}
+pub use Rattle.osi_stack.proofs.Events.{never_starved, starved_over}
+pub use Rattle.osi_stack.proofs.FirstShown.{quiet_none}
+pub use Rattle.osi_stack.proofs.Folds.{came_moves, came_numbers, session_all}
 pub use Rattle.osi_stack.proofs.Handing.{handed, hands_none, puts_words, sent_by_itself}
 pub use Rattle.osi_stack.proofs.InLive.{kept_first, quieted_apart, quieted_up}
+pub use Rattle.osi_stack.proofs.Joinings.{came_by}
 pub use Rattle.osi_stack.proofs.Keeping.{hears_keep}
-pub use Rattle.osi_stack.proofs.Lifting.{both, or_first, or_second, packet_is, quiet_attends}
+pub use Rattle.osi_stack.proofs.Lifting.{both, or_second, packet_is, quiet_attends}
 pub use Rattle.osi_stack.proofs.Linking.{Stays, apart_push, apart_put, used_at, used_by}
 pub use Rattle.osi_stack.proofs.Moves.{Readings, are_lost, came_is, used_live, one_heard}
-pub use Rattle.osi_carrier.proofs.Reacts.{none_of}
+pub use Rattle.osi_stack.proofs.Opened.{first_here}
 pub use Rattle.osi_stack.proofs.Rising.{rise_joins, rise_push}
+pub use Rattle.osi_stack.proofs.Rooms.{found_how}
+pub use Rattle.osi_stack.proofs.Runs.{calls_read, pieces_alike}
+pub use Rattle.osi_stack.proofs.Shortness.{SpduLaws, sent_short}
 pub use Rattle.osi_stack.proofs.Soundness.{packet_rises, up_more}
-pub use Rattle.osi_stack.specs.Calls.{after_open, call_error, called_octets, calling_octets, calls_with, carried, connect_error, first_by, first_shown, has_given, held_by, is_long, is_long_address, numbers_of, rest_by, session_error, session_refusal, table_error, terms_error}
+pub use Rattle.osi_stack.specs.Calls.{after_open, call_error, calls_with, carried, connect_error, first_shown, has_given, held_by, is_long}
+pub use Rattle.osi_stack.specs.Calls.{numbers_of, session_error, session_refusal, table_error}
 pub use Rattle.osi_stack.specs.Coming.{after_unit, carries_out}
 pub use Rattle.osi_stack.specs.Feeding.{Feeds, FindsNoMemory, Refuses, RunsDry, StopsBehind, TakesPackets, stops, uses_all}
 pub use Rattle.osi_stack.specs.Folds.{AllCameAbout, CameAbout}
-pub use Rattle.osi_stack.specs.Hearing.{RunsOut, Starves, after_packet, all_lost, attends, concludes, hears, hears_all, hears_first, hears_next, hears_times, opens, shown_at_loss, starves, with_carrier, with_events, ends as ends_end}
+pub use Rattle.osi_stack.specs.Hearing.{RunsOut, Starves, after_packet, all_lost, attends, concludes, hears, hears_first, hears_next}
+pub use Rattle.osi_stack.specs.Hearing.{hears_times, opens, shown_at_loss, starves, with_carrier, with_events, ends as ends_end}
 pub use Rattle.osi_stack.specs.Links.{AreApart, IsSound, Soundness, needs_link}
 pub use Rattle.osi_stack.specs.Messages.{Says, kept_at, put_by, told_all}
-pub use Rattle.osi_stack.specs.Moving.{answers, by_line, carrier_by, limit_for, line_after, line_by, to_session}
+pub use Rattle.osi_stack.specs.Moving.{answers, by_line, limit_for, line_after, line_by, to_session}
 pub use Rattle.osi_stack.specs.Needs.{needs_memory}
-pub use Rattle.osi_stack.specs.State.{End, Holding, IsAttended, fresh_end, fresh_line, is_used, joined_in, joined_live, joined_of, session_at, session_in, used_lines, waits, Line as EndLine}
+pub use Rattle.osi_stack.specs.Runs.{feeding, telling, CallsInRoom, used_in, told_in, carried_in, carrying, Calls, HasRoom, put_back}
+pub use Rattle.osi_stack.specs.State.{End, Holding, IsAttended, fresh_end, fresh_line, is_used, joined_in, joined_live, joined_of}
+pub use Rattle.osi_stack.specs.State.{session_at, session_in, used_lines, waits, Line as EndLine}
 pub use Rattle.osi_stack.specs.Transport.{answers_by}
 pub use Rattle.osi_stack.specs.declared.connecting.Connect.{Connect as ConnectCall}
 pub use Rattle.osi_stack.specs.declared.connecting.ConnectError.{ConnectError}
 pub use Rattle.osi_stack.specs.declared.connecting.ConnectError.TheVariants.{NotSelected, TooLong}
-pub use Rattle.osi_tpdu.specs.Limits.{tsap_octets}
-pub use Rattle.osi_tpdu.specs.Value.{Value, acknowledge, confirm, data0, data2, disconnect, disconnected, error, request}
-pub use Rattle.osi_tpkt.proofs.Fronts.{completed_partial, empty_partial, partial_not_whole}
-pub use Rattle.osi_tpkt.specs.Held.{Held}
-pub use Rattle.osi_tpkt.specs.Octets.{IsOctets}
-pub use Rattle.osi_tpkt.specs.Packet.{IsFaultOf, IsPacket, IsPartial, packet_of}
-pub use Rattle.osi_tpkt.specs.Stream.{ArePackets, offset_of}
-pub use Rattle.osi_tpkt.specs.declared.faults.TpktFault.{TpktFault}
 pub use Rattle.osi_pair.specs.Advancing.{CanHappen, StandsAfter}
 pub use Rattle.osi_pair.specs.Asked.{CanBeAsked, asked_of}
 pub use Rattle.osi_pair.specs.Carrying.{CarriesFrom, CarriesPiece, CarriesPieces, Crossing, crossing}
-pub use Rattle.osi_pair.specs.Ends.{TwoEnds, after_break, after_call, after_connect, answer_with, called_by_error, connected_by, end_at, fresh_ends, noted, reachable, sent_by, with_end}
+pub use Rattle.osi_pair.specs.Ends.{TwoEnds, after_break, after_call, after_connect, answer_with, called_by_error, connected_by, end_at}
+pub use Rattle.osi_pair.specs.Ends.{fresh_ends, noted, reachable, sent_by, with_end}
 pub use Rattle.osi_pair.specs.Entries.{Entry, asks, entry_by, shows}
-pub use Rattle.osi_pair.specs.Events.{Adds, CarriesAsMuch, CarriesWhereQuiet, Does, HearsOfBreak, IsToldOfBreak, Moves, TellsBreak, WantsMemory, error_by_rule, misfit, misfit_break, misfit_told}
-pub use Rattle.osi_pair.specs.Promises.{AgreeUnlessDuplex, AllWereAskedFor, AreAtRest, AreTakenInOrder, ConfirmedIsSeen, EndsForFewReasons, HasNoFault, HaveOneHolder, IsAllTaken, IsLegalJournal, IsOpenAt, IsSeenThere, IsShownAsAsked, LoseAsTheyEnd, OfEachConnection, begun_of, confirmed_at, ending_of, is_fault, journal_in, kept_of, taken_by, with_word}
+pub use Rattle.osi_pair.specs.Events.{Adds, CarriesAsMuch, CarriesWhereQuiet, Does, HearsOfBreak, IsToldOfBreak, Moves, TellsBreak}
+pub use Rattle.osi_pair.specs.Events.{WantsMemory, error_by_rule, misfit, misfit_break, misfit_told}
+pub use Rattle.osi_pair.specs.Memory.{ends_in}
+pub use Rattle.osi_pair.specs.Promises.{AgreeUnlessDuplex, AllWereAskedFor, AreAtRest, AreTakenInOrder, ConfirmedIsSeen, EndsForFewReasons}
+pub use Rattle.osi_pair.specs.Promises.{HasNoFault, HaveOneHolder, IsAllTaken, IsLegalJournal, IsOpenAt, IsSeenThere, IsShownAsAsked}
+pub use Rattle.osi_pair.specs.Promises.{LoseAsTheyEnd, OfEachConnection, begun_of, confirmed_at, ending_of, is_fault, journal_in, kept_of}
+pub use Rattle.osi_pair.specs.Promises.{taken_by, with_word}
 pub use Rattle.osi_pair.specs.Reached.{HoldLess, IsReached}
 pub use Rattle.osi_pair.specs.Reaching.{reach_after, within}
 pub use Rattle.osi_pair.specs.Running.{AreStepsOf, HappenAll, Happens, RunsThrough, StandsBehind}
+pub use Rattle.osi_pair.specs.SameEnds.{IsSameEnd, AreSameEnds, FoundMemory}
 pub use Rattle.osi_pair.specs.Sides.{other}
-pub use Rattle.osi_pair.specs.Standing.{AreAlike, AreArrivals, AreDeliveries, AreUnderWay, Goes, HasJoined, HasLine, IsInOrder, IsLine, IsSeated, IsUnderWay, Stands, StandsAt, StandsAtArrivals, StandsAtBreak, StandsAtDeliveries, StandsAtEnd, StandsAtTold, answer_in, carriers_of, class_in, ending_in, entry_in, is_caller, is_parting, joining, message_in, offer_in, packet_taken, refusal_in, side_in, terms_in, transport_in, word_in}
+pub use Rattle.osi_pair.specs.Standing.{AreAlike, AreArrivals, AreDeliveries, AreUnderWay, Goes, HasJoined, HasLine, IsInOrder, IsLine}
+pub use Rattle.osi_pair.specs.Standing.{IsSeated, IsUnderWay, Stands, StandsAt, StandsAtArrivals, StandsAtBreak, StandsAtDeliveries}
+pub use Rattle.osi_pair.specs.Standing.{StandsAtEnd, StandsAtTold, answer_in, carriers_of, class_in, ending_in, entry_in, is_caller}
+pub use Rattle.osi_pair.specs.Standing.{is_parting, joining, message_in, offer_in, packet_taken, side_in, terms_in, transport_in, word_in}
 pub use Rattle.osi_pair.specs.Telling.{ShowsFirst, Tells, end_entries, quieted, shown_entries, told_entries, waiting_in}
 pub use Rattle.osi_pair.specs.Words.{AreInOrder, IsBegun, MayFollow, Word, begun_octets, joins, left_of, most_data, part, whole}
+pub use Rattle.osi_pair.specs.declared.entries.Entry.TheVariants.{Indication}
 pub use Rattle.osi_pair.specs.declared.events.Applied.{Applied}
 pub use Rattle.osi_pair.specs.declared.events.Event.{Event}
 pub use Rattle.osi_pair.specs.declared.events.Event.TheVariants.{Break, Carry, Connect, Told}
+pub use Rattle.osi_pair.specs.declared.faults.PairError.{PairError}
+pub use Rattle.osi_pair.specs.declared.faults.PairError.TheVariants.{OutOfMemory}
 pub use Rattle.osi_pair.specs.declared.reach.Reach.{Reach}
 pub use Rattle.osi_pair.specs.declared.sides.Side.{Side}
 pub use Rattle.osi_pair.specs.declared.sides.Side.TheVariants.{Left, Right}

@@ -1,9 +1,9 @@
 -- Carrying octets from one end to the other.
-use Rattle.std.specs.Prelude.{◌≡◌, ℕ, ◌-◌, ◌<◌, List, [], ◌∷◌, ◌++◌, sum, take, min}
+use Rattle.std.specs.Prelude.{◌≡◌, ℕ, ◌-◌, ◌<◌, true, List, [], ◌∷◌, ◌++◌, sum, take, min}
 use Rattle.osi_session.specs.Shown.{Shown}
 use Rattle.osi_stack.specs.Calls.{carried}
 use Rattle.osi_stack.specs.Feeding.{Feeds}
-use Rattle.osi_stack.specs.State.{Holding}
+use Rattle.osi_stack.specs.State.{Holding, waits}
 use Rattle.osi_tpkt.specs.declared.cutting.Fed.{Fed}
 use Rattle.osi_pair.specs.Ends.{TwoEnds, end_at, reachable}
 use Rattle.osi_pair.specs.Entries.{Entry}
@@ -46,6 +46,13 @@ pub record TakesNothing (side : Side) (new : Crossing) : Type 0 where
   pub most : ℕ
   pub some : 0 < most
   pub piece : CarriesPiece side most old 0 new
+
+-- after some pieces an indication was still pending at the end that is fed
+pub record IsHeldUp (side : Side) (most : ℕ) (old : Crossing) : Type 0 where
+  pub pieces : List ℕ
+  pub between : Crossing
+  pub each : CarriesPieces side most pieces old between
+  pub waiting : waits between.to.end.lines ≡ true
 
 pub record Carries (side : Side) (most : ℕ) (old : Crossing) (octets : ℕ) (new : Crossing) : Type 0 where
   pub pieces : List ℕ

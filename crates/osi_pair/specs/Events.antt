@@ -1,10 +1,10 @@
 -- The effect of an event on two ends, and when it does not fit.
-use Rattle.std.specs.Prelude.{◌≡◌, ◌<◌, ◌≤◌, ℕ, Bool, true, false, not, List, ◌++◌, min, Option, Some, None, IsSome}
+use Rattle.std.specs.Prelude.{◌≡◌, ◌<◌, ◌≤◌, ◌⊎◌, ℕ, Bool, true, false, not, List, ◌++◌, length, min, Option, Some, None, IsSome}
 use Rattle.osi_session.specs.Calls.{called_by}
 use Rattle.osi_session.specs.Shown.{Shown}
 use Rattle.osi_stack.specs.Calls.{breaks}
 use Rattle.osi_stack.specs.State.{Holding, waits}
-use Rattle.osi_pair.specs.Carrying.{CarriesFrom}
+use Rattle.osi_pair.specs.Carrying.{CarriesFrom, IsHeldUp, crossing}
 use Rattle.osi_pair.specs.Ends.{TwoEnds, end_at, after_connect, after_call, after_break, reachable}
 use Rattle.osi_pair.specs.Entries.{Entry}
 use Rattle.osi_pair.specs.Sides.{other}
@@ -94,6 +94,17 @@ CarriesAsMuch event p applied = CarriesNothing applied
 abbrev pub CarriesWhereQuiet : Event → TwoEnds → Applied → Type 0
 CarriesWhereQuiet (Carry side most) p applied = Moves (not (waits (end_at (other side) p).end.lines)) (min most (reachable side p)) applied
 CarriesWhereQuiet event p applied = CarriesNothing applied
+
+-- A carry is cut short only after it has noted something: the room that it made at first was then used up.
+abbrev pub NotesIfCutShort : TwoEnds → Applied → TwoEnds → Type 0
+NotesIfCutShort old applied new = applied.is_cut_short ≡ true → length old.journal < length new.journal
+
+-- the same, if the end that is fed may have pending indications
+abbrev pub NotesWhereQuiet : Event → TwoEnds → Applied → TwoEnds → Type 0
+NotesWhereQuiet (Carry side most) old applied new =
+    applied.is_cut_short ≡ true →
+    (length old.journal < length new.journal) ⊎ IsHeldUp (other side) (min most (reachable side old)) (crossing side old)
+NotesWhereQuiet event old applied new = Unit {0}
 
 -- the journal keeps its entries, and may get more
 pub record Adds (old new : List Entry) : Type 0 where

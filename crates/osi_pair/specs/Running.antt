@@ -6,7 +6,7 @@ use Rattle.osi_session.specs.Calls.{called_by}
 use Rattle.osi_pair.specs.Advancing.{StandsAfter}
 use Rattle.osi_pair.specs.Asked.{asked_of}
 use Rattle.osi_pair.specs.Ends.{TwoEnds}
-use Rattle.osi_pair.specs.Events.{misfit, error_by_rule, WantsMemory, Does, CarriesAsMuch}
+use Rattle.osi_pair.specs.Events.{misfit, error_by_rule, WantsMemory, Does, CarriesAsMuch, NotesIfCutShort}
 use Rattle.osi_pair.specs.Promises.{IsSafe}
 use Rattle.osi_pair.specs.Sides.{other}
 use Rattle.osi_pair.specs.Standing.{side_in, offer_in, StandsAt, AreArrivals}
@@ -16,13 +16,15 @@ use Rattle.osi_pair.specs.declared.events.Event.TheVariants.{Connect, Call, Carr
 use Rattle.osi_pair.specs.declared.faults.PairError.TheVariants.{OutOfMemory}
 use Rattle.osi_pair.specs.declared.faults.RunError.{RunError}
 
--- An event that fits is applied; a carry carries as much as there is, up to what it was asked to. If the two ends
--- matched a list of steps of the machine, they match that list followed by the steps of the event; and they are safe.
+-- An event that fits is applied; a carry carries as much as there is, up to what it was asked to, and is cut short only
+-- after it has noted something. If the two ends matched a list of steps of the machine, they match that list followed by
+-- the steps of the event; and they are safe.
 pub record Happens (event : Event) (old new : TwoEnds) : Type 0 where
   pub applied : Applied
   pub fits : misfit event old ≡ None
   pub does : Does event old applied.carried new
   pub carried : CarriesAsMuch event old applied
+  pub cut : NotesIfCutShort old applied new
   pub stands : (steps : List Step) → StandsAt old steps → StandsAfter event old new steps
   pub safe : IsSafe new
 

@@ -3,7 +3,7 @@
 ghost use Rattle.std.specs.Prelude.{◌≡◌, ◌+◌, ◌<◌, ◌≤◌, ◌⊎◌, true, false, not, length, map, vec_len, vec_capacity, IfOk, IfErr, OnErr};
 ghost use Rattle.osi_stack.specs.Calls.{carried};
 ghost use Rattle.osi_stack.specs.State.{waits};
-ghost use Rattle.osi_pair.specs.Carrying.{FeedsFirst, CarriesPiece, Carries, TakesNothing};
+ghost use Rattle.osi_pair.specs.Carrying.{FeedsFirst, CarriesPiece, Carries, IsHeldUp, TakesNothing};
 ghost use Rattle.osi_pair.specs.Entries.{entry_by};
 ghost use Rattle.osi_pair.specs.Events.{Moves};
 
@@ -42,6 +42,8 @@ fn carry_piece(
         (record { from = from.new; to = to.new; journal = map entry_by journal.new.items }) }
     ensures used { result ≤ most }
     ensures left { length from.new.end.carrier.outgoing + result ≡ length from.old.end.carrier.outgoing }
+    ensures notes { (vec_len journal.new + 81 < vec_capacity journal.new)
+        ⊎ (length (map entry_by journal.old.items) < length (map entry_by journal.new.items)) }
     ensures progress { waits to.old.end.lines ≡ false → 0 < most → 0 < result }
 {
     let before = to.ended();
@@ -68,6 +70,9 @@ pub(crate) fn carry(
     ensures short { IfOk result (λ applied. applied.is_cut_short ≡ true →
         (vec_capacity journal.new ≤ vec_len journal.new + 81)
         ⊎ TakesNothing side (record { from = from.new; to = to.new; journal = map entry_by journal.new.items })) }
+    ensures cut { IfOk result (λ applied. applied.is_cut_short ≡ true →
+        (length (map entry_by journal.old.items) < length (map entry_by journal.new.items))
+        ⊎ IsHeldUp side octets (record { from = from.old; to = to.old; journal = map entry_by journal.old.items })) }
     ensures memory { IfErr result (λ error. error ≡ PairError.OutOfMemory) }
     ensures some { OnErr result (0 < octets) }
     ensures from { OnErr result (from.new ≡ from.old) }

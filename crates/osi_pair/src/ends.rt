@@ -25,12 +25,13 @@ pub(crate) struct Ends {
 }
 
 impl Ends {
-    ghost use Rattle.std.specs.Prelude.{◌≡◌, ◌<◌, ◌≤◌, None, true, false, not, min, is_some, IfOk, IfErr, OnOk, OnErr, IsOk};
+    ghost use Rattle.std.specs.Prelude.{◌≡◌, ◌<◌, ◌≤◌, ◌⊎◌, None, true, false, not, length, min, is_some, IfOk, IfErr, OnOk, OnErr, IsOk};
     ghost use Rattle.osi_session.specs.Calls.{called_by};
     ghost use Rattle.osi_stack.specs.State.{waits};
-    ghost use Rattle.osi_pair.specs.Carrying.{CarriesFrom};
+    ghost use Rattle.osi_pair.specs.Carrying.{CarriesFrom, IsHeldUp, crossing};
     ghost use Rattle.osi_pair.specs.Ends.{fresh_ends, end_at, after_connect, after_call, after_break, sent_by, reachable};
     ghost use Rattle.osi_pair.specs.Events.{misfit, misfit_told, error_by_rule, WantsMemory, TellsBreak, Does, CarriesWhereQuiet, Moves};
+    ghost use Rattle.osi_pair.specs.Events.{NotesWhereQuiet};
     ghost use Rattle.osi_pair.specs.Memory.{ends_in};
     ghost use Rattle.osi_pair.specs.Sides.{other};
 
@@ -110,6 +111,9 @@ impl Ends {
         ensures ok { IfOk result (λ applied. CarriesFrom side octets (ends_in self.old) applied.carried (ends_in self.new)) }
         ensures moves { IfOk result (λ applied. Moves (not (waits (end_at (other side) (ends_in self.old)).end.lines))
             (min octets (reachable side (ends_in self.old))) applied) }
+        ensures cut { IfOk result (λ applied. applied.is_cut_short ≡ true →
+            (length (ends_in self.old).journal < length (ends_in self.new).journal)
+            ⊎ IsHeldUp (other side) (min octets (reachable side (ends_in self.old))) (crossing side (ends_in self.old))) }
         ensures memory { IfErr result (λ error. error ≡ PairError.OutOfMemory) }
         ensures some { OnErr result (0 < min octets (reachable side (ends_in self.old))) }
         ensures err { OnErr result (ends_in self.new ≡ ends_in self.old) }
@@ -171,6 +175,7 @@ impl Ends {
         ensures needed { IfErr result (λ error. error ≡ PairError.OutOfMemory → WantsMemory event.now (ends_in self.old)) }
         ensures err { OnErr result (ends_in self.new ≡ ends_in self.old) }
         ensures carried { IfOk result (λ applied. CarriesWhereQuiet event.now (ends_in self.old) applied) }
+        ensures cut { IfOk result (λ applied. NotesWhereQuiet event.now (ends_in self.old) applied (ends_in self.new)) }
     {
         match *event {
             Event::Connect(asked) => {

@@ -38,7 +38,7 @@ impl Pair {
     ghost use Rattle.osi_pair.specs.Advancing.{StandsAfter};
     ghost use Rattle.osi_pair.specs.Ends.{fresh_ends, end_at};
     ghost use Rattle.osi_pair.specs.Entries.{entry_by};
-    ghost use Rattle.osi_pair.specs.Events.{misfit, error_by_rule, WantsMemory, Does, CarriesAsMuch, Adds};
+    ghost use Rattle.osi_pair.specs.Events.{misfit, error_by_rule, WantsMemory, Does, CarriesAsMuch, NotesIfCutShort, Adds};
     ghost use Rattle.osi_pair.specs.Promises.{AgreeUnlessDuplex, AllWereAskedFor, ConfirmedIsSeen, EndsForFewReasons, HasNoFault, HaveOneHolder, IsLegalJournal, IsSafe, IsShownAsAsked, LoseAsTheyEnd, OfEachConnection, TakeWhatWasSent};
     ghost use Rattle.osi_pair.specs.Reached.{IsReached};
     ghost use Rattle.osi_pair.specs.Running.{RunsThrough, StopsAt};
@@ -85,8 +85,9 @@ impl Pair {
     ///
     /// Octets that a side has sent and the other has not been fed are in flight. An [`Event::Carry`] carries the first
     /// of them, and the users of the other end receive the indications that these cause. If memory runs out for the
-    /// entries that more octets may cause, the carry is cut short, as [`Applied`] tells. After an [`Event::Break`] only
-    /// the octets that it leaves can be carried, and an [`Event::Told`] ends an end that has not ended.
+    /// entries that more octets may cause, the carry is cut short, as [`Applied`] tells; that is so only after it has
+    /// noted something. After an [`Event::Break`] only the octets that it leaves can be carried, and an [`Event::Told`]
+    /// ends an end that has not ended.
     ///
     /// If the two ends matched a list of steps of the machine, they match that list followed by the steps of this
     /// event. The steps of a carry are the deliveries of what arrived, and the end of the other side if it ran out of
@@ -94,10 +95,11 @@ impl Pair {
     /// them.
     ///
     /// [`IsSafe`]: ../specs/Promises.antt
-    #[tactic(auto, using(crate::proofs::Growing::does_add))]
+    #[tactic(auto, using(crate::proofs::event::the_journal_only_grows::does_add))]
     pub fn apply(&mut self, event: &Event) -> Result<Applied, PairError>
         ensures does { IfOk result (λ applied. Does event.now self.old applied.carried self.new) }
         ensures carried { IfOk result (λ applied. CarriesAsMuch event.now self.old applied) }
+        ensures cut { IfOk result (λ applied. NotesIfCutShort self.old applied self.new) }
         ensures fits { OnOk result (misfit event.now self.old ≡ None) }
         ensures refused { IfErr result (λ error. error_by_rule error ≡ misfit event.now self.old) }
         ensures needed { IfErr result (λ error. error ≡ PairError.OutOfMemory → WantsMemory event.now self.old) }

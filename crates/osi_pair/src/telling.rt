@@ -1,6 +1,6 @@
 //! Fetching the indications of an end, and noting them in the journal.
 
-ghost use Rattle.std.specs.Prelude.{◌≡◌, ◌+◌, ◌<◌, ◌≤◌, ◌++◌, ◌∷◌, [], map, vec_len, vec_capacity};
+ghost use Rattle.std.specs.Prelude.{◌≡◌, ◌+◌, ◌<◌, ◌≤◌, ◌++◌, ◌∷◌, ◌⊎◌, [], map, length, vec_len, vec_capacity};
 ghost use Rattle.osi_session.specs.Shown.{Shown};
 ghost use Rattle.osi_pair.specs.Entries.{entry_by};
 ghost use Rattle.osi_pair.specs.Telling.{Tells, end_entries};
@@ -35,6 +35,8 @@ pub(crate) fn show(side: Side, stack: &mut Stack, journal: &mut Vec<Entry>)
     requires { vec_len journal.old + 81 < vec_capacity journal.old }
     ensures tells { Tells side stack.old (map entry_by journal.old.items) stack.new (map entry_by journal.new.items) }
     ensures room { vec_len journal.new < vec_capacity journal.new }
+    ensures notes { (vec_len journal.new + 81 < vec_capacity journal.new)
+        ⊎ (length (map entry_by journal.old.items) < length (map entry_by journal.new.items)) }
 {
     let mut count = 0;
     'shown: while count < MOST {
@@ -60,7 +62,9 @@ pub(crate) fn note_end(
     journal: &mut Vec<Entry>,
 )
     requires { vec_len journal.old < vec_capacity journal.old }
-    ensures { map entry_by journal.new.items ≡ map entry_by journal.old.items ++ end_entries side before after }
+    ensures says { map entry_by journal.new.items ≡ map entry_by journal.old.items ++ end_entries side before after }
+    ensures notes { (journal.new ≡ journal.old)
+        ⊎ (length (map entry_by journal.old.items) < length (map entry_by journal.new.items)) }
 {
     if before.is_some() {
         return;

@@ -11,7 +11,8 @@
 //! - `damaged`: captures whose packets are damaged and fed to ends; the result is how many runs behaved as they should;
 //! - `long`: scripts and transcripts with abbreviations, which files after `octets` may have too;
 //! - `together`: scripts whose events are given in one list;
-//! - `texts`: files with the text of each fault and error.
+//! - `texts`: files with the text of each fault and error;
+//! - `judge`: captures of both sides, compared with what is found of each.
 #![tactic(auto)]
 
 mod again;
@@ -19,6 +20,7 @@ mod asked;
 mod calls;
 mod damaged;
 mod digits;
+mod disputes;
 mod long;
 mod octets;
 mod texts;
@@ -28,6 +30,7 @@ mod ways;
 use again::{Replay, replayed};
 use damaged::runs_of;
 use digits::octets_in;
+use disputes::disputed;
 use long::written_out;
 use octets::played;
 use osi_listing::list;
@@ -54,6 +57,7 @@ enum Kind {
     Long,
     Together,
     Texts,
+    Judge,
 }
 
 impl Kind {
@@ -69,6 +73,7 @@ impl Kind {
             "long" => Some(Kind::Long),
             "together" => Some(Kind::Together),
             "texts" => Some(Kind::Texts),
+            "judge" => Some(Kind::Judge),
             _ => None,
         }
     }
@@ -80,6 +85,7 @@ impl Kind {
             Kind::Octets => "octets",
             Kind::Show | Kind::Damaged => "hex",
             Kind::Texts => "texts",
+            Kind::Judge => "disputes",
         }
     }
 
@@ -88,7 +94,7 @@ impl Kind {
         match self {
             Kind::Pair | Kind::EachWay | Kind::Again | Kind::Long => Some("transcript"),
             Kind::Show => Some("listing"),
-            Kind::Octets | Kind::Damaged | Kind::Together | Kind::Texts => None,
+            Kind::Octets | Kind::Damaged | Kind::Together | Kind::Texts | Kind::Judge => None,
         }
     }
 }
@@ -139,6 +145,7 @@ fn judged_alone(alloc: Global, kind: Kind, given: &str) -> io::Result<String> {
         Kind::Octets => judged_octets(alloc, given),
         Kind::Damaged => judged_damage(alloc, given),
         Kind::Together => judged_together(alloc, given),
+        Kind::Judge => judged_disputes(alloc, given),
         _ => judged_texts(alloc, given),
     }
 }
@@ -266,6 +273,11 @@ fn said_of_both(alloc: Global, came: &Together) -> io::Result<String> {
         Some(error) => Ok(format!(in alloc; "as one by one, up to {error}")?),
         None => words(alloc, "as one by one"),
     }
+}
+
+fn judged_disputes(alloc: Global, wanted: &str) -> io::Result<String> {
+    let came = disputed(alloc, wanted)?;
+    compared(alloc, came.as_slice(), wanted, 0)
 }
 
 fn judged_texts(alloc: Global, wanted: &str) -> io::Result<String> {

@@ -1,6 +1,6 @@
 //! The lines of a transcript for answers.
 
-ghost use Rattle.std.specs.Prelude.{◌≡◌, ◌+◌, ◌≤◌, ◌++◌, codes, length, vec_len, vec_capacity, OnOk, OnErr};
+ghost use Rattle.std.specs.Prelude.{◌≡◌, ◌+◌, ◌≤◌, ◌++◌, codes, length, vec_len, vec_capacity, IsOk, OnOk, OnErr};
 ghost use Rattle.std.specs.Fmt.{decimal};
 ghost use Rattle.osi_script.specs.Names.{verb_name};
 ghost use Rattle.osi_script.specs.Answers.{refusal_name, line_fault_name, call_text, answer_line};
@@ -283,11 +283,13 @@ fn push_carried(alloc: Global, out: &mut Vec<u8>, side: Side, octets: u64)
     *out = put_carried(text, side, octets);
 }
 
-/// Adds the line of an answer to a transcript; if memory runs out, the transcript is unchanged.
+/// Adds the line of an answer to a transcript; if memory runs out, the transcript is unchanged. If there is room for 192
+/// more octets, no memory is needed.
 #[inline(always)]
 pub fn push_answer(alloc: Global, out: &mut Vec<u8>, answer: &Answer) -> Result<(), AllocError>
     ensures ok { OnOk result (out.new.items ≡ out.old.items ++ answer_line answer.now) }
     ensures err { OnErr result (out.new.items ≡ out.old.items) }
+    ensures spare { vec_len out.old + 192 ≤ vec_capacity out.old → IsOk result }
 {
     out.reserve(LINE)?;
     match *answer {

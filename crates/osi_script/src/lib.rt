@@ -36,6 +36,7 @@ pub use answers::{Answer, ConnectRefusal, LineFault, push_answer};
 pub use commands::{Classes, Command};
 pub use fronts::read_carry;
 pub use lines::Line;
+pub use names::{call_error as call_error_name, phase as phase_name};
 pub use scripts::{first_line, is_skipped};
 pub use shown::push_indication;
 pub use sides::Side;

@@ -24,7 +24,7 @@ pub(crate) fn open_error(error: OpenError) -> &'static str
 
 /// The name of the reason why a call was refused.
 #[tactic(auto, unfolding(crate::specs::Names::call_error_name))]
-pub(crate) fn call_error(error: CallError) -> &'static str
+pub fn call_error(error: CallError) -> &'static str
     ensures value { result.now ≡ call_error_name error }
     ensures short { length result.now ≤ 16 }
 {
@@ -62,7 +62,7 @@ pub(crate) fn unit_fault(fault: UnitFault) -> &'static str
 
 /// The name of a phase.
 #[tactic(auto, unfolding(crate::specs::Names::phase_name))]
-pub(crate) fn phase(phase: Phase) -> &'static str
+pub fn phase(phase: Phase) -> &'static str
     ensures value { result.now ≡ phase_name phase }
     ensures short { length result.now ≤ 16 }
 {

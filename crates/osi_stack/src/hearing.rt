@@ -62,6 +62,22 @@ fn show(waiting: &mut VecDeque<Indication>, first: Indication, more: Vec<Indicat
     };
 }
 
+/// An indication waits, and there is room for one more behind it. Memory is needed only if there is not room for both; if it
+/// runs out, what waited still waits.
+#[inline(always)]
+pub fn put(waiting: &mut VecDeque<Indication>, shown: Indication) -> Result<(), AllocError>
+    ensures items { OnOk result (map shown_by waiting.new.items ≡ map shown_by waiting.old.items ++ shown_by shown ∷ []) }
+    ensures room { OnOk result (deque_len waiting.new < deque_capacity waiting.new) }
+    ensures kept { OnErr result (waiting.new.items ≡ waiting.old.items) }
+    ensures len { OnErr result (deque_len waiting.new ≡ deque_len waiting.old) }
+    ensures capacity { OnErr result (deque_capacity waiting.old ≤ deque_capacity waiting.new) }
+    ensures full { OnErr result (deque_capacity waiting.old < deque_len waiting.old + 2) }
+{
+    waiting.reserve(2)?;
+    waiting.push_back_reserved(shown);
+    Ok(())
+}
+
 /// Whether a connection is asked for.
 fn is_connect(shown: &Indication) -> bool
     ensures { result ≡ is_connect (shown_by shown.now) }
@@ -153,8 +169,7 @@ pub fn hear(
         match session.take_expected(octets.as_slice())? {
             Expected::Shown(indication) => {
                 let connects = is_connect(&indication);
-                waiting.reserve(2)?;
-                waiting.push_back_reserved(indication);
+                put(waiting, indication)?;
                 return Ok(connects);
             }
             Expected::Joined => return Ok(false),

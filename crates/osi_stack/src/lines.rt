@@ -19,7 +19,7 @@ ghost use Rattle.osi_stack.specs.Selectors.{selectors_sent, selectors_told, sess
 ghost use Rattle.osi_stack.specs.Telling.{told_input};
 
 use crate::calls::make_call;
-use crate::hearing::{data_in, hear};
+use crate::hearing::{data_in, hear, put};
 use crate::names::SessionSelectors;
 use crate::told::Told;
 use osi_carrier::lookup::{Referred, is_above, place_in};
@@ -195,11 +195,10 @@ impl Line {
         ensures ok { OnOk result (self.new ≡ (self.old.0, record self.old.1 { waiting = self.old.1.waiting ++ shown_by shown ∷ [] })) }
         ensures lost { OnErr result (self.new ≡ (self.old.0, loses self.old.1)) }
     {
-        if self.waiting.reserve(2).is_err() {
+        if put(&mut self.waiting, shown).is_err() {
             self.lose();
             return Err(AllocError);
         }
-        self.waiting.push_back_reserved(shown);
         Ok(())
     }
 

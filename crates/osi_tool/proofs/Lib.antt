@@ -1,4 +1,4 @@
 pub mod Consumption
-pub mod Digits
+pub mod Failures
 pub mod Names
 pub mod Writing

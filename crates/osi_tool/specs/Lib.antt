@@ -1,4 +1,6 @@
-pub mod Capture
-pub mod Show
+pub mod Doing
+pub mod Endings
+pub mod Judging
 pub mod Pairing
+pub mod Show
 pub mod Words

@@ -1,7 +1,7 @@
 -- What `show` does, where the reader and the writer tell their octets.
 use Rattle.std.specs.Prelude.{◌≡◌, ℕ, ◌<◌, ◌≤◌, ◌⊎◌, Bool, true, List, length, take, Option, IfSome}
 use Rattle.std.specs.Io.KnownBytes.{Appends, Consumes, IsAtEnd}
-use Rattle.osi_tool.specs.Capture.{Captures}
+use Rattle.osi_listing.specs.Capture.{Captures}
 use Rattle.osi_listing.specs.Listing.{IsListing}
 
 -- a text of at most 16,777,216 octets is a capture, and these lines are the listing of what it captures

@@ -2,7 +2,7 @@
 use Rattle.std.specs.Prelude.{◌≡◌, ℕ, List, codes, true, Option, Some, option_map}
 use Rattle.clap.specs.Words.{App, Text, new_app, subcommand_of, with_subcommand}
 use Rattle.osi_tool.specs.declared.jobs.Job.{Job}
-use Rattle.osi_tool.specs.declared.jobs.Job.TheVariants.{Show, Pair}
+use Rattle.osi_tool.specs.declared.jobs.Job.TheVariants.{Show, Pair, Judge}
 
 -- the command `osi`, which wants a subcommand and tells its version
 abbrev pub top : App
@@ -13,12 +13,13 @@ top = record {
 
 -- the same with its subcommands
 unfoldable pub osi : App
-osi = with_subcommand (with_subcommand top (new_app (codes "show")).top) (new_app (codes "pair")).top
+osi = with_subcommand (with_subcommand (with_subcommand top (new_app (codes "show")).top) (new_app (codes "pair")).top) (new_app (codes "judge")).top
 
 -- the subcommand of a job
 abbrev pub name_of : Job → List ℕ
 name_of Show = codes "show"
 name_of Pair = codes "pair"
+name_of Judge = codes "judge"
 
 -- the name is that of a job
 abbrev pub IsJob : Option (List ℕ) → Type 0

@@ -1,6 +1,9 @@
 //! Why the program fails.
 
-/// Why the program gave no listing.
+ghost use Rattle.std.specs.Prelude.{◌≡◌};
+ghost use Rattle.osi_tool.specs.Endings.{fault_line};
+
+/// Why a job failed.
 #[derive(Clone, Copy)]
 pub enum ToolFault {
     /// A read failed, or the input has more than 16,777,216 octets.
@@ -24,14 +27,16 @@ pub enum ProgramFault {
 }
 
 impl ProgramFault {
-    /// What the program prints on standard error.
-    pub fn name(self) -> &'static str {
+    /// The line that the program prints on standard error.
+    pub fn line(self) -> &'static str
+        ensures { result.now ≡ fault_line self }
+    {
         match self {
-            ProgramFault::Words => "Words",
-            ProgramFault::Tool(ToolFault::Input) => "Input",
-            ProgramFault::Tool(ToolFault::BadHex) => "BadHex",
-            ProgramFault::Tool(ToolFault::Write) => "Write",
-            ProgramFault::Tool(ToolFault::OutOfMemory) => "OutOfMemory",
+            ProgramFault::Words => "osi: Words",
+            ProgramFault::Tool(ToolFault::Input) => "osi: Input",
+            ProgramFault::Tool(ToolFault::BadHex) => "osi: BadHex",
+            ProgramFault::Tool(ToolFault::Write) => "osi: Write",
+            ProgramFault::Tool(ToolFault::OutOfMemory) => "osi: OutOfMemory",
         }
     }
 }

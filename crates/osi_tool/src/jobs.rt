@@ -7,4 +7,6 @@ pub enum Job {
     Show,
     /// Runs the script on standard input on two ends.
     Pair,
+    /// Judges the capture of both sides on standard input.
+    Judge,
 }

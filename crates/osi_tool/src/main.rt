@@ -1,15 +1,18 @@
-//! The program `osi`, which reads captures of the OSI session protocol over TPKT, and runs scripts on
-//! two ends.
+//! The program `osi`, which reads captures of the OSI session protocol over TPKT, runs scripts on two
+//! ends, and says which side of a capture first broke the protocol.
 //!
-//! `osi show` lists the capture on standard input, and `osi pair` runs the script there and prints its
-//! transcript. The status is 0 where all of it was read, and 1 where something was refused, which the
-//! text shows. It is 2 where the words, the input or its digits can't be read, a write failed, or
-//! memory ran out; one line on standard error then names it.
+//! `osi show` lists the capture on standard input, `osi pair` runs the script there and prints its
+//! transcript, and `osi judge` judges the capture of both sides there. The status is 0 if all of it was
+//! read, or both sides kept the protocol. It is 1 if something was refused, a side broke the protocol, or
+//! the capture was not judged, which the text shows. It is 2 if the words, the input or its digits can't
+//! be read, a write failed, or memory ran out; one line on standard error then names it.
 #![tactic(auto)]
 
-mod capture;
+mod doing;
+mod endings;
 mod faults;
 mod jobs;
+mod judging;
 mod pairing;
 mod showing;
 #[cfg(test)]
@@ -18,51 +21,50 @@ mod texts;
 mod watched;
 mod words;
 
+ghost use Rattle.std.specs.Prelude.{◌<◌, IfOk};
+
 use clap::Error;
-use clap::error::ErrorKind;
+use doing::do_job;
+use endings::{answer_of_help, ending_of, fault_of_reading_words};
 use faults::{ProgramFault, ToolFault};
 use jobs::Job;
-use pairing::pair;
-use showing::show;
 use std::process::ExitCode;
 use std::rt::Env;
 use std::{env, io};
 use watched::{WatchedReader, WatchedWriter};
 
 fn main(rt: HostRuntime) -> ExitCode {
-    let status = match run(&rt) {
-        Ok(status) => status,
-        Err(fault) => {
-            let name = fault.name();
-            let _ = eprintln!(&rt; "osi: {name}");
-            2
-        }
-    };
-    ExitCode::from(status)
+    let ending = ending_of(run(&rt));
+    if let Some(line) = ending.line {
+        let _ = eprintln!(&rt; "{line}");
+    }
+    ExitCode::from(ending.status)
 }
 
-/// Does what the program's words ask for, and answers the status.
-fn run<R: Env + Input + Print + AllocGlobal>(rt: &R) -> Result<u8, ProgramFault> {
+/// Does what the program's words ask for, and returns the status.
+fn run<R: Env + Input + Print + AllocGlobal>(rt: &R) -> Result<u8, ProgramFault>
+    ensures { IfOk result (λ status. status < 2) }
+{
     answer(rt, words_of(rt)?.as_slice())
 }
 
-/// Does what words ask for, and answers the status.
-fn answer<R: Input + Print + AllocGlobal>(rt: &R, words: &[String]) -> Result<u8, ProgramFault> {
+/// Does what words ask for, and returns the status.
+fn answer<R: Input + Print + AllocGlobal>(rt: &R, words: &[String]) -> Result<u8, ProgramFault>
+    ensures { IfOk result (λ status. status < 2) }
+{
     match words::job(rt.alloc(), words) {
         Ok(job) => done(rt, job),
         Err(error) => explain(rt, &error),
     }
 }
 
-/// Does a job, and answers the status.
-fn done<R: Input + Print + AllocGlobal>(rt: &R, job: Job) -> Result<u8, ProgramFault> {
+/// Does a job on standard input and output, and returns the status.
+fn done<R: Input + Print + AllocGlobal>(rt: &R, job: Job) -> Result<u8, ProgramFault>
+    ensures { IfOk result (λ status. status < 2) }
+{
     let mut reader = WatchedReader::new(rt.reader());
     let mut writer = WatchedWriter::new(io::writer(rt));
-    let answer = match job {
-        Job::Show => show(rt.alloc(), &mut reader, &mut writer),
-        Job::Pair => pair(rt.alloc(), &mut reader, &mut writer),
-    };
-    match answer {
+    match do_job(rt.alloc(), job, &mut reader, &mut writer) {
         Ok(status) => Ok(status),
         Err(fault) => Err(ProgramFault::Tool(fault)),
     }
@@ -70,27 +72,21 @@ fn done<R: Input + Print + AllocGlobal>(rt: &R, job: Job) -> Result<u8, ProgramF
 
 /// The words that the program was called with.
 fn words_of<R: Env + AllocGlobal>(rt: &R) -> Result<Vec<String>, ProgramFault> {
-    let no_memory = Err(ProgramFault::Tool(ToolFault::OutOfMemory));
     match env::args(rt) {
         Ok(words) => match words.collect(rt.alloc()) {
             Ok(words) => Ok(words),
-            Err(_) => no_memory,
+            Err(_) => Err(ProgramFault::Tool(ToolFault::OutOfMemory)),
         },
-        Err(error) if error.kind() == io::ErrorKind::OutOfMemory => no_memory,
-        Err(_) => Err(ProgramFault::Words),
+        Err(error) => Err(fault_of_reading_words(&error)),
     }
 }
 
 /// Prints the help that was asked for; other errors are faults.
-fn explain<R: Print>(rt: &R, error: &Error) -> Result<u8, ProgramFault> {
-    if error.kind() == ErrorKind::OutOfMemory {
-        return Err(ProgramFault::Tool(ToolFault::OutOfMemory));
-    }
-    if error.use_stderr() {
-        return Err(ProgramFault::Words);
-    }
-    match rt.print(error) {
-        Ok(()) => Ok(0),
-        Err(_) => Err(ProgramFault::Tool(ToolFault::Write)),
+fn explain<R: Print>(rt: &R, error: &Error) -> Result<u8, ProgramFault>
+    ensures { IfOk result (λ status. status < 2) }
+{
+    match words::fault_of_words(error) {
+        Some(fault) => Err(fault),
+        None => answer_of_help(rt.print(error)),
     }
 }

@@ -2,7 +2,7 @@
 
 ghost use Rattle.std.specs.Prelude.{◌≡◌, ◌<◌, ◌≤◌, ◌⊎◌, ◌++◌, true, length, Err, Ok, IfOk, IfErr, IfSome, OnOk};
 ghost use Rattle.std.specs.Io.KnownBytes.{Consumes};
-ghost use Rattle.osi_tool.specs.Capture.{IsNoCapture};
+ghost use Rattle.osi_listing.specs.Capture.{IsNoCapture};
 ghost use Rattle.osi_tool.specs.Show.{FailsToRead, IsRead, Shows, ShowsPart, TakesAtMost};
 
 use crate::faults::ToolFault;

@@ -2,6 +2,7 @@
 
 use crate::faults::{ProgramFault, ToolFault};
 use crate::jobs::Job;
+use crate::judging::judge;
 use crate::pairing::pair;
 use crate::showing::show;
 use crate::texts::LONGEST_INPUT;
@@ -79,9 +80,9 @@ fn has_status(answer: Result<u8, ToolFault>, status: u8) -> Result<(), Fail> {
     }
 }
 
-fn has_fault(answer: Result<u8, ToolFault>, name: &str) -> Result<(), Fail> {
+fn has_fault(answer: Result<u8, ToolFault>, line: &str) -> Result<(), Fail> {
     match answer {
-        Err(fault) if ProgramFault::Tool(fault).name() == name => Ok(()),
+        Err(fault) if ProgramFault::Tool(fault).line() == line => Ok(()),
         _ => Err(Fail::from("another answer")),
     }
 }
@@ -120,14 +121,14 @@ fn lists(
     is_text(out.as_slice(), lines)
 }
 
-/// `show` writes nothing, and returns a fault with this name.
+/// `show` writes nothing, and returns the fault with this line.
 fn refuses(
     alloc: Global,
     source: &mut Source<'_>,
     out: &mut Vec<u8>,
-    name: &str,
+    line: &str,
 ) -> Result<(), Fail> {
-    has_fault(shown(alloc, source, out), name)?;
+    has_fault(shown(alloc, source, out), line)?;
     is_text(out.as_slice(), "")
 }
 
@@ -167,7 +168,7 @@ const NO_CAPTURES: [&str; 6] = ["0", "03 0", "03 0g", "03, 00", "0x03", "03 # 0\
 
 fn is_no_capture(alloc: Global, text: &str) -> Result<(), Fail> {
     let mut source = at_once(text.as_bytes());
-    refuses(alloc, &mut source, &mut Vec::new(alloc), "BadHex")
+    refuses(alloc, &mut source, &mut Vec::new(alloc), "osi: BadHex")
 }
 
 #[test]
@@ -189,7 +190,7 @@ fn is_listed_octet_by_octet(alloc: Global) -> Result<(), Fail> {
 
 fn is_not_read(alloc: Global) -> Result<(), Fail> {
     let mut source = broken_off(DATA.as_bytes());
-    refuses(alloc, &mut source, &mut Vec::new(alloc), "Input")
+    refuses(alloc, &mut source, &mut Vec::new(alloc), "osi: Input")
 }
 
 #[test]
@@ -209,9 +210,48 @@ fn shown_to(alloc: Global, writer: &mut Broken) -> Result<u8, ToolFault> {
 #[test]
 fn a_write_or_a_flush_fails(rt: HostRuntime) -> Result<(), Fail> {
     for takes in [false, true] {
-        has_fault(shown_to(rt.alloc(), &mut Broken { takes }), "Write")?;
+        has_fault(shown_to(rt.alloc(), &mut Broken { takes }), "osi: Write")?;
     }
     Ok(())
+}
+
+/// What `judge` answers.
+fn judged(alloc: Global, source: &mut Source<'_>, out: &mut Vec<u8>) -> Result<u8, ToolFault> {
+    judge(
+        alloc,
+        &mut WatchedReader::new(source),
+        &mut WatchedWriter::new(out),
+    )
+}
+
+/// `judge` writes these lines.
+fn finds(alloc: Global, text: &str, lines: &str) -> Result<(), Fail> {
+    let mut out = Vec::new(alloc);
+    has_status(judged(alloc, &mut at_once(text.as_bytes()), &mut out), 0)?;
+    is_text(out.as_slice(), lines)
+}
+
+/// `judge` writes nothing, and returns the fault with this line.
+fn judges_nothing(alloc: Global, source: &mut Source<'_>, line: &str) -> Result<(), Fail> {
+    let mut out = Vec::new(alloc);
+    has_fault(judged(alloc, source, &mut out), line)?;
+    is_text(out.as_slice(), "")
+}
+
+/// A CR with the reference 1, which nobody answered.
+const ASKED: &str = "0300000e09e00000000100c0010a";
+
+const UNANSWERED: &str = "left packets 1 octets 14 rest 0
+right packets 0 octets 0 rest 0
+left 1 unanswered
+both kept the protocol
+";
+
+#[test]
+fn a_capture_of_both_sides(rt: HostRuntime) -> Result<(), Fail> {
+    finds(rt.alloc(), ASKED, UNANSWERED)?;
+    judges_nothing(rt.alloc(), &mut broken_off(ASKED.as_bytes()), "osi: Input")?;
+    judges_nothing(rt.alloc(), &mut at_once(b"030"), "osi: BadHex")
 }
 
 /// Blanks, one more than the longest input.
@@ -226,7 +266,7 @@ fn are_too_many(alloc: Global, octets: &[u8], most: usize) -> Result<(), Fail> {
         most,
         fails: false,
     };
-    refuses(alloc, &mut source, &mut Vec::new(alloc), "Input")
+    refuses(alloc, &mut source, &mut Vec::new(alloc), "osi: Input")
 }
 
 fn are_no_packets(alloc: Global, octets: &[u8], most: usize) -> Result<(), Fail> {
@@ -266,19 +306,22 @@ fn an_octet_too_many_octet_by_octet(rt: HostRuntime) -> Result<(), Fail> {
     are_too_many(rt.alloc(), blanks(rt.alloc())?.as_slice(), 1)
 }
 
-/// What the program prints for each fault.
-const NAMES: [(ProgramFault, &str); 5] = [
-    (ProgramFault::Words, "Words"),
-    (ProgramFault::Tool(ToolFault::Input), "Input"),
-    (ProgramFault::Tool(ToolFault::BadHex), "BadHex"),
-    (ProgramFault::Tool(ToolFault::Write), "Write"),
-    (ProgramFault::Tool(ToolFault::OutOfMemory), "OutOfMemory"),
+/// What the program prints on standard error for each fault.
+const LINES: [(ProgramFault, &str); 5] = [
+    (ProgramFault::Words, "osi: Words"),
+    (ProgramFault::Tool(ToolFault::Input), "osi: Input"),
+    (ProgramFault::Tool(ToolFault::BadHex), "osi: BadHex"),
+    (ProgramFault::Tool(ToolFault::Write), "osi: Write"),
+    (
+        ProgramFault::Tool(ToolFault::OutOfMemory),
+        "osi: OutOfMemory",
+    ),
 ];
 
 #[test]
-fn faults_are_named(rt: HostRuntime) {
-    for (fault, name) in NAMES {
-        assert!(rt; fault.name() == name, "{name}");
+fn faults_have_lines(rt: HostRuntime) {
+    for (fault, line) in LINES {
+        assert!(rt; fault.line() == line, "{line}");
     }
 }
 
@@ -352,6 +395,7 @@ const NO_JOBS: [(&[&str], ErrorKind); 6] = [
 fn words_name_a_job(rt: HostRuntime) {
     assert!(rt; matches!(named(rt.alloc(), &["osi", "show"]), Some(Job::Show)));
     assert!(rt; matches!(named(rt.alloc(), &["osi", "pair"]), Some(Job::Pair)));
+    assert!(rt; matches!(named(rt.alloc(), &["osi", "judge"]), Some(Job::Judge)));
     for (words, kind) in NO_JOBS {
         assert!(rt; is_refused(rt.alloc(), words, kind));
     }
@@ -398,7 +442,7 @@ fn told_to(alloc: Global, writer: &mut Broken) -> Result<u8, ToolFault> {
 fn is_not_told(alloc: Global, out: &mut Vec<u8>) -> Result<(), Fail> {
     has_fault(
         told(alloc, &mut broken_off(SCRIPT.as_bytes()), out),
-        "Input",
+        "osi: Input",
     )?;
     is_text(out.as_slice(), "")
 }
@@ -406,7 +450,7 @@ fn is_not_told(alloc: Global, out: &mut Vec<u8>) -> Result<(), Fail> {
 #[test]
 fn a_script_is_not_read_or_its_transcript_not_written(rt: HostRuntime) -> Result<(), Fail> {
     for takes in [false, true] {
-        has_fault(told_to(rt.alloc(), &mut Broken { takes }), "Write")?;
+        has_fault(told_to(rt.alloc(), &mut Broken { takes }), "osi: Write")?;
     }
     is_not_told(rt.alloc(), &mut Vec::new(rt.alloc()))
 }

@@ -1,12 +1,11 @@
 //! The listing of a text.
 
 ghost use Rattle.std.specs.Prelude.{◌≡◌, ◌<◌, ◌≤◌, ◌⊎◌, ◌↔◌, length, Err, IfOk};
-ghost use Rattle.osi_tool.specs.Capture.{IsNoCapture};
+ghost use Rattle.osi_listing.specs.Capture.{Captures, IsNoCapture};
 ghost use Rattle.osi_tool.specs.Show.{Lists};
 
-use crate::capture::octets_of;
 use crate::faults::ToolFault;
-use osi_listing::list;
+use osi_listing::{CaptureFault, list, octets_of};
 use std::alloc::Global;
 
 /// The greatest number of octets of a text that is listed.
@@ -19,6 +18,20 @@ pub struct Listed {
     pub lines: Vec<u8>,
     /// 0 where all was read, 1 where something was refused.
     pub status: u8,
+}
+
+/// The octets that a text captures.
+fn captured(alloc: Global, text: &[u8]) -> Result<Vec<u8>, ToolFault>
+    ensures ok { IfOk result (λ octets. Captures text.now octets.items) }
+    ensures bad_hex { result ≡ Err ToolFault.BadHex → IsNoCapture text.now }
+    ensures input { result ≡ Err ToolFault.Input → ⊥ }
+    ensures write { result ≡ Err ToolFault.Write → ⊥ }
+{
+    match octets_of(alloc, text) {
+        Ok(octets) => Ok(octets),
+        Err(CaptureFault::BadHex) => Err(ToolFault::BadHex),
+        Err(CaptureFault::OutOfMemory) => Err(ToolFault::OutOfMemory),
+    }
 }
 
 /// Lists the capture that a text is. Nothing is read or written.
@@ -38,7 +51,7 @@ pub fn list_text(alloc: Global, text: &[u8]) -> Result<Listed, ToolFault>
     if text.len() > LONGEST_INPUT {
         return Err(ToolFault::Input);
     }
-    let octets = octets_of(alloc, text)?;
+    let octets = captured(alloc, text)?;
     let mut lines = Vec::new(alloc);
     let Ok(status) = list(alloc, &mut lines, octets.as_slice()) else {
         return Err(ToolFault::OutOfMemory);

@@ -4,7 +4,9 @@ ghost use Rattle.std.specs.Prelude.{◌≡◌, ◌≢◌, true, false, Some, map
 ghost use Rattle.clap.specs.Words.{app_of, kind_of, new_app, shape_of, takes};
 ghost use Rattle.clap.specs.declared.builder.command.Command.TheViews.{out-Command as fields_of};
 ghost use Rattle.osi_tool.specs.Words.{osi, top, name_of, named_by, IsJob};
+ghost use Rattle.osi_tool.specs.Endings.{words_fault};
 
+use crate::faults::{ProgramFault, ToolFault};
 use crate::jobs::Job;
 use clap::error::ErrorKind;
 use clap::{Command, Error};
@@ -44,6 +46,17 @@ a letter for the data, minor, major and release token: a for the side that asks,
 answers; in WISHES also c for the choice of the side that answers. A and B are 64 to 65535 octets, or
 0 for no limit. TOKENS has two digits: 01 data, 04 minor, 10 major, 40 release. UNITS has four digits:
 0001 half-duplex, 0002 duplex, 0008 minor, 0010 major, 0020 resynchronize, 0080 negotiated release.";
+
+/// What a capture of both sides is.
+const CAPTURES: &str = "\
+Lines of hexadecimal digits, blanks and # comments. Each line is a piece of one side; a line that begins
+with a tab is of the other side. The side of the first octet is left: it has to be the one that calls.
+The pieces stand in the order in which they passed, all octets of both directions from the first on:
+
+  tshark -r run.pcap -q -z follow,tcp,raw,0 | sed -n '/^[0-9a-f\\t]*$/p' | osi judge
+
+The status is 0 if both sides kept the protocol, and 1 if one broke it or left the profile, or if the
+capture was not judged.";
 
 /// The job that the program's words ask for, of which the first is the program's name. A request for
 /// help or for the version, and words that name no job, are an error of `clap`.
@@ -87,7 +100,8 @@ fn command<'a>(alloc: Global) -> Result<Command<'a>, AllocError>
 {
     bare_command(alloc)?
         .subcommand(show(alloc))?
-        .subcommand(pair(alloc))
+        .subcommand(pair(alloc))?
+        .subcommand(judge(alloc))
 }
 
 /// The command `osi` without its subcommands.
@@ -95,7 +109,9 @@ fn bare_command<'a>(alloc: Global) -> Result<Command<'a>, AllocError>
     ensures { IfOk result (λ command. app_of command ≡ top) }
 {
     let command = Command::new(alloc, "osi")
-        .about("Read captures of the OSI session protocol over TPKT, and run scripts on two ends")
+        .about(
+            "Read and judge captures of the OSI session protocol over TPKT, and run scripts on two ends",
+        )
         .version(VERSION)
         .bin_name("osi")?;
     Ok(command.subcommand_required(true))
@@ -119,15 +135,38 @@ fn pair<'a>(alloc: Global) -> Command<'a>
         .after_help(SCRIPTS)
 }
 
+/// The subcommand that judges a capture.
+fn judge<'a>(alloc: Global) -> Command<'a>
+    ensures shape { shape_of result ≡ (new_app (codes "judge")).top }
+    ensures local { (fields_of result).has_globals ≡ false }
+{
+    Command::new(alloc, "judge")
+        .about("Say which side of the capture on standard input first broke the protocol")
+        .after_help(CAPTURES)
+}
+
 /// The job of a subcommand.
 fn job_named(name: Option<&str>) -> Option<Job>
     ensures some { IfSome result (λ job. option_map (λ s. s.now) name.entry ≡ Some (name_of job)) }
     ensures not_show { IfNone result (option_map (λ s. s.now) name.entry ≢ Some (codes "show")) }
     ensures not_pair { IfNone result (option_map (λ s. s.now) name.entry ≢ Some (codes "pair")) }
+    ensures not_judge { IfNone result (option_map (λ s. s.now) name.entry ≢ Some (codes "judge")) }
 {
     match name {
         Some("show") => Some(Job::Show),
         Some("pair") => Some(Job::Pair),
+        Some("judge") => Some(Job::Judge),
         _ => None,
+    }
+}
+
+/// The fault of words that name no job; none if they ask for help or for the version.
+pub fn fault_of_words(error: &Error) -> Option<ProgramFault>
+    ensures { result ≡ words_fault (kind_of error.now) }
+{
+    match error.kind() {
+        ErrorKind::DisplayHelp | ErrorKind::DisplayVersion => None,
+        ErrorKind::OutOfMemory => Some(ProgramFault::Tool(ToolFault::OutOfMemory)),
+        _ => Some(ProgramFault::Words),
     }
 }

@@ -53,7 +53,7 @@ fn fault(error: PairError) -> Option<LineFault>
 }
 
 /// Whether a side has ended because memory ran out.
-#[tactic(auto, using(crate::proofs::Texts::found_memory))]
+#[tactic(auto, using(crate::proofs::the_lines_of_entries_in_order::found_memory))]
 fn has_starved(pair: &Pair) -> bool
     ensures found { result ≡ false → FoundMemory pair.now }
     ensures reached { IsReached pair.now }
@@ -136,7 +136,7 @@ fn play_line(
 }
 
 /// Does what the lines ask for, up to one that can't be done, and returns the status.
-#[tactic(auto, using(crate::proofs::Lines::played_none, crate::proofs::Lines::played_all))]
+#[tactic(auto, using(crate::proofs::each_line_is_played_in_order::played_none, crate::proofs::each_line_is_played_in_order::played_all))]
 pub(crate) fn play(
     alloc: Global,
     out: &mut Vec<u8>,

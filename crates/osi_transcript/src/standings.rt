@@ -20,7 +20,7 @@ fn has_ended(phase: Phase) -> bool
 }
 
 /// Adds the line with the state of a connection, unless it has ended.
-#[tactic(auto, using(crate::proofs::Stands::stand_of), unfolding(crate::specs::Standings::phase_text))]
+#[tactic(auto, using(crate::proofs::the_line_of_a_state::stand_of), unfolding(crate::specs::Standings::phase_text))]
 fn push_phase(
     alloc: Global,
     out: &mut Vec<u8>,

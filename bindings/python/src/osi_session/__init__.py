@@ -17,6 +17,7 @@ it was built with one, else the one that the loader or pkg-config finds.
 from ._codes import (
     Classes,
     Code,
+    Direction,
     FaultKind,
     Phase,
     Reason,
@@ -25,6 +26,7 @@ from ._codes import (
     Side,
     Spelling,
     Tokens,
+    Trace,
     Units,
 )
 from ._end import End
@@ -36,6 +38,7 @@ from ._values import (
     BadUnit,
     Connect,
     Connected,
+    Counters,
     Data,
     Ending,
     Fault,
@@ -59,6 +62,7 @@ from ._values import (
     Shown,
     Sides,
     Sizes,
+    Tally,
     Terms,
 )
 
@@ -71,7 +75,9 @@ __all__ = [
     "Code",
     "Connect",
     "Connected",
+    "Counters",
     "Data",
+    "Direction",
     "End",
     "Ending",
     "Fault",
@@ -103,8 +109,10 @@ __all__ = [
     "Sides",
     "Sizes",
     "Spelling",
+    "Tally",
     "Terms",
     "Tokens",
+    "Trace",
     "Units",
     "library_version",
 ]

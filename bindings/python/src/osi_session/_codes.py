@@ -175,6 +175,26 @@ class Phase(IntEnum):
     """The connection is gone."""
 
 
+class Trace(IntEnum):
+    """What a trace keeps."""
+
+    OFF = 0
+    """There is no trace."""
+    COUNTS = 1
+    """Counters."""
+    LINES = 2
+    """Counters, and lines for a log."""
+
+
+class Direction(IntEnum):
+    """The direction of a trace."""
+
+    RECEIVED = 0
+    """The octets that ``End.feed`` used."""
+    SENT = 1
+    """The octets that ``End.taken`` says are sent."""
+
+
 class Reason(IntEnum):
     """Why an end has ended. From UNKNOWN_REFERENCE on, each names a rule of X.224 or RFC 1006 that the peer
     broke, or says that memory ran out for what the peer sent."""

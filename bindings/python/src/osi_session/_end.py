@@ -2,16 +2,32 @@
 from __future__ import annotations
 
 import ctypes
+import logging
 import threading
 import weakref
 from ctypes import byref, c_uint16, c_uint64, sizeof
-from typing import Any, Callable, Iterator, NoReturn, Optional, Tuple, Type, TypeVar
+from typing import Any, Callable, Iterator, List, NoReturn, Optional, Tuple, Type, TypeVar
 
-from ._codes import Code, Phase, Reason, Refusal, SessionError, Tokens, Units
-from ._library import AddressingOfC, FedOfC, IndicationOfC, Octets, OpeningOfC, SidesOfC, Slot, TermsOfC, library
-from ._values import KINDS, Addresses, Ending, Fed, Indication, Opening, Sides, Sizes, Terms
+from ._codes import Code, Direction, Phase, Reason, Refusal, SessionError, Tokens, Trace, Units
+from ._library import (
+    AddressingOfC,
+    CountersOfC,
+    FedOfC,
+    IndicationOfC,
+    Octets,
+    OpeningOfC,
+    SidesOfC,
+    Slot,
+    TallyOfC,
+    TermsOfC,
+    library,
+)
+from ._values import KINDS, Addresses, Counters, Ending, Fed, Indication, Opening, Sides, Sizes, Tally, Terms
 
 T = TypeVar("T", bound="End")
+OnLine = Callable[[Direction, Optional[str]], None]
+
+_log = logging.getLogger("osi_session")
 
 
 def _octets(value: bytes) -> bytes:
@@ -46,6 +62,10 @@ def _sizes(sizes: Sizes) -> Tuple[int, int]:
     return _within("size", sizes.from_asker, 16), _within("size", sizes.from_answerer, 16)
 
 
+def _tally(shown: TallyOfC) -> Tally:
+    return Tally(shown.octets, shown.packets, shown.units, shown.tsdus, shown.session_units, shown.refused)
+
+
 class End:
     """One end of a byte connection, with up to 64 session connections in transport class 2, and one in
     class 0. Make it by ``End.caller`` or ``End.called``.
@@ -64,6 +84,7 @@ class End:
         self._osi = library()
         self._slot = Slot()
         self._lock = threading.Lock()
+        self._on_line: Optional[OnLine] = None
         passed = TermsOfC(
             _within("classes", terms.classes, 8), _within("size", terms.size, 8), _within("window", terms.window, 8)
         )
@@ -272,6 +293,8 @@ class End:
         with self._lock:
             code = self._osi.osi_feed(byref(self._slot), at, length, byref(fed))
         self._answer(code)
+        if self._on_line is not None:
+            self._tell(Direction.RECEIVED)
         return Fed(fed.used, fed.waits)
 
     def feed(self, piece: bytes) -> Fed:
@@ -323,6 +346,8 @@ class End:
         with self._lock:
             code = self._osi.osi_taken(byref(self._slot), passed)
         self._answer(code)
+        if self._on_line is not None:
+            self._tell(Direction.SENT)
 
     def broken(self) -> None:
         """Says that the byte connection is over: it broke, or the peer closed it. Each user who doesn't yet know
@@ -376,6 +401,50 @@ class End:
             self._osi.osi_last_with_size(byref(self._slot), byref(said), sizeof(said))
             user_data = ctypes.string_at(said.user_data.at, said.user_data.length)
         return KINDS[said.tag](said, user_data)
+
+    # ---- trace and counters
+
+    def trace(self, on_line: Optional[OnLine] = None, what: Optional[Trace] = None) -> None:
+        """Begins a trace in both directions, and ends an earlier one. ``trace(on_line)`` calls
+        ``on_line(direction, line)`` with what ``osi show`` prints for each packet, as soon as ``feed`` has used it or
+        ``taken`` says that it is sent. The line is None if the trace of this direction has stopped: you are told once.
+        ``trace(what=Trace.COUNTS)`` only counts, and ``trace()`` ends the trace. An end begins without one.
+
+        Call it right after you have made the end, because the first octet that a trace takes has to begin a packet. A
+        trace never changes what the end does: an exception of ``on_line`` is logged by the logger ``osi_session``. Its
+        memory is bounded: in each direction it keeps a packet and TSDUs that are not whole yet, of at most 64 DST-REFs,
+        and the lines of one call, at most 1,048,576 octets. If it would keep more, or if an allocation fails, the trace of
+        this direction stops. SLOT_EMPTY."""
+        if what is None:
+            what = Trace.OFF if on_line is None else Trace.LINES
+        with self._lock:
+            code = self._osi.osi_trace(byref(self._slot), Trace(what))
+        self._answer(code)
+        self._on_line = on_line if what == Trace.LINES else None
+
+    def _tell(self, direction: Direction) -> None:
+        """Passes the lines that nobody has fetched to ``on_line``."""
+        lent = Octets()
+        with self._lock:
+            code = self._osi.osi_trace_fetch(byref(self._slot), direction)
+            self._osi.osi_trace_lines(byref(self._slot), byref(lent))
+            text = ctypes.string_at(lent.at, lent.length).decode("ascii") if lent.length > 0 else ""
+        lines: List[Optional[str]] = [*text.splitlines()]
+        if code == Code.NO_MEMORY:
+            lines.append(None)
+        for line in lines:
+            try:
+                if self._on_line is not None:
+                    self._on_line(direction, line)
+            except Exception:
+                _log.exception("a function for traced lines failed")
+
+    def counts(self) -> Counters:
+        """What both traces have counted: all 0 without a trace, and if the end is closed."""
+        shown = CountersOfC()
+        with self._lock:
+            self._osi.osi_counts(byref(self._slot), byref(shown))
+        return Counters(_tally(shown.received), _tally(shown.sent))
 
     # ---- the state of a connection
 

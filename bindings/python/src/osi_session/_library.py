@@ -99,6 +99,21 @@ class AddressingOfC(ctypes.Structure):
     ]
 
 
+class TallyOfC(ctypes.Structure):
+    _fields_ = [
+        ("octets", c_uint64),
+        ("packets", c_uint64),
+        ("units", c_uint64),
+        ("tsdus", c_uint64),
+        ("session_units", c_uint64),
+        ("refused", c_uint64),
+    ]
+
+
+class CountersOfC(ctypes.Structure):
+    _fields_ = [("received", TallyOfC), ("sent", TallyOfC)]
+
+
 STRUCTS = {
     "osi_end": Slot,
     "osi_octets": Octets,
@@ -111,6 +126,8 @@ STRUCTS = {
     "osi_tsap": TsapOfC,
     "osi_selector": SelectorOfC,
     "osi_addressing": AddressingOfC,
+    "osi_tally": TallyOfC,
+    "osi_counters": CountersOfC,
 }
 
 _DATA = [c_void_p, c_size_t]
@@ -160,6 +177,10 @@ FUNCTIONS: Dict[str, Tuple[List[Any], Any]] = {
     "osi_confirmed_below": ([c_uint16], c_uint32),
     "osi_lowest_restart": ([c_uint16], c_uint32),
     "osi_addresses": ([c_uint16, POINTER(AddressingOfC)], c_uint32),
+    "osi_trace": ([c_uint32], c_uint32),
+    "osi_trace_fetch": ([c_uint32], c_uint32),
+    "osi_trace_lines": ([POINTER(Octets)], None),
+    "osi_counts": ([POINTER(CountersOfC)], None),
 }
 # The argument of each function that needs no slot and returns a text.
 TEXTS: Dict[str, List[Any]] = {

@@ -83,6 +83,34 @@ class Fed:
 
 
 @dataclass(frozen=True)
+class Tally:
+    """What the trace of one direction has counted; once it has stopped, up to then."""
+
+    octets: int = 0
+    """Octets."""
+    packets: int = 0
+    """Packets (RFC 1006 section 6)."""
+    units: int = 0
+    """Transport units (X.224 section 13)."""
+    tsdus: int = 0
+    """Whole TSDUs."""
+    session_units: int = 0
+    """Session units (X.225 section 8)."""
+    refused: int = 0
+    """Packets, transport units and TSDUs that break a rule of spelling."""
+
+
+@dataclass(frozen=True)
+class Counters:
+    """What both traces of an end have counted."""
+
+    received: Tally = Tally()
+    """Of the octets that ``End.feed`` used."""
+    sent: Tally = Tally()
+    """Of the octets that ``End.taken`` says are sent."""
+
+
+@dataclass(frozen=True)
 class Ending:
     """Why an end has ended."""
 

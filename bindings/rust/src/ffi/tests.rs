@@ -2,7 +2,7 @@
 //! program `bindings/layout.c`. Where that or a C compiler is not there, these tests say so and pass.
 
 use super::*;
-use crate::{Classes, Ending, Error, Indication, Phase, Refusal, Side, Tokens, Units};
+use crate::{Classes, Direction, Ending, Error, Indication, Phase, Refusal, Side, Tokens, Trace, Units};
 use std::collections::BTreeMap;
 use std::env;
 use std::mem::{align_of, offset_of, size_of};
@@ -77,6 +77,8 @@ fn structs_are_laid_out_as_in_c() {
         osi_tsap: octets length;
         osi_selector: octets length;
         osi_addressing: calling_tsap called_tsap calling_selector called_selector;
+        osi_tally: octets packets units tsdus session_units refused;
+        osi_counters: received sent;
     };
     assert_eq!(here, of_c);
 }
@@ -201,6 +203,11 @@ fn sets_are_the_bits_of_c() {
         ("OSI_REFUSAL_UNSPECIFIED", Refusal::Unspecified.reason().into()),
         ("OSI_REFUSAL_CONGESTION", Refusal::Congestion.reason().into()),
         ("OSI_REFUSAL_WITH_DATA", Refusal::WithData(&[]).reason().into()),
+        ("OSI_TRACE_OFF", Trace::Off as u16),
+        ("OSI_TRACE_COUNTS", Trace::Counts as u16),
+        ("OSI_TRACE_LINES", Trace::Lines as u16),
+        ("OSI_RECEIVED", Direction::Received as u16),
+        ("OSI_SENT", Direction::Sent as u16),
     ];
     for (name, bits) in here {
         assert_eq!(of_c[name], [usize::from(bits)], "{name}");

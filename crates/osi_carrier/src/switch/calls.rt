@@ -1,18 +1,21 @@
 //! Closing connections, the end, and what waits to be taken.
 
-ghost use Rattle.std.specs.Prelude.{◌≡◌, ◌≢◌, ◌≤◌, ◌*◌, ◌-◌, ◌++◌, length, nat_lt, Err, IfErr, None, Some, IsOk, OnOk, OnErr, is_some};
+ghost use Rattle.std.specs.Prelude.{◌≡◌, ◌≢◌, ◌<◌, ◌≤◌, ◌*◌, ◌-◌, ◌++◌, ◌∷◌, [], length, nat_lt, Err, IfErr, None, Some, IsOk, OnOk, OnErr, is_some};
 ghost use Rattle.std.specs.Cow.{cow_slice_items, IsOwnedSlice};
 ghost use Rattle.osi_carrier.specs.Calls.{open_link, close_error, send_error, call_error, closed_with, closes, sent, ended_by, kept_in, WaitsOn};
 ghost use Rattle.osi_carrier.specs.Packets.{stops, waits, is_spoilt};
-ghost use Rattle.osi_carrier.specs.Rows.{place_of};
+ghost use Rattle.osi_carrier.specs.Rows.{place_of, put};
+ghost use Rattle.osi_carrier.specs.State.{closing, packets};
+ghost use Rattle.osi_tpdu.specs.Value.{disconnect};
 
 use super::Switch;
 use crate::ends::EndReason;
 use crate::faults::SendError;
-use crate::rows::Phase;
+use crate::rows::{Connections, Phase};
 use crate::writing::put_disconnect;
+use bytes::BytesMut;
 use osi_class::{Class, LONGEST_TSDU};
-use std::alloc::Global;
+use std::alloc::{AllocError, Global};
 use std::borrow::CowSlice;
 
 /// Whether two pieces have more octets together than a TSDU may.
@@ -24,6 +27,27 @@ fn is_too_long(head: &[u8], body: &[u8]) -> bool
         return true;
     }
     body.len() > LONGEST_TSDU - head.len()
+}
+
+/// Asks the peer by a DR to close the connection at this place, which is closing then. Memory is needed only where
+/// there is no room for the DR.
+fn ask_to_close(
+    live: &mut Connections,
+    place: usize,
+    reference: u16,
+    peer: u16,
+    reason: u8,
+    out: &mut BytesMut,
+) -> Result<(), AllocError>
+    requires { place_of reference live.old ≡ Some place }
+    ensures rows { OnOk result (live.new ≡ put reference (closing peer) live.old) }
+    ensures ok { OnOk result (out.new.items ≡ out.old.items ++ packets (disconnect peer reference reason [] ∷ [])) }
+    ensures err { OnErr result ((live.new ≡ live.old) × (out.new.items ≡ out.old.items)) }
+    ensures full { OnErr result (out.old.spare < length (packets (disconnect peer reference reason [] ∷ []))) }
+{
+    put_disconnect(out, peer, reference, reason)?;
+    live.set(place, reference, Phase::Closing(peer));
+    Ok(())
 }
 
 impl Switch {
@@ -114,10 +138,16 @@ impl Switch {
         match self.class {
             Some(Class::Zero) => self.end(EndReason::Closed),
             None | Some(Class::Two) => {
-                if put_disconnect(&mut self.outgoing, peer, reference, reason).is_err() {
+                let Ok(()) = ask_to_close(
+                    &mut self.live,
+                    place,
+                    reference,
+                    peer,
+                    reason,
+                    &mut self.outgoing,
+                ) else {
                     return Err(SendError::OutOfMemory);
-                }
-                self.live.set(place, reference, Phase::Closing(peer));
+                };
             }
         }
         Ok(())
@@ -141,9 +171,7 @@ impl Switch {
         if tsdu.len() > LONGEST_TSDU {
             return Err(SendError::TooLong);
         }
-        let Ok(()) = self
-            .live
-            .send(place, reference, peer, tsdu, &mut self.outgoing)
+        let Ok(()) = self.live.send(self.alloc, place, reference, peer, tsdu, &mut self.outgoing)
         else {
             return Err(SendError::OutOfMemory);
         };

@@ -1,9 +1,9 @@
 //! TSDUs that are sent together.
 
 ghost use Rattle.std.specs.Prelude.{◌≡◌, ◌≢◌, [], length, map, nat_lt, Err, IfErr, None, Some, OnOk, OnErr};
-ghost use Rattle.std.specs.Cow.{cow_slice_items};
+ghost use Rattle.std.specs.Cow.{cow_slice_items, IsOwnedSlice};
 ghost use Rattle.std.specs.List.{list_any};
-ghost use Rattle.osi_carrier.specs.Calls.{open_link, send_all_error, lengths_error, call_error, sent_all, pumps_all};
+ghost use Rattle.osi_carrier.specs.Calls.{open_link, send_all_error, lengths_error, call_error, sent_all, pumps_all, AllWaitOn, WaitTogether};
 ghost use Rattle.osi_carrier.specs.Opened.{link_in, peer_in};
 ghost use Rattle.osi_carrier.specs.Rows.{place_of, value_at};
 
@@ -22,7 +22,8 @@ fn any_too_long(tsdus: &[Vec<u8>]) -> bool
 
 impl Switch {
     /// Sends TSDUs together on an open connection, all or none, in order; all units that may be sent now are written.
-    /// An empty list sends none, and allocates nothing.
+    /// An empty list sends none, and allocates nothing; owned TSDUs that only wait allocate nothing either.
+    #[tactic(auto, using(crate::proofs::Opened::all_wait_at))]
     pub fn send_all(
         &mut self,
         reference: u16,
@@ -33,6 +34,7 @@ impl Switch {
         ensures refused { IfErr result (λ e. call_error e ≡ send_all_error (map (λ v. v.items) (cow_slice_items tsdus.entry)) (open_link reference self.old)) }
         ensures err { OnErr result (self.new ≡ self.old) }
         ensures nothing { cow_slice_items tsdus.entry ≡ [] → result ≢ Err SendError.OutOfMemory }
+        ensures kept { IsOwnedSlice tsdus.entry → AllWaitOn (open_link reference self.old) (map (λ v. v.items) (cow_slice_items tsdus.entry)) → result ≢ Err SendError.OutOfMemory }
     {
         if self.ended.is_some() {
             return Err(SendError::NotOpen);
@@ -57,6 +59,7 @@ impl Switch {
         ensures refused { IfErr result (λ e. call_error e ≡ lengths_error (map (λ v. v.items) (cow_slice_items tsdus.entry))) }
         ensures err { OnErr result (self.new ≡ self.old) }
         ensures nothing { cow_slice_items tsdus.entry ≡ [] → result ≢ Err SendError.OutOfMemory }
+        ensures kept { IsOwnedSlice tsdus.entry → WaitTogether (link_in (value_at reference self.old.live)) (map (λ v. v.items) (cow_slice_items tsdus.entry)) → result ≢ Err SendError.OutOfMemory }
     {
         let lent = tsdus.as_slice();
         if lent.is_empty() {

@@ -1,6 +1,6 @@
-use Rattle.osi_between.proofs.JoinedCalls.{caller_asks, fresh_joined, still, still_messages}
-use Rattle.osi_between.proofs.JoinedMoves.{takes_one, sends, closes}
-use Rattle.osi_between.proofs.Linked.{joined_turned}
+use Rattle.osi_between.proofs.joined.requests_beginnings_and_nothing_in_flight.{caller_asks, fresh_joined, still, still_messages}
+use Rattle.osi_between.proofs.joined.joined_carriers_stay_joined.{takes_one, sends, closes}
+use Rattle.osi_between.proofs.joined.feeding_keeps_carriers_joined.{joined_turned}
 use Rattle.osi_between.proofs.laws.two_carriers_stay_joined.Goals as goal
 
 pub returns-clause-begins : goal.returns-clause-begins

@@ -1,4 +1,4 @@
-use Rattle.osi_between.proofs.Linked.{fresh_linked, was_fed, was_called, tells, turned}
+use Rattle.osi_between.proofs.joined.feeding_keeps_carriers_joined.{fresh_linked, was_fed, was_called, tells, turned}
 use Rattle.osi_between.proofs.laws.two_carriers_stay_linked.Goals as goal
 
 pub returns-clause-begins : goal.returns-clause-begins

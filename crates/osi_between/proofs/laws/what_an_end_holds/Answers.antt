@@ -1,4 +1,4 @@
-use Rattle.osi_between.proofs.Holdings.{all_coming, no_fault, starved, acts_or_starves}
+use Rattle.osi_between.proofs.way.an_end_holds_no_fault.{all_coming, no_fault, starved, acts_or_starves}
 use Rattle.osi_between.proofs.laws.what_an_end_holds.Goals as goal
 
 pub returns-clause-sound : goal.returns-clause-sound

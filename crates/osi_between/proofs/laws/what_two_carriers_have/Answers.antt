@@ -1,4 +1,4 @@
-use Rattle.osi_between.proofs.Having.{none_ahead, none_more, awaits_all, roles}
+use Rattle.osi_between.proofs.between.what_two_carriers_have.{none_ahead, none_more, awaits_all, roles}
 use Rattle.osi_between.proofs.laws.what_two_carriers_have.Goals as goal
 
 pub returns-clause-ahead : goal.returns-clause-ahead

@@ -1,4 +1,4 @@
-use Rattle.osi_between.proofs.Taking.{one_coming, more_coming, feeds_some}
+use Rattle.osi_between.proofs.way.units_are_taken_in_turn.{one_coming, more_coming, feeds_some}
 use Rattle.osi_between.proofs.laws.what_was_written_is_taken.Goals as goal
 
 pub returns-clause-one : goal.returns-clause-one

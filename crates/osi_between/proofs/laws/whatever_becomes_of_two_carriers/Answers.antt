@@ -1,7 +1,8 @@
-use Rattle.osi_between.proofs.Betweens.{took, took_unit, sends, connects, closes, closes_ends, hands_over, tells, ends_at, breaks}
-use Rattle.osi_between.proofs.Emptied.{emptied}
-use Rattle.osi_between.proofs.HandedIn.{all_handed_in}
-use Rattle.osi_between.proofs.Terms.{begins, provides}
+use Rattle.osi_between.proofs.between.every_move_keeps_the_invariant.{took, took_unit, sends, connects, closes, closes_ends, hands_over}
+use Rattle.osi_between.proofs.between.every_move_keeps_the_invariant.{tells, ends_at, breaks}
+use Rattle.osi_between.proofs.between.nothing_is_in_flight_at_rest.{emptied}
+use Rattle.osi_between.proofs.between.tsdus_are_handed_in_together.{all_handed_in}
+use Rattle.osi_between.proofs.between.any_terms_provide_what_is_asked.{begins, provides}
 use Rattle.osi_between.proofs.laws.whatever_becomes_of_two_carriers.Goals as goal
 
 pub returns-clause-begins : goal.returns-clause-begins

@@ -1,13 +1,13 @@
 use Rattle.std.proofs.Common.{◌≡◌, ◌<◌, ◌≤◌, ◌+◌, ℕ, List, [], ◌∷◌, ◌++◌, length, drop, sym, ap, subst, ◌∙◌, arith}
 use Rattle.osi_carrier.proofs.Vocabulary.{eqb-true, eqb-false, any_standing, first_in, octets_of, Given, unit_of, packets, with_tsdu}
-use Rattle.osi_carrier.proofs.Parts.{GoesWhole, parting_first, parting_then, parting_last, parting_all, part_goes, part_room, empty_list}
+use Rattle.osi_carrier.proofs.Parts.{Goes, parting_first, parting_then, parting_last, parting_all, part_goes, part_room, empty_list}
 use Rattle.osi_carrier.proofs.Slots.{first_cut}
 use Rattle.osi_carrier.proofs.links.write_headed.Goals as goal
 
 pub unreachable-requires : goal.unreachable-requires
 unreachable-requires c =
     let tsdu = c.args.head.now ++ c.args.body.now in
-    let given = c.in_default.ensures.at_once (part_goes (any_standing c.args.link.now) tsdu (record { quiet = c.requires.quiet; some = c.requires.some; whole = c.requires.whole })) in
+    let given = c.in_default.ensures.at_once (part_goes (any_standing c.args.link.now) tsdu c.requires.quiet c.requires.some) in
     cc
 
 pub unreachable-requires-in_default-put_part : goal.unreachable-requires-in_default-put_part
@@ -39,11 +39,12 @@ returns-then-end c =
     c.split_at.ensures.front c.split_at.ensures.back c.is_empty-end.ensures in
     let unit = first_in c.in-Some.slot limit tsdu in
     let put = c.in-Ok.ensures.ok ∙ ap (λ (u : Given). c.args.out.now.items ++ packets (unit_of c.args.peer u ∷ [])) cut.unit in
-    let goes : GoesWhole (any_standing c.args.link.now) tsdu = record { quiet = c.requires.quiet; some = c.requires.some; whole = c.requires.whole } in
+    let goes : Goes (any_standing c.args.link.now) tsdu c.args.kept.items =
+    record { quiet = c.requires.quiet; alone = (part_goes (any_standing c.args.link.now) tsdu c.requires.quiet c.requires.some).alone; left = c.requires.kept } in
     let nothing = eqb-true (length c.split_at.result.1.now) 0 (sym c.is_empty-end.ensures ∙ c.if-end.true) in
     let none : drop (octets_of unit) tsdu ≡ [] = cut.left ∙ empty_list c.split_at.result.1.now nothing in
-    let start = parting_first c.args.peer (any_standing c.args.link.now) tsdu c.args.out.now.items c.args.out.now.spare goes c.requires.room in
-    let all = parting_last c.args.peer first (any_standing c.args.link.now) then c.args.out.now.items tsdu c.args.out.now.items c.put_part.new.out.items unit c.args.out.now.spare
+    let start = parting_first c.args.peer (any_standing c.args.link.now) tsdu c.args.kept.items c.args.out.now.items c.args.out.now.spare goes c.requires.room in
+    let all = parting_last c.args.peer first (any_standing c.args.link.now) then c.args.out.now.items tsdu c.args.kept.items c.args.out.now.items c.put_part.new.out.items unit c.args.out.now.spare
     start (omega arith) (c.in-Some.ensures.given tsdu) put none in
     record { link = all.link; written = all.written; pumped = (c.in-Some.ensures.given tsdu).last }
 
@@ -60,16 +61,17 @@ write_parts-requires-clause-quiet c =
     c.split_at.ensures.front c.split_at.ensures.back c.is_empty-end.ensures in
     let unit = first_in c.in-Some.slot limit tsdu in
     let put = c.in-Ok.ensures.ok ∙ ap (λ (u : Given). c.args.out.now.items ++ packets (unit_of c.args.peer u ∷ [])) cut.unit in
-    let goes : GoesWhole (any_standing c.args.link.now) tsdu = record { quiet = c.requires.quiet; some = c.requires.some; whole = c.requires.whole } in
+    let goes : Goes (any_standing c.args.link.now) tsdu c.args.kept.items =
+    record { quiet = c.requires.quiet; alone = (part_goes (any_standing c.args.link.now) tsdu c.requires.quiet c.requires.some).alone; left = c.requires.kept } in
     let took : c.args.out.now.spare ≤ c.put_part.new.out.spare + length (packets (unit_of c.args.peer unit ∷ [])) =
     subst (λ (u : Given). c.args.out.now.spare ≤ c.put_part.new.out.spare + length (packets (unit_of c.args.peer u ∷ []))) cut.unit c.in-Ok.ensures.spare in
     let something : length c.split_at.result.1.now ≡ 0 → ⊥ = eqb-false (length c.split_at.result.1.now) 0 (sym c.is_empty-end.ensures ∙ c.if-end.false) in
-    let parting = parting_then c.args.peer (any_standing c.args.link.now) then tsdu c.split_at.result.1.now c.args.out.now.items c.put_part.new.out.items unit c.args.out.now.spare c.put_part.new.out.spare
-    goes c.requires.room (omega arith) (c.in-Some.ensures.given tsdu) cut.left put took (omega arith) in
+    let parting = parting_then c.args.peer (any_standing c.args.link.now) then tsdu c.split_at.result.1.now c.args.kept.items c.args.out.now.items c.put_part.new.out.items unit c.args.out.now.spare c.put_part.new.out.spare
+    goes c.requires.room (omega arith) (c.in-Some.ensures.given tsdu) c.in-Some.ensures.alone cut.left put took (omega arith) in
     parting.goes.quiet
 
-pub write_parts-requires-clause-some : goal.write_parts-requires-clause-some
-write_parts-requires-clause-some c =
+pub write_parts-requires-clause-alone : goal.write_parts-requires-clause-alone
+write_parts-requires-clause-alone c =
     let tsdu = c.args.head.now ++ c.args.body.now in
     let first = with_tsdu (any_standing c.args.link.now) tsdu in
     let then = any_standing c.give_slot.new.self in
@@ -81,16 +83,17 @@ write_parts-requires-clause-some c =
     c.split_at.ensures.front c.split_at.ensures.back c.is_empty-end.ensures in
     let unit = first_in c.in-Some.slot limit tsdu in
     let put = c.in-Ok.ensures.ok ∙ ap (λ (u : Given). c.args.out.now.items ++ packets (unit_of c.args.peer u ∷ [])) cut.unit in
-    let goes : GoesWhole (any_standing c.args.link.now) tsdu = record { quiet = c.requires.quiet; some = c.requires.some; whole = c.requires.whole } in
+    let goes : Goes (any_standing c.args.link.now) tsdu c.args.kept.items =
+    record { quiet = c.requires.quiet; alone = (part_goes (any_standing c.args.link.now) tsdu c.requires.quiet c.requires.some).alone; left = c.requires.kept } in
     let took : c.args.out.now.spare ≤ c.put_part.new.out.spare + length (packets (unit_of c.args.peer unit ∷ [])) =
     subst (λ (u : Given). c.args.out.now.spare ≤ c.put_part.new.out.spare + length (packets (unit_of c.args.peer u ∷ []))) cut.unit c.in-Ok.ensures.spare in
     let something : length c.split_at.result.1.now ≡ 0 → ⊥ = eqb-false (length c.split_at.result.1.now) 0 (sym c.is_empty-end.ensures ∙ c.if-end.false) in
-    let parting = parting_then c.args.peer (any_standing c.args.link.now) then tsdu c.split_at.result.1.now c.args.out.now.items c.put_part.new.out.items unit c.args.out.now.spare c.put_part.new.out.spare
-    goes c.requires.room (omega arith) (c.in-Some.ensures.given tsdu) cut.left put took (omega arith) in
-    parting.goes.some
+    let parting = parting_then c.args.peer (any_standing c.args.link.now) then tsdu c.split_at.result.1.now c.args.kept.items c.args.out.now.items c.put_part.new.out.items unit c.args.out.now.spare c.put_part.new.out.spare
+    goes c.requires.room (omega arith) (c.in-Some.ensures.given tsdu) c.in-Some.ensures.alone cut.left put took (omega arith) in
+    parting.goes.alone
 
-pub write_parts-requires-clause-whole : goal.write_parts-requires-clause-whole
-write_parts-requires-clause-whole c =
+pub write_parts-requires-clause-kept : goal.write_parts-requires-clause-kept
+write_parts-requires-clause-kept c =
     let tsdu = c.args.head.now ++ c.args.body.now in
     let first = with_tsdu (any_standing c.args.link.now) tsdu in
     let then = any_standing c.give_slot.new.self in
@@ -102,13 +105,14 @@ write_parts-requires-clause-whole c =
     c.split_at.ensures.front c.split_at.ensures.back c.is_empty-end.ensures in
     let unit = first_in c.in-Some.slot limit tsdu in
     let put = c.in-Ok.ensures.ok ∙ ap (λ (u : Given). c.args.out.now.items ++ packets (unit_of c.args.peer u ∷ [])) cut.unit in
-    let goes : GoesWhole (any_standing c.args.link.now) tsdu = record { quiet = c.requires.quiet; some = c.requires.some; whole = c.requires.whole } in
+    let goes : Goes (any_standing c.args.link.now) tsdu c.args.kept.items =
+    record { quiet = c.requires.quiet; alone = (part_goes (any_standing c.args.link.now) tsdu c.requires.quiet c.requires.some).alone; left = c.requires.kept } in
     let took : c.args.out.now.spare ≤ c.put_part.new.out.spare + length (packets (unit_of c.args.peer unit ∷ [])) =
     subst (λ (u : Given). c.args.out.now.spare ≤ c.put_part.new.out.spare + length (packets (unit_of c.args.peer u ∷ []))) cut.unit c.in-Ok.ensures.spare in
     let something : length c.split_at.result.1.now ≡ 0 → ⊥ = eqb-false (length c.split_at.result.1.now) 0 (sym c.is_empty-end.ensures ∙ c.if-end.false) in
-    let parting = parting_then c.args.peer (any_standing c.args.link.now) then tsdu c.split_at.result.1.now c.args.out.now.items c.put_part.new.out.items unit c.args.out.now.spare c.put_part.new.out.spare
-    goes c.requires.room (omega arith) (c.in-Some.ensures.given tsdu) cut.left put took (omega arith) in
-    parting.goes.whole
+    let parting = parting_then c.args.peer (any_standing c.args.link.now) then tsdu c.split_at.result.1.now c.args.kept.items c.args.out.now.items c.put_part.new.out.items unit c.args.out.now.spare c.put_part.new.out.spare
+    goes c.requires.room (omega arith) (c.in-Some.ensures.given tsdu) c.in-Some.ensures.alone cut.left put took (omega arith) in
+    parting.goes.left
 
 pub write_parts-requires-clause-room : goal.write_parts-requires-clause-room
 write_parts-requires-clause-room c =
@@ -123,12 +127,13 @@ write_parts-requires-clause-room c =
     c.split_at.ensures.front c.split_at.ensures.back c.is_empty-end.ensures in
     let unit = first_in c.in-Some.slot limit tsdu in
     let put = c.in-Ok.ensures.ok ∙ ap (λ (u : Given). c.args.out.now.items ++ packets (unit_of c.args.peer u ∷ [])) cut.unit in
-    let goes : GoesWhole (any_standing c.args.link.now) tsdu = record { quiet = c.requires.quiet; some = c.requires.some; whole = c.requires.whole } in
+    let goes : Goes (any_standing c.args.link.now) tsdu c.args.kept.items =
+    record { quiet = c.requires.quiet; alone = (part_goes (any_standing c.args.link.now) tsdu c.requires.quiet c.requires.some).alone; left = c.requires.kept } in
     let took : c.args.out.now.spare ≤ c.put_part.new.out.spare + length (packets (unit_of c.args.peer unit ∷ [])) =
     subst (λ (u : Given). c.args.out.now.spare ≤ c.put_part.new.out.spare + length (packets (unit_of c.args.peer u ∷ []))) cut.unit c.in-Ok.ensures.spare in
     let something : length c.split_at.result.1.now ≡ 0 → ⊥ = eqb-false (length c.split_at.result.1.now) 0 (sym c.is_empty-end.ensures ∙ c.if-end.false) in
-    let parting = parting_then c.args.peer (any_standing c.args.link.now) then tsdu c.split_at.result.1.now c.args.out.now.items c.put_part.new.out.items unit c.args.out.now.spare c.put_part.new.out.spare
-    goes c.requires.room (omega arith) (c.in-Some.ensures.given tsdu) cut.left put took (omega arith) in
+    let parting = parting_then c.args.peer (any_standing c.args.link.now) then tsdu c.split_at.result.1.now c.args.kept.items c.args.out.now.items c.put_part.new.out.items unit c.args.out.now.spare c.put_part.new.out.spare
+    goes c.requires.room (omega arith) (c.in-Some.ensures.given tsdu) c.in-Some.ensures.alone cut.left put took (omega arith) in
     parting.room
 
 pub returns : goal.returns
@@ -144,12 +149,13 @@ returns c =
     c.split_at.ensures.front c.split_at.ensures.back c.is_empty-end.ensures in
     let unit = first_in c.in-Some.slot limit tsdu in
     let put = c.in-Ok.ensures.ok ∙ ap (λ (u : Given). c.args.out.now.items ++ packets (unit_of c.args.peer u ∷ [])) cut.unit in
-    let goes : GoesWhole (any_standing c.args.link.now) tsdu = record { quiet = c.requires.quiet; some = c.requires.some; whole = c.requires.whole } in
+    let goes : Goes (any_standing c.args.link.now) tsdu c.args.kept.items =
+    record { quiet = c.requires.quiet; alone = (part_goes (any_standing c.args.link.now) tsdu c.requires.quiet c.requires.some).alone; left = c.requires.kept } in
     let took : c.args.out.now.spare ≤ c.put_part.new.out.spare + length (packets (unit_of c.args.peer unit ∷ [])) =
     subst (λ (u : Given). c.args.out.now.spare ≤ c.put_part.new.out.spare + length (packets (unit_of c.args.peer u ∷ []))) cut.unit c.in-Ok.ensures.spare in
     let something : length c.split_at.result.1.now ≡ 0 → ⊥ = eqb-false (length c.split_at.result.1.now) 0 (sym c.is_empty-end.ensures ∙ c.if-end.false) in
-    let parting = parting_then c.args.peer (any_standing c.args.link.now) then tsdu c.split_at.result.1.now c.args.out.now.items c.put_part.new.out.items unit c.args.out.now.spare c.put_part.new.out.spare
-    goes c.requires.room (omega arith) (c.in-Some.ensures.given tsdu) cut.left put took (omega arith) in
-    let all = parting_all c.args.peer first then (any_standing c.write_parts.new.link) c.args.out.now.items c.split_at.result.1.now c.put_part.new.out.items c.write_parts.new.out.items c.put_part.new.out.spare
+    let parting = parting_then c.args.peer (any_standing c.args.link.now) then tsdu c.split_at.result.1.now c.args.kept.items c.args.out.now.items c.put_part.new.out.items unit c.args.out.now.spare c.put_part.new.out.spare
+    goes c.requires.room (omega arith) (c.in-Some.ensures.given tsdu) c.in-Some.ensures.alone cut.left put took (omega arith) in
+    let all = parting_all c.args.peer first then (any_standing c.write_parts.new.link) c.args.out.now.items c.split_at.result.1.now c.args.kept.items c.put_part.new.out.items c.write_parts.new.out.items c.put_part.new.out.spare
     parting c.write_parts.ensures.link c.write_parts.ensures.written in
     record { link = all.link; written = all.written; pumped = c.write_parts.ensures.pumped }

@@ -1,4 +1,4 @@
-use Rattle.osi_machine.proofs.TableSendable.{are_sound}
+use Rattle.osi_machine.proofs.tables.what_is_in_flight_can_be_sent.{are_sound}
 use Rattle.osi_machine.proofs.laws.what_is_under_way_can_be_sent.Goals as goal
 
 pub returns : goal.returns

@@ -1,37 +1,29 @@
-use Rattle.osi_machine.proofs.FaultShown.{no_fault_shown}
-use Rattle.osi_machine.proofs.ItemLaws.{items_taken}
-use Rattle.osi_machine.proofs.LossRun.{losses_have_an_end}
-use Rattle.osi_machine.proofs.MachineLaws.{holders, no_faults, agreements, duplex_agreements, confirmations}
+use Rattle.osi_machine.proofs.machine.no_fault_is_in_the_journal.{no_fault_shown}
+use Rattle.osi_machine.proofs.machine.what_is_taken_is_the_next_item.{items_taken}
+use Rattle.osi_machine.proofs.machine.a_loss_is_shown_by_an_end.{losses_have_an_end}
+use Rattle.osi_machine.proofs.machine.what_two_records_tell.{holders, no_faults, agreements, duplex_agreements, confirmations}
 use Rattle.osi_machine.proofs.laws.what_two_records_tell.Goals as goal
 
 pub returns-clause-holder : goal.returns-clause-holder
-returns-clause-holder c =
-    holders (record { sound = c.numbers_stay_in_order.ensures.kept; sendable = c.what_is_sent_can_be_sent.ensures.called; one_unit = c.what_two_units_do.ensures.alone; passed = c.what_an_accepted_call_passed.ensures.passed })
+returns-clause-holder c = holders (assumption)
 
 pub returns-clause-fault : goal.returns-clause-fault
-returns-clause-fault c =
-    no_faults (record { sound = c.numbers_stay_in_order.ensures.kept; sendable = c.what_is_sent_can_be_sent.ensures.called; one_unit = c.what_two_units_do.ensures.alone; passed = c.what_an_accepted_call_passed.ensures.passed })
+returns-clause-fault c = no_faults (assumption)
 
 pub returns-clause-agreement : goal.returns-clause-agreement
-returns-clause-agreement c =
-    agreements (record { sound = c.numbers_stay_in_order.ensures.kept; sendable = c.what_is_sent_can_be_sent.ensures.called; one_unit = c.what_two_units_do.ensures.alone; passed = c.what_an_accepted_call_passed.ensures.passed })
+returns-clause-agreement c = agreements (assumption)
 
 pub returns-clause-confirmed : goal.returns-clause-confirmed
-returns-clause-confirmed c =
-    confirmations (record { sound = c.numbers_stay_in_order.ensures.kept; sendable = c.what_is_sent_can_be_sent.ensures.called; one_unit = c.what_two_units_do.ensures.alone; passed = c.what_an_accepted_call_passed.ensures.passed })
+returns-clause-confirmed c = confirmations (assumption)
 
 pub returns-clause-duplex : goal.returns-clause-duplex
-returns-clause-duplex c =
-    duplex_agreements (record { sound = c.numbers_stay_in_order.ensures.kept; sendable = c.what_is_sent_can_be_sent.ensures.called; one_unit = c.what_two_units_do.ensures.alone; passed = c.what_an_accepted_call_passed.ensures.passed })
+returns-clause-duplex c = duplex_agreements (assumption)
 
 pub returns-clause-lost : goal.returns-clause-lost
-returns-clause-lost c =
-    losses_have_an_end (record { sound = c.numbers_stay_in_order.ensures.kept; sendable = c.what_is_sent_can_be_sent.ensures.called; one_unit = c.what_two_units_do.ensures.alone; passed = c.what_an_accepted_call_passed.ensures.passed })
+returns-clause-lost c = losses_have_an_end (assumption)
 
 pub returns-clause-item : goal.returns-clause-item
-returns-clause-item c =
-    items_taken (record { sound = c.numbers_stay_in_order.ensures.kept; sendable = c.what_is_sent_can_be_sent.ensures.called; one_unit = c.what_two_units_do.ensures.alone; passed = c.what_an_accepted_call_passed.ensures.passed })
+returns-clause-item c = items_taken (assumption)
 
 pub returns-clause-faultless : goal.returns-clause-faultless
-returns-clause-faultless c =
-    no_fault_shown (record { sound = c.numbers_stay_in_order.ensures.kept; sendable = c.what_is_sent_can_be_sent.ensures.called; one_unit = c.what_two_units_do.ensures.alone; passed = c.what_an_accepted_call_passed.ensures.passed })
+returns-clause-faultless c = no_fault_shown (assumption)

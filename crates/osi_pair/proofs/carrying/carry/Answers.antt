@@ -1,16 +1,19 @@
-use Rattle.std.proofs.Common.{◌≡◌, ◌∙◌, ℕ, ◌+◌, ◌-◌, ◌<◌, ◌≤◌, List, inl, inr, map, sym, ap, subst, arith, vec_len, vec_capacity, vec_items}
 use Rattle.osi_pair.specs.declared.entries.Entry.{Entry}
-use Rattle.osi_pair.proofs.Vocabulary.{ltb-true, CarriesPiece, entry_by}
-use Rattle.osi_pair.proofs.Pieces.{carries_then, not_refused, was_refused}
+use Rattle.osi_pair.proofs.Vocabulary.{◌≡◌, ◌∙◌, ℕ, ◌+◌, ◌-◌, ◌<◌, ◌≤◌, List, inl, inr, map, sym, ap, subst, arith, vec_len, vec_capacity}
+use Rattle.osi_pair.proofs.Vocabulary.{vec_items, ltb-true, CarriesPiece, entry_by, Crossing, length, waits}
+use Rattle.osi_pair.proofs.carry.pieces_are_one_carry.{carries_then, not_refused, was_refused, held_up, refused_late}
+use Rattle.osi_pair.proofs.event.the_journal_only_grows.{pieces_add, no_shorter}
 use Rattle.osi_pair.proofs.carrying.carry.Goals as goal
-use Rattle.osi_pair.proofs.carrying.carry.Goals.{then-used-eq0-via-then-used-eq0, then-used-eq0-via-else-used-eq0+then-carried-octets, then-used-eq0-via-else-used-eq0+else-carried-octets+then-is_err}
+use Rattle.osi_pair.proofs.carrying.carry.Goals.{then-used-eq0-via-then-used-eq0, then-used-eq0-via-else-used-eq0+then-carried-octets}
+use Rattle.osi_pair.proofs.carrying.carry.Goals.{then-used-eq0-via-else-used-eq0+else-carried-octets+then-is_err}
 
 pub returns-then-used-eq0-clause-carries : goal.returns-then-used-eq0-clause-carries
 returns-then-used-eq0-clause-carries c =
     let same : c.then-used-eq0.journal.items ≡ c.carry_piece-used.new.journal.items = elim c.then-used-eq0.branch [
       | then-used-eq0-via-then-used-eq0 w ↦ ap vec_items w.journal-is
       | then-used-eq0-via-else-used-eq0+then-carried-octets w ↦ ap vec_items w.journal-is
-      | then-used-eq0-via-else-used-eq0+else-carried-octets+then-is_err w ↦ ap vec_items w.journal-is ∙ w.reserve-else-carried-octets.ensures.items
+      | then-used-eq0-via-else-used-eq0+else-carried-octets+then-is_err w ↦ ap vec_items w.journal-is
+          ∙ w.reserve-else-carried-octets.ensures.items
     ] in
     carries_then c.args.side c.args.octets c.pieces.carried c.carry_piece-used.result
     (record { from = c.args.from.now; to = c.args.to.now; journal = map entry_by c.args.journal.now.items })
@@ -21,11 +24,13 @@ returns-then-used-eq0-clause-carries c =
 pub pieces-preserved : goal.pieces-preserved
 pieces-preserved c =
     let room : vec_len c.reserve-else-carried-octets.new.self + 82 ≤ vec_capacity c.reserve-else-carried-octets.new.self =
-    not_refused _ c.reserve-else-carried-octets.result c.is_err.result c.is_err.ensures.value c.if-is_err.false c.reserve-else-carried-octets.ensures.ok in (
+    not_refused _ c.reserve-else-carried-octets.result c.is_err.result c.is_err.ensures.value c.if-is_err.false
+    c.reserve-else-carried-octets.ensures.ok in (
       carries_then c.args.side c.args.octets c.pieces.carried c.carry_piece-used.result
           (record { from = c.args.from.now; to = c.args.to.now; journal = map entry_by c.args.journal.now.items })
           (record { from = c.pieces.from; to = c.pieces.to; journal = map entry_by c.pieces.journal.items })
-          c.carry_piece-used.new.from c.carry_piece-used.new.to c.carry_piece-used.new.journal.items c.reserve-else-carried-octets.new.self.items
+          c.carry_piece-used.new.from c.carry_piece-used.new.to c.carry_piece-used.new.journal.items
+          c.reserve-else-carried-octets.new.self.items
           c.pieces.invariant.0 c.carry_piece-used.ensures.carries c.reserve-else-carried-octets.ensures.items,
       omega arith,
       omega arith,
@@ -47,17 +52,48 @@ returns-then-used-eq0-clause-short c is =
             some = some;
             piece = subst (λ (n : ℕ). CarriesPiece c.args.side (c.args.octets - c.pieces.carried)
                 (record { from = c.pieces.from; to = c.pieces.to; journal = map entry_by c.pieces.journal.items }) n
-                (record { from = c.carry_piece-used.new.from; to = c.carry_piece-used.new.to; journal = map entry_by c.then-used-eq0.journal.items })) none
+                (record {
+                  from = c.carry_piece-used.new.from;
+                  to = c.carry_piece-used.new.to;
+                  journal = map entry_by c.then-used-eq0.journal.items;
+                })) none
                 (subst (λ (l : List Entry). CarriesPiece c.args.side (c.args.octets - c.pieces.carried)
                 (record { from = c.pieces.from; to = c.pieces.to; journal = map entry_by c.pieces.journal.items }) c.carry_piece-used.result
-                (record { from = c.carry_piece-used.new.from; to = c.carry_piece-used.new.to; journal = map entry_by l })) (sym same) c.carry_piece-used.ensures.carries);
+                (record { from = c.carry_piece-used.new.from; to = c.carry_piece-used.new.to; journal = map entry_by l }))
+                (sym same) c.carry_piece-used.ensures.carries);
           }))
       | then-used-eq0-via-else-used-eq0+then-carried-octets w ↦ inl (omega (arith, less, w.if-carried-octets.true))
       | then-used-eq0-via-else-used-eq0+else-carried-octets+then-is_err w ↦
-          (let full = was_refused _ w.reserve-else-carried-octets.result w.is_err.result w.is_err.ensures.value w.if-is_err.true w.reserve-else-carried-octets.ensures.full in
-          let rests = was_refused _ w.reserve-else-carried-octets.result w.is_err.result w.is_err.ensures.value w.if-is_err.true w.reserve-else-carried-octets.ensures.err in
+          (let full = was_refused _ w.reserve-else-carried-octets.result w.is_err.result w.is_err.ensures.value w.if-is_err.true
+          w.reserve-else-carried-octets.ensures.full in
+          let rests = was_refused _ w.reserve-else-carried-octets.result w.is_err.result w.is_err.ensures.value w.if-is_err.true
+          w.reserve-else-carried-octets.ensures.err in
           let len = w.reserve-else-carried-octets.ensures.len in
           let capacity_now = ap vec_capacity w.journal-is in
           let len_now = ap vec_len w.journal-is in
           inl (omega (arith, full, rests, len, capacity_now, len_now)))
+    ]
+
+pub returns-then-used-eq0-clause-cut : goal.returns-then-used-eq0-clause-cut
+returns-then-used-eq0-clause-cut c is =
+    let less = ltb-true (c.pieces.carried + c.carry_piece-used.result) c.args.octets is in
+    let now : Crossing = record { from = c.pieces.from; to = c.pieces.to; journal = map entry_by c.pieces.journal.items } in
+    elim c.then-used-eq0.branch [
+      | then-used-eq0-via-then-used-eq0 w ↦
+          (let none : c.carry_piece-used.result ≡ 0 = omega arith in
+          inr (record {
+            pieces = c.pieces.invariant.0.pieces;
+            between = now;
+            each = c.pieces.invariant.0.each;
+            waiting = held_up (waits c.pieces.to.end.lines) (c.args.octets - c.pieces.carried) c.carry_piece-used.result
+                c.carry_piece-used.ensures.progress (omega (arith, less, none)) none;
+          }))
+      | then-used-eq0-via-else-used-eq0+then-carried-octets w ↦ absurd (omega (arith, less, w.if-carried-octets.true))
+      | then-used-eq0-via-else-used-eq0+else-carried-octets+then-is_err w ↦
+          (let full = was_refused _ w.reserve-else-carried-octets.result w.is_err.result w.is_err.ensures.value w.if-is_err.true
+          w.reserve-else-carried-octets.ensures.full in
+          let same = ap (λ j. length (map entry_by j)) (ap vec_items w.journal-is ∙ w.reserve-else-carried-octets.ensures.items) in
+          let grown = no_shorter _ _ (pieces_add c.args.side c.args.octets c.pieces.invariant.0.pieces _ now c.pieces.invariant.0.each) in
+          inl (refused_late (vec_len c.carry_piece-used.new.journal) (vec_capacity c.carry_piece-used.new.journal) _ _ _ _ full
+          c.carry_piece-used.ensures.notes grown same))
     ]

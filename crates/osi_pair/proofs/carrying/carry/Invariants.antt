@@ -1,6 +1,5 @@
-use Rattle.std.proofs.Common.{◌≡◌, ◌+◌, ◌-◌, ◌<◌, ◌≤◌, ◌⊎◌, length, map, vec_len, vec_capacity}
 use Rattle.osi_pair.specs.Carrying.{Carries}
-use Rattle.osi_pair.proofs.Vocabulary.{entry_by}
+use Rattle.osi_pair.proofs.Vocabulary.{◌≡◌, ◌+◌, ◌-◌, ◌<◌, ◌≤◌, ◌⊎◌, length, map, vec_len, vec_capacity, entry_by}
 use Rattle.osi_pair.proofs.carrying.carry.Given as goal
 
 abbrev pub invariant-pieces : goal.invariant-pieces

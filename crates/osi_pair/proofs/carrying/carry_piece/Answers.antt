@@ -1,6 +1,5 @@
-use Rattle.std.proofs.Common.{map}
-use Rattle.osi_pair.specs.Entries.{entry_by}
-use Rattle.osi_pair.proofs.Showing.{says_all}
+use Rattle.osi_pair.proofs.Vocabulary.{map, entry_by, vec_len, vec_capacity, length, ◌+◌, ◌<◌, ◌⊎◌, inl, inr, sym, subst}
+use Rattle.osi_pair.proofs.carry.users_receive_one_after_the_other.{says_all, notes_then}
 use Rattle.osi_pair.proofs.carrying.carry_piece.Goals as goal
 
 pub returns-clause-carries : goal.returns-clause-carries
@@ -12,7 +11,17 @@ returns-clause-carries c =
       feeds = c.feed-used.ensures.feeds;
       taken = c.feed-used.ensures.taken;
       shows = told.shows;
-      says = says_all c.args.side (map entry_by c.args.journal.now.items) (map entry_by c.show.new.journal.items) (map entry_by c.note_end.new.journal.items)
+      says = says_all c.args.side (map entry_by c.args.journal.now.items) (map entry_by c.show.new.journal.items)
+          (map entry_by c.note_end.new.journal.items)
           told.first c.ended-before.result c.ended.result c.args.to.now.end.carrier.ended c.show.new.stack.end.carrier.ended
-          told.says c.note_end.ensures c.ended-before.ensures c.ended.ensures;
+          told.says c.note_end.ensures.says c.ended-before.ensures c.ended.ensures;
     }
+
+pub returns-clause-notes : goal.returns-clause-notes
+returns-clause-notes c = elim c.note_end.ensures.notes [
+  | inl same ↦ subst (λ j. (vec_len j + 81 < vec_capacity j)
+      ⊎ (length (map entry_by c.args.journal.now.items) < length (map entry_by j.items)))
+      (sym same) c.show.ensures.notes
+  | inr more ↦ inr (notes_then (map entry_by c.args.journal.now.items) (map entry_by c.show.new.journal.items)
+      (map entry_by c.note_end.new.journal.items) _ c.show.ensures.tells.says more)
+]

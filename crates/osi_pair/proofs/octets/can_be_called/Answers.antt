@@ -1,6 +1,5 @@
-use Rattle.std.proofs.Common.{subst, ◌∙◌}
-use Rattle.osi_pair.proofs.Vocabulary.{IsOctets, called_by}
-use Rattle.osi_pair.proofs.StandingEvent.{serial_small, same_octets}
+use Rattle.osi_pair.proofs.Vocabulary.{subst, ◌∙◌, IsOctets, called_by}
+use Rattle.osi_pair.proofs.event.what_an_event_does.{serial_small, same_octets}
 use Rattle.osi_pair.proofs.octets.can_be_called.Goals as goal
 
 pub returns-clause-serial : goal.returns-clause-serial

@@ -1,6 +1,5 @@
-use Rattle.std.proofs.Common.{subst}
-use Rattle.osi_tpkt.specs.Octets.{IsOctets}
-use Rattle.osi_pair.proofs.StandingEvent.{address_short}
+use Rattle.osi_pair.proofs.Vocabulary.{subst, IsOctets}
+use Rattle.osi_pair.proofs.event.what_an_event_does.{address_short}
 use Rattle.osi_pair.proofs.octets.is_short.Goals as goal
 
 pub returns-clause-short : goal.returns-clause-short

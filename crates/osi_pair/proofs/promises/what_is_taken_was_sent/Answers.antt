@@ -1,4 +1,4 @@
-use Rattle.osi_pair.proofs.AllTaken as taken
+use Rattle.osi_pair.proofs.promise.all_is_taken_at_rest as taken
 use Rattle.osi_pair.proofs.promises.what_is_taken_was_sent.Goals as goal
 
 pub returns-clause-prefix : goal.returns-clause-prefix

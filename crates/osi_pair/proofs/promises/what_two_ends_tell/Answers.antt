@@ -1,4 +1,4 @@
-use Rattle.osi_pair.proofs.StandingPromises as promises
+use Rattle.osi_pair.proofs.promise.matching_ends_keep_the_promises as promises
 use Rattle.osi_pair.proofs.promises.what_two_ends_tell.Goals as goal
 
 pub returns-clause-legal_journal : goal.returns-clause-legal_journal

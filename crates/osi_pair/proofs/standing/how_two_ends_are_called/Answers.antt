@@ -1,6 +1,6 @@
-use Rattle.osi_pair.proofs.StandingConnect.{connect_at}
-use Rattle.osi_pair.proofs.StandingCalled.{call_at}
-use Rattle.osi_pair.proofs.StandingOctets.{call_in_octets}
+use Rattle.osi_pair.proofs.call.a_request_is_the_machines.{connect_at}
+use Rattle.osi_pair.proofs.call.a_call_keeps_the_match.{call_at}
+use Rattle.osi_pair.proofs.call.what_a_call_sends_can_be_written.{call_in_octets}
 use Rattle.osi_pair.proofs.standing.how_two_ends_are_called.Goals as goal
 
 pub returns-clause-calls : goal.returns-clause-calls
@@ -25,14 +25,4 @@ returns-clause-calls c = call_at (record {
 })
 
 pub returns-clause-connects : goal.returns-clause-connects
-returns-clause-connects c = connect_at (record {
-  asked = c.whatever_becomes_of_two_carriers.ensures.asked;
-  ahead = c.what_two_carriers_have.ensures.ahead;
-  awaits = c.what_two_carriers_have.ensures.awaits;
-  attended = c.all_that_is_told_is_heard.ensures.connects;
-  sound = c.a_session_that_is_called_has_a_connection.ensures.connects;
-  rising = c.lines_rise_by_reference.ensures.connects;
-  came = c.a_session_is_what_its_inputs_made_it.ensures.connects;
-  before = c.what_stands_at_a_reference.ensures.before;
-  last = c.what_stands_at_a_reference.ensures.last;
-})
+returns-clause-connects c = connect_at (assumption)

@@ -1,13 +1,21 @@
-use Rattle.std.proofs.Common.{◌∙◌, [], ◌∷◌, map, sym, ap, arith}
-use Rattle.osi_pair.specs.declared.entries.Entry.TheVariants.{Indication}
-use Rattle.osi_pair.proofs.Vocabulary.{map-append, shown_by, entry_by}
-use Rattle.osi_pair.proofs.Showing.{shown_end, shown_then}
+use Rattle.osi_pair.proofs.Vocabulary.{◌∙◌, [], ◌∷◌, map, sym, ap, arith, Indication, map-append, shown_by, entry_by}
+use Rattle.osi_pair.proofs.carry.users_receive_one_after_the_other.{shown_end, shown_then, notes_by}
 use Rattle.osi_pair.proofs.telling.show.Goals as goal
 
 pub returns-in_default-clause-tells : goal.returns-in_default-clause-tells
 returns-in_default-clause-tells c =
     shown_end c.args.side c.args.stack.now (map entry_by c.args.journal.now.items) c.shown.count c.shown.stack c.next_indication.new.self
     (map entry_by c.shown.journal.items) c.shown.invariant.0 (sym c.in_default.ensures.shown) c.in_default.ensures.rest
+
+pub returns-in_default-clause-notes : goal.returns-in_default-clause-notes
+returns-in_default-clause-notes c =
+    notes_by c.args.side c.args.stack.now (map entry_by c.args.journal.now.items) c.shown.count c.shown.stack
+    (map entry_by c.shown.journal.items) _ _ c.shown.invariant.0 c.shown.invariant.1
+
+pub returns-clause-notes : goal.returns-clause-notes
+returns-clause-notes c =
+    notes_by c.args.side c.args.stack.now (map entry_by c.args.journal.now.items) c.shown.count c.shown.stack
+    (map entry_by c.shown.journal.items) _ _ c.shown.invariant.0 c.shown.invariant.1
 
 pub shown-preserved : goal.shown-preserved
 shown-preserved c = (

@@ -1,6 +1,5 @@
-use Rattle.std.proofs.Common.{◌+◌, ◌-◌, ◌<◌, ◌≤◌, map, vec_len, vec_capacity}
-use Rattle.osi_pair.specs.Entries.{entry_by}
-use Rattle.osi_pair.proofs.Showing.{HasShown}
+use Rattle.osi_pair.proofs.Vocabulary.{◌+◌, ◌-◌, ◌<◌, ◌≤◌, map, vec_len, vec_capacity, entry_by}
+use Rattle.osi_pair.proofs.carry.users_receive_one_after_the_other.{HasShown}
 use Rattle.osi_pair.proofs.telling.show.Given as goal
 
 abbrev pub invariant-shown : goal.invariant-shown

@@ -7,6 +7,8 @@ use Rattle.osi_tool.proofs.words.command.Goals as goal
 pub returns : goal.returns
 unfolding osi
 returns c =
-    let both = c.in_ok-subcommand.ensures.shape c.show.ensures.local
+    let one = c.in_ok-subcommand.ensures.shape c.show.ensures.local
     ∙ ap₂ with_subcommand c.in_ok-bare_command.ensures c.show.ensures.shape in
-    IfOk-weaker c.subcommand-2.result _ _ (λ command h. h.shape c.pair.ensures.local ∙ ap₂ with_subcommand both c.pair.ensures.shape) c.subcommand-2.ensures
+    let two = c.in_ok-subcommand-2.ensures.shape c.pair.ensures.local
+    ∙ ap₂ with_subcommand one c.pair.ensures.shape in
+    IfOk-weaker c.subcommand-3.result _ _ (λ command h. h.shape c.judge.ensures.local ∙ ap₂ with_subcommand two c.judge.ensures.shape) c.subcommand-3.ensures

@@ -1,4 +1,4 @@
-use Rattle.osi_transcript.proofs.OneTranscript.{one_transcript}
+use Rattle.osi_transcript.proofs.a_script_has_one_transcript.{one_transcript}
 use Rattle.osi_transcript.proofs.laws.a_script_has_one_transcript.Goals as goal
 
 pub returns : goal.returns

@@ -1,6 +1,6 @@
 use Rattle.std.proofs.Common.{length}
 use Rattle.osi_transcript.specs.Walks.{lines_in, IsSmall}
-use Rattle.osi_transcript.proofs.Lines.{HasPlayed}
+use Rattle.osi_transcript.proofs.each_line_is_played_in_order.{HasPlayed}
 use Rattle.osi_transcript.proofs.playing.play.Given as goal
 
 abbrev pub invariant-lines : goal.invariant-lines

@@ -1,5 +1,5 @@
 use Rattle.std.proofs.Common.{arith}
-use Rattle.osi_transcript.proofs.Texts.{event_done, journal_grows}
+use Rattle.osi_transcript.proofs.the_lines_of_entries_in_order.{event_done, journal_grows}
 use Rattle.osi_transcript.proofs.playing.play_event.Goals as goal
 
 pub split_at-requires : goal.split_at-requires

@@ -1,7 +1,7 @@
 use Rattle.std.proofs.Common.{◌∙◌, ◌+◌, ◌++◌, List, ℕ, sym, ap}
 use Rattle.std.proofs.lemmas.List.{append_assoc, append-nil}
 use Rattle.osi_transcript.specs.Standings.{standing_texts, phase_text}
-use Rattle.osi_transcript.proofs.Stands.{no_standings, standings_more, standing_here, standings_end}
+use Rattle.osi_transcript.proofs.the_line_of_a_state.{no_standings, standings_more, standing_here, standings_end}
 use Rattle.osi_transcript.proofs.standings.push_side.Goals as goal
 
 pub references-init : goal.references-init

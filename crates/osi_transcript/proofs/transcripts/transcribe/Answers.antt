@@ -6,7 +6,7 @@ use Rattle.osi_transcript.specs.Numbered.{numbered}
 use Rattle.osi_transcript.specs.Starting.{StartsWith}
 use Rattle.osi_transcript.specs.Steps.{PlaysAll}
 use Rattle.osi_transcript.specs.Walks.{lines_in}
-use Rattle.osi_transcript.proofs.Lines.{transcribed}
+use Rattle.osi_transcript.proofs.each_line_is_played_in_order.{transcribed}
 use Rattle.osi_transcript.proofs.transcripts.transcribe.Goals as goal
 
 pub returns-clause-told : goal.returns-clause-told

@@ -2,7 +2,7 @@ use Rattle.std.proofs.Common.{◌≡◌, ◌∙◌, ◌+◌, true, false, List, 
 use Rattle.std.specs.Option.{option_map_or}
 use Rattle.osi_script.specs.Scripts.{lines_of}
 use Rattle.osi_transcript.specs.Numbered.{numbered, lines_left}
-use Rattle.osi_transcript.proofs.Walking.{same_left, asked_next, skipped_next, none_numbered, flip_false, flip_true}
+use Rattle.osi_transcript.proofs.a_script_is_read_line_by_line.{same_left, asked_next, skipped_next, none_numbered, flip_false, flip_true}
 use Rattle.osi_transcript.proofs.walks.next_from.Goals as goal
 
 pub returns-then-not-is_skipped-clause-some : goal.returns-then-not-is_skipped-clause-some

@@ -1,5 +1,5 @@
 use Rattle.std.proofs.Common.{◌≡◌, ◌++◌, Option, OnOk, map, ap, sym, subst, ◌∙◌}
-use Rattle.osi_carrier.proofs.Vocabulary.{cow_slice_items, one_by_one, written_for, value_at, peer_in, link_in, Connection, linked, packets}
+use Rattle.osi_carrier.proofs.Vocabulary.{cow_slice_items, one_by_one, WaitTogether, written_for, value_at, peer_in, link_in, Connection, linked, packets}
 use Rattle.osi_carrier.proofs.Places.{here_is, stepped_rows}
 use Rattle.osi_carrier.proofs.Order.{set_kept}
 use Rattle.osi_carrier.proofs.rows.Connections.send_all.Goals as goal
@@ -28,3 +28,9 @@ pub invariant_of-self : goal.invariant_of-self
 invariant_of-self c =
     set_kept c.self.inside.rises c.self.inside.rows.items c.args.place c.index_mut.result.now c.send_all.new.self c.index_mut.ensures.value c.send_all.ensures.reference
     c.self.invariant
+
+pub returns-clause-kept : goal.returns-clause-kept
+returns-clause-kept c =
+    let was = here_is c.args.reference c.args.self.now c.self.inside.rows.items c.args.place c.index_mut.result.now c.requires.place c.index_mut.ensures.value c.self.view_is in
+    λ owned together. c.send_all.ensures.kept owned
+    (subst (λ (o : Option Connection). WaitTogether (link_in o) (map (λ v. v.items) (cow_slice_items c.args.tsdus))) was together)

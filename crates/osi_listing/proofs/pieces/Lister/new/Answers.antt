@@ -2,8 +2,8 @@ use Rattle.std.proofs.Common.{refl, lit<}
 use Rattle.osi_listing.proofs.Standing.{nothing_fed}
 use Rattle.osi_listing.proofs.pieces.Lister.new.Goals as goal
 
-pub returns : goal.returns
-returns c = record {
+pub returns-clause-fed : goal.returns-clause-fed
+returns-clause-fed c = record {
   counted = refl;
   few = lit< tt;
   stands = nothing_fed c.new-work.result c.new-work.ensures.cutter c.new-work.ensures.streams c.new-work.ensures.counts c.new-work.ensures.offset;

@@ -1,32 +1,20 @@
-use Rattle.std.proofs.Common.{List, OnOk, IfOk, subst}
-use Rattle.osi_pair.specs.Memory.{ends_in}
-use Rattle.osi_pair.proofs.Vocabulary.{Step, StandsAfter, TwoEnds, CarriesAsMuch, StandsAt}
-use Rattle.osi_pair.proofs.Applying.{result_reached, result_stands, result_carries}
-use Rattle.osi_pair.proofs.StandingEvent.{EventLaws}
+use Rattle.osi_pair.proofs.Vocabulary.{List, OnOk, IfOk, subst, ends_in, Step, StandsAfter, TwoEnds, CarriesAsMuch, StandsAt}
+use Rattle.osi_pair.specs.Events.{NotesIfCutShort}
+use Rattle.osi_pair.proofs.event.an_event_is_applied_or_refused.{result_reached, result_stands, result_carries, result_cut}
+use Rattle.osi_pair.proofs.event.what_an_event_does.{EventLaws}
 use Rattle.osi_pair.proofs.pairs.Pair.apply.Goals as goal
 
 pub invariant_of-self : goal.invariant_of-self
 invariant_of-self c =
-    let laws : EventLaws = record {
-      connects = c.how_two_ends_are_called.ensures.connects;
-      calls = c.how_two_ends_are_called.ensures.calls;
-      carries = c.how_two_ends_carry.ensures.carries;
-      broken = c.how_two_ends_stand.ensures.broken;
-      tells = c.how_two_ends_stand.ensures.tells;
-    } in
+    let laws : EventLaws = assumption in
     result_reached laws c.args.event.now (ends_in c.self.inside.ends) (ends_in c.apply.new.self) c.apply.result c.can_happen.ensures
     c.apply.ensures.fits c.apply.ensures.does c.apply.ensures.err c.self.invariant
 
 pub returns-clause-stands : goal.returns-clause-stands
 returns-clause-stands c =
-    let laws : EventLaws = record {
-      connects = c.how_two_ends_are_called.ensures.connects;
-      calls = c.how_two_ends_are_called.ensures.calls;
-      carries = c.how_two_ends_carry.ensures.carries;
-      broken = c.how_two_ends_stand.ensures.broken;
-      tells = c.how_two_ends_stand.ensures.tells;
-    } in
-    subst (λ (p : TwoEnds). OnOk c.apply.result ((steps : List Step) → StandsAt p steps → StandsAfter c.args.event.now p (ends_in c.apply.new.self) steps)) c.self.view_is
+    let laws : EventLaws = assumption in
+    subst (λ (p : TwoEnds). OnOk c.apply.result
+    ((steps : List Step) → StandsAt p steps → StandsAfter c.args.event.now p (ends_in c.apply.new.self) steps)) c.self.view_is
     (result_stands laws c.args.event.now (ends_in c.self.inside.ends) (ends_in c.apply.new.self) c.apply.result c.can_happen.ensures
     c.apply.ensures.fits c.apply.ensures.does)
 
@@ -35,15 +23,16 @@ returns-clause-carried c =
     subst (λ (p : TwoEnds). IfOk c.apply.result (λ applied. CarriesAsMuch c.args.event.now p applied)) c.self.view_is
     (result_carries c.args.event.now (ends_in c.self.inside.ends) c.apply.result c.self.invariant c.apply.ensures.carried)
 
+pub returns-clause-cut : goal.returns-clause-cut
+returns-clause-cut c =
+    let laws : EventLaws = assumption in
+    subst (λ (p : TwoEnds). IfOk c.apply.result (λ applied. NotesIfCutShort p applied (ends_in c.apply.new.self))) c.self.view_is
+    (result_cut laws c.args.event.now (ends_in c.self.inside.ends) (ends_in c.apply.new.self) c.apply.result c.self.invariant
+    c.apply.ensures.carried c.apply.ensures.cut)
+
 pub returns-clause-safe : goal.returns-clause-safe
 returns-clause-safe c =
-    let laws : EventLaws = record {
-      connects = c.how_two_ends_are_called.ensures.connects;
-      calls = c.how_two_ends_are_called.ensures.calls;
-      carries = c.how_two_ends_carry.ensures.carries;
-      broken = c.how_two_ends_stand.ensures.broken;
-      tells = c.how_two_ends_stand.ensures.tells;
-    } in
+    let laws : EventLaws = assumption in
     c.what_two_ends_tell.ensures.all (ends_in c.apply.new.self)
     (result_reached laws c.args.event.now (ends_in c.self.inside.ends) (ends_in c.apply.new.self) c.apply.result c.can_happen.ensures
     c.apply.ensures.fits c.apply.ensures.does c.apply.ensures.err c.self.invariant)

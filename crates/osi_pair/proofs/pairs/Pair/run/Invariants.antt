@@ -1,5 +1,4 @@
-use Rattle.std.proofs.Common.{take}
-use Rattle.osi_pair.specs.Running.{HappenAll}
+use Rattle.osi_pair.proofs.Vocabulary.{take, HappenAll}
 use Rattle.osi_pair.proofs.pairs.Pair.run.Given as goal
 
 abbrev pub invariant-events : goal.invariant-events

@@ -1,6 +1,6 @@
 use Rattle.std.proofs.Common.{◌∙◌, option_map, ap}
 use Rattle.osi_transcript.specs.Numbered.{numbered, lines_left}
-use Rattle.osi_transcript.proofs.Walking.{none_numbered}
+use Rattle.osi_transcript.proofs.a_script_is_read_line_by_line.{none_numbered}
 use Rattle.osi_transcript.proofs.walks.Walk.next_line.Goals as goal
 
 pub returns-in_default-clause-none : goal.returns-in_default-clause-none

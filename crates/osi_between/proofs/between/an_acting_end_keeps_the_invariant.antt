@@ -1,0 +1,268 @@
+-- The invariant of two carriers is kept when an end acts.
+-- For joined carriers, class 0 and the invariant.
+use Rattle.osi_between.specs.Between.{under_way}
+use Rattle.osi_between.proofs.Vocabulary.{◌≡◌, ◌≢◌, ℕ, ◌+◌, ◌≤◌, ◌||◌, Bool, true, false, not, List, [], ◌++◌, length, Option, Some, None}
+use Rattle.osi_between.proofs.Vocabulary.{is_some, IfSome, refl, sym, ap, subst, ◌∙◌, append_assoc, arith, ◌⊎◌, inl, inr, flat_map}
+use Rattle.osi_between.proofs.Vocabulary.{AllByRecursion, append-nil, append_cancel_right, Value, IsSendable, place_at, connection_in}
+use Rattle.osi_between.proofs.Vocabulary.{Connection, State, packets, EndReason, units_of, AreFor, Both, side, reach_of, within_reach}
+use Rattle.osi_between.proofs.Vocabulary.{arriving, Between, last_of, units_from, lost_from, IsOnTheWay, AreJoinedBy, AreBetween, is_cut}
+use Rattle.osi_between.proofs.Vocabulary.{to_come, told_of, put_in, Carries, Acted, becomes, progress_of, BringsTo, under_way_for, ActsFor}
+use Rattle.osi_between.proofs.Vocabulary.{Message, messages_to, messages_after, begun_at, AreLike, references_for, class_behind_all}
+use Rattle.osi_between.proofs.Vocabulary.{leaves_use, Terms, by_two, accepts_in, class_of}
+use Rattle.osi_between.proofs.unit.the_units_of_one_connection.{units_join, units_same, units_other}
+use Rattle.osi_between.proofs.unit.what_a_taken_unit_means.{same_like}
+use Rattle.osi_between.proofs.way.octets_are_written_and_handed_over.{going_then, lost_then, all_then, way_out, bound_out}
+
+-- ---- with all units
+
+-- What an end (`this`, then `next`) did for a connection; `going` are the units in flight from it and `coming` those to
+-- it.
+pub record Steps (terms : Terms) (n : ℕ) (this other next : State) (going coming rest taken : List Value)
+    (put : List Message) : Type 0 where
+  pub units : List Value
+  pub arrived : List Message
+  pub stays : List Message
+  pub lost : List Message
+  pub sendable : AllByRecursion IsSendable units
+  pub outgoing : next.outgoing ≡ this.outgoing ++ packets units
+  pub told : next.events ≡ this.events ++ flat_map (told_of terms n (place_at n this)) arrived
+  pub cut : coming ≡ taken ++ rest
+  pub all_for : AreFor n taken
+  pub written_for : AreFor n units
+  pub before : AreLike (connection_in (place_at n other)) (under_way_for n this other going) (stays ++ lost)
+  pub after : AreLike (connection_in (place_at n other)) (under_way_for n next other (going ++ units)) (stays ++ put)
+  pub brings : BringsTo (accepts_in terms) (place_at n this) (place_at n next) taken arrived put
+  pub others_stay : (q : ℕ) → q ≢ n → place_at q next ≡ place_at q this
+  pub given : next.given ≡ this.given + references_for (accepts_in terms) arrived put
+  pub class : next.class ≡ class_behind_all (class_of terms) this.class arrived
+  pub local : next.local ≡ this.local
+  pub keeps : leaves_use (progress_of (place_at n this)) (progress_of (place_at n next)) ≡ false → lost ≡ []
+  pub lasts : next.ended ≡ None
+
+-- joined, seen from an end
+abbrev pub JoinedAt : Bool → Terms → State → State → List Value → List Value → Type 0
+JoinedAt true terms this other going coming = AreJoinedBy terms this other going coming
+JoinedAt false terms this other going coming = AreJoinedBy terms other this coming going
+
+pub record Does (terms : Terms) (end : Bool) (n : ℕ) (this other next : State) (going coming rest taken : List Value)
+    (put : List Message) : Type 0 where
+  pub steps : Steps terms n this other next going coming rest taken put
+  pub joined : JoinedAt end terms next other (going ++ steps.units) rest
+
+-- in class 2
+abbrev pub steps_two : (n : ℕ) (this other next : State) (going coming behind rest taken : List Value) (put : List Message) →
+    coming ≡ taken ++ rest → next.ended ≡ None → (a : ActsFor n this other next going coming behind rest put) →
+    Steps by_two n this other next going coming rest taken put
+steps_two n this other next going coming behind rest taken put cut lasts a =
+    let w = a.writes in
+    let same : a.takes.units ≡ taken = append_cancel_right a.takes.units taken rest (sym a.takes.cut ∙ cut) in
+    record {
+      units = w.units;
+      arrived = a.takes.arrived;
+      stays = w.stays;
+      lost = w.lost;
+      sendable = w.sendable;
+      outgoing = w.outgoing;
+      told = a.takes.told;
+      cut = cut;
+      all_for = subst (λ (l : List Value). AreFor n l) same a.takes.all_for;
+      written_for = w.all_for;
+      before = w.before;
+      after = subst (λ (l : List Value). AreLike (connection_in (place_at n other)) (under_way_for n next other l) (w.stays ++ put))
+          w.written w.after;
+      brings = subst (λ (l : List Value). BringsTo true (place_at n this) (place_at n next) l a.takes.arrived put) same a.takes.brings;
+      others_stay = a.others.places;
+      given = a.given;
+      class = a.class;
+      local = a.local;
+      keeps = w.keeps;
+      lasts = lasts;
+    }
+
+-- ---- both ways
+
+pub by_end : (end : Bool) (P : Bool → Type 0) → P end → P (not end) → (e : Bool) → P e
+by_end end P a b e = grind arith
+
+pub unreached : (end : Bool) (reach : Option (ℕ × ℕ)) → reach_of end reach ≡ None → reach ≡ None
+unreached end reach e = grind arith
+
+cut_alive : (broken : Bool) (ended : Option EndReason) → ended ≡ None → (broken || is_some ended) ≡ broken
+cut_alive broken ended e = grind (arith, is_some)
+
+-- what is in flight from the acting end
+record OutPart (o : Option Connection) (old new lost put : List Message) : Type 0 where
+  stays : List Message
+  gone : List Message
+  none : lost ≡ [] → gone ≡ []
+  before : AreLike o old (stays ++ gone)
+  after : AreLike o new (stays ++ put)
+
+-- messages of units and of what is still to be sent after them
+abbrev sum_of : Option Connection → ℕ → List Value → Bool → Option Connection → List Message
+sum_of o n units cut c = messages_after (begun_at o) (units_of n units ++ to_come cut c)
+
+abbrev if_whole : Option (ℕ × ℕ) → List Message → List Message
+if_whole None put = put
+if_whole (Some r) put = []
+
+out_part : (end : Bool) (reach : Option (ℕ × ℕ)) (o c d : Option Connection) (n : ℕ) (going lost units : List Value)
+    (stays gone put : List Message) → (reach ≡ None → lost ≡ []) →
+    AreLike o (messages_to c (units_of n (going ++ lost)) o) (stays ++ gone) →
+    AreLike o (messages_to d (units_of n ((going ++ lost) ++ units)) o) (stays ++ put) →
+    OutPart o (sum_of o n going (is_some reach) c) (sum_of o n (going_then (reach_of end reach) going units) (is_some reach) d) gone
+    (if_whole reach put)
+out_part true None o c d n going lost units stays gone put none before after = grind (arith, append-nil)
+out_part end (Some r) o c d n going lost units stays gone put none before after = record {
+  stays = sum_of o n going true c;
+  gone = [];
+  none = λ h. refl;
+  before = same_like o (sum_of o n going true c) (sum_of o n going true c ++ []) (sym (append-nil (sum_of o n going true c)));
+  after = same_like o (sum_of o n going true d) (sum_of o n going true c ++ []) (sym (append-nil (sum_of o n going true c)));
+}
+out_part end reach o c d n going lost units stays gone put none before after = grind (arith, append-nil)
+
+put_is : (both : Both) (put : List Message) (reach : Option (ℕ × ℕ)) → both.reach ≡ reach → if_whole reach put ≡ put_in both put
+put_is both put reach e = grind arith
+
+-- what arrived at it
+came_part : (n : ℕ) (old new there : Option Connection) (cut : Bool) (coming taken left : List Value) (arrived : List Message) →
+    coming ≡ taken ++ left → AreFor n taken →
+    ((units : List Value) → AreLike new (messages_after (begun_at old) (taken ++ units)) (arrived ++ messages_after (begun_at new) units)) →
+    AreLike new (sum_of old n coming cut there) (arrived ++ sum_of new n left cut there)
+came_part n old new there cut coming taken left arrived parts all more = grind (arith, units_join, units_same, append_assoc)
+
+-- of another connection
+other_out : (end : Bool) (reach : Option (ℕ × ℕ)) (q n : ℕ) (going units : List Value) → q ≢ n → AreFor n units →
+    units_of q going ≡ units_of q (going_then (reach_of end reach) going units)
+other_out end reach q n going units apart all = grind (arith, units_join, units_other, append-nil)
+
+other_in : (q n : ℕ) (coming taken left : List Value) → q ≢ n → coming ≡ taken ++ left → AreFor n taken →
+    units_of q coming ≡ units_of q left
+other_in q n coming taken left apart parts all = grind (arith, units_join, units_other)
+
+same_sum : (o p c d : Option Connection) (q : ℕ) (us vs : List Value) (a b : Bool) → o ≡ p → units_of q us ≡ units_of q vs → a ≡ b → c ≡ d →
+    sum_of o q us a c ≡ sum_of p q vs b d
+same_sum o p c d q us vs a b x y z w = grind arith
+
+-- ---- an end acts
+
+-- A lemma with one proof for both ends takes this argument, which is always available. Its first clause never applies
+-- and only splits on the end, so that the second clause is a proof for each end.
+abbrev pub Each : Type 0
+Each = ⊥ ⊎ Unit {0}
+
+-- all units from an end, also those that a break took away
+abbrev pub all_from : Bool → Between → List Value
+all_from end b = units_from end b ++ lost_from end b
+
+abbrev now_of : Bool → Both → Between → State → List Value → List Value → Between
+now_of true both b next units left = record b {
+  caller = next;
+  going = going_then (reach_of true both.reach) b.going units;
+  going_lost = lost_then (reach_of true both.reach) b.going_lost units;
+  coming = left;
+}
+now_of false both b next units left = record b {
+  called = next;
+  coming = going_then (reach_of false both.reach) b.coming units;
+  coming_lost = lost_then (reach_of false both.reach) b.coming_lost units;
+  going = left;
+}
+
+stands_at : (terms : Terms) (end : Bool) → Each →
+    (n : ℕ) (both : Both) (b : Between) (next : State) (behind : List ℕ) (left taken : List Value) (put : List Message) →
+    AreBetween terms both b → (side end both).state.ended ≡ None →
+    IsOnTheWay behind (arriving (not end) both) left (lost_from (not end) b) →
+    (d : Does terms end n (last_of end b) (last_of (not end) b) next (all_from end b) (all_from (not end) b)
+    (left ++ lost_from (not end) b) taken put) → AreBetween terms (becomes end next behind both) (now_of end both b next d.steps.units left)
+stands_at terms true (inl none) n both b next behind left taken put a alive way d = absurd none
+stands_at terms end each n both b next behind left taken put a alive way d =
+    let units = d.steps.units in
+    let reach = reach_of end both.reach in
+    let none : reach ≡ None → lost_from end b ≡ [] = λ e. a.unbroken (unreached end both.reach e) end in
+    let new = becomes end next behind both in
+    let now = now_of end both b next units left in
+    let same = a.lives end alive in
+    let out : next.outgoing ≡ (side end both).state.outgoing ++ packets units =
+    d.steps.outgoing ∙ ap (λ (s : State). s.outgoing ++ packets units) (sym same) in
+    record {
+      lives = by_end end (λ e. (side e new).state.ended ≡ None → (side e new).state ≡ last_of e now) (λ _. refl) (λ h. a.lives (not end) h);
+      joined = subst (λ (l : List Value). JoinedAt end terms next (last_of (not end) b) l (left ++ lost_from (not end) b))
+          (all_then reach (units_from end b) (lost_from end b) units none) d.joined;
+      comes = by_end end (λ e. (side (not e) new).state.ended ≡ None →
+          IsOnTheWay (side (not e) new).held (arriving e new) (units_from e now) (lost_from e now))
+          (λ h. subst (λ (l : List ℕ). IsOnTheWay (side (not end) both).held (within_reach reach l) (units_from end now)
+          (lost_from end now)) (sym out)
+          (way_out reach (side (not end) both).held (side end both).state.outgoing (units_from end b) (lost_from end b) units none
+          (a.bound end) (a.comes end h) d.steps.sendable))
+          (λ h. way);
+      unbroken = λ e. by_end end (λ x. lost_from x now ≡ [])
+          (ap (λ (r : Option (ℕ × ℕ)). lost_then (reach_of end r) (lost_from end b) units) e ∙ a.unbroken e end) (a.unbroken e (not end));
+      bound = by_end end (λ e. IfSome (reach_of e both.reach) (λ k. k ≤ length (side e new).state.outgoing))
+          (subst (λ (l : List ℕ). IfSome reach (λ k. k ≤ length l)) (sym out)
+          (bound_out reach (side end both).state.outgoing (packets units) (a.bound end)))
+          (a.bound (not end));
+    }
+
+carries_at : (terms : Terms) (end : Bool) → Each →
+    (n : ℕ) (both : Both) (b : Between) (next : State) (behind : List ℕ) (left taken : List Value) (put : List Message) →
+    AreBetween terms both b → (side end both).state.ended ≡ None → units_from (not end) b ≡ taken ++ left →
+    (d : Does terms end n (last_of end b) (last_of (not end) b) next (all_from end b) (all_from (not end) b)
+    (left ++ lost_from (not end) b) taken put) →
+    Carries terms end n both (becomes end next behind both) b (now_of end both b next d.steps.units left) taken put
+carries_at terms true (inl none) n both b next behind left taken put a alive cut d = absurd none
+carries_at terms end each n both b next behind left taken put a alive cut d =
+    let st = d.steps in
+    let c = connection_in (place_at n (last_of end b)) in
+    let e = connection_in (place_at n next) in
+    let o = connection_in (place_at n (last_of (not end) b)) in
+    let going = going_then (reach_of end both.reach) (units_from end b) st.units in
+    let was = cut_alive (is_some both.reach) (side end both).state.ended alive in
+    let is = cut_alive (is_some both.reach) next.ended st.lasts in
+    let p = out_part end both.reach o c e n (units_from end b) (lost_from end b) st.units st.stays st.lost put
+    (λ none. a.unbroken none end) st.before st.after in
+    record {
+      arrived = st.arrived;
+      stays = p.stays;
+      gone = p.gone;
+      told = st.told;
+      came = came_part n c e o (is_cut (not end) both) (units_from (not end) b) taken left st.arrived cut st.all_for st.brings.more;
+      before = subst (λ (t : Bool). AreLike o (sum_of o n (units_from end b) t c) (p.stays ++ p.gone)) (sym was) p.before;
+      after = subst (λ (t : Bool). AreLike o (sum_of o n going t e) (p.stays ++ put_in both put)) (sym is)
+          (subst (λ (l : List Message). AreLike o (sum_of o n going (is_some both.reach) e) (p.stays ++ l))
+          (put_is both put both.reach refl) p.after);
+      brings = st.brings;
+      others = λ q apart. by_end end
+          (λ x. under_way x q both b ≡ under_way x q (becomes end next behind both) (now_of end both b next st.units left))
+          (same_sum (connection_in (place_at q (last_of (not end) b))) (connection_in (place_at q (last_of (not end) b)))
+          (connection_in (place_at q (last_of end b))) (connection_in (place_at q next)) q (units_from end b) going
+          (is_cut end both) (is_some both.reach || is_some next.ended) refl
+          (other_out end both.reach q n (units_from end b) st.units apart st.written_for) (was ∙ sym is)
+          (ap connection_in (sym (st.others_stay q apart))))
+          (same_sum (connection_in (place_at q (last_of end b))) (connection_in (place_at q next))
+          (connection_in (place_at q (last_of (not end) b))) (connection_in (place_at q (last_of (not end) b))) q
+          (units_from (not end) b) left
+          (is_cut (not end) both) (is_cut (not end) both) (ap connection_in (sym (st.others_stay q apart)))
+          (other_in q n (units_from (not end) b) taken left apart cut st.all_for) refl refl);
+      other_places = st.others_stay;
+      given = st.given;
+      class = st.class;
+      local = st.local;
+      keeps = λ e. p.none (st.keeps e);
+      there = refl;
+      cut = cut;
+      lost_still = refl;
+    }
+
+pub acted : (terms : Terms) (end : Bool) (n : ℕ) (both : Both) (b : Between) (next : State) (behind : List ℕ) (left taken : List Value)
+    (put : List Message) → AreBetween terms both b → (side end both).state.ended ≡ None →
+    IsOnTheWay behind (arriving (not end) both) left (lost_from (not end) b) → units_from (not end) b ≡ taken ++ left →
+    Does terms end n (last_of end b) (last_of (not end) b) next (all_from end b) (all_from (not end) b)
+    (left ++ lost_from (not end) b) taken put → Acted terms end n both (becomes end next behind both) b taken put
+acted terms end n both b next behind left taken put a alive way cut d = record {
+  now = now_of end both b next d.steps.units left;
+  between = stands_at terms end (inr tt) n both b next behind left taken put a alive way d;
+  carries = carries_at terms end (inr tt) n both b next behind left taken put a alive cut d;
+  lasts = elim end as (λ e. (side e (becomes e next behind both)).state.ended ≡ None) [ true ↦ d.steps.lasts | false ↦ d.steps.lasts ];
+}

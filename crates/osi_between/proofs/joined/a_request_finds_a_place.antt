@@ -1,0 +1,223 @@
+-- A caller that may request a connection finds a place at the called end: once the units in flight are taken, no more
+-- connections are live there than at the caller.
+-- For joined carriers.
+use Rattle.osi_between.proofs.Vocabulary.{◌≡◌, ◌≢◌, ℕ, ◌+◌, ◌<◌, ◌≤◌, ◌==◌, Bool, true, false, List, [], ◌∷◌, ◌++◌, length, map, Option}
+use Rattle.osi_between.proofs.Vocabulary.{Some, None, refl, sym, ap, subst, ◌∙◌, arith, nat_lt, is_some, eq-eqb, eqb-true, ne_eqb, ltb-true}
+use Rattle.osi_between.proofs.Vocabulary.{ltb-false, map-append, Value, request, disconnect, disconnected, Local, dropped, references}
+use Rattle.osi_between.proofs.Vocabulary.{never, was_given, place_at, RiseFrom, AreUpTo, IsOrderly, Rows, value_at, without, Connection}
+use Rattle.osi_between.proofs.Vocabulary.{State, absent, beyond, push_here, without_here, push_other, without_other, push_rise, push_up}
+use Rattle.osi_between.proofs.Vocabulary.{without_rise, without_up, reference_of, units_of, asked_by, requests, behind, live_behind}
+use Rattle.osi_between.proofs.Vocabulary.{live_after, is_last, Course, at_end, from_end, AreJoined, farewell, found}
+use Rattle.osi_between.proofs.meeting.how_a_connection_changes_at_each_end.{given_place, is_given}
+use Rattle.osi_between.proofs.unit.the_units_of_one_connection.{units_of_by}
+
+-- ---- references as a table
+
+abbrev Marks : Type 0
+Marks = Rows (Unit {0})
+
+abbrev marked : List ℕ → Marks
+marked refs = map (λ r. (r, tt)) refs
+
+marked_dropped_by : (r q : ℕ) (refs : List ℕ) (b : Bool) → (q == r) ≡ b → marked (dropped r refs) ≡ without r (marked refs) →
+    marked (dropped r (q ∷ refs)) ≡ without r (marked (q ∷ refs))
+marked_dropped_by r q refs b e more = grind arith
+
+marked_dropped : (r : ℕ) (refs : List ℕ) → marked (dropped r refs) ≡ without r (marked refs)
+marked_dropped r [] = refl
+marked_dropped r (q ∷ refs) = marked_dropped_by r q refs (q == r) refl (marked_dropped r refs)
+
+marked_rise : (n : ℕ) (rows : Rows Connection) → RiseFrom n rows → RiseFrom n (marked (references rows))
+marked_rise n [] h = tt
+marked_rise n ((r, x) ∷ rows) h = (h.0, marked_rise r rows h.1)
+
+marked_up : (n : ℕ) (rows : Rows Connection) → AreUpTo n rows → AreUpTo n (marked (references rows))
+marked_up n [] h = tt
+marked_up n ((r, x) ∷ rows) h = (h.0, marked_up n rows h.1)
+
+marked_none_by : (q r : ℕ) (x : Connection) (rows : Rows Connection) (b : Bool) → (r == q) ≡ b →
+    (value_at q rows ≡ None → value_at q (marked (references rows)) ≡ None) → value_at q ((r, x) ∷ rows) ≡ None →
+    value_at q ((r, tt) ∷ marked (references rows)) ≡ None
+marked_none_by q r x rows b e more h = grind (arith, found)
+
+marked_none : (q : ℕ) (rows : Rows Connection) → value_at q rows ≡ None → value_at q (marked (references rows)) ≡ None
+marked_none q [] h = refl
+marked_none q ((r, x) ∷ rows) h = marked_none_by q r x rows (r == q) refl (marked_none q rows) h
+
+-- ---- a unit
+
+-- whether a reference is live after a unit for it
+abbrev stays_behind : Option (Unit {0}) → Value → Option (Unit {0})
+stays_behind o (request c) = Some tt
+stays_behind o (disconnect destination source reason user) = None
+stays_behind o (disconnected destination source) = None
+stays_behind o unit = o
+
+abbrev stays_after : Option (Unit {0}) → List Value → Option (Unit {0})
+stays_after o [] = o
+stays_after o (unit ∷ units) = stays_after (stays_behind o unit) units
+
+record Behind (g : ℕ) (refs : List ℕ) (u : Value) : Type 0 where
+  next : ℕ
+  rise : RiseFrom 0 (marked (live_behind refs u))
+  up : AreUpTo next (marked (live_behind refs u))
+  own : value_at (reference_of u) (marked (live_behind refs u)) ≡ stays_behind (value_at (reference_of u) (marked refs)) u
+  other : (q : ℕ) → q ≢ reference_of u → value_at q (marked (live_behind refs u)) ≡ value_at q (marked refs)
+  numbers : (k : ℕ) (more : List ℕ) → asked_by u ++ more ≡ behind g k → (j : ℕ) × (more ≡ behind next j)
+
+same_behind : (g : ℕ) (refs : List ℕ) (u : Value) → RiseFrom 0 (marked refs) → AreUpTo g (marked refs) → live_behind refs u ≡ refs →
+    asked_by u ≡ [] → stays_behind (value_at (reference_of u) (marked refs)) u ≡ value_at (reference_of u) (marked refs) → Behind g refs u
+same_behind g refs u rise up same none stays = record {
+  next = g;
+  rise = subst (λ (l : List ℕ). RiseFrom 0 (marked l)) (sym same) rise;
+  up = subst (λ (l : List ℕ). AreUpTo g (marked l)) (sym same) up;
+  own = ap (λ (l : List ℕ). value_at (reference_of u) (marked l)) same ∙ sym stays;
+  other = λ q apart. ap (λ (l : List ℕ). value_at q (marked l)) same;
+  numbers = λ k more e. (k, ap (λ (l : List ℕ). l ++ more) (sym none) ∙ e);
+}
+
+dropped_behind : (g d : ℕ) (refs : List ℕ) (u : Value) → RiseFrom 0 (marked refs) → AreUpTo g (marked refs) →
+    live_behind refs u ≡ dropped d refs → asked_by u ≡ [] → reference_of u ≡ d →
+    stays_behind (value_at (reference_of u) (marked refs)) u ≡ None → Behind g refs u
+dropped_behind g d refs u rise up same none is stays =
+    let rows : marked (live_behind refs u) ≡ without d (marked refs) = ap marked same ∙ marked_dropped d refs in
+    record {
+      next = g;
+      rise = subst (λ (l : Marks). RiseFrom 0 l) (sym rows) (without_rise 0 d (marked refs) rise);
+      up = subst (λ (l : Marks). AreUpTo g l) (sym rows) (without_up g d (marked refs) up);
+      own = ap (λ (l : Marks). value_at (reference_of u) l) rows ∙ ap (λ (q : ℕ). value_at q (without d (marked refs))) is
+          ∙ without_here d (marked refs) rise ∙ sym stays;
+      other = λ q apart. ap (λ (l : Marks). value_at q l) rows ∙ without_other q d (marked refs) (λ e. apart (e ∙ sym is));
+      numbers = λ k more e. (k, ap (λ (l : List ℕ). l ++ more) (sym none) ∙ e);
+    }
+
+behind_numbers : (g k n : ℕ) (more : List ℕ) → n ∷ more ≡ behind g k → n ≡ g + 1 → (j : ℕ) × (more ≡ behind (g + 1) j)
+behind_numbers g k n more e is = grind arith
+
+asked_behind : (g n : ℕ) (refs : List ℕ) (u : Value) → RiseFrom 0 (marked refs) → AreUpTo g (marked refs) →
+    live_behind refs u ≡ refs ++ n ∷ [] → asked_by u ≡ n ∷ [] → reference_of u ≡ n → n ≡ g + 1 →
+    stays_behind (value_at (reference_of u) (marked refs)) u ≡ Some tt → Behind g refs u
+asked_behind g n refs u rise up same asks is next stays =
+    let rows : marked (live_behind refs u) ≡ marked refs ++ (g + 1, tt) ∷ [] =
+    ap marked same ∙ map-append (λ (r : ℕ). (r, tt)) refs (n ∷ []) ∙ ap (λ (m : ℕ). marked refs ++ (m, tt) ∷ []) next in
+    record {
+      next = g + 1;
+      rise = subst (λ (l : Marks). RiseFrom 0 l) (sym rows) (push_rise 0 g tt (marked refs) (omega arith) rise up);
+      up = subst (λ (l : Marks). AreUpTo (g + 1) l) (sym rows) (push_up g tt (marked refs) up);
+      own = ap (λ (l : Marks). value_at (reference_of u) l) rows ∙ ap (λ (q : ℕ). value_at q (marked refs ++ (g + 1, tt) ∷ [])) (is ∙ next)
+          ∙ push_here (g + 1) tt (marked refs) (beyond (g + 1) g (marked refs) up (omega arith)) ∙ sym stays;
+      other = λ q apart. ap (λ (l : Marks). value_at q l) rows ∙ push_other q (g + 1) tt (marked refs) (λ e. apart (e ∙ sym next ∙ sym is));
+      numbers = λ k more e. behind_numbers g k n more (ap (λ (l : List ℕ). l ++ more) (sym asks) ∙ e) next;
+    }
+
+first_is : (g k n : ℕ) (more : List ℕ) → n ∷ more ≡ behind g k → n ≡ g + 1
+first_is g k n more e = grind arith
+
+one_behind : (g k : ℕ) (refs : List ℕ) (u : Value) (more : List ℕ) → RiseFrom 0 (marked refs) → AreUpTo g (marked refs) →
+    asked_by u ++ more ≡ behind g k → Behind g refs u
+one_behind g k refs (request c) more rise up e =
+    asked_behind g c.source refs (request c) rise up refl refl refl (first_is g k c.source more e) refl
+one_behind g k refs (disconnect destination source reason user) more rise up e =
+    dropped_behind g destination refs (disconnect destination source reason user) rise up refl refl refl refl
+one_behind g k refs (disconnected destination source) more rise up e =
+    dropped_behind g destination refs (disconnected destination source) rise up refl refl refl refl
+one_behind g k refs u more rise up e = same_behind g refs u rise up refl refl refl
+
+-- ---- units one after the other
+
+record After (refs : List ℕ) (us : List Value) : Type 0 where
+  rise : RiseFrom 0 (marked (live_after refs us))
+  each : (q : ℕ) → value_at q (marked (live_after refs us)) ≡ stays_after (value_at q (marked refs)) (units_of q us)
+
+each_by : (g : ℕ) (refs : List ℕ) (u : Value) (us : List Value) (q : ℕ) (b : Bool) → (reference_of u == q) ≡ b → Behind g refs u →
+    value_at q (marked (live_after (live_behind refs u) us)) ≡ stays_after (value_at q (marked (live_behind refs u))) (units_of q us) →
+    value_at q (marked (live_after (live_behind refs u) us)) ≡ stays_after (value_at q (marked refs)) (units_of q (u ∷ us))
+each_by g refs u us q b e h more = grind (arith, eqb-true, units_of_by, eq-eqb)
+
+after_all : (us : List Value) (g k : ℕ) (refs : List ℕ) → RiseFrom 0 (marked refs) → AreUpTo g (marked refs) → requests us ≡ behind g k →
+    After refs us
+after_all [] g k refs rise up e = record { rise = rise; each = λ q. refl }
+after_all (u ∷ us) g k refs rise up e =
+    let h = one_behind g k refs u (requests us) rise up e in
+    let n = h.numbers k (requests us) e in
+    let more = after_all us h.next n.0 (live_behind refs u) h.rise h.up n.1 in
+    record { rise = more.rise; each = λ q. each_by g refs u us q (reference_of u == q) refl h (more.each q) }
+
+-- ---- two tables in the order of references
+
+-- a reference of a table is above what all its rows are above
+above_first : (x y : ℕ) (ys : Rows Connection) (b : Bool) → nat_lt y x ≡ b → RiseFrom y ys → is_some (value_at x ys) ≡ true → y < x
+above_first x y ys b e rise there = grind (arith, ltb-true, absent, ltb-false, is_some)
+
+sub_by : (ys : Rows Connection) (y : ℕ) (c : Connection) (m x : ℕ) (xs : Marks) (b : Bool) → (x == y) ≡ b → RiseFrom x xs → RiseFrom y ys →
+    ((q : ℕ) → is_some (value_at q ((x, tt) ∷ xs)) ≡ true → is_some (value_at q ((y, c) ∷ ys)) ≡ true) →
+    ((n : ℕ) (zs : Marks) → RiseFrom n zs → RiseFrom n ys → ((q : ℕ) → is_some (value_at q zs) ≡ true → is_some (value_at q ys) ≡ true) →
+    length zs ≤ length ys) → length ((x, tt) ∷ xs) ≤ length ((y, c) ∷ ys)
+sub_by ys y c m x xs true e rx ry h more = grind (arith, eqb-true, ne_eqb, absent, is_some, found)
+sub_by ys y c m x xs false e rx ry h more =
+    let apart : (y == x) ≡ false = ne_eqb y x (λ is. let yes = eq-eqb x y (sym is) in cc) in
+    let there : is_some (value_at x ys) ≡ true =
+    sym (ap is_some (found x y c ys false apart)) ∙ h x (ap is_some (found x x tt xs true (eq-eqb x x refl))) in
+    let above : y < x = above_first x y ys (nat_lt y x) refl ry there in
+    let rest = more y ((x, tt) ∷ xs) (above, rx) ry
+    (λ q in_xs.
+    let other : (y == q) ≡ false =
+    ne_eqb y q (λ is. let none = absent y y ((x, tt) ∷ xs) (omega arith) (above, rx) in let here =
+    ap (λ (n : ℕ). is_some (value_at n ((x, tt) ∷ xs))) is ∙ in_xs in let gone = sym (ap is_some none) ∙ here in cc) in
+    sym (ap is_some (found q y c ys false other)) ∙ h q in_xs) in
+    omega arith
+
+sub_length : (ys : Rows Connection) (m : ℕ) (xs : Marks) → RiseFrom m xs → RiseFrom m ys →
+    ((q : ℕ) → is_some (value_at q xs) ≡ true → is_some (value_at q ys) ≡ true) → length xs ≤ length ys
+sub_length [] m ((x, tt) ∷ xs) rx ry h = let there = h x (ap is_some (found x x tt xs true (eq-eqb x x refl))) in cc
+sub_length ((y, c) ∷ ys) m ((x, tt) ∷ xs) rx ry h = sub_by ys y c m x xs (x == y) refl rx.1 ry.1 h (sub_length ys)
+sub_length ys m xs rx ry h = omega arith
+
+-- ---- a connection that is live after the units is live at the caller
+
+last_behind : (o : Option (Unit {0})) (u : Value) → is_last u ≡ true → stays_behind o u ≡ None
+last_behind o u e = grind arith
+
+last_after : (us : List Value) (u : Value) (o : Option (Unit {0})) → is_last u ≡ true → stays_after o (us ++ u ∷ []) ≡ None
+last_after [] u o e = last_behind o u e
+last_after (v ∷ us) u o e = last_after us u (stays_behind o v) e
+
+farewell_last : (n : ℕ) (last : Option ℕ) → is_last (farewell n last) ≡ true
+farewell_last n last = grind arith
+
+live_at : (q : ℕ) (s : State) (x : Connection) → place_at q s ≡ was_given (Some x) → is_some (value_at q s.live) ≡ true
+live_at q s x at = ap is_some (is_given q s (Some x) at).is
+
+live_by : (q : ℕ) (s : State) (called : Local) (g : Course) (o : Option (Unit {0})) → place_at q s ≡ at_end true q g →
+    (at_end false q g ≡ never → o ≡ None) → (at_end false q g ≡ was_given None → o ≡ None) →
+    is_some (stays_after o (from_end true q called g)) ≡ true → is_some (value_at q s.live) ≡ true
+live_by q s called g o at unmade h h_ = grind (arith, is_some, live_at, last_after, farewell_last)
+
+never_live_by : (q : ℕ) (r : State) (b : Bool) → nat_lt r.given q ≡ b → IsOrderly r → place_at q r ≡ never → value_at q r.live ≡ None
+never_live_by q r b e orderly at = grind (arith, beyond, ltb-true, given_place, ltb-false)
+
+live_behind_one : (q : ℕ) (b : Bool) (s r : State) (going coming : List Value) → nat_lt 0 q ≡ b → AreJoined s r going coming →
+    After (references r.live) going → is_some (value_at q (marked (live_after (references r.live) going))) ≡ true →
+    is_some (value_at q s.live) ≡ true
+live_behind_one q false s r going coming e j a there = grind (arith, absent, ltb-false, is_some)
+live_behind_one q true s r going coming e j a there =
+    let st = j.stands q (ltb-true 0 q e) in
+    let refs = marked (references r.live) in
+    live_by q s r.local st.course (value_at q refs) st.place
+    (λ unmade. marked_none q r.live (never_live_by q r (nat_lt r.given q) refl j.orderly_called (st.place_there ∙ unmade)))
+    (λ gone. marked_none q r.live (is_given q r None (st.place_there ∙ gone)).is)
+    (sym (ap is_some (a.each q ∙ ap (stays_after (value_at q refs)) st.out)) ∙ there)
+
+marked_length : (refs : List ℕ) → length (marked refs) ≡ length refs
+marked_length [] = refl
+marked_length (r ∷ refs) = let more = marked_length refs in omega arith
+
+pub no_more_live : (s r : State) (going coming : List Value) → AreJoined s r going coming →
+    length (live_after (references r.live) going) ≤ length s.live
+no_more_live s r going coming j =
+    let a = after_all going r.given j.ahead (references r.live) (marked_rise 0 r.live j.orderly_called.rise)
+    (marked_up r.given r.live j.orderly_called.up_to) j.numbers in
+    let few = sub_length s.live 0 (marked (live_after (references r.live) going)) a.rise j.orderly.rise
+    (λ q there. live_behind_one q (nat_lt 0 q) s r going coming refl j a there) in
+    let same = marked_length (live_after (references r.live) going) in
+    omega arith

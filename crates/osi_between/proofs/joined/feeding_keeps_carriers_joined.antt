@@ -1,0 +1,140 @@
+-- Feeding octets that the other end wrote keeps two carriers joined.
+-- For joined carriers, class 0, the invariant and the laws.
+use Rattle.osi_between.proofs.Vocabulary.{◌≡◌, ℕ, Bool, true, false, not, ◌≤◌, List, [], ◌∷◌, ◌++◌, length, take, drop, Option, None, refl}
+use Rattle.osi_between.proofs.Vocabulary.{sym, ap, subst, inl, inr, arith, AreLinked, with_state, with_events, TakesFor, WasFed, Fed, Value}
+use Rattle.osi_between.proofs.Vocabulary.{Local, fresh_state, AreComing, place_at, Happening, Carrying, Feeds, is_spoilt, react, State}
+use Rattle.osi_between.proofs.Vocabulary.{EndReason, orderly_same, reference_of, TakesUnits, TakesSome, Course, Holds, answers_at}
+use Rattle.osi_between.proofs.Vocabulary.{StandsBetween, AreJoined, JoinedFrom, ActsFor, Did, Message}
+use Rattle.osi_between.proofs.way.units_are_taken_in_turn.{feeds_some, more_coming}
+use Rattle.osi_between.proofs.joined.requests_beginnings_and_nothing_in_flight.{fresh_joined}
+use Rattle.osi_between.proofs.joined.joined_carriers_stay_joined.{seen, takes_one}
+
+-- ---- what is to be handed over and reported does not matter
+
+abbrev pub with_queues : List ℕ → List Happening → State → State
+with_queues outgoing events s = record s { outgoing = outgoing; events = events }
+
+holds_queues : (n : ℕ) (s r : State) (o p : List ℕ) (e f : List Happening) (g : Course) → Holds n s r g →
+    Holds n (with_queues o e s) (with_queues p f r) g
+holds_queues n s r o p e f g h = grind arith
+
+stands_queues : (n : ℕ) (s r : State) (o p : List ℕ) (e f : List Happening) (going coming : List Value) →
+    StandsBetween true n s r going coming → StandsBetween true n (with_queues o e s) (with_queues p f r) going coming
+stands_queues n s r o p e f going coming h = grind (arith, holds_queues)
+
+joined_queues : (s r : State) (o p : List ℕ) (e f : List Happening) (going coming : List Value) → AreJoined s r going coming →
+    AreJoined (with_queues o e s) (with_queues p f r) going coming
+joined_queues s r o p e f going coming j = grind (arith, orderly_same, stands_queues)
+
+pub queued : (end : Bool) (this other : State) (o : List ℕ) (e : List Happening) (going coming : List Value) →
+    JoinedFrom end this other going coming → JoinedFrom end (with_queues o e this) other going coming
+queued true s r o e going coming j = joined_queues s r o r.outgoing e r.events going coming j
+queued false r s o e coming going j = joined_queues s r s.outgoing o s.events e going coming j
+
+-- seen from the other end
+pub joined_turned : (end : Bool) (this other : State) (going coming : List Value) → JoinedFrom end this other going coming →
+    JoinedFrom (not end) other this coming going
+joined_turned end this other going coming j = grind arith
+
+joined_back : (end : Bool) (this other : State) (going coming : List Value) → JoinedFrom (not end) other this coming going →
+    JoinedFrom end this other going coming
+joined_back end this other going coming j = grind arith
+
+-- ---- units one after the other
+
+-- an end took units, and the octets that it wrote are those of the units after
+record Took (end : Bool) (this other next : State) (going coming done left : List Value) (held : List ℕ) : Type 0 where
+  behind : List Value
+  takes : TakesFor this other going coming done next behind left
+  joined : JoinedFrom end next other behind left
+  octets : AreComing held next.outgoing behind
+
+-- the octets after an action are those of the units after it
+behind_octets : (n : ℕ) (this other next : State) (going coming behind rest : List Value) (put : List Message) (held : List ℕ) →
+    AreComing held this.outgoing going → ActsFor n this other next going coming behind rest put → AreComing held next.outgoing behind
+behind_octets n this other next going coming behind rest put held c a =
+    let w = a.writes in
+    subst (λ (l : List Value). AreComing held next.outgoing l) (sym w.written)
+    (subst (λ (o : List ℕ). AreComing held o (going ++ w.units)) (sym w.outgoing)
+    (more_coming held this.outgoing going w.units c w.sendable))
+
+took : (end : Bool) (done : List Value) (this other next : State) (going coming left : List Value) (held : List ℕ) →
+    JoinedFrom end this other going coming → AreComing held this.outgoing going → coming ≡ done ++ left → TakesUnits this done next →
+    Took end this other next going coming done left held
+took end [] this other next going coming left held j c cut takes = record {
+  behind = going;
+  takes = (takes, refl, sym cut);
+  joined = subst (λ (l : List Value). JoinedFrom end next other going l) cut
+      (subst (λ (x : State). JoinedFrom end x other going coming) (sym takes) j);
+  octets = subst (λ (x : State). AreComing held x.outgoing going) (sym takes) c;
+}
+took end (u ∷ us) this other next going coming left held j c cut takes =
+    let n = reference_of u in
+    let put = answers_at (place_at n this) u in
+    let did = takes_one end this other going coming (us ++ left) u j cut in
+    let octets = behind_octets n this other (react u this) going coming did.behind (us ++ left) put held c did.acts in
+    let more = took end us (react u this) other next did.behind (us ++ left) left held did.joined octets refl takes.1 in
+    record { behind = more.behind; takes = (did.behind, us ++ left, cut, did.acts, more.takes); joined = more.joined; octets = more.octets }
+
+-- ---- feeding
+
+lasts_sound : (o : Option EndReason) → o ≡ None → is_spoilt o ≡ false
+lasts_sound o e = ap is_spoilt e
+
+fed_ends : (end : Bool) (this other next : Carrying) (going coming : List Value) (used : ℕ)
+    (t : TakesSome this other.state.outgoing coming used next) →
+    (h : Took end this.state other.state t.reached going coming t.done t.left other.held.octets) →
+    WasFed end this other next going coming used
+fed_ends end this other next going coming used t h = record {
+  done = t.done;
+  left = t.left;
+  behind = h.behind;
+  reached = t.reached;
+  takes = h.takes;
+  linked = elim t.how [
+    | inl same ↦ inr (
+      same,
+      (let joined = subst (λ (x : State). JoinedFrom end x other.state h.behind t.left) (sym same) h.joined in
+          let rest = with_queues (drop used other.state.outgoing) other.state.events other.state in
+          assumption (
+            joined_back end next.state rest h.behind t.left
+                (queued (not end) other.state next.state (drop used other.state.outgoing) other.state.events t.left h.behind
+                (joined_turned end next.state other.state h.behind t.left joined)),
+            subst
+                (λ (x : State). AreComing other.held.octets x.outgoing h.behind) (sym same) h.octets,
+            t.coming_then
+                (lasts_sound next.state.ended (seen end next.state other.state h.behind t.left joined).lasts),
+          )),
+    )
+    | inr none ↦ inl none
+  ];
+}
+
+pub was_fed : (end : Bool) (this other next : Carrying) (going coming : List Value) (k : ℕ) (fed : Fed) →
+    AreLinked end this other going coming → k ≤ length other.state.outgoing → Feeds this (take k other.state.outgoing) fed next →
+    WasFed end this other next going coming fed.used
+was_fed end this other next going coming k fed l few h =
+    let t = feeds_some this next other.state.outgoing coming k fed few l.coming_octets
+    (seen end this.state other.state going coming l.joined).lasts h in
+    fed_ends end this other next going coming fed.used t
+    (took end t.done this.state other.state t.reached going coming t.left other.held.octets l.joined l.going_octets t.parts t.taken)
+
+-- ---- calls, and events that are reported
+
+pub was_called : (end : Bool) (this other : Carrying) (next : State) (n : ℕ) (going coming : List Value) (put : List Message) →
+    AreLinked end this other going coming → (d : Did end n this.state other.state next going coming coming put) →
+    AreLinked end (with_state next this) other d.behind coming
+was_called end this other next n going coming put l d =
+    assumption (behind_octets n this.state other.state next going coming d.behind coming put other.held.octets l.going_octets d.acts)
+
+pub tells : (end : Bool) (this other : Carrying) (events : List Happening) (going coming : List Value) →
+    AreLinked end this other going coming → AreLinked end (with_events events this) other going coming
+tells end this other events going coming l = grind (arith, queued)
+
+pub turned : (end : Bool) (this other : Carrying) (going coming : List Value) → AreLinked end this other going coming →
+    AreLinked (not end) other this coming going
+turned end this other going coming l = grind (arith, joined_turned)
+
+pub fresh_linked : (caller called : Carrying) (a b : Local) → a.class2 ≡ true → b.class2 ≡ true → caller.state ≡ fresh_state true a →
+    called.state ≡ fresh_state false b → caller.held.octets ≡ [] → called.held.octets ≡ [] → AreLinked true caller called [] []
+fresh_linked caller called a b x y is is_called none none_called = grind (arith, fresh_joined)

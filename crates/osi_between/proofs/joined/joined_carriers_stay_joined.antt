@@ -1,0 +1,358 @@
+-- Two joined carriers stay joined when one of them acts.
+-- For joined carriers, the invariant and the laws.
+use Rattle.osi_between.proofs.Vocabulary.{◌≡◌, ◌≢◌, ℕ, zero, suc, ◌+◌, ◌<◌, ◌≤◌, Bool, true, false, not, List, [], ◌∷◌, ◌++◌, length, Some}
+use Rattle.osi_between.proofs.Vocabulary.{None, refl, sym, ap, subst, ◌∙◌, arith, length-append, nat_lt, AllByRecursion, eq-eqb, ne_eqb}
+use Rattle.osi_between.proofs.Vocabulary.{ltb-true, ltb-false, append_cancel_left, IsOctets, Value, Connect, request, confirm, IsShortTsdu}
+use Rattle.osi_between.proofs.Vocabulary.{Standing, Local, references, sent, closed_with, Place, never, was_given, place_at, RiseFrom}
+use Rattle.osi_between.proofs.Vocabulary.{IsOrderly, react, is_of_peer, has_peer, Rows, value_at, Connection, asked, linked, State, absent}
+use Rattle.osi_between.proofs.Vocabulary.{beyond, orderly_unit, orderly_sent, orderly_closed, has_room, reference_of, units_of, AreFor}
+use Rattle.osi_between.proofs.Vocabulary.{requests, behind, live_after, Course, asking, accepting, withdrawing, met, answer_of, at_end}
+use Rattle.osi_between.proofs.Vocabulary.{from_end, IsAskedBy, Holds, HoldsAt, called_local, asked_in, answers_at, CourseMoves}
+use Rattle.osi_between.proofs.Vocabulary.{StandsBetween, HasPlaces, AreJoined, JoinedFrom, Did, Meeting, mirror, here, out, Message, agree}
+use Rattle.osi_between.proofs.Vocabulary.{message, bye, found}
+use Rattle.osi_between.proofs.unit.the_units_of_one_connection.{first_of_all, requests_join, behind_join, places_join, places_rest}
+use Rattle.osi_between.proofs.unit.the_units_of_one_connection.{places_for}
+use Rattle.osi_between.proofs.meeting.how_a_connection_changes_at_each_end.{given_place, is_given, met_caller, met_called, answers_plain}
+use Rattle.osi_between.proofs.meeting.how_a_connection_is_opened.{accepts_moves, accepted_sends, accepted_closes, confirm_moves}
+use Rattle.osi_between.proofs.meeting.how_a_connection_is_opened.{withdrawn_moves}
+use Rattle.osi_between.proofs.joined.each_connection_is_in_a_shared_state.{all_stand, acts_for, stands_flip, stands_flip_back}
+use Rattle.osi_between.proofs.meeting.a_connection_after_each_unit_and_call.{take_here, send_here, close_here, mirror_twice, mirror_stands}
+
+-- ---- units with references
+
+abbrev AreNamed : List Value → Type 0
+AreNamed units = AllByRecursion (λ unit. 0 < reference_of unit) units
+
+named_join : (us vs : List Value) → AreNamed us → AreNamed vs → AreNamed (us ++ vs)
+named_join [] vs a b = b
+named_join (u ∷ us) vs a b = (a.0, named_join us vs a.1 b)
+
+named_rest : (us vs : List Value) → AreNamed (us ++ vs) → AreNamed vs
+named_rest [] vs h = h
+named_rest (u ∷ us) vs h = named_rest us vs h.1
+
+named_for : (n : ℕ) (us : List Value) → 0 < n → AreFor n us → AreNamed us
+named_for n [] some h = tt
+named_for n (u ∷ us) some h = (subst (λ (m : ℕ). 0 < m) (sym h.0) some, named_for n us some h.1)
+
+length_behind : (g k : ℕ) → length (behind g k) ≡ k
+length_behind g zero = refl
+length_behind g (suc k) = let more = length_behind (g + 1) k in omega arith
+
+-- ---- the caller acts
+
+pub joined_caller : (s r t : State) (going coming rest taken : List Value) (put : List Message) (n count : ℕ) (some : 0 < n)
+    (j : AreJoined s r going coming) (st : StandsBetween true n s r going coming) → coming ≡ taken ++ rest → AreFor n taken → IsOrderly t →
+    (mv : CourseMoves true n st.course s r t taken count put) → HasPlaces (live_after (references r.live) going) mv.units →
+    AreJoined t r (going ++ mv.units) rest
+joined_caller s r t going coming rest taken put n count some j st cut all orderly mv fits =
+    let before = j.given in
+    let after = mv.given in
+    record {
+      is_caller = mv.acts.is_caller ∙ j.is_caller;
+      is_called = j.is_called;
+      lasts = mv.acts.ended ∙ j.lasts;
+      lasts_called = j.lasts_called;
+      orderly = orderly;
+      orderly_called = j.orderly_called;
+      supports = ap (λ (x : Local). x.class2) mv.acts.local ∙ j.supports;
+      supports_called = j.supports_called;
+      class = mv.acts.may j.class;
+      class_called = j.class_called;
+      named = named_join going mv.units j.named (named_for n mv.units some mv.acts.all_for);
+      named_back = named_rest taken rest (subst (λ (l : List Value). AreNamed l) cut j.named_back);
+      stands = all_stand true n count s r t going coming rest taken put j.stands st cut all mv;
+      ahead = j.ahead + count;
+      given = omega arith;
+      numbers = requests_join going mv.units ∙ ap (λ (l : List ℕ). l ++ requests mv.units) j.numbers
+          ∙ ap (λ (l : List ℕ). behind r.given j.ahead ++ l) (mv.numbers ∙ ap (λ (g : ℕ). behind g count) j.given)
+          ∙ sym (behind_join r.given j.ahead count);
+      places = places_join (references r.live) going mv.units j.places fits;
+    }
+
+-- ---- the called end acts
+
+joined_called : (s r t : State) (going coming rest taken : List Value) (put : List Message) (n count : ℕ) (some : 0 < n)
+    (j : AreJoined s r going coming) → going ≡ taken ++ rest → AreFor n taken → IsOrderly t →
+    (mv : CourseMoves false n (j.stands n some).course r s t taken count put) → AreJoined s t rest (coming ++ mv.units)
+joined_called s r t going coming rest taken put n count some j cut all orderly mv =
+    let before = j.given in
+    let after = mv.given in
+    let left = length (requests rest) in
+    let parts : behind r.given j.ahead ≡ behind r.given count ++ requests rest =
+    sym j.numbers ∙ ap requests cut ∙ requests_join taken rest ∙ ap (λ (l : List ℕ). l ++ requests rest) mv.numbers in
+    let sizes = sym (length_behind r.given j.ahead) ∙ ap length parts ∙ length-append (behind r.given count) (requests rest) in
+    let one = length_behind r.given count in
+    let total : j.ahead ≡ count + left = omega arith in
+    let more : behind (r.given + count) left ≡ requests rest =
+    append_cancel_left (behind r.given count) (behind (r.given + count) left) (requests rest)
+    (sym (behind_join r.given count left) ∙ ap (λ (k : ℕ). behind r.given k) (sym total) ∙ parts) in
+    record {
+      is_caller = j.is_caller;
+      is_called = mv.acts.is_caller ∙ j.is_called;
+      lasts = j.lasts;
+      lasts_called = mv.acts.ended ∙ j.lasts_called;
+      orderly = j.orderly;
+      orderly_called = orderly;
+      supports = j.supports;
+      supports_called = ap (λ (x : Local). x.class2) mv.acts.local ∙ j.supports_called;
+      class = j.class;
+      class_called = mv.acts.may j.class_called;
+      named = named_rest taken rest (subst (λ (l : List Value). AreNamed l) cut j.named);
+      named_back = named_join coming mv.units j.named_back (named_for n mv.units some mv.acts.all_for);
+      stands = λ q above. stands_flip_back q s t rest (coming ++ mv.units)
+          (all_stand false n count r s t coming going rest taken put (λ m up. stands_flip m s r going coming (j.stands m up))
+          (stands_flip n s r going coming (j.stands n some)) cut all mv q above);
+      ahead = left;
+      given = omega arith;
+      numbers = sym more ∙ ap (λ (g : ℕ). behind g left) (sym after);
+      places = subst (λ (l : List ℕ). HasPlaces l rest) (sym mv.places)
+          (places_rest (references r.live) taken rest (subst (λ (l : List Value). HasPlaces (references r.live) l) cut j.places));
+    }
+
+-- ---- an end acts
+
+-- the two, seen from an end
+pub record Seen (end : Bool) (this other : State) (going coming : List Value) : Type 0 where
+  pub lasts : this.ended ≡ None
+  pub orderly : IsOrderly this
+  pub named : AreNamed coming
+  pub stands : (n : ℕ) → 0 < n → StandsBetween end n this other going coming
+
+abbrev pub seen : (end : Bool) (this other : State) (going coming : List Value) → JoinedFrom end this other going coming →
+    Seen end this other going coming
+seen true s r going coming j = record { lasts = j.lasts; orderly = j.orderly; named = j.named_back; stands = j.stands }
+seen false r s coming going j =
+    record {
+      lasts = j.lasts_called;
+      orderly = j.orderly_called;
+      named = j.named;
+      stands = λ n some. stands_flip n s r going coming (j.stands n some);
+    }
+
+-- the CRs that it writes find a place
+abbrev Fits : Bool → State → List Value → List Value → Type 0
+Fits true other going units = HasPlaces (live_after (references other.live) going) units
+Fits false other going units = Unit {0}
+
+fits_none : (end : Bool) (other : State) (going units taken : List Value) → requests (asked_in end units taken) ≡ [] →
+    Fits end other going units
+fits_none true other going units taken e = places_for (live_after (references other.live) going) units e
+fits_none false other going units taken e = tt
+
+joined_after : (end : Bool) (this other next : State) (going coming rest taken : List Value) (put : List Message) (n count : ℕ)
+    (some : 0 < n) (j : JoinedFrom end this other going coming) → coming ≡ taken ++ rest → AreFor n taken → IsOrderly next →
+    (mv : CourseMoves end n ((seen end this other going coming j).stands n some).course this other next taken count put) →
+    Fits end other going mv.units → JoinedFrom end next other (going ++ mv.units) rest
+joined_after true s r t going coming rest taken put n count some j cut all orderly mv fits =
+    joined_caller s r t going coming rest taken put n count some j (j.stands n some) cut all orderly mv fits
+joined_after false r s t coming going rest taken put n count some j cut all orderly mv fits =
+    joined_called s r t going coming rest taken put n count some j cut all orderly mv
+
+did : (end : Bool) (this other next : State) (going coming rest taken : List Value) (put : List Message) (n count : ℕ) (some : 0 < n)
+    (j : JoinedFrom end this other going coming) → coming ≡ taken ++ rest → AreFor n taken → IsOrderly next →
+    (mv : CourseMoves end n ((seen end this other going coming j).stands n some).course this other next taken count put) →
+    Fits end other going mv.units → Did end n this other next going coming rest put
+did end this other next going coming rest taken put n count some j cut all orderly mv fits = record {
+  behind = going ++ mv.units;
+  acts = acts_for end n count this other next going coming rest taken put ((seen end this other going coming j).stands n some) cut all mv;
+  joined = joined_after end this other next going coming rest taken put n count some j cut all orderly mv fits;
+}
+
+-- ---- the caller takes a unit
+
+record Moved (end : Bool) (n : ℕ) (g : Course) (this other : State) (going : List Value) (u : Value) : Type 0 where
+  count : ℕ
+  moves : CourseMoves end n g this other (react u this) (u ∷ []) count (answers_at (at_end end n g) u)
+  fits : Fits end other going moves.units
+
+caller_takes : (n : ℕ) (s r : State) (going coming : List Value) (g : Course) (u : Value) (more : List Value) → 0 < n →
+    AreJoined s r going coming → place_at n s ≡ at_end true n g → Holds n s r g → from_end false n r.local g ≡ u ∷ more →
+    CourseMoves true n g s r (react u s) (u ∷ []) 0 (answers_at (at_end true n g) u)
+caller_takes n s r going coming (accepting c p) u more some j at h e =
+    let here = is_given n s (Some asked) at in
+    let same : confirm n (answer_of n r.local c) ≡ u = cc in
+    subst (λ (x : Value). CourseMoves true n (accepting c p) s r (react x s) (x ∷ []) 0 []) same
+    (confirm_moves n c p s r h j.lasts j.is_caller j.class j.supports here.within here.is)
+caller_takes n s r going coming (withdrawing c p reason) u more some j at h e =
+    let here = is_given n s (Some asked) at in
+    let same : confirm n (answer_of n r.local c) ≡ u = cc in
+    subst (λ (x : Value). CourseMoves true n (withdrawing c p reason) s r (react x s) (x ∷ []) 0 []) same
+    (withdrawn_moves n c p reason s r h j.lasts j.is_caller j.class j.supports here.within here.is)
+caller_takes n s r going coming (met m) u more some j at h e =
+    let place = is_given n s (here n m) at in
+    met_caller n m s r (react u s) (u ∷ []) (answers_at (was_given (here n m)) u) h place.within (answers_plain (here n m) u)
+    (take_here n s m u more some (let most = j.orderly.given in let le =
+    place.within in omega arith) j.lasts h.class j.orderly place.is h.stands e)
+caller_takes n s r going coming g u more some j at h e = cc
+
+-- ---- the called end takes a unit
+
+-- no live connection has this number of the peer
+no_peer : (n m : ℕ) (rows : Rows Connection) → RiseFrom m rows →
+    ((q : ℕ) (x : Connection) → m < q → value_at q rows ≡ Some x → is_of_peer n x ≡ false) → has_peer n rows ≡ false
+no_peer n m [] rise h = refl
+no_peer n m ((r, x) ∷ rows) rise h =
+    let first : is_of_peer n x ≡ false = h r x rise.0 (found r r x rows true (eq-eqb r r refl)) in
+    let others : has_peer n rows ≡ false = no_peer n r rows rise.1
+    (λ q y above at. h q y (let low = rise.0 in omega arith) (found q r x rows false (ne_eqb r q (λ same. omega arith)) ∙ at)) in
+    rw first others
+
+-- a live connection was given
+given_live_by : (q : ℕ) (r : State) (x : Connection) (b : Bool) → nat_lt r.given q ≡ b → IsOrderly r → value_at q r.live ≡ Some x →
+    place_at q r ≡ was_given (Some x)
+given_live_by q r x b e orderly at = grind (arith, beyond, ltb-true, given_place, ltb-false)
+
+pub given_live : (q : ℕ) (r : State) (x : Connection) → IsOrderly r → value_at q r.live ≡ Some x → place_at q r ≡ was_given (Some x)
+given_live q r x orderly at = given_live_by q r x (nat_lt r.given q) refl orderly at
+
+own_here : (n q : ℕ) (x : Connection) (m : Meeting) → q ≢ n → Some x ≡ here q m → is_of_peer n x ≡ false
+own_here n q x m other e = grind (arith, ne_eqb)
+
+-- at the called end each connection has its own number
+own_number : (n q : ℕ) (x : Connection) (g : Course) → q ≢ n → was_given (Some x) ≡ at_end false q g → is_of_peer n x ≡ false
+own_number n q x g other e = grind (arith, ne_eqb, own_here)
+
+-- the CR is for the next reference, and there is a place for it
+first_number : (g k n : ℕ) (more : List ℕ) → behind g k ≡ n ∷ more → (n ≡ g + 1) × (0 < k)
+first_number g k n more e = grind arith
+
+references_length : (rows : Rows Connection) → length (references rows) ≡ length rows
+references_length [] = refl
+references_length (row ∷ rows) = let more = references_length rows in omega arith
+
+request_moves : (n : ℕ) (s r : State) (going coming rest : List Value) (c : Connect) → 0 < n → AreJoined s r going coming →
+    place_at n r ≡ never → IsAskedBy n s.local c → going ≡ request c ∷ rest →
+    CourseMoves false n (asking c) r s (react (request c) r) (request c ∷ []) 1 (agree ∷ [])
+request_moves n s r going coming rest c some j at a cut =
+    let source : c.source ≡ n = ap (λ (x : Connect). x.source) a.is in
+    let first = first_number r.given j.ahead c.source (requests rest) (sym j.numbers ∙ ap requests cut) in
+    let next : n ≡ r.given + 1 = sym source ∙ first.0 in
+    let more = first.1 in
+    let total = j.given in
+    let most = j.orderly.given in
+    let few : length (references r.live) < 64 = (subst (λ (l : List Value). HasPlaces (references r.live) l) cut j.places).0 in
+    let size = references_length r.live in
+    let free : has_peer c.source r.live ≡ false =
+    no_peer c.source 0 r.live j.orderly_called.rise (λ q x above live.
+    let st = j.stands q above in
+    own_number c.source q x st.course (λ same. let there : place_at n r ≡ was_given (Some x) =
+    subst (λ (m : ℕ). place_at m r ≡ was_given (Some x)) (same ∙ source) (given_live q r x j.orderly_called live) in cc)
+    (sym (given_live q r x j.orderly_called live) ∙ st.place_there)) in
+    accepts_moves n c s r next a j.orderly_called j.lasts_called j.is_called j.class_called free (has_room r (omega arith) (omega arith))
+    (omega arith) j.supports_called
+
+called_takes : (n : ℕ) (s r : State) (going coming rest : List Value) (g : Course) (u : Value) (more : List Value) → 0 < n →
+    AreJoined s r going coming → place_at n r ≡ at_end false n g → Holds n s r g → going ≡ u ∷ rest → from_end true n r.local g ≡ u ∷ more →
+    Moved false n g r s coming u
+called_takes n s r going coming rest (asking c) u more some j at h cut e =
+    let same : request c ≡ u = cc in
+    record {
+      count = 1;
+      moves = subst (λ (x : Value). CourseMoves false n (asking c) r s (react x r) (x ∷ []) 1 (agree ∷ [])) same
+          (request_moves n s r going coming rest c some j at h (cut ∙ ap (λ (x : Value). x ∷ rest) (sym same)));
+      fits = tt;
+    }
+called_takes n s r going coming rest (met m) u more some j at h cut e =
+    let place = is_given n r (here n (mirror m)) at in
+    record {
+      count = 0;
+      moves = met_called n m r s (react u r) (u ∷ []) (answers_at (was_given (here n (mirror m))) u) h place.within tt
+          (answers_plain (here n (mirror m)) u)
+          (take_here n r (mirror m) u more some (let most = j.orderly_called.given in let le =
+          place.within in omega arith) j.lasts_called h.class_called j.orderly_called place.is (mirror_stands m h.stands)
+          (ap (out n) (mirror_twice m) ∙ e));
+      fits = tt;
+    }
+called_takes n s r going coming rest g u more some j at h cut e = cc
+
+-- ---- either takes a unit
+
+takes_by : (end : Bool) (n : ℕ) (this other : State) (going coming rest : List Value) (g : Course) (u : Value) (more : List Value) → 0 < n →
+    JoinedFrom end this other going coming → place_at n this ≡ at_end end n g → HoldsAt end n this other g → coming ≡ u ∷ rest →
+    from_end (not end) n (called_local end this other) g ≡ u ∷ more → Moved end n g this other going u
+takes_by true n s r going coming rest g u more some j at h cut e =
+    let mv = caller_takes n s r going coming g u more some j at h e in
+    record { count = 0; moves = mv; fits = fits_none true r going mv.units (u ∷ []) mv.numbers }
+takes_by false n r s coming going rest g u more some j at h cut e = called_takes n s r going coming rest g u more some j at h cut e
+
+pub takes_one : (end : Bool) (this other : State) (going coming rest : List Value) (u : Value) → JoinedFrom end this other going coming →
+    coming ≡ u ∷ rest → Did end (reference_of u) this other (react u this) going coming rest (answers_at (place_at (reference_of u) this) u)
+takes_one end this other going coming rest u j cut =
+    let n = reference_of u in
+    let v = seen end this other going coming j in
+    let some : 0 < n = (subst (λ (l : List Value). AreNamed l) cut v.named).0 in
+    let st = v.stands n some in
+    let head : from_end (not end) n (called_local end this other) st.course ≡ u ∷ units_of n rest =
+    sym st.back ∙ ap (units_of n) cut ∙ first_of_all u rest in
+    let mv = takes_by end n this other going coming rest st.course u (units_of n rest) some j st.place st.holds cut head in
+    subst (λ (p : Place). Did end n this other (react u this) going coming rest (answers_at p u)) (sym st.place)
+    (did end this other (react u this) going coming rest (u ∷ []) (answers_at (at_end end n st.course) u) n mv.count some j cut (refl, tt)
+    (orderly_unit u this v.orderly) mv.moves mv.fits)
+
+-- ---- calls
+
+-- a live connection has a reference that was given, and its peer's number is that one
+above_zero : (n : ℕ) (s : State) (x : Connection) (b : Bool) → nat_lt 0 n ≡ b → IsOrderly s → value_at n s.live ≡ Some x → 0 < n
+above_zero n s x b e orderly at = grind (arith, ltb-true, absent, ltb-false)
+
+pub within_given : (n : ℕ) (s : State) (x : Connection) → IsOrderly s → value_at n s.live ≡ Some x → (0 < n) × (n ≤ s.given)
+within_given n s x orderly at =
+    (above_zero n s x (nat_lt 0 n) refl orderly at, (is_given n s (Some x) (given_live n s x orderly at)).within)
+
+sends_by : (end : Bool) (n : ℕ) (this other : State) (g : Course) (link : Standing) (octets : List ℕ) → this.ended ≡ None → IsOrderly this →
+    place_at n this ≡ at_end end n g → HoldsAt end n this other g → value_at n this.live ≡ Some (linked n link) → n ≤ this.given →
+    IsShortTsdu octets → IsOctets octets → CourseMoves end n g this other (sent n octets this) [] 0 (message octets ∷ [])
+sends_by false n r s (accepting c p) link octets quiet orderly at h live le short are =
+    accepted_sends n c p s r octets h quiet orderly le (is_given n r (Some (linked n p.right)) at).is short are
+sends_by true n s r (met m) link octets quiet orderly at h live le short are =
+    let place = is_given n s (here n m) at in
+    met_caller n m s r (sent n octets s) [] (message octets ∷ []) h le refl
+    (send_here n s m link octets (let most = orderly.given in omega arith) quiet orderly place.is
+    (sym place.is ∙ live) h.stands short are)
+sends_by false n r s (met m) link octets quiet orderly at h live le short are =
+    let place = is_given n r (here n (mirror m)) at in
+    met_called n m r s (sent n octets r) [] (message octets ∷ []) h le tt refl
+    (send_here n r (mirror m) link octets (let most = orderly.given in omega arith) quiet orderly place.is (sym place.is ∙ live)
+    (mirror_stands m h.stands) short are)
+sends_by end n this other g link octets quiet orderly at h live le short are = let e = given_place n this le ∙ ap was_given live in cc
+
+pub sends : (end : Bool) (this other : State) (going coming : List Value) (n : ℕ) (link : Standing) (octets : List ℕ) →
+    JoinedFrom end this other going coming → value_at n this.live ≡ Some (linked n link) → IsShortTsdu octets → IsOctets octets →
+    Did end n this other (sent n octets this) going coming coming (message octets ∷ [])
+sends end this other going coming n link octets j live short are =
+    let v = seen end this other going coming j in
+    let within = within_given n this (linked n link) v.orderly live in
+    let st = v.stands n within.0 in
+    let mv = sends_by end n this other st.course link octets v.lasts v.orderly st.place st.holds live within.1 short are in
+    did end this other (sent n octets this) going coming coming [] (message octets ∷ []) n 0 within.0 j refl tt
+    (orderly_sent n octets this v.orderly) mv (fits_none end other going mv.units [] mv.numbers)
+
+closes_by : (end : Bool) (n : ℕ) (this other : State) (g : Course) (link : Standing) (reason : ℕ) → 0 < n → reason < 256 →
+    this.ended ≡ None → IsOrderly this → place_at n this ≡ at_end end n g → HoldsAt end n this other g →
+    value_at n this.live ≡ Some (linked n link) → n ≤ this.given →
+    CourseMoves end n g this other (closed_with n reason this) [] 0 (bye reason ∷ [])
+closes_by false n r s (accepting c p) link reason some small quiet orderly at h live le =
+    accepted_closes n c p s r reason some small h quiet orderly le (is_given n r (Some (linked n p.right)) at).is
+closes_by true n s r (met m) link reason some small quiet orderly at h live le =
+    let place = is_given n s (here n m) at in
+    met_caller n m s r (closed_with n reason s) [] (bye reason ∷ []) h le refl
+    (close_here n s m link reason some (let most = orderly.given in omega arith) small quiet h.class orderly place.is
+    (sym place.is ∙ live) h.stands)
+closes_by false n r s (met m) link reason some small quiet orderly at h live le =
+    let place = is_given n r (here n (mirror m)) at in
+    met_called n m r s (closed_with n reason r) [] (bye reason ∷ []) h le tt refl
+    (close_here n r (mirror m) link reason some (let most = orderly.given in omega arith) small quiet h.class_called orderly place.is
+    (sym place.is ∙ live) (mirror_stands m h.stands))
+closes_by end n this other g link reason some small quiet orderly at h live le = let e = given_place n this le ∙ ap was_given live in cc
+
+pub closes : (end : Bool) (this other : State) (going coming : List Value) (n : ℕ) (link : Standing) (reason : ℕ) →
+    JoinedFrom end this other going coming → value_at n this.live ≡ Some (linked n link) → reason < 256 →
+    Did end n this other (closed_with n reason this) going coming coming (bye reason ∷ [])
+closes end this other going coming n link reason j live small =
+    let v = seen end this other going coming j in
+    let within = within_given n this (linked n link) v.orderly live in
+    let st = v.stands n within.0 in
+    let mv = closes_by end n this other st.course link reason within.0 small v.lasts v.orderly st.place st.holds live within.1 in
+    did end this other (closed_with n reason this) going coming coming [] (bye reason ∷ []) n 0 within.0 j refl tt
+    (orderly_closed n reason this v.orderly) mv (fits_none end other going mv.units [] mv.numbers)

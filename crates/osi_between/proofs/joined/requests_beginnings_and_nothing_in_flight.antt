@@ -1,0 +1,105 @@
+-- The caller requests a connection; two new carriers are joined; and if no unit is in flight, no message is.
+-- For joined carriers, class 0, the invariant and the laws.
+use Rattle.osi_between.proofs.Vocabulary.{◌≡◌, ℕ, ◌+◌, ◌<◌, Bool, true, false, List, [], ◌∷◌, ◌++◌, length, Option, Some, None, refl, sym}
+use Rattle.osi_between.proofs.Vocabulary.{ap, subst, ◌∙◌, inr, arith, if◌then◌else◌, lt-ltb, Value, LinkPair, swapped, IsQuiet, Standing}
+use Rattle.osi_between.proofs.Vocabulary.{Given, Local, quiet_unsent, nothing_begun, references, fresh_state, may_connect, asks, Place}
+use Rattle.osi_between.proofs.Vocabulary.{never, was_given, place_at, value_at, linked, State, free_of, orderly_asks, orderly_fresh}
+use Rattle.osi_between.proofs.Vocabulary.{live_after, Course, unasked, met, at_end, from_end, IsTsap, Holds, StandsBetween, AreJoined, Did}
+use Rattle.osi_between.proofs.Vocabulary.{under_way_for, IsEmpty, talking, addressed, ask, AreOpen}
+use Rattle.osi_between.proofs.meeting.how_a_connection_is_opened.{asks_moves}
+use Rattle.osi_between.proofs.joined.a_request_finds_a_place.{no_more_live}
+use Rattle.osi_between.proofs.joined.joined_carriers_stay_joined.{joined_caller, within_given, given_live}
+use Rattle.osi_between.proofs.meeting.a_connection_after_each_unit_and_call.{open_mirror}
+use Rattle.osi_between.proofs.joined.each_connection_is_in_a_shared_state.{acts_for}
+
+-- ---- a connection is requested
+
+pub not_asked : (n : ℕ) (g : Course) → at_end true n g ≡ never → g ≡ unasked
+not_asked n g e = grind arith
+
+pub next_never : (s : State) (n : ℕ) → s.given < n → place_at n s ≡ never
+next_never s n above = ap (λ (b : Bool). if◌then◌else◌ {A = Place} b never (was_given (value_at n s.live))) (lt-ltb s.given n above)
+
+abbrev fresh_course : (n : ℕ) (s r : State) (going coming : List Value) → place_at n s ≡ never →
+    (h : StandsBetween true n s r going coming) → h.course ≡ unasked → StandsBetween true n s r going coming
+fresh_course n s r going coming at h e = record {
+  course = unasked;
+  place = at;
+  place_there = h.place_there ∙ ap (at_end false n) e;
+  out = h.out ∙ ap (from_end true n r.local) e;
+  back = h.back ∙ ap (from_end false n r.local) e;
+  holds = tt;
+}
+
+pub caller_asks : (s r : State) (going coming : List Value) (calling called : Option (List ℕ)) → AreJoined s r going coming →
+    may_connect s ≡ None → IsTsap calling → IsTsap called →
+    Did true (s.given + 1) s r (asks calling called s) going coming coming (ask ∷ [])
+caller_asks s r going coming calling called j may fits fits_called =
+    let n = s.given + 1 in
+    let some : 0 < n = omega arith in
+    let at : place_at n s ≡ never = next_never s n (omega arith) in
+    let old = j.stands n some in
+    let st = fresh_course n s r going coming at old (not_asked n old.course (sym old.place ∙ at)) in
+    let free = free_of s may in
+    let mv = asks_moves s r calling called j.orderly free.left j.supports fits fits_called in
+    let few = free.room in
+    let less = no_more_live s r going coming j in
+    let room : length (live_after (references r.live) going) < 64 = omega arith in
+    record {
+      behind = going ++ mv.units;
+      acts = acts_for true n 1 s r (asks calling called s) going coming coming [] (ask ∷ []) st refl tt mv;
+      joined = joined_caller s r (asks calling called s) going coming coming [] (ask ∷ []) n 1 some j st refl tt
+          (orderly_asks calling called s may j.orderly) mv (room, tt);
+    }
+
+-- ---- the beginning
+
+fresh_stands : (caller called : Local) (n : ℕ) → 0 < n → StandsBetween true n (fresh_state true caller) (fresh_state false called) [] []
+fresh_stands caller called n some = grind (arith, next_never)
+
+pub fresh_joined : (caller called : Local) → caller.class2 ≡ true → called.class2 ≡ true →
+    AreJoined (fresh_state true caller) (fresh_state false called) [] []
+fresh_joined caller called a b = grind (arith, orderly_fresh, fresh_stands)
+
+-- ---- nothing is in flight
+
+pub none_addressed : (n : ℕ) (gs : List Given) → addressed n gs ≡ [] → gs ≡ []
+none_addressed n [] e = refl
+none_addressed n (g ∷ gs) e = cc
+
+still_pair : (p : LinkPair) → AreOpen true p → p.rightward ≡ [] → p.leftward ≡ [] → IsQuiet p
+still_pair p a rightward leftward =
+    record { rightward = rightward; leftward = leftward; left = a.left.given; right = a.right.given; handed_out = a.right.handed }
+
+still_unsent : (p : LinkPair) → AreOpen true p → p.rightward ≡ [] → p.leftward ≡ [] → p.left.ends.unsent ≡ []
+still_unsent p a rightward leftward = quiet_unsent p (inr (a.agree.window, a.agree.some, a.agree.agree)) (still_pair p a rightward leftward)
+
+still_links : (p : LinkPair) → AreOpen true p → p.rightward ≡ [] → p.leftward ≡ [] → IsEmpty p.left p.right
+still_links p a rightward leftward =
+    let unsent = still_unsent p a rightward leftward in
+    let unsent_there = still_unsent (swapped p) (open_mirror true p a) leftward rightward in
+    assumption (nothing_begun (swapped p) a.whole_back leftward unsent_there, nothing_begun p a.whole rightward unsent)
+
+still_by : (n : ℕ) (s r : State) (called : Local) (g : Course) (x y : Standing) → at_end true n g ≡ was_given (Some (linked n x)) →
+    at_end false n g ≡ was_given (Some (linked n y)) → from_end true n called g ≡ [] → from_end false n called g ≡ [] → Holds n s r g →
+    IsEmpty x y
+still_by n s r called (met (talking p)) x y a b out back h =
+    let left : p.left ≡ x = cc in
+    let right : p.right ≡ y = cc in
+    subst (λ (l : Standing). IsEmpty l y) left (subst (λ (l : Standing). IsEmpty p.left l) right
+    (still_links p h.stands (none_addressed n p.rightward out) (none_addressed n p.leftward back)))
+still_by n s r called g x y a b out back h = cc
+
+pub still : (s r : State) (n : ℕ) (x y : Standing) → AreJoined s r [] [] → value_at n s.live ≡ Some (linked n x) →
+    value_at n r.live ≡ Some (linked n y) → IsEmpty x y
+still s r n x y j at at_there =
+    let within = within_given n s (linked n x) j.orderly at in
+    let st = j.stands n within.0 in
+    still_by n s r r.local st.course x y (sym st.place ∙ given_live n s (linked n x) j.orderly at)
+    (sym st.place_there ∙ given_live n r (linked n y) j.orderly_called at_there)
+    (sym st.out) (sym st.back) st.holds
+
+-- then nothing is in flight either
+pub still_messages : (s r : State) (n : ℕ) (x y : Standing) → AreJoined s r [] [] → value_at n s.live ≡ Some (linked n x) →
+    value_at n r.live ≡ Some (linked n y) → (under_way_for n s r [] ≡ []) × (under_way_for n r s [] ≡ [])
+still_messages s r n x y j at at_there = grind (arith, still, given_live)

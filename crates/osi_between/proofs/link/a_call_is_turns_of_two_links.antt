@@ -1,0 +1,332 @@
+-- The effect of a carrier's calls on an open link, as turns of the two links of its connection.
+-- For connections of class 2 and class 0.
+use Rattle.osi_between.proofs.Vocabulary.{◌≡◌, ℕ, ◌<◌, Bool, true, false, List, [], ◌∷◌, ◌++◌, map, take, drop, Option, Result, Ok, Err}
+use Rattle.osi_between.proofs.Vocabulary.{refl, sym, ◌∙◌, ap, subst, arith, append_assoc, nat_lt, length, if◌then◌else◌, IfOk, hand_in}
+use Rattle.osi_between.proofs.Vocabulary.{give_out, take_in, hand_out, MovesAlong, zero_turns, said, oldest_in_class_0, oldest_in_class_2}
+use Rattle.osi_between.proofs.Vocabulary.{stays_short, move_sound, move_same, flat_map, AllByRecursion, append-nil, map-append}
+use Rattle.osi_between.proofs.Vocabulary.{flat_map-append, IsOctets, Value, LeftMoves, LinkPair, swapped, Turn, at_left, TurnsAlong}
+use Rattle.osi_between.proofs.Vocabulary.{opposite, left_in, right_out, under_way_before, under_way, HasWholeTsdus, IsShortTsdu}
+use Rattle.osi_between.proofs.Vocabulary.{TakesOldest, Ends, Flow, Sender, all_given, Joining, with_part, Standing, Given, taken, taken_by}
+use Rattle.osi_between.proofs.Vocabulary.{unit_of, with_tsdu, with_joined, with_sender, HasGivenInRange, LinkFault, TsduTooLong, in_range}
+use Rattle.osi_between.proofs.Vocabulary.{stays_octets, unit_fits, agree_turns, drained_moves, drained_ends, drained_leaves, choose_ok}
+use Rattle.osi_between.proofs.Vocabulary.{at_ok, turns_keep, whole_kept, stays_whole, other_way, pumped, handed_out, IsWell, IsSettled}
+use Rattle.osi_between.proofs.Vocabulary.{AgreeIn, AreOpen, links, Passes, after_send, after_take, LeftTakes}
+
+-- ---- turns one after the other
+
+-- turns of the left link in which these TSDUs were handed in and these handed out
+pub record Turned (old new : LinkPair) (ins outs : List (List ℕ)) : Type 0 where
+  pub turns : List Turn
+  pub along : TurnsAlong old turns new
+  pub sent : flat_map left_in turns ≡ ins
+  pub none : flat_map right_out turns ≡ []
+  pub sent_back : flat_map left_in (map opposite turns) ≡ []
+  pub got : flat_map right_out (map opposite turns) ≡ outs
+
+along_join : (a b c : LinkPair) (ts us : List Turn) → TurnsAlong a ts b → TurnsAlong b us c → TurnsAlong a (ts ++ us) c
+along_join a b c [] us e more = subst (λ (p : LinkPair). TurnsAlong p us c) e more
+along_join a b c (t ∷ ts) us (mid, first, rest) more = (mid, first, along_join mid b c ts us rest more)
+
+joined_outs : (f : Turn → List (List ℕ)) (ts us : List Turn) (xs ys : List (List ℕ)) → flat_map f ts ≡ xs → flat_map f us ≡ ys →
+    flat_map f (ts ++ us) ≡ xs ++ ys
+joined_outs f ts us xs ys a b =
+    flat_map-append f ts us ∙ ap (λ (l : List (List ℕ)). l ++ flat_map f us) a ∙ ap (λ (l : List (List ℕ)). xs ++ l) b
+
+joined_backs : (f : Turn → List (List ℕ)) (ts us : List Turn) (xs ys : List (List ℕ)) → flat_map f (map opposite ts) ≡ xs →
+    flat_map f (map opposite us) ≡ ys → flat_map f (map opposite (ts ++ us)) ≡ xs ++ ys
+joined_backs f ts us xs ys a b =
+    ap (λ (l : List Turn). flat_map f l) (map-append opposite ts us) ∙ joined_outs f (map opposite ts) (map opposite us) xs ys a b
+
+pub turned_join : (a b c : LinkPair) (i j o p : List (List ℕ)) → Turned a b i o → Turned b c j p → Turned a c (i ++ j) (o ++ p)
+turned_join a b c i j o p first second = grind (arith, along_join, joined_outs, joined_backs)
+
+pub turned_none : (p : LinkPair) → Turned p p [] []
+turned_none p = record { turns = []; along = refl; sent = refl; none = refl; sent_back = refl; got = refl }
+
+-- ---- giving
+
+gives_along : (l r : Standing) (out back gs : List Given) (t : Standing) → MovesAlong l (map give_out gs) t →
+    TurnsAlong (links l out r back) (map at_left (map give_out gs)) (links t (out ++ gs) r back)
+gives_along l r out back [] t e = grind (arith, append-nil)
+gives_along l r out back (g ∷ gs) t (mid, first, rest) = grind (arith, map, append_assoc, gives_along mid r (out ++ g ∷ []) back gs t rest)
+
+gives_in : (gs : List Given) → flat_map left_in (map at_left (map give_out gs)) ≡ []
+gives_in [] = refl
+gives_in (g ∷ gs) = gives_in gs
+
+gives_out : (gs : List Given) → flat_map right_out (map at_left (map give_out gs)) ≡ []
+gives_out [] = refl
+gives_out (g ∷ gs) = gives_out gs
+
+gives_in_back : (gs : List Given) → flat_map left_in (map opposite (map at_left (map give_out gs))) ≡ []
+gives_in_back [] = refl
+gives_in_back (g ∷ gs) = gives_in_back gs
+
+gives_out_back : (gs : List Given) → flat_map right_out (map opposite (map at_left (map give_out gs))) ≡ []
+gives_out_back [] = refl
+gives_out_back (g ∷ gs) = gives_out_back gs
+
+-- all that a link gives
+pub turned_pumped : (l r : Standing) (out back : List Given) →
+    Turned (links l out r back) (links (pumped l) (out ++ all_given l) r back) [] []
+turned_pumped l r out back = record {
+  turns = map at_left (map give_out (all_given l));
+  along = gives_along l r out back (all_given l) (pumped l) (drained_moves l);
+  sent = gives_in (all_given l);
+  none = gives_out (all_given l);
+  sent_back = gives_in_back (all_given l);
+  got = gives_out_back (all_given l);
+}
+
+-- ---- handing in and out
+
+pub turned_in : (l r : Standing) (out back : List Given) (tsdu : List ℕ) →
+    Turned (links l out r back) (links (with_tsdu l tsdu) out r back) (tsdu ∷ []) []
+turned_in l r out back tsdu = record {
+  turns = at_left (hand_in tsdu) ∷ [];
+  along = (links (with_tsdu l tsdu) out r back, record { moves = refl; given = sym (append-nil out); comes = refl; right = refl }, refl);
+  sent = refl;
+  none = refl;
+  sent_back = refl;
+  got = refl;
+}
+
+abbrev with_whole : Standing → List (List ℕ) → Standing
+with_whole s whole = record s { ends = record s.ends { joining = record s.ends.joining { whole = whole } } }
+
+turned_out_by : (l r : Standing) (out back : List Given) (whole : List (List ℕ)) → l.ends.joining.whole ≡ whole →
+    Turned (links l out r back) (links (handed_out l) out r back) [] (take 1 whole)
+turned_out_by l r out back [] e = grind (arith, drop, turned_none)
+turned_out_by l r out back (t ∷ ts) e =
+    let hands : l ≡ with_whole l (t ∷ drop 1 l.ends.joining.whole) =
+    ap (λ (w : List (List ℕ)). with_whole l w) (e ∙ ap (λ (w : List (List ℕ)). t ∷ drop 1 w) (sym e)) in
+    record {
+      turns = at_left (hand_out t) ∷ [];
+      along = (links (handed_out l) out r back, record { moves = hands; given = sym (append-nil out); comes = refl; right = refl }, refl);
+      sent = refl;
+      none = refl;
+      sent_back = refl;
+      got = refl;
+    }
+
+pub turned_out : (l r : Standing) (out back : List Given) →
+    Turned (links l out r back) (links (handed_out l) out r back) [] (take 1 l.ends.joining.whole)
+turned_out l r out back = turned_out_by l r out back l.ends.joining.whole refl
+
+-- ---- what turns keep
+
+agree_turned : (two : Bool) (old new : LinkPair) (i o : List (List ℕ)) → Turned old new i o → AgreeIn two old → AgreeIn two new
+agree_turned false old new i o t a =
+    assumption (
+      zero_turns t.turns old new a.agree t.along,
+      zero_turns (map opposite t.turns) (swapped old) (swapped new) a.agree_back
+          (other_way old new t.turns t.along),
+    )
+agree_turned true old new i o t a = search (
+  agree_turns t.turns old new a.window a.agree t.along,
+  agree_turns (map opposite t.turns) (swapped old) (swapped new) a.back a.agree_back (other_way old new t.turns t.along),
+)
+
+-- what is in flight from links that may have the beginning of a TSDU
+pub turned_any : (old new : LinkPair) (i o : List (List ℕ)) → Turned old new i o → under_way_before old i ≡ under_way new
+turned_any old new i o t =
+    ap (λ (l : List (List ℕ)). under_way_before old l) (sym (append-nil (flat_map left_in t.turns) ∙ t.sent))
+    ∙ turns_keep old new t.turns [] t.along ∙ ap (λ (l : List (List ℕ)). l ++ under_way new) t.none
+
+pub turned_any_back : (old new : LinkPair) (i o : List (List ℕ)) → Turned old new i o →
+    under_way (swapped old) ≡ o ++ under_way (swapped new)
+turned_any_back old new i o t =
+    ap (λ (l : List (List ℕ)). under_way_before (swapped old) l) (sym (append-nil (flat_map left_in (map opposite t.turns)) ∙ t.sent_back))
+    ∙ turns_keep (swapped old) (swapped new) (map opposite t.turns) [] (other_way old new t.turns t.along)
+    ∙ ap (λ (l : List (List ℕ)). l ++ under_way (swapped new)) t.got
+
+-- what is in flight, to the right and to the left
+pub turned_right : (old new : LinkPair) (i o : List (List ℕ)) → Turned old new i o → HasWholeTsdus old → under_way old ++ i ≡ under_way new
+turned_right old new i o t whole = grind (arith, whole_kept)
+
+pub turned_left : (old new : LinkPair) (i o : List (List ℕ)) → Turned old new i o → HasWholeTsdus (swapped old) →
+    under_way (swapped old) ≡ o ++ under_way (swapped new)
+turned_left old new i o t whole = grind (arith, append-nil, whole_kept, map, other_way)
+
+-- open links stay open if the one that turned is settled again
+pub turned_passes : (two : Bool) (old new : LinkPair) (i o : List (List ℕ)) → Turned old new i o → AllByRecursion IsShortTsdu i →
+    AgreeIn two old → HasWholeTsdus old → HasWholeTsdus (swapped old) → AllByRecursion IsShortTsdu (under_way old) →
+    AllByRecursion IsShortTsdu (under_way (swapped old)) → AllByRecursion HasGivenInRange new.rightward →
+    AllByRecursion HasGivenInRange new.leftward → IsSettled new.left → IsSettled new.right → Passes two old new i o
+turned_passes two old new i o t short agree whole whole_back s s_back range range_back left right =
+    let back = other_way old new t.turns t.along in
+    assumption (
+      turned_right old new i o t whole,
+      turned_left old new i o t whole_back,
+      agree_turned two old new i o t agree,
+      stays_whole
+          old new t.turns whole t.along,
+      stays_whole (swapped old) (swapped new)
+          (map opposite t.turns) whole_back back,
+      stays_short old new t.turns whole s
+          (subst (λ (l : List (List ℕ)). AllByRecursion IsShortTsdu l) (sym t.sent) short) t.along,
+      stays_short (swapped old) (swapped new)
+          (map opposite t.turns) whole_back s_back
+          (subst (λ (l : List (List ℕ)). AllByRecursion IsShortTsdu l) (sym t.sent_back) tt) back,
+      range,
+      range_back,
+      left,
+      right,
+    )
+
+-- ---- a link between calls
+
+-- what a link in its bounds gives is in the range of its fields
+gives_well : (gs : List Given) (s t : Standing) → IsWell s → MovesAlong s (map give_out gs) t → IsWell t × AllByRecursion HasGivenInRange gs
+gives_well [] s t h e = (subst (λ (l : Standing). IsWell l) (sym e) h, tt)
+gives_well (g ∷ gs) s t h (mid, first, rest) =
+    let well : IsWell mid = assumption (move_sound (give_out g) s mid h.sound tt first, stays_octets s mid g h.sound h.octets first) in
+    let more = gives_well gs mid t well rest in
+    (more.0, (in_range s mid g h.sound h.octets first, more.1))
+
+pub pumped_well : (s : Standing) → IsWell s → IsWell (pumped s) × AllByRecursion HasGivenInRange (all_given s)
+pumped_well s h = gives_well (all_given s) s (pumped s) h (drained_moves s)
+
+pub pumped_settled : (s : Standing) → 0 < s.ends.limit → s.ends.joining.whole ≡ [] → IsWell s → IsSettled (pumped s)
+pumped_settled s limit handed well = grind (arith, drained_leaves, drained_ends, pumped_well)
+
+octets_behind : (ts : List (List ℕ)) (t : List ℕ) → AllByRecursion IsOctets ts → IsOctets t → AllByRecursion IsOctets (ts ++ t ∷ [])
+octets_behind [] t h is = (is, tt)
+octets_behind (u ∷ ts) t h is = (h.0, octets_behind ts t h.1 is)
+
+pub range_behind : (us vs : List Given) → AllByRecursion HasGivenInRange us → AllByRecursion HasGivenInRange vs →
+    AllByRecursion HasGivenInRange (us ++ vs)
+range_behind [] vs a b = b
+range_behind (u ∷ us) vs a b = (a.0, range_behind us vs a.1 b)
+
+with_well : (s : Standing) (tsdu : List ℕ) → IsWell s → IsOctets tsdu → IsWell (with_tsdu s tsdu)
+with_well s tsdu h is = assumption
+    (move_sound (hand_in tsdu) s (with_tsdu s tsdu) h.sound tt refl, octets_behind s.ends.unsent tsdu h.octets is)
+
+out_well : (s : Standing) → IsWell s → IsWell (handed_out s)
+out_well s h = grind arith
+
+-- at most one TSDU becomes whole with a unit
+abbrev HasOne : Standing → Type 0
+HasOne s = drop 1 s.ends.joining.whole ≡ []
+
+part_one : (e : Ends) (flow : Option Flow) (end : Bool) (octets : List ℕ) → e.joining.whole ≡ [] →
+    HasOne (record { ends = record e { joining = with_part e.joining end octets }; flow = flow })
+part_one e flow end octets none = grind (arith, drop)
+
+joined_one : (e : Ends) (flow : Option Flow) (end : Bool) (octets : List ℕ) (long : Bool) → e.joining.whole ≡ [] →
+    IfOk (with_joined e flow (if long then Err TsduTooLong else Ok (with_part e.joining end octets))) HasOne
+joined_one e flow end octets long none = grind (arith, part_one)
+
+sender_one : (e : Ends) (f : Flow) (r : Result Sender LinkFault) → e.joining.whole ≡ [] → IfOk (with_sender e f r) HasOne
+sender_one e f r none = grind (arith, drop)
+
+taken_one_by : (e : Ends) (flow : Option Flow) (unit : Value) → e.joining.whole ≡ [] → IfOk (taken_by e flow unit) HasOne
+taken_one_by e flow unit none = grind (arith, joined_one, nat_lt, length, choose_ok, sender_one)
+
+taken_one : (s t : Standing) (unit : Value) → s.ends.joining.whole ≡ [] → taken s unit ≡ Ok t → HasOne t
+taken_one s t unit none e = at_ok HasOne (taken s unit) t (taken_one_by s.ends s.flow unit none) e
+
+-- what is to be sent does not change with a unit
+abbrev Unsent : List (List ℕ) → Standing → Type 0
+Unsent unsent s = s.ends.unsent ≡ unsent
+
+joined_unsent : (e : Ends) (flow : Option Flow) (r : Result Joining LinkFault) → IfOk (with_joined e flow r) (Unsent e.unsent)
+joined_unsent e flow r = grind arith
+
+sender_unsent : (e : Ends) (f : Flow) (r : Result Sender LinkFault) → IfOk (with_sender e f r) (Unsent e.unsent)
+sender_unsent e f r = grind arith
+
+taken_unsent_by : (e : Ends) (flow : Option Flow) (destination : ℕ) (g : Given) →
+    IfOk (taken_by e flow (unit_of destination g)) (Unsent e.unsent)
+taken_unsent_by e flow destination g = grind (arith, joined_unsent, choose_ok, sender_unsent)
+
+taken_well : (s t : Standing) (destination : ℕ) (g : Given) → destination < 65536 → HasGivenInRange g → IsWell s →
+    taken s (unit_of destination g) ≡ Ok t → IsWell t
+taken_well s t destination g few range h e =
+    assumption (
+      move_sound (take_in (unit_of destination g)) s t h.sound (unit_fits destination g few range).in_range e,
+      subst
+          (λ (l : List (List ℕ)). AllByRecursion IsOctets l)
+          (sym (at_ok (Unsent s.ends.unsent) (taken s (unit_of destination g)) t (taken_unsent_by s.ends s.flow destination g) e)) h.octets,
+    )
+
+-- ---- the two calls at the left, whatever the peer
+
+-- a unit that the left link takes, whatever its peer
+pub turned_take : (l t r : Standing) (out : List Given) (g : Given) (rest : List Given) (destination : ℕ) →
+    taken l (unit_of destination g) ≡ Ok t →
+    Turned (links l out r (g ∷ rest)) (links (pumped (handed_out t)) (out ++ all_given (handed_out t)) r rest) []
+    (take 1 t.ends.joining.whole)
+turned_take l t r out g rest destination is =
+    let old = links l out r (g ∷ rest) in
+    let mid = links t out r rest in
+    let after = links (handed_out t) out r rest in
+    let new = links (pumped (handed_out t)) (out ++ all_given (handed_out t)) r rest in
+    let got = take 1 t.ends.joining.whole in
+    let turn : LeftMoves (take_in (unit_of destination g)) old mid =
+    record { moves = is; given = sym (append-nil out); comes = (g, said destination g, refl); right = refl } in
+    let first : Turned old mid [] [] =
+    record {
+      turns = at_left (take_in (unit_of destination g)) ∷ [];
+      along = (mid, turn, refl);
+      sent = refl;
+      none = refl;
+      sent_back = refl;
+      got = refl;
+    } in
+    let all : Turned old new [] (got ++ []) =
+    turned_join old after new [] [] got [] (turned_join old mid after [] [] [] got first (turned_out t r out rest))
+    (turned_pumped (handed_out t) r out rest) in
+    subst (λ (l : List (List ℕ)). Turned old new [] l) (append-nil got) all
+
+-- a TSDU that is handed in at the left, whatever its peer
+pub turned_send : (l r : Standing) (out back : List Given) (tsdu : List ℕ) →
+    Turned (links l out r back) (links (pumped (with_tsdu l tsdu)) (out ++ all_given (with_tsdu l tsdu)) r back) (tsdu ∷ []) []
+turned_send l r out back tsdu =
+    turned_join (links l out r back) (links (with_tsdu l tsdu) out r back)
+    (links (pumped (with_tsdu l tsdu)) (out ++ all_given (with_tsdu l tsdu)) r back) (tsdu ∷ []) [] [] []
+    (turned_in l r out back tsdu) (turned_pumped (with_tsdu l tsdu) r out back)
+
+-- ---- the two calls at the left of open links
+
+-- a TSDU is handed in, and all that may be sent now is given
+pub sends_passes : (two : Bool) (p : LinkPair) (tsdu : List ℕ) → AreOpen two p → IsShortTsdu tsdu → IsOctets tsdu →
+    Passes two p (after_send p tsdu) (tsdu ∷ []) []
+sends_passes two p tsdu a short octets =
+    let well = with_well p.left tsdu a.left.well octets in
+    turned_passes two p (after_send p tsdu) (tsdu ∷ []) [] (turned_send p.left p.right p.rightward p.leftward tsdu)
+    (short, tt) a.agree a.whole a.whole_back a.short a.short_back
+    (range_behind p.rightward (all_given (with_tsdu p.left tsdu)) a.range (pumped_well (with_tsdu p.left tsdu) well).1) a.range_back
+    (pumped_settled (with_tsdu p.left tsdu) a.left.limit a.left.handed well) a.right
+
+oldest_taken : (two : Bool) (p : LinkPair) (unit : Given) (rest : List Given) (destination : ℕ) → AreOpen two p → AgreeIn two p →
+    p.leftward ≡ unit ∷ rest → TakesOldest (swapped p) (unit_of destination unit) rest
+oldest_taken false p unit rest destination a z e =
+    oldest_in_class_0 (swapped p) unit rest destination z.agree_back a.whole_back a.short_back e
+oldest_taken true p unit rest destination a t e =
+    oldest_in_class_2 (swapped p) t.back t.window unit rest destination t.agree_back t.agree a.whole_back a.short_back e
+
+left_takes_by : (two : Bool) (p : LinkPair) (g : Given) (rest : List Given) (destination : ℕ) → destination < 65536 → AreOpen two p →
+    p.leftward ≡ g ∷ rest → TakesOldest (swapped p) (unit_of destination g) rest → LeftTakes two p (unit_of destination g) rest
+left_takes_by two p g rest destination few a e t =
+    let range = subst (λ (us : List Given). AllByRecursion HasGivenInRange us) e a.range_back in
+    let well = out_well t.new (taken_well p.left t.new destination g few range.0 a.left.well t.taken) in
+    let same = (move_same (take_in (unit_of destination g)) p.left t.new t.taken).0 in
+    let limit : 0 < t.new.ends.limit = (let before = a.left.limit in omega arith) in
+    let got = take 1 t.new.ends.joining.whole in
+    record {
+      link = t.new;
+      taken = t.taken;
+      passes = turned_passes two p (after_take p t.new rest) [] got
+          (subst (λ (us : List Given). Turned (links p.left p.rightward p.right us) (after_take p t.new rest) [] got) (sym e)
+          (turned_take p.left t.new p.right p.rightward g rest destination t.taken))
+          tt a.agree a.whole a.whole_back a.short a.short_back
+          (range_behind p.rightward (all_given (handed_out t.new)) a.range (pumped_well (handed_out t.new) well).1) range.1
+          (pumped_settled (handed_out t.new) limit (taken_one p.left t.new (unit_of destination g) a.left.handed t.taken) well) a.right;
+    }
+
+pub left_takes : (two : Bool) (p : LinkPair) (unit : Given) (rest : List Given) (destination : ℕ) → destination < 65536 → AreOpen two p →
+    p.leftward ≡ unit ∷ rest → LeftTakes two p (unit_of destination unit) rest
+left_takes two p unit rest destination few a e =
+    left_takes_by two p unit rest destination few a e (oldest_taken two p unit rest destination a a.agree e)

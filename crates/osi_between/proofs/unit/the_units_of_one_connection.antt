@@ -1,0 +1,85 @@
+-- The units for one connection among those of all, and the references that they ask for.
+-- For octets on their way, joined carriers, class 0 and the invariant.
+use Rattle.osi_between.proofs.Vocabulary.{◌≡◌, ◌≢◌, ℕ, zero, suc, ◌+◌, ◌==◌, Bool, true, List, [], ◌∷◌, ◌++◌, refl, sym, ap, ◌∙◌, arith}
+use Rattle.osi_between.proofs.Vocabulary.{if◌then◌else◌, eq-eqb, ne_eqb, flat_map-append, Value, reference_of, units_of, AreFor, asked_by}
+use Rattle.osi_between.proofs.Vocabulary.{requests, behind, live_behind, live_after, HasPlace, HasPlaces}
+
+pub units_of_by : (n : ℕ) (u : Value) (us : List Value) (b : Bool) → (reference_of u == n) ≡ b →
+    units_of n (u ∷ us) ≡ (if b then u ∷ units_of n us else units_of n us)
+units_of_by n u us b e = ap (λ (c : Bool). if◌then◌else◌ {A = List Value} c (u ∷ units_of n us) (units_of n us)) e
+
+units_join_by : (n : ℕ) (u : Value) (us vs : List Value) (b : Bool) → (reference_of u == n) ≡ b →
+    units_of n (us ++ vs) ≡ units_of n us ++ units_of n vs → units_of n (u ∷ (us ++ vs)) ≡ units_of n (u ∷ us) ++ units_of n vs
+units_join_by n u us vs b e more = grind (arith, units_of_by)
+
+pub units_join : (n : ℕ) (us vs : List Value) → units_of n (us ++ vs) ≡ units_of n us ++ units_of n vs
+units_join n [] vs = refl
+units_join n (u ∷ us) vs = units_join_by n u us vs (reference_of u == n) refl (units_join n us vs)
+
+pub units_same : (n : ℕ) (us : List Value) → AreFor n us → units_of n us ≡ us
+units_same n [] h = refl
+units_same n (u ∷ us) h = units_of_by n u us true (eq-eqb (reference_of u) n h.0) ∙ ap (λ (l : List Value). u ∷ l) (units_same n us h.1)
+
+pub units_other : (q n : ℕ) (us : List Value) → q ≢ n → AreFor n us → units_of q us ≡ []
+units_other q n [] other h = refl
+units_other q n (u ∷ us) other h = grind (arith, units_of_by, ne_eqb, units_other q n us other h.1)
+
+-- the first unit of a connection
+pub first_of_all : (u : Value) (us : List Value) → units_of (reference_of u) (u ∷ us) ≡ u ∷ units_of (reference_of u) us
+first_of_all u us = units_of_by (reference_of u) u us true (eq-eqb (reference_of u) (reference_of u) refl)
+
+-- ---- references that are asked for
+
+pub requests_join : (us vs : List Value) → requests (us ++ vs) ≡ requests us ++ requests vs
+requests_join us vs = flat_map-append asked_by us vs
+
+zero_more : (b : ℕ) → zero + b ≡ b
+zero_more b = omega arith
+
+none_more : (g : ℕ) → g ≡ g + zero
+none_more g = omega arith
+
+suc_more : (a b : ℕ) → suc a + b ≡ suc (a + b)
+suc_more a b = omega arith
+
+one_more : (g a : ℕ) → (g + 1) + a ≡ g + suc a
+one_more g a = omega arith
+
+pub behind_join : (g a b : ℕ) → behind g (a + b) ≡ behind g a ++ behind (g + a) b
+behind_join g zero b = ap (λ (m : ℕ). behind g m) (zero_more b) ∙ ap (λ (m : ℕ). behind m b) (none_more g)
+behind_join g (suc a) b =
+    ap (λ (m : ℕ). behind g m) (suc_more a b)
+    ∙ ap (λ (l : List ℕ). (g + 1) ∷ l) (behind_join (g + 1) a b ∙ ap (λ (m : ℕ). behind (g + 1) a ++ behind m b) (one_more g a))
+
+-- ---- places
+
+pub places_join : (refs : List ℕ) (us vs : List Value) → HasPlaces refs us → HasPlaces (live_after refs us) vs → HasPlaces refs (us ++ vs)
+places_join refs [] vs h more = more
+places_join refs (u ∷ us) vs h more = (h.0, places_join (live_behind refs u) us vs h.1 more)
+
+pub none_left : (coming rest : List Value) (u : Value) → coming ≡ [] → coming ≡ u ∷ rest → ⊥
+none_left coming rest u a b = let no : [] ≡ u ∷ rest = sym a ∙ b in cc
+
+pub places_rest : (refs : List ℕ) (us vs : List Value) → HasPlaces refs (us ++ vs) → HasPlaces (live_after refs us) vs
+places_rest refs [] vs h = h
+places_rest refs (u ∷ us) vs h = places_rest (live_behind refs u) us vs h.1
+
+-- units of which none is a CR
+place_for : (refs : List ℕ) (u : Value) → asked_by u ≡ [] → HasPlace refs u
+place_for refs u e = grind arith
+
+pub front_none : {X : Type 0} (xs ys : List X) → xs ++ ys ≡ [] → xs ≡ []
+front_none [] ys e = refl
+front_none (x ∷ xs) ys e = cc
+
+pub rest_none : {X : Type 0} (xs ys : List X) → xs ++ ys ≡ [] → ys ≡ []
+rest_none [] ys e = e
+rest_none (x ∷ xs) ys e = cc
+
+pub places_for : (refs : List ℕ) (us : List Value) → requests us ≡ [] → HasPlaces refs us
+places_for refs [] e = tt
+places_for refs (u ∷ us) e = (
+  place_for refs u (front_none (asked_by u) (requests us) e),
+  places_for (live_behind refs u) us
+      (rest_none (asked_by u) (requests us) e),
+)

@@ -1,0 +1,164 @@
+-- However many octets of what was written are fed, units are taken one after the other.
+-- For joined carriers and the laws.
+use Rattle.osi_tpdu.specs.Packet.{units_of}
+use Rattle.osi_between.proofs.Vocabulary.{◌≡◌, ℕ, ◌+◌, ◌-◌, ◌≤◌, Bool, true, false, ◌||◌, is_some, List, [], ◌∷◌, ◌++◌, length, map, take}
+use Rattle.osi_between.proofs.Vocabulary.{drop, Option, None, Ok, refl, sym, ap, subst, ◌∙◌, inl, inr, arith, append_assoc, if◌then◌else◌}
+use Rattle.osi_between.proofs.Vocabulary.{ArePackets, offset_of, AllByRecursion, append-nil, length-take-le, take-take, packet_of, Value}
+use Rattle.osi_between.proofs.Vocabulary.{written, IsSendable, AreComing, TakesUnits, TakesSome, Fed, Carrying, Feeds, waits, is_spoilt}
+use Rattle.osi_between.proofs.Vocabulary.{TakesPackets, RunsDry, StopsBehind, Refuses, Starves, FindsNoMemory, Goes, react, State, packets}
+use Rattle.osi_between.proofs.Vocabulary.{ends, EndReason, NoMemory, packets_join, all_behind, unit_packet, unit_read, packet_reacts}
+use Rattle.osi_between.proofs.Vocabulary.{Fronts, units_front, fault_free, starved_unit, reads_part}
+
+-- packets that are taken are units that are taken
+units_taken : (done : List Value) (s t : State) → AllByRecursion IsSendable done → TakesPackets s (map written done) t → TakesUnits s done t
+units_taken [] s t all h = h
+units_taken (u ∷ us) s t all h =
+    grind (
+      arith,
+      map,
+      packet_reacts,
+      units_taken us (react u s) t all.1
+          (subst (λ (x : State). TakesPackets x (map written us) t) (packet_reacts s u all.0) h.1),
+    )
+
+front_taken : (s t : State) (units : List (List ℕ)) (coming : List Value) (r behind : List ℕ) (f : Fronts units coming r behind) →
+    TakesPackets s units t → TakesUnits s f.done t
+front_taken s t units coming r behind f h = units_taken f.done s t f.sendable (subst (λ (l : List (List ℕ)). TakesPackets s l t) f.are h)
+
+runs_dry : (old new : Carrying) (outgoing : List ℕ) (coming : List Value) (k used : ℕ) → k ≤ length outgoing →
+    AreComing old.held.octets outgoing coming → RunsDry old (take k outgoing) used new → TakesSome old outgoing coming used new
+runs_dry old new outgoing coming k used less c h =
+    let f = reads_part old.held.octets outgoing coming k h.units new.held.octets c h.packets in
+    let all : used ≡ k = h.all ∙ length-take-le k outgoing less in
+    record {
+      done = f.done;
+      left = f.left;
+      parts = f.parts;
+      reached = new.state;
+      taken = front_taken old.state new.state h.units coming new.held.octets (drop k outgoing) f h.taken;
+      how = inl refl;
+      coming_then = λ sound. subst (λ n. AreComing new.held.octets (drop n outgoing) f.left) (sym all) f.rest;
+    }
+
+stops_behind : (old new : Carrying) (outgoing : List ℕ) (coming : List Value) (k used : ℕ) → k ≤ length outgoing →
+    AreComing old.held.octets outgoing coming → StopsBehind old (take k outgoing) used new → TakesSome old outgoing coming used new
+stops_behind old new outgoing coming k used less c h =
+    let n = h.within in
+    let within : n ≤ k = (let bound = h.bound in let size = length-take-le k outgoing less in omega arith) in
+    let f = reads_part old.held.octets outgoing coming n h.units [] c
+    (subst (λ l. ArePackets h.units (old.held.octets ++ l) []) (take-take n k outgoing within) h.packets) in
+    record {
+      done = f.done;
+      left = f.left;
+      parts = f.parts;
+      reached = new.state;
+      taken = front_taken old.state new.state h.units coming [] (drop n outgoing) f h.taken;
+      how = inl refl;
+      coming_then = λ sound.
+          let all : used ≡ n = h.uses ∙ ap (λ (b : Bool). if◌then◌else◌ {A = ℕ} b (length (take k outgoing)) n) sound in
+          subst (λ m. AreComing new.held.octets (drop m outgoing) f.left) (sym all)
+          (subst (λ l. AreComing l (drop n outgoing) f.left) (sym h.held) f.rest);
+    }
+
+refuses_none : (old new : Carrying) (outgoing : List ℕ) (coming : List Value) (k used : ℕ) → AreComing old.held.octets outgoing coming →
+    Refuses old (take k outgoing) used new → ⊥
+refuses_none old new outgoing coming k used c h =
+    let f = reads_part old.held.octets outgoing coming k h.units h.cut.0 c h.cut.1 in
+    fault_free (offset_of (old.held.offset + (length (old.held.octets ++ take k outgoing) - length h.cut.0))) h.cut.0
+    (drop k outgoing) h.fault f.left f.rest h.cut.2
+
+-- the packet that starved is a unit that comes
+starved_by : (old new : State) (packet : List ℕ) (coming : List Value) (r t : List ℕ) → Fronts (packet ∷ []) coming r t →
+    Starves old packet new → new ≡ ends NoMemory old
+starved_by old new packet coming r t f h =
+    elim f.done as (λ (l : List Value). packet ∷ [] ≡ map written l → AllByRecursion IsSendable l → new ≡ ends NoMemory old) [
+      | [] ↦ λ e all. cc
+      | u ∷ us ↦ λ e all. starved_unit old new packet u all.0 (let is : packet ≡ written u = cc in is) h
+    ] f.are f.sendable
+
+finds_none : (old new : Carrying) (outgoing : List ℕ) (coming : List Value) (k used : ℕ) → k ≤ length outgoing →
+    AreComing old.held.octets outgoing coming → FindsNoMemory old (take k outgoing) used new → TakesSome old outgoing coming used new
+finds_none old new outgoing coming k used less c h =
+    let n = h.within in
+    let within : n ≤ k = (let bound = h.bound in let size = length-take-le k outgoing less in omega arith) in
+    let f = reads_part old.held.octets outgoing coming n h.units h.rest c
+    (subst (λ l. ArePackets h.units (old.held.octets ++ l) h.rest) (take-take n k outgoing within) h.packets) in
+    let ended : new.state ≡ ends NoMemory h.before =
+    elim h.how [
+      | inl e ↦ e.ended
+      | inr p ↦ starved_by h.before new.state p.0 f.left [] (drop n outgoing)
+          (units_front (p.0 ∷ []) f.left h.rest [] (drop n outgoing) f.rest.sendable p.1 f.rest.octets) p.2
+    ] in
+    record {
+      done = f.done;
+      left = f.left;
+      parts = f.parts;
+      reached = h.before;
+      taken = front_taken old.state h.before h.units coming h.rest (drop n outgoing) f h.taken;
+      how = inr ended;
+      coming_then = λ sound. let spoilt : is_spoilt new.state.ended ≡ true = ap (λ (s : State). is_spoilt s.ended) ended in absurd (cc);
+    }
+
+goes_some : (old new : Carrying) (outgoing : List ℕ) (coming : List Value) (k used : ℕ) → k ≤ length outgoing →
+    AreComing old.held.octets outgoing coming → Goes old (take k outgoing) used new → TakesSome old outgoing coming used new
+goes_some old new outgoing coming k used less c (inl (inl h)) = runs_dry old new outgoing coming k used less c h
+goes_some old new outgoing coming k used less c (inl (inr h)) = stops_behind old new outgoing coming k used less c h
+goes_some old new outgoing coming k used less c (inr (inl h)) = absurd (refuses_none old new outgoing coming k used c h)
+goes_some old new outgoing coming k used less c (inr (inr h)) = finds_none old new outgoing coming k used less c h
+
+feeds_by : (old new : Carrying) (outgoing : List ℕ) (coming : List Value) (k : ℕ) (fed : Fed) (wait : Bool) → k ≤ length outgoing →
+    AreComing old.held.octets outgoing coming → old.state.ended ≡ None → waits old.state ≡ wait → Feeds old (take k outgoing) fed new →
+    TakesSome old outgoing coming fed.used new
+feeds_by old new outgoing coming k fed true less c quiet wait h =
+    let none = h.waiting quiet wait in
+    record {
+      done = [];
+      left = coming;
+      parts = refl;
+      reached = old.state;
+      taken = refl;
+      how = inl (ap (λ (x : Carrying). x.state) none.1);
+      coming_then = λ sound.
+          subst (λ n. AreComing new.held.octets (drop n outgoing) coming) (sym none.0)
+          (subst (λ (x : Carrying). AreComing x.held.octets outgoing coming) (sym none.1) c);
+    }
+feeds_by old new outgoing coming k fed false less c quiet wait h =
+    goes_some old new outgoing coming k fed.used less c
+    (h.goes (ap (λ (o : Option EndReason). is_some o || waits old.state) quiet ∙ wait))
+
+pub feeds_some : (old new : Carrying) (outgoing : List ℕ) (coming : List Value) (k : ℕ) (fed : Fed) → k ≤ length outgoing →
+    AreComing old.held.octets outgoing coming → old.state.ended ≡ None → Feeds old (take k outgoing) fed new →
+    TakesSome old outgoing coming fed.used new
+feeds_some old new outgoing coming k fed less c quiet h = feeds_by old new outgoing coming k fed (waits old.state) less c quiet refl h
+
+-- ---- what comes is read from the octets alone
+
+pub more_coming : (held outgoing : List ℕ) (coming units : List Value) → AreComing held outgoing coming → AllByRecursion IsSendable units →
+    AreComing held (outgoing ++ packets units) (coming ++ units)
+more_coming held outgoing coming units c all = grind (arith, append_assoc, packets_join, all_behind)
+
+written_one : (u v : Value) → IsSendable u → IsSendable v → written u ≡ written v → u ≡ v
+written_one u v a b e = let same : Ok (u ∷ []) ≡ Ok (v ∷ []) = sym (unit_read u a) ∙ ap units_of e ∙ unit_read v b in cc
+
+written_all : (us vs : List Value) → AllByRecursion IsSendable us → AllByRecursion IsSendable vs → map written us ≡ map written vs → us ≡ vs
+written_all [] [] a b e = refl
+written_all (u ∷ us) (v ∷ vs) a b e =
+    let first : written u ≡ written v = cc in
+    let others : map written us ≡ map written vs = cc in
+    ap (λ x. x ∷ us) (written_one u v a.0 b.0 first) ∙ ap (λ l. v ∷ l) (written_all us vs a.1 b.1 others)
+written_all us vs a b e = cc
+
+are_packets : (us : List Value) → AllByRecursion IsSendable us → ArePackets (map written us) (packets us) []
+are_packets [] all = refl
+are_packets (u ∷ us) all = (packet_of (written u), packets us, unit_packet u all.0, refl, are_packets us all.1)
+
+none_left : (left : List Value) → packets left ≡ [] → left ≡ []
+none_left [] e = refl
+none_left (u ∷ us) e = cc
+
+pub one_coming : (held outgoing : List ℕ) (us vs : List Value) → AreComing held outgoing us → AreComing held outgoing vs → us ≡ vs
+one_coming held outgoing us vs a b =
+    let f = units_front (map written us) vs (packets us) [] [] b.sendable (are_packets us a.sendable)
+    (append-nil (packets us) ∙ sym a.octets ∙ b.octets) in
+    written_all us f.done a.sendable f.sendable f.are
+    ∙ sym (append-nil f.done) ∙ ap (λ l. f.done ++ l) (sym (none_left f.left (sym f.rest.octets))) ∙ sym f.parts

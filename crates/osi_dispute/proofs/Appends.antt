@@ -1,0 +1,8 @@
+-- What is added to a text, one piece behind the other: for `push_leaves`.
+use Rattle.std.proofs.Common.{◌≡◌, ◌∙◌, sym, ap, List, ℕ, ◌++◌, Result, Ok, Err, OnOk}
+use Rattle.std.proofs.lemmas.List.{append_assoc}
+
+pub on_ok_more : {A E : Type 0} (r : Result A E) (new mid old a b c : List ℕ) → mid ≡ old ++ a → c ≡ a ++ b → OnOk r (new ≡ mid ++ b)
+    → OnOk r (new ≡ old ++ c)
+on_ok_more (Ok u) new mid old a b c e f k = k ∙ ap (λ (z : List ℕ). z ++ b) e ∙ append_assoc old a b ∙ ap (λ (z : List ℕ). old ++ z) (sym f)
+on_ok_more (Err x) new mid old a b c e f k = tt

@@ -1,0 +1,64 @@
+-- How many digits stand on a line, octet by octet: for `digits_on`.
+use Rattle.std.proofs.Common.{◌≡◌, ◌∙◌, refl, sym, ap, ℕ, suc, take, Bool, true, false, cond, not, List, [], ◌∷◌, length, arith, ◌+◌}
+use Rattle.std.proofs.Common.{◌==◌, filter, inl, inr}
+use Rattle.std.specs.List.{before_first, prefix_len}
+use Rattle.std.proofs.lemmas.Bool.Decides.{eqb_tells}
+use Rattle.osi_listing.specs.Capture.{is_comment_sign, is_blank}
+use Rattle.osi_dispute.specs.Rows.{digits_on, digits_left}
+
+kept : (c : ℕ) (line : List ℕ) → is_comment_sign c ≡ false → before_first is_comment_sign (c ∷ line) ≡ c ∷ before_first is_comment_sign line
+kept c line h =
+    let n : ℕ = prefix_len (λ x. not (is_comment_sign x)) line in
+    let one : 1 + n ≡ suc n = omega arith in
+    rw h (ap (λ k. take k (c ∷ line)) one)
+
+cut : (c : ℕ) (line : List ℕ) → is_comment_sign c ≡ true → before_first is_comment_sign (c ∷ line) ≡ []
+cut c line h = rw h refl
+
+other : (a b : ℕ) → (a ≡ b → ⊥) → (a == b) ≡ false
+other a b h = elim (eqb_tells a b) [ inl same ↦ absurd (h same.1) | inr differ ↦ differ.0 ]
+
+same_as : (a b : ℕ) → a ≡ b → (a == b) ≡ true
+same_as a b e = elim (eqb_tells a b) [ inl same ↦ same.0 | inr differ ↦ absurd (differ.1 e) ]
+
+abbrev digits_in : List ℕ → List ℕ
+digits_in line = filter (λ c. not (is_blank c)) (before_first is_comment_sign line)
+
+-- a comment ends the digits
+pub digits_end : (c : ℕ) (line : List ℕ) → c ≡ 35 → digits_on (c ∷ line) ≡ 0
+digits_end c line e = ap (λ (x : List ℕ). length (filter (λ c. not (is_blank c)) x)) (cut c line (same_as c 35 e))
+
+-- how many digits stand on a line whose first octet is none or one
+abbrev with_octet : (is_digit : Bool) → ℕ → List ℕ → ℕ
+with_octet is_digit c line = length (cond is_digit (c ∷ digits_in line) (digits_in line))
+
+by_blank : (c : ℕ) (line : List ℕ) → (c ≡ 35 → ⊥) → digits_on (c ∷ line) ≡ with_octet (not (is_blank c)) c line
+by_blank c line e = ap (λ (x : List ℕ). length (filter (λ c. not (is_blank c)) x)) (kept c line (other c 35 e))
+
+pub digits_blank : (c : ℕ) (line : List ℕ) → (c ≡ 35 → ⊥) → is_blank c ≡ true → digits_on (c ∷ line) ≡ digits_on line
+digits_blank c line e b = by_blank c line e ∙ ap (λ (x : Bool). with_octet (not x) c line) b
+
+pub digits_more : (c : ℕ) (line : List ℕ) → (c ≡ 35 → ⊥) → is_blank c ≡ false → digits_on (c ∷ line) ≡ digits_on line + 1
+digits_more c line e b =
+    let one = by_blank c line e ∙ ap (λ (x : Bool). with_octet (not x) c line) b in
+    omega (arith, one)
+
+-- ---- by a counter
+
+pub in_comment : (b : Bool) (n c : ℕ) (rest : List ℕ) → b ≡ true → n + digits_left b rest ≡ n + digits_left b (c ∷ rest)
+in_comment true n c rest e = refl
+in_comment false n c rest e = absurd (cc)
+
+pub begins_comment : (b : Bool) (n c : ℕ) (rest : List ℕ) → b ≡ false → c ≡ 35 → n + 0 ≡ n + digits_left b (c ∷ rest)
+begins_comment true n c rest e s = absurd (cc)
+begins_comment false n c rest e s = ap (λ (x : ℕ). n + x) (sym (digits_end c rest s))
+
+pub at_blank : (b : Bool) (n c : ℕ) (rest : List ℕ) → b ≡ false → (c ≡ 35 → ⊥) → is_blank c ≡ true
+    → n + digits_left b rest ≡ n + digits_left b (c ∷ rest)
+at_blank true n c rest e s k = absurd (cc)
+at_blank false n c rest e s k = ap (λ (x : ℕ). n + x) (sym (digits_blank c rest s k))
+
+pub at_digit : (b : Bool) (n c : ℕ) (rest : List ℕ) → b ≡ false → (c ≡ 35 → ⊥) → is_blank c ≡ false
+    → (n + 1) + digits_on rest ≡ n + digits_left b (c ∷ rest)
+at_digit true n c rest e s k = absurd (cc)
+at_digit false n c rest e s k = let one = digits_more c rest s k in omega (arith, one)

@@ -1,0 +1,28 @@
+-- The rows of a text, one after the other: for `next_piece` and `is_left_tabbed`.
+use Rattle.std.proofs.Common.{◌≡◌, ◌∙◌, refl, sym, ap, ap₂, subst, ℕ, Bool, true, false, List, [], ◌∷◌, take, drop, length, Option, Some}
+use Rattle.std.proofs.Common.{None, option_map}
+use Rattle.std.specs.Option.{option_map_or}
+use Rattle.osi_script.specs.Scripts.{lines_of}
+use Rattle.osi_dispute.specs.Rows.{Row, is_tabbed, digits_on, begun_on, ends_within, rows_from, left_by, left_is_tabbed}
+use Rattle.osi_dispute.specs.Reading.{lines_left}
+
+-- the row of the first line
+abbrev pub row_on : Bool → List ℕ → List ℕ → Row
+row_on is_within line octets = record { is_tabbed = is_tabbed line; octets = take (begun_on is_within (digits_on line)) octets }
+
+pub next_row : (is_within : Bool) (lines later : List (List ℕ)) (line octets : List ℕ) → lines ≡ line ∷ later
+    → rows_from is_within lines octets
+    ≡ row_on is_within line octets ∷ rows_from (ends_within is_within (digits_on line)) later
+    (drop (begun_on is_within (digits_on line)) octets)
+next_row is_within lines later line octets e = ap (λ (z : List (List ℕ)). rows_from is_within z octets) e
+
+-- a row without octets says nothing of left
+pub empty_row : (rows later : List Row) (r : Row) → rows ≡ r ∷ later → r.octets ≡ [] → left_is_tabbed rows ≡ left_is_tabbed later
+empty_row rows later r e n = ap left_is_tabbed e ∙ ap (λ (z : List ℕ). left_by r.is_tabbed z (left_is_tabbed later)) n
+
+by_first : (here later : Bool) (octets : List ℕ) → (octets ≡ [] → ⊥) → left_by here octets later ≡ here
+by_first here later [] n = absurd (n refl)
+by_first here later (octet ∷ octets) n = refl
+
+pub first_row : (rows later : List Row) (r : Row) → rows ≡ r ∷ later → (r.octets ≡ [] → ⊥) → left_is_tabbed rows ≡ r.is_tabbed
+first_row rows later r e n = ap left_is_tabbed e ∙ by_first r.is_tabbed (left_is_tabbed later) r.octets n

@@ -1,0 +1,9 @@
+use Rattle.std.proofs.Common.{length}
+use Rattle.osi_dispute.proofs.Feeds.{IsFed}
+use Rattle.osi_dispute.proofs.disputes.feed_all.Given as goal
+
+abbrev pub invariant-rest : goal.invariant-rest
+invariant-rest l = IsFed l.fn.direction l.fn.judge l.judge l.fn.octets l.rest
+
+abbrev pub decreases-rest : goal.decreases-rest
+decreases-rest l = length l.rest

@@ -1,0 +1,14 @@
+use Rattle.std.proofs.Common.{◌++◌}
+use Rattle.osi_listing.specs.Traced.{unfetched}
+use Rattle.osi_listing.proofs.Tracing.{stops_counters, counted_on}
+use Rattle.osi_listing.proofs.traces.Trace.count.Goals as goal
+
+pub returns-in-Err-clause-traced : goal.returns-in-Err-clause-traced
+returns-in-Err-clause-traced c = λ counts octets fetched h.
+    stops_counters c.args.self.now.keeping c.args.self.now.lister octets c.args.piece.now (fetched ++ unfetched c.args.self.now) counts h
+
+pub returns-clause-traced : goal.returns-clause-traced
+returns-clause-traced c = λ counts octets fetched h.
+    counted_on c.args.self.now.keeping c.counting-self.result c.args.self.now.lister c.feed.new.self octets c.args.piece.now
+    (fetched ++ unfetched c.args.self.now) c.new-lines.result.items c.feed.new.text.items c.unfinished.result counts c.counting-self.ensures
+    c.in-Ok.ensures.fed h

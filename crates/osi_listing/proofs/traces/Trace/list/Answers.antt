@@ -1,0 +1,15 @@
+use Rattle.std.proofs.Common.{◌++◌, ℕ, List, subst}
+use Rattle.osi_listing.specs.Fed.{Feeds}
+use Rattle.osi_listing.specs.Traced.{unfetched}
+use Rattle.osi_listing.proofs.Tracing.{stops_lines, kept}
+use Rattle.osi_listing.proofs.traces.Trace.list.Goals as goal
+
+pub returns-in-Err-clause-traced : goal.returns-in-Err-clause-traced
+returns-in-Err-clause-traced c = λ lines octets fetched h.
+    stops_lines c.args.self.now.keeping c.args.self.now.lister octets c.args.piece.now (fetched ++ unfetched c.args.self.now) lines h
+
+pub returns-clause-traced : goal.returns-clause-traced
+returns-clause-traced c = λ lines octets fetched h.
+    kept c.args.self.now.keeping c.keep-self.result c.args.self.now.lister c.feed.new.self octets c.args.piece.now fetched (unfetched c.args.self.now)
+    c.new-lines.result.items c.feed.new.text.items c.as_slice.result.now c.keep-self.new.text.items c.unfinished.result lines
+    c.new-lines.ensures.items c.as_slice.ensures.value c.keep-self.ensures c.in-Ok.ensures.fed h

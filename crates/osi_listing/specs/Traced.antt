@@ -1,0 +1,96 @@
+-- The meaning of a trace, and the effect of each of its calls.
+use Rattle.std.specs.Prelude.{◌≡◌, ℕ, ◌≤◌, Bool, true, false, List, [], ◌++◌, length, ⊤}
+use Rattle.std.specs.BTreeMap.{btree_map_len}
+use Rattle.osi_listing.specs.declared.counting.Counts.{Counts}
+use Rattle.osi_listing.specs.declared.pieces.Lister.{Lister}
+use Rattle.osi_listing.specs.declared.traces.Keeping.{Keeping}
+use Rattle.osi_listing.specs.declared.traces.Keeping.TheVariants.{Lines, Counters, Nothing}
+use Rattle.osi_listing.specs.declared.traces.Trace.{Trace}
+use Rattle.osi_listing.specs.Fed.{IsFed}
+use Rattle.osi_listing.specs.Joins.{join_value, join_at}
+use Rattle.osi_listing.specs.Streams as streams
+use Rattle.osi_listing.specs.SoFar.{IsListedSoFar}
+
+-- what a lister counted, and how many octets it was fed
+abbrev pub counted_by : Lister → Counts
+counted_by lister = lister.work.counts
+
+abbrev pub octets_fed : Lister → ℕ
+octets_fed lister = lister.octets
+
+-- how many streams of class 2 are within a TSDU
+abbrev pub unfinished : Lister → ℕ
+unfinished lister = btree_map_len lister.work.streams.class_2
+
+-- the octets that are kept of a stream
+abbrev pub kept_of : streams.Join → ℕ
+kept_of (streams.Join.Begun octets) = length octets
+kept_of streams.Join.Dropping = 0
+
+-- what a lister keeps: less than a packet, and of each stream at most a TSDU
+pub record KeepsLittle (lister : Lister) : Type 0 where
+  pub packet : length lister.work.cutter.octets ≤ 65535
+  pub class_0 : kept_of (join_value lister.work.streams.class_0) ≤ 1048576
+  pub class_2 : (d : ℕ) → kept_of (join_at lister.work.streams.class_2 d) ≤ 1048576
+
+-- the lines that were given are a prefix of the listing so far of a prefix of the octets that passed
+pub record IsListedInPart (octets given : List ℕ) : Type 0 where
+  pub took : List ℕ
+  pub others : List ℕ
+  pub lines : List ℕ
+  pub more : List ℕ
+  pub counts : Counts
+  pub passed : octets ≡ took ++ others
+  pub listed : IsListedSoFar took lines counts
+  pub gave : lines ≡ given ++ more
+
+abbrev pub Stands : Keeping → Lister → List ℕ → List ℕ → Type 0
+Stands Lines lister octets given = IsFed lister octets given
+Stands Counters lister octets given = (lines : List ℕ) × IsFed lister octets lines × (given ≡ [])
+Stands Nothing lister octets given = IsListedInPart octets given
+
+-- the lines that nobody has fetched
+abbrev pub unfetched : Trace → List ℕ
+unfetched t = t.text.items
+
+-- These octets passed, and these lines were fetched. If the trace keeps lines, these and the lines that nobody has fetched are
+-- the listing so far of the octets. If it has stopped, they are a prefix of it.
+abbrev pub IsTraced : Trace → List ℕ → List ℕ → Type 0
+IsTraced t octets fetched = Stands t.keeping t.lister octets (fetched ++ unfetched t)
+
+abbrev pub keeps_nothing : Keeping → Bool
+keeps_nothing Lines = false
+keeps_nothing Counters = false
+keeps_nothing Nothing = true
+
+abbrev pub is_stopped : Trace → Bool
+is_stopped t = keeps_nothing t.keeping
+
+-- what it counted, and how many octets it took
+abbrev pub counted : Trace → Counts
+counted t = counted_by t.lister
+
+abbrev pub octets_taken : Trace → ℕ
+octets_taken t = octets_fed t.lister
+
+-- the counts of the listing so far of these octets
+abbrev pub AreCounted : List ℕ → Counts → Type 0
+AreCounted octets counts = (lines : List ℕ) × IsListedSoFar octets lines counts
+
+-- at most 1,048,576 octets of lines; unless it has stopped, at most 64 streams of class 2 are within a TSDU
+pub record IsBounded (t : Trace) : Type 0 where
+  pub lines : length (unfetched t) ≤ 1048576
+  pub streams : is_stopped t ≡ false → unfinished t.lister ≤ 64
+
+-- ---- what a trace keeps after a piece
+
+-- a text gains lines if there is room for them and few streams are within a TSDU; otherwise the trace stops
+abbrev pub KeepsOn : List ℕ → List ℕ → ℕ → Keeping → List ℕ → Type 0
+KeepsOn text lines streams Lines after = (after ≡ text ++ lines) × (length after ≤ 1048576) × (streams ≤ 64)
+KeepsOn text lines streams Counters after = ⊥
+KeepsOn text lines streams Nothing after = after ≡ text
+
+abbrev pub CountsOn : ℕ → Keeping → Type 0
+CountsOn streams Lines = ⊥
+CountsOn streams Counters = streams ≤ 64
+CountsOn streams Nothing = ⊤

@@ -1,0 +1,423 @@
+-- The call of Restart keeps the invariant: its side discards what is in flight to it, but for a restart that takes effect.
+-- For each_step_keeps_both_sides.
+use Rattle.std.proofs.Common.{◌≡◌, refl, ℕ, Bool, true, false, ◌||◌, List, [], ◌∷◌, ◌⊎◌, inl, arith, sym, ◌∙◌, ap, subst, ◌+◌, ◌==◌, ◌≤◌}
+use Rattle.std.proofs.Common.{not, ◌&&◌, nat_le, nat_lt, inr, ◌-◌, ◌++◌, Ok}
+use Rattle.osi_machine.proofs.Vocabulary.{and_parts, TokenSetting, ResyncType, State, Meaning, RS, is_restarting, is_restart_due}
+use Rattle.osi_machine.proofs.Vocabulary.{passes_restarting, restarted_at, stands, next, Item, Fits, AllFit, flush, stops, heard}
+use Rattle.osi_machine.proofs.Vocabulary.{heard_view, lt-ltb, le-ltb, le-leb, eq-eqb, ne_eqb, cases_order, and_from, not-true}
+use Rattle.osi_machine.proofs.Vocabulary.{FunctionalUnits, Restarting, may_restart, takes_restart, is_connecting, without_tokens, points}
+use Rattle.osi_machine.proofs.Vocabulary.{hears, Core, is_opening, append-nil, leb-true, has, available, is_release_due, is_restartable}
+use Rattle.osi_machine.proofs.Vocabulary.{offered, Restart, IsSound, cutat, Begins, Owner, turned_owner, turned_owners, is_own, is_to_own}
+use Rattle.osi_machine.proofs.Vocabulary.{is_absent, own_to_pool, given_up, data_of, Party, answered, AreConsistent}
+use Rattle.osi_machine.proofs.basics.what_holds_in_each_phase.{excluded, if_first, by_test, implied, implied_two}
+use Rattle.osi_machine.proofs.basics.what_a_restart_leaves_of_a_history.{upto_append}
+use Rattle.osi_machine.proofs.channels.a_unit_is_dropped_bad_or_acted_on.{fit_cases, next_dropped, none_due, restart_due, and_false}
+use Rattle.osi_machine.proofs.channels.a_unit_is_dropped_bad_or_acted_on.{next_hears}
+use Rattle.osi_machine.proofs.channels.what_every_unit_in_flight_keeps.{kept_heard, heard_flush, fit_append, flush_append, due_end}
+use Rattle.osi_machine.proofs.channels.what_every_unit_in_flight_keeps.{data_append, lower_second, lower_less, lower_both, heard_turned}
+use Rattle.osi_machine.proofs.channels.a_deaf_side_acts_on_nothing.{AllEmpty, all_empty, empty_fits, empty_end, empty_heard, empty_view}
+use Rattle.osi_machine.proofs.channels.a_deaf_side_acts_on_nothing.{crossed, restart_kept, restart_next, yielded, stood, deaf_end}
+use Rattle.osi_machine.proofs.channels.a_deaf_side_acts_on_nothing.{heard_restart, view_restart}
+use Rattle.osi_machine.proofs.channels.a_held_token_keeps_units_out.{becomes_open, is_lively, Lively, becomes_lively, flush_open, none_held}
+use Rattle.osi_machine.proofs.channels.a_held_token_keeps_units_out.{heard_open}
+use Rattle.osi_machine.proofs.channels.what_a_side_will_have_seen.{begins_points, listener_count, listener_begins, Grown, heard_grown}
+use Rattle.osi_machine.proofs.invariant.what_holds_of_both_sides.{flushed, hearing, matched, Stands, Meeting, Half, Views, Counting, Counts}
+use Rattle.osi_machine.proofs.invariant.what_holds_of_both_sides.{IsOfProfile, Pair, phase_there}
+use Rattle.osi_machine.proofs.invariant.each_step_keeps_one_side.{below_if, IsGranted, granted}
+use Rattle.osi_machine.proofs.calls.a_unit_that_changes_no_state.{end_units, none_owed, list_any_append}
+use Rattle.osi_machine.proofs.calls.a_change_of_phase_and_numbers.{drops_waiting, listening_stands}
+use Rattle.osi_spdu.specs.declared.fields.ResyncType.TheVariants as resync
+
+-- One side requests nothing, the other requests a restart; their units and base are the same.
+pub record Asks (s r : State) : Type 0 where
+  pub lives : Lively s
+  pub asked : is_restarting r.phase ≡ true
+  pub units : r.units ≡ s.units
+  pub base : r.base ≡ s.base
+
+-- what is in flight to the one, and what it is to the other
+pub record Flow (s r : State) (us : List Meaning) : Type 0 where
+  pub fits : AllFit r us
+  pub heard : heard r us ≡ r
+  pub view : (v : List Item) → heard_view r us v ≡ v
+  pub end : (Lively (flush s us) × (flush r us ≡ r))
+      ⊎ ((is_restart_due (flush s us).phase ≡ true) × (flush r us ≡ crossed r (flush s us).numbers.next (flush s us).wishes))
+
+-- ---- what comes before a restart is discarded
+
+pub or_true : (b : Bool) → (b || true) ≡ true
+or_true b = grind arith
+
+not_asking : (s : State) → Lively s → is_restarting s.phase ≡ false
+not_asking s h = excluded is_lively is_restarting refl s.phase h
+
+before : (s : State) (u : Meaning) → Lively s → Fits s u → stops s u ≡ false → passes_restarting u ≡ false
+unfolding stands
+before s u h f st = grind (arith, not_asking, and_false)
+
+next_asks : (s r : State) (u : Meaning) → Asks s r → Fits s u → stops s u ≡ false → Asks (next s u) r
+next_asks s r u a f st = search (arith, excluded, fit_cases, becomes_open, becomes_lively)
+
+flow_before : (s r : State) (u : Meaning) (us : List Meaning) → Asks s r → Fits s u → stops s u ≡ false → Flow (next s u) r us → Flow s r (u ∷ us)
+flow_before s r u us a f st more = search (arith, drops_waiting, before, next_dropped, if_first)
+
+-- ---- the restart
+
+restart_kept_fits : (s r : State) (k : ResyncType) (n : ℕ) (w : TokenSetting) (o : List ℕ) → Asks s r → Fits s (RS k n w o) → Fits r (RS k n w o)
+restart_kept_fits s r k n w o a f = search (arith, restart_kept, and_parts)
+
+-- nothing comes after it
+after_due : (s : State) (us : List Meaning) → is_restart_due s.phase ≡ true → AllFit s us → AllEmpty us
+after_due s us d f = all_empty s us (λ u p. none_due s.phase u d p) (excluded is_restart_due is_restarting refl s.phase d) f
+
+flow_stop : (s r : State) (u : Meaning) (us : List Meaning) → Asks s r → Fits s u → stops s u ≡ true → AllFit (next s u) us → Flow s r (u ∷ us)
+unfolding restarted_at
+flow_stop s r u us a f st more = search (arith, after_due, restart_due, empty_end, restart_next, stood, restart_kept_fits, empty_fits, empty_heard, empty_view, yielded, restart_kept)
+
+pub restart_flow : (s r : State) (us : List Meaning) → Asks s r → AllFit s us → Flow s r us
+restart_flow s r [] a f = record { fits = tt; heard = refl; view = λ v. refl; end = inl (a.lives, refl) }
+restart_flow s r (u ∷ us) a f = by_test (stops s u)
+    (λ e. flow_stop s r u us a f.0 e f.1)
+    (λ e. let more : (stops s u ≡ false → Flow (next s u) r us) = (λ e. restart_flow (next s u) r us (next_asks s r u a f.0 e) f.1) in flow_before s r u us a f.0 e (more e))
+
+-- ---- which of two restarts takes effect
+
+asked_stands : (s : State) (n : ℕ) → is_restarting s.phase ≡ true → stands s n ≡ (nat_lt n s.numbers.next || ((n == s.numbers.next) && not s.is_caller))
+unfolding stands
+asked_stands s n r = rw r refl
+
+-- of two restarts that cross, exactly one takes effect
+of_two : (n m : ℕ) (c : Bool) → (nat_lt m n || ((m == n) && not c)) ≡ not (nat_lt n m || ((n == m) && not (not c)))
+of_two n m c = search (arith, cases_order, le-ltb, eq-eqb, lt-ltb, ne_eqb)
+
+pub one_stands : (s r : State) (n m : ℕ) → is_restarting s.phase ≡ true → is_restarting r.phase ≡ true → s.numbers.next ≡ n → r.numbers.next ≡ m
+    → r.is_caller ≡ not s.is_caller → stands s m ≡ not (stands r n)
+one_stands s r n m a b e f c = grind (arith, asked_stands, of_two)
+
+-- ---- two sides, one of which waits for the answer that the other owes
+
+pub record Met (a b : State) : Type 0 where
+  pub meets : matched a.phase b.phase ≡ true
+  pub turned : matched b.phase a.phase ≡ true
+  pub restart : is_restarting a.phase ≡ true → (a.numbers.next ≡ b.numbers.next) × (a.wishes ≡ b.wishes)
+  pub back : is_restarting b.phase ≡ true → (b.numbers.next ≡ a.numbers.next) × (b.wishes ≡ a.wishes)
+  pub connect : is_connecting a.phase ≡ false
+  pub other_connect : is_connecting b.phase ≡ false
+
+turn_met : (a b : State) → Met a b → Met b a
+turn_met a b m = record { meets = m.turned; turned = m.meets; restart = m.back; back = m.restart; connect = m.other_connect; other_connect = m.connect }
+
+meets_one : (a b : State) (n : ℕ) (w : TokenSetting) → is_restarting a.phase ≡ true → a.numbers.next ≡ n → a.wishes ≡ w → stands b n ≡ true → Met a (crossed b n w)
+unfolding restarted_at
+meets_one a b n w r e f st = subst (Met a) (sym (stood b n w st)) (grind (arith, matched))
+
+meets_both : (a b : State) (n m : ℕ) (w v : TokenSetting) → is_restarting a.phase ≡ true → a.numbers.next ≡ n → a.wishes ≡ w
+    → is_restarting b.phase ≡ true → b.numbers.next ≡ m → b.wishes ≡ v → b.is_caller ≡ not a.is_caller → Met (crossed a m v) (crossed b n w)
+meets_both a b n m w v r e f t g h c =
+    let one : stands a m ≡ not (stands b n) = one_stands a b n m r t e g c in
+    by_test (stands b n)
+    (λ st. subst (λ (q : State). Met q (crossed b n w)) (sym (yielded a m v (one ∙ ap not st))) (meets_one a b n w r e f st))
+    (λ st. subst (Met (crossed a m v)) (sym (yielded b n w st)) (turn_met b (crossed a m v) (meets_one b a m v t g h (one ∙ ap not st))))
+
+pub crossed_units : (s : State) (n : ℕ) (w : TokenSetting) → (crossed s n w).units ≡ s.units
+crossed_units s n w = by_test (stands s n) (λ e. rw e) (λ e. rw e)
+
+pub crossed_base : (s : State) (n : ℕ) (w : TokenSetting) → (crossed s n w).base ≡ s.base
+crossed_base s n w = by_test (stands s n) (λ e. rw e) (λ e. rw e)
+
+-- ---- the side that asks
+
+pub record Restarts (w : Core) (n : ℕ) : Type 0 where
+  pub phase : may_restart w.own.session.phase ≡ true
+  pub selected : w.own.session.units.resynchronize ≡ true
+  pub low : w.own.session.base ≤ n
+  pub top : n ≤ w.own.session.numbers.next
+
+abbrev pub asked : State → ℕ → TokenSetting → State
+asked s n t = record (without_tokens Restarting s) { wishes = t; numbers = restarted_at n s.numbers }
+
+given_own : (p : Owner) → false ≡ is_own (own_to_pool p)
+given_own p = grind arith
+
+given_absent : (p : Owner) → is_absent p ≡ true → is_absent (own_to_pool p) ≡ true
+given_absent p h = grind arith
+
+pub given_theirs : (p : Owner) → is_own (turned_owner p) ≡ is_own (turned_owner (own_to_pool p))
+given_theirs p = grind arith
+
+given_wanted : (p : Owner) → (is_own (turned_owner p) || is_to_own (turned_owner p)) ≡ (is_own (turned_owner (own_to_pool p)) || is_to_own (turned_owner (own_to_pool p)))
+given_wanted p = grind arith
+
+-- what the restart leaves of the history is what it leaves of what was seen
+pub same_cut : (base n : ℕ) (v h : List Item) → Begins v h → n ≤ base + points v → cutat base v n ≡ cutat base h n
+same_cut base n v h b le = sym (ap (λ (r : List Item). cutat base r n) (sym b.1) ∙ upto_append (n - base) v b.0 (omega arith))
+
+restart_met : (s : State) (n : ℕ) → s.base ≤ n → ((is_restarting s.phase ≡ false) → n ≤ s.numbers.next)
+    → (nat_le s.base n && (is_restarting s.phase || nat_le n s.numbers.next)) ≡ true
+restart_met s n from to = search (arith, le-leb)
+
+abbrev asker : Party → ℕ → TokenSetting → List ℕ → Party
+asker x n t o = record {
+  session = asked x.session n t;
+  view = cutat x.session.base x.view n;
+  said = x.said ++ [];
+  got = x.got;
+  sent = x.sent ++ RS resync.Restart n t o ∷ [];
+}
+
+module _ (w : Core) (n : ℕ) (t : TokenSetting) (o : List ℕ) (q : Restarts w n) (s : Stands w) where
+  -- this side and the other, when each has taken all; and this one after the call
+  abbrev fx : State
+  fx = flushed w.own w.peer
+
+  abbrev fy : State
+  fy = flushed w.peer w.own
+
+  abbrev end : State
+  end = flush (asked w.own.session n t) w.peer.sent
+
+  abbrev asks : Party
+  asks = asker w.own n t o
+
+  pub listens : is_restarting w.own.session.phase ≡ false
+  listens = excluded may_restart is_restarting refl w.own.session.phase q.phase
+
+  pub begun : is_opening w.own.session.phase ≡ false
+  begun = excluded may_restart is_opening refl w.own.session.phase q.phase
+
+  pub flows : Flow w.own.session (asked w.own.session n t) w.peer.sent
+  flows = restart_flow w.own.session (asked w.own.session n t) w.peer.sent
+      (record { lives = implied may_restart is_lively refl w.own.session.phase q.phase; asked = refl; units = refl; base = refl }) s.own.fits
+
+  -- the other side will owe it no answer
+  pub not_due : is_restart_due fy.phase ≡ false
+  not_due = none_owed w.owner w.own w.peer s.own listens
+
+  pub other_heard : hearing w.peer w.own ≡ fy
+  other_heard = heard_flush w.peer.session w.own.sent s.peer.fits not_due
+
+  pub other_units : fy.units ≡ w.own.session.units
+  other_units = sym s.own.meeting.units ∙ end_units w.owner w.own w.peer s.own begun
+
+  pub other_base : fy.base ≡ w.own.session.base
+  other_base = sym s.own.meeting.base ∙ (flush_open w.own.session w.peer.sent begun s.own.fits).base
+
+  -- if no restart arrives at this side, the other takes one; if one arrives, the other has requested it
+  pub other_takes : Lively fx → (takes_restart fy.phase ≡ true) × (is_restarting fy.phase ≡ false)
+  other_takes l = search (arith, and_from, implied_two, not-true)
+
+  pub other_asked : is_restart_due fx.phase ≡ true → is_restarting fy.phase ≡ true
+  other_asked d = phase_there is_restart_due is_restarting refl s.own d
+
+  -- the sides will meet
+  pub ends_meet : Met end (crossed fy n t)
+  unfolding restarted_at
+  ends_meet = elim flows.end [
+    | inl e ↦ subst (λ (r : State). Met r (crossed fy n t)) (sym e.1)
+        (meets_one (asked w.own.session n t) fy n t refl refl refl (listening_stands fy n (other_takes e.0).1))
+    | inr e ↦
+        let a = other_asked e.0 in
+        let same = s.peer.meeting.restart a in
+        let caller = ap (λ (r : State). r.is_caller) (deaf_end w.peer.session w.own.sent a s.peer.fits) ∙ s.pair.callers in
+        subst (λ (r : State). Met r (crossed fy n t)) (sym e.1)
+        (meets_both (asked w.own.session n t) fy n fx.numbers.next t fx.wishes refl refl refl a same.0 same.1 caller)
+  ]
+
+  -- ---- the restart fits
+
+  -- this side has seen no more than there is
+  pub own_hears : hears (hearing w.own w.peer).phase ≡ true
+  own_hears =
+      kept_heard (λ (r : State). hears r.phase ≡ true) (λ r u h f. next_hears r u h) w.own.session w.peer.sent (ap not listens) s.own.fits
+
+  other_top : is_restarting fy.phase ≡ false → n ≤ fy.numbers.next
+  other_top l =
+      let e = other_heard in
+      let heeds = ap (λ (r : State). hears r.phase) e ∙ ap not l in
+      let all = listener_count w.history w.peer w.own s.consistent.peer s.peer.fits s.peer_views heeds in
+      let there = sym (ap (λ (r : State). r.numbers.next) e) ∙ all ∙ ap (λ (r : State). r.base + points w.history) e in
+      let base = other_base in
+      let seen = begins_points w.own.view w.history (listener_begins w.history w.own w.peer s.own_views own_hears) in
+      let count = s.consistent.own.count in
+      let top = q.top in
+      omega arith
+
+  pub restart_fits : Fits fy (RS resync.Restart n t o)
+  restart_fits = record {
+    plain = refl;
+    good = λ d. record {
+      expected = elim flows.end [
+        | inl e ↦ (other_takes e.0).0
+        | inr e ↦ implied is_restarting takes_restart refl fy.phase (other_asked e.0)
+      ];
+      met = (
+        (rw (ap (λ (u : FunctionalUnits). u.resynchronize) other_units ∙ q.selected) refl),
+        (restart_met fy n (subst (λ (b : ℕ). b ≤ n) (sym other_base) q.low) other_top, tt),
+      );
+    };
+  }
+
+  -- ---- both sides after the call
+
+  -- the other, when all is taken, and before that restart
+  other_end : flush w.peer.session (w.own.sent ++ RS resync.Restart n t o ∷ []) ≡ crossed fy n t
+  other_end = flush_append w.peer.session w.own.sent (RS resync.Restart n t o) ∙ restart_next fy resync.Restart n t o
+
+  other_before : heard w.peer.session (w.own.sent ++ RS resync.Restart n t o ∷ []) ≡ hearing w.peer w.own
+  other_before = heard_restart w.peer.session w.own.sent resync.Restart n t o s.peer.fits not_due ∙ sym other_heard
+
+  own_units : end.units ≡ w.own.session.units
+  own_units = (flush_open (asked w.own.session n t) w.peer.sent refl flows.fits).units
+
+  own_base : end.base ≡ w.own.session.base
+  own_base = (flush_open (asked w.own.session n t) w.peer.sent refl flows.fits).base
+
+  was_units : fx.units ≡ w.own.session.units
+  was_units = (flush_open w.own.session w.peer.sent begun s.own.fits).units
+
+  -- ---- the two halves
+
+  own_half : Half (given_up w.owner) asks w.peer
+  own_half =
+      let flow : Flow w.own.session (asked w.own.session n t) w.peer.sent = flows in
+      let met : Met end (crossed fy n t) = ends_meet in
+      record {
+        fits = flow.fits;
+        meeting = subst (λ (e : State). Meeting (given_up w.owner) (asked w.own.session n t) end e (heard (asked w.own.session n t) w.peer.sent) w.peer.session) (sym other_end)
+            (subst (λ (e : State). Meeting (given_up w.owner) (asked w.own.session n t) end (crossed fy n t) e w.peer.session) (sym flow.heard) (record {
+              meets = met.meets;
+              units = own_units ∙ sym (crossed_units fy n t ∙ other_units);
+              base = own_base ∙ sym (crossed_base fy n t ∙ other_base);
+              restart = met.restart;
+              connect = λ c. absurd (let e = met.connect in cc);
+              holds = λ k. none_held k ∙ given_own (w.owner k);
+              wants = λ m. absurd (cc);
+              absent = λ k z. given_absent (w.owner k) (s.own.meeting.absent k
+                  (ap (λ (u : FunctionalUnits). has (available u) k) (was_units ∙ sym own_units) ∙ z));
+              released = λ d. absurd (cc);
+            }));
+      }
+
+  -- the other owes no answer to a release
+  no_release : is_release_due (hearing w.peer w.own).phase ≡ true → ⊥
+  no_release d = grind arith
+
+  peer_half : Half (turned_owners (given_up w.owner)) w.peer asks
+  peer_half =
+      let end : State = end in
+      let met : Met end (crossed fy n t) = ends_meet in
+      record {
+        fits = fit_append w.peer.session w.own.sent (RS resync.Restart n t o) s.peer.fits restart_fits;
+        meeting = subst (λ (e : State). Meeting (turned_owners (given_up w.owner)) w.peer.session e end (heard w.peer.session (w.own.sent ++ RS resync.Restart n t o ∷ [])) (asked w.own.session n t)) (sym other_end)
+            (subst (λ (e : State). Meeting (turned_owners (given_up w.owner)) w.peer.session (crossed fy n t) end e (asked w.own.session n t)) (sym other_before) (record {
+              meets = met.turned;
+              units = sym (own_units ∙ sym (crossed_units fy n t ∙ other_units));
+              base = sym (own_base ∙ sym (crossed_base fy n t ∙ other_base));
+              restart = met.back;
+              connect = λ c. absurd (let e = met.other_connect in cc);
+              holds = λ k. s.peer.meeting.holds k ∙ given_theirs (w.owner k);
+              wants = λ m k. s.peer.meeting.wants m k ∙ given_wanted (w.owner k);
+              absent = λ k z. grind arith;
+              released = λ d. absurd (no_release d);
+            }));
+      }
+
+  -- ---- what was seen
+
+  own_views : Views (w.history ++ []) asks w.peer
+  unfolding restarted_at
+  own_views = record {
+    ends = λ l. absurd (let e = subst (λ (r : State). hears r.phase ≡ true) flows.heard l in cc);
+    cut = λ c.
+        let le = subst (λ (k : ℕ). n ≤ k) s.consistent.own.count q.top in
+        same_cut w.own.session.base n w.own.view w.history (listener_begins w.history w.own w.peer s.own_views own_hears) le
+        ∙ ap (λ (h : List Item). cutat w.own.session.base h n) (sym (append-nil w.history));
+    due = λ d. absurd (cc);
+    stream = λ d.
+        let k = s.own_views.stream (ap (λ (u : FunctionalUnits). u.duplex) (was_units ∙ sym own_units) ∙ d) in
+        (k.0, append-nil w.history ∙ k.1);
+  }
+
+  peer_views : Views (w.history ++ []) w.peer asks
+  peer_views = record {
+    ends = λ l. view_restart w.peer.session w.own.sent resync.Restart n t o w.peer.view s.peer.fits not_due
+        ∙ s.peer_views.ends (subst (λ (r : State). hears r.phase ≡ true) other_before l) ∙ sym (append-nil w.history);
+    cut = λ c. s.peer_views.cut (subst (λ (r : State). is_restarting r.phase ≡ true) other_before c)
+        ∙ ap (λ (h : List Item). cutat w.peer.session.base h w.peer.session.numbers.next) (sym (append-nil w.history));
+    due = λ d. absurd (
+        let e = due_end w.peer.session w.own.sent d s.peer.fits in
+        let f = subst (λ (r : State). is_restart_due r.phase ≡ true) (sym e) d in
+        let g = not_due in
+        cc);
+    stream = λ d. streams (s.peer_views.stream (duplex d));
+  }
+    where
+      duplex : (flush w.peer.session (w.own.sent ++ RS resync.Restart n t o ∷ [])).units.duplex ≡ true → fy.units.duplex ≡ true
+      duplex d = ap (λ (u : FunctionalUnits). u.duplex) (sym (crossed_units fy n t)) ∙ ap (λ (r : State). r.units.duplex) (sym other_end) ∙ d
+
+      streams : (w.peer.got ++ data_of w.own.sent ≡ w.own.said) × (w.history ≡ [])
+          → (w.peer.got ++ data_of (w.own.sent ++ RS resync.Restart n t o ∷ []) ≡ w.own.said ++ []) × (w.history ++ [] ≡ [])
+      streams old = (
+        ap (λ (d : List (List ℕ)). w.peer.got ++ d) (data_append w.own.sent (RS resync.Restart n t o ∷ []) ∙ append-nil (data_of w.own.sent)) ∙ old.0 ∙ sym (append-nil w.own.said),
+        append-nil w.history ∙ old.1,
+      )
+
+  -- ---- the numbers
+
+  grown : Grown w.own.session.numbers.confirmed (hearing w.own w.peer)
+  grown =
+      heard_grown w.own.session.numbers.confirmed w.own.session w.peer.sent
+      (record { phase = begun; from = omega arith; to = s.consistent.own.sound.ordered.confirmed_to }) s.own.fits
+
+  own_counts : Counts asks w.peer
+  unfolding restarted_at
+  own_counts =
+      subst (λ (e : State). Counting (asked w.own.session n t) e (heard w.peer.session (w.own.sent ++ RS resync.Restart n t o ∷ [])) w.peer.session) (sym flows.heard)
+      (subst (λ (e : State). Counting (asked w.own.session n t) (asked w.own.session n t) e w.peer.session) (sym other_before) (record {
+        flag = s.own_counts.flag;
+        below = λ l k from to.
+            let up = lower_second n w.own.session.numbers.confirmed in
+            let grew = grown.from in
+            let base = (heard_open w.own.session w.peer.sent begun s.own.fits).base in
+            s.own_counts.below l k (omega arith) (omega arith);
+        reach = λ f.
+            let up = lower_second n w.own.session.numbers.confirmed in
+            let grew = grown.from in
+            lower_less w.peer.session.numbers.next _ _ w.peer.session.numbers.confirmed (omega arith) (s.own_counts.reach f);
+      }))
+
+  peer_counts : Counts w.peer asks
+  unfolding restarted_at
+  peer_counts =
+      subst (λ (e : State). Counting w.peer.session e (heard (asked w.own.session n t) w.peer.sent) (asked w.own.session n t)) (sym other_before)
+      (subst (λ (e : State). Counting w.peer.session (hearing w.peer w.own) e (asked w.own.session n t)) (sym flows.heard) (record {
+        flag = λ f. by_test (w.own.session.numbers.answers)
+            (λ e. let f : (hearing w.own w.peer).numbers.answers ≡ false = (s.peer_counts.flag f) in absurd (let k = (heard_turned w.own.session w.peer.sent (record { phase = begun; answers = e }) s.own.fits).answers in cc))
+            (λ e. e);
+        below = λ l. absurd (cc);
+        reach = λ f. lower_both n w.own.session.numbers.next _ w.own.session.numbers.confirmed q.top (s.peer_counts.reach f);
+      }))
+
+  -- ---- both at once
+
+  pair_kept : Pair (w.history ++ []) asks w.peer
+  pair_kept =
+      let was : fx.base ≡ w.own.session.base = (flush_open w.own.session w.peer.sent begun s.own.fits).base in
+      let same : fx.units ≡ end.units = was_units ∙ sym own_units in
+      grind (arith, asked, append-nil, own_base, list_any_append, IsOfProfile)
+
+-- ---- the call
+
+all_kept : (w : Core) (n : ℕ) (wishes : TokenSetting) (o : List ℕ) → Restarts w n → Stands w
+    → AreConsistent (answered w (Restart n wishes o) (Ok (record { next = asked w.own.session n (offered w.own.session.units wishes); sent = RS resync.Restart n (offered w.own.session.units wishes) o })))
+    → Stands (answered w (Restart n wishes o) (Ok (record { next = asked w.own.session n (offered w.own.session.units wishes); sent = RS resync.Restart n (offered w.own.session.units wishes) o })))
+all_kept w n wishes o q s c = search (arith, own_half, peer_half, own_views, peer_views, own_counts, peer_counts, pair_kept)
+
+pub in_range : (s : State) (n : ℕ) → IsSound s → is_restartable s n ≡ true → (s.base ≤ n) × (n ≤ s.numbers.next)
+in_range s n sound h = grind (arith, and_parts, leb-true, below_if)
+
+pub restart_stands : (w : Core) (n : ℕ) (wishes : TokenSetting) (o : List ℕ) → IsGranted w (Restart n wishes o) → Stands w
+    → Stands (answered w (Restart n wishes o) (Ok (granted w.own.session (Restart n wishes o))))
+restart_stands w n wishes o p s =
+    let range = in_range w.own.session n s.consistent.own.sound p.needed.1.0 in
+    all_kept w n wishes o (record { phase = p.phase; selected = p.needed.0; low = range.0; top = range.1 }) s p.kept

@@ -1,0 +1,157 @@
+-- A side that has requested a restart, expects nothing or is being opened discards what is in flight to it.
+-- For restarts, and for connections that are being opened.
+use Rattle.std.proofs.Common.{◌≡◌, refl, sym, ◌∙◌, ap, subst, ℕ, Bool, true, false, not, ◌&&◌, ◌||◌, if◌then◌else◌, List, [], ◌∷◌, ◌++◌}
+use Rattle.std.proofs.Common.{◌⊎◌, inl, inr, arith}
+use Rattle.osi_machine.proofs.Vocabulary.{TokenSetting, ResyncType, State, RestartDue, Meaning, RS, is_restarting, is_restart_due}
+use Rattle.osi_machine.proofs.Vocabulary.{is_expected, has_no_effect, passes_restarting, without_tokens, restarted_at, stands, drops, next}
+use Rattle.osi_machine.proofs.Vocabulary.{Item, seen, is_plain, Fits, AllFit, flush, stops, heard, hears, view_next, heard_view, or_left}
+use Rattle.osi_machine.proofs.Vocabulary.{Phase, is_connecting, is_answering, becomes, Good, both_ways}
+use Rattle.osi_machine.proofs.basics.what_holds_in_each_phase.{excluded, if_first, by_test}
+use Rattle.osi_machine.proofs.channels.a_unit_is_dropped_bad_or_acted_on.{next_dropped, next_acted, and_false}
+use Rattle.osi_machine.proofs.channels.what_every_unit_in_flight_keeps.{hears_kept, heard_flush, heard_append, view_append}
+
+-- ---- units that have no effect
+
+abbrev pub AllEmpty : List Meaning → Type 0
+AllEmpty [] = Unit {0}
+AllEmpty (u ∷ us) = (has_no_effect u ≡ true) × AllEmpty us
+
+empty_dropped : (s : State) (u : Meaning) → has_no_effect u ≡ true → drops s u ≡ true
+empty_dropped s u h = or_left (has_no_effect u) (is_restarting s.phase && not (passes_restarting u)) h
+
+empty_plain : (u : Meaning) → has_no_effect u ≡ true → is_plain u ≡ true
+empty_plain u h = grind arith
+
+pub empty_fits : (s : State) (us : List Meaning) → AllEmpty us → AllFit s us
+empty_fits s [] h = tt
+empty_fits s (u ∷ us) h =
+    let d = empty_dropped s u h.0 in (
+      record { plain = empty_plain u h.0; good = λ e. absurd (cc) },
+      subst (λ (r : State). AllFit r us) (sym (next_dropped s u d)) (empty_fits s us h.1),
+    )
+
+pub empty_end : (s : State) (us : List Meaning) → AllEmpty us → flush s us ≡ s
+empty_end s [] h = refl
+empty_end s (u ∷ us) h = ap (λ (r : State). flush r us) (next_dropped s u (empty_dropped s u h.0)) ∙ empty_end s us h.1
+
+pub empty_heard : (s : State) (us : List Meaning) → AllEmpty us → heard s us ≡ s
+empty_heard s [] h = refl
+empty_heard s (u ∷ us) h =
+    if_first (stops s u) s (heard (next s u) us)
+    (ap (λ (r : State). heard r us) (next_dropped s u (empty_dropped s u h.0)) ∙ empty_heard s us h.1)
+
+pub empty_view : (s : State) (us : List Meaning) (v : List Item) → AllEmpty us → heard_view s us v ≡ v
+empty_view s [] v h = refl
+empty_view s (u ∷ us) v h =
+    let d = empty_dropped s u h.0 in
+    let same : view_next s u v ≡ v = ap (λ (b : Bool). if b then v else seen s u v) d in
+    if_first (stops s u) v (heard_view (next s u) us (view_next s u v))
+    (ap (λ (r : State). heard_view r us (view_next s u v)) (next_dropped s u d) ∙ ap (heard_view s us) same ∙ empty_view s us v h.1)
+
+-- to a side that expects no unit, only such units come
+pub dropped_empty : (e r p : Bool) → (e || (r && not p)) ≡ true → r ≡ false → e ≡ true
+dropped_empty e r p h k = grind arith
+
+dropped_here : (s : State) (u : Meaning) → is_expected s.phase u ≡ false → Fits s u → drops s u ≡ true
+dropped_here s u none f = by_test (drops s u) (λ d. d) (λ d. absurd (let e = (f.good d).expected in cc))
+
+pub all_empty : (s : State) (us : List Meaning) → ((u : Meaning) → is_plain u ≡ true → is_expected s.phase u ≡ false) → is_restarting s.phase ≡ false
+    → AllFit s us → AllEmpty us
+all_empty s [] none listens f = tt
+all_empty s (u ∷ us) none listens f =
+    let d = dropped_here s u (none u f.0.plain) f.0 in (
+      dropped_empty (has_no_effect u) (is_restarting s.phase) (passes_restarting u) d listens,
+      all_empty s us none listens (subst (λ (r : State). AllFit r us) (next_dropped s u d) f.1),
+    )
+
+-- ---- a restart
+
+-- a side, once it has taken an RS
+abbrev pub crossed : State → ℕ → TokenSetting → State
+crossed s n w = if stands s n then record (without_tokens RestartDue s) { wishes = w; numbers = restarted_at n s.numbers } else s
+
+pub restart_kept : (s : State) (k : ResyncType) (n : ℕ) (w : TokenSetting) (o : List ℕ) → drops s (RS k n w o) ≡ false
+restart_kept s k n w o = and_false (is_restarting s.phase)
+
+pub restart_next : (s : State) (k : ResyncType) (n : ℕ) (w : TokenSetting) (o : List ℕ) → next s (RS k n w o) ≡ crossed s n w
+restart_next s k n w o = next_acted s (RS k n w o) (restart_kept s k n w o)
+
+pub yielded : (s : State) (n : ℕ) (w : TokenSetting) → stands s n ≡ false → crossed s n w ≡ s
+yielded s n w e = ap (λ (b : Bool). if b then record (without_tokens RestartDue s) { wishes = w; numbers = restarted_at n s.numbers } else s) e
+
+pub stood : (s : State) (n : ℕ) (w : TokenSetting) → stands s n ≡ true
+    → crossed s n w ≡ record (without_tokens RestartDue s) { wishes = w; numbers = restarted_at n s.numbers }
+stood s n w e = ap (λ (b : Bool). if b then record (without_tokens RestartDue s) { wishes = w; numbers = restarted_at n s.numbers } else s) e
+
+-- a restart that does not take effect shows nothing
+pub yielded_view : (s : State) (k : ResyncType) (n : ℕ) (w : TokenSetting) (o : List ℕ) (v : List Item) → stands s n ≡ false → view_next s (RS k n w o) v ≡ v
+yielded_view s k n w o v e = grind arith
+
+-- what its receiver has taken before the restart
+pub heard_restart : (s : State) (us : List Meaning) (k : ResyncType) (n : ℕ) (w : TokenSetting) (o : List ℕ) → AllFit s us → is_restart_due (flush s us).phase ≡ false
+    → heard s (us ++ RS k n w o ∷ []) ≡ flush s us
+heard_restart s us k n w o f due = search (arith, heard_append, restart_next, yielded)
+
+pub view_restart : (s : State) (us : List Meaning) (k : ResyncType) (n : ℕ) (w : TokenSetting) (o : List ℕ) (v : List Item) → AllFit s us
+    → is_restart_due (flush s us).phase ≡ false → heard_view s (us ++ RS k n w o ∷ []) v ≡ heard_view s us v
+view_restart s us k n w o v f due = search (arith, view_append, yielded_view)
+
+-- ---- a side that has requested a restart, and will wait for the answer when all was taken
+
+-- a unit changes nothing there and shows nothing, or is the answer or a restart that takes effect
+abbrev Passes : State → Meaning → State → Type 0
+Passes s u r = ((r ≡ s) × ((v : List Item) → view_next s u v ≡ v)) ⊎ (hears r.phase ≡ true)
+
+deaf_next : (s : State) (u : Meaning) → is_restarting s.phase ≡ true → Fits s u → Passes s u (next s u)
+deaf_next s u r f = grind arith
+
+-- a side that will wait has asked already
+pub not_both : (b : Bool) → not b ≡ true → b ≡ true → ⊥
+not_both b p q = grind arith
+
+pub deaf_end : (s : State) (us : List Meaning) → is_restarting (flush s us).phase ≡ true → AllFit s us → flush s us ≡ s
+deaf_end s [] r f = refl
+deaf_end s (u ∷ us) r f = elim (deaf_next s u (by_test (is_restarting s.phase) (λ e. e) (λ e. absurd (not_both _ (hears_kept s (u ∷ us) (ap not e) f) r))) f.0) [
+  | inl e ↦ ap (λ (q : State). flush q us) e.0
+      ∙ deaf_end s us (subst (λ (q : State). is_restarting (flush q us).phase ≡ true) e.0 r) (subst (λ (q : State). AllFit q us) e.0 f.1)
+  | inr l ↦ absurd (not_both _ (hears_kept (next s u) us l f.1) r)
+]
+
+pub deaf_heard : (s : State) (us : List Meaning) → is_restarting (flush s us).phase ≡ true → AllFit s us → heard s us ≡ s
+deaf_heard s us r f = heard_flush s us f (excluded is_restarting is_restart_due refl (flush s us).phase r) ∙ deaf_end s us r f
+
+pub deaf_view : (s : State) (us : List Meaning) (v : List Item) → is_restarting (flush s us).phase ≡ true → AllFit s us → heard_view s us v ≡ v
+deaf_view s [] v r f = refl
+deaf_view s (u ∷ us) v r f = elim (deaf_next s u (by_test (is_restarting s.phase) (λ e. e) (λ e. absurd (not_both _ (hears_kept s (u ∷ us) (ap not e) f) r))) f.0) [
+  | inl e ↦ if_first (stops s u) v (heard_view (next s u) us (view_next s u v))
+      (ap (λ (q : State). heard_view q us (view_next s u v)) e.0 ∙ ap (heard_view s us) (e.1 v)
+      ∙ deaf_view s us v (subst (λ (q : State). is_restarting (flush q us).phase ≡ true) e.0 r) (subst (λ (q : State). AllFit q us) e.0 f.1))
+  | inr l ↦ absurd (not_both _ (hears_kept (next s u) us l f.1) r)
+]
+
+-- a side that owes the answer to a CN expects nothing
+pub none_answering : (p : Phase) (u : Meaning) → is_answering p ≡ true → is_plain u ≡ true → is_expected p u ≡ false
+none_answering p u h k = grind arith
+
+-- ---- a side that will still wait for the answer to its CN has taken nothing
+
+abbrev Later : State → Type 0
+Later s = is_connecting s.phase ≡ false
+
+becomes_later : (s : State) (u : Meaning) → is_plain u ≡ true → Good s u → Later (becomes s u)
+becomes_later s u p g = grind arith
+
+-- a unit that leaves it waiting was discarded
+waiting_drops : (s : State) (u : Meaning) → Fits s u → is_connecting (next s u).phase ≡ true → drops s u ≡ true
+waiting_drops s u f c = search (arith, both_ways, becomes_later, next_acted)
+
+-- it has waited all the time, and nothing was in flight
+pub waiting : (s : State) (us : List Meaning) → is_connecting (flush s us).phase ≡ true → AllFit s us → AllEmpty us × (is_connecting s.phase ≡ true)
+waiting s [] c f = (tt, c)
+waiting s (u ∷ us) c f =
+    let more = waiting (next s u) us c f.1 in
+    let d = waiting_drops s u f.0 more.1 in
+    let now = subst (λ (r : State). is_connecting r.phase ≡ true) (next_dropped s u d) more.1 in (
+      (dropped_empty (has_no_effect u) (is_restarting s.phase) (passes_restarting u) d (excluded is_connecting is_restarting refl s.phase now), more.0),
+      now,
+    )

@@ -1,0 +1,171 @@
+-- What one more unit does to a channel, and what all units in flight keep, the direction of points too.
+-- For the steps of both sides: a call adds a unit at the end.
+use Rattle.std.proofs.Common.{◌≡◌, refl, sym, ◌∙◌, ap, subst, ℕ, Bool, true, false, if◌then◌else◌, List, [], ◌∷◌, ◌++◌, append_assoc, arith}
+use Rattle.std.proofs.Common.{◌≤◌, ◌<◌, nat_lt}
+use Rattle.osi_machine.proofs.Vocabulary.{State, Meaning, is_restart_due, next, Fits, AllFit, flush, stops, heard, hears, view_next}
+use Rattle.osi_machine.proofs.Vocabulary.{heard_view, data_in, data_of, Item, ltb-true, ltb-false, or_parts, list_any, data_token, lower}
+use Rattle.osi_machine.proofs.Vocabulary.{point_taken, minor_confirmed, major_confirmed, restarted_at, becomes, Good, is_plain, needs_token}
+use Rattle.osi_machine.proofs.Vocabulary.{is_opening}
+use Rattle.osi_machine.proofs.basics.what_holds_in_each_phase.{by_test}
+use Rattle.osi_machine.proofs.channels.a_unit_is_dropped_bad_or_acted_on.{next_hears, due_next, due_stops, due_view, restart_due, chosen}
+use Rattle.osi_machine.proofs.channels.a_unit_is_dropped_bad_or_acted_on.{next_cases, fit_cases}
+
+pub fit_append : (s : State) (us : List Meaning) (m : Meaning) → AllFit s us → Fits (flush s us) m → AllFit s (us ++ m ∷ [])
+fit_append s [] m h f = (f, tt)
+fit_append s (u ∷ us) m h f = (h.0, fit_append (next s u) us m h.1 f)
+
+pub flush_append : (s : State) (us : List Meaning) (m : Meaning) → flush s (us ++ m ∷ []) ≡ next (flush s us) m
+flush_append s [] m = refl
+flush_append s (u ∷ us) m = flush_append (next s u) us m
+
+-- ---- what every unit in flight preserves
+
+pub kept_all : (P : State → Type 0) → ((s : State) (u : Meaning) → P s → Fits s u → P (next s u)) →
+    (s : State) (us : List Meaning) → P s → AllFit s us → P (flush s us)
+kept_all P step s [] h f = h
+kept_all P step s (u ∷ us) h f = kept_all P step (next s u) us (step s u h f.0) f.1
+
+pub kept_heard : (P : State → Type 0) → ((s : State) (u : Meaning) → P s → Fits s u → P (next s u)) →
+    (s : State) (us : List Meaning) → P s → AllFit s us → P (heard s us)
+kept_heard P step s [] h f = h
+kept_heard P step s (u ∷ us) h f = chosen P (stops s u) _ _ h (kept_heard P step (next s u) us (step s u h f.0) f.1)
+
+pub hears_kept : (s : State) (us : List Meaning) → hears s.phase ≡ true → AllFit s us → hears (flush s us).phase ≡ true
+hears_kept = kept_all (λ s. hears s.phase ≡ true) (λ s u h f. next_hears s u h)
+
+-- ---- no unit in flight to a side that owes the answer to a restart is acted on
+
+pub due_end : (s : State) (us : List Meaning) → is_restart_due s.phase ≡ true → AllFit s us → flush s us ≡ s
+due_end s [] h f = refl
+due_end s (u ∷ us) h f =
+    let e = due_next s u h f.0 in
+    due_end (next s u) us (subst (λ (r : State). is_restart_due r.phase ≡ true) (sym e) h) f.1 ∙ e
+
+pub due_heard : (s : State) (us : List Meaning) → is_restart_due s.phase ≡ true → AllFit s us → heard s us ≡ s
+due_heard s [] h f = refl
+due_heard s (u ∷ us) h f =
+    let e = due_next s u h f.0 in
+    let more = due_heard (next s u) us (subst (λ (r : State). is_restart_due r.phase ≡ true) (sym e) h) f.1 ∙ e in
+    rw (due_stops s u h f.0) more
+
+-- ---- if no restart takes effect, everything is received
+
+no_stop : (s : State) (u : Meaning) (us : List Meaning) → AllFit s (u ∷ us) → is_restart_due (flush s (u ∷ us)).phase ≡ false → stops s u ≡ false
+no_stop s u us f n = search (arith, restart_due, due_end)
+
+pub heard_flush : (s : State) (us : List Meaning) → AllFit s us → is_restart_due (flush s us).phase ≡ false → heard s us ≡ flush s us
+heard_flush s [] f n = refl
+heard_flush s (u ∷ us) f n = rw (no_stop s u us f n) (heard_flush (next s u) us f.1 n)
+
+pub heard_append : (s : State) (us : List Meaning) (m : Meaning) → AllFit s us → is_restart_due (flush s us).phase ≡ false →
+    heard s (us ++ m ∷ []) ≡ (if stops (flush s us) m then flush s us else next (flush s us) m)
+heard_append s [] m f n = refl
+heard_append s (u ∷ us) m f n = rw (no_stop s u us f n) (heard_append (next s u) us m f.1 n)
+
+-- if one takes effect already, another unit changes nothing
+pub heard_append_due : (s : State) (us : List Meaning) (m : Meaning) → AllFit s (us ++ m ∷ []) → is_restart_due (flush s us).phase ≡ true →
+    heard s (us ++ m ∷ []) ≡ heard s us
+heard_append_due s [] m f n = due_heard s (m ∷ []) n f
+heard_append_due s (u ∷ us) m f n = ap (λ (r : State). if stops s u then s else r) (heard_append_due (next s u) us m f.1 n)
+
+-- ---- what was seen
+
+pub view_append : (s : State) (us : List Meaning) (m : Meaning) (v : List Item) → AllFit s us → is_restart_due (flush s us).phase ≡ false →
+    heard_view s (us ++ m ∷ []) v ≡ (if stops (flush s us) m then heard_view s us v else view_next (flush s us) m (heard_view s us v))
+view_append s [] m v f n = refl
+view_append s (u ∷ us) m v f n = rw (no_stop s u us f n) (view_append (next s u) us m (view_next s u v) f.1 n)
+
+-- if one takes effect already, another unit shows nothing
+pub view_append_due : (s : State) (us : List Meaning) (m : Meaning) (v : List Item) → AllFit s (us ++ m ∷ []) → is_restart_due (flush s us).phase ≡ true →
+    heard_view s (us ++ m ∷ []) v ≡ heard_view s us v
+view_append_due s [] m v f n = rw (due_stops s m n f.0) (due_view s m v n f.0)
+view_append_due s (u ∷ us) m v f n = ap (λ (r : List Item). if stops s u then v else r) (view_append_due (next s u) us m (view_next s u v) f.1 n)
+
+-- ---- data
+
+pub data_append : (us vs : List Meaning) → data_of (us ++ vs) ≡ data_of us ++ data_of vs
+data_append [] vs = refl
+data_append (u ∷ us) vs = ap (λ (d : List (List ℕ)). data_in u ++ d) (data_append us vs) ∙ sym (append_assoc (data_in u) (data_of us) (data_of vs))
+
+-- ---- two states that a channel runs through alike
+
+pub record Steps (R : State → State → Type 0) (s r : State) (u : Meaning) : Type 0 where
+  pub fits : Fits r u
+  pub stops : stops r u ≡ stops s u
+  pub next : R (next s u) (next r u)
+
+pub record Runs (R : State → State → Type 0) (s r : State) (us : List Meaning) : Type 0 where
+  pub fits : AllFit r us
+  pub flush : R (flush s us) (flush r us)
+  pub heard : R (heard s us) (heard r us)
+
+pub alike : (R : State → State → Type 0) → ((s r : State) (u : Meaning) → R s r → Fits s u → Steps R s r u) →
+    (s r : State) (us : List Meaning) → R s r → AllFit s us → Runs R s r us
+alike R step s r [] h f = record { fits = tt; flush = h; heard = h }
+alike R step s r (u ∷ us) h f =
+    let one = step s r u h f.0 in
+    let more = alike R step (next s u) (next r u) us one.next f.1 in
+    grind (arith, by_test)
+
+-- and what is seen is the same, if each unit shows the same
+pub alike_view : (R : State → State → Type 0) → ((s r : State) (u : Meaning) → R s r → Fits s u → Steps R s r u) →
+    ((s r : State) (u : Meaning) (v : List Item) → R s r → view_next r u v ≡ view_next s u v) →
+    (s r : State) (us : List Meaning) (v : List Item) → R s r → AllFit s us → heard_view r us v ≡ heard_view s us v
+alike_view R step shows s r [] v h f = refl
+alike_view R step shows s r (u ∷ us) v h f =
+    let one = step s r u h f.0 in
+    let more = alike_view R step shows (next s u) (next r u) us (view_next s u v) one.next f.1 in
+    ap (λ (b : Bool). if b then v else heard_view (next r u) us (view_next r u v)) one.stops
+    ∙ ap (λ (w : List Item). if stops s u then v else w) (ap (heard_view (next r u) us) (shows s r u v h) ∙ more)
+
+-- ---- the lower of two numbers
+
+lower_by : (n m k : ℕ) → (n < m → n ≤ k) → (m ≤ n → m ≤ k) → lower n m ≤ k
+lower_by n m k f g = grind (arith, ltb-true, ltb-false)
+
+pub lower_first : (n m : ℕ) → lower n m ≤ n
+lower_first n m = lower_by n m n (λ l. omega arith) (λ l. l)
+
+pub lower_second : (n m : ℕ) → lower n m ≤ m
+lower_second n m = lower_by n m m (λ l. omega arith) (λ l. omega arith)
+
+-- a lower bound of both is one of the lower
+pub lower_from : (n m k : ℕ) → k ≤ n → k ≤ m → k ≤ lower n m
+lower_from n m k p q = by_test (nat_lt n m) (λ e. rw e p) (λ e. rw e q)
+
+-- of lower numbers
+pub lower_less : (m a b c : ℕ) → a ≤ b → lower m b ≤ c → lower m a ≤ c
+lower_less m a b c le h = grind (arith, lower_first, lower_second, lower_from)
+
+pub lower_both : (n m a c : ℕ) → n ≤ m → lower m a ≤ c → lower n a ≤ lower n c
+lower_both n m a c le h = grind (arith, lower_first, lower_second, lower_from)
+
+-- ---- the direction of points
+
+-- an open connection on which points were taken last
+pub record Turned (s : State) : Type 0 where
+  pub phase : is_opening s.phase ≡ false
+  pub answers : s.numbers.answers ≡ true
+
+becomes_turned : (s : State) (u : Meaning) → is_plain u ≡ true → Good s u → Turned s → Turned (becomes s u)
+unfolding point_taken minor_confirmed major_confirmed restarted_at
+becomes_turned s u p g h = grind arith
+
+-- no unit turns it back
+pub heard_turned : (s : State) (us : List Meaning) → Turned s → AllFit s us → Turned (heard s us)
+heard_turned = kept_heard Turned (λ s u h f. fit_cases Turned s u f h (λ d g. becomes_turned s u f.plain g h))
+
+abbrev Sends : State → Type 0
+Sends s = s.numbers.answers ≡ false
+
+-- none but a point turns it
+becomes_sends : (s : State) (u : Meaning) → needs_token data_token u ≡ false → Sends s → Sends (becomes s u)
+unfolding point_taken minor_confirmed major_confirmed restarted_at
+becomes_sends s u p h = grind arith
+
+pub heard_sends : (s : State) (us : List Meaning) → list_any (needs_token data_token) us ≡ false → s.numbers.answers ≡ false → (heard s us).numbers.answers ≡ false
+heard_sends s [] n h = h
+heard_sends s (u ∷ us) n h =
+    let p = or_parts (needs_token data_token u) (list_any (needs_token data_token) us) n in
+    chosen Sends (stops s u) s (heard (next s u) us) h
+    (heard_sends (next s u) us p.1 (next_cases Sends s u (λ d. h) (λ d. becomes_sends s u p.0 h)))

@@ -1,0 +1,252 @@
+-- Each call and each unit keeps what holds of one side by itself.
+-- For the law `what_is_true_of_each_side`, and for the invariant of both.
+use Rattle.std.proofs.Common.{◌≡◌, refl, ◌∙◌, ℕ, ◌+◌, ◌≤◌, Bool, true, false, not, ◌||◌, nat_le, nat_lt, if◌then◌else◌, List, [], ◌∷◌, ◌++◌}
+use Rattle.std.proofs.Common.{arith, sym, subst, None, Ok, Err}
+use Rattle.osi_machine.specs.Floor.{Input, Standing, react}
+use Rattle.osi_machine.specs.Core.{turned, called}
+use Rattle.osi_machine.proofs.Vocabulary.{append-nil, leb-true, ltb-true, eqb-true, and_parts, State, Phase, Call, Accept, Data, Give}
+use Rattle.osi_machine.proofs.Vocabulary.{Please, Minor, MinorConfirm, Major, Restart, Release, Meaning, CN, AC, DT, GT, PT, MIP, MIA, MAP}
+use Rattle.osi_machine.proofs.Vocabulary.{RS, AA, is_ready, is_answering, is_connecting, is_wait_cn, is_major_due, is_releasing}
+use Rattle.osi_machine.proofs.Vocabulary.{is_restarting, may_give, may_ask, may_confirm_minor, takes_data, takes_please, takes_minor_ack}
+use Rattle.osi_machine.proofs.Vocabulary.{may_call, needs, after, is_acceptable, becomes, stands, from_base, point_sent, point_taken}
+use Rattle.osi_machine.proofs.Vocabulary.{minor_confirmed, major_confirmed, restarted_at, IsSound, Good, Item, Octets, Point, minor_kind}
+use Rattle.osi_machine.proofs.Vocabulary.{major_point, points, cutat, seen, got_in, Party, speaks, view_called, party_taking, is_opening}
+use Rattle.osi_machine.proofs.Vocabulary.{IsConsistent, AllHold, AllByRecursion, Passed, Granted, Answer, HasSerial, Outcome, IsNumbered}
+use Rattle.osi_machine.proofs.Vocabulary.{allowed, respond_unit, alone, respond, call_input, taken_input, call_move, after_inputs}
+use Rattle.osi_machine.proofs.Vocabulary.{HasNumbers, IsSendable, sends, Core, CoreStep, call_at, take_at, Side, Left, Right, Offer}
+use Rattle.osi_machine.proofs.Vocabulary.{CanBeOffered, stays_in_core, party_called, answered, taking, takes, at_side, core_step, core_run}
+use Rattle.osi_machine.proofs.Vocabulary.{core_start, AreConsistent, IsNumberedStep, is_sized}
+use Rattle.osi_machine.proofs.basics.what_holds_in_each_phase.{implied, excluded, by_test}
+use Rattle.osi_machine.proofs.basics.what_a_restart_leaves_of_a_history.{points_append, points_cut}
+use Rattle.osi_machine.proofs.channels.a_unit_is_dropped_bad_or_acted_on.{unit_cases, chosen}
+
+-- the lines, but for the order of the numbers
+pub record Lines (s : State) (v : List Item) (said got : List (List ℕ)) : Type 0 where
+  pub count : s.numbers.next ≡ s.base + points v
+  pub major : is_major_due s.phase ≡ true → s.numbers.answers ≡ true
+  pub asked : is_restarting s.phase ≡ true → s.units.resynchronize ≡ true
+  pub asker : is_releasing s.phase ≡ true → s.units.duplex ≡ true → s.is_caller ≡ true
+  pub fresh : is_opening s.phase ≡ true → (s.base ≡ 0) × (s.numbers ≡ from_base 0) × (v ≡ []) × (said ≡ []) × (got ≡ [])
+
+pub lines_of : (x : Party) → IsConsistent x → Lines x.session x.view x.said x.got
+lines_of x h = grind arith
+
+pub consistent : (x : Party) → IsSound x.session → Lines x.session x.view x.said x.got → IsConsistent x
+consistent x sound h = grind arith
+
+-- ---- moves of the count
+
+nothing_said : (n base : ℕ) (v : List Item) → n ≡ base + points v → n ≡ base + points (v ++ [])
+nothing_said n base v h = let e = points_append v [] in omega arith
+
+one_point : (n base k : ℕ) (v : List Item) (i : Item) → points (i ∷ []) ≡ 1 → n ≡ base + points v → n + 1 ≡ base + points (v ++ i ∷ [])
+one_point n base k v i one h = let e = points_append v (i ∷ []) in omega arith
+
+one_more : (n base : ℕ) (b : Bool) (octets : List ℕ) (v : List Item) → n ≡ base + points v → n ≡ base + points (v ++ (if b then [] else Octets octets ∷ []))
+one_more n base true octets v h = nothing_said n base v h
+one_more n base false octets v h = let e = points_append v (Octets octets ∷ []) in omega arith
+
+pub one_taken : (n base : ℕ) (b : Bool) (octets : List ℕ) (v : List Item) → n ≡ base + points v → n ≡ base + points (if b then v else v ++ Octets octets ∷ [])
+one_taken n base true octets v h = h
+one_taken n base false octets v h = let e = points_append v (Octets octets ∷ []) in omega arith
+
+pub opened_count : (base : ℕ) (v : List Item) → v ≡ [] → base ≡ base + points v
+opened_count base v e = rw e (omega arith)
+
+-- ---- the clauses if little changes
+
+-- a phase in which nothing is asked, due or awaited
+quiet : Phase → Bool
+quiet p = not (is_major_due p || (is_restarting p || (is_releasing p || is_opening p)))
+
+or_four : (a b c d : Bool) → not (a || (b || (c || d))) ≡ true → (a ≡ false) × (b ≡ false) × (c ≡ false) × (d ≡ false)
+or_four a b c d h = grind arith
+
+calm : (s : State) (v : List Item) (said got : List (List ℕ)) → quiet s.phase ≡ true → s.numbers.next ≡ s.base + points v → Lines s v said got
+unfolding quiet
+calm s v said got q h = grind (arith, quiet, or_four)
+
+-- the phase, the units and the flag stay, and the side has begun
+same_lines : (s r : State) (v w : List Item) (said said' got got' : List (List ℕ)) → r.phase ≡ s.phase → r.units ≡ s.units → r.is_caller ≡ s.is_caller
+    → r.numbers.answers ≡ s.numbers.answers → is_opening s.phase ≡ false → r.numbers.next ≡ r.base + points w → Lines s v said got → Lines r w said' got'
+same_lines s r v w said said' got got' p u i a o c h = grind arith
+
+pub below_if : (b : Bool) (n next : ℕ) → (if b then nat_lt n next else nat_le n next) ≡ true → n ≤ next
+below_if true n next h = let k = ltb-true n next h in omega arith
+below_if false n next h = leb-true n next h
+
+-- ---- the calls
+
+pub call_lines : (s : State) (c : Call) (v : List Item) (said got : List (List ℕ)) → may_call s.phase c ≡ true → AllHold (needs s c) → IsSound s
+    → Lines s v said got → Lines (after s c) (view_called s c v) (said ++ speaks s c) got
+unfolding quiet point_sent minor_confirmed major_confirmed restarted_at
+call_lines s (Accept requirements serial sides sizes octets) v said got p t sound h =
+    let f = h.fresh (implied is_answering is_opening refl s.phase p) in
+    calm _ _ _ _ refl (rw f.2 (omega arith))
+call_lines s (Data octets) v said got p t sound h =
+    same_lines s s v _ said _ got got refl refl refl refl (excluded is_ready is_opening refl s.phase p) (one_more _ _ s.units.duplex octets v h.count) h
+call_lines s (Give tokens) v said got p t sound h =
+    same_lines s _ v _ said _ got got refl refl refl refl (excluded may_give is_opening refl s.phase p) (nothing_said _ _ v h.count) h
+call_lines s (Please tokens octets) v said got p t sound h =
+    same_lines s s v _ said _ got got refl refl refl refl (excluded may_ask is_opening refl s.phase p) (nothing_said _ _ v h.count) h
+call_lines s (Minor confirm octets) v said got p t sound h =
+    calm _ _ _ _ (implied is_ready quiet refl s.phase p) (one_point _ _ 0 v (Point s.numbers.next (minor_kind confirm) octets) refl h.count)
+call_lines s (MinorConfirm n octets) v said got p t sound h =
+    same_lines s _ v _ said _ got got refl refl refl refl (excluded may_confirm_minor is_opening refl s.phase p) (nothing_said _ _ v h.count) h
+call_lines s (Major octets) v said got p t sound h =
+    calm _ _ _ _ refl (one_point _ _ 0 v (Point s.numbers.next major_point octets) refl h.count)
+call_lines s (Restart n wishes octets) v said got p t sound h = grind (arith, and_parts, leb-true, below_if, points_cut)
+call_lines s (Release octets) v said got p t sound h = record {
+  count = nothing_said _ _ v h.count;
+  major = λ k. absurd (cc);
+  asked = λ k. absurd (cc);
+  asker = λ k d. grind arith;
+  fresh = λ k. absurd (cc);
+}
+call_lines s _ v said got p t sound h = calm _ _ _ _ refl (nothing_said _ _ v h.count)
+
+-- ---- the units
+
+pub stood_below : (s : State) (n : ℕ) → (is_restarting s.phase || nat_le n s.numbers.next) ≡ true → stands s n ≡ true → n ≤ s.numbers.next
+unfolding stands
+stood_below s n e st = grind (arith, ltb-true, leb-true, eqb-true, and_parts)
+
+chosen_lines : (P : State → List Item → Type 0) (b : Bool) (x y : State) (v w : List Item) → (b ≡ true → P x v) → (b ≡ false → P y w) → P (if b then x else y) (if b then v else w)
+chosen_lines P true x y v w h k = h refl
+chosen_lines P false x y v w h k = k refl
+
+pub unit_lines : (s : State) (u : Meaning) (v : List Item) (said got : List (List ℕ)) → Good s u → IsSound s → Lines s v said got
+    → Lines (becomes s u) (seen s u v) said (got ++ got_in s u)
+unfolding quiet point_taken minor_confirmed major_confirmed restarted_at
+unit_lines s (CN version_2 requirements serial wishes from to sizes octets) v said got g sound h =
+    let f = h.fresh (implied is_wait_cn is_opening refl s.phase g.expected) in
+    chosen (λ r. Lines r v said (got ++ [])) (is_acceptable version_2 requirements sizes) _ _
+    (grind arith)
+    (calm _ _ _ _ refl h.count)
+unit_lines s (AC version_2 requirements serial sides sizes octets) v said got g sound h =
+    let f = h.fresh (implied is_connecting is_opening refl s.phase g.expected) in
+    calm _ _ _ _ refl (opened_count _ v f.2)
+unit_lines s (DT octets) v said got g sound h =
+    same_lines s s v _ said said got _ refl refl refl refl (excluded takes_data is_opening refl s.phase g.expected) (one_taken _ _ s.units.duplex octets v h.count) h
+unit_lines s (GT tokens) v said got g sound h =
+    same_lines s _ v v said said got _ refl refl refl refl (excluded may_ask is_opening refl s.phase g.expected) h.count h
+unit_lines s (PT tokens octets) v said got g sound h =
+    same_lines s s v v said said got _ refl refl refl refl (excluded takes_please is_opening refl s.phase g.expected) h.count h
+unit_lines s (MIP confirm n octets) v said got g sound h =
+    calm _ _ _ _ (implied is_ready quiet refl s.phase g.expected) (one_point _ _ 0 v (Point n (minor_kind confirm) octets) refl h.count)
+unit_lines s (MIA n octets) v said got g sound h =
+    same_lines s _ v v said said got _ refl refl refl refl (excluded takes_minor_ack is_opening refl s.phase g.expected) h.count h
+unit_lines s (MAP n octets) v said got g sound h = record {
+  count = one_point _ _ 0 v (Point n major_point octets) refl h.count;
+  major = λ k. refl;
+  asked = λ k. absurd (cc);
+  asker = λ k. absurd (cc);
+  fresh = λ k. absurd (cc);
+}
+unit_lines s (RS kind n wishes octets) v said got g sound h =
+    let b = and_parts _ _ g.met.1.0 in
+    let from = leb-true s.base n b.0 in
+    chosen_lines (λ r w. Lines r w said (got ++ [])) (stands s n) _ s (cutat s.base v n) v
+    (λ e. let to = stood_below s n b.1 e in calm _ _ _ _ refl (points_cut s.base n v from (omega arith)))
+    (λ e. record { count = h.count; major = h.major; asked = h.asked; asker = h.asker; fresh = λ k. let f = h.fresh k in (f.0, f.1, f.2, f.3, append-nil got ∙ f.4) })
+unit_lines s AA v said got g sound h = absurd (let e = g.expected in cc)
+unit_lines s _ v said got g sound h = calm _ _ _ _ refl h.count
+
+-- a unit, whether it is acted on or not
+pub taken_lines : (x : Party) (u : Meaning) → IsSound x.session → Lines x.session x.view x.said x.got
+    → Lines (party_taking x u).session (party_taking x u).view (party_taking x u).said (party_taking x u).got
+unfolding quiet
+taken_lines x u sound h =
+    unit_cases (λ b r. Lines r (if b then seen x.session u x.view else x.view) x.said (if b then x.got ++ got_in x.session u else x.got)) x.session u (record {
+      same = h;
+      ended = calm _ _ _ _ refl h.count;
+      bad = calm _ _ _ _ refl h.count;
+      good = λ a. unit_lines x.session u x.view x.said x.got a.good sound h;
+    })
+
+-- what is proved of one session
+pub record SessionLaws : Type 0 where
+  pub sound : (s : Standing) (inputs : List Input) → AllByRecursion HasNumbers inputs → IsSound s.state → IsSound (after_inputs s inputs).state
+  pub sendable : (s : State) (c : Call) (g : Granted) → IsSound s → HasSerial c → allowed s c ≡ Ok g → IsSendable g.sent
+  pub one_unit : (s : State) (u : Meaning) → respond s (alone u) ≡ respond_unit s u
+  pub passed : (s : State) (c : Call) (g : Granted) → allowed s c ≡ Ok g → Passed s c g
+
+abbrev standing : State → Standing
+standing s = record { state = s; waiting = None }
+
+pub sound_call : SessionLaws → (s : State) (c : Call) (g : Granted) → HasSerial c → allowed s c ≡ Ok g → IsSound s → IsSound g.next
+unfolding react
+sound_call laws s c g small e h =
+    subst (λ (a : Answer). IsSound (call_move (standing s) a).next.state) e (laws.sound (standing s) (call_input c ∷ []) (small, tt) h)
+
+pub sound_unit : SessionLaws → (s : State) (u : Meaning) → IsNumbered u → IsSound s → IsSound (respond_unit s u).next
+unfolding react
+sound_unit laws s u small h =
+    subst (λ (o : Outcome). IsSound o.next) (laws.one_unit s u) (laws.sound (standing s) (taken_input (alone u) ∷ []) ((small, tt), tt) h)
+
+pub small_append : (us : List Meaning) (u : Meaning) → AllByRecursion IsNumbered us → IsNumbered u → AllByRecursion IsNumbered (us ++ u ∷ [])
+small_append [] u h k = (k, tt)
+small_append (v ∷ us) u h k = (h.0, small_append us u h.1 k)
+
+-- ---- one side
+
+pub call_kept : SessionLaws → (x : Party) (c : Call) (g : Granted) → HasSerial c → allowed x.session c ≡ Ok g → IsConsistent x → IsConsistent (party_called x c g)
+call_kept laws x c g small e h =
+    let q = laws.passed x.session c g e in
+    let sound = sound_call laws x.session c g small e h.sound in
+    let lines = call_lines x.session c x.view x.said x.got q.phase q.needed h.sound (lines_of x h) in
+    consistent (party_called x c g) sound
+    (subst (λ (s : State). Lines s (party_called x c g).view (party_called x c g).said x.got) (subst (λ (y : Granted). after x.session c ≡ y.next) (sym q.gives) refl) lines)
+
+-- ---- both sides
+
+pub answered_kept : SessionLaws → (w : Core) (c : Call) (a : Answer) → HasSerial c → allowed w.own.session c ≡ a → AreConsistent w → AreConsistent (answered w c a)
+answered_kept laws w c (Ok g) small e h = assumption (call_kept laws w.own c g small e h.own, small_append w.own.sent g.sent h.own_small (laws.sendable w.own.session c g h.own.sound small e).numbered)
+answered_kept laws w c (Err d) small e h = h
+
+-- the effect of a call that is granted
+abbrev pub granted : State → Call → Granted
+granted s c = record { next = after s c; sent = sends s c }
+
+-- what is known of such a call, and of both sides after it
+pub record IsGranted (w : Core) (c : Call) : Type 0 where
+  pub phase : may_call w.own.session.phase c ≡ true
+  pub needed : AllHold (needs w.own.session c)
+  pub sized : is_sized (sends w.own.session c) ≡ true
+  pub kept : AreConsistent (answered w c (Ok (granted w.own.session c)))
+
+pub is_granted : SessionLaws → (w : Core) (c : Call) (g : Granted) → HasSerial c → allowed w.own.session c ≡ Ok g → AreConsistent w → IsGranted w c
+is_granted laws w c g small e h =
+    let q = laws.passed w.own.session c g e in
+    record {
+      phase = q.phase;
+      needed = q.needed;
+      sized = subst (λ (r : Granted). is_sized r.sent ≡ true) q.gives (laws.sendable w.own.session c g h.own.sound small e).sized;
+      kept = subst (λ (r : Granted). AreConsistent (answered w c (Ok r))) q.gives (answered_kept laws w c (Ok g) small e h);
+    }
+
+called_kept : SessionLaws → (w : Core) (c : Call) → HasSerial c → AreConsistent w → AreConsistent (called w c)
+called_kept laws w c small h = by_test (stays_in_core c) (λ e. rw e (answered_kept laws w c (allowed w.own.session c) small refl h)) (λ e. rw e h)
+
+pub taking_kept : SessionLaws → (w : Core) (us : List Meaning) → w.peer.sent ≡ us → AreConsistent w → AreConsistent (taking w us)
+taking_kept laws w us e h = search (arith, consistent, sound_unit, taken_lines, lines_of)
+
+pub turned_kept : (w : Core) → AreConsistent w → AreConsistent (turned w)
+turned_kept w h = record { own = h.peer; peer = h.own; own_small = h.peer_small; peer_small = h.own_small }
+
+side_kept : (f : Core → Core) → ((w : Core) → AreConsistent w → AreConsistent (f w)) → (side : Side) (w : Core) → AreConsistent w → AreConsistent (at_side side f w)
+side_kept f step Left w h = step w h
+side_kept f step Right w h = turned_kept (f (turned w)) (step (turned w) (turned_kept w h))
+
+pub step_kept : SessionLaws → (w : Core) (step : CoreStep) → IsNumberedStep step → AreConsistent w → AreConsistent (core_step w step)
+step_kept laws w (call_at side c) small h = side_kept (λ v. called v c) (λ v k. called_kept laws v c small k) side w h
+step_kept laws w (take_at side) small h = side_kept takes (λ v k. taking_kept laws v v.peer.sent refl k) side w h
+
+pub run_kept : SessionLaws → (w : Core) (steps : List CoreStep) → AllByRecursion IsNumberedStep steps → AreConsistent w → AreConsistent (core_run w steps)
+run_kept laws w [] small h = h
+run_kept laws w (step ∷ steps) small h = run_kept laws (core_step w step) steps small.1 (step_kept laws w step small.0 h)
+
+-- ---- how it begins
+
+pub starts : (o : Offer) → CanBeOffered o → AreConsistent (core_start o)
+starts o h = grind arith

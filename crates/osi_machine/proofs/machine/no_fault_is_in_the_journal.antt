@@ -1,0 +1,72 @@
+-- No entry of the journal indicates a fault, whatever its reference.
+-- For the clause `faultless` of `what_two_records_tell`.
+use Rattle.std.proofs.Common.{◌≡◌, refl, sym, ◌∙◌, ap, ℕ, zero, suc, ◌<◌, Bool, true, false, ◌||◌, if◌then◌else◌, List, [], ◌∷◌, length}
+use Rattle.std.proofs.Common.{Option, Some, None, arith}
+use Rattle.osi_machine.specs.Examples.{for_asker}
+use Rattle.osi_machine.proofs.Vocabulary.{or_assoc, or-false, or-true, list_any, slice_get, Call, no_sizes, Offer, Side, Left, Right, World}
+use Rattle.osi_machine.proofs.Vocabulary.{Machine, Entry, shown_at, connection_at, Told, told_call, told_entry, told_by, is_of, record_of}
+use Rattle.osi_machine.proofs.Vocabulary.{untold, told_of, IsRun, is_fault, HasNoFault, or_parts}
+use Rattle.osi_machine.proofs.invariant.each_step_keeps_one_side.{SessionLaws}
+use Rattle.osi_machine.proofs.whole.every_stage_of_a_connection.{Whole}
+use Rattle.osi_machine.proofs.machine.every_connection_of_a_run.{own_entry, IsGood}
+use Rattle.osi_machine.proofs.machine.what_two_records_tell.{good_run, no_faults}
+
+-- ---- a record tells whether one of its entries is a fault
+
+call_faulted : (t : Told) (c : Call) → (told_call t c).faulted ≡ t.faulted
+call_faulted t c = grind arith
+
+entry_faulted : (t : Told) (e : Entry) → (told_entry t e).faulted ≡ (t.faulted || is_fault e)
+entry_faulted t e = search (arith, call_faulted, or-false, or-true)
+
+told_faulted : (t : Told) (es : List Entry) → (told_by t es).faulted ≡ (t.faulted || list_any is_fault es)
+told_faulted t [] = sym (or-false t.faulted)
+told_faulted t (e ∷ es) = told_faulted (told_entry t e) es ∙ ap (λ (b : Bool). b || list_any is_fault es) (entry_faulted t e) ∙ or_assoc t.faulted (is_fault e) (list_any is_fault es)
+
+fine_record : (t : Told) (es : List Entry) → (told_by t es).faulted ≡ false → list_any is_fault es ≡ false
+fine_record t es h = (or_parts t.faulted (list_any is_fault es) (sym (told_faulted t es) ∙ h)).1
+
+-- ---- each entry of an indication belongs to a record
+
+entry_fine : (e : Entry) (es : List Entry) → ((d : Side) (n : ℕ) → list_any is_fault (record_of d n (e ∷ es)) ≡ false) → is_fault e ≡ false
+entry_fine (shown_at side r i) es h =
+    (or_parts (is_fault (shown_at side r i)) (list_any is_fault (record_of side r es))
+    (sym (ap (λ (b : Bool). list_any is_fault (if b then shown_at side r i ∷ record_of side r es else record_of side r es)) (own_entry side r)) ∙ (h side r))).0
+entry_fine _ es h = refl
+
+fine_behind : (e : Entry) (es : List Entry) (b : Bool) → list_any is_fault (if b then e ∷ es else es) ≡ false → list_any is_fault es ≡ false
+fine_behind e es true h = (or_parts (is_fault e) (list_any is_fault es) h).1
+fine_behind e es false h = h
+
+fine_journal : (j : List Entry) → ((d : Side) (n : ℕ) → list_any is_fault (record_of d n j) ≡ false) → list_any is_fault j ≡ false
+fine_journal [] h = refl
+fine_journal (e ∷ es) h =
+    let first = entry_fine e es h in
+    let rest = fine_journal es (λ d n. fine_behind e (record_of d n es) (is_of d n e) (h d n)) in
+    rw (first, rest) refl
+
+-- ---- the record of each reference, also of one that was not given
+
+an_offer : Offer
+an_offer = record { requirements = 0; serial = 0; wishes = for_asker; calling_selector = None; called_selector = None; sizes = no_sizes; octets = [] }
+
+untold_fine : (d : Side) (o : Offer) → (untold d o).faulted ≡ false
+untold_fine d o = grind arith
+
+none_from : (ws : List World) (r : ℕ) → slice_get ws r ≡ None → length ws < suc r
+none_from [] r e = omega arith
+none_from (w ∷ ws) zero e = absurd (cc)
+none_from (w ∷ ws) (suc r) e = let k = none_from ws r e in omega arith
+
+not_given : (m : Machine) (h : IsRun m) → IsGood h.agreed Whole m → (d : Side) (n : ℕ) (o : Offer) → connection_at n m.worlds ≡ None → told_of d n o m.journal ≡ untold d o
+not_given m h g d zero o e = g.none d o
+not_given m h g d (suc r) o e = g.fresh d (suc r) o (none_from m.worlds r e)
+
+fine_at : SessionLaws → (m : Machine) → IsRun m → (d : Side) (n : ℕ) (a : Option World) → connection_at n m.worlds ≡ a → list_any is_fault (record_of d n m.journal) ≡ false
+fine_at laws m h d n None e =
+    fine_record (untold d an_offer) (record_of d n m.journal) (ap (λ (t : Told). t.faulted) (not_given m h (good_run laws m h) d n an_offer e) ∙ untold_fine d an_offer)
+fine_at laws m h Left n (Some w) e = fine_record (untold Left w.offer) (record_of Left n m.journal) (no_faults laws m h n w e).0
+fine_at laws m h Right n (Some w) e = fine_record (untold Right w.offer) (record_of Right n m.journal) (no_faults laws m h n w e).1
+
+pub no_fault_shown : SessionLaws → (m : Machine) → IsRun m → HasNoFault m
+no_fault_shown laws m h = fine_journal m.journal (λ d n. fine_at laws m h d n (connection_at n m.worlds) refl)

@@ -1,0 +1,194 @@
+-- Every unit in flight can be written, and the numbers of each session are in order.
+-- For the law `what_is_under_way_can_be_sent`.
+use Rattle.std.proofs.Common.{◌≡◌, refl, sym, subst, ℕ, zero, suc, Bool, true, false, List, [], ◌∷◌, ◌++◌, length, take, Option, Some, None}
+use Rattle.std.proofs.Common.{Ok, Err, arith, ap, ◌∙◌}
+use Rattle.osi_session.specs.Moves.{answered as answered_move, after_inputs}
+use Rattle.osi_session.specs.Runs.{HasNumbers}
+use Rattle.osi_session.specs.Sessions.{CanBeSent}
+use Rattle.osi_message.specs.Written.{is_second, user_data_of}
+use Rattle.osi_machine.specs.Tables.{asked_with, shortened, after_call, message_taken, closed, ended_at, start, without_first, run, turned}
+use Rattle.osi_machine.proofs.Vocabulary.{leb-true, ltb-false, or_parts, not-false, AllByRecursion, Input, called, taken, opened, refused}
+use Rattle.osi_machine.proofs.Vocabulary.{broken as broken_off, Standing, Move, react, Said, said_of, IsAddress, State, Meaning}
+use Rattle.osi_machine.proofs.Vocabulary.{WaitTransport, Call, HasSerial, Granted, Answer, IsSound, IsSendable, allowed, respond}
+use Rattle.osi_machine.proofs.Vocabulary.{without_tokens, awaiting, Offer, CanBeOffered, offering, offer_sent, Message, unit, ask, agree}
+use Rattle.osi_machine.proofs.Vocabulary.{deny, bye, over, Transport, not_yet, waiting, linked, closing, gone, put, replied, Terms, accepts}
+use Rattle.osi_machine.proofs.Vocabulary.{denies, connection_at, is_given, is_long_selector, is_long, HasNumber, Line, Tables, in_transport}
+use Rattle.osi_machine.proofs.Vocabulary.{puts, made, ends_there, AreSendable, IsSoundLine, AreSoundLines, IsTableRun, cut_line}
+use Rattle.osi_machine.proofs.basics.what_holds_in_each_phase.{by_test}
+use Rattle.osi_machine.proofs.tables.every_line_of_a_run.{all_know, Knows, Holds, Words, Claim, IsKept}
+
+-- what is proved of one session
+pub record SendLaws : Type 0 where
+  pub sound : (s : Standing) (inputs : List Input) → AllByRecursion HasNumbers inputs → IsSound s.state → IsSound (after_inputs s inputs).state
+  pub called : (s : State) (c : Call) (g : Granted) → IsSound s → HasSerial c → allowed s c ≡ Ok g → IsSendable g.sent
+  pub replied : (s : State) (said : Said) (m : Meaning) → (respond s said).reply ≡ Some m → IsSendable m
+
+-- ---- channels
+
+sendable_append : (xs ys : List Message) → AreSendable xs → AreSendable ys → AreSendable (xs ++ ys)
+sendable_append [] ys h k = k
+sendable_append (unit m ∷ xs) ys h k = (h.0, sendable_append xs ys h.1 k)
+sendable_append (x ∷ xs) ys h k = sendable_append xs ys h k
+
+put_sendable : (b : Bool) (ms ch : List Message) → AreSendable ms → AreSendable ch → AreSendable (put b ms ch)
+put_sendable true ms ch h k = k
+put_sendable false ms ch h k = sendable_append ch ms k h
+
+take_sendable : (n : ℕ) (ms : List Message) → AreSendable ms → AreSendable (take n ms)
+take_sendable zero ms h = tt
+take_sendable (suc n) [] h = tt
+take_sendable (suc n) (unit m ∷ ms) h = (h.0, take_sendable n ms h.1)
+take_sendable (suc n) (x ∷ ms) h = take_sendable n ms h
+
+replied_sendable : (r : Option Meaning) → CanBeSent r → AreSendable (replied r)
+replied_sendable None h = tt
+replied_sendable (Some m) h = (h, tt)
+
+rest_sendable : (x : Message) (ms : List Message) → AreSendable (x ∷ ms) → AreSendable ms
+rest_sendable x ms h = grind arith
+
+-- ---- a move
+
+record IsWell (m : Move) : Type 0 where
+  sound : IsSound m.next.state
+  waits : CanBeSent m.next.waiting
+  reply : CanBeSent m.reply
+
+sound_after : SendLaws → (s : Standing) (i : Input) → HasNumbers i → IsSound s.state → IsSound (react s i).next.state
+sound_after laws s i h k = laws.sound s (i ∷ []) (h, tt) k
+
+well_called : SendLaws → (s : Standing) (c : Call) → HasSerial c → IsSound s.state → CanBeSent s.waiting → IsWell (react s (called c))
+unfolding react
+well_called laws s c small h w = by (allowed s.state c) refl (sound_after laws s (called c) small h)
+  where
+    by : (a : Answer) → allowed s.state c ≡ a → IsSound (answered_move s (allowed s.state c)).next.state → IsWell (answered_move s (allowed s.state c))
+    by (Ok g) e k = subst (λ (a : Answer). IsSound (answered_move s a).next.state → IsWell (answered_move s a)) (sym e)
+        (λ x. record { sound = x; waits = w; reply = laws.called s.state c g h small e }) k
+    by (Err f) e k = subst (λ (a : Answer). IsSound (answered_move s a).next.state → IsWell (answered_move s a)) (sym e)
+        (λ x. record { sound = x; waits = w; reply = tt }) k
+
+well_taken : SendLaws → (s : Standing) (said : Said) → HasNumbers (taken said) → IsSound s.state → CanBeSent s.waiting → IsWell (react s (taken said))
+unfolding react
+well_taken laws s said n h w = assumption (sound_after laws s (taken said) n h, by (respond s.state said).reply refl)
+  where
+    by : (r : Option Meaning) → (respond s.state said).reply ≡ r → CanBeSent r
+    by None e = tt
+    by (Some m) e = laws.replied s.state said m e
+
+well_broken : SendLaws → (s : Standing) → IsSound s.state → CanBeSent s.waiting → IsWell (react s broken_off)
+unfolding react
+well_broken laws s h w = record { sound = sound_after laws s broken_off tt h; waits = w; reply = tt }
+
+well_opened : SendLaws → (s : Standing) → IsSound s.state → CanBeSent s.waiting → IsWell (react s opened)
+unfolding react
+well_opened laws s h w = search (arith, sound_after)
+
+well_refused : SendLaws → (s : Standing) (reason : ℕ) → IsSound s.state → CanBeSent s.waiting → IsWell (react s (refused reason))
+unfolding react
+well_refused laws s reason h w = search (arith, sound_after)
+
+-- ---- a connection
+
+moved_line : (b : Bool) (tr : Transport) (m : Move) (l : Line) → IsWell m → IsSoundLine l → IsSoundLine (in_transport tr (made b m l))
+moved_line b tr m l w h = grind (arith, put_sendable, replied_sendable)
+
+put_line : (b : Bool) (ms : List Message) (tr : Transport) (l : Line) → AreSendable ms → IsSoundLine l → IsSoundLine (puts b ms (in_transport tr l))
+put_line b ms tr l k h = record { own = record { sound = h.own.sound; waits = h.own.waits; under_way = put_sendable b ms l.own.channel k h.own.under_way }; peer = h.peer }
+
+gone_line : (tr : Transport) (l : Line) → IsSoundLine l → IsSoundLine (in_transport tr l)
+gone_line tr l h = record { own = record { sound = h.own.sound; waits = h.own.waits; under_way = h.own.under_way }; peer = h.peer }
+
+short_line : (n : ℕ) (l : Line) → IsSoundLine l → IsSoundLine (shortened n l)
+short_line n l h = record { own = record { sound = h.own.sound; waits = h.own.waits; under_way = take_sendable n l.own.channel h.own.under_way }; peer = h.peer }
+
+popped_line : (l : Line) (ms : List Message) → AreSendable ms → IsSoundLine l → IsSoundLine (without_first l ms)
+popped_line l ms k h = record { own = h.own; peer = record { sound = h.peer.sound; waits = h.peer.waits; under_way = k } }
+
+called_line : SendLaws → (b : Bool) (c : Call) (l : Line) → HasSerial c → IsSoundLine l → IsSoundLine (after_call b c l)
+called_line laws b c l small h = grind (arith, well_called, put_sendable, replied_sendable)
+
+message_line : SendLaws → (b : Bool) (terms : Terms) (keep : ℕ) (tr : Transport) (l : Line) (x : Message) (xs : List Message) → AreSendable (x ∷ xs) → IsSoundLine l
+    → IsSoundLine (message_taken b terms keep tr (without_first l xs) x).line
+message_line laws b (accepts class) keep not_yet l ask xs k h = put_line b (agree ∷ []) linked (without_first l xs) tt (popped_line l xs k h)
+message_line laws b (denies reason) keep not_yet l ask xs k h =
+    let p = popped_line l xs k h in
+    record { own = record { sound = p.own.sound; waits = p.own.waits; under_way = put_sendable b (deny reason ∷ []) l.own.channel tt p.own.under_way }; peer = p.peer }
+message_line laws b terms keep waiting l agree xs k h =
+    moved_line b linked (react l.own.session opened) (without_first l xs) (well_opened laws l.own.session h.own.sound h.own.waits) (popped_line l xs k h)
+message_line laws b terms keep waiting l (deny r) xs k h =
+    moved_line b gone (react l.own.session (refused r)) (without_first l xs) (well_refused laws l.own.session r h.own.sound h.own.waits) (popped_line l xs k h)
+message_line laws b terms keep linked l (unit u) xs k h =
+    moved_line b linked (react l.own.session (taken (said_of u))) (without_first l xs)
+    (well_taken laws l.own.session (said_of u) (by_test (is_second u) (λ e. rw e (tt, ((k.0).numbered, tt))) (λ e. rw e ((k.0).numbered, tt))) h.own.sound h.own.waits) (popped_line l xs k.1 h)
+message_line laws b terms keep linked l (bye r) xs k h =
+    let p = moved_line b gone (react l.own.session broken_off) (shortened keep (without_first l xs)) (well_broken laws l.own.session h.own.sound h.own.waits) (short_line keep (without_first l xs) (popped_line l xs k h)) in
+    record {
+      own = record { sound = p.own.sound; waits = p.own.waits; under_way = put_sendable b (over ∷ []) (put b (replied (react l.own.session broken_off).reply) (take keep l.own.channel)) tt p.own.under_way };
+      peer = p.peer;
+    }
+message_line laws b terms keep closing l (bye r) xs k h = gone_line gone (without_first l xs) (popped_line l xs k h)
+message_line laws b terms keep closing l over xs k h = gone_line gone (without_first l xs) (popped_line l xs k h)
+message_line laws b terms keep gone l (bye r) xs k h =
+    let p = popped_line l xs k h in
+    record { own = record { sound = p.own.sound; waits = p.own.waits; under_way = put_sendable b (over ∷ []) l.own.channel tt p.own.under_way }; peer = p.peer }
+message_line laws b terms keep tr l x xs k h = popped_line l xs (rest_sendable x xs k) h
+
+closed_line : (b : Bool) (keep : ℕ) (l : Line) → IsSoundLine l → IsSoundLine (closed b keep l)
+closed_line b keep l h = put_line b (bye 128 ∷ []) closing (shortened keep l) tt (short_line keep l h)
+
+ended_line : SendLaws → (keep : ℕ) (l : Line) → IsSoundLine l → IsSoundLine (ended_at keep l).line
+ended_line laws keep l h = moved_line true gone (react l.own.session broken_off) (shortened keep l) (well_broken laws l.own.session h.own.sound h.own.waits) (short_line keep l h)
+
+short_selector : (s : Option (List ℕ)) → is_long_selector s ≡ false → IsAddress s
+short_selector None h = tt
+short_selector (Some octets) h = ltb-false 16 (length octets) h
+
+offer_sendable : (o : Offer) → CanBeOffered o → is_long o ≡ false → IsSendable (offer_sent o)
+unfolding user_data_of
+offer_sendable o small h = search (arith, or_parts, leb-true, not-false, short_selector)
+
+calling_sound : (o : Offer) → CanBeOffered o → IsSound (without_tokens WaitTransport (offering o))
+calling_sound o small = search arith
+
+awaiting_sound : IsSound awaiting
+awaiting_sound = grind arith
+
+asked_line : (b : Bool) (o : Offer) → CanBeOffered o → is_long o ≡ false → IsSoundLine (asked_with b o)
+asked_line b o small h = search (arith, calling_sound, offer_sendable, put_sendable, awaiting_sound)
+
+-- ---- all connections
+
+turned_line : (l : Line) → IsSoundLine l → IsSoundLine (turned l)
+turned_line l h = record { own = h.peer; peer = h.own }
+
+ends_line : SendLaws → (keep : ℕ) (l : Line) → IsSoundLine l → IsSoundLine (ends_there keep l)
+ends_line laws keep l h = by_test (is_given l.own.transport) (λ e. rw e (ended_line laws keep l h)) (λ e. rw e h)
+
+cut_sound : (left right : ℕ) (l : Line) → IsSoundLine l → IsSoundLine (cut_line left right l)
+cut_sound left right l h = record {
+  own = record { sound = h.own.sound; waits = h.own.waits; under_way = take_sendable left l.own.channel h.own.under_way };
+  peer = record { sound = h.peer.sound; waits = h.peer.waits; under_way = take_sendable right l.peer.channel h.peer.under_way };
+}
+
+-- whatever was sent and received
+abbrev Sound : Claim
+Sound b l x y = IsSoundLine l
+
+sound_kept : SendLaws → IsKept Sound HasNumber
+sound_kept laws = record {
+  new = λ b o small short. asked_line b o small short;
+  turns = λ b l x y h. turned_line l h;
+  call = λ b side r c l x y small given h. called_line laws b c l small h;
+  take = λ b terms keep l m xs x y e h. message_line laws b terms keep l.own.transport l m xs (subst AreSendable e h.peer.under_way) h;
+  close = λ b terms keep to_keep tr l m x y c h. closed_line b to_keep (message_taken b terms keep tr l m).line h;
+  end = λ b keep l x y h. ends_line laws keep l h;
+  cut = λ b left right l x y h. cut_sound left right l h;
+}
+
+known_sound : (r : ℕ) (t : Tables) (x y : Words) (l : Line) → Knows Sound r t x y → connection_at r t.lines ≡ Some l → IsSoundLine l
+known_sound r t x y l h e = subst (Holds Sound t.broken x y) e h
+
+pub are_sound : SendLaws → (t : Tables) → IsTableRun t → AreSoundLines t
+are_sound laws t h r l e =
+    known_sound r (run (start h.agreed) h.steps) _ _ l (all_know Sound HasNumber (sound_kept laws) r h.agreed h.steps h.numbered)
+    (ap (λ (u : Tables). connection_at r u.lines) h.reached ∙ e)

@@ -1,0 +1,159 @@
+-- What two users may rely on, read from the tables and the journal.
+-- For the law of the same name.
+use Rattle.std.proofs.Common.{◌≡◌, refl, sym, ◌∙◌, ap, subst, ℕ, zero, suc, List, [], ◌∷◌, map, Option, Some, None, Bool, ◌+◌, arith}
+use Rattle.osi_machine.proofs.Vocabulary.{AllByRecursion, list_any, slice_get, State, Offer, Side, Left, Right, Message, World, Terms}
+use Rattle.osi_machine.proofs.Vocabulary.{turned, session_of, IsLegal, Step, Entry, Machine, start, connection_at, run, HasNumber, Line}
+use Rattle.osi_machine.proofs.Vocabulary.{Tables, Told, told_of, IsRun, is_fault, loses, IsLine, AreLines, AtEachSide, IsAsTables}
+use Rattle.osi_machine.proofs.Vocabulary.{offers_in, IsTableRun, AreOffered, OfEachLine, Meaning, TellsNoFault, LosesAsItEnds}
+use Rattle.osi_machine.proofs.basics.what_stands_at_a_reference.{some_same}
+use Rattle.osi_machine.proofs.invariant.each_step_keeps_one_side.{SessionLaws}
+use Rattle.osi_machine.proofs.whole.every_stage_of_a_connection.{Whole, Stage, turned_stage}
+use Rattle.osi_machine.proofs.machine.every_connection_of_a_run.{offer_of, Offered, Lines}
+use Rattle.osi_machine.proofs.machine.what_two_records_tell.{good_run, stage_at}
+use Rattle.osi_machine.proofs.machine.no_fault_is_in_the_journal.{no_fault_shown}
+use Rattle.osi_machine.proofs.machine.a_loss_is_shown_by_an_end.{losses_have_an_end}
+use Rattle.osi_machine.proofs.tables.a_line_is_a_connection.{Tabled, SaysItsUnit, line_of}
+use Rattle.osi_machine.proofs.tables.the_tables_are_the_machine.{AllTabled, At, Follows, line_there, all_follow, end_as}
+use Rattle.osi_machine.specs.Tables as tables
+
+-- ---- the forms of what is true of each connection
+
+-- of the sessions of both sides and what their records tell; and of each side's session and what is in flight to it
+abbrev pub OfWorlds : (State → State → Told → Told → Type 0) → Machine → Type 0
+OfWorlds P m = (r : ℕ) (w : World) → connection_at r m.worlds ≡ Some w
+    → P (session_of w) (session_of (turned w)) (told_of Left r w.offer m.journal) (told_of Right r w.offer m.journal)
+
+abbrev pub OfSides : (State → List Message → Type 0) → Machine → Type 0
+OfSides P m = (r : ℕ) (w : World) → connection_at r m.worlds ≡ Some w
+    → P (session_of w) w.peer.channel × P (session_of (turned w)) w.own.channel
+
+at_side : (P : State → List Message → Type 0) (side : Side) (w : World) (a b : Option Meaning)
+    → P (session_of w) w.peer.channel × P (session_of (turned w)) w.own.channel
+    → P (tables.seen_from side (line_of w a b)).own.session.state (tables.seen_from side (line_of w a b)).peer.channel
+at_side P Left w a b h = h.0
+at_side P Right w a b h = h.1
+
+abbrev map_option : {A B : Type 0} → (A → B) → Option A → Option B
+map_option f None = None
+map_option f (Some x) = Some (f x)
+
+-- ---- the machine and its tables side by side
+
+line_as : (w : World) (l : Line) → Tabled l w → IsLine w l
+line_as w l h = search arith
+
+lines_as : (ws : List World) (ls : List Line) → AllTabled ls ws → AreLines ws ls
+lines_as [] [] h = tt
+lines_as (w ∷ ws) (l ∷ ls) h = (line_as w l h.0, lines_as ws ls h.1)
+lines_as _ _ h = absurd h
+
+follows_as : (m : Machine) (t : Tables) → Follows t m → IsAsTables m t
+follows_as m t h = subst (IsAsTables m) (sym h.same)
+    (record { terms = refl; broken = refl; left_end = refl; right_end = refl; known = refl; journal = refl; lines = lines_as m.worlds h.lines h.all })
+
+-- ---- a line, and the connection that it is
+
+record IsThere (m : Machine) (r : ℕ) (l : Line) : Type 0 where
+  world : World
+  found : connection_at r m.worlds ≡ Some world
+  tabled : Tabled l world
+
+line_found : (m : Machine) (r : ℕ) (l : Line) (a : Option Line) (b : Option World) → At a b → a ≡ Some l
+    → connection_at r m.worlds ≡ b → IsThere m r l
+line_found m r l a b h e q = grind arith
+
+offers_got : (ws : List World) (r : ℕ) (w : World) → slice_get ws r ≡ Some w → slice_get (map offer_of ws) r ≡ Some w.offer
+offers_got [] r w e = absurd (cc)
+offers_got (v ∷ ws) zero w e = ap (map_option offer_of) e
+offers_got (v ∷ ws) (suc r) w e = offers_got ws r w e
+
+offer_got : (ws : List World) (r : ℕ) (w : World) → connection_at r ws ≡ Some w → connection_at r (map offer_of ws) ≡ Some w.offer
+offer_got ws zero w e = absurd (cc)
+offer_got ws (suc r) w e = offers_got ws r w e
+
+lines_offers : (b : Bool) (j : List Entry) (k : ℕ) (ws : List World) (os : List Offer) → Lines Whole b j k ws os → os ≡ map offer_of ws
+lines_offers b j k [] [] h = refl
+lines_offers b j k (w ∷ ws) (o ∷ os) h = let a = h.0.offer in let c = lines_offers b j (k + 1) ws os h.1 in cc
+lines_offers b j k _ _ h = absurd h
+
+are_offered : SessionLaws → (m : Machine) → IsRun m → Offered m
+are_offered laws m h = let g = good_run laws m h in g.asked ∙ lines_offers m.broken m.journal 1 m.worlds g.offers g.lines
+
+-- ---- what is true of each connection of the machine is true of each line
+
+module _ (t : Tables) (m : Machine) (h : Follows t m) where
+  there : (r : ℕ) (l : Line) → connection_at r t.lines ≡ Some l → IsThere m r l
+  there r l e = line_found m r l (connection_at r h.lines) (connection_at r m.worlds) (line_there h.lines m.worlds r h.all)
+      (ap (λ (x : Tables). connection_at r x.lines) (sym h.same) ∙ e) refl
+
+  same_journal : t.journal ≡ m.journal
+  same_journal = ap (λ (x : Tables). x.journal) h.same
+
+  offer_there : Offered m → (r : ℕ) (w : World) → connection_at r m.worlds ≡ Some w → connection_at r (offers_in t.journal) ≡ Some w.offer
+  offer_there q r w e =
+      ap (λ (j : List Entry). connection_at r (offers_in j)) same_journal ∙ ap (connection_at r) q ∙ offer_got m.worlds r w e
+
+  offered_as : Offered m → AreOffered t
+  offered_as q r l e = let x = there r l e in record { offer = x.world.offer; found = offer_there q r x.world x.found }
+
+  lifted : (P : State → State → Told → Told → Type 0) → Offered m → OfWorlds P m → OfEachLine P t
+  lifted P q all r l o e f =
+      let x = there r l e in
+      let offer = some_same x.world.offer o (sym (offer_there q r x.world x.found) ∙ f) in
+      subst (λ (y : Line). P y.own.session.state y.peer.session.state (told_of Left r o t.journal) (told_of Right r o t.journal))
+      (sym x.tabled.same)
+      (subst (λ (j : List Entry). P (session_of x.world) (session_of (turned x.world)) (told_of Left r o j) (told_of Right r o j))
+      (sym same_journal)
+      (subst (λ (p : Offer). P (session_of x.world) (session_of (turned x.world)) (told_of Left r p m.journal) (told_of Right r p m.journal))
+      offer (all r x.world x.found)))
+
+  sides_lifted : (P : State → List Message → Type 0) → OfSides P m → AtEachSide P t
+  sides_lifted P all side r l e =
+      let x = there r l e in
+      subst (λ (y : Line). P (tables.seen_from side y).own.session.state (tables.seen_from side y).peer.channel) (sym x.tabled.same)
+      (at_side P side x.world x.tabled.first x.tabled.second (all r x.world x.found))
+
+-- ---- a run of the tables, and the run of the machine that it is
+
+abbrev machine_of : (t : Tables) → IsTableRun t → Machine
+machine_of t h = run (start h.agreed) h.steps
+
+run_of : (t : Tables) (h : IsTableRun t) → IsRun (machine_of t h)
+run_of t h = record { agreed = h.agreed; steps = h.steps; numbered = h.numbered; reached = refl }
+
+module _ (laws : SessionLaws) (says : SaysItsUnit) where
+  pub are_as_tables : (terms : Terms) (steps : List Step) → AllByRecursion HasNumber steps
+      → IsAsTables (run (start terms) steps) (tables.run (tables.start terms) steps)
+  are_as_tables terms steps small = follows_as _ _ (all_follow laws says terms steps small)
+
+  pub is_legal : (t : Tables) → (h : IsTableRun t) → IsLegal h.agreed t.journal
+  is_legal t h = grind (arith, are_as_tables)
+
+  follows_run : (t : Tables) (h : IsTableRun t) → Follows t (machine_of t h)
+  follows_run t h = subst (λ (x : Tables). Follows x (machine_of t h)) h.reached (all_follow laws says h.agreed h.steps h.numbered)
+
+  pub of_runs : (P : State → State → Told → Told → Type 0) → ((m : Machine) → IsRun m → OfWorlds P m) → (t : Tables) → IsTableRun t → OfEachLine P t
+  of_runs P all t h =
+      lifted t (machine_of t h) (follows_run t h) P (are_offered laws (machine_of t h) (run_of t h)) (all (machine_of t h) (run_of t h))
+
+  -- what holds of one side at each stage holds of both
+  pub of_stages : (P : State → List Message → Type 0)
+      → ((b : Bool) (w : World) (t u : Told) → Stage b w t u → P (session_of w) w.peer.channel) → (t : Tables) → IsTableRun t → AtEachSide P t
+  of_stages P all t h = sides_lifted t (machine_of t h) (follows_run t h) P (λ r w e.
+      let s = stage_at laws (machine_of t h) (run_of t h) r w e in
+      (all _ w _ _ s, all _ (turned w) _ _ (turned_stage _ w _ _ s)))
+
+  pub table_offers : (t : Tables) → IsTableRun t → AreOffered t
+  table_offers t h = offered_as t (machine_of t h) (follows_run t h) (are_offered laws (machine_of t h) (run_of t h))
+
+  -- ---- the whole journal
+
+  pub table_faultless : (t : Tables) → IsTableRun t → TellsNoFault t
+  table_faultless t h =
+      ap (list_any is_fault) (same_journal t (machine_of t h) (follows_run t h)) ∙ no_fault_shown laws (machine_of t h) (run_of t h)
+
+  pub table_losses : (t : Tables) → IsTableRun t → LosesAsItEnds t
+  table_losses t h =
+      let f = follows_run t h in
+      subst LosesAsItEnds (sym f.same)
+      (λ side e. ap loses (end_as side (machine_of t h) f.lines) ∙ losses_have_an_end laws (machine_of t h) (run_of t h) side e)

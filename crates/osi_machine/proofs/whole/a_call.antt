@@ -1,0 +1,170 @@
+-- A call on a whole connection, and on the core that simulates it.
+-- For every_step_is_simulated.
+use Rattle.std.proofs.Common.{◌≡◌, refl, sym, ◌∙◌, ap, subst, ℕ, Bool, true, false, ◌||◌, if◌then◌else◌, List, [], ◌∷◌, ◌++◌, append_assoc}
+use Rattle.std.proofs.Common.{map, length, inl, inr, Ok, arith}
+use Rattle.osi_machine.proofs.Vocabulary.{append-nil, length-append, map-append, list_any, Passed, State, Meaning, Token, is_over, Call}
+use Rattle.osi_machine.proofs.Vocabulary.{Granted, allowed, after, sends, may_call, Numbers, Item, Owner, Owners, is_own, turned_owner}
+use Rattle.osi_machine.proofs.Vocabulary.{given_up, own_to_pool, left_by, is_plain, Core, stays_in_core, says, view_called, owners_called}
+use Rattle.osi_machine.proofs.Vocabulary.{answered, Message, unit, Kept, World, put, mark_called, after_call}
+use Rattle.osi_machine.proofs.basics.what_holds_in_each_phase.{by_either, by_test}
+use Rattle.osi_machine.proofs.invariant.what_holds_of_both_sides.{Stands}
+use Rattle.osi_machine.proofs.invariant.each_step_keeps_one_side.{SessionLaws, granted}
+use Rattle.osi_machine.proofs.calls.a_restart_is_requested.{same_cut, in_range, given_theirs}
+use Rattle.osi_machine.proofs.promises.what_two_users_may_rely_on.{sees_the_history}
+use Rattle.osi_machine.proofs.whole.how_a_core_simulates_a_connection.{stopped, IsLast, IsTail, Carried, OneSide, Projects, one_over}
+
+-- ---- channels
+
+pub any_append : (p : Message → Bool) (ms : List Message) (m : Message) → p m ≡ false → list_any p (ms ++ m ∷ []) ≡ list_any p ms
+any_append p [] m h = rw h refl
+any_append p (x ∷ ms) m h = ap (λ (b : Bool). p x || b) (any_append p ms m h)
+
+-- if the sender is not over, no last unit is in flight
+pub none_last : (s : State) (lost tail : List Meaning) → IsTail false s lost tail → tail ≡ []
+none_last s lost tail h = grind arith
+
+-- one unit more
+pub carried_more : (broken : Bool) (channel : List Message) (sent : List Meaning) (s r : State) (m : Meaning) → Carried broken false channel sent s
+    → Carried broken false (put broken (unit m ∷ []) channel) (sent ++ m ∷ []) r
+carried_more true channel sent s r m h = record {
+  there = h.there;
+  lost = h.lost ++ m ∷ [];
+  tail = [];
+  splits = sym (append_assoc h.there h.lost (m ∷ [])) ∙ ap (λ (us : List Meaning). us ++ m ∷ []) h.splits;
+  carries = h.carries ∙ ap (λ (us : List Meaning). map unit (h.there ++ us)) (none_last s h.lost h.tail h.last);
+  whole = inr refl;
+  last = tt;
+}
+carried_more false channel sent s r m h = record {
+  there = sent ++ m ∷ [];
+  lost = [];
+  tail = [];
+  splits = append-nil (sent ++ m ∷ []);
+  carries = ap (λ (ms : List Message). ms ++ unit m ∷ []) (h.carries ∙ ap (λ (us : List Meaning). map unit (h.there ++ us)) (none_last s h.lost h.tail h.last)
+      ∙ ap (map unit) (append-nil h.there ∙ sym (append-nil h.there) ∙ ap (λ (r : List Meaning). h.there ++ r) (sym (by_either h.whole (λ e. e) (λ e. absurd (cc)))) ∙ h.splits))
+      ∙ sym (map-append unit sent (m ∷ [])) ∙ ap (map unit) (sym (append-nil (sent ++ m ∷ [])));
+  whole = inl refl;
+  last = tt;
+}
+
+-- the last unit of a side
+pub carried_last : (broken : Bool) (channel : List Message) (sent : List Meaning) (s : State) (m : Meaning) → IsLast s m → Carried broken false channel sent s
+    → Carried broken true (put broken (unit m ∷ []) channel) sent s
+carried_last true channel sent s m k h = grind (arith, none_last)
+carried_last false channel sent s m k h = record {
+  there = sent;
+  lost = [];
+  tail = m ∷ [];
+  splits = append-nil sent;
+  carries = ap (λ (ms : List Message). ms ++ unit m ∷ []) (h.carries ∙ ap (λ (us : List Meaning). map unit (h.there ++ us)) (none_last s h.lost h.tail h.last)
+      ∙ ap (map unit) (append-nil h.there ∙ sym (append-nil h.there) ∙ ap (λ (r : List Meaning). h.there ++ r) (sym (by_either h.whole (λ e. e) (λ e. absurd (cc)))) ∙ h.splits))
+      ∙ sym (map-append unit sent (m ∷ []));
+  whole = inl refl;
+  last = (refl, refl, k);
+}
+
+-- ---- owners
+
+pub left_lives : (s : State) (o : Owners) → is_over s.phase ≡ false → left_by s o ≡ o
+left_lives s o e = ap (λ (b : Bool). if b then given_up o else o) e
+
+pub left_theirs : (s : State) (o : Owners) (t : Token) → is_own (turned_owner (left_by s o t)) ≡ is_own (turned_owner (o t))
+left_theirs s o t = by_test (is_over s.phase) (λ e. rw e (sym (given_theirs (o t)))) (λ e. rw e)
+
+pub own_gone : (p : Owner) → is_own (own_to_pool p) ≡ false
+own_gone p = grind arith
+
+owns_called : (s : State) (c : Call) (o p : Owners) (t : Token) → is_own (o t) ≡ is_own (p t) → is_own (owners_called s c o t) ≡ is_own (owners_called s c p t)
+owns_called s c o p t e = grind (arith, own_gone)
+
+theirs_called : (s : State) (c : Call) (o p : Owners) (t : Token) → is_own (turned_owner (o t)) ≡ is_own (turned_owner (p t))
+    → is_own (turned_owner (owners_called s c o t)) ≡ is_own (turned_owner (owners_called s c p t))
+theirs_called s c o p t e = grind (arith, given_theirs)
+
+-- ---- a call that the core makes too
+
+call_lives : (s : State) (c : Call) → stays_in_core c ≡ true → is_over s.phase ≡ false → is_over (after s c).phase ≡ false
+call_lives s c k l = grind arith
+
+call_plain : (s : State) (c : Call) → stays_in_core c ≡ true → is_plain (sends s c) ≡ true
+call_plain s c k = grind arith
+
+marked : (c : Core) (x : Call) (h : List Item) (mark : ℕ) → Stands c → Passed c.own.session x (record { next = after c.own.session x; sent = sends c.own.session x })
+    → h ≡ c.history → mark ≡ length c.own.view → mark_called c.own.session x h mark ≡ length (view_called c.own.session x c.own.view)
+marked c x h mark s p e m = search (arith, in_range, same_cut, sees_the_history, length-append)
+
+called_own : (broken : Bool) (w : World) (c : Core) (x : Call) → stays_in_core x ≡ true → stopped w.own ≡ false → Projects broken w c → Stands c
+    → Passed c.own.session x (granted c.own.session x)
+    → OneSide broken (after_call broken c.own.session x (granted c.own.session x) w) (answered c x (Ok (granted c.own.session x)))
+called_own broken w c x k lives p s q = search (arith, call_lives, marked, left_lives, owns_called, any_append, call_plain)
+
+pub call_projects : SessionLaws → (broken : Bool) (w : World) (c : Core) (x : Call) (g : Granted) → stays_in_core x ≡ true → stopped w.own ≡ false → Projects broken w c → Stands c
+    → allowed c.own.session x ≡ Ok g → Projects broken (after_call broken c.own.session x g w) (answered c x (Ok g))
+call_projects laws broken w c x g k lives p s e =
+    let q = laws.passed c.own.session x g e in
+    let same : Passed c.own.session x (granted c.own.session x) = record { phase = q.phase; needed = q.needed; size = q.size; limit = q.limit; gives = refl } in
+    subst (λ (r : Granted). Projects broken (after_call broken c.own.session x r w) (answered c x (Ok r))) (sym q.gives) (record {
+      history = ap (λ (h : List Item). h ++ says c.own.session x) p.history;
+      own = called_own broken w c x k lives p s same;
+      peer =
+          let s' = c.own.session in
+          let own = p.own.alike lives in
+          let now = call_lives s' x k (ap (λ (r : Kept). is_over r.phase) (sym own.kept) ∙ lives) in
+          record {
+            begun = p.peer.begun;
+            counted = p.peer.counted;
+            alike = λ l.
+                let a = p.peer.alike l in
+                grind (arith, left_theirs, theirs_called);
+            carried = λ l. subst (λ (b : Bool). Carried broken b (put broken (unit (sends s' x) ∷ []) w.own.channel) (c.own.sent ++ sends s' x ∷ []) (after s' x)) (sym now)
+                (carried_more broken w.own.channel c.own.sent s' (after s' x) (sends s' x)
+                (subst (λ (b : Bool). Carried broken b w.own.channel c.own.sent s') lives (p.peer.carried l)));
+            parted = p.peer.parted;
+          };
+    })
+
+-- ---- a call after which a side is over
+
+pub stop_over : (s : State) (c : Call) → stays_in_core c ≡ false → is_over (after s c).phase ≡ true
+stop_over s c k = grind arith
+
+stop_last : (s : State) (c : Call) → stays_in_core c ≡ false → may_call s.phase c ≡ true → IsLast s (sends s c)
+stop_last s c k m = grind arith
+
+stop_silent : (s : State) (c : Call) → stays_in_core c ≡ false → says s c ≡ []
+stop_silent s c k = grind arith
+
+stop_owners : (s : State) (c : Call) (o : Owners) → stays_in_core c ≡ false → owners_called s c o ≡ o
+stop_owners s c o k = grind arith
+
+stop_numbers : (s : State) (c : Call) → stays_in_core c ≡ false → (after s c).numbers ≡ s.numbers
+stop_numbers s c k = grind arith
+
+stop_mark : (s : State) (c : Call) (h : List Item) (mark : ℕ) → stays_in_core c ≡ false → mark_called s c h mark ≡ mark
+stop_mark s c h mark k = grind arith
+
+pub stop_projects : SessionLaws → (broken : Bool) (w : World) (c : Core) (x : Call) (g : Granted) → stays_in_core x ≡ false → stopped w.own ≡ false → Projects broken w c
+    → allowed c.own.session x ≡ Ok g → Projects broken (after_call broken c.own.session x g w) c
+stop_projects laws broken w c x g k lives p e =
+    let q = laws.passed c.own.session x g e in
+    let s' = c.own.session in
+    let now = stop_over s' x k in
+    subst (λ (r : Granted). Projects broken (after_call broken s' x r w) c) (sym q.gives) (record {
+      history = ap (λ (d : List Item). w.history ++ d) (stop_silent s' x k) ∙ append-nil w.history ∙ p.history;
+      own = one_over broken (after_call broken s' x (granted s' x) w) c p.own.begun now (record {
+        acked = ap (λ (v : Numbers). v.confirmed) (stop_numbers s' x k);
+        based = grind arith;
+        marked = stop_mark s' x w.history w.own.mark k ∙ p.own.counted.marked;
+      });
+      peer = record {
+        begun = p.peer.begun;
+        counted = p.peer.counted;
+        alike = λ l.
+            let a = p.peer.alike l in
+            grind (arith, left_theirs, stop_owners);
+        carried = λ l. subst (λ (b : Bool). Carried broken b (put broken (unit (sends s' x) ∷ []) w.own.channel) c.own.sent s') (sym now)
+            (carried_last broken w.own.channel c.own.sent s' (sends s' x) (stop_last s' x k q.phase)
+            (subst (λ (b : Bool). Carried broken b w.own.channel c.own.sent s') lives (p.peer.carried l)));
+        parted = p.peer.parted;
+      };
+    })

@@ -1,0 +1,214 @@
+-- A request for a connection gets the machine's answer.
+-- For calls.
+use Rattle.osi_carrier.specs.declared.faults.OpenError.TheVariants as opening
+use Rattle.osi_machine.specs.Worlds as worlds
+use Rattle.osi_pair.proofs.Vocabulary.{◌≡◌, refl, sym, ◌∙◌, ap, subst, ℕ, zero, suc, ◌+◌, ◌≤◌, ◌==◌, ◌&&◌, ◌||◌, Bool, true, false, not}
+use Rattle.osi_pair.proofs.Vocabulary.{nat_le, nat_lt, if◌then◌else◌, List, [], ◌∷◌, length, map, Option, Some, None, option_map, is_some}
+use Rattle.osi_pair.proofs.Vocabulary.{arith, eqb-true, nat_tests, length-map, list_any, slice_get, Class, Zero, Two, or_else, was_given}
+use Rattle.osi_pair.proofs.Vocabulary.{RiseFrom, AreUpTo, Rows, value_at, Connection, asked, State as Carrier, EndReason, OpenError, absent}
+use Rattle.osi_pair.proofs.Vocabulary.{Both, Between, AreBetween, Terms, terms_of, Ending, Refusal, has_ended, negotiating, one_connection}
+use Rattle.osi_pair.proofs.Vocabulary.{too_many, references_used_up, not_selected, too_long, is_waiting, is_live, is_known, is_class_0}
+use Rattle.osi_pair.proofs.Vocabulary.{live_count, Line, Tables, refusal, transport_of, Transport, unit_bits, is_profile, is_long}
+use Rattle.osi_pair.proofs.Vocabulary.{after_open, connect_error, ConnectError, NotSelected, TooLong, asked_of, TwoEnds, answer_with}
+use Rattle.osi_pair.proofs.Vocabulary.{transport_in, class_in, ending_in, offer_in, answer_in, carriers_of, Stands, ConnectCall as Connect}
+use Rattle.osi_pair.proofs.turn.what_an_acting_end_leaves_in_flight.{place_given}
+
+-- ---- the live connections are those of the lines
+
+at_row : (q p : ℕ) (y : Connection) (rows : Rows Connection) (b : Bool) → (p == q) ≡ b →
+    value_at q ((p, y) ∷ rows) ≡ (if b then Some y else value_at q rows)
+at_row q p y rows b e = ap (λ (c : Bool). if◌then◌else◌ {A = Option Connection} c (Some y) (value_at q rows)) e
+
+-- the transport connections of this many references after this one
+transports : ℕ → ℕ → Rows Connection → List Transport
+transports k zero live = []
+transports k (suc m) live = transport_in (was_given (value_at (k + 1) live)) ∷ transports (k + 1) m live
+
+AreTransports : ℕ → List Line → Rows Connection → Type 0
+AreTransports k lines live =
+    (i : ℕ) (l : Line) → slice_get lines i ≡ Some l → l.own.transport ≡ transport_in (was_given (value_at (k + suc i) live))
+
+transports_are : (k : ℕ) (lines : List Line) (live : Rows Connection) → AreTransports k lines live →
+    map transport_of lines ≡ transports k (length lines) live
+unfolding transports AreTransports
+transports_are k [] live h = refl
+transports_are k (l ∷ lines) live h =
+    ap (λ (t : Transport). t ∷ map transport_of lines) (h 0 l refl)
+    ∙ ap (λ (ts : List Transport). transport_in (was_given (value_at (k + 1) live)) ∷ ts)
+    (transports_are (k + 1) lines live
+    (λ i m at. h (suc i) m at ∙ ap (λ (n : ℕ). transport_in (was_given (value_at n live))) (omega arith)))
+
+-- a row in front of those that are looked at
+skip : (k m q : ℕ) (x : Connection) (live : Rows Connection) → q ≤ k → transports k m ((q, x) ∷ live) ≡ transports k m live
+unfolding transports
+skip k zero q x live le = refl
+skip k (suc m) q x live le =
+    let none : (q == k + 1) ≡ false = grind (arith, nat_tests) in
+    ap (λ (o : Option Connection). transport_in (was_given o) ∷ transports (k + 1) m ((q, x) ∷ live)) (at_row (k + 1) q x live false none)
+    ∙ ap (λ (ts : List Transport). transport_in (was_given (value_at (k + 1) live)) ∷ ts) (skip (k + 1) m q x live (omega arith))
+
+live_is : (x : Connection) → is_live (transport_in (was_given (Some x))) ≡ true
+live_is x = grind arith
+
+more_live : (t : Transport) (ts : List Transport) (b : Bool) → is_live t ≡ b →
+    live_count (t ∷ ts) ≡ (if b then live_count ts + 1 else live_count ts)
+more_live t ts b e = ap (λ (c : Bool). if◌then◌else◌ {A = ℕ} c (live_count ts + 1) (live_count ts)) e
+
+count_by : (k m q : ℕ) (x : Connection) (live : Rows Connection) (b : Bool) → (q == k + 1) ≡ b → RiseFrom k ((q, x) ∷ live) →
+    AreUpTo (k + suc m) ((q, x) ∷ live) →
+    ((rows : Rows Connection) → RiseFrom (k + 1) rows → AreUpTo (k + 1 + m) rows → live_count (transports (k + 1) m rows) ≡ length rows) →
+    live_count (transports k (suc m) ((q, x) ∷ live)) ≡ length ((q, x) ∷ live)
+unfolding transports
+count_by k m q x live true e rise up more = grind (arith, at_row, eqb-true, length, more_live, transports, live_is, skip)
+count_by k m q x live false e rise up more = grind (arith, nat_tests, absent, more_live, transports)
+
+count_live : (k m : ℕ) (live : Rows Connection) → RiseFrom k live → AreUpTo (k + m) live → live_count (transports k m live) ≡ length live
+unfolding transports
+count_live k zero [] rise up = refl
+count_live k zero ((q, x) ∷ live) rise up = let a = rise.0 in let b = up.0 in absurd (omega arith)
+count_live k (suc m) [] rise up = count_live (k + 1) m [] tt tt
+count_live k (suc m) ((q, x) ∷ live) rise up = count_by k m q x live (q == k + 1) refl rise up (λ rows. count_live (k + 1) m rows)
+
+-- ---- one that awaits its answer
+
+more_any : (t : Transport) (ts : List Transport) (b : Bool) → is_waiting t ≡ b →
+    list_any is_waiting (t ∷ ts) ≡ (b || list_any is_waiting ts)
+more_any t ts b e = ap (λ (c : Bool). c || list_any is_waiting ts) e
+
+-- if all live connections await their answer
+AllAsked : Rows Connection → Type 0
+AllAsked live = (n : ℕ) (x : Connection) → value_at n live ≡ Some x → x ≡ asked
+
+some_live : (q : ℕ) (x : Connection) (live : Rows Connection) → true ≡ nat_lt 0 (length ((q, x) ∷ live))
+some_live q x live = let is : nat_lt 0 (suc (length live)) ≡ true = grind (arith, nat_tests) in sym is
+
+waits_by : (k m q : ℕ) (x : Connection) (live : Rows Connection) (b : Bool) → (q == k + 1) ≡ b → RiseFrom k ((q, x) ∷ live) →
+    AreUpTo (k + suc m) ((q, x) ∷ live) → AllAsked ((q, x) ∷ live) →
+    ((rows : Rows Connection) → RiseFrom (k + 1) rows → AreUpTo (k + 1 + m) rows → AllAsked rows →
+    list_any is_waiting (transports (k + 1) m rows) ≡ nat_lt 0 (length rows)) →
+    list_any is_waiting (transports k (suc m) ((q, x) ∷ live)) ≡ nat_lt 0 (length ((q, x) ∷ live))
+unfolding transports AllAsked
+waits_by k m q x live true e rise up all more =
+    let here : value_at (k + 1) ((q, x) ∷ live) ≡ Some x = at_row (k + 1) q x live true e in
+    more_any (transport_in (was_given (value_at (k + 1) ((q, x) ∷ live)))) (transports (k + 1) m ((q, x) ∷ live)) true
+    (ap (λ (o : Option Connection). is_waiting (transport_in (was_given o))) (here ∙ ap Some (all (k + 1) x here))) ∙ some_live q x live
+waits_by k m q x live false e rise up all more = grind (arith, nat_tests, absent, more_any, transports)
+
+any_waits : (k m : ℕ) (live : Rows Connection) → RiseFrom k live → AreUpTo (k + m) live → AllAsked live →
+    list_any is_waiting (transports k m live) ≡ nat_lt 0 (length live)
+unfolding transports
+any_waits k zero [] rise up all = refl
+any_waits k zero ((q, x) ∷ live) rise up all = let a = rise.0 in let b = up.0 in absurd (omega arith)
+any_waits k (suc m) [] rise up all = any_waits (k + 1) m [] tt tt all
+any_waits k (suc m) ((q, x) ∷ live) rise up all = waits_by k m q x live (q == k + 1) refl rise up all (λ rows. any_waits (k + 1) m rows)
+
+-- ---- the tests, one by one
+
+-- what the two make of the tests
+abbrev by_tests : (over known waits zero_class many up profile long : Bool) → Option Refusal
+by_tests over known waits zero_class many up profile long =
+    if over then Some has_ended
+    else if not known && waits then Some negotiating
+    else if zero_class then Some one_connection
+    else if many then Some too_many
+    else if up then Some references_used_up
+    else if not profile then Some not_selected
+    else if long then Some too_long
+    else None
+
+abbrev by_class : Option Class → (waits : Bool) → Option OpenError
+by_class None waits = if waits then Some opening.Negotiating else None
+by_class (Some Zero) waits = Some opening.OneConnection
+by_class (Some Two) waits = None
+
+abbrev error_by_tests : Option Class → (over waits many up profile long : Bool) → Option ConnectError
+error_by_tests class over waits many up profile long =
+    after_open (if over then Some opening.Ended else or_else (by_class class waits)
+    (if many then Some opening.TooMany else (if up then Some opening.ReferencesUsedUp else None)))
+    (if not profile then Some NotSelected else (if long then Some TooLong else None))
+
+-- ---- what each makes of them
+
+refusal_is : (t : Tables) (c : Connect) (known : Option worlds.Class) (over waits many up : Bool) → t.known ≡ known →
+    is_some t.left_end ≡ over → list_any is_waiting (map transport_of t.lines) ≡ waits →
+    nat_le 64 (live_count (map transport_of t.lines)) ≡ many → nat_le 65535 (length (map transport_of t.lines)) ≡ up →
+    refusal t (offer_in (asked_of c)) ≡ by_tests over (is_known known) waits (is_class_0 known) many up
+    (is_profile (unit_bits c.requirements)) (is_long c)
+refusal_is t c known over waits many up k o w m u = cc
+
+-- ---- at two ends that match the tables
+
+some_same : (x : Option Ending) (y : Option EndReason) → option_map Some x ≡ option_map ending_in y → is_some x ≡ is_some y
+some_same x y e = grind arith
+
+-- before a class is agreed, each that is live awaits its answer
+abbrev pub Awaits : Type 0
+Awaits = (terms : Terms) (both : Both) (b : Between) (n : ℕ) (x : Connection) → AreBetween terms both b → b.caller.class ≡ None →
+    value_at n b.caller.live ≡ Some x → x ≡ asked
+
+no_line : (j : ℕ) (ls : List Line) (x : Line) → length ls ≤ j → slice_get ls j ≡ Some x → ⊥
+no_line j [] x le e = cc
+no_line zero (y ∷ ls) x le e = absurd (omega arith)
+no_line (suc j) (y ∷ ls) x le e = no_line j ls x (omega arith) e
+
+lines_are : (p : TwoEnds) (b : Between) (t : Tables) → Stands p b t → AreTransports 0 t.lines p.left.end.carrier.live
+unfolding AreTransports
+lines_are p b t s i l at = by_fit (nat_le (suc i) (length t.lines)) refl
+  where
+    by_fit : (fits : Bool) → nat_le (suc i) (length t.lines) ≡ fits →
+        l.own.transport ≡ transport_in (was_given (value_at (0 + suc i) p.left.end.carrier.live))
+    by_fit true e =
+        let few : suc i ≤ length t.lines = grind (arith, nat_tests) in
+        let h = s.lines (suc i) (omega arith) few in
+        let same : h.line ≡ l = (let x = sym h.found ∙ at in cc) in
+        let given = s.given in
+        let place = place_given (suc i) p.left.end.carrier (omega arith) in
+        ap (λ (x : Line). x.own.transport) (sym same) ∙ h.is.left.transport ∙ ap transport_in place
+        ∙ ap (λ (n : ℕ). transport_in (was_given (value_at n p.left.end.carrier.live))) (omega arith)
+    by_fit false e = let beyond_all : length t.lines ≤ i = grind (arith, nat_tests) in absurd (no_line i t.lines l beyond_all at)
+
+tests : (g : ℕ) (class : Option Class) (over some waits many up profile long : Bool) → (class ≡ None → waits ≡ some) →
+    answer_in (answer_with g (error_by_tests class over some many up profile long)) ≡ Some
+    (by_tests over (is_known (option_map class_in class)) waits (is_class_0 (option_map class_in class)) many up profile long)
+tests g class over some waits many up profile long h = grind arith
+
+-- what both agree on while the left end lasts, by the class
+alive_by : (g : ℕ) (c : Connect) (p : TwoEnds) (b : Between) (t : Tables) (class : Option Class) (waits : Bool) → Stands p b t →
+    p.left.end.carrier.class ≡ class → p.left.end.carrier.ended ≡ None → list_any is_waiting (map transport_of t.lines) ≡ waits →
+    (class ≡ None → waits ≡ nat_lt 0 (length p.left.end.carrier.live)) →
+    live_count (map transport_of t.lines) ≡ length p.left.end.carrier.live →
+    answer_in (answer_with g (connect_error c p.left.end)) ≡ Some (refusal t (offer_in (asked_of c)))
+alive_by g c p b t class waits s is lasts any same count =
+    let e : Carrier = p.left.end.carrier in
+    let over : is_some t.left_end ≡ is_some e.ended = some_same t.left_end e.ended s.left_end in
+    let many : nat_le 64 (live_count (map transport_of t.lines)) ≡ nat_le 64 (length e.live) = ap (nat_le 64) count in
+    let up : nat_le 65535 (length (map transport_of t.lines)) ≡ nat_le 65535 e.given =
+    ap (nat_le 65535) (length-map t.lines transport_of ∙ s.given) in
+    let known : t.known ≡ option_map class_in class = s.known ∙ ap (option_map class_in) is in
+    ap (λ (o : Option ConnectError). answer_in (answer_with g o)) (grind (arith, s.caller))
+    ∙ tests g class (is_some e.ended) (nat_lt 0 (length e.live)) waits (nat_le 64 (length e.live)) (nat_le 65535 e.given)
+    (is_profile (unit_bits c.requirements)) (is_long c) same
+    ∙ sym (ap Some (refusal_is t c (option_map class_in class) (is_some e.ended) waits (nat_le 64 (length e.live))
+    (nat_le 65535 e.given) known over any many up))
+
+-- an end that has ended
+over_answer : (g : ℕ) (c : Connect) (p : TwoEnds) (b : Between) (t : Tables) (reason : EndReason) → Stands p b t →
+    p.left.end.carrier.ended ≡ Some reason →
+    answer_in (answer_with g (connect_error c p.left.end)) ≡ Some (refusal t (offer_in (asked_of c)))
+over_answer g c p b t reason s is = grind arith
+
+pub refusal_same : Awaits → (g : ℕ) (c : Connect) (p : TwoEnds) (b : Between) (t : Tables) (ended : Option EndReason) → Stands p b t →
+    p.left.end.carrier.ended ≡ ended → answer_in (answer_with g (connect_error c p.left.end)) ≡ Some (refusal t (offer_in (asked_of c)))
+unfolding AllAsked
+refusal_same awaits g c p b t (Some reason) s is = over_answer g c p b t reason s is
+refusal_same awaits g c p b t None s is =
+    let e : Carrier = p.left.end.carrier in
+    let o = (s.order_left is).sound.orderly in
+    let lives : e ≡ b.caller = s.between.lives true is in
+    let all : map transport_of t.lines ≡ transports 0 (length t.lines) e.live = transports_are 0 t.lines e.live (lines_are p b t s) in
+    let up : AreUpTo (0 + length t.lines) e.live = subst (λ (n : ℕ). AreUpTo n e.live) (let x = s.given in omega arith) o.up_to in
+    alive_by g c p b t e.class (list_any is_waiting (map transport_of t.lines)) s refl is refl
+    (λ none. ap (list_any is_waiting) all ∙ any_waits 0 (length t.lines) e.live o.rise up
+    (λ n x at. awaits (terms_of p.left.end.carrier.local p.right.end.carrier.local) (carriers_of p) b n x s.between
+    (ap (λ (y : Carrier). y.class) (sym lives) ∙ none) (ap (λ (y : Carrier). value_at n y.live) (sym lives) ∙ at)))
+    (ap live_count all ∙ count_live 0 (length t.lines) e.live o.rise up)

@@ -1,0 +1,358 @@
+-- A request for a connection is a request of the machine.
+-- For the laws of `standing`.
+use Rattle.osi_carrier.specs.Calls.{asks}
+use Rattle.osi_between.specs.Messages as carrier
+use Rattle.osi_machine.specs.Tables as tables
+use Rattle.osi_stack.specs.Calls.{connects}
+use Rattle.osi_stack.specs.State as stack
+use Rattle.osi_pair.proofs.Vocabulary.{◌≡◌, ◌≢◌, refl, sym, ◌∙◌, ap, subst, ℕ, suc, ◌+◌, ◌<◌, ◌≤◌, ◌==◌, Bool, true, false, not}
+use Rattle.osi_pair.proofs.Vocabulary.{if◌then◌else◌, List, [], ◌∷◌, ◌++◌, length, length-append, map, Option, Some, None, option_map}
+use Rattle.osi_pair.proofs.Vocabulary.{is_some, IsSome, Ok, Err, arith, inl, nat_le, eqb-true, eq-eqb, leb-true, leb-false, nat_tests}
+use Rattle.osi_pair.proofs.Vocabulary.{tsap_octets, may_connect, was_given, place_at, RiseFrom, Rows, value_at, Connection, asked}
+use Rattle.osi_pair.proofs.Vocabulary.{State as Carrier, EndReason, OpenError, push_here, absent, beyond, push_other, free_of, Both}
+use Rattle.osi_pair.proofs.Vocabulary.{Between, AreBetween, Acted, becomes, under_way, is_cut, progress_of, IsTsap, Progress, not_yet}
+use Rattle.osi_pair.proofs.Vocabulary.{awaiting, leaves_use, Terms, terms_of, Offer, Step, connects as connecting, connection_at}
+use Rattle.osi_pair.proofs.Vocabulary.{connect_answered, Refusal, Line, Tables, asked_with, refusal, asked_in, step, run, ask, Listener}
+use Rattle.osi_pair.proofs.Vocabulary.{Shown, is_profile, unit_bits, named_by, after_open, connect_error, calls_with, AllCameAbout}
+use Rattle.osi_pair.proofs.Vocabulary.{Soundness, IsSound, kept_at, End, Holding, session_in, is_used, used_lines, IsAttended, fresh_line}
+use Rattle.osi_pair.proofs.Vocabulary.{ConnectError, NotSelected, TooLong, used_by, used_live, rise_push, asked_of, CanBeAsked, TwoEnds}
+use Rattle.osi_pair.proofs.Vocabulary.{noted, connected_by, answer_with, after_connect, asks as asked_entry, carriers_of, transport_in}
+use Rattle.osi_pair.proofs.Vocabulary.{offer_in, answer_in, IsSeated, IsLine, HasLine, IsInOrder, Stands, StandsAt, HasJoined, whole}
+use Rattle.osi_pair.proofs.Vocabulary.{waiting_in, Left, none_of, ConnectCall as Connect}
+use Rattle.osi_pair.proofs.words.added_and_cut_words_are_messages.{wholes}
+use Rattle.osi_pair.proofs.turn.what_an_acting_end_leaves_in_flight.{out_way, place_given, place_ahead, more_said, StandsOn, begun_with}
+use Rattle.osi_pair.proofs.turn.what_an_acting_end_leaves_in_flight.{one_step}
+use Rattle.osi_pair.proofs.call.a_call_is_the_machines.{session_now_is}
+use Rattle.osi_pair.proofs.call.what_a_call_sends_can_be_written.{profile_small, asker_small, answerer_small}
+use Rattle.osi_pair.proofs.call.a_request_is_answered_as_by_the_machine.{Awaits, refusal_same}
+use Rattle.osi_pair.proofs.flight.what_is_in_flight_when_an_end_acts.{none_under_way, same_alike, alike_trans, like_alike}
+use Rattle.osi_pair.proofs.turn.a_turn_keeps_the_match.{seen, unseen, Others, other_seen}
+
+-- the laws of the crates below
+pub record ConnectLaws : Type 0 where
+  pub asked : (terms : Terms) (both : Both) (b : Between) (calling to : Option (List ℕ)) → AreBetween terms both b →
+      both.caller.state.ended ≡ None → may_connect both.caller.state ≡ None → IsTsap calling → IsTsap to →
+      Acted terms true (both.caller.state.given + 1) both (becomes true (asks calling to both.caller.state) both.caller.held both) b []
+      (carrier.ask ∷ [])
+  pub ahead : (terms : Terms) (both : Both) (b : Between) (end : Bool) (n : ℕ) → AreBetween terms both b → b.caller.given < n →
+      under_way end n both b ≡ []
+  pub awaits : Awaits
+  pub attended : (c : Connect) (e : End) → IsAttended e → IsAttended (connects c e)
+  pub sound : (c : Connect) (e : End) → connect_error c e ≡ None → IsSound e → IsSound (connects c e)
+  pub rising : (c : Connect) (e : End) → Soundness e → RiseFrom 0 e.lines → RiseFrom 0 (connects c e).lines
+  pub came : (c : Connect) (e : End) → AllCameAbout e.lines → AllCameAbout (connects c e).lines
+  pub before : (q : ℕ) (lines : List Line) (old new : Line) → connection_at q lines ≡ Some old →
+      connection_at q (lines ++ new ∷ []) ≡ Some old
+  pub last : (lines : List Line) (new : Line) → connection_at (suc (length lines)) (lines ++ new ∷ []) ≡ Some new
+
+abbrev asked_end : Connect → Holding → Holding
+asked_end c h = record h { end = connects c h.end }
+
+abbrev next_of : Holding → ℕ
+next_of h = h.end.carrier.given + 1
+
+-- ---- one that may be asked for
+
+record MayAsk (c : Connect) (h : Holding) : Type 0 where
+  may : may_connect h.end.carrier ≡ None
+  lasts : h.end.carrier.ended ≡ None
+  profile : is_profile (unit_bits c.requirements) ≡ true
+
+profile_by : (profile long : Bool) → (if not profile then Some NotSelected else (if long then Some TooLong else None)) ≡ None →
+    profile ≡ true
+profile_by profile long h = grind arith
+
+opened_by : (o : Option OpenError) (error : Option ConnectError) → after_open o error ≡ None → (o ≡ None) × (error ≡ None)
+opened_by o error h = grind arith
+
+may_ask : (c : Connect) (h : Holding) → connect_error c h.end ≡ None → MayAsk c h
+may_ask c h none = grind (arith, opened_by, none_of, free_of, profile_by)
+
+-- ---- the lines of the end
+
+at_row : (q p : ℕ) (y : stack.Line) (rows : Rows stack.Line) (b : Bool) → (p == q) ≡ b →
+    value_at q ((p, y) ∷ rows) ≡ (if b then Some y else value_at q rows)
+at_row q p y rows b e = ap (λ (c : Bool). if◌then◌else◌ {A = Option stack.Line} c (Some y) (value_at q rows)) e
+
+used_kept_by : (q p : ℕ) (y l : stack.Line) (live : Rows Connection) (lines : Rows stack.Line) (u b : Bool) → is_used live (p, y) ≡ u →
+    (p == q) ≡ b → RiseFrom p lines → (value_at q (used_lines live lines) ≡ Some l → value_at q lines ≡ Some l) →
+    value_at q (used_lines live ((p, y) ∷ lines)) ≡ Some l → value_at q ((p, y) ∷ lines) ≡ Some l
+used_kept_by q p y l live lines true true used same rise more at =
+    at_row q p y lines true same ∙ sym (at_row q p y (used_lines live lines) true same)
+    ∙ sym (ap (value_at q) (used_by live (p, y) lines true used)) ∙ at
+used_kept_by q p y l live lines true false used same rise more at =
+    at_row q p y lines false same
+    ∙ more (sym (at_row q p y (used_lines live lines) false same) ∙ sym (ap (value_at q) (used_by live (p, y) lines true used)) ∙ at)
+used_kept_by q p y l live lines false true used same rise more at = grind (arith, used_by, eqb-true, absent)
+used_kept_by q p y l live lines false false used same rise more at =
+    at_row q p y lines false same ∙ more (sym (ap (value_at q) (used_by live (p, y) lines false used)) ∙ at)
+
+used_kept : (k q : ℕ) (l : stack.Line) (live : Rows Connection) (lines : Rows stack.Line) → RiseFrom k lines →
+    value_at q (used_lines live lines) ≡ Some l → value_at q lines ≡ Some l
+used_kept k q l live [] rise at = at
+used_kept k q l live ((p, y) ∷ lines) rise at =
+    used_kept_by q p y l live lines (is_used live (p, y)) (p == q) refl refl rise.1 (used_kept p q l live lines rise.1) at
+
+kept_used : (k q : ℕ) (live : Rows Connection) (lines : Rows stack.Line) (s : Listener) (o : Option stack.Line) → RiseFrom k lines →
+    value_at q (used_lines live lines) ≡ o → session_in o ≡ Some s → kept_at q lines ≡ Some s
+kept_used k q live lines s None rise at h = cc
+kept_used k q live lines s (Some l) rise at h = ap session_in (used_kept k q l live lines rise at) ∙ h
+
+quiet_used_by : (p : ℕ) (y : stack.Line) (live : Rows Connection) (lines : Rows stack.Line) (u : Bool) → is_used live (p, y) ≡ u →
+    (w : List Shown) → y.waiting ≡ w → waiting_in ((p, y) ∷ lines) ≡ [] →
+    (waiting_in lines ≡ [] → waiting_in (used_lines live lines) ≡ []) → waiting_in (used_lines live ((p, y) ∷ lines)) ≡ []
+quiet_used_by p y live lines true used [] is h more =
+    let rest : waiting_in lines ≡ [] = sym (ap (λ (v : List Shown). map (λ shown. (p, shown)) v ++ waiting_in lines) is) ∙ h in
+    ap waiting_in (used_by live (p, y) lines true used)
+    ∙ ap (λ (v : List Shown). map (λ shown. (p, shown)) v ++ waiting_in (used_lines live lines)) is ∙ more rest
+quiet_used_by p y live lines false used [] is h more =
+    ap waiting_in (used_by live (p, y) lines false used)
+    ∙ more (sym (ap (λ (v : List Shown). map (λ shown. (p, shown)) v ++ waiting_in lines) is) ∙ h)
+quiet_used_by p y live lines u used (x ∷ w) is h more =
+    let no = sym (ap (λ (v : List Shown). map (λ shown. (p, shown)) v ++ waiting_in lines) is) ∙ h in absurd cc
+
+quiet_used : (live : Rows Connection) (lines : Rows stack.Line) → waiting_in lines ≡ [] → waiting_in (used_lines live lines) ≡ []
+quiet_used live [] h = refl
+quiet_used live ((p, y) ∷ lines) h = quiet_used_by p y live lines (is_used live (p, y)) refl y.waiting refl h (quiet_used live lines)
+
+quiet_push : (n : ℕ) (s : Listener) (lines : Rows stack.Line) → waiting_in (lines ++ (n, fresh_line s) ∷ []) ≡ waiting_in lines
+quiet_push n s [] = refl
+quiet_push n s ((p, y) ∷ lines) = ap (λ (w : List (ℕ × Shown)). map (λ shown. (p, shown)) y.waiting ++ w) (quiet_push n s lines)
+
+-- ---- the end that asks
+
+abbrev line_of : Connect → stack.Line
+line_of c = fresh_line (calls_with c)
+
+value_new : (c : Connect) (h : Holding) → Soundness h.end → value_at (next_of h) (asked_end c h).end.carrier.live ≡ Some asked
+value_new c h o = push_here (next_of h) asked h.end.carrier.live
+    (beyond (next_of h) h.end.carrier.given h.end.carrier.live o.orderly.up_to (omega arith))
+
+place_new : (c : Connect) (h : Holding) → Soundness h.end → place_at (next_of h) (asked_end c h).end.carrier ≡ was_given (Some asked)
+place_new c h o = place_given (next_of h) (asked_end c h).end.carrier (omega arith) ∙ ap was_given (value_new c h o)
+
+line_new : (c : Connect) (h : Holding) → Soundness h.end → value_at (next_of h) (asked_end c h).end.lines ≡ Some (line_of c)
+line_new c h o =
+    used_live (next_of h) (asked_end c h).end.carrier.live (h.end.lines ++ (next_of h, line_of c) ∷ []) (ap is_some (value_new c h o))
+    ∙ push_here (next_of h) (line_of c) h.end.lines (beyond (next_of h) h.end.carrier.given h.end.lines o.known (omega arith))
+
+place_apart : (q : ℕ) (c : Connect) (h : Holding) (given : Bool) → nat_le q h.end.carrier.given ≡ given → q ≢ next_of h →
+    value_at q (asked_end c h).end.carrier.live ≡ value_at q h.end.carrier.live →
+    place_at q (asked_end c h).end.carrier ≡ place_at q h.end.carrier
+place_apart q c h true e apart live =
+    let within = leb-true q h.end.carrier.given e in place_given q (asked_end c h).end.carrier (omega arith) ∙ ap was_given live
+    ∙ sym (place_given q h.end.carrier within)
+place_apart q c h false e apart live =
+    let above = leb-false q h.end.carrier.given e in place_ahead q (asked_end c h).end.carrier (omega arith)
+    ∙ sym (place_ahead q h.end.carrier above)
+
+left_alone : (c : Connect) (p : TwoEnds) (b : Between)
+    (a : Acted (terms_of p.left.end.carrier.local p.right.end.carrier.local) true (next_of p.left) (carriers_of p)
+    (carriers_of (record p { left = asked_end c p.left })) b [] (carrier.ask ∷ [])) → IsInOrder p.left.end →
+    Others Left p b (asked_end c p.left).end p.left.held a.now (next_of p.left)
+left_alone c p b a o =
+    let h : Holding = p.left in
+    let live : (q : ℕ) → q ≢ next_of h → value_at q (asked_end c h).end.carrier.live ≡ value_at q h.end.carrier.live =
+    λ q apart. push_other q (next_of h) asked h.end.carrier.live apart in
+    let rise : RiseFrom 0 (h.end.lines ++ (next_of h, line_of c) ∷ []) =
+    rise_push 0 h.end.carrier.given (next_of h) (line_of c) h.end.lines (omega arith) (omega arith) o.sound.known o.rising in
+    record {
+      places = λ q apart. place_apart q c h (nat_le q h.end.carrier.given) refl apart (live q apart);
+      lives = live;
+      sessions = λ q apart e. ap session_in (used_live q (asked_end c h).end.carrier.live (h.end.lines ++ (next_of h, line_of c) ∷ []) e
+          ∙ push_other q (next_of h) (line_of c) h.end.lines apart);
+      kept = λ q apart s e. ap session_in (sym (push_other q (next_of h) (line_of c) h.end.lines apart))
+          ∙ kept_used 0 q (asked_end c h).end.carrier.live (h.end.lines ++ (next_of h, line_of c) ∷ []) s
+          (value_at q (asked_end c h).end.lines) rise refl e;
+      ways = a.carries.others;
+      last = a.carries.other_places;
+      there = λ q. ap (place_at q) a.carries.there;
+    }
+
+own_new : (broken : Bool) (c : Connect) (h : Holding) → Soundness h.end → MayAsk c h → CanBeAsked c →
+    IsSeated (next_of h) (asked_end c h) (asked_with broken (offer_in (asked_of c))).own
+own_new broken c h o may can = record {
+  joined = None;
+  transport = ap transport_in (sym (place_new c h o));
+  live = λ e. session_now_is (next_of h) (asked_end c h).end asked (line_of c) (value_new c h o) (line_new c h o);
+  kept = λ s e. let is : Some s ≡ Some (calls_with c) = sym e ∙ ap session_in (line_new c h o) in cc;
+  over_now = λ e. cc;
+  awaiting = λ e. cc;
+  octets = (
+    profile_small (unit_bits c.requirements) may.profile,
+    can.calling_selector,
+    can.called_selector,
+    asker_small
+        (named_by c.sizes) can.sizes,
+    answerer_small (named_by c.sizes) can.sizes,
+    can.octets,
+  );
+}
+
+-- ---- the end that is asked
+
+record IsUnaware (n : ℕ) (h : Holding) : Type 0 where
+  live : value_at n h.end.carrier.live ≡ None
+  kept : kept_at n h.end.lines ≡ None
+
+unaware : (n : ℕ) (p : TwoEnds) (b : Between) (t : Tables) (o : Option EndReason) → p.right.end.carrier.ended ≡ o → Stands p b t →
+    p.right.end.carrier.given < n → IsUnaware n p.right
+unaware n p b t None is s above =
+    let o = (s.order_right is).sound in
+    assumption (
+      beyond n p.right.end.carrier.given p.right.end.carrier.live o.orderly.up_to above,
+      ap session_in
+          (beyond n p.right.end.carrier.given p.right.end.lines o.known above),
+    )
+unaware n p b t (Some reason) is s above =
+    let over : IsSome p.right.end.carrier.ended = subst (λ (x : Option EndReason). IsSome x) (sym is) refl in
+    record { live = ap (value_at n) (s.over_right over); kept = s.lost_right over n }
+
+peer_new : (n : ℕ) (broken : Bool) (c : Connect) (p : TwoEnds) → p.right.end.carrier.given < n → IsUnaware n p.right →
+    IsSeated n p.right (asked_with broken (offer_in (asked_of c))).peer
+peer_new n broken c p above u = grind arith
+
+-- ---- the two
+
+abbrev new_two : Connect → TwoEnds → TwoEnds
+new_two c p = record p { left = asked_end c p.left }
+
+abbrev terms_now : TwoEnds → Terms
+terms_now p = terms_of p.left.end.carrier.local p.right.end.carrier.local
+
+abbrev HasAsked : Connect → TwoEnds → Between → Type 0
+HasAsked c p b = Acted (terms_now p) true (next_of p.left) (carriers_of p) (carriers_of (new_two c p)) b [] (carrier.ask ∷ [])
+
+none_gone : (g h : Progress) (gone : List carrier.Message) → g ≡ not_yet → h ≡ awaiting → (leaves_use g h ≡ false → gone ≡ []) → gone ≡ []
+none_gone g h gone a b keeps = keeps (ap (λ (x : Progress). leaves_use x h) a ∙ ap (λ (x : Progress). leaves_use not_yet x) b)
+
+line_asks : ConnectLaws → (c : Connect) (p : TwoEnds) (b : Between) (t : Tables) (a : HasAsked c p b) → Stands p b t → MayAsk c p.left →
+    CanBeAsked c → IsLine (next_of p.left) (new_two c p) a.now (asked_with t.broken (offer_in (asked_of c)))
+line_asks laws c p b t a s may can =
+    let n : ℕ = next_of p.left in
+    let o = s.order_left may.lasts in
+    let new : TwoEnds = new_two c p in
+    let few : b.caller.given < n = (let e = s.given_then in omega arith) in
+    let above : p.right.end.carrier.given < n = (let e = s.given in let f = s.given_back in omega arith) in
+    let none_back : under_way false n (carriers_of p) b ≡ [] = laws.ahead (terms_now p) (carriers_of p) b false n s.between few in
+    let now : progress_of (place_at n a.now.caller) ≡ awaiting =
+    ap (λ (x : Carrier). progress_of (place_at n x)) (sym (a.between.lives true a.lasts)) ∙ ap progress_of (place_new c p.left o.sound) in
+    let g : Progress = progress_of (place_at n a.now.caller) in
+    unseen Left n new a.now (asked_with t.broken (offer_in (asked_of c))) (record {
+      here = own_new t.broken c p.left o.sound may can;
+      there = peer_new n t.broken c p above (unaware n p b t p.right.end.carrier.ended refl s above);
+      out = out_way (terms_now p) Left n p new b a.now (whole ask ∷ []) (ask ∷ []) [] t.broken
+          (asked_with t.broken (offer_in (asked_of c))).own (asked_with t.broken (offer_in (asked_of c))).peer
+          (wholes (ask ∷ [])) a.carries s.broken
+          (none_gone _ _ a.carries.gone (ap progress_of (place_ahead n b.caller few)) now a.carries.keeps) refl may.lasts refl
+          (none_under_way p.right.end.carrier.ended (progress_of (place_at n b.called)) (is_cut true (carriers_of p)) (HasJoined n p.right)
+          (asked_with t.broken (offer_in (asked_of c))).peer.session.state (under_way true n (carriers_of p) b)
+          (λ y at. (let none = (unaware n p b t p.right.end.carrier.ended refl s above).kept in let no : None ≡ Some y =
+          sym none ∙ at in absurd cc))
+          (λ e. same_alike (progress_of (place_at n b.called)) _ _ (sym (laws.ahead (terms_now p) (carriers_of p) b true n s.between few))))
+          refl;
+      back = none_under_way new.left.end.carrier.ended g (is_cut false (carriers_of new)) (HasJoined n new.left)
+          (asked_with t.broken (offer_in (asked_of c))).own.session.state (under_way false n (carriers_of new) a.now)
+          (λ y at. (let is : Some y ≡ Some (calls_with c) = sym at ∙ ap session_in (line_new c p.left o.sound) in
+          let same : y ≡ calls_with c = cc in inl (ap (λ (z : Listener). z.joined) same)))
+          (λ e. alike_trans g [] (under_way false n (carriers_of p) b) (under_way false n (carriers_of new) a.now)
+          (same_alike g _ _ (sym none_back))
+          (alike_trans g _ (a.carries.arrived ++ under_way false n (carriers_of new) a.now) _
+          (like_alike (place_at n a.now.caller) _ _ a.carries.came)
+          (same_alike g _ _ (ap (λ (l : List carrier.Message). l ++ under_way false n (carriers_of new) a.now) a.carries.brings.is))));
+    })
+
+abbrev with_line : Tables → Connect → Tables
+with_line t c = record t { lines = t.lines ++ asked_with t.broken (offer_in (asked_of c)) ∷ [] }
+
+line_by : (here : Bool) → ConnectLaws → (m : ℕ) (c : Connect) (p : TwoEnds) (b : Between) (t : Tables) (a : HasAsked c p b) →
+    (m == next_of p.left) ≡ here → Stands p b t → MayAsk c p.left → CanBeAsked c → 0 < m → m ≤ length t.lines + 1 →
+    HasLine m (new_two c p) a.now (with_line t c)
+line_by true laws m c p b t a e s may can some few =
+    let last : next_of p.left ≡ suc (length t.lines) = (let x = s.given in omega arith) in
+    let new : HasLine (next_of p.left) (new_two c p) a.now (with_line t c) = record {
+      line = asked_with t.broken (offer_in (asked_of c));
+      found = ap (λ (k : ℕ). connection_at k (t.lines ++ asked_with t.broken (offer_in (asked_of c)) ∷ [])) last
+          ∙ laws.last t.lines (asked_with t.broken (offer_in (asked_of c)));
+      is = line_asks laws c p b t a s may can;
+    } in
+    subst (λ (k : ℕ). HasLine k (new_two c p) a.now (with_line t c)) (sym (eqb-true m (next_of p.left) e)) new
+line_by false laws m c p b t a e s may can some few =
+    let apart : m ≢ next_of p.left = λ same. let no = sym e ∙ eq-eqb m (next_of p.left) same in cc in
+    let within : m ≤ length t.lines = (let x = s.given in grind (arith, nat_tests)) in
+    let h = s.lines m some within in
+    record {
+      line = h.line;
+      found = laws.before m t.lines h.line (asked_with t.broken (offer_in (asked_of c))) h.found;
+      is = unseen Left m (new_two c p) a.now h.line
+          (other_seen Left p b (asked_end c p.left).end p.left.held a.now (next_of p.left) m h.line apart may.lasts
+          (left_alone c p b a (s.order_left may.lasts)) (seen Left m p b h.line h.is));
+    }
+
+asks_stand : ConnectLaws → (c : Connect) (p : TwoEnds) (b : Between) (t : Tables) (a : HasAsked c p b) → connect_error c p.left.end ≡ None →
+    Stands p b t → MayAsk c p.left → CanBeAsked c → Stands (new_two c p) a.now (with_line t c)
+asks_stand laws c p b t a none s may can =
+    let x : Line = asked_with t.broken (offer_in (asked_of c)) in
+    let more : length (t.lines ++ x ∷ []) ≡ length t.lines + 1 = length-append t.lines (x ∷ []) in
+    let o = s.order_left may.lasts in
+    let lives : (asked_end c p.left).end.carrier ≡ a.now.caller = a.between.lives true a.lasts in
+    let lines : (m : ℕ) → 0 < m → m ≤ length (t.lines ++ x ∷ []) → HasLine m (new_two c p) a.now (with_line t c) =
+    λ m some few. line_by (m == next_of p.left) laws m c p b t a refl s may can some (subst (λ (n : ℕ). m ≤ n) more few) in
+    let heard = laws.attended c p.left.end (λ h. o.heard) in
+    let sound = laws.sound c p.left.end none (λ h. o.sound) in
+    let rising = laws.rising c p.left.end o.sound o.rising in
+    let came = laws.came c p.left.end o.came in
+    let quiet_left = quiet_used (asked_end c p.left).end.carrier.live (p.left.end.lines ++ (next_of p.left, line_of c) ∷ [])
+    (quiet_push (next_of p.left) (calls_with c) p.left.end.lines ∙ s.quiet_left) in
+    grind arith
+
+-- ---- the step
+
+none_refused : (r : Option Refusal) → Some None ≡ Some r → r ≡ None
+none_refused r h = let is : None ≡ r = cc in sym is
+
+connect_by : ConnectLaws → (c : Connect) (p : TwoEnds) (b : Between) (t : Tables) (o : Option ConnectError) →
+    connect_error c p.left.end ≡ o → CanBeAsked c → Stands p b t →
+    StandsOn (noted (asked_entry (asked_of c) (answer_with (next_of p.left) o) ∷ []) (record p { left = connected_by o c p.left }))
+    (step t (connecting (offer_in (asked_of c))))
+connect_by laws c p b t (Some e) is can s =
+    let o : Offer = offer_in (asked_of c) in
+    let answer : answer_in (Err e) ≡ Some (refusal t o) =
+    ap (λ (x : Option ConnectError). answer_in (answer_with (next_of p.left) x)) (sym is)
+    ∙ refusal_same laws.awaits (next_of p.left) c p b t p.left.end.carrier.ended s refl in
+    let said = more_said p b t (asked_entry (asked_of c) (Err e)) (connect_answered o (refusal t o))
+    (ap (option_map (connect_answered o)) answer) s in
+    record {
+      now = b;
+      stands = subst (λ (u : Tables). Stands (noted (asked_entry (asked_of c) (Err e) ∷ []) p) b
+          (tables.noted (connect_answered o (refusal t o) ∷ []) u)) (sym (grind arith)) said;
+    }
+connect_by laws c p b t None is can s =
+    let o : Offer = offer_in (asked_of c) in
+    let answer : Some None ≡ Some (refusal t o) =
+    ap (λ (x : Option ConnectError). answer_in (answer_with (next_of p.left) x)) (sym is)
+    ∙ refusal_same laws.awaits (next_of p.left) c p b t p.left.end.carrier.ended s refl in
+    let fine : refusal t o ≡ None = none_refused (refusal t o) answer in
+    let may = may_ask c p.left is in
+    let a : HasAsked c p b =
+    laws.asked (terms_now p) (carriers_of p) b (option_map tsap_octets c.calling_tsap)
+    (option_map tsap_octets c.called_tsap) s.between may.lasts may.may can.calling can.called in
+    let said = more_said (new_two c p) a.now (with_line t c) (asked_entry (asked_of c) (Ok (next_of p.left))) (connect_answered o None) refl
+    (asks_stand laws c p b t a is s may can) in
+    record {
+      now = a.now;
+      stands = subst (λ (r : Option Refusal). Stands (noted (asked_entry (asked_of c) (Ok (next_of p.left)) ∷ []) (new_two c p)) a.now
+          (tables.noted (connect_answered o r ∷ []) (asked_in t o r))) (sym fine) said;
+    }
+
+local_by : (c : Connect) (p : TwoEnds) (o : Option ConnectError) →
+    terms_of (connected_by o c p.left).end.carrier.local p.right.end.carrier.local ≡
+    terms_of p.left.end.carrier.local p.right.end.carrier.local
+local_by c p o = grind arith
+
+pub connect_at : ConnectLaws → (p : TwoEnds) (steps : List Step) (c : Connect) → CanBeAsked c → StandsAt p steps →
+    StandsAt (after_connect c p) (steps ++ connecting (offer_in (asked_of c)) ∷ [])
+connect_at laws p steps c can s =
+    one_step p (after_connect c p) steps (connecting (offer_in (asked_of c))) (can.serial, can.sizes)
+    (local_by c p (connect_error c p.left.end)) s.numbered
+    (connect_by laws c p s.now (run (begun_with p) steps) (connect_error c p.left.end) refl can s.stands)

@@ -1,0 +1,304 @@
+-- The effect of octets that are carried if memory suffices: the calls by which the end is fed and indications are
+-- fetched, whatever the pieces, and the entries of the journal.
+-- For pairs in the same state.
+use Rattle.osi_stack.specs.Calls.{without_first}
+use Rattle.osi_stack.specs.Runs.{Call}
+use Rattle.osi_pair.proofs.Vocabulary.{◌≡◌, ◌≢◌, ℕ, ◌+◌, ◌-◌, ◌≤◌, List, [], ◌∷◌, ◌++◌, map, take, sum, Option, Some, None, is_some, refl}
+use Rattle.osi_pair.proofs.Vocabulary.{sym, ap, ap₂, subst, ◌∙◌, ◌⊎◌, inl, inr, arith, take-add, drop-drop, flat_map-append, stops_not}
+use Rattle.osi_pair.proofs.Vocabulary.{found_how, feeding, telling, CallsInRoom, used_in, told_in, carried_in, append-nil, append_assoc}
+use Rattle.osi_pair.proofs.Vocabulary.{length-take, map-append, sum_by-cons, flat_map, first_shown, Held, IsPacket, ArePackets, Rows}
+use Rattle.osi_pair.proofs.Vocabulary.{EndReason, NoMemory, Step, Shown, carried, FindsNoMemory, Starves, End, Holding, ends_end as ends}
+use Rattle.osi_pair.proofs.Vocabulary.{EndLine as Line, Crossing, CarriesPiece, CarriesPieces, crossing, TwoEnds, end_at, reachable, Entry}
+use Rattle.osi_pair.proofs.Vocabulary.{shows, reach_after, other, StandsAt, ShowsFirst, end_entries, shown_entries, told_entries}
+use Rattle.osi_pair.proofs.Vocabulary.{waiting_in, quieted, Side}
+use Rattle.osi_pair.proofs.carry.a_carry_is_deliveries.{CarryLaws, SoFar, piece_laws, pieces_stand}
+use Rattle.osi_pair.proofs.packet.a_packet_is_one_delivery_or_none.{quiet_of}
+use Rattle.osi_pair.proofs.carry.packets_are_taken_in_turn.{GoesOn, still_goes}
+use Rattle.osi_pair.proofs.carry.pieces_are_fed_in_turn.{crossed, crossed_twice, packed, more_held, piece_of, piece_long, take_less}
+use Rattle.osi_pair.proofs.carry.handed_octets_are_no_step.{handed}
+use Rattle.osi_pair.proofs.promise.matching_ends_keep_the_promises.{tables_at}
+use Rattle.osi_pair.proofs.session.an_end_with_nothing_pending.{quiet_same}
+use Rattle.osi_pair.proofs.packet.a_packet_is_taken.{packet_at}
+use Rattle.osi_pair.proofs.turn.a_turn_keeps_the_match.{with_holding}
+use Rattle.osi_pair.proofs.ending.want_of_memory_is_an_end.{has_starved}
+use Rattle.osi_pair.proofs.carry.pending_indications_one_by_one.{none_waits, next_is}
+use Rattle.osi_pair.proofs.flight.whether_something_is_cut_off.{Lasts}
+
+-- ---- an allocation failure ends an end
+
+-- a packet for which there is none
+starved_named : CarryLaws → (s : Side) (p : TwoEnds) (steps : List Step) (packet octets : List ℕ) (none : Held) (new : End) →
+    StandsAt p steps → Lasts s p → IsPacket packet octets → (end_at s p).held.octets ≡ octets ++ none.octets →
+    Starves (end_at s p).end packet new → new.carrier.ended ≡ Some NoMemory
+starved_named laws s p steps packet octets none new at alive is cut starved =
+    let pa = packet_at laws.few.packets s p steps packet octets none at alive is cut in
+    elim (has_starved (record { starved = laws.few.starved; acts = laws.few.acts }) s p at.now
+    (tables_at p steps) packet octets none new at.stands alive is cut pa starved) [
+      | inl nothing ↦ ap (λ (e : End). e.carrier.ended) nothing
+      | inr unheard ↦ ap (λ (e : End). e.carrier.ended) unheard.is
+    ]
+
+memory_by : CarryLaws → (f : Side) (q : TwoEnds) (steps : List Step) (k : ℕ) (new before : End) (octets : List ℕ) →
+    GoesOn (other f) (handed f k (more_held f k q) q) steps before (record (more_held f k q) { octets = octets }) →
+    (new ≡ ends NoMemory before) ⊎ ((packet : List ℕ) × ArePackets (packet ∷ []) octets [] × Starves before packet new) →
+    new.carrier.ended ≡ Some NoMemory
+memory_by laws f q steps k new before octets z (inl is) = ap (λ (e : End). e.carrier.ended) is
+memory_by laws f q steps k new before octets z (inr st) =
+    let rest : Held = record (more_held f k q) { octets = octets } in
+    let none : Held = record (more_held f k q) { octets = [] } in
+    let r = with_holding (other f) before rest (handed f k (more_held f k q) q) in
+    let packs = st.1 in
+    let cut : (end_at (other f) r).held.octets ≡ packs.0 ++ [] = ap (λ (b : Holding). b.held.octets) z.here ∙ packs.3
+    ∙ ap (λ (l : List ℕ). packs.0 ++ l) packs.4 in
+    starved_named laws (other f) r (steps ++ z.more) st.0 packs.0 none new z.stands z.lasts packs.2 cut
+    (subst (λ (b : Holding). Starves b.end st.0 new) (sym z.here) st.2)
+
+-- a piece for which there is none
+memory_named : CarryLaws → (f : Side) (q : TwoEnds) (steps : List Step) (most used : ℕ) (new : Holding) → StandsAt q steps →
+    Lasts (other f) q → most ≤ reachable f q → FindsNoMemory (end_at (other f) q) (piece_of f most q) used new →
+    new.end.carrier.ended ≡ Some NoMemory
+memory_named laws f q steps most used new at alive le d =
+    let long = piece_long f most q le in
+    let bound = d.bound in
+    let k = d.within in
+    let g = more_held f k q in
+    let rest : Held = record g { octets = d.rest } in
+    let y = packed (piece_laws laws) f q steps k (take k (piece_of f most q)) d.units d.before rest at alive (omega arith)
+    (take_less k most (end_at f q).end.carrier.outgoing (omega arith)) d.taken d.packets in
+    let z = still_goes (other f) (handed f k g q) steps d.before rest d.quiet y.stands in
+    memory_by laws f q steps k new.end d.before d.rest z (found_how (end_at (other f) q) (piece_of f most q) used new d)
+
+-- ---- indications are given one after the other
+
+tellings : List (ℕ × Shown) → List Call
+tellings shown = map (λ p. telling (Some p)) shown
+
+record IsFirst (lines : Rows Line) (p : ℕ × Shown) (rest : List (ℕ × Shown)) : Type 0 where
+  shown : first_shown lines ≡ Some p
+  others : waiting_in (without_first lines) ≡ rest
+  quiet : quieted (without_first lines) ≡ quieted lines
+
+first_by : (lines : Rows Line) (p : ℕ × Shown) (rest : List (ℕ × Shown)) (o : Option (ℕ × Shown)) → first_shown lines ≡ o →
+    waiting_in lines ≡ p ∷ rest → IsFirst lines p rest
+first_by lines p rest None e is = let none = none_waits lines e in absurd (cc)
+first_by lines p rest (Some q) e is =
+    let next = next_is lines q e in
+    let both : q ∷ waiting_in (without_first lines) ≡ p ∷ rest = sym next.shown ∙ is in
+    let same : q ≡ p = cc in
+    record { shown = e ∙ ap Some same; others = (cc); quiet = next.quiet }
+
+tell_all : (h : Holding) (shown : List (ℕ × Shown)) → waiting_in h.end.lines ≡ shown →
+    CallsInRoom h (tellings shown) (record h { end = record h.end { lines = quieted h.end.lines } })
+unfolding tellings
+tell_all h [] is = ap (λ (l : Rows Line). record h { end = record h.end { lines = l } }) (quiet_same h.end.lines is)
+tell_all h (p ∷ rest) is =
+    let f = first_by h.end.lines p rest (first_shown h.end.lines) refl is in
+    let mid : Holding = record h { end = record h.end { lines = without_first h.end.lines } } in (
+      mid,
+      (sym f.shown, refl),
+      tt,
+      subst (λ (l : Rows Line). CallsInRoom mid (tellings rest) (record h { end = record h.end { lines = l } })) f.quiet
+          (tell_all mid rest f.others),
+    )
+
+pub all_told : (between new : Holding) (first : List (ℕ × Shown)) → ShowsFirst between first new → waiting_in new.end.lines ≡ [] →
+    waiting_in between.end.lines ≡ first
+all_told between new first h quiet = h.shown ∙ ap (λ (w : List (ℕ × Shown)). first ++ w) quiet ∙ append-nil first
+
+pub quieted_is : (between new : Holding) (first : List (ℕ × Shown)) → ShowsFirst between first new → waiting_in new.end.lines ≡ [] →
+    new ≡ record between { end = record between.end { lines = quieted between.end.lines } }
+quieted_is between new first h quiet =
+    h.rest ∙ ap (λ (l : Rows Line). record between { end = record between.end { lines = l } }) (sym (quiet_same new.end.lines quiet)
+    ∙ h.lines)
+
+tells_all : (between new : Holding) (first : List (ℕ × Shown)) → ShowsFirst between first new → waiting_in new.end.lines ≡ [] →
+    CallsInRoom between (tellings first) new
+tells_all between new first h quiet =
+    subst (λ (x : Holding). CallsInRoom between (tellings first) x) (sym (quieted_is between new first h quiet))
+    (tell_all between first (all_told between new first h quiet))
+
+used_none : (shown : List (ℕ × Shown)) → flat_map used_in (tellings shown) ≡ []
+unfolding tellings
+used_none [] = refl
+used_none (p ∷ rest) = used_none rest
+
+carried_none : (shown : List (ℕ × Shown)) → flat_map carried_in (tellings shown) ≡ []
+unfolding tellings
+carried_none [] = refl
+carried_none (p ∷ rest) = carried_none rest
+
+told_these : (shown : List (ℕ × Shown)) → flat_map told_in (tellings shown) ≡ shown
+unfolding tellings
+told_these [] = refl
+told_these (p ∷ rest) = ap (λ (w : List (ℕ × Shown)). p ∷ w) (told_these rest)
+
+-- ---- calls one after the other
+
+room_then : (xs ys : List Call) (old mid new : Holding) → CallsInRoom old xs mid → CallsInRoom mid ys new → CallsInRoom old (xs ++ ys) new
+room_then [] ys old mid new h k = subst (λ (x : Holding). CallsInRoom x ys new) h k
+room_then (x ∷ xs) ys old mid new h k = (h.0, h.1, h.2, room_then xs ys h.0 mid new h.3 k)
+
+-- This many octets are carried, and there is memory for what they do: what becomes of the end that is fed, of the
+-- other, and of the journal.
+pub record IsCarried (s : Side) (old : Crossing) (octets : ℕ) (new : Crossing) : Type 0 where
+  pub calls : List Call
+  pub room : CallsInRoom old.to calls new.to
+  pub used : flat_map used_in calls ≡ take octets old.from.end.carrier.outgoing
+  pub untaken : flat_map carried_in calls ≡ []
+  pub from : new.from ≡ record old.from { end = carried octets old.from.end }
+  pub says : new.journal ≡ old.journal ++ told_entries s old.to.end.carrier.ended new.to.end.carrier.ended (flat_map told_in calls)
+  pub over : (reason : EndReason) → old.to.end.carrier.ended ≡ Some reason → (new.to ≡ old.to) × (flat_map told_in calls ≡ [])
+
+end_once : (s : Side) (o : Option EndReason) → end_entries s o o ≡ []
+end_once s None = refl
+end_once s (Some reason) = refl
+
+pub carried_none_yet : (s : Side) (old new : Crossing) → new ≡ old → IsCarried s old 0 new
+carried_none_yet s old new same = record {
+  calls = [];
+  room = ap (λ (c : Crossing). c.to) same;
+  used = refl;
+  untaken = refl;
+  from = ap (λ (c : Crossing). c.from) same;
+  says = ap (λ (c : Crossing). c.journal) same ∙ sym (append-nil old.journal)
+      ∙ ap (λ (l : List Entry). old.journal ++ l) (sym (end_once s old.to.end.carrier.ended)
+      ∙ ap (λ (o : Option EndReason). end_entries s old.to.end.carrier.ended o)
+      (ap (λ (c : Crossing). c.to.end.carrier.ended) (sym same)));
+  over = λ reason over. (ap (λ (c : Crossing). c.to) same, refl);
+}
+
+-- the journal entries of both ends
+says_then : (s : Side) (first mid last : List Entry) (xs ys : List (ℕ × Shown)) (o m n : Option EndReason) →
+    mid ≡ first ++ told_entries s o m xs → last ≡ mid ++ told_entries s m n ys → (m ≡ None → o ≡ None) →
+    ((reason : EndReason) → m ≡ Some reason → (n ≡ m) × (ys ≡ [])) → last ≡ first ++ told_entries s o n (xs ++ ys)
+says_then s first mid last xs ys o None n h k alive over =
+    let none : o ≡ None = alive refl in
+    k ∙ ap (λ (t : List Entry). t ++ told_entries s None n ys) (h ∙ ap (λ (x : Option EndReason). first ++ told_entries s x None xs) none)
+    ∙ ap (λ (t : List Entry). (first ++ t) ++ told_entries s None n ys) (append-nil (shown_entries s xs))
+    ∙ append_assoc first (shown_entries s xs) (told_entries s None n ys)
+    ∙ ap (λ (t : List Entry). first ++ t) (sym (append_assoc (shown_entries s xs) (shown_entries s ys) (end_entries s None n)))
+    ∙ ap (λ (t : List Entry). first ++ (t ++ end_entries s None n)) (sym (map-append (λ (p : ℕ × Shown). shows s p.0 p.1) xs ys))
+    ∙ ap (λ (x : Option EndReason). first ++ told_entries s x n (xs ++ ys)) (sym none)
+says_then s first mid last xs ys o (Some reason) n h k alive over =
+    let e = over reason refl in
+    k ∙ ap₂ (λ (x : Option EndReason) (zs : List (ℕ × Shown)). mid ++ told_entries s (Some reason) x zs) e.0 e.1 ∙ append-nil mid ∙ h
+    ∙ ap₂ (λ (x : Option EndReason) (zs : List (ℕ × Shown)). first ++ told_entries s o x zs) (sym e.0) (sym (append-nil xs)
+    ∙ ap (λ (zs : List (ℕ × Shown)). xs ++ zs) (sym e.1))
+
+alive_by : (o m : Option EndReason) → ((reason : EndReason) → o ≡ Some reason → m ≡ o) → m ≡ None → o ≡ None
+alive_by None m f e = refl
+alive_by (Some reason) m f e = let same = f reason refl in absurd (cc)
+
+abbrev ended_of : Crossing → Option EndReason
+ended_of c = c.to.end.carrier.ended
+
+carried_then : (s : Side) (old mid new : Crossing) (n m : ℕ) → IsCarried s old n mid → IsCarried s mid m new → IsCarried s old (n + m) new
+carried_then s old mid new n m h k =
+    let out = old.from.end.carrier.outgoing in
+    record {
+      calls = h.calls ++ k.calls;
+      room = room_then h.calls k.calls old.to mid.to new.to h.room k.room;
+      used = flat_map-append used_in h.calls k.calls
+          ∙ ap₂ (λ (a b : List ℕ). a ++ b) h.used (k.used ∙ ap (λ (x : Holding). take m x.end.carrier.outgoing) h.from)
+          ∙ sym (take-add n m out);
+      untaken = flat_map-append carried_in h.calls k.calls ∙ ap₂ (λ (a b : List ℕ). a ++ b) h.untaken k.untaken;
+      from = k.from ∙ ap (λ (x : Holding). record x { end = carried m x.end }) h.from
+          ∙ ap (λ (l : List ℕ). record old.from {
+            end = record old.from.end
+                { carrier = record old.from.end.carrier { outgoing = l } };
+          }) (drop-drop m n out);
+      says = says_then s old.journal mid.journal new.journal (flat_map told_in h.calls) (flat_map told_in k.calls) (ended_of old)
+          (ended_of mid) (ended_of new) h.says k.says
+          (alive_by (ended_of old) (ended_of mid) (λ reason over. ap (λ (x : Holding). x.end.carrier.ended) (h.over reason over).0))
+          (λ reason over. (ap (λ (x : Holding). x.end.carrier.ended) (k.over reason over).0, (k.over reason over).1))
+          ∙ ap (λ (w : List (ℕ × Shown)). old.journal ++ told_entries s (ended_of old) (ended_of new) w)
+          (sym (flat_map-append told_in h.calls k.calls));
+      over = λ reason over.
+          let a = h.over reason over in
+          let b = k.over reason (ap (λ (x : Holding). x.end.carrier.ended) a.0 ∙ over) in
+          (b.0 ∙ a.0, flat_map-append told_in h.calls k.calls ∙ ap₂ (λ (x y : List (ℕ × Shown)). x ++ y) a.1 b.1);
+    }
+
+-- ---- a piece
+
+has_room : {D S R M : Type 0} → ((M → ⊥)) → (D ⊎ S) ⊎ (R ⊎ M) → (D ⊎ S) ⊎ R
+has_room none (inl goes) = inl goes
+has_room none (inr (inl refused)) = inr refused
+has_room none (inr (inr starved)) = absurd (none starved)
+
+over_told : (old between new : Holding) (first : List (ℕ × Shown)) → between ≡ old → waiting_in old.end.lines ≡ [] →
+    ShowsFirst between first new → waiting_in new.end.lines ≡ [] → (new ≡ old) × (first ≡ [])
+over_told old between new first same none h quiet =
+    let still : waiting_in between.end.lines ≡ [] = ap (λ (x : Holding). waiting_in x.end.lines) same ∙ none in (
+      quieted_is between new first h quiet
+          ∙ ap (λ (l : Rows Line). record between { end = record between.end { lines = l } }) (quiet_same between.end.lines still) ∙ same,
+      sym (all_told between new first h quiet) ∙ still,
+    )
+
+piece_carried : CarryLaws → (f : Side) (q : TwoEnds) (steps : List Step) (most used : ℕ) (new : Crossing) → StandsAt q steps →
+    most ≤ reachable f q → CarriesPiece (other f) most (crossing f q) used new → new.to.end.carrier.ended ≢ Some NoMemory →
+    waiting_in new.to.end.lines ≡ [] → IsCarried (other f) (crossing f q) used new
+piece_carried laws f q steps most used new at le piece memory quiet =
+    let s = other f in
+    let out = (end_at f q).end.carrier.outgoing in
+    let fed = piece.feeds.fed in
+    let feeds = piece.feeds.feeds in
+    let still = quiet_of s q at.now (tables_at q steps) at.stands in
+    let ended : new.to.end.carrier.ended ≡ piece.between.end.carrier.ended = ap (λ (x : Holding). x.end.carrier.ended) piece.shows.rest in
+    let bound = feeds.bound in
+    let few : used ≤ most = (let uses = piece.feeds.uses in let long = length-take most out in omega arith) in
+    record {
+      calls = feeding (take most out) fed ∷ tellings piece.first;
+      room = (
+        piece.between,
+        feeds,
+        λ goes. has_room (λ none. memory (ended
+            ∙ memory_named laws f q steps most fed.used piece.between at (stops_not (end_at s q).end goes) le none)) (feeds.goes goes),
+        tells_all piece.between new.to piece.first piece.shows quiet,
+      );
+      used = ap (λ (l : List ℕ). take fed.used (take most out) ++ l) (used_none piece.first) ∙ append-nil (take fed.used (take most out))
+          ∙ ap (λ (n : ℕ). take n (take most out)) piece.feeds.uses ∙ take_less used most out few;
+      untaken = carried_none piece.first;
+      from = piece.taken;
+      says = piece.says ∙ ap (λ (w : List (ℕ × Shown)). q.journal ++ told_entries s
+          (end_at s q).end.carrier.ended new.to.end.carrier.ended w) (sym (told_these piece.first));
+      over = λ reason over.
+          let none = feeds.over (ap is_some over) in
+          let same = over_told (end_at s q) piece.between new.to piece.first none.1 still piece.shows quiet in
+          (same.0, told_these piece.first ∙ same.1);
+    }
+
+-- ---- pieces one after the other
+
+-- nothing is pending after them
+quiet_behind : (f : Side) (p : TwoEnds) (steps : List Step) (most octets : ℕ) (new : Crossing) → SoFar f p steps most octets new →
+    waiting_in new.to.end.lines ≡ []
+quiet_behind f p steps most octets new x =
+    let q = crossed f new (reach_after f octets p.reach) in
+    let at = x.stands.stands in
+    ap (λ (c : Crossing). waiting_in c.to.end.lines) (sym (crossed_twice f new (reach_after f octets p.reach)))
+    ∙ quiet_of (other f) q at.now (tables_at q (steps ++ x.stands.more)) at.stands
+
+pub pieces_carried : CarryLaws → (f : Side) (p : TwoEnds) (steps : List Step) (most : ℕ) (pieces : List ℕ) (new : Crossing) →
+    StandsAt p steps → most ≤ reachable f p → CarriesPieces (other f) most pieces (crossing f p) new →
+    new.to.end.carrier.ended ≢ Some NoMemory → IsCarried (other f) (crossing f p) (sum pieces) new
+pieces_carried laws f p steps most [] new at le c memory = carried_none_yet (other f) (crossing f p) new c
+pieces_carried laws f p steps most (used ∷ before) new at le c memory =
+    let s = other f in
+    let b = c.0 in
+    let x = pieces_stand (piece_laws laws) f p steps most before b at le c.1 in
+    let y = pieces_stand (piece_laws laws) f p steps most (used ∷ before) new at le c in
+    let o = reach_after f (sum before) p.reach in
+    let q = crossed f b o in
+    let twice : crossing f q ≡ b = crossed_twice f b o in
+    let piece : CarriesPiece s (most - sum before) (crossing f q) used new = subst
+    (λ (d : Crossing). CarriesPiece s (most - sum before) d used new) (sym twice) c.2 in
+    let last : IsCarried s b used new =
+    subst (λ (d : Crossing). IsCarried s d used new) twice
+    (piece_carried laws f q (steps ++ x.stands.more) (most - sum before) used new x.stands.stands x.left piece memory
+    (quiet_behind f p steps most (sum (used ∷ before)) new y)) in
+    let first = pieces_carried laws f p steps most before b at le c.1
+    (λ over. memory (ap (λ (h : Holding). h.end.carrier.ended) (last.over NoMemory over).0 ∙ over)) in
+    let all : sum (used ∷ before) ≡ used + sum before = sum_by-cons (λ n. n) used before in
+    let same : sum before + used ≡ sum (used ∷ before) = omega arith in
+    subst (λ (n : ℕ). IsCarried s (crossing f p) n new) same (carried_then s (crossing f p) b new (sum before) used first last)

@@ -1,0 +1,46 @@
+-- Pieces are carried one after the other.
+-- For the code of `carrying`.
+use Rattle.osi_pair.specs.Carrying.{Carries}
+use Rattle.osi_pair.specs.declared.entries.Entry.{Entry}
+use Rattle.osi_pair.proofs.Vocabulary.{◌<◌, ◌≤◌, ◌⊎◌, inl, inr, refl, arith, ◌≡◌, ◌∙◌, ℕ, ◌+◌, ◌-◌, Bool, true, false, List, ◌∷◌, sum, map}
+use Rattle.osi_pair.proofs.Vocabulary.{Result, Ok, Err, OnOk, OnErr, is_err, sym, ap, subst, add_comm, sum_by-cons, Holding, Crossing}
+use Rattle.osi_pair.proofs.Vocabulary.{CarriesPiece, entry_by, Side}
+
+pub carries_more : (side : Side) (most carried used : ℕ) (old mid new : Crossing) → Carries side most old carried mid →
+    CarriesPiece side (most - carried) mid used new → Carries side most old (carried + used) new
+carries_more side most carried used old mid new h more = record {
+  pieces = used ∷ h.pieces;
+  length = ap (λ n. n + used) h.length ∙ add_comm (sum h.pieces) used ∙ sym (sum_by-cons (λ n. n) used h.pieces);
+  each = (mid, h.each, subst (λ n. CarriesPiece side (most - n) mid used new) h.length more);
+}
+
+-- the same, if the journal is then given room
+pub carries_then : (side : Side) (most carried used : ℕ) (old mid : Crossing) (from to : Holding) (said after : List Entry) →
+    Carries side most old carried mid →
+    CarriesPiece side (most - carried) mid used (record { from = from; to = to; journal = map entry_by said }) → after ≡ said →
+    Carries side most old (carried + used) (record { from = from; to = to; journal = map entry_by after })
+carries_then side most carried used old mid from to said after h more same =
+    subst (λ (l : List Entry). Carries side most old (carried + used) (record { from = from; to = to; journal = map entry_by l }))
+    (sym same)
+    (carries_more side most carried used old mid (record { from = from; to = to; journal = map entry_by said }) h more)
+
+-- if nothing was refused, what holds of a success holds
+pub not_refused : {T E : Type 0} (P : Type 0) (r : Result T E) (b : Bool) → b ≡ is_err r → b ≡ false → OnOk r P → P
+not_refused P (Ok x) b e f h = h
+not_refused P (Err x) b e f h = cc
+
+-- if one was refused, what holds of an error holds
+pub was_refused : {T E : Type 0} (P : Type 0) (r : Result T E) (b : Bool) → b ≡ is_err r → b ≡ true → OnErr r P → P
+was_refused P (Ok x) b e f h = cc
+was_refused P (Err x) b e f h = h
+
+-- an end that takes nothing of something has pending indications
+pub held_up : (waiting : Bool) (most used : ℕ) → (waiting ≡ false → 0 < most → 0 < used) → 0 < most → used ≡ 0 → waiting ≡ true
+held_up true most used h some none = refl
+held_up false most used h some none = let more = h refl some in absurd (omega arith)
+
+-- room that was refused was used up by the last piece
+pub refused_late : (len room old before after new : ℕ) → room < len + 82 → (len + 81 < room) ⊎ (before < after) → old ≤ before →
+    new ≡ after → old < new
+refused_late len room old before after new full (inl there) le same = absurd (omega arith)
+refused_late len room old before after new full (inr more) le same = omega arith

@@ -1,0 +1,159 @@
+-- What happens to a connection whose end ends: its seat, its line, and what is in flight from it.
+-- For breaks and ends.
+use Rattle.osi_between.specs.Messages as between
+use Rattle.osi_machine.specs.Core as machine
+use Rattle.osi_machine.specs.Worlds.{not_yet, gone}
+use Rattle.osi_pair.proofs.Vocabulary.{◌≡◌, refl, sym, ◌∙◌, ap, subst, ℕ, zero, suc, ◌+◌, ◌≤◌, Bool, true, false, if◌then◌else◌, not, List}
+use Rattle.osi_pair.proofs.Vocabulary.{[], ◌∷◌, ◌++◌, length, map, take, nat_lt, Option, Some, None, is_some, arith, messages_front}
+use Rattle.osi_pair.proofs.Vocabulary.{slice_get, IfSome, append-nil, Value, Place, never, was_given, place_at, connection_in, Rows}
+use Rattle.osi_pair.proofs.Vocabulary.{value_at, Connection, State, units_of, Between, Both, is_cut, to_come, under_way, side, last_of}
+use Rattle.osi_pair.proofs.Vocabulary.{messages_after, begun_at, Progress, connection_at, is_given, Seat, Line, awaits, seen_from}
+use Rattle.osi_pair.proofs.Vocabulary.{ends_there, ended_lines, Message, IsInOctets, Listener, Standing, broken as broken_off, react}
+use Rattle.osi_pair.proofs.Vocabulary.{kept_at, Holding, both, AreAlike, transport_in, IsSeated, AreUnderWay, word_in, EndReason}
+use Rattle.osi_pair.proofs.Vocabulary.{SessionState as Session}
+use Rattle.osi_pair.proofs.flight.what_is_in_flight_when_an_end_acts.{Takes, front_takes, as_now, map_take, alike_take}
+use Rattle.osi_pair.proofs.flight.what_is_in_flight_when_an_end_acts as ways
+use Rattle.osi_pair.proofs.ending.all_sessions_are_lost_in_order.{is_over}
+
+-- ---- a side that has ended
+
+-- what happens to it, if it was given
+abbrev pub ended_seat : Bool → ℕ → Seat → Seat
+ended_seat true keep s = record { transport = gone; session = (react s.session broken_off).next; channel = take keep s.channel }
+ended_seat false keep s = s
+
+abbrev pub ended_line : ℕ → Line → Line
+ended_line keep l = record l { own = ended_seat (is_given l.own.transport) keep l.own }
+
+line_by : (b : Bool) (keep : ℕ) (l : Line) → is_given l.own.transport ≡ b → ends_there keep l ≡ record l { own = ended_seat b keep l.own }
+line_by b keep l e = grind arith
+
+-- what is asked of a seat that is going to end, by whether its carrier has given the reference
+pub record IsPlaced (n : ℕ) (c : State) (seat : Seat) : Type 0 where
+  pub given : is_given seat.transport ≡ not (nat_lt c.given n)
+  pub awaiting : seat.transport ≡ not_yet → seat.session ≡ awaits
+  pub octets : IfSome seat.session.waiting IsInOctets
+
+given_by : (o : Option Connection) (never_given : Bool) →
+    is_given (transport_in (if never_given then never else was_given o)) ≡ not never_given
+given_by o never_given = grind arith
+
+pub given_place : (n : ℕ) (c : State) → is_given (transport_in (place_at n c)) ≡ not (nat_lt c.given n)
+given_place n c = given_by (value_at n c.live) (nat_lt c.given n)
+
+pub placed_seat : (n : ℕ) (h : Holding) (seat : Seat) → IsSeated n h seat → IsPlaced n h.end.carrier seat
+placed_seat n h seat i = record { given = ap is_given i.transport ∙ given_place n h.end.carrier; awaiting = i.awaiting; octets = i.octets }
+
+-- the end of a carrier leaves what was given
+pub record HasEnded (c : State) (new : Holding) : Type 0 where
+  pub given : new.end.carrier.given ≡ c.given
+  pub live : new.end.carrier.live ≡ []
+  pub none : (n : ℕ) → kept_at n new.end.lines ≡ None
+
+place_ended : (n : ℕ) (c : State) (new : Holding) (b : Bool) → HasEnded c new → nat_lt c.given n ≡ b →
+    place_at n new.end.carrier ≡ (if b then never else was_given None)
+place_ended n c new b h e = cc
+
+not_live : (n : ℕ) (live : Rows Connection) → live ≡ [] → is_some (value_at n live) ≡ true → ⊥
+not_live n live none some = grind arith
+
+not_kept : (n : ℕ) (new : Holding) (s : Listener) → kept_at n new.end.lines ≡ None → kept_at n new.end.lines ≡ Some s → ⊥
+not_kept n new s none some = let no : None ≡ Some s = sym none ∙ some in cc
+
+pub still_waiting : (s : Standing) → (react s broken_off).next.waiting ≡ s.waiting
+unfolding react
+still_waiting s = refl
+
+pub not_of : (b : Bool) (x : Bool) → x ≡ not b → b ≡ not x
+not_of b x e = grind arith
+
+seat_ends_by : (n : ℕ) (c : State) (new : Holding) (seat : Seat) (b : Bool) (keep : ℕ) → is_given seat.transport ≡ b → HasEnded c new →
+    IsPlaced n c seat → IsSeated n new (ended_seat b keep seat)
+seat_ends_by n c new seat true keep e ended s = grind (arith, place_ended, not_of, nat_lt, not_live, not_kept, is_over, still_waiting)
+seat_ends_by n c new seat false keep e ended s = grind arith
+
+pub seat_ends : (n : ℕ) (c : State) (new : Holding) (seat : Seat) (keep : ℕ) → HasEnded c new → IsPlaced n c seat →
+    IsSeated n new (ended_seat (is_given seat.transport) keep seat)
+seat_ends n c new seat keep ended s = seat_ends_by n c new seat (is_given seat.transport) keep refl ended s
+
+-- ---- all lines
+
+ended_got : (side : machine.Side) (keep : ℕ → ℕ) (k i : ℕ) (ls : List Line) (l : Line) → slice_get ls i ≡ Some l →
+    slice_get (ended_lines side keep k ls) i ≡ Some (seen_from side (ends_there (keep (k + i)) (seen_from side l)))
+ended_got side keep k i [] l e = absurd (cc)
+ended_got side keep k zero (x ∷ ls) l e =
+    ap (λ (o : Option Line). end_some o) e ∙ ap (λ (n : ℕ). Some (seen_from side (ends_there (keep n) (seen_from side l)))) (omega arith)
+  where
+    end_some : Option Line → Option Line
+    end_some None = None
+    end_some (Some y) = Some (seen_from side (ends_there (keep k) (seen_from side y)))
+ended_got side keep k (suc i) (x ∷ ls) l e =
+    ended_got side keep (k + 1) i ls l e ∙ ap (λ (n : ℕ). Some (seen_from side (ends_there (keep n) (seen_from side l)))) (omega arith)
+
+pub ended_at_line : (side : machine.Side) (keep : ℕ → ℕ) (n : ℕ) (ls : List Line) (l : Line) → connection_at n ls ≡ Some l →
+    connection_at n (ended_lines side keep 1 ls) ≡ Some (seen_from side (ended_line (keep n) (seen_from side l)))
+ended_at_line side keep zero ls l e = absurd (cc)
+ended_at_line side keep (suc i) ls l e =
+    ended_got side keep 1 i ls l e
+    ∙ ap (λ (n : ℕ). Some (seen_from side (ends_there (keep n) (seen_from side l)))) (let same : 1 + i ≡ suc i = omega arith in same)
+    ∙ ap (λ (x : Line). Some (seen_from side x))
+    (line_by (is_given (seen_from side l).own.transport) (keep (suc i)) (seen_from side l) refl)
+
+pub ended_count : (side : machine.Side) (keep : ℕ → ℕ) (k : ℕ) (ls : List Line) → length (ended_lines side keep k ls) ≡ length ls
+ended_count side keep k [] = refl
+ended_count side keep k (l ∷ ls) = ap suc (ended_count side keep (k + 1) ls)
+
+-- ---- what is in flight
+
+pub record Front (all first : List between.Message) : Type 0 where
+  pub gone : List between.Message
+  pub parts : all ≡ first ++ gone
+
+-- what is still to be cut into units is lost
+front_cut : (o c : Option Connection) (n : ℕ) (units : List Value) (cut : Bool) →
+    Front (messages_after (begun_at o) (units_of n units ++ to_come cut c))
+    (messages_after (begun_at o) (units_of n units ++ to_come true c))
+front_cut o c n units cut =
+    let f = messages_front (units_of n units) (begun_at o) (to_come cut c) in
+    record { gone = f.0; parts = f.1 ∙ ap (λ (l : List Value). messages_after (begun_at o) l ++ f.0) (sym (append-nil (units_of n units))) }
+
+pub way_cut : (end : Bool) (n : ℕ) (old new : Both) (b : Between) → is_cut end new ≡ true →
+    Front (under_way end n old b) (under_way end n new b)
+way_cut end n old new b cut = grind (arith, not, front_cut)
+
+pub way_none : (end : Bool) (n : ℕ) (old new : Both) (b : Between) → connection_in (place_at n (last_of end b)) ≡ None →
+    under_way end n old b ≡ under_way end n new b
+way_none end n old new b none = grind arith
+
+pub never_given : (n : ℕ) (c : State) → nat_lt c.given n ≡ true → connection_in (place_at n c) ≡ None
+never_given n c e = ap (λ (b : Bool). connection_in (if◌then◌else◌ {A = Place} b never (was_given (value_at n c.live)))) e
+
+-- the first k messages, whatever was sent after them
+take_front : (k : ℕ) (xs ys : List Message) → k ≤ length xs → take k (xs ++ ys) ≡ take k xs
+take_front (suc k) (x ∷ xs) ys h = ap (λ (l : List Message). x ∷ l) (take_front k xs ys (omega arith))
+take_front k xs ys h = grind arith
+
+-- `keep` messages of it remain
+pub record EndsWith (o : Option EndReason) (g : Progress) (H : Option (List ℕ) → Type 0) (x : Session) (given : Bool) (seat : Seat)
+    (new : List between.Message) : Type 0 where
+  pub keep : ℕ
+  pub way : AreUnderWay o g true H x (ended_seat given keep seat).channel new
+
+-- what its end takes away was put after what was in flight
+pub way_ended : (o : Option EndReason) (g : Progress) (c : Bool) (H : Option (List ℕ) → Type 0) (x : Session) (given : Bool) (seat : Seat)
+    (kept more : List Message) (old new : List between.Message) → seat.channel ≡ kept ++ more → (given ≡ false → more ≡ []) →
+    Takes x seat.channel → Front old new → (given ≡ false → old ≡ new) → AreUnderWay o g c H x kept old → EndsWith o g H x given seat new
+way_ended o g c H x true seat kept more old new parts none takes f same w =
+    let k = length new in
+    let y = ways.front_at o o g g c true H x kept k old new w (front_takes x kept more (subst (Takes x) parts takes)) refl
+    (λ e. subst (λ (l : List between.Message). AreAlike g l new) (sym (map_take word_in k w.words))
+    (alike_take g (map word_in w.words) new f.gone (subst (AreAlike g (map word_in w.words)) f.parts (w.alike e)))) in
+    record {
+      keep = y.keep;
+      way = subst (λ (l : List Message). AreUnderWay o g true H x l new)
+          (sym (ap (take y.keep) parts ∙ take_front y.keep kept more y.fits)) y.way;
+    }
+way_ended o g c H x false seat kept more old new parts none takes f same w = grind (arith, append-nil, as_now, map)
+
+pub cut_by_end : (end : Bool) (both : Both) → is_some (side end both).state.ended ≡ true → is_cut end both ≡ true
+cut_by_end end both e = grind arith

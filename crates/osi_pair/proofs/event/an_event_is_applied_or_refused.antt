@@ -1,0 +1,33 @@
+-- The state after an event that is applied or refused.
+-- For the code of `Pair`.
+use Rattle.osi_pair.proofs.Vocabulary.{◌≡◌, List, Result, Ok, Err, OnOk, OnErr, IfOk, None, sym, subst, PairError, Step, CanHappen}
+use Rattle.osi_pair.proofs.Vocabulary.{StandsAfter, TwoEnds, misfit, Does, CarriesAsMuch, CarriesWhereQuiet, IsReached, StandsAt, Applied}
+use Rattle.osi_pair.proofs.Vocabulary.{Event}
+use Rattle.osi_pair.specs.Events.{NotesIfCutShort, NotesWhereQuiet}
+use Rattle.osi_pair.proofs.carry.nothing_holds_up_a_carry.{carries_as_much, cut_by_notes}
+use Rattle.osi_pair.proofs.event.two_ends_after_an_event.{reached_event}
+use Rattle.osi_pair.proofs.event.what_an_event_does.{EventLaws, event_stands}
+
+pub result_reached : EventLaws → (event : Event) (old new : TwoEnds) (result : Result Applied PairError) → CanHappen event →
+    OnOk result (misfit event old ≡ None) → IfOk result (λ applied. Does event old applied.carried new) → OnErr result (new ≡ old) →
+    IsReached old → IsReached new
+result_reached laws event old new (Ok applied) can fits does same at = reached_event laws event old new applied.carried can fits does at
+result_reached laws event old new (Err error) can fits does same at = subst IsReached (sym same) at
+
+pub result_stands : EventLaws → (event : Event) (old new : TwoEnds) (result : Result Applied PairError) → CanHappen event →
+    OnOk result (misfit event old ≡ None) → IfOk result (λ applied. Does event old applied.carried new) →
+    OnOk result ((steps : List Step) → StandsAt old steps → StandsAfter event old new steps)
+result_stands laws event old new (Ok applied) can fits does =
+    λ steps s. event_stands laws event old new applied.carried steps can fits does s
+result_stands laws event old new (Err error) can fits does = tt
+
+pub result_carries : (event : Event) (old : TwoEnds) (result : Result Applied PairError) → IsReached old →
+    IfOk result (λ applied. CarriesWhereQuiet event old applied) → IfOk result (λ applied. CarriesAsMuch event old applied)
+result_carries event old (Ok applied) at h = carries_as_much event old applied at h
+result_carries event old (Err error) at h = tt
+
+pub result_cut : EventLaws → (event : Event) (old new : TwoEnds) (result : Result Applied PairError) → IsReached old →
+    IfOk result (λ applied. CarriesWhereQuiet event old applied) → IfOk result (λ applied. NotesWhereQuiet event old applied new) →
+    IfOk result (λ applied. NotesIfCutShort old applied new)
+result_cut laws event old new (Ok applied) at moves h = cut_by_notes laws event old applied new at moves h
+result_cut laws event old new (Err error) at moves h = tt

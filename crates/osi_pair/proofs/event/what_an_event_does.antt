@@ -1,0 +1,76 @@
+-- The effect of an event on two ends that match the machine.
+-- For events, the code of `octets` and the code of `Pair`.
+use Rattle.osi_session.specs.Calls as call
+use Rattle.osi_session.specs.declared.requests.Request.TheVariants as request
+use Rattle.osi_pair.specs.Asked as here
+use Rattle.osi_pair.specs.declared.events.Event.TheVariants.{Call}
+use Rattle.osi_pair.proofs.Vocabulary.{◌≡◌, refl, sym, subst, ℕ, zero, suc, ◌<◌, ◌≤◌, ◌&&◌, Bool, true, false, List, [], ◌∷◌, ◌++◌, length}
+use Rattle.osi_pair.proofs.Vocabulary.{take, Option, Some, None, is_some, arith, TsduSizes, Tsap, Request, named_by, are_sizes, IsOctets}
+use Rattle.osi_pair.proofs.Vocabulary.{tsap_octets, Step, connects, calls, octets_of, Call as Asked, HasSerial, called_by, CanHappen}
+use Rattle.osi_pair.proofs.Vocabulary.{StandsAfter, asked_of, CanBeAsked, CarriesFrom, TwoEnds, end_at, after_connect, after_call}
+use Rattle.osi_pair.proofs.Vocabulary.{after_break, TellsBreak, misfit, misfit_break, misfit_told, Does, other, side_in, offer_in, StandsAt}
+use Rattle.osi_pair.proofs.Vocabulary.{StandsAtArrivals, StandsAtBreak, StandsAtTold, Event, Connect, Carry, Break, Told, Reach, Side}
+use Rattle.osi_pair.proofs.Vocabulary.{ConnectCall as Wanted}
+
+-- ---- what is asked for
+
+both_true : (a b : Bool) → a ≡ true → b ≡ true → (a && b) ≡ true
+both_true true b h k = k
+both_true false b h k = absurd cc
+
+-- a user gives no other sizes
+pub named_sizes : (s : TsduSizes) → are_sizes (named_by s) ≡ true
+named_sizes s = both_true _ _ s.from_asker.is_size s.from_answerer.is_size
+
+pub serial_small : (r : Request) → HasSerial (called_by r)
+serial_small (request.Accept requirements serial sides sizes user) = (let few = serial.small in omega arith, named_sizes sizes)
+serial_small _ = tt
+
+pub same_octets : (c : Asked) → here.octets_of c ≡ octets_of c
+same_octets (call.Accept requirements serial sides sizes octets) = refl
+same_octets _ = refl
+
+few_taken : (n : ℕ) (xs : List ℕ) → length (take n xs) ≤ n
+few_taken zero xs = omega arith
+few_taken (suc n) [] = omega arith
+few_taken (suc n) (x ∷ xs) = let few = few_taken n xs in omega arith
+
+pub address_short : (t : Tsap) → length (tsap_octets t) ≤ 32
+address_short t = let few = few_taken t.len t.octets in let most = t.at_most in omega arith
+
+pub wanted_small : (c : Wanted) → c.serial.number < 1000000
+wanted_small c = let few = c.serial.small in omega arith
+
+-- ---- an event
+
+pub record EventLaws : Type 0 where
+  pub connects : (p : TwoEnds) (steps : List Step) (c : Wanted) → CanBeAsked c → StandsAt p steps →
+      StandsAt (after_connect c p) (steps ++ connects (offer_in (asked_of c)) ∷ [])
+  pub calls : (p : TwoEnds) (steps : List Step) (side : Side) (r : ℕ) (c : Asked) → HasSerial c → IsOctets (octets_of c) →
+      StandsAt p steps → StandsAt (after_call side r c p) (steps ++ calls (side_in side) r c ∷ [])
+  pub carries : (side : Side) (most : ℕ) (old new : TwoEnds) (octets : ℕ) (steps : List Step) → StandsAt old steps →
+      CarriesFrom side most old octets new → StandsAtArrivals (other side) new steps
+  pub broken : (p : TwoEnds) (steps : List Step) (k l : ℕ) → StandsAt p steps → p.reach ≡ None → StandsAtBreak (after_break k l p) steps
+  pub tells : (side : Side) (old new : TwoEnds) (steps : List Step) → StandsAt old steps → is_some old.reach ≡ true →
+      TellsBreak side old new → StandsAtTold (end_at side old).end.carrier.ended side new steps
+
+unbroken : (o : Option Reach) → misfit_break o ≡ None → o ≡ None
+unbroken None e = refl
+unbroken (Some r) e = cc
+
+is_broken : (o : Option Reach) → misfit_told o ≡ None → is_some o ≡ true
+is_broken None e = cc
+is_broken (Some r) e = refl
+
+pub event_stands : EventLaws → (event : Event) (old new : TwoEnds) (octets : ℕ) (steps : List Step) → CanHappen event →
+    misfit event old ≡ None → Does event old octets new → StandsAt old steps → StandsAfter event old new steps
+event_stands laws (Connect asked) old new octets steps can fits does s =
+    subst (λ (p : TwoEnds). StandsAt p (steps ++ connects (offer_in (asked_of asked)) ∷ [])) (sym does.0)
+    (laws.connects old steps asked can s)
+event_stands laws (Call side reference request) old new octets steps can fits does s =
+    subst (λ (p : TwoEnds). StandsAt p (steps ++ calls (side_in side) reference.0 (called_by request) ∷ [])) (sym does.0)
+    (laws.calls old steps side reference.0 (called_by request) can.0 can.1 s)
+event_stands laws (Carry side most) old new octets steps can fits does s = laws.carries side most old new octets steps s does
+event_stands laws (Break left right) old new octets steps can fits does s =
+    subst (λ (p : TwoEnds). StandsAtBreak p steps) (sym does.0) (laws.broken old steps left right s (unbroken old.reach fits))
+event_stands laws (Told side) old new octets steps can fits does s = laws.tells side old new steps s (is_broken old.reach fits) does.0

@@ -1,0 +1,91 @@
+-- A packet is taken: how two ends match a list of steps when its users received the indications.
+-- For packets and carries.
+use Rattle.osi_machine.specs.Core as machine
+use Rattle.osi_pair.proofs.Vocabulary.{◌≡◌, ℕ, false, List, [], ◌∷◌, ◌++◌, Option, None, sym, ap, subst, ◌∙◌, arith, AllByRecursion, Held}
+use Rattle.osi_pair.proofs.Vocabulary.{IsPacket, Rows, State, EndReason, Between, Terms, Step, delivers, HasNumber, ends as ends_side}
+use Rattle.osi_pair.proofs.Vocabulary.{Tables, run, start, Shown, after_packet, End, TwoEnds, end_at, noted, side_in, is_caller, terms_in}
+use Rattle.osi_pair.proofs.Vocabulary.{carriers_of, AreDeliveries, AreArrivals, StandsAtArrivals, Stands, StandsAt, waiting_in, quieted}
+use Rattle.osi_pair.proofs.Vocabulary.{told_entries, Side, EndLine as Line}
+use Rattle.osi_pair.proofs.flight.a_taken_packet_is_one_row.{PacketActs, packet_acts}
+use Rattle.osi_pair.proofs.turn.what_remains_when_a_unit_was_taken.{terms_at, order_of, PacketAt}
+use Rattle.osi_pair.proofs.packet.a_packet_is_one_delivery_or_none.{PacketLaws, StandsBehind, is_heard, unheard_packet, both_carrier}
+use Rattle.osi_pair.proofs.packet.a_packet_is_one_delivery_or_none.{both_held}
+pub use Rattle.osi_pair.proofs.promise.matching_ends_keep_the_promises.{tables_at, is_run}
+use Rattle.osi_pair.proofs.session.an_end_with_nothing_pending.{quiet_same}
+use Rattle.osi_pair.proofs.turn.all_is_shown.{shown_pair, StandsShown}
+use Rattle.osi_pair.proofs.turn.a_turn_keeps_the_match.{with_holding, turned_pair}
+use Rattle.osi_pair.proofs.ending.a_break_is_the_machines.{run_behind}
+use Rattle.osi_pair.proofs.flight.whether_something_is_cut_off.{Lasts}
+
+-- ---- there is no indication
+
+are_arrivals : (s : machine.Side) (xs : List Step) → AreDeliveries s xs → AreArrivals s xs
+are_arrivals s (delivers q r keep ∷ xs) d = (d.0, are_arrivals s xs d.1)
+are_arrivals s xs d = search
+
+-- an end that goes on, with no indication pending
+pub shown_nothing : (s : Side) (p : TwoEnds) (e : End) (h : Held) (n : ℕ) → e.carrier.ended ≡ None → waiting_in e.lines ≡ [] →
+    shown_pair s e h p ≡ turned_pair s e h n [] p
+shown_nothing s p e h n lasts waits =
+    ap (λ (o : Option EndReason). noted (told_entries s None o (waiting_in e.lines))
+    (with_holding s (record e { lines = quieted e.lines }) h p)) lasts
+    ∙ ap (λ (w : List (ℕ × Shown)). noted (told_entries s None None w) (with_holding s (record e { lines = quieted e.lines }) h p)) waits
+    ∙ ap (λ (l : Rows Line). noted [] (with_holding s (record e { lines = l }) h p)) (quiet_same e.lines waits)
+
+behind_shown : (s : Side) (p : TwoEnds) (t : Tables) (packet : List ℕ) (h : Held) → StandsBehind s p t packet h →
+    StandsShown s p t (after_packet (end_at s p).end packet) h
+behind_shown s p t packet h b =
+    subst (λ (e : End). StandsShown s p t e h) (sym b.same)
+    (record {
+      more = b.more;
+      are = are_arrivals (side_in s) b.more b.are;
+      now = b.now;
+      local = b.local;
+      stands = subst (λ (q : TwoEnds). Stands q b.now (run t b.more)) (sym (shown_nothing s p b.end h b.n b.lasts b.waits)) b.stands;
+    })
+
+-- a packet that no session receives
+pub unheard_shown : PacketLaws → (s : Side) (p : TwoEnds) (b : Between) (t : Tables) (packet : List ℕ) (h : Held) → Stands p b t →
+    Lasts s p → (pa : PacketAt s p b packet h) → is_heard pa.did.row ≡ false → StandsShown s p t (after_packet (end_at s p).end packet) h
+unheard_shown laws s p b t packet h old alive pa e = behind_shown s p t packet h (unheard_packet laws s p b t packet h old alive pa e)
+
+-- ---- at a list of steps
+
+-- what arrives has no number
+numbered_then : (s : machine.Side) (xs ys : List Step) → AllByRecursion HasNumber xs → AreArrivals s ys →
+    AllByRecursion HasNumber (xs ++ ys)
+numbered_then s [] (delivers q r keep ∷ ys) a d = (tt, numbered_then s [] ys tt d.1)
+numbered_then s [] (ends_side q e keep ∷ ys) a d =
+    subst (λ (l : List Step). AllByRecursion HasNumber (ends_side q e keep ∷ l)) (sym d.2) (tt, tt)
+numbered_then s (x ∷ xs) ys a d = (a.0, numbered_then s xs ys a.1 d)
+numbered_then s xs ys a d = search
+
+terms_shown : (s : Side) (p : TwoEnds) (e : End) (h : Held) → e.carrier.local ≡ (end_at s p).end.carrier.local →
+    terms_at (shown_pair s e h p) ≡ terms_at p
+terms_shown s p e h same = grind arith
+
+pub arrivals_at : (s : Side) (p : TwoEnds) (steps : List Step) (e : End) (h : Held) → StandsAt p steps →
+    StandsShown s p (tables_at p steps) e h → StandsAtArrivals s (shown_pair s e h p) steps
+arrivals_at s p steps e h at x =
+    let terms = terms_shown s p e h x.local in
+    record {
+      more = x.more;
+      are = x.are;
+      stands = record {
+        numbered = numbered_then (side_in s) steps x.more at.numbered x.are;
+        now = x.now;
+        stands = subst (λ (u : Tables). Stands (shown_pair s e h p) x.now u)
+            (sym (run_behind (start (terms_in (terms_at p))) steps x.more)
+            ∙ ap (λ (k : Terms). run (start (terms_in k)) (steps ++ x.more)) (sym terms)) x.stands;
+      };
+    }
+
+-- what an end does that lasts, of a packet that it holds first
+pub packet_at : PacketLaws → (s : Side) (p : TwoEnds) (steps : List Step) (packet octets : List ℕ) (h : Held) → (at : StandsAt p steps) →
+    Lasts s p → IsPacket packet octets → (end_at s p).held.octets ≡ octets ++ h.octets →
+    PacketActs (terms_at p) (is_caller s) (carriers_of p) at.now packet h.octets
+packet_at laws s p steps packet octets h at alive is cut =
+    let c = both_carrier s p in
+    packet_acts laws.two (terms_at p) (is_caller s) (carriers_of p) at.now packet octets h.octets at.stands.between
+    (ap (λ (x : State). x.ended) c ∙ alive)
+    (ap (λ (x : State). x.events) c ∙ (order_of s p at.now (tables_at p steps) at.stands alive).heard) is (both_held s p ∙ cut)

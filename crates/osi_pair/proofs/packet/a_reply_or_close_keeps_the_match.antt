@@ -1,0 +1,255 @@
+-- A session moved, and sends a unit, or closes its connection of class 2: the state of two ends when that was done and
+-- its user received what the move indicates.
+-- For packets.
+use Rattle.osi_machine.specs.Core as machine
+use Rattle.osi_machine.specs.Machine as entries
+use Rattle.osi_machine.specs.Tables.{closed}
+use Rattle.osi_machine.specs.Worlds as worlds
+use Rattle.osi_pair.proofs.Vocabulary.{◌≡◌, ℕ, zero, suc, Bool, true, false, List, [], ◌∷◌, ◌++◌, map, Option, Some, None, refl, sym, ap}
+use Rattle.osi_pair.proofs.Vocabulary.{subst, ◌∙◌, ◌⊎◌, arith, noted_in, append-nil, Held, open_link, sent, sent_on, closed_with, Rows}
+use Rattle.osi_pair.proofs.Vocabulary.{State as Carrier, EndReason, in_use, gone, by_two, delivers, shown_at, replaced, with_connection}
+use Rattle.osi_pair.proofs.Vocabulary.{Line as TableLine, Turn, Tables, seen_from, stays, puts, closes_by, after_turn, step, Message, unit}
+use Rattle.osi_pair.proofs.Vocabulary.{put, replied, Meaning, tsdus_sent, written, is_ended, Shown, after_packet, concludes, with_carrier}
+use Rattle.osi_pair.proofs.Vocabulary.{IsSound, answers, End, answers_by, hands_none, handed, sent_by_itself, TwoEnds, end_at, Entry}
+use Rattle.osi_pair.proofs.Vocabulary.{side_in, IsInOrder, Stands, waiting_in, quieted, shown_entries, end_entries, told_entries, Side}
+use Rattle.osi_pair.proofs.Vocabulary.{Left, Right, Link, EndLine as Line, quieted_at}
+use Rattle.osi_pair.proofs.turn.what_an_acting_end_leaves_in_flight.{StandsOn}
+use Rattle.osi_pair.proofs.flight.a_taken_packet_is_one_row.{CarrierLaws}
+use Rattle.osi_pair.proofs.call.a_call_is_the_machines.{put_nothing, open_is}
+use Rattle.osi_pair.proofs.turn.a_closed_connection_leaves.{closes_from, close_is}
+use Rattle.osi_pair.proofs.turn.what_remains_when_a_unit_was_taken.{terms_at, line_then}
+use Rattle.osi_pair.proofs.packet.an_end_handles_its_carriers_events.{lasting}
+use Rattle.osi_pair.proofs.session.an_end_moves_as_the_tables_do.{as_made}
+use Rattle.osi_pair.proofs.packet.a_session_that_moved.{Moving, move_of, loud_lines, moved_end, IsLinkedAt, known_by, moved_line, turn_of}
+use Rattle.osi_pair.proofs.packet.a_session_that_moved.{moved_tables, HasMoved}
+use Rattle.osi_pair.proofs.packet.a_session_makes_its_move.{is_move}
+use Rattle.osi_pair.proofs.packet.a_packet_is_one_delivery_or_none.{terms_then}
+use Rattle.osi_pair.proofs.packet.a_unit_with_which_no_session_acts.{open_by}
+use Rattle.osi_pair.proofs.flight.what_may_arrive_row_by_row.{Row, after}
+use Rattle.osi_pair.proofs.turn.a_sent_unit_is_put.{sent_acts, sends_from}
+use Rattle.osi_pair.proofs.turn.all_is_shown.{StandsShown, shown_pair}
+use Rattle.osi_pair.proofs.turn.a_turn_keeps_the_match.{with_holding, turned_pair}
+
+-- ---- the two ends when the session has moved
+
+pub turned_here : (s : Side) (e : End) (h : Held) (n : ℕ) (shown : List Shown) (p : TwoEnds) →
+    end_at s (turned_pair s e h n shown p) ≡ record { end = e; held = h }
+turned_here s e h n shown p = grind arith
+
+-- the end afterwards, with the carrier after it acted, and with all indications still pending
+abbrev pub answered_end : Carrier → Rows Line → End
+answered_end c lines = record { carrier = c; lines = lines }
+
+told_is : (s : Side) (n : ℕ) (shown : List Shown) (ended : Option EndReason) (waits : List (ℕ × Shown)) → ended ≡ None →
+    waits ≡ map (λ x. (n, x)) shown → shown_entries s (map (λ x. (n, x)) shown) ≡ told_entries s None ended waits
+told_is s n shown ended waits lasts e =
+    ap (shown_entries s) (sym e) ∙ sym (append-nil (shown_entries s waits))
+    ∙ ap (λ (o : Option EndReason). shown_entries s waits ++ end_entries s None o) (sym lasts)
+
+pub shown_is : (s : Side) (p : TwoEnds) (e : End) (h : Held) (n : ℕ) (shown : List Shown) (c : Carrier) (lines : Rows Line) →
+    c.ended ≡ None → waiting_in lines ≡ map (λ x. (n, x)) shown →
+    with_holding s (answered_end c (quieted lines)) h (turned_pair s e h n shown p) ≡ shown_pair s (answered_end c lines) h p
+shown_is Left p e h n shown c lines lasts waits =
+    ap (λ (es : List Entry). record (with_holding Left (answered_end c (quieted lines)) h p) { journal = p.journal ++ es })
+    (told_is Left n shown c.ended (waiting_in lines) lasts waits)
+shown_is Right p e h n shown c lines lasts waits =
+    ap (λ (es : List Entry). record (with_holding Right (answered_end c (quieted lines)) h p) { journal = p.journal ++ es })
+    (told_is Right n shown c.ended (waiting_in lines) lasts waits)
+
+-- it is in order, as before, if it has the connections that its sessions need
+order_then : (e : End) (c : Carrier) (lines : Rows Line) → e.lines ≡ quieted lines → c.ended ≡ None → c.given ≡ e.carrier.given →
+    c.events ≡ e.carrier.events → IsInOrder e → IsSound (answered_end c lines) → IsInOrder (with_carrier c e)
+order_then e c lines same lasts given events was sound = grind (arith, quieted_at)
+
+sent_events : (n : ℕ) (tsdu : List ℕ) (c : Carrier) (peer : ℕ) (link : Link) → open_link n c ≡ Some (peer, link) →
+    (sent n tsdu c).events ≡ c.events
+sent_events n tsdu c peer link is = ap (λ (o : Option (ℕ × Link)). (sent_on n tsdu o c).events) is
+
+closed_events : (n reason : ℕ) (c : Carrier) (peer : ℕ) (link : Link) → open_link n c ≡ Some (peer, link) →
+    (closed_with n reason c).events ≡ c.events
+closed_events n reason c peer link is = grind arith
+
+-- ---- the tables
+
+replaced_twice : (r : ℕ) (x y : TableLine) (ls : List TableLine) → replaced r y (replaced r x ls) ≡ replaced r y ls
+replaced_twice r x y [] = refl
+replaced_twice zero x y (l ∷ ls) = refl
+replaced_twice (suc r) x y (l ∷ ls) = ap (λ (more : List TableLine). l ∷ more) (replaced_twice r x y ls)
+
+with_twice : (r : ℕ) (x y : TableLine) (ls : List TableLine) → with_connection r y (with_connection r x ls) ≡ with_connection r y ls
+with_twice zero x y ls = refl
+with_twice (suc r) x y ls = replaced_twice r x y ls
+
+-- a line that was another in between
+pub stays_twice : (t : Tables) (s : machine.Side) (n : ℕ) (es : List entries.Entry) (x y : TableLine) →
+    stays (noted_in es (stays t s n x)) s n y ≡ noted_in es (stays t s n y)
+stays_twice t s n es x y =
+    ap (λ (ls : List TableLine). noted_in es (record t { lines = ls })) (with_twice n (seen_from s x) (seen_from s y) t.lines)
+
+pub closing_by : (t : Tables) (s : machine.Side) (n : ℕ) (keep : ℕ → ℕ) (turn : Turn) → turn.closes ≡ true →
+    after_turn t s n keep turn ≡ closes_by t.known (noted_in (map (shown_at s n) turn.shown) t) s n keep turn.line
+closing_by t s n keep turn e = grind arith
+
+-- the line if this is sent
+abbrev pub line_with : Bool → Moving → Option Meaning → TableLine
+line_with broken m reply = line_then m.row (move_of m).next (put broken (replied reply) m.seen.own.channel) m.rest m.seen
+
+-- the delivery if the move sends a unit
+answered_step : (s : Side) (p : TwoEnds) (t : Tables) (packet : List ℕ) (h : Held) (v : HasMoved s p t packet h) (x : Meaning)
+    (keep : ℕ → ℕ) → (move_of v.m).closes ≡ false → (move_of v.m).reply ≡ Some x →
+    step t (delivers (side_in s) v.m.n keep) ≡ stays (moved_tables s t v.m) (side_in s) v.m.n (puts t.broken (unit x ∷ []) (moved_line v.m))
+answered_step s p t packet h v x keep open_still reply =
+    let m = v.m in
+    let t0 = record t { known = known_by t m } in
+    let es = map (shown_at (side_in s) m.n) (move_of m).shown in
+    v.steps keep ∙ open_by t0 (side_in s) m.n keep (turn_of t.broken m) open_still
+    ∙ ap (λ (o : Option Meaning). noted_in es (stays t0 (side_in s) m.n (line_with t.broken m o))) reply
+    ∙ sym (stays_twice t0 (side_in s) m.n es (moved_line m) (puts t.broken (unit x ∷ []) (moved_line m)))
+
+-- the delivery if the move closes
+closed_step : (s : Side) (p : TwoEnds) (t : Tables) (packet : List ℕ) (h : Held) (v : HasMoved s p t packet h) (keep : ℕ) →
+    known_by t v.m ≡ Some worlds.class_2 → (move_of v.m).closes ≡ true → (move_of v.m).reply ≡ None →
+    step t (delivers (side_in s) v.m.n (λ r. keep)) ≡ stays (moved_tables s t v.m) (side_in s) v.m.n (closed t.broken keep (moved_line v.m))
+closed_step s p t packet h v keep known closing reply =
+    let m = v.m in
+    let t0 = record t { known = known_by t m } in
+    let es = map (shown_at (side_in s) m.n) (move_of m).shown in
+    v.steps (λ r. keep) ∙ closing_by t0 (side_in s) m.n (λ r. keep) (turn_of t.broken m) closing
+    ∙ ap (λ (o : Option worlds.Class). closes_by o (noted_in es t0) (side_in s) m.n (λ r. keep) (turn_of t.broken m).line) known
+    ∙ ap (λ (o : Option Meaning). noted_in es (stays t0 (side_in s) m.n (closed t.broken keep (line_with t.broken m o)))) reply
+    ∙ ap (λ (ms : List Message). noted_in es
+    (stays t0 (side_in s) m.n (closed t.broken keep (line_then m.row (move_of m).next ms m.rest m.seen))))
+    (put_nothing t.broken m.seen.own.channel)
+    ∙ sym (stays_twice t0 (side_in s) m.n es (moved_line m) (closed t.broken keep (moved_line m)))
+
+-- ---- the connection of a move that sends or closes is open
+
+pub move_ends : (row : Row) → is_move row ≡ true → (after row ≡ in_use) ⊎ (after row ≡ gone)
+move_ends row e = grind arith
+
+linked_sends : (s : Side) (p : TwoEnds) (t : Tables) (packet : List ℕ) (h : Held) (v : HasMoved s p t packet h) (x : Meaning) →
+    (move_of v.m).reply ≡ Some x → ((after v.m.row ≡ in_use) ⊎ (after v.m.row ≡ gone)) → IsLinkedAt v.m.n (moved_end s p v.unit v.m).carrier
+linked_sends s p t packet h v x reply h8 = grind arith
+
+pub linked_closes : (s : Side) (p : TwoEnds) (t : Tables) (packet : List ℕ) (h : Held) (v : HasMoved s p t packet h) →
+    (move_of v.m).closes ≡ true → ((after v.m.row ≡ in_use) ⊎ (after v.m.row ≡ gone)) → IsLinkedAt v.m.n (moved_end s p v.unit v.m).carrier
+linked_closes s p t packet h v closing h7 = grind arith
+
+-- the end is in order before it sends or closes
+pub moved_order : (s : Side) (p : TwoEnds) (t : Tables) (packet : List ℕ) (h : Held) (v : HasMoved s p t packet h) →
+    IsInOrder (moved_end s p v.unit v.m)
+moved_order s p t packet h v = grind arith
+
+-- ---- the packet
+
+-- the carrier did this, and the delivery left these tables
+finish_shown : (s : Side) (p : TwoEnds) (t : Tables) (packet : List ℕ) (h : Held) (v : HasMoved s p t packet h) (c : Carrier) (keep : ℕ → ℕ)
+    (u : Tables) → after_packet (end_at s p).end packet ≡ answered_end c (loud_lines s p v.m) → c.ended ≡ None →
+    c.local ≡ (moved_end s p v.unit v.m).carrier.local → step t (delivers (side_in s) v.m.n keep) ≡ u →
+    StandsOn (with_holding s (with_carrier c (moved_end s p v.unit v.m)) h
+    (turned_pair s (moved_end s p v.unit v.m) h v.m.n (move_of v.m).shown p)) u → StandsShown s p t (after_packet (end_at s p).end packet) h
+finish_shown s p t packet h v c keep u same lasts local is on =
+    let n = v.m.n in
+    let lines = loud_lines s p v.m in
+    subst (λ (x : End). StandsShown s p t x h) (sym same)
+    (record {
+      more = delivers (side_in s) n keep ∷ [];
+      are = (refl, tt);
+      now = on.now;
+      local = local ∙ v.local;
+      stands = subst (λ (y : Tables). Stands (shown_pair s (answered_end c lines) h p) on.now y) (sym is)
+          (subst (λ (q : TwoEnds). Stands q on.now u)
+          (shown_is s p (moved_end s p v.unit v.m) h n (move_of v.m).shown c lines lasts v.waits) on.stands);
+    })
+
+-- the session sends a unit, and closes nothing
+pub answered_shown : CarrierLaws →
+    (s : Side) (p : TwoEnds) (t : Tables) (packet : List ℕ) (h : Held) (v : HasMoved s p t packet h) (x : Meaning) →
+    IsSound (after_packet (end_at s p).end packet) → (move_of v.m).closes ≡ false → (move_of v.m).reply ≡ Some x →
+    StandsShown s p t (after_packet (end_at s p).end packet) h
+answered_shown laws s p t packet h v x sound open_still reply =
+    let n = v.m.n in
+    let e = moved_end s p v.unit v.m in
+    let lines = loud_lines s p v.m in
+    let p1 = turned_pair s e h n (move_of v.m).shown p in
+    let t1 = moved_tables s t v.m in
+    let c = sent n (written x) e.carrier in
+    let go = v.sends x reply in
+    let linked_now = linked_sends s p t packet h v x reply (move_ends v.m.row v.row) in
+    let a = sent_acts n (written x) e.carrier linked_now.peer linked_now.link v.lasts linked_now.at in
+    let acts : answers n 0 (as_made (move_of v.m)) e.carrier ≡ c =
+    ap (λ (b : Bool). answers_by b n (tsdus_sent 0 (move_of v.m).reply) e.carrier) open_still
+    ∙ ap (λ (o : Option Meaning). answers_by false n (tsdus_sent 0 o) e.carrier) reply
+    ∙ (ap (λ (l : List (List ℕ)). answers_by false n l e.carrier) (sym (sent_by_itself (Some x)))
+    ∙ handed n (written x ∷ []) e.carrier (go.short, tt)) in
+    let same : after_packet (end_at s p).end packet ≡ answered_end c lines =
+    v.does ∙ ap (λ (k : Carrier). concludes (answered_end k lines)) acts ∙ lasting (answered_end c lines) a.lasts in
+    let events = sent_events n (written x) e.carrier linked_now.peer linked_now.link
+    (open_is n e.carrier linked_now.peer linked_now.link v.lasts linked_now.at) in
+    let order : IsInOrder (with_carrier c e) =
+    order_then e c lines refl a.lasts a.given events (moved_order s p t packet h v) (subst IsSound same sound) in
+    finish_shown s p t packet h v c (λ r. 0) (stays t1 (side_in s) n (puts t.broken (unit x ∷ []) (moved_line v.m))) same a.lasts a.local
+    (answered_step s p t packet h v x (λ r. 0) open_still reply)
+    (sends_from laws s p1 v.now t1 n linked_now.peer linked_now.link x (moved_line v.m) (record { end = e; held = h })
+    (turned_here s e h n (move_of v.m).shown p) v.stands go.short go.octets v.found_now v.lasts linked_now.at order)
+
+-- in class 2 it closes its connection, and sends nothing
+pub closed_shown : CarrierLaws → (s : Side) (p : TwoEnds) (t : Tables) (packet : List ℕ) (h : Held) (v : HasMoved s p t packet h) →
+    IsSound (after_packet (end_at s p).end packet) → terms_at p ≡ by_two → known_by t v.m ≡ Some worlds.class_2 →
+    (move_of v.m).closes ≡ true → (move_of v.m).reply ≡ None → is_ended (move_of v.m).next.state.phase ≡ true →
+    StandsShown s p t (after_packet (end_at s p).end packet) h
+closed_shown laws s p t packet h v sound two known closing reply over =
+    let n = v.m.n in
+    let e = moved_end s p v.unit v.m in
+    let lines = loud_lines s p v.m in
+    let p1 = turned_pair s e h n (move_of v.m).shown p in
+    let t1 = moved_tables s t v.m in
+    let c = closed_with n 128 e.carrier in
+    let here = turned_here s e h n (move_of v.m).shown p in
+    let linked_now = linked_closes s p t packet h v closing (move_ends v.m.row v.row) in
+    let two_now : terms_at p1 ≡ by_two = terms_then s p e h v.local ∙ two in
+    let a = close_is laws s p1 v.now t1 n linked_now.peer linked_now.link
+    (record { end = e; held = h }) here v.stands two_now v.lasts linked_now.at in
+    let acts : answers n 0 (as_made (move_of v.m)) e.carrier ≡ c =
+    ap (λ (b : Bool). answers_by b n (tsdus_sent 0 (move_of v.m).reply) e.carrier) closing in
+    let same : after_packet (end_at s p).end packet ≡ answered_end c lines =
+    v.does ∙ ap (λ (k : Carrier). concludes (answered_end k lines)) acts ∙ lasting (answered_end c lines) a.lasts in
+    let events = closed_events n 128 e.carrier linked_now.peer linked_now.link
+    (open_is n e.carrier linked_now.peer linked_now.link v.lasts linked_now.at) in
+    let order : IsInOrder (with_carrier c e) =
+    order_then e c lines refl a.lasts a.given events (moved_order s p t packet h v) (subst IsSound same sound) in
+    let on = closes_from laws s p1 v.now t1 n linked_now.peer linked_now.link (moved_line v.m)
+    (record { end = e; held = h }) here v.stands two_now v.found_now
+    (v.takes n (moved_line v.m) v.found_now) over v.lasts linked_now.at order in
+    finish_shown s p t packet h v c (λ r. on.keep) (stays t1 (side_in s) n (closed t.broken on.keep (moved_line v.m))) same a.lasts a.local
+    (closed_step s p t packet h v on.keep known closing reply) on.on
+
+-- ---- a move that sends and closes nothing
+
+silent_step : (s : Side) (p : TwoEnds) (t : Tables) (packet : List ℕ) (h : Held) (v : HasMoved s p t packet h) (keep : ℕ → ℕ) →
+    (move_of v.m).closes ≡ false → (move_of v.m).reply ≡ None → step t (delivers (side_in s) v.m.n keep) ≡ moved_tables s t v.m
+silent_step s p t packet h v keep open_still reply =
+    let m = v.m in
+    let t0 = record t { known = known_by t m } in
+    let es = map (shown_at (side_in s) m.n) (move_of m).shown in
+    v.steps keep ∙ open_by t0 (side_in s) m.n keep (turn_of t.broken m) open_still
+    ∙ ap (λ (o : Option Meaning). noted_in es (stays t0 (side_in s) m.n (line_with t.broken m o))) reply
+    ∙ ap (λ (ms : List Message). noted_in es (stays t0 (side_in s) m.n (line_then m.row (move_of m).next ms m.rest m.seen)))
+    (put_nothing t.broken m.seen.own.channel)
+
+pub silent_shown : (s : Side) (p : TwoEnds) (t : Tables) (packet : List ℕ) (h : Held) (v : HasMoved s p t packet h) →
+    (move_of v.m).closes ≡ false → (move_of v.m).reply ≡ None → StandsShown s p t (after_packet (end_at s p).end packet) h
+silent_shown s p t packet h v open_still reply =
+    let n = v.m.n in
+    let e = moved_end s p v.unit v.m in
+    let lines = loud_lines s p v.m in
+    let p1 = turned_pair s e h n (move_of v.m).shown p in
+    let t1 = moved_tables s t v.m in
+    let acts : answers n 0 (as_made (move_of v.m)) e.carrier ≡ e.carrier =
+    ap (λ (b : Bool). answers_by b n (tsdus_sent 0 (move_of v.m).reply) e.carrier) open_still
+    ∙ ap (λ (o : Option Meaning). answers_by false n (tsdus_sent 0 o) e.carrier) reply
+    ∙ hands_none n e.carrier in
+    let same : after_packet (end_at s p).end packet ≡ answered_end e.carrier lines =
+    v.does ∙ ap (λ (k : Carrier). concludes (answered_end k lines)) acts ∙ lasting (answered_end e.carrier lines) v.lasts in
+    finish_shown s p t packet h v e.carrier (λ r. 0) t1 same v.lasts refl (silent_step s p t packet h v (λ r. 0) open_still reply)
+    (record { now = v.now; stands = subst (λ (q : TwoEnds). Stands q v.now t1) (sym (grind arith)) v.stands })

@@ -1,0 +1,301 @@
+-- Two ends match the tables after a unit with which no session acts.
+-- For turns, breaks and ends and packets.
+use Rattle.osi_between.specs.Messages as carrier
+use Rattle.osi_pair.proofs.Vocabulary.{◌≡◌, ℕ, ◌<◌, ◌≤◌, Bool, true, false, List, [], ◌∷◌, ◌++◌, Option, Some, None, is_some, refl, sym, ap}
+use Rattle.osi_pair.proofs.Vocabulary.{subst, ◌∙◌, arith, inr, append-nil, Held, Value, Place, place_at, connection_in, Rows, State}
+use Rattle.osi_pair.proofs.Vocabulary.{reference_of, Between, last_of, under_way, put_in, is_cut, progress_of, AreLike, kind_of, Progress}
+use Rattle.osi_pair.proofs.Vocabulary.{leaves_use, connection_at, delivers, learns, Line as TableLine, Tables, seen_from, end_of, step}
+use Rattle.osi_pair.proofs.Vocabulary.{unseen, Message, Standing, Shown, told_all, kept_at, End, TwoEnds, end_at, other, side_in, is_caller}
+use Rattle.osi_pair.proofs.Vocabulary.{carriers_of, IsInOrder, Stands, Goes, HasJoined, is_parting, message_in, waiting_in, Side, Left}
+use Rattle.osi_pair.proofs.Vocabulary.{Right, Listener, discards, is_ended, is_over, implied, gone_is, StaysCalm, over_calm}
+use Rattle.osi_pair.proofs.Vocabulary.{EndLine as Line, SessionState}
+use Rattle.osi_pair.proofs.turn.what_remains_when_a_unit_was_taken.{terms_at, DidAt, TablesAfter, OtherSessions, is_agree, line_then}
+use Rattle.osi_pair.proofs.turn.what_remains_when_a_unit_was_taken.{finish, known_then, was_at, PacketAt}
+use Rattle.osi_pair.proofs.packet.a_unit_with_which_no_session_acts.{step_opens, tables_delivered, tables_rest, is_awaited, learns_row}
+use Rattle.osi_pair.proofs.packet.a_unit_with_which_no_session_acts.{turn_rests, answer_for, unless_broken, put_unless, answers_same, rests}
+use Rattle.osi_pair.proofs.packet.a_unit_with_which_no_session_acts.{sends_then, spare_by}
+use Rattle.osi_pair.proofs.flight.what_may_arrive_row_by_row.{Row, quiet, still, begins, refuses, leaves, ignores, ends, before, after}
+use Rattle.osi_pair.proofs.flight.what_may_arrive_row_by_row.{arrived_in, put_for}
+use Rattle.osi_pair.proofs.session.a_seat_is_its_progress_and_session.{transport_by, transport_at, HasSession, session_of_seat}
+use Rattle.osi_pair.proofs.turn.a_turn_keeps_the_match.{IsSeen, seen, seen_twice, with_holding, Turned, GoesTo, out_there, back_here}
+use Rattle.osi_pair.proofs.flight.what_is_in_flight_when_an_end_acts.{shuts, out_keeps, back_comes, back_waits, Comes, Alone, alone_of}
+use Rattle.osi_pair.proofs.flight.what_is_in_flight_when_an_end_acts.{is_tsdu, BehindFirst, behind_first}
+use Rattle.osi_pair.proofs.flight.whether_something_is_cut_off.{cut_none, end_out, end_back, Lasts}
+use Rattle.osi_pair.proofs.session.an_end_moves_as_the_tables_do.{kept_of, discards_over}
+
+-- ---- the end that took the unit
+
+-- its carrier acted, and has no events left; its lines are these
+abbrev pub acted_end : Value → Rows Line → End → End
+acted_end u lines e = record { carrier = (told_all u e).carrier; lines = lines }
+
+pub did_at : (s : Side) (p : TwoEnds) (b : Between) (packet : List ℕ) (h : Held) (lines : Rows Line) → (pa : PacketAt s p b packet h) →
+    DidAt s p b (acted_end pa.unit lines (end_at s p).end) h (reference_of pa.unit)
+did_at Left p b packet h lines pa = pa.did
+did_at Right p b packet h lines pa = pa.did
+
+pub same_row : (s : Side) (p : TwoEnds) (b : Between) (packet : List ℕ) (h : Held) (lines : Rows Line) → (pa : PacketAt s p b packet h) →
+    (did_at s p b packet h lines pa).row ≡ pa.did.row
+unfolding did_at
+same_row Left p b packet h lines pa = refl
+same_row Right p b packet h lines pa = refl
+
+-- ---- its connection
+
+pub record FoundLine (s : Side) (n : ℕ) (p : TwoEnds) (b : Between) (t : Tables) : Type 0 where
+  pub line : TableLine
+  pub found : connection_at n t.lines ≡ Some (seen_from (side_in s) line)
+  pub is : IsSeen s n p b line
+
+-- the line at a reference that the caller gave
+pub line_at : (s : Side) (n : ℕ) (p : TwoEnds) (b : Between) (t : Tables) → Stands p b t → 0 < n → n ≤ b.caller.given → FoundLine s n p b t
+line_at s n p b t old some le =
+    let count = old.given in
+    let kept = old.given_then in
+    let has = old.lines n some (omega arith) in
+    record {
+      line = seen_from (side_in s) has.line;
+      found = has.found ∙ ap (λ (l : TableLine). Some l) (sym (seen_twice (side_in s) has.line));
+      is = seen s n p b has.line has.is;
+    }
+
+-- ---- its session stays
+
+session_gone : (n : ℕ) (lines : Rows Line) (m : carrier.Message) (x : Standing) → HasSession n lines (before (ends m)) x →
+    HasSession n lines (after (ends m)) x
+session_gone n lines m x h =
+    record { joined = h.joined; live = λ e. cc; kept = h.kept; over_now = λ e. h.over_now refl; awaiting = λ e. cc; octets = h.octets }
+
+-- the rows in which a session does nothing, and none begins
+abbrev pub is_rest : Row → Bool
+is_rest quiet = true
+is_rest still = true
+is_rest (refuses reason) = true
+is_rest (ignores octets) = true
+is_rest (ends m) = true
+is_rest row = false
+
+pub session_rests : (n : ℕ) (lines : Rows Line) (row : Row) (x : Standing) → is_rest row ≡ true → HasSession n lines (before row) x →
+    HasSession n lines (after row) x
+session_rests n lines (ends m) x e h = session_gone n lines m x h
+session_rests n lines row x e h = grind arith
+
+-- ---- what is in flight from it
+
+pub broken_is : (p : TwoEnds) (b : Between) (t : Tables) → Stands p b t → t.broken ≡ is_some (carriers_of p).reach
+broken_is p b t old = grind arith
+
+none_sent : (broken : Bool) (channel : List Message) → channel ≡ channel ++ unless_broken broken []
+none_sent true channel = sym (append-nil channel)
+none_sent false channel = sym (append-nil channel)
+
+pub sends_is : (row : Row) (broken : Bool) (channel : List Message) → leaves_use (before row) (after row) ≡ false →
+    sends_then row broken channel ≡ channel ++ unless_broken broken (answer_for row)
+sends_is begins broken channel e = put_unless broken (answer_for begins) channel
+sends_is (refuses reason) broken channel e = put_unless broken (answer_for (refuses reason)) channel
+sends_is (leaves reason) broken channel e = cc
+sends_is row broken channel e = none_sent broken channel
+
+pub out_row : (s : Side) (p : TwoEnds) (b : Between) (t : Tables) (e : End) (h : Held) (n : ℕ) (l : TableLine) → Stands p b t →
+    (d : DidAt s p b e h n) → IsSeen s n p b l → leaves_use (before d.row) (after d.row) ≡ false → Lasts s p →
+    Goes s (other s) n (with_holding s e h p) d.now (progress_of (place_at n (last_of (is_caller (other s)) d.now))) l.peer.session.state
+    (sends_then d.row t.broken l.own.channel)
+out_row s p b t e h n l old d i stays alive =
+    let there = place_at n (last_of (is_caller (other s)) b) in
+    let lasts = (end_at (other s) p).end.carrier.ended in
+    let now = with_holding s e h p in
+    let new = under_way (is_caller s) n (carriers_of now) d.now in
+    let puts = unless_broken t.broken (answer_for d.row) in
+    let free = cut_none s p t.broken old.broken alive in
+    let all : GoesTo s (end_at (other s) p) n now d.now (progress_of there) l.peer.session.state (l.own.channel ++ puts) =
+    out_keeps lasts there (is_cut (is_caller s) (carriers_of p)) (is_cut (is_caller s) (carriers_of now))
+    (HasJoined n (end_at (other s) p)) l.peer.session.state l.own.channel puts
+    (under_way (is_caller s) n (carriers_of p) b) new d.stays d.gone
+    (put_in (carriers_of p) (put_for d.row)) i.out (spare_by t.broken (is_cut (is_caller s) (carriers_of p)) (answer_for d.row) free)
+    (end_out s (record { end = e; held = h }) p alive)
+    d.out_before d.out_after (d.keeps stays) (answers_same t.broken (is_some (carriers_of p).reach) d.row (broken_is p b t old)) in
+    out_there s p d.now e h n (progress_of (place_at n (last_of (is_caller (other s)) d.now))) l.peer.session.state
+    (sends_then d.row t.broken l.own.channel)
+    (subst (λ (q : Place). GoesTo s (end_at (other s) p) n now d.now (progress_of q) l.peer.session.state
+    (sends_then d.row t.broken l.own.channel)) (sym (d.there n))
+    (subst (λ (ms : List Message). GoesTo s (end_at (other s) p) n now d.now (progress_of there) l.peer.session.state ms)
+    (sym (sends_is d.row t.broken l.own.channel stays)) all))
+
+-- ---- what is in flight to it
+
+-- no message arrived
+pub back_none : (s : Side) (p : TwoEnds) (b : Between) (e : End) (h : Held) (n : ℕ) (l : TableLine) → (d : DidAt s p b e h n) →
+    IsSeen s n p b l → Lasts s p → arrived_in d.row ≡ [] → before d.row ≡ after d.row →
+    ((y : Listener) → kept_at n e.lines ≡ Some y → kept_at n (end_at s p).end.lines ≡ Some y) →
+    Goes (other s) s n (with_holding s e h p) d.now (after d.row) l.own.session.state l.peer.channel
+back_none s p b e h n l d i alive none same kept =
+    let now = place_at n (last_of (is_caller s) d.now) in
+    let two = with_holding s e h p in
+    let new = under_way (is_caller (other s)) n (carriers_of two) d.now in
+    subst (λ (g : Progress). Goes (other s) s n two d.now g l.own.session.state l.peer.channel) d.stands
+    (back_here s p d.now e h n (progress_of now) l.own.session.state l.peer.channel
+    (back_waits (end_at s p).end.carrier.ended e.carrier.ended (progress_of (place_at n (last_of (is_caller s) b))) now
+    (is_cut (is_caller (other s)) (carriers_of p)) (is_cut (is_caller (other s)) (carriers_of two))
+    (HasJoined n (end_at s p)) (HasJoined n (record { end = e; held = h })) l.own.session.state l.peer.channel
+    (under_way (is_caller (other s)) n (carriers_of p) b) new (λ x. ap shuts (d.stands ∙ sym same ∙ sym d.stood) ∙ x)
+    i.back alive (end_back s (record { end = e; held = h }) p) (λ x held y at. held y (kept y at))
+    (subst (λ (ms : List carrier.Message). AreLike (connection_in now) (under_way (is_caller (other s)) n (carriers_of p) b) (ms ++ new))
+    none d.came)))
+
+-- one did
+pub back_one : (s : Side) (p : TwoEnds) (b : Between) (e : End) (h : Held) (n : ℕ) (l : TableLine) (got : carrier.Message) →
+    (d : DidAt s p b e h n) → IsSeen s n p b l → Lasts s p → arrived_in d.row ≡ got ∷ [] →
+    Comes (before d.row) (after d.row) (is_cut (is_caller (other s)) (carriers_of (with_holding s e h p)))
+    (HasJoined n (end_at s p)) l.own.session.state l.peer.channel got
+    (under_way (is_caller (other s)) n (carriers_of (with_holding s e h p)) d.now)
+back_one s p b e h n l got d i alive one =
+    let two = with_holding s e h p in
+    let new = under_way (is_caller (other s)) n (carriers_of two) d.now in
+    back_comes d.row (end_at s p).end.carrier.ended (place_at n (last_of (is_caller s) b)) (place_at n (last_of (is_caller s) d.now))
+    (is_cut (is_caller (other s)) (carriers_of p))
+    (is_cut (is_caller (other s)) (carriers_of two)) (HasJoined n (end_at s p)) l.own.session.state l.peer.channel got
+    (under_way (is_caller (other s)) n (carriers_of p) b) new d.stood d.stands i.back alive
+    (end_back s (record { end = e; held = h }) p)
+    (subst (λ (ms : List carrier.Message). AreLike (connection_in (place_at n (last_of (is_caller s) d.now)))
+    (under_way (is_caller (other s)) n (carriers_of p) b) (ms ++ new)) one d.came)
+
+-- that is no TSDU
+pub back_alone : (s : Side) (p : TwoEnds) (b : Between) (e : End) (h : Held) (n : ℕ) (l : TableLine) (got : carrier.Message) →
+    (d : DidAt s p b e h n) → IsSeen s n p b l → Lasts s p → arrived_in d.row ≡ got ∷ [] → is_tsdu got ≡ false →
+    Alone (before d.row) (after d.row) (is_cut (is_caller (other s)) (carriers_of (with_holding s e h p)))
+    (HasJoined n (end_at s p)) l.own.session.state l.peer.channel got
+    (under_way (is_caller (other s)) n (carriers_of (with_holding s e h p)) d.now)
+back_alone s p b e h n l got d i alive one other_kind =
+    alone_of (before d.row) (after d.row) (is_cut (is_caller (other s)) (carriers_of (with_holding s e h p)))
+    (HasJoined n (end_at s p)) l.own.session.state l.peer.channel got
+    (under_way (is_caller (other s)) n (carriers_of (with_holding s e h p)) d.now) other_kind (back_one s p b e h n l got d i alive one)
+
+-- what is in flight to an end after the first, if its lines are these
+pub back_then : (s : Side) (p : TwoEnds) (c : Between) (e : End) (h : Held) (n : ℕ) (g : Progress) (begun : Option (List ℕ))
+    (x y : SessionState) (ms : List Message) →
+    BehindFirst g (is_cut (is_caller (other s)) (carriers_of (with_holding s e h p))) begun x ms
+    (under_way (is_caller (other s)) n (carriers_of (with_holding s e h p)) c) → HasJoined n (record { end = e; held = h }) begun →
+    (StaysCalm x ms → StaysCalm y ms) → Goes (other s) s n (with_holding s e h p) c g y ms
+back_then s p c e h n g begun x y ms way held calms =
+    back_here s p c e h n g y ms
+    (behind_first e.carrier.ended g (is_cut (is_caller (other s)) (carriers_of (with_holding s e h p)))
+    (HasJoined n (record { end = e; held = h })) begun x y ms
+    (under_way (is_caller (other s)) n (carriers_of (with_holding s e h p)) c) way held calms)
+
+-- the lines of the end have no effect on what is in flight
+pub other_lines : (s : Side) (p : TwoEnds) (b : Between) (packet : List ℕ) (h : Held) (n : ℕ) (lines more : Rows Line) →
+    (pa : PacketAt s p b packet h) → (g : Progress) (begun : Option (List ℕ)) (x : SessionState) (ms : List Message) →
+    BehindFirst g (is_cut (is_caller (other s)) (carriers_of (with_holding s (acted_end pa.unit lines (end_at s p).end) h p))) begun x ms
+    (under_way (is_caller (other s)) n (carriers_of (with_holding s (acted_end pa.unit lines (end_at s p).end) h p))
+    (did_at s p b packet h lines pa).now) →
+    BehindFirst g (is_cut (is_caller (other s)) (carriers_of (with_holding s (acted_end pa.unit more (end_at s p).end) h p))) begun x ms
+    (under_way (is_caller (other s)) n (carriers_of (with_holding s (acted_end pa.unit more (end_at s p).end) h p))
+    (did_at s p b packet h more pa).now)
+unfolding did_at
+other_lines Left p b packet h n lines more pa g begun x ms way = way
+other_lines Right p b packet h n lines more pa g begun x ms way = way
+
+-- ---- all of it
+
+-- a session that is closing, or gone, has joined nothing, and joins nothing
+pub over_holds : (s : Side) (p : TwoEnds) (n : ℕ) (g : Progress) (x : Standing) (begun : Option (List ℕ)) → IsInOrder (end_at s p).end →
+    HasSession n (end_at s p).end.lines g x → is_parting (transport_by g) ≡ true → HasJoined n (end_at s p) begun
+over_holds s p n g x begun order h parts y at =
+    let over : is_ended y.state.phase ≡ true = ap (λ (z : Listener). is_ended z.state.phase) (h.kept y at) ∙ h.over_now parts in
+    let off : discards y.state.phase ≡ true = discards_over y.state.phase (implied is_ended is_over refl y.state.phase over) in
+    inr (gone_is y.state.phase y.joined off (kept_of n y (end_at s p).end order at).phase, off)
+
+-- and data is no fault to it
+pub over_stays : (x : Standing) (ms : List Message) → is_ended x.state.phase ≡ true → StaysCalm x.state ms
+over_stays x ms ended = over_calm x.state ms (implied is_ended is_over refl x.state.phase ended)
+
+-- what is stated of the end that took it, apart from its connection
+pub record EndThen (s : Side) (p : TwoEnds) (e : End) : Type 0 where
+  pub lasts : e.carrier.ended ≡ None
+  pub local : e.carrier.local ≡ (end_at s p).end.carrier.local
+  pub role : e.carrier.is_caller ≡ (end_at s p).end.carrier.is_caller
+  pub order : IsInOrder e
+  pub waits : waiting_in e.lines ≡ []
+
+same_sessions : (s : Side) (p : TwoEnds) (u : Value) (n : ℕ) → OtherSessions s p (acted_end u (end_at s p).end.lines (end_at s p).end) n
+same_sessions s p u n = record { sessions = λ q apart is. refl; kept = λ q apart x is. is }
+
+-- the session of its connection before
+pub session_before : (s : Side) (p : TwoEnds) (b : Between) (t : Tables) (e : End) (h : Held) (n : ℕ) (l : TableLine) → Stands p b t →
+    Lasts s p → (d : DidAt s p b e h n) → IsSeen s n p b l → HasSession n (end_at s p).end.lines (before d.row) l.own.session
+session_before s p b t e h n l old alive d i =
+    session_of_seat n (end_at s p) l.own (before d.row)
+    (ap (λ (c : State). progress_of (place_at n c)) (sym (was_at s p b t old alive)) ∙ d.stood) i.here
+
+pub transport_before : (s : Side) (p : TwoEnds) (b : Between) (t : Tables) (e : End) (h : Held) (n : ℕ) (l : TableLine) → Stands p b t →
+    Lasts s p → (d : DidAt s p b e h n) → IsSeen s n p b l → l.own.transport ≡ transport_by (before d.row)
+transport_before s p b t e h n l old alive d i =
+    i.here.transport ∙ transport_at (place_at n (end_at s p).end.carrier) (before d.row)
+    (ap (λ (c : State). progress_of (place_at n c)) (sym (was_at s p b t old alive)) ∙ d.stood)
+
+pub line_same : (row : Row) (l : TableLine) → l.own.transport ≡ transport_by (after row) →
+    line_then row l.own.session l.own.channel l.peer.channel l ≡ l
+line_same row l e = ap (λ tr. record { own = record { transport = tr; session = l.own.session; channel = l.own.channel }; peer = l.peer })
+    (sym e)
+
+abbrev pub NextFor : Side → TwoEnds → Between → Tables → Value → Held → Rows Line → ℕ → List Shown → Tables → Between → Type 0
+NextFor s p b t u h lines n shown new now = Turned s p b t (acted_end u lines (end_at s p).end) h now new n shown
+
+-- no message of the tables arrived: they stay
+pub quiet_unit : (s : Side) (p : TwoEnds) (b : Between) (t : Tables) (packet : List ℕ) (h : Held) → Stands p b t → Lasts s p →
+    (pa : PacketAt s p b packet h) →
+    (d : DidAt s p b (acted_end pa.unit (end_at s p).end.lines (end_at s p).end) h (reference_of pa.unit)) →
+    (at : FoundLine s (reference_of pa.unit) p b t) →
+    Goes (other s) s (reference_of pa.unit) (with_holding s (acted_end pa.unit (end_at s p).end.lines (end_at s p).end) h p) d.now
+    (after d.row) at.line.own.session.state at.line.peer.channel → before d.row ≡ after d.row → is_rest d.row ≡ true →
+    is_agree d.row ≡ false → leaves_use (before d.row) (after d.row) ≡ false →
+    ((broken : Bool) (channel : List Message) → sends_then d.row broken channel ≡ channel) → d.now.called.given ≤ d.now.caller.given →
+    EndThen s p (acted_end pa.unit (end_at s p).end.lines (end_at s p).end) →
+    NextFor s p b t pa.unit h (end_at s p).end.lines (reference_of pa.unit) [] t d.now
+quiet_unit s p b t packet h old alive pa d at back same rest agree stays sends behind new =
+    let n = reference_of pa.unit in
+    let e = acted_end pa.unit (end_at s p).end.lines (end_at s p).end in
+    let l = at.line in
+    let tr = transport_before s p b t e h n l old alive d at.is ∙ ap transport_by same in
+    finish s p b t t e h n [] l l.own.session l.own.channel l.peer.channel old alive d new.lasts new.local new.role pa.first.given behind
+    new.order new.waits (same_sessions s p pa.unit n)
+    (session_rests n (end_at s p).end.lines d.row l.own.session rest (session_before s p b t e h n l old alive d at.is)) at.is
+    (assumption (
+      subst (λ (ms : List Message). Goes s (other s) n (with_holding s e h p) d.now
+          (progress_of (place_at n (last_of (is_caller (other s)) d.now))) l.peer.session.state ms) (sends t.broken l.own.channel)
+          (out_row s p b t e h n l old d at.is stays alive),
+      back,
+    ))
+    (subst (λ (m : TableLine). TablesAfter s n t t [] m) (sym (line_same d.row l tr)) (tables_rest s n l t at.found))
+    (known_then s p b t e h n old alive d new.lasts pa.first.given agree)
+
+-- one arrived, and no session received it
+pub rest_unit : (s : Side) (p : TwoEnds) (b : Between) (t : Tables) (packet : List ℕ) (h : Held) (got : carrier.Message) → Stands p b t →
+    Lasts s p → end_of (side_in s) t ≡ None → (pa : PacketAt s p b packet h) →
+    (d : DidAt s p b (acted_end pa.unit (end_at s p).end.lines (end_at s p).end) h (reference_of pa.unit)) →
+    (at : FoundLine s (reference_of pa.unit) p b t) (first : Message) (rest : List Message) → at.line.peer.channel ≡ first ∷ rest →
+    kind_of (message_in first) ≡ kind_of got →
+    Goes (other s) s (reference_of pa.unit) (with_holding s (acted_end pa.unit (end_at s p).end.lines (end_at s p).end) h p) d.now
+    (after d.row) at.line.own.session.state rest → arrived_in d.row ≡ got ∷ [] → is_rest d.row ≡ true → rests d.row ≡ true →
+    is_agree d.row ≡ false → is_awaited d.row ≡ false → leaves_use (before d.row) (after d.row) ≡ false →
+    d.now.called.given ≤ d.now.caller.given → EndThen s p (acted_end pa.unit (end_at s p).end.lines (end_at s p).end) →
+    NextFor s p b t pa.unit h (end_at s p).end.lines (reference_of pa.unit) []
+    (step t (delivers (side_in s) (reference_of pa.unit) (λ r. 0))) d.now
+rest_unit s p b t packet h got old alive lasting pa d at first others parts kind back one rest resting agree awaited stays behind new =
+    let n = reference_of pa.unit in
+    let e = acted_end pa.unit (end_at s p).end.lines (end_at s p).end in
+    let l = at.line in
+    let tr = transport_before s p b t e h n l old alive d at.is in
+    let line = line_then d.row l.own.session (sends_then d.row t.broken l.own.channel) others l in
+    let known = learns t.terms l.own.transport first t.known in
+    let turn = turn_rests (terms_at p) t.terms t.broken 0 d.row l first others got old.terms tr d.is resting one kind in
+    let is = step_opens t (side_in s) n (λ r. 0) l first others (unseen line) lasting at.found parts turn refl in
+    finish s p b t (step t (delivers (side_in s) n (λ r. 0))) e h n [] l l.own.session
+    (sends_then d.row t.broken l.own.channel) others old alive d new.lasts new.local new.role pa.first.given behind new.order new.waits
+    (same_sessions s p pa.unit n)
+    (session_rests n (end_at s p).end.lines d.row l.own.session rest (session_before s p b t e h n l old alive d at.is)) at.is
+    (record { out = out_row s p b t e h n l old d at.is stays alive; back = back })
+    (subst (λ (u : Tables). TablesAfter s n t u [] line) (sym is)
+    (tables_delivered s n (seen_from (side_in s) l) t known (unseen line) at.found))
+    (ap (λ (u : Tables). u.known) is ∙ learns_row d.row l.own.transport t.terms first t.known tr awaited
+    ∙ known_then s p b t e h n old alive d new.lasts pa.first.given agree)

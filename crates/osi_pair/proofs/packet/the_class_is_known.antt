@@ -1,0 +1,77 @@
+-- The class of a connection at a message that a session receives.
+-- For breaks and ends and packets.
+use Rattle.osi_between.specs.Messages as carrier
+use Rattle.osi_between.specs.Progress as progress
+use Rattle.osi_machine.specs.Worlds as worlds
+use Rattle.osi_pair.proofs.Vocabulary.{◌≡◌, ℕ, ◌≤◌, true, false, None, option_map, sym, ap, subst, ◌∙◌, inl, inr, arith, Held, Value}
+use Rattle.osi_pair.proofs.Vocabulary.{place_at, State, Between, last_of, in_use, class_behind_all, Terms, class_of, learns, Line, Tables}
+use Rattle.osi_pair.proofs.Vocabulary.{Message, End, TwoEnds, is_caller, class_in, terms_in, message_in, Stands, Side, Left, Right, kind_of}
+use Rattle.osi_pair.proofs.flight.which_unit_arrives_first.{IsFirstFor}
+use Rattle.osi_pair.proofs.turn.what_remains_when_a_unit_was_taken.{terms_at, DidAt, is_agree, last_is, known_then}
+use Rattle.osi_pair.proofs.packet.what_a_session_hears_row_by_row.{AsMove, got_in}
+use Rattle.osi_pair.proofs.packet.a_unit_with_which_no_session_acts.{is_awaited, learns_row}
+use Rattle.osi_pair.proofs.flight.what_may_arrive_row_by_row.{Row, agrees, denies, before, after, arrived_in, is_row}
+use Rattle.osi_pair.proofs.session.a_seat_is_its_progress_and_session.{transport_by}
+use Rattle.osi_pair.proofs.turn.a_turn_keeps_the_match.{with_holding}
+use Rattle.osi_pair.proofs.flight.whether_something_is_cut_off.{Lasts}
+
+-- ---- places
+
+-- ---- a CC
+
+-- the caller has the class then
+class_agreed : (s : Side) (p : TwoEnds) (b : Between) (e : End) (h : Held) (n : ℕ) → (d : DidAt s p b e h n) → e.carrier.ended ≡ None →
+    d.row ≡ agrees → is_caller s ≡ true → (with_holding s e h p).left.end.carrier.class ≡ class_of (terms_at p)
+class_agreed Left p b e h n d lasts same caller =
+    ap (λ (c : State). c.class) (sym (last_is Left p b e h n d lasts)) ∙ d.class
+    ∙ ap (λ (r : Row). class_behind_all (class_of (terms_at p)) b.caller.class (arrived_in r)) same
+    ∙ grind (arith, subst (λ (r : Row). is_row (terms_at p) r) same d.is)
+class_agreed Right p b e h n d lasts same caller = absurd (let no : false ≡ true = caller in cc)
+
+-- and the tables learn it
+learned : (t : Tables) (l : Line) (m : Message) (terms : Terms) → t.terms ≡ terms_in terms → l.own.transport ≡ worlds.waiting →
+    is_row terms agrees → kind_of (message_in m) ≡ carrier.agree →
+    learns t.terms l.own.transport m t.known ≡ option_map class_in (class_of terms)
+learned t l m terms e tr is alike = grind arith
+
+-- ---- a DR that refuses
+
+-- ---- all three
+
+-- what the tables have then is what the caller has
+pub moved_known : (s : Side) (p : TwoEnds) (b : Between) (t : Tables) (e : End) (h : Held) (n : ℕ) (l : Line) (m : Message) (u : Value)
+    (row : Row) → Stands p b t → Lasts s p → (d : DidAt s p b e h n) → e.carrier.ended ≡ None →
+    IsFirstFor (terms_at p) (is_caller s) b.caller (place_at n (last_of (is_caller s) b)) u → n ≤ b.caller.given → d.row ≡ row →
+    AsMove row → l.own.transport ≡ transport_by (before row) → kind_of (message_in m) ≡ kind_of (got_in row) →
+    learns t.terms l.own.transport m t.known ≡ option_map class_in (with_holding s e h p).left.end.carrier.class
+moved_known s p b t e h n l m u row old alive d lasts first given same (inl is) tr alike =
+    let one : d.row ≡ agrees = same ∙ is in
+    let row_is : is_row (terms_at p) agrees = subst (λ (r : Row). is_row (terms_at p) r) one d.is in
+    let alike_is : kind_of (message_in m) ≡ carrier.agree = subst (λ (r : Row). kind_of (message_in m) ≡ kind_of (got_in r)) is alike in
+    let caller : is_caller s ≡ true = first.waits (grind (arith, d.stood ∙ ap before one)) in
+    learned t l m (terms_at p) old.terms (tr ∙ ap (λ (r : Row). transport_by (before r)) is) row_is alike_is
+    ∙ ap (option_map class_in) (sym (class_agreed s p b e h n d lasts one caller))
+moved_known s p b t e h n l m u row old alive d lasts first given same (inr (inl is)) tr alike =
+    let one : d.row ≡ denies is.0 = same ∙ is.1 in
+    ap (λ (x : worlds.Terms). learns x l.own.transport m t.known) old.terms
+    ∙ grind (arith, subst (λ (r : Row). is_row (terms_at p) r) one d.is)
+    ∙ known_then s p b t e h n old alive d lasts given (ap is_agree one)
+moved_known s p b t e h n l m u row old alive d lasts first given same (inr (inr is)) tr alike =
+    learns_row row l.own.transport t.terms m t.known tr (ap is_awaited is.1)
+    ∙ known_then s p b t e h n old alive d lasts given (ap is_agree (same ∙ is.1))
+
+-- if the connection is open then, it is the class on which the two agree
+pub moved_class : (s : Side) (p : TwoEnds) (b : Between) (t : Tables) (e : End) (h : Held) (n : ℕ) (l : Line) (m : Message) (u : Value)
+    (row : Row) → Stands p b t → (d : DidAt s p b e h n) →
+    IsFirstFor (terms_at p) (is_caller s) b.caller (place_at n (last_of (is_caller s) b)) u → d.row ≡ row → AsMove row →
+    l.own.transport ≡ transport_by (before row) → kind_of (message_in m) ≡ kind_of (got_in row) → after row ≡ in_use →
+    learns t.terms l.own.transport m t.known ≡ option_map class_in (class_of (terms_at p))
+moved_class s p b t e h n l m u row old d first same (inl is) tr alike open_now =
+    let row_is : is_row (terms_at p) agrees = subst (λ (r : Row). is_row (terms_at p) r) (same ∙ is) d.is in
+    learned t l m (terms_at p) old.terms (tr ∙ ap (λ (r : Row). transport_by (before r)) is) row_is
+    (subst (λ (r : Row). kind_of (message_in m) ≡ kind_of (got_in r)) is alike)
+moved_class s p b t e h n l m u row old d first same (inr (inl is)) tr alike open_now =
+    let no : progress.gone ≡ in_use = sym (ap after is.1) ∙ open_now in absurd cc
+moved_class s p b t e h n l m u row old d first same (inr (inr is)) tr alike open_now =
+    learns_row row l.own.transport t.terms m t.known tr (ap is_awaited is.1) ∙ old.known
+    ∙ ap (option_map class_in) (sym old.class_then ∙ first.class (grind (arith, d.stood ∙ ap before (same ∙ is.1))))

@@ -1,0 +1,308 @@
+-- What one session took is a prefix of what the other sent, and all of it if nothing is in flight.
+-- For the laws of `promises`.
+use Rattle.osi_tpdu.specs.Writing.{written}
+use Rattle.osi_carrier.specs.Coming.{IsSendable}
+use Rattle.osi_between.specs.Messages as carrier
+use Rattle.osi_machine.specs.Core as machine
+use Rattle.osi_machine.specs.Floor.{Meaning}
+use Rattle.osi_machine.specs.Sayings.{is_parting}
+use Rattle.osi_machine.specs.Worlds as worlds
+use Rattle.osi_pair.specs.Promises.{sent_by, kept_at as kept_by}
+use Rattle.osi_pair.proofs.Vocabulary.{◌≡◌, refl, sym, ◌∙◌, ap, subst, ℕ, ◌<◌, ◌≤◌, Bool, true, false, List, [], ◌∷◌, ◌++◌, length, map}
+use Rattle.osi_pair.proofs.Vocabulary.{Option, Some, None, option_map, is_some, inl, inr, ◌⊎◌, arith, unit_packet, units_in, IsHeardAsSaid}
+use Rattle.osi_pair.proofs.Vocabulary.{append-nil, AllByRecursion, completed_partial, partial_not_whole, IsPartial, packet_of, Value}
+use Rattle.osi_pair.proofs.Vocabulary.{begun_by, kept_in, was_given, place_at, value_at, Connection, State, linked, packets, Both, Between}
+use Rattle.osi_pair.proofs.Vocabulary.{AreBetween, IsOnTheWay, AreJoinedBy, arriving, reach_of, within_reach, last_of, lost_from}
+use Rattle.osi_pair.proofs.Vocabulary.{units_from, under_way, IsStill, IsAllThere, is_cut, progress_of, Progress, Terms, terms_of, Step}
+use Rattle.osi_pair.proofs.Vocabulary.{side_of, turned, Message, Listener, kept_at, session_at, joined_of, joined_in, End, TwoEnds, end_at}
+use Rattle.osi_pair.proofs.Vocabulary.{taken_by, AreTakenInOrder, AreAtRest, IsOpenAt, begun_of, kept_of, IsAllTaken, HoldLess, other}
+use Rattle.osi_pair.proofs.Vocabulary.{terms_in, is_caller, transport_in, carriers_of, AreAlike, HasLine, StandsAt, AreUnderWay, word_in}
+use Rattle.osi_pair.proofs.Vocabulary.{HasJoined, IsInOrder, Reach, Side, Left, Right, EndReason, Word, joins, left_of, IsJoinedAs}
+use Rattle.osi_pair.proofs.Vocabulary.{joined_octets, may_hold, joined_holds, implied, needs_link, is_open, given_live}
+use Rattle.osi_pair.proofs.Vocabulary.{SessionState as Session, Link as Standing, seen_from, side_in}
+use Rattle.osi_pair.proofs.promise.nothing_is_kept_at_rest.{open_there, open_here, none_begun, none_joined as all_none_joined}
+use Rattle.osi_pair.proofs.turn.what_remains_when_a_unit_was_taken.{order_of}
+use Rattle.osi_pair.proofs.promise.matching_ends_keep_the_promises.{tables_at, line_at, outside_by, within}
+use Rattle.osi_pair.proofs.session.a_seat_is_its_progress_and_session.{live_session}
+use Rattle.osi_pair.proofs.flight.whether_something_is_cut_off.{cut_none, Lasts}
+use Rattle.osi_pair.proofs.turn.a_turn_keeps_the_match.{seen}
+use Rattle.osi_pair.proofs.session.an_end_moves_as_the_tables_do.{none_joined, kept_of as session_kept}
+
+-- two ends at rest, each of which holds less than a packet
+record Resting (p : TwoEnds) : Type 0 where
+  unbroken : p.reach ≡ None
+  lasts : (side : Side) → Lasts side p
+  outgoing : (side : Side) → (end_at side p).end.carrier.outgoing ≡ []
+  held : HoldLess p
+
+resting : (p : TwoEnds) → HoldLess p → AreAtRest p → Resting p
+resting p held rest = record { unbroken = rest.unbroken; lasts = rest.lasts; outgoing = rest.outgoing; held = held }
+
+-- what is proved of the tables, and of two carriers
+abbrev pub Heard : Type 0
+Heard = (side : machine.Side) (r : ℕ) (terms : worlds.Terms) (steps : List Step) → IsHeardAsSaid side r terms steps
+
+abbrev pub Empties : Type 0
+Empties = (terms : Terms) (both : Both) (b : Between) (n p q : ℕ) (x y : Standing) → AreBetween terms both b → IsStill both →
+    value_at n both.caller.state.live ≡ Some (linked p x) → value_at n both.called.state.live ≡ Some (linked q y) → IsAllThere n both b x y
+
+pub in_order : Heard → (p : TwoEnds) (steps : List Step) → StandsAt p steps → AreTakenInOrder steps p
+in_order heard p steps h r =
+    let terms = terms_in (terms_of p.left.end.carrier.local p.right.end.carrier.local) in
+    ((heard machine.Right r terms steps).begins, (heard machine.Left r terms steps).begins)
+
+-- ---- a connection that is open at both ends
+
+no_words : (words : List Word) → map word_in words ≡ [] → words ≡ []
+no_words [] e = refl
+no_words (w ∷ words) e = absurd (cc)
+
+-- Nothing is in flight: no message comes any more, and if nothing was cut off, nothing has begun.
+none_comes : (o : Option EndReason) (g : Progress) (c : Bool) (H : Option (List ℕ) → Type 0) (x : Session) (ms : List Message)
+    (sent : List carrier.Message) → (w : AreUnderWay o g c H x ms sent) → c ≡ false → map word_in w.words ≡ [] → (ms ≡ []) × H None
+none_comes o g c H x ms sent w uncut none =
+    let gone = no_words w.words none in
+    (sym w.joined ∙ ap (joins w.begun) gone, subst H (sym (ap (left_of w.begun) gone) ∙ w.finished uncut) w.held)
+
+uncut_at : (side : Side) (p : TwoEnds) → Resting p → is_cut (is_caller side) (carriers_of p) ≡ false
+uncut_at side p rest = cut_none side p (is_some p.reach) refl (rest.lasts side) (ap is_some rest.unbroken)
+
+open_place : (side : Side) (r : ℕ) (p : TwoEnds) (steps : List Step) (h : StandsAt p steps) → Lasts side p →
+    (o : IsOpenAt r (end_at side p).end) → place_at r (end_at side p).end.carrier ≡ was_given (Some (linked o.peer o.link))
+open_place side r p steps h lasts o =
+    given_live r (end_at side p).end.carrier (linked o.peer o.link)
+    (order_of side p h.now (tables_at p steps) h.stands lasts).sound.orderly o.live
+
+last_now : (side : Side) (p : TwoEnds) (steps : List Step) (h : StandsAt p steps) → Lasts side p →
+    (end_at side p).end.carrier ≡ last_of (is_caller side) h.now
+last_now side p steps h lasts = grind arith
+
+-- while the taker has it open, what is in flight to it is the same by the tables
+open_alike : (side : Side) (r : ℕ) (p : TwoEnds) (steps : List Step) (h : StandsAt p steps) → Lasts side p →
+    IsOpenAt r (end_at side p).end → (some others : List carrier.Message) →
+    AreAlike (progress_of (place_at r (last_of (is_caller side) h.now))) some others → some ≡ others
+open_alike side r p steps h lasts o some others alike = grind arith
+
+front_none : (xs ys : List ℕ) → xs ++ ys ≡ [] → xs ≡ []
+front_none [] ys e = refl
+front_none (x ∷ xs) ys e = absurd (cc)
+
+-- nothing is in flight to an end to which nothing more is handed over, and that holds no whole packet
+none_coming : (held arriving : List ℕ) (units lost : List Value) → IsPartial held → arriving ≡ [] → lost ≡ [] →
+    IsOnTheWay held arriving units lost → (units ≡ []) × (held ≡ [])
+none_coming held arriving units lost part none whole w = by units w.sendable all
+  where
+    all : held ≡ packets units
+    all = sym (append-nil held) ∙ ap (λ (l : List ℕ). held ++ l) (sym none) ∙ w.octets
+        ∙ ap (λ (l : List ℕ). packets units ++ l) (front_none w.front w.never (w.rest ∙ ap packets whole)) ∙ append-nil (packets units)
+
+    by : (us : List Value) → AllByRecursion IsSendable us → held ≡ packets us → (us ≡ []) × (held ≡ [])
+    by [] sendable e = (refl, e)
+    by (u ∷ us) sendable e =
+        absurd (partial_not_whole (packet_of (written u)) (completed_partial (packet_of (written u)) (packets us) (subst IsPartial e part))
+        (written u, unit_packet u sendable.0))
+
+none_lost : (from : Bool) (p : TwoEnds) (steps : List Step) (h : StandsAt p steps) → Resting p → lost_from from h.now ≡ []
+none_lost from p steps h rest = h.stands.between.unbroken (ap (option_map (λ r. (r.left, r.right))) rest.unbroken) from
+
+rests_at : (side : Side) (p : TwoEnds) (steps : List Step) (h : StandsAt p steps) → Resting p →
+    (units_from (is_caller (other side)) h.now ≡ []) × ((end_at side p).held.octets ≡ [])
+rests_at Left p steps h rest =
+    none_coming p.left.held.octets (arriving false (carriers_of p)) h.now.coming h.now.coming_lost (rest.held Left)
+    (ap (λ (r : Option Reach). within_reach (reach_of false (option_map (λ r. (r.left, r.right)) r)) p.right.end.carrier.outgoing)
+    rest.unbroken ∙ rest.outgoing Right)
+    (none_lost false p steps h rest) (h.stands.between.comes false (rest.lasts Left))
+rests_at Right p steps h rest =
+    none_coming p.right.held.octets (arriving true (carriers_of p)) h.now.going h.now.going_lost (rest.held Right)
+    (ap (λ (r : Option Reach). within_reach (reach_of true (option_map (λ r. (r.left, r.right)) r)) p.left.end.carrier.outgoing)
+    rest.unbroken ∙ rest.outgoing Left)
+    (none_lost true p steps h rest) (h.stands.between.comes true (rest.lasts Right))
+
+at_rest : (p : TwoEnds) (steps : List Step) → StandsAt p steps → Resting p → IsStill (carriers_of p)
+at_rest p steps h rest = record {
+  unbroken = ap (option_map (λ r. (r.left, r.right))) rest.unbroken;
+  lasts = rest.lasts Left;
+  lasts_called = rest.lasts Right;
+  outgoing = rest.outgoing Left;
+  outgoing_called = rest.outgoing Right;
+  held = (rests_at Left p steps h rest).1;
+  held_called = (rests_at Right p steps h rest).1;
+}
+
+-- its reference was given
+open_given : (r : ℕ) (p : TwoEnds) (steps : List Step) (h : StandsAt p steps) → IsOpenAt r p.left.end →
+    (0 < r) × (r ≤ p.left.end.carrier.given)
+open_given r p steps h o = by (within r p.left.end.carrier.given)
+  where
+    by : ((r ≡ 0) ⊎ (p.left.end.carrier.given < r)) ⊎ ((0 < r) × (r ≤ p.left.end.carrier.given)) → (0 < r) × (r ≤ p.left.end.carrier.given)
+    by (inr given) = given
+    by (inl out) =
+        let none = outside_by r p.left.end.carrier.given p.left p.left.end.carrier.ended refl h.stands.over_left h.stands.order_left
+        (omega arith) out in
+        let no_way : None ≡ Some (linked o.peer o.link) = sym none ∙ o.live in
+        absurd (cc)
+
+-- nothing is in flight, so what was taken is all
+none_left : (heard said : List Meaning) (ms : List Message) → ms ≡ [] → heard ++ units_in ms ≡ said → heard ≡ said
+none_left heard said ms e h = sym (append-nil heard) ∙ ap (λ (us : List Meaning). heard ++ us) (sym (ap units_in e)) ∙ h
+
+-- a connection that is open at both ends, with all that is known of it at rest
+record OpenAtBoth (p : TwoEnds) (steps : List Step) (h : StandsAt p steps) (r : ℕ) : Type 0 where
+  at : (side : Side) → IsOpenAt r (end_at side p).end
+  here : HasLine r p h.now (tables_at p steps)
+  there : IsAllThere r (carriers_of p) h.now (at Left).link (at Right).link
+
+open_at_both : Empties → (p : TwoEnds) (steps : List Step) (r : ℕ) → (h : StandsAt p steps) → Resting p → IsOpenAt r p.left.end →
+    IsOpenAt r p.right.end → OpenAtBoth p steps h r
+open_at_both empties p steps r h rest left right =
+    let given = open_given r p steps h left in
+    record {
+      at = both;
+      here = line_at r p steps h given.0 given.1;
+      there = empties (terms_of p.left.end.carrier.local p.right.end.carrier.local) (carriers_of p) h.now r left.peer right.peer left.link
+          right.link h.stands.between (at_rest p steps h rest) left.live right.live;
+    }
+  where
+    both : (side : Side) → IsOpenAt r (end_at side p).end
+    both Left = left
+    both Right = right
+
+-- nothing is in flight from a side, and the other has joined nothing
+gets_all : (p : TwoEnds) (steps : List Step) (r : ℕ) → (h : StandsAt p steps) → Resting p → (o : OpenAtBoth p steps h r) → (side : Side) →
+    ((seen_from (side_in side) o.here.line).own.channel ≡ []) × HasJoined r (end_at (other side) p) None
+gets_all p steps r h rest o side =
+    let w = (seen side r p h.now o.here.line o.here.is).out in
+    let sent = under_way (is_caller side) r (carriers_of p) h.now in
+    none_comes _ _ _ (HasJoined r (end_at (other side) p)) _ _ sent w (uncut_at side p rest)
+    (open_alike (other side) r p steps h (rest.lasts (other side)) (o.at (other side)) (map word_in w.words) sent
+    (w.alike (rest.lasts (other side))) ∙ none_sent side)
+  where
+    none_sent : (from : Side) → under_way (is_caller from) r (carriers_of p) h.now ≡ []
+    none_sent Left = o.there.there
+    none_sent Right = o.there.back
+
+has_joined_none : (p : TwoEnds) (steps : List Step) (r : ℕ) → (h : StandsAt p steps) → Resting p → OpenAtBoth p steps h r → (side : Side) →
+    HasJoined r (end_at side p) None
+has_joined_none p steps r h rest o Left = (gets_all p steps r h rest o Right).1
+has_joined_none p steps r h rest o Right = (gets_all p steps r h rest o Left).1
+
+none_of : (r : ℕ) (e : End) (l : Listener) → is_some (value_at r e.carrier.live) ≡ true → session_at r e ≡ Some l →
+    ((y : Listener) → kept_at r e.lines ≡ Some y → IsJoinedAs y.state y.joined None) → joined_of (session_at r e) ≡ 0
+none_of r e l lives is held =
+    ap joined_of is ∙ ap (λ (j : Option (List ℕ)). length (joined_octets j))
+    (none_joined l.state l.joined (held l (sym (live_session r e lives) ∙ is)))
+
+all_there : Heard → Empties → (p : TwoEnds) (steps : List Step) (r : ℕ) → StandsAt p steps → Resting p → IsOpenAt r p.left.end →
+    IsOpenAt r p.right.end → IsAllTaken r p steps
+all_there heard empties p steps r h rest left right =
+    let terms = terms_in (terms_of p.left.end.carrier.local p.right.end.carrier.local) in
+    let o = open_at_both empties p steps r h rest left right in
+    let line = o.here.line in
+    let own : line.own.transport ≡ worlds.linked =
+    o.here.is.left.transport ∙ ap transport_in (open_place Left r p steps h (rest.lasts Left) left) in
+    let peer : line.peer.transport ≡ worlds.linked =
+    o.here.is.right.transport ∙ ap transport_in (open_place Right r p steps h (rest.lasts Right) right) in
+    let whole : (tables_at p steps).broken ≡ false = h.stands.broken ∙ ap is_some rest.unbroken in
+    record {
+      rightward = none_left (taken_by Right r p steps) (sent_by Left r p steps) line.own.channel (gets_all p steps r h rest o Left).0
+          ((heard machine.Right r terms steps).whole (turned line) (ap (side_of machine.Right) o.here.found) (ap is_parting peer)
+          (ap is_parting own) whole);
+      leftward = none_left (taken_by Left r p steps) (sent_by Right r p steps) line.peer.channel (gets_all p steps r h rest o Right).0
+          ((heard machine.Left r terms steps).whole line (ap (side_of machine.Left) o.here.found) (ap is_parting own)
+          (ap is_parting peer) whole);
+      kept = λ side. kept o side (begun o side);
+    }
+  where
+    begun : (o : OpenAtBoth p steps h r) → (side : Side) → begun_of (value_at r (end_at side p).end.carrier.live) ≡ 0
+    begun o Left = ap begun_of (o.at Left).live ∙ ap length o.there.links.begun
+    begun o Right = ap begun_of (o.at Right).live ∙ ap length o.there.links.begun_there
+
+    kept : (o : OpenAtBoth p steps h r) → (side : Side) → begun_of (value_at r (end_at side p).end.carrier.live) ≡ 0 →
+        kept_of r (end_at side p).end ≡ 0
+    kept o side none =
+        let lives = ap is_some (o.at side).live in
+        let joined : joined_of (session_at r (end_at side p).end) ≡ 0 =
+        none_of r (end_at side p).end _ lives ((seen side r p h.now o.here.line o.here.is).here.live lives)
+        (has_joined_none p steps r h rest o side) in
+        omega arith
+
+pub all_taken : Heard → Empties → (p : TwoEnds) (steps : List Step) (r : ℕ) → StandsAt p steps → HoldLess p → AreAtRest p →
+    IsOpenAt r p.left.end → IsOpenAt r p.right.end → IsAllTaken r p steps
+all_taken heard empties p steps r h held rest left right = all_there heard empties p steps r h (resting p held rest) left right
+
+-- ---- nothing is kept
+
+joined_at_rest : (p : TwoEnds) (steps : List Step) (h : StandsAt p steps) → Resting p →
+    AreJoinedBy (terms_of p.left.end.carrier.local p.right.end.carrier.local) p.left.end.carrier p.right.end.carrier [] []
+joined_at_rest p steps h rest =
+    let terms = terms_of p.left.end.carrier.local p.right.end.carrier.local in
+    let going = ap (λ (l : List Value). h.now.going ++ l) (none_lost true p steps h rest) ∙ append-nil h.now.going
+    ∙ (rests_at Right p steps h rest).0 in
+    let coming = ap (λ (l : List Value). h.now.coming ++ l) (none_lost false p steps h rest) ∙ append-nil h.now.coming
+    ∙ (rests_at Left p steps h rest).0 in
+    subst (λ (s : State). AreJoinedBy terms s p.right.end.carrier [] []) (sym (last_now Left p steps h (rest.lasts Left)))
+    (subst (λ (s : State). AreJoinedBy terms h.now.caller s [] []) (sym (last_now Right p steps h (rest.lasts Right)))
+    (subst (λ (l : List Value). AreJoinedBy terms h.now.caller h.now.called l []) going
+    (subst (λ (l : List Value). AreJoinedBy terms h.now.caller h.now.called (h.now.going ++ h.now.going_lost) l) coming
+    h.stands.between.joined)))
+
+there_open : (side : Side) (p : TwoEnds) (steps : List Step) (h : StandsAt p steps) → Resting p → (r : ℕ) → IsOpenAt r (end_at side p).end →
+    IsOpenAt r (end_at (other side) p).end
+there_open Left p steps h rest r o =
+    let x = open_there (terms_of p.left.end.carrier.local p.right.end.carrier.local) p.left.end.carrier p.right.end.carrier r o.peer o.link
+    (joined_at_rest p steps h rest) o.live in
+    record { peer = x.peer; link = x.link; live = x.live }
+there_open Right p steps h rest r o =
+    let x = open_here (terms_of p.left.end.carrier.local p.right.end.carrier.local) p.left.end.carrier p.right.end.carrier r o.peer o.link
+    (joined_at_rest p steps h rest) o.live in
+    record { peer = x.peer; link = x.link; live = x.live }
+
+at_both : Empties → (side : Side) (p : TwoEnds) (steps : List Step) (h : StandsAt p steps) → Resting p → (r : ℕ) →
+    IsOpenAt r (end_at side p).end → OpenAtBoth p steps h r
+at_both empties Left p steps h rest r o = open_at_both empties p steps r h rest o (there_open Left p steps h rest r o)
+at_both empties Right p steps h rest r o = open_at_both empties p steps r h rest (there_open Right p steps h rest r o) o
+
+none_begun_at : Empties → (side : Side) (p : TwoEnds) (steps : List Step) → StandsAt p steps → Resting p → (r : ℕ) (x : Connection) →
+    value_at r (end_at side p).end.carrier.live ≡ Some x → begun_by x ≡ 0
+unfolding at_both open_at_both
+none_begun_at empties Left p steps h rest r (linked peer link) at =
+    ap length (at_both empties Left p steps h rest r (record { peer = peer; link = link; live = at })).there.links.begun
+none_begun_at empties Right p steps h rest r (linked peer link) at =
+    ap length (at_both empties Right p steps h rest r (record { peer = peer; link = link; live = at })).there.links.begun_there
+none_begun_at empties side p steps h rest r x at = grind arith
+
+open_linked : (n : ℕ) (e : End) → e.carrier.ended ≡ None → is_open n e.carrier ≡ true → IsOpenAt n e
+open_linked n e lasts h = grind arith
+
+joined_open : (n : ℕ) (e : End) (l : Listener) → IsInOrder e → e.carrier.ended ≡ None → kept_at n e.lines ≡ Some l →
+    is_some l.joined ≡ true → IsOpenAt n e
+joined_open n e l order lasts at some =
+    open_linked n e lasts (order.sound.links lasts n l at
+    (implied may_hold needs_link refl l.state.phase (joined_holds l (session_kept n l e order at) some)))
+
+none_joined_at : Empties → (side : Side) (p : TwoEnds) (steps : List Step) (h : StandsAt p steps) → Resting p → (r : ℕ) (l : Listener) →
+    is_some (value_at r (end_at side p).end.carrier.live) ≡ true → kept_at r (end_at side p).end.lines ≡ Some l → l.joined ≡ None
+none_joined_at empties side p steps h rest r l lives at = by l.joined refl
+  where
+    by : (o : Option (List ℕ)) → l.joined ≡ o → l.joined ≡ None
+    by None e = e
+    by (Some octets) e =
+        let e0 = (end_at side p).end in
+        let o = joined_open r e0 l (order_of side p h.now (tables_at p steps) h.stands (rest.lasts side)) (rest.lasts side) at
+        (ap is_some e) in
+        none_joined l.state l.joined (has_joined_none p steps r h rest (at_both empties side p steps h rest r o) side l at)
+
+none_kept : Empties → (p : TwoEnds) (steps : List Step) → StandsAt p steps → Resting p → (side : Side) → kept_by side p ≡ 0
+none_kept empties p steps h rest side =
+    let held : length (end_at side p).held.octets ≡ 0 = ap length (rests_at side p steps h rest).1 in
+    let begun : kept_in (end_at side p).end.carrier.live ≡ 0 =
+    none_begun 0 (end_at side p).end.carrier.live (order_of side p h.now (tables_at p steps) h.stands (rest.lasts side)).sound.orderly.rise
+    (none_begun_at empties side p steps h rest) in
+    let joined : joined_in (end_at side p).end.carrier.live (end_at side p).end.lines ≡ 0 =
+    all_none_joined 0 (end_at side p).end.carrier.live (end_at side p).end.lines
+    (order_of side p h.now (tables_at p steps) h.stands (rest.lasts side)).rising (none_joined_at empties side p steps h rest) in
+    omega arith
+
+pub nothing_kept : Empties → (p : TwoEnds) (steps : List Step) → StandsAt p steps → HoldLess p → AreAtRest p → (side : Side) →
+    kept_by side p ≡ 0
+nothing_kept empties p steps h held rest side = none_kept empties p steps h (resting p held rest) side

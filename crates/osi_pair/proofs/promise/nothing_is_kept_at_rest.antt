@@ -1,0 +1,126 @@
+-- If nothing is in flight between two ends, a connection that is open at one is open at the other, and no received
+-- octet is kept.
+-- For the promises.
+use Rattle.osi_between.specs.Zero as zero
+use Rattle.osi_pair.proofs.Vocabulary.{◌≡◌, refl, sym, ◌∙◌, ap, subst, ℕ, Bool, true, false, ◌==◌, if◌then◌else◌, List, [], ◌∷◌, ◌++◌}
+use Rattle.osi_pair.proofs.Vocabulary.{Option, Some, None, is_some, arith, none_open, at_one, first_here, eqb-true, sum_by-cons, Value}
+use Rattle.osi_pair.proofs.Vocabulary.{swapped, Local, absent, begun_by, kept_in, Place, was_given, place_at, RiseFrom, Rows, value_at}
+use Rattle.osi_pair.proofs.Vocabulary.{Connection, State, linked, given_live, within_given, AreJoinedBy, Course, met, at_end, from_end}
+use Rattle.osi_pair.proofs.Vocabulary.{talking, left_here, left_there, Terms, by_two, by_zero, refusing, Listener, kept_at, session_in}
+use Rattle.osi_pair.proofs.Vocabulary.{joined_of, joined_live, joined_in, Link as Standing, EndLine as Line, kept_first}
+
+-- ---- a connection that is open at one end
+
+-- it is open at this place
+record IsLinked (place : Place) : Type 0 where
+  peer : ℕ
+  link : Standing
+  is : place ≡ was_given (Some (linked peer link))
+
+pub record IsLinkedAt (n : ℕ) (s : State) : Type 0 where
+  pub peer : ℕ
+  pub link : Standing
+  pub live : value_at n s.live ≡ Some (linked peer link)
+
+last_there : (us : List Value) (u : Value) → us ++ u ∷ [] ≡ [] → ⊥
+last_there [] u e = cc
+last_there (v ∷ us) u e = cc
+
+-- class 2: at the called end, and at the caller
+linked_there : (n p : ℕ) (x : Standing) (called : Local) (g : Course) → at_end true n g ≡ was_given (Some (linked p x)) →
+    from_end false n called g ≡ [] → IsLinked (at_end false n g)
+linked_there n p x called (met (talking l)) a back = record { peer = n; link = (swapped l).left; is = refl }
+linked_there n p x called (met (left_there l us reason)) a back = absurd (last_there _ _ back)
+linked_there n p x called g a back = absurd (cc)
+
+linked_here : (n p : ℕ) (x : Standing) (called : Local) (g : Course) → at_end false n g ≡ was_given (Some (linked p x)) →
+    from_end true n called g ≡ [] → from_end false n called g ≡ [] → IsLinked (at_end true n g)
+linked_here n p x called (met (talking l)) a out back = record { peer = n; link = l.left; is = refl }
+linked_here n p x called (met (left_here l us reason)) a out back = absurd (last_there _ _ out)
+linked_here n p x called g a out back = absurd (cc)
+
+at_place : (n : ℕ) (s : State) → IsLinked (place_at n s) → IsLinkedAt n s
+at_place n s l = grind arith
+
+-- class 0: there is one connection
+one_linked : (n : ℕ) (s : State) (x : Standing) → n ≡ 1 → s.live ≡ (1, linked 1 x) ∷ [] → IsLinkedAt n s
+one_linked n s x e live = record { peer = 1; link = x; live = ap (value_at n) live ∙ ap (λ (m : ℕ). value_at m ((1, linked 1 x) ∷ [])) e }
+
+zero_there : (s r : State) (n p : ℕ) (x : Standing) (g : zero.ZeroCourse) → zero.HasOne s (zero.at_end true g) →
+    zero.HasOne r (zero.at_end false g) → value_at n s.live ≡ Some (linked p x) → IsLinkedAt n r
+zero_there s r n p x (zero.talking l) one other at =
+    one_linked n r l.right (at_one s n (linked 1 l.left) (linked p x) one at).reference other.live
+zero_there s r n p x g one other at = grind arith
+
+zero_here : (s r : State) (n p : ℕ) (x : Standing) (g : zero.ZeroCourse) → zero.HasOne s (zero.at_end true g) →
+    zero.HasOne r (zero.at_end false g) → [] ≡ zero.from_end false r.local g → value_at n r.live ≡ Some (linked p x) → IsLinkedAt n s
+zero_here s r n p x (zero.talking l) one other back at =
+    one_linked n s l.left (at_one r n (linked 1 l.right) (linked p x) other at).reference one.live
+zero_here s r n p x g one other back at = grind arith
+
+-- whatever they agree on
+pub open_there : (terms : Terms) (s r : State) (n p : ℕ) (x : Standing) → AreJoinedBy terms s r [] [] →
+    value_at n s.live ≡ Some (linked p x) → IsLinkedAt n r
+open_there by_two s r n p x j at =
+    let st = j.stands n (within_given n s (linked p x) j.orderly at).0 in
+    at_place n r (subst IsLinked (sym st.place_there)
+    (linked_there n p x r.local st.course (sym st.place ∙ given_live n s (linked p x) j.orderly at) (sym st.back)))
+open_there by_zero s r n p x j at = zero_there s r n p x j.course j.one j.one_called at
+open_there (refusing reason) s r n p x j at = absurd (none_open s j.stage n p x j.live at)
+
+pub open_here : (terms : Terms) (s r : State) (n p : ℕ) (x : Standing) → AreJoinedBy terms s r [] [] →
+    value_at n r.live ≡ Some (linked p x) → IsLinkedAt n s
+open_here by_two s r n p x j at =
+    let st = j.stands n (within_given n r (linked p x) j.orderly_called at).0 in
+    at_place n s (subst IsLinked (sym st.place)
+    (linked_here n p x r.local st.course (sym st.place_there ∙ given_live n r (linked p x) j.orderly_called at) (sym st.out) (sym st.back)))
+open_here by_zero s r n p x j at = zero_here s r n p x j.course j.one j.one_called j.coming at
+open_here (refusing reason) s r n p x j at = absurd (let no : None ≡ Some (linked p x) = sym (ap (value_at n) j.live_called) ∙ at in cc)
+
+-- ---- the octets of all connections
+
+row_behind : (r q : ℕ) (x y : Connection) (rows : Rows Connection) → RiseFrom r rows → value_at q rows ≡ Some y →
+    value_at q ((r, x) ∷ rows) ≡ Some y
+row_behind r q x y rows rise at = by (r == q) refl
+  where
+    by : (b : Bool) → (r == q) ≡ b → (if b then Some x else value_at q rows) ≡ Some y
+    by true e =
+        let same : r ≡ q = eqb-true r q e in
+        let no : None ≡ Some y = sym (absent q r rows (omega arith) rise) ∙ at in
+        absurd (cc)
+    by false e = at
+
+pub none_begun : (n : ℕ) (rows : Rows Connection) → RiseFrom n rows →
+    ((r : ℕ) (x : Connection) → value_at r rows ≡ Some x → begun_by x ≡ 0) → kept_in rows ≡ 0
+none_begun n [] rise all = refl
+none_begun n ((r, x) ∷ rows) rise all =
+    let first : begun_by x ≡ 0 = all r x (first_here r x rows) in
+    let rest : kept_in rows ≡ 0 = none_begun r rows rise.1 (λ q y at. all q y (row_behind r q x y rows rise.1 at)) in
+    (sum_by-cons (λ (row : ℕ × Connection). begun_by row.1) (r, x) rows) ∙ omega arith
+
+-- ---- the octets that sessions have joined
+
+behind_by : (r q : ℕ) (line : Line) (lines : Rows Line) (l : Listener) → RiseFrom r lines → kept_at q lines ≡ Some l →
+    kept_at q ((r, line) ∷ lines) ≡ Some l
+behind_by r q line lines l rise at = by (r == q) refl
+  where
+    by : (b : Bool) → (r == q) ≡ b → session_in (if b then Some line else value_at q lines) ≡ Some l
+    by true e =
+        let same : r ≡ q = eqb-true r q e in
+        let no : None ≡ Some l = sym (ap session_in (absent q r lines (omega arith) rise)) ∙ at in
+        absurd (cc)
+    by false e = at
+
+none_of : (live : Bool) (session : Option Listener) → ((l : Listener) → live ≡ true → session ≡ Some l → l.joined ≡ None) →
+    (if live then joined_of session else 0) ≡ 0
+none_of live session all = grind arith
+
+pub none_joined : (n : ℕ) (live : Rows Connection) (lines : Rows Line) → RiseFrom n lines →
+    ((r : ℕ) (l : Listener) → is_some (value_at r live) ≡ true → kept_at r lines ≡ Some l → l.joined ≡ None) → joined_in live lines ≡ 0
+none_joined n live [] rise all = refl
+none_joined n live ((r, line) ∷ lines) rise all =
+    let first : joined_live live (r, line) ≡ 0 =
+    none_of (is_some (value_at r live)) line.session (λ l lives is. all r l lives (kept_first r line lines ∙ is)) in
+    let rest : joined_in live lines ≡ 0 =
+    none_joined r live lines rise.1 (λ q l lives at. all q l lives (behind_by r q line lines l rise.1 at)) in
+    (sum_by-cons (λ (row : ℕ × Line). joined_live live row) (r, line) lines) ∙ omega arith

@@ -1,0 +1,252 @@
+-- Two carries of equally many octets, between pairs of ends in the same state, lead to the same state if memory
+-- suffices, however the octets are cut into pieces.
+-- For pairs in the same state and the laws of `standing`.
+use Rattle.osi_stack.specs.Runs.{Call, AreAlike}
+use Rattle.osi_pair.proofs.Vocabulary.{◌≡◌, ℕ, ◌<◌, ◌^◌, List, [], ◌∷◌, ◌++◌, min, take, Option, Some, None, refl, sym, ap, subst, ◌∙◌, ◌⊎◌}
+use Rattle.osi_pair.proofs.Vocabulary.{inl, inr, arith, PacketLaws, in_room, pieces_end, calls_read, pieces_alike, feeding, telling}
+use Rattle.osi_pair.proofs.Vocabulary.{carrying, Calls, CallsInRoom, HasRoom, put_back, used_in, told_in, carried_in, empty_partial}
+use Rattle.osi_pair.proofs.Vocabulary.{completed_partial, partial_not_whole, one_packet, one_list, IsSameEnd, AreSameEnds, FoundMemory}
+use Rattle.osi_pair.proofs.Vocabulary.{append-nil, flat_map, Rows, EndReason, IsPartial, Shown, carried, RunsDry, StopsBehind, Refuses, End}
+use Rattle.osi_pair.proofs.Vocabulary.{Holding, EndLine as Line, Crossing, CarriesFrom, crossing, TwoEnds, end_at, reachable, Entry}
+use Rattle.osi_pair.proofs.Vocabulary.{reach_after, other, IsReached, told_entries, waiting_in, quieted, Side, Left, Right}
+use Rattle.osi_pair.proofs.carry.a_carry_with_enough_memory.{IsCarried, pieces_carried}
+use Rattle.osi_pair.proofs.carry.a_carry_is_deliveries.{CarryLaws, carries_stand}
+use Rattle.osi_pair.proofs.packet.a_packet_is_one_delivery_or_none.{quiet_of}
+use Rattle.osi_pair.proofs.promise.matching_ends_keep_the_promises.{tables_at}
+use Rattle.osi_pair.proofs.session.an_end_with_nothing_pending.{quiet_same}
+
+-- ---- both sides
+
+pub same_at : (s : Side) (p q : TwoEnds) → AreSameEnds p q → IsSameEnd (end_at s p) (end_at s q)
+same_at Left p q h = h.left
+same_at Right p q h = h.right
+
+pub same_both : (s : Side) (p q : TwoEnds) → IsSameEnd (end_at s p) (end_at s q) → IsSameEnd (end_at (other s) p) (end_at (other s) q) →
+    p.reach ≡ q.reach → p.journal ≡ q.journal → AreSameEnds p q
+same_both Left p q own there reach journal = record { left = own; right = there; reach = reach; journal = journal }
+same_both Right p q own there reach journal = record { left = there; right = own; reach = reach; journal = journal }
+
+pub same_moved : (a b c d : Holding) → IsSameEnd a b → c ≡ a → d ≡ b → IsSameEnd c d
+same_moved a b c d h e f = subst (λ (x : Holding). IsSameEnd x d) (sym e) (subst (λ (x : Holding). IsSameEnd a x) (sym f) h)
+
+-- an end that lasts, to which the same is done
+pub same_done : (a b : Holding) (does : End → End) → IsSameEnd a b → a.end.carrier.ended ≡ None →
+    IsSameEnd (record a { end = does a.end }) (record b { end = does b.end })
+same_done a b does h alive = record {
+  end = ap does h.end;
+  octets = h.octets;
+  offset = λ lasts. h.offset alive;
+  counted = λ lasts. h.counted alive;
+}
+
+-- octets of it are carried
+same_carried : (octets : ℕ) (a b : Holding) → IsSameEnd a b →
+    IsSameEnd (record a { end = carried octets a.end }) (record b { end = carried octets b.end })
+same_carried octets a b h = record { end = ap (carried octets) h.end; octets = h.octets; offset = h.offset; counted = h.counted }
+
+-- ---- room affects nothing else
+
+-- an end without its room and its fault
+abbrev plain : Holding → Holding
+plain h = record h { held = record h.held { fault = None; room = 0 } }
+
+made : End → ℕ → List ℕ → Holding
+made e offset octets = record { end = e; held = record { offset = offset; octets = octets; fault = None; room = 0 } }
+
+plain_same : (a b : Holding) → IsSameEnd a b → a.end.carrier.ended ≡ None → plain a ≡ plain b
+unfolding made
+plain_same a b h alive =
+    ap (λ (e : End). made e a.held.offset a.held.octets) h.end ∙ ap (λ (n : ℕ). made b.end n a.held.octets) (h.offset alive)
+    ∙ ap (λ (l : List ℕ). made b.end b.held.offset l) h.octets
+
+plain_goes : (old new : Holding) (piece : List ℕ) (used : ℕ) →
+    (RunsDry old piece used new ⊎ StopsBehind old piece used new) ⊎ Refuses old piece used new →
+    (RunsDry (plain old) piece used (plain new) ⊎ StopsBehind (plain old) piece used (plain new))
+    ⊎ Refuses (plain old) piece used (plain new)
+plain_goes old new piece used (inl (inl d)) = inl (inl (record {
+  units = d.units;
+  all = d.all;
+  packets = d.packets;
+  partial = d.partial;
+  taken = d.taken;
+  quiet = d.quiet;
+  offset = d.offset;
+  room = omega arith;
+}))
+plain_goes old new piece used (inl (inr d)) = inl (inr (record {
+  within = d.within;
+  units = d.units;
+  bound = d.bound;
+  packets = d.packets;
+  taken = d.taken;
+  stopped = d.stopped;
+  uses = d.uses;
+  held = d.held;
+  offset = d.offset;
+  room = omega arith;
+}))
+plain_goes old new piece used (inr d) = inr (record {
+  units = d.units;
+  fault = d.fault;
+  before = d.before;
+  all = d.all;
+  cut = d.cut;
+  taken = d.taken;
+  quiet = d.quiet;
+  ended = d.ended;
+  held = d.held;
+})
+
+no_want : {D R M : Type 0} → D ⊎ R → D ⊎ (R ⊎ M)
+no_want (inl d) = inl d
+no_want (inr r) = inr (inl r)
+
+plain_call : (call : Call) (old new : Holding) → Calls old call new → HasRoom old call new → Calls (plain old) call (plain new)
+plain_call (feeding piece fed) old new h room = record {
+  over = λ over. let done = h.over over in (done.0, ap plain done.1);
+  waiting = λ lasts waits. let done = h.waiting lasts waits in (done.0, ap plain done.1);
+  goes = λ goes. no_want (plain_goes old new piece fed.used (room goes));
+  whole = h.whole;
+  bound = h.bound;
+  progress = h.progress;
+}
+plain_call (telling shown) old new h room = (h.0, ap plain h.1)
+plain_call (carrying octets) old new h room = ap plain h
+
+plain_room : (call : Call) (old new : Holding) → HasRoom old call new → HasRoom (plain old) call (plain new)
+plain_room (feeding piece fed) old new room = λ goes. plain_goes old new piece fed.used (room goes)
+plain_room (telling shown) old new room = tt
+plain_room (carrying octets) old new room = tt
+
+plain_calls : (calls : List Call) (old new : Holding) → CallsInRoom old calls new → CallsInRoom (plain old) calls (plain new)
+plain_calls [] old new h = ap plain h
+plain_calls (call ∷ calls) old new h = (
+  plain h.0,
+  plain_call call old h.0 h.1 h.2,
+  plain_room call old h.0 h.2,
+  plain_calls calls h.0
+      new h.3,
+)
+
+-- ---- the end that is fed
+
+packet_laws : PacketLaws
+packet_laws = record { one = one_packet; front = completed_partial; proper = partial_not_whole }
+
+-- alike, and if both last at the same place of the stream
+record AreOne (a : Holding) (xs : List Call) (b : Holding) (ys : List Call) : Type 0 where
+  alike : AreAlike a xs b ys
+  offset : a.end.carrier.ended ≡ None → a.held.offset ≡ b.held.offset
+
+turned : (a b : Holding) (xs ys : List Call) → AreAlike b ys a xs → AreAlike a xs b ys
+turned a b xs ys h = record { octets = sym h.octets; end = sym h.end; told = sym h.told }
+
+one_by : (h a b : Holding) (xs ys : List Call) (o m : Option EndReason) → a.end.carrier.ended ≡ o → b.end.carrier.ended ≡ m →
+    IsPartial h.held.octets → h.held.offset < 2 ^ 64 → h.end.carrier.ended ≡ None → CallsInRoom h xs a → CallsInRoom h ys b →
+    flat_map used_in xs ≡ flat_map used_in ys → AreOne a xs b ys
+one_by h a b xs ys None None e f partial bound alive x y used =
+    let both = pieces_alike empty_partial one_list h a b xs ys partial bound (in_room h xs a x) (in_room h ys b y) used e f in
+    record { alike = both.0; offset = λ lasts. both.1 }
+one_by h a b xs ys (Some reason) m e f partial bound alive x y used = record {
+  alike = (pieces_end packet_laws empty_partial h a b xs ys partial bound alive x y used (λ lasts. absurd (cc))).0;
+  offset = λ lasts. absurd (cc);
+}
+one_by h a b xs ys None (Some reason) e f partial bound alive x y used =
+    let back = (pieces_end packet_laws empty_partial h b a ys xs partial bound alive y x (sym used) (λ lasts. absurd (cc))).0 in
+    let over : b.end.carrier.ended ≡ a.end.carrier.ended = ap (λ (z : End). z.carrier.ended) back.end in
+    absurd (cc)
+
+-- if nothing is pending and nothing was carried, what is alike is the same
+hushed_same : (a b : Holding) (xs ys : List Call) → AreAlike a xs b ys → flat_map carried_in xs ≡ [] → flat_map carried_in ys ≡ [] →
+    waiting_in a.end.lines ≡ [] → waiting_in b.end.lines ≡ [] → a.end ≡ b.end
+hushed_same a b xs ys h none none_too quiet still =
+    ap (λ (l : Rows Line). record a.end { lines = l }) (sym (quiet_same a.end.lines quiet))
+    ∙ ap (λ (l : List ℕ). put_back l (record a.end { lines = quieted a.end.lines })) (sym none)
+    ∙ h.end ∙ ap (λ (l : List ℕ). put_back l (record b.end { lines = quieted b.end.lines })) none_too
+    ∙ ap (λ (l : Rows Line). record b.end { lines = l }) (quiet_same b.end.lines still)
+
+told_same : (a b : Holding) (xs ys : List Call) → AreAlike a xs b ys → waiting_in a.end.lines ≡ [] → waiting_in b.end.lines ≡ [] →
+    flat_map told_in xs ≡ flat_map told_in ys
+told_same a b xs ys h quiet still =
+    sym (append-nil (flat_map told_in xs)) ∙ ap (λ (w : List (ℕ × Shown)). flat_map told_in xs ++ w) (sym quiet) ∙ h.told
+    ∙ ap (λ (w : List (ℕ × Shown)). flat_map told_in ys ++ w) still ∙ append-nil (flat_map told_in ys)
+
+counted_by : (h a : Holding) (xs : List Call) → h.held.offset < 2 ^ 64 → CallsInRoom h xs a → a.end.carrier.ended ≡ None →
+    a.held.offset < 2 ^ 64
+counted_by h a xs bound x lasts =
+    let r = calls_read empty_partial h xs a (in_room h xs a x) lasts in
+    let is = r.offset bound in
+    omega arith
+
+-- what two carries did to the end that is fed
+record IsFedOnce (a b : Holding) (xs ys : List Call) : Type 0 where
+  same : IsSameEnd a b
+  told : flat_map told_in xs ≡ flat_map told_in ys
+
+fed_by : (s : Side) (p q a b : Crossing) (n : ℕ) (o : Option EndReason) → p.to.end.carrier.ended ≡ o → IsSameEnd p.to q.to →
+    p.from.end ≡ q.from.end → IsPartial p.to.held.octets → (x : IsCarried s p n a) → (y : IsCarried s q n b) →
+    waiting_in a.to.end.lines ≡ [] → waiting_in b.to.end.lines ≡ [] → IsFedOnce a.to b.to x.calls y.calls
+fed_by s p q a b n (Some reason) e same from partial x y quiet still =
+    let over = x.over reason e in
+    let there = y.over reason (ap (λ (z : End). z.carrier.ended) (sym same.end) ∙ e) in
+    record { same = same_moved p.to q.to a.to b.to same over.0 there.0; told = over.1 ∙ sym there.1 }
+fed_by s p q a b n None e same from partial x y quiet still =
+    let h = plain p.to in
+    let used : flat_map used_in x.calls ≡ flat_map used_in y.calls = x.used ∙ ap (λ (z : End). take n z.carrier.outgoing) from
+    ∙ sym y.used in
+    let here = plain_calls x.calls p.to a.to x.room in
+    let there = subst (λ (z : Holding). CallsInRoom z y.calls (plain b.to)) (sym (plain_same p.to q.to same e))
+    (plain_calls y.calls q.to b.to y.room) in
+    let bound : p.to.held.offset < 2 ^ 64 = same.counted e in
+    let one = one_by h (plain a.to) (plain b.to) x.calls y.calls a.to.end.carrier.ended b.to.end.carrier.ended refl refl partial bound e
+    here there used in
+    assumption (
+      hushed_same (plain a.to)
+          (plain b.to) x.calls y.calls one.alike x.untaken y.untaken quiet still,
+      one.alike.octets,
+      one.offset,
+      counted_by h
+          (plain a.to) x.calls bound here,
+      told_same (plain a.to) (plain b.to) x.calls y.calls one.alike quiet still,
+    )
+
+-- ---- a carry
+
+-- octets were carried, and two ends match the machine if nothing is pending
+carried_at : CarryLaws → (f : Side) (most : ℕ) (p new : TwoEnds) (octets : ℕ) → IsReached p → CarriesFrom f most p octets new →
+    FoundMemory new → IsCarried (other f) (crossing f p) octets (crossing f new)
+carried_at laws f most p new octets at c memory =
+    subst (λ (n : ℕ). IsCarried (other f) (crossing f p) n (crossing f new)) (sym c.way.length)
+    (pieces_carried laws f p at.steps (min most (reachable f p)) c.way.pieces (crossing f new) at.stands (omega arith) c.way.each
+    (memory (other f)))
+
+quiet_then : CarryLaws → (f : Side) (most : ℕ) (p new : TwoEnds) (octets : ℕ) → IsReached p → CarriesFrom f most p octets new →
+    waiting_in (end_at (other f) new).end.lines ≡ []
+quiet_then laws f most p new octets at c =
+    let x = carries_stand laws f most p octets new at.steps at.stands c in
+    quiet_of (other f) new x.stands.now (tables_at new (at.steps ++ x.more)) x.stands.stands
+
+pub same_carry : CarryLaws → (f : Side) (most : ℕ) (p q a b : TwoEnds) (octets : ℕ) → IsReached p → IsReached q → AreSameEnds p q →
+    CarriesFrom f most p octets a → CarriesFrom f most q octets b → FoundMemory a → FoundMemory b → AreSameEnds a b
+same_carry laws f most p q a b octets at there same c d found found_too =
+    let s = other f in
+    let x = carried_at laws f most p a octets at c found in
+    let y = carried_at laws f most q b octets there d found_too in
+    let own = same_at f p q same in
+    let fed = fed_by s (crossing f p) (crossing f q) (crossing f a) (crossing f b) octets (end_at s p).end.carrier.ended refl
+    (same_at s p q same) own.end (at.held s) x y
+    (quiet_then laws f most p a octets at c) (quiet_then laws f most q b octets there d) in
+    same_both f a b
+    (same_moved (record (end_at f p) { end = carried octets (end_at f p).end })
+    (record (end_at f q) { end = carried octets (end_at f q).end }) (end_at f a) (end_at f b)
+    (same_carried octets (end_at f p) (end_at f q) own) x.from y.from)
+    fed.same
+    (c.reach ∙ ap (reach_after f octets) same.reach ∙ sym d.reach)
+    (x.says ∙ ap (λ (j : List Entry). j ++ told_entries s (end_at s p).end.carrier.ended (end_at s a).end.carrier.ended
+    (flat_map told_in x.calls)) same.journal
+    ∙ ap (λ (o : Option EndReason). q.journal ++ told_entries s o (end_at s a).end.carrier.ended (flat_map told_in x.calls))
+    (ap (λ (z : End). z.carrier.ended) (same_at s p q same).end)
+    ∙ ap (λ (o : Option EndReason). q.journal ++ told_entries s (end_at s q).end.carrier.ended o (flat_map told_in x.calls))
+    (ap (λ (z : End). z.carrier.ended) fed.same.end)
+    ∙ ap (λ (w : List (ℕ × Shown)). q.journal ++ told_entries s (end_at s q).end.carrier.ended
+    (end_at s b).end.carrier.ended w) fed.told ∙ sym y.says)

@@ -1,0 +1,169 @@
+-- An end took a unit of a connection: what remains to be proved of its carrier, if its session is known.
+-- For turns, breaks and ends, packets, carries and the promises.
+use Rattle.osi_pair.proofs.Vocabulary.{◌≡◌, ◌≢◌, ℕ, ◌≤◌, Bool, true, false, nat_lt, List, [], ◌++◌, map, Some, None, is_some, option_map}
+use Rattle.osi_pair.proofs.Vocabulary.{refl, sym, ap, subst, ◌∙◌, arith, length, Held, place_at, value_at, State, Between, last_of}
+use Rattle.osi_pair.proofs.Vocabulary.{progress_of, Progress, not_yet, references_for, Terms, accepts_in, terms_of, shown_at, Line, Tables}
+use Rattle.osi_pair.proofs.Vocabulary.{Message, Listener, Standing, Shown, kept_at, End, Holding, TwoEnds, end_at, other, side_in}
+use Rattle.osi_pair.proofs.Vocabulary.{is_caller, class_in, carriers_of, Goes, IsSeated, IsInOrder, Stands, waiting_in, Side, Left, Right}
+use Rattle.osi_pair.proofs.flight.a_taken_packet_is_one_row.{UnitActs, PacketActs}
+use Rattle.osi_pair.proofs.flight.what_may_arrive_row_by_row.{Row, agrees, before, after, arrived_in, put_for, is_row}
+use Rattle.osi_pair.proofs.session.a_seat_is_its_progress_and_session.{transport_by, value_same, HasSession, seat_of_session}
+use Rattle.osi_pair.proofs.turn.a_turn_keeps_the_match.{IsSeen, with_holding, holding_here, holding_there, Others, LinesAfter, Turned}
+use Rattle.osi_pair.proofs.flight.whether_something_is_cut_off.{Lasts}
+
+-- ---- references and the class
+
+-- a connection that ends gives no reference and no class
+pub refs_row : (terms : Terms) (row : Row) → is_row terms row → (before row ≡ not_yet → ⊥) →
+    references_for (accepts_in terms) (arrived_in row) (put_for row) ≡ 0
+refs_row terms row is f = grind arith
+
+abbrev pub is_agree : Row → Bool
+is_agree agrees = true
+is_agree row = false
+
+pub given_not_new : (n : ℕ) (s : State) (b : Bool) → nat_lt s.given n ≡ b → n ≤ s.given → progress_of (place_at n s) ≡ not_yet → ⊥
+given_not_new n s b e le h = grind arith
+
+-- ---- what remains to be proved
+
+-- the tables have this line, and their users received these indications
+pub record TablesAfter (s : Side) (n : ℕ) (t u : Tables) (shown : List Shown) (line : Line) : Type 0 where
+  pub terms : u.terms ≡ t.terms
+  pub broken : u.broken ≡ t.broken
+  pub left_end : u.left_end ≡ t.left_end
+  pub right_end : u.right_end ≡ t.right_end
+  pub journal : u.journal ≡ t.journal ++ map (shown_at (side_in s) n) shown
+  pub lines : LinesAfter s n line t u
+
+-- the connection then, seen from the end that acted
+abbrev pub line_then : Row → Standing → List Message → List Message → Line → Line
+line_then row x channel back l = record {
+  own = record { transport = transport_by (after row); session = x; channel = channel };
+  peer = record l.peer { channel = back };
+}
+
+-- the sessions of all other connections
+pub record OtherSessions (s : Side) (p : TwoEnds) (e : End) (n : ℕ) : Type 0 where
+  pub sessions : (q : ℕ) → q ≢ n → is_some (value_at q e.carrier.live) ≡ true → kept_at q e.lines ≡ kept_at q (end_at s p).end.lines
+  pub kept : (q : ℕ) → q ≢ n → (x : Listener) → kept_at q e.lines ≡ Some x → kept_at q (end_at s p).end.lines ≡ Some x
+
+abbrev pub terms_at : TwoEnds → Terms
+terms_at p = terms_of p.left.end.carrier.local p.right.end.carrier.local
+
+-- what a packet does that arrives at an end that holds these octets behind it
+abbrev pub PacketAt : Side → TwoEnds → Between → List ℕ → Held → Type 0
+PacketAt s p b packet h = PacketActs (terms_at p) (is_caller s) (carriers_of p) b packet h.octets
+
+abbrev pub DidAt : Side → TwoEnds → Between → End → Held → ℕ → Type 0
+DidAt s p b e h n = UnitActs (terms_at p) (is_caller s) (is_caller (other s)) (carriers_of p) b n (carriers_of (with_holding s e h p))
+
+pub last_is : (s : Side) (p : TwoEnds) (b : Between) (e : End) (h : Held) (n : ℕ) → (d : DidAt s p b e h n) → e.carrier.ended ≡ None →
+    last_of (is_caller s) d.now ≡ e.carrier
+last_is Left p b e h n d lasts = sym (d.between.lives true lasts)
+last_is Right p b e h n d lasts = sym (d.between.lives false lasts)
+
+pub was_at : (s : Side) (p : TwoEnds) (b : Between) (t : Tables) → Stands p b t → Lasts s p →
+    last_of (is_caller s) b ≡ (end_at s p).end.carrier
+was_at s p b t old alive = grind arith
+
+pub order_of : (s : Side) (p : TwoEnds) (b : Between) (t : Tables) → Stands p b t → Lasts s p → IsInOrder (end_at s p).end
+order_of s p b t old alive = grind arith
+
+others_then : (s : Side) (p : TwoEnds) (b : Between) (t : Tables) (e : End) (h : Held) (n : ℕ) → Stands p b t → Lasts s p →
+    (d : DidAt s p b e h n) → e.carrier.ended ≡ None → IsInOrder e → OtherSessions s p e n → Others s p b e h d.now n
+others_then s p b t e h n old alive d lasts order o =
+    let last = last_is s p b e h n d lasts in
+    let places : (q : ℕ) → q ≢ n → place_at q e.carrier ≡ place_at q (end_at s p).end.carrier =
+    λ q apart. ap (place_at q) (sym last) ∙ d.other_places q apart ∙ ap (place_at q) (was_at s p b t old alive) in
+    record {
+      places = places;
+      lives = λ q apart. value_same q e.carrier (end_at s p).end.carrier order.sound.orderly (order_of s p b t old alive).sound.orderly
+          (places q apart);
+      sessions = o.sessions;
+      kept = o.kept;
+      ways = d.others;
+      last = d.other_places;
+      there = d.there;
+    }
+
+-- what is in flight then, each way
+pub record WaysThen (s : Side) (p : TwoEnds) (b : Between) (e : End) (h : Held) (n : ℕ) (d : DidAt s p b e h n) (own peer : Standing)
+    (sends comes : List Message) : Type 0 where
+  pub out : Goes s (other s) n (with_holding s e h p) d.now
+      (progress_of (place_at n (last_of (is_caller (other s)) d.now))) peer.state sends
+  pub back : Goes (other s) s n (with_holding s e h p) d.now (after d.row) own.state comes
+
+seen_then : (s : Side) (p : TwoEnds) (b : Between) (t : Tables) (e : End) (h : Held) (n : ℕ) (l : Line) (x : Standing)
+    (channel back : List Message) → (d : DidAt s p b e h n) → e.carrier.ended ≡ None → IsInOrder e → HasSession n e.lines (after d.row) x →
+    IsSeen s n p b l → WaysThen s p b e h n d x l.peer.session channel back →
+    IsSeen s n (with_holding s e h p) d.now (line_then d.row x channel back l)
+seen_then s p b t e h n l x channel back d lasts order hs i w =
+    assumption (
+      subst (λ (y : Holding). IsSeated n y (line_then d.row x channel back l).own) (sym (holding_here s e h p))
+          (seat_of_session n e h (after d.row) x channel order.sound.orderly
+          (ap (λ (c : State). progress_of (place_at n c)) (sym (last_is s p b e h n d lasts)) ∙ d.stands) hs),
+      subst
+          (λ (y : Holding). IsSeated n y (line_then d.row x channel back l).peer) (sym (holding_there s e h p))
+          (record {
+            joined = i.there.joined;
+            transport = i.there.transport;
+            live = i.there.live;
+            kept = i.there.kept;
+            over_now = i.there.over_now;
+            awaiting = i.there.awaiting;
+            octets = i.there.octets;
+          }),
+      w.out,
+      subst
+          (λ (g : Progress). Goes (other s) s n (with_holding s e h p) d.now g x.state back) (sym d.stands) w.back,
+    )
+
+-- the references and the class that the ends have then
+pub record GivenAfter (s : Side) (p : TwoEnds) (t : Tables) (e : End) (h : Held) (c : Between) : Type 0 where
+  pub given : (with_holding s e h p).left.end.carrier.given ≡ p.left.end.carrier.given
+  pub given_back : (with_holding s e h p).right.end.carrier.given ≤ length t.lines
+  pub given_then : c.caller.given ≡ (with_holding s e h p).left.end.carrier.given
+  pub class_then : c.caller.class ≡ (with_holding s e h p).left.end.carrier.class
+
+pub given_after : (s : Side) (p : TwoEnds) (b : Between) (t : Tables) (e : End) (h : Held) (n : ℕ) → Stands p b t → Lasts s p →
+    (d : DidAt s p b e h n) → e.carrier.ended ≡ None → n ≤ b.caller.given → d.now.called.given ≤ d.now.caller.given →
+    GivenAfter s p t e h d.now
+given_after Left p b t e h n old alive d lasts named behind =
+    let last = last_is Left p b e h n d lasts in
+    let new : before d.row ≡ not_yet → ⊥ = λ f. given_not_new n b.caller (nat_lt b.caller.given n) refl named (d.stood ∙ f) in
+    let refs = refs_row (terms_at p) d.row d.is new in
+    let same : d.now.caller.given ≡ b.caller.given = let more = d.given in omega arith in
+    grind arith
+given_after Right p b t e h n old alive d lasts named behind =
+    let there : d.now.caller.given ≡ p.left.end.carrier.given = d.given_there ∙ old.given_then in
+    let here : d.now.called.given ≡ e.carrier.given = ap (λ (c : State). c.given) (last_is Right p b e h n d lasts) in
+    let count = old.given in
+    grind arith
+
+-- for an end that took a unit, everything that is stated of an end that acted
+pub finish : (s : Side) (p : TwoEnds) (b : Between) (t u : Tables) (e : End) (h : Held) (n : ℕ) (shown : List Shown) (l : Line)
+    (x : Standing) (channel back : List Message) → Stands p b t → Lasts s p → (d : DidAt s p b e h n) → e.carrier.ended ≡ None →
+    e.carrier.local ≡ (end_at s p).end.carrier.local → e.carrier.is_caller ≡ (end_at s p).end.carrier.is_caller → n ≤ b.caller.given →
+    d.now.called.given ≤ d.now.caller.given → IsInOrder e → waiting_in e.lines ≡ [] → OtherSessions s p e n →
+    HasSession n e.lines (after d.row) x → IsSeen s n p b l → WaysThen s p b e h n d x l.peer.session channel back →
+    TablesAfter s n t u shown (line_then d.row x channel back l) →
+    u.known ≡ option_map class_in (with_holding s e h p).left.end.carrier.class → Turned s p b t e h d.now u n shown
+finish s p b t u e h n shown l x channel back old alive d lasts local role named behind order none o hs i w a known =
+    let g = given_after s p b t e h n old alive d lasts named behind in
+    let is = seen_then s p b t e h n l x channel back d lasts order hs i w in
+    let others = others_then s p b t e h n old alive d lasts order o in
+    search
+
+-- ---- the class
+
+-- if no CC has arrived, the class is known as before
+pub known_then : (s : Side) (p : TwoEnds) (b : Between) (t : Tables) (e : End) (h : Held) (n : ℕ) → Stands p b t → Lasts s p →
+    (d : DidAt s p b e h n) → e.carrier.ended ≡ None → n ≤ b.caller.given → is_agree d.row ≡ false →
+    t.known ≡ option_map class_in (with_holding s e h p).left.end.carrier.class
+known_then Left p b t e h n old alive d lasts named row =
+    let new : before d.row ≡ not_yet → ⊥ = λ f. given_not_new n b.caller (nat_lt b.caller.given n) refl named (d.stood ∙ f) in
+    let same : e.carrier.class ≡ b.caller.class =
+    ap (λ (c : State). c.class) (sym (last_is Left p b e h n d lasts)) ∙ d.class ∙ (grind (arith, d.is)) in
+    old.known ∙ ap (option_map class_in) (sym old.class_then) ∙ ap (option_map class_in) (sym same)
+known_then Right p b t e h n old alive d lasts named row = old.known

@@ -1,0 +1,171 @@
+-- Words that are added, words that are cut off, and the messages that they then make.
+-- For words, what is in flight, turns, calls and packets.
+use Rattle.osi_pair.proofs.Vocabulary.{◌≡◌, refl, ◌∙◌, ap, subst, sym, ℕ, ◌≤◌, List, [], ◌∷◌, ◌++◌, length, take, map, Option, Some, None}
+use Rattle.osi_pair.proofs.Vocabulary.{append_assoc, ◌⊎◌, inl, inr, true, arith, take-append_seam, append-nil, length-append, Message, unit}
+use Rattle.osi_pair.proofs.Vocabulary.{ask, agree, deny, bye, over, DT, First, Middle, Last, Word, whole, part, begun_octets, joins}
+use Rattle.osi_pair.proofs.Vocabulary.{left_of, MayFollow, IsBegun, AreInOrder, list_any, is_leaving}
+
+pub joins_append : (b : Option (List ℕ)) (xs ys : List Word) → joins b (xs ++ ys) ≡ joins b xs ++ joins (left_of b xs) ys
+joins_append b [] ys = refl
+joins_append b (whole m ∷ xs) ys = ap (λ r. m ∷ r) (joins_append None xs ys)
+joins_append b (part First o ∷ xs) ys = joins_append (Some o) xs ys
+joins_append b (part Middle o ∷ xs) ys = joins_append (Some (begun_octets b ++ o)) xs ys
+joins_append b (part Last o ∷ xs) ys = ap (λ r. unit (DT (begun_octets b ++ o)) ∷ r) (joins_append None xs ys)
+
+pub left_append : (b : Option (List ℕ)) (xs ys : List Word) → left_of b (xs ++ ys) ≡ left_of (left_of b xs) ys
+left_append b [] ys = refl
+left_append b (part First o ∷ xs) ys = left_append (Some o) xs ys
+left_append b (part Middle o ∷ xs) ys = left_append (Some (begun_octets b ++ o)) xs ys
+left_append b (x ∷ xs) ys = left_append None xs ys
+
+pub order_append : (b : Option (List ℕ)) (xs ys : List Word) → AreInOrder b xs → AreInOrder (left_of b xs) ys → AreInOrder b (xs ++ ys)
+order_append b [] ys h k = k
+order_append b (whole m ∷ xs) ys h k = (h.0, order_append None xs ys h.1 k)
+order_append b (part First o ∷ xs) ys h k = (h.0, h.1, order_append (Some o) xs ys h.2 k)
+order_append b (part Middle o ∷ xs) ys h k = (h.0, h.1, order_append (Some (begun_octets b ++ o)) xs ys h.2 k)
+order_append b (part Last o ∷ xs) ys h k = (h.0, h.1, order_append None xs ys h.2 k)
+
+pub order_front : (b : Option (List ℕ)) (xs ys : List Word) → AreInOrder b (xs ++ ys) → AreInOrder b xs
+order_front b [] ys h = tt
+order_front b (whole m ∷ xs) ys h = (h.0, order_front None xs ys h.1)
+order_front b (part First o ∷ xs) ys h = (h.0, h.1, order_front (Some o) xs ys h.2)
+order_front b (part Middle o ∷ xs) ys h = (h.0, h.1, order_front (Some (begun_octets b ++ o)) xs ys h.2)
+order_front b (part Last o ∷ xs) ys h = (h.0, h.1, order_front None xs ys h.2)
+
+-- messages that go by themselves
+pub joins_whole : (ms : List Message) → joins None (map whole ms) ≡ ms
+joins_whole [] = refl
+joins_whole (m ∷ ms) = ap (λ r. m ∷ r) (joins_whole ms)
+
+-- ---- the front and the rest
+
+pub order_back : (b : Option (List ℕ)) (xs ys : List Word) → AreInOrder b (xs ++ ys) → AreInOrder (left_of b xs) ys
+order_back b [] ys h = h
+order_back b (whole m ∷ xs) ys h = order_back None xs ys h.1
+order_back b (part First o ∷ xs) ys h = order_back (Some o) xs ys h.2
+order_back b (part Middle o ∷ xs) ys h = order_back (Some (begun_octets b ++ o)) xs ys h.2
+order_back b (part Last o ∷ xs) ys h = order_back None xs ys h.2
+
+pub whole_order : (ms : List Message) → AreInOrder None (map whole ms)
+whole_order [] = tt
+whole_order (m ∷ ms) = ((grind arith), whole_order ms)
+
+pub whole_left : (ms : List Message) → left_of None (map whole ms) ≡ None
+whole_left [] = refl
+whole_left (m ∷ ms) = whole_left ms
+
+-- ---- after what has begun of a Data
+
+-- what follows it: the rest of the Data; or a message by which its sender leaves; or only some of its parts, if the
+-- last was cut off
+pub record IsRest (b : List ℕ) (ms : List Message) : Type 0 where
+  pub rest : List ℕ
+  pub others : List Message
+  pub is : ms ≡ unit (DT (b ++ rest)) ∷ others
+
+pub record IsCut (begun : Option (List ℕ)) (ms : List Message) : Type 0 where
+  pub none : ms ≡ []
+  pub begins : IsBegun begun
+
+abbrev pub Next : List ℕ → Option (List ℕ) → List Message → Type 0
+Next b left ms = IsRest b ms ⊎ ((list_any is_leaving ms ≡ true) ⊎ IsCut left ms)
+
+next_more : (b x : List ℕ) (left : Option (List ℕ)) (ms : List Message) → Next (b ++ x) left ms → Next b left ms
+next_more b x left ms (inl more) =
+    inl (record {
+      rest = x ++ more.rest;
+      others = more.others;
+      is = more.is ∙ ap (λ (o : List ℕ). unit (DT o) ∷ more.others) (append_assoc b x more.rest);
+    })
+next_more b x left ms (inr other) = inr other
+
+pub next_is : (b : List ℕ) (words : List Word) → AreInOrder (Some b) words → Next b (left_of (Some b) words) (joins (Some b) words)
+next_is b [] h = inr (inr (record { none = refl; begins = tt }))
+next_is b (whole (bye r) ∷ words) h = inr (inl refl)
+next_is b (whole over ∷ words) h = inr (inl refl)
+next_is b (part Last x ∷ words) h = inl (record { rest = x; others = joins None words; is = refl })
+next_is b (part Middle x ∷ words) h =
+    next_more b x (left_of (Some (b ++ x)) words) (joins (Some (b ++ x)) words) (next_is (b ++ x) words h.2)
+next_is b _ h = let no : Some b ≡ None = h.0 in cc
+
+-- ---- what is in flight
+
+-- the words without a suffix make the messages without a suffix
+pub cut_behind : (b : Option (List ℕ)) (kept gone : List Word) → AreInOrder b (kept ++ gone) →
+    (take (length (joins b kept)) (joins b (kept ++ gone)) ≡ joins b kept) × AreInOrder b kept
+cut_behind b kept gone h = (
+  ap (take (length (joins b kept))) (joins_append b kept gone)
+      ∙ take-append_seam (joins b kept) (joins (left_of b kept) gone),
+  order_front b kept gone h,
+)
+
+pub cut_fits : (b : Option (List ℕ)) (kept gone : List Word) → length (joins b kept) ≤ length (joins b (kept ++ gone))
+cut_fits b kept gone =
+    let long = ap length (joins_append b kept gone) ∙ length-append (joins b kept) (joins (left_of b kept) gone) in
+    omega arith
+
+-- words that are these messages, each of them whole
+pub record AreWords (words : List Word) (messages : List Message) : Type 0 where
+  pub joined : joins None words ≡ messages
+  pub left : left_of None words ≡ None
+  pub order : AreInOrder None words
+
+pub no_words : AreWords [] []
+no_words = record { joined = refl; left = refl; order = tt }
+
+-- messages that go by themselves
+pub wholes : (ms : List Message) → AreWords (map whole ms) ms
+wholes ms = record { joined = joins_whole ms; left = whole_left ms; order = whole_order ms }
+
+-- words are added after words that are complete
+pub put_words : (b : Option (List ℕ)) (words more : List Word) (ms : List Message) → AreInOrder b words → left_of b words ≡ None →
+    AreWords more ms → (joins b (words ++ more) ≡ joins b words ++ ms) × (left_of b (words ++ more) ≡ None) × AreInOrder b (words ++ more)
+put_words b words more ms h e are = grind (arith, joins_append, left_append, order_append)
+
+-- a message by which the sender leaves, after a prefix of them
+abbrev pub MayLeave : Message → Type 0
+MayLeave m = (b : Option (List ℕ)) → MayFollow b m
+
+any_behind : (xs ys : List Message) → list_any is_leaving ys ≡ true → list_any is_leaving (xs ++ ys) ≡ true
+any_behind (unit u ∷ xs) ys e = any_behind xs ys e
+any_behind (ask ∷ xs) ys e = any_behind xs ys e
+any_behind (agree ∷ xs) ys e = any_behind xs ys e
+any_behind (deny r ∷ xs) ys e = any_behind xs ys e
+any_behind xs ys e = grind arith
+
+-- Of a front of them that leaves a Data unfinished: the whole of it was among the messages, or its sender has left, or
+-- the messages are the same.
+pub record IsAhead (ms all : List Message) : Type 0 where
+  pub octets : List ℕ
+  pub rest : List Message
+  pub is : all ≡ ms ++ unit (DT octets) ∷ rest
+
+pub record IsSame (left : Option (List ℕ)) (ms all : List Message) : Type 0 where
+  pub is : all ≡ ms
+  pub begins : IsBegun left
+
+abbrev pub FrontOf : Option (List ℕ) → List Message → List Message → Type 0
+FrontOf left ms all = IsAhead ms all ⊎ ((list_any is_leaving all ≡ true) ⊎ IsSame left ms all)
+
+behind_it : (b : Option (List ℕ)) (left : Option (List ℕ)) (ms more all : List Message) → IsBegun b →
+    ((x : List ℕ) → b ≡ Some x → Next x left more) → all ≡ ms ++ more → FrontOf left ms all
+behind_it None left ms more all some next e = absurd some
+behind_it (Some x) left ms more all some next e = elim (next x refl) [
+  | inl r ↦ inl (record { octets = x ++ r.rest; rest = r.others; is = e ∙ ap (λ (l : List Message). ms ++ l) r.is })
+  | inr (inl away) ↦ inr (inl (ap (list_any is_leaving) e ∙ any_behind ms more away))
+  | inr (inr c) ↦ inr (inr (record { is = e ∙ ap (λ (l : List Message). ms ++ l) c.none ∙ append-nil ms; begins = c.begins }))
+]
+
+pub front_of : (b : Option (List ℕ)) (kept gone : List Word) → AreInOrder b (kept ++ gone) → IsBegun (left_of b kept) →
+    FrontOf (left_of b (kept ++ gone)) (joins b kept) (joins b (kept ++ gone))
+front_of b kept gone h some =
+    behind_it (left_of b kept) (left_of b (kept ++ gone)) (joins b kept) (joins (left_of b kept) gone) (joins b (kept ++ gone)) some
+    (λ x e. subst (λ (l : Option (List ℕ)). Next x l (joins (left_of b kept) gone)) (sym (left_append b kept gone))
+    (subst (λ (q : Option (List ℕ)). Next x (left_of q gone) (joins q gone)) (sym e)
+    (next_is x gone (subst (λ (q : Option (List ℕ)). AreInOrder q gone) e (order_back b kept gone h)))))
+    (joins_append b kept gone)
+
+pub leave_behind : (b : Option (List ℕ)) (kept gone : List Word) (m : Message) → AreInOrder b (kept ++ gone) → MayLeave m →
+    (joins b (kept ++ whole m ∷ []) ≡ take (length (joins b kept)) (joins b (kept ++ gone)) ++ m ∷ [])
+    × (left_of b (kept ++ whole m ∷ []) ≡ None) × AreInOrder b (kept ++ whole m ∷ [])
+leave_behind b kept gone m h leaves = grind (arith, take, length, cut_behind, joins_append, left_append, order_append, order_front)

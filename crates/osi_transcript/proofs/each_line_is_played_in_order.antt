@@ -1,0 +1,168 @@
+-- Lines of a script, one after the other.
+-- For `play`, `play_line` and `play_event`.
+use Rattle.std.proofs.Common.{◌≡◌, ◌∙◌, ℕ, Bool, true, false, List, [], ◌∷◌, ◌++◌, Option, Some, None, inl, inr, refl, sym, ap, subst}
+use Rattle.std.proofs.lemmas.List.{append_assoc, append-nil}
+use Rattle.osi_pair.specs.Ends.{TwoEnds}
+use Rattle.osi_pair.specs.declared.events.Event.{Event}
+use Rattle.osi_script.specs.Answers.{answer_line}
+use Rattle.osi_script.specs.Commands.{Command, Ends, Connect, OfUser, Carry, Break, Told, command_of}
+use Rattle.osi_script.specs.declared.answers.Answer.TheVariants.{LineRefused}
+use Rattle.osi_transcript.specs.Asking.{IsEvent, IsNoEvent}
+use Rattle.osi_transcript.specs.Playing.{Lines, Applies, PlaysLine, Plays, BeginsWith, Transcribes, carried_by, event_text, new_texts}
+use Rattle.osi_transcript.specs.Standings.{all_standings}
+use Rattle.osi_transcript.specs.Starting.{IsStart, IsNoStart}
+use Rattle.osi_transcript.specs.Steps.{DoesEvent, FailsEvent, PlaysEvent, StopsAtLine, GoesBehind, PlaysOne, PlaysAll}
+
+by_command : (number : ℕ) (c : Command) (event : Event) (lines : Lines) (p : TwoEnds) (text : List ℕ) (status : ℕ) → IsEvent c event →
+    Applies number event (Plays lines) p text status → PlaysLine number (Some c) (Plays lines) p text status
+by_command number (Ends caller called size window) event lines p text status is h = absurd is
+by_command number (Connect requirements serial wishes sizes octets) event lines p text status is h = (event, is, h)
+by_command number (OfUser side reference call) event lines p text status is h = (event, is, h)
+by_command number (Carry side octets) event lines p text status is h = (event, is, h)
+by_command number (Break left right) event lines p text status is h = (event, is, h)
+by_command number (Told side) event lines p text status is h = (event, is, h)
+
+-- the event of a line is applied, or does not fit
+plays_event : (number : ℕ) (line : List ℕ) (c : Command) (event : Event) (lines : Lines) (p : TwoEnds) (text : List ℕ) (status : ℕ) →
+    command_of line ≡ Some c → IsEvent c event → Applies number event (Plays lines) p text status → Plays ((number, line) ∷ lines) p text status
+plays_event number line c event lines p text status read is h =
+    subst (λ (o : Option Command). PlaysLine number o (Plays lines) p text status) (sym read) (by_command number c event lines p text status is h)
+
+pub done : (number : ℕ) (line : List ℕ) (c : Command) (event : Event) (old new : TwoEnds) (before after : List ℕ) →
+    command_of line ≡ Some c → IsEvent c event → DoesEvent event old before new after → GoesBehind number line old before new after
+done number line c event old new before after read is h = record {
+  text = event_text event (carried_by event old) ++ new_texts old new;
+  says = h.says ∙ append_assoc before (event_text event (carried_by event old)) (new_texts old new);
+  plays = λ lines more status rest. plays_event number line c event lines old ((event_text event (carried_by event old) ++ new_texts old new) ++ more) status read is
+      (inl (new, more, h.applied, refl, rest));
+}
+
+pub failed : (number : ℕ) (line : List ℕ) (c : Command) (event : Event) (old : TwoEnds) (before after : List ℕ) →
+    command_of line ≡ Some c → IsEvent c event → FailsEvent number event old before after → StopsAtLine number line old before after
+failed number line c event old before after read is h = record {
+  text = h.text;
+  says = h.says;
+  plays = λ lines. plays_event number line c event lines old h.text 1 read is (inr h.fails);
+}
+
+-- a line that spells nothing
+pub unread : (number : ℕ) (line : List ℕ) (old : TwoEnds) (before after : List ℕ) → command_of line ≡ None →
+    after ≡ before ++ answer_line (LineRefused number) → StopsAtLine number line old before after
+unread number line old before after read says = record {
+  text = answer_line (LineRefused number);
+  says = says;
+  plays = λ lines. subst (λ (o : Option Command). PlaysLine number o (Plays lines) old (answer_line (LineRefused number)) 1) (sym read)
+      (record { says = refl; bad = refl });
+}
+
+no_event : (number : ℕ) (c : Command) (lines : Lines) (p : TwoEnds) → IsNoEvent c →
+    PlaysLine number (Some c) (Plays lines) p (answer_line (LineRefused number)) 1
+no_event number (Ends caller called size window) lines p is = record { says = refl; bad = refl }
+no_event number (Connect requirements serial wishes sizes octets) lines p is = absurd is
+no_event number (OfUser side reference call) lines p is = absurd is
+no_event number (Carry side octets) lines p is = absurd is
+no_event number (Break left right) lines p is = absurd is
+no_event number (Told side) lines p is = absurd is
+
+-- a line that declares two ends after the first
+pub misplaced : (number : ℕ) (line : List ℕ) (c : Command) (old : TwoEnds) (before after : List ℕ) → command_of line ≡ Some c → IsNoEvent c →
+    after ≡ before ++ answer_line (LineRefused number) → StopsAtLine number line old before after
+misplaced number line c old before after read is says = record {
+  text = answer_line (LineRefused number);
+  says = says;
+  plays = λ lines. subst (λ (o : Option Command). PlaysLine number o (Plays lines) old (answer_line (LineRefused number)) 1) (sym read)
+      (no_event number c lines old is);
+}
+
+-- ---- lines one after the other
+
+-- the text so far comes before that of the lines that are left
+pub record HasPlayed (all : Lines) (old : TwoEnds) (before : List ℕ) (left : Lines) (new : TwoEnds) (after : List ℕ) : Type 0 where
+  pub text : List ℕ
+  pub says : after ≡ before ++ text
+  pub plays : (more : List ℕ) (status : ℕ) → Plays left new more status → Plays all old (text ++ more) status
+
+pub played_none : (all : Lines) (old : TwoEnds) (before : List ℕ) → HasPlayed all old before all old before
+played_none all old before = record { text = []; says = sym (append-nil before); plays = λ more status rest. rest }
+
+pub played_more : (all : Lines) (old : TwoEnds) (before : List ℕ) (number : ℕ) (line : List ℕ) (left lines : Lines) (mid new : TwoEnds) (said after : List ℕ) →
+    HasPlayed all old before lines mid said → lines ≡ (number, line) ∷ left → GoesBehind number line mid said new after → HasPlayed all old before left new after
+played_more all old before number line left lines mid new said after h next more = record {
+  text = h.text ++ more.text;
+  says = more.says ∙ ap (λ (t : List ℕ). t ++ more.text) h.says ∙ append_assoc before h.text more.text;
+  plays = λ rest status behind. subst (λ (t : List ℕ). Plays all old t status) (sym (append_assoc h.text more.text rest))
+      (h.plays (more.text ++ rest) status (subst (λ (ls : Lines). Plays ls mid (more.text ++ rest) status) (sym next) (more.plays left rest status behind)));
+}
+
+pub played_last : (all : Lines) (old : TwoEnds) (before : List ℕ) (number : ℕ) (line : List ℕ) (left lines : Lines) (mid : TwoEnds) (said after : List ℕ) →
+    HasPlayed all old before lines mid said → lines ≡ (number, line) ∷ left → StopsAtLine number line mid said after → PlaysAll all old before after 1
+played_last all old before number line left lines mid said after h next more = record {
+  text = h.text ++ more.text;
+  says = more.says ∙ ap (λ (t : List ℕ). t ++ more.text) h.says ∙ append_assoc before h.text more.text;
+  plays = h.plays more.text 1 (subst (λ (ls : Lines). Plays ls mid more.text 1) (sym next) (more.plays left));
+}
+
+pub played_all : (all : Lines) (old : TwoEnds) (before : List ℕ) (lines : Lines) (new : TwoEnds) (said after : List ℕ) →
+    HasPlayed all old before lines new said → lines ≡ [] → after ≡ said ++ all_standings new → PlaysAll all old before after 0
+played_all all old before lines new said after h none says = record {
+  text = h.text ++ all_standings new;
+  says = says ∙ ap (λ (t : List ℕ). t ++ all_standings new) h.says ∙ append_assoc before h.text (all_standings new);
+  plays = h.plays (all_standings new) 0 (subst (λ (ls : Lines). Plays ls new (all_standings new) 0) (sym none) (record { stands = refl; good = refl }));
+}
+
+-- ---- the effect of a line, by whether the next is to be read
+
+pub goes_behind : (b : Bool) (number : ℕ) (line : List ℕ) (old : TwoEnds) (before : List ℕ) (new : TwoEnds) (after : List ℕ) → b ≡ true →
+    PlaysOne b number line old before new after → GoesBehind number line old before new after
+goes_behind b number line old before new after e h = subst (λ (x : Bool). PlaysOne x number line old before new after) e h
+
+pub stops_at : (b : Bool) (number : ℕ) (line : List ℕ) (old : TwoEnds) (before : List ℕ) (new : TwoEnds) (after : List ℕ) → b ≡ false →
+    PlaysOne b number line old before new after → StopsAtLine number line old before after
+stops_at b number line old before new after e h = subst (λ (x : Bool). PlaysOne x number line old before new after) e h
+
+pub event_goes : (b : Bool) (number : ℕ) (event : Event) (old : TwoEnds) (before : List ℕ) (new : TwoEnds) (after : List ℕ) → b ≡ true →
+    PlaysEvent b number event old before new after → DoesEvent event old before new after
+event_goes b number event old before new after e h = subst (λ (x : Bool). PlaysEvent x number event old before new after) e h
+
+pub event_stops : (b : Bool) (number : ℕ) (event : Event) (old : TwoEnds) (before : List ℕ) (new : TwoEnds) (after : List ℕ) → b ≡ false →
+    PlaysEvent b number event old before new after → FailsEvent number event old before after
+event_stops b number event old before new after e h = subst (λ (x : Bool). PlaysEvent x number event old before new after) e h
+
+-- ---- a whole script
+
+begins : (number : ℕ) (command : Option Command) (lines : Lines) (p : TwoEnds) (text : List ℕ) (status : ℕ) → IsStart command p → Plays lines p text status →
+    BeginsWith number command lines text status
+begins number None lines p text status starts plays = absurd starts
+begins number (Some (Ends caller called size window)) lines p text status starts plays = (p, starts, plays)
+begins number (Some (Connect requirements serial wishes sizes octets)) lines p text status starts plays = absurd starts
+begins number (Some (OfUser side reference call)) lines p text status starts plays = absurd starts
+begins number (Some (Carry side octets)) lines p text status starts plays = absurd starts
+begins number (Some (Break left right)) lines p text status starts plays = absurd starts
+begins number (Some (Told side)) lines p text status starts plays = absurd starts
+
+refused : (number : ℕ) (command : Option Command) (lines : Lines) (text : List ℕ) → IsNoStart command → text ≡ answer_line (LineRefused number) →
+    BeginsWith number command lines text 1
+refused number None lines text starts says = record { says = says; bad = refl }
+refused number (Some (Ends caller called size window)) lines text starts says = absurd starts
+refused number (Some (Connect requirements serial wishes sizes octets)) lines text starts says = record { says = says; bad = refl }
+refused number (Some (OfUser side reference call)) lines text starts says = record { says = says; bad = refl }
+refused number (Some (Carry side octets)) lines text starts says = record { says = says; bad = refl }
+refused number (Some (Break left right)) lines text starts says = record { says = says; bad = refl }
+refused number (Some (Told side)) lines text starts says = record { says = says; bad = refl }
+
+-- the two ends are there, and the lines after the first were played
+pub transcribed : (lines left : Lines) (number : ℕ) (line : List ℕ) (p : TwoEnds) (before text : List ℕ) (status : ℕ) → lines ≡ (number, line) ∷ left →
+    IsStart (command_of line) p → before ≡ [] → PlaysAll left p before text status → Transcribes lines text status
+transcribed lines left number line p before text status is starts none h =
+    let said : text ≡ h.text = h.says ∙ ap (λ (t : List ℕ). t ++ h.text) none in
+    subst (λ (ls : Lines). Transcribes ls text status) (sym is)
+    (begins number (command_of line) left p text status starts (subst (λ (t : List ℕ). Plays left p t status) (sym said) h.plays))
+
+-- the first line is another
+pub not_begun : (lines left : Lines) (number : ℕ) (line : List ℕ) (text : List ℕ) → lines ≡ (number, line) ∷ left → IsNoStart (command_of line) →
+    text ≡ answer_line (LineRefused number) → Transcribes lines text 1
+not_begun lines left number line text is starts says =
+    subst (λ (ls : Lines). Transcribes ls text 1) (sym is) (refused number (command_of line) left text starts says)
+
+pub nothing_asked : (lines : Lines) (text : List ℕ) → lines ≡ [] → text ≡ [] → Transcribes lines text 0
+nothing_asked lines text none says = subst (λ (ls : Lines). Transcribes ls text 0) (sym none) (says, refl)

@@ -1,0 +1,174 @@
+-- Two events in memory for the same line of a script have the same effect, carry as many octets and give the same text.
+-- For a_script_has_one_transcript.
+use Rattle.std.proofs.Common.{◌≡◌, ◌∙◌, ℕ, ◌+◌, ◌||◌, Bool, true, not, List, [], ◌∷◌, ◌++◌, length, Option, Some, None, refl, sym, ap, ap₂, subst, if◌then◌else◌}
+use Rattle.std.specs.Prelude.{nat_le}
+use Rattle.osi_carrier.specs.Calls.{may_connect, asks}
+use Rattle.osi_carrier.specs.declared.events.Ref.{Ref}
+use Rattle.osi_message.specs.Meanings.{CN}
+use Rattle.osi_message.specs.Tokens.{no_token}
+use Rattle.osi_session.specs.Allowed.{base_for, serial_for, most_user_data}
+use Rattle.osi_session.specs.Calls.{called_by}
+use Rattle.osi_session.specs.Calls as session
+use Rattle.osi_session.specs.Listening.{Listener}
+use Rattle.osi_session.specs.Numbers.{from_base}
+use Rattle.osi_session.specs.Sides.{offered}
+use Rattle.osi_session.specs.Units.{functional_units, is_profile}
+use Rattle.osi_session.specs.declared.phases.Phase.TheVariants.{WaitTransport}
+use Rattle.osi_session.specs.declared.requests.Request.{Request}
+use Rattle.osi_spdu.specs.declared.fields.TsduMaximumSize.{TsduMaximumSize}
+use Rattle.osi_spdu.specs.declared.settings.TokenSetting.{TokenSetting}
+use Rattle.osi_stack.specs.Calls.{after_open, is_long_address, connect_error, connects}
+use Rattle.osi_stack.specs.State.{End, Holding, joins}
+use Rattle.osi_stack.specs.declared.connecting.Connect.{Connect as Wanted}
+use Rattle.osi_stack.specs.declared.connecting.ConnectError.{ConnectError}
+use Rattle.osi_stack.specs.declared.connecting.ConnectError.TheVariants.{NotSelected, TooLong}
+use Rattle.osi_pair.specs.Asked.{Asked, asked_of}
+use Rattle.osi_pair.specs.Ends.{TwoEnds, answer_with, noted, connected_by, after_connect, after_call}
+use Rattle.osi_pair.specs.Entries.{asks as entry}
+use Rattle.osi_pair.specs.Events.{misfit, Does}
+use Rattle.osi_pair.specs.declared.events.Event.{Event}
+use Rattle.osi_pair.specs.declared.events.Event.TheVariants as event
+use Rattle.osi_pair.specs.declared.sides.Side as ends
+use Rattle.osi_script.specs.Commands.{Command, Ends, Connect, OfUser, Carry, Break, Told}
+use Rattle.osi_script.specs.declared.sides.Side.{Side}
+use Rattle.osi_transcript.specs.Asking.{side_in, plainly, IsEvent}
+use Rattle.osi_transcript.specs.Playing.{carried_by, event_text}
+
+-- they fit alike, and do the same
+pub record AreOneEvent (x y : Event) : Type 0 where
+  pub fits : (p : TwoEnds) → misfit x p ≡ misfit y p
+  pub carries : (p : TwoEnds) → carried_by x p ≡ carried_by y p
+  pub says : (octets : ℕ) → event_text x octets ≡ event_text y octets
+  pub does : (p new : TwoEnds) (octets : ℕ) → Does y p octets new → Does x p octets new
+
+one_of : (x : Event) → AreOneEvent x x
+one_of x = record { fits = λ p. refl; carries = λ p. refl; says = λ octets. refl; does = λ p new octets h. h }
+
+equal_one : (x y : Event) → x ≡ y → AreOneEvent x y
+equal_one x y same = subst (AreOneEvent x) same (one_of x)
+
+-- ---- a connection that is asked for, by what the journal keeps of it
+
+asked_error : Asked → End → Option ConnectError
+asked_error a e =
+    after_open (may_connect e.carrier) (if not (is_profile a.requirements) then Some NotSelected
+    else (if is_long_address a.calling_selector ||
+    (is_long_address a.called_selector || not (nat_le (length a.octets) most_user_data)) then Some TooLong else None))
+
+asked_session : Asked → Listener
+asked_session a = record {
+  state = record {
+    phase = WaitTransport;
+    is_caller = true;
+    units = functional_units a.requirements;
+    wishes = offered (functional_units a.requirements) a.wishes;
+    held = no_token;
+    proposed = base_for (functional_units a.requirements) a.serial;
+    base = 0;
+    numbers = from_base 0;
+    sizes = a.sizes;
+  };
+  waiting = Some (CN true a.requirements (serial_for (functional_units a.requirements) a.serial)
+      (offered (functional_units a.requirements) a.wishes)
+      a.calling_selector a.called_selector a.sizes a.octets);
+  joined = None;
+}
+
+asked_end : Asked → End → End
+asked_end a e = joins (e.carrier.given + 1) (asked_session a) (record e { carrier = asks a.calling_tsap a.called_tsap e.carrier })
+
+asked_by : Option ConnectError → Asked → Holding → Holding
+asked_by None a h = record h { end = asked_end a h.end }
+asked_by (Some error) a h = h
+
+after_asked : Asked → TwoEnds → TwoEnds
+after_asked a p =
+    noted (entry a (answer_with (p.left.end.carrier.given + 1) (asked_error a p.left.end)) ∷ [])
+    (record p { left = asked_by (asked_error a p.left.end) a p.left })
+
+same_end : (o : Option ConnectError) (c : Wanted) (h : Holding) → connected_by o c h ≡ asked_by o (asked_of c) h
+unfolding asked_by asked_end asked_session
+same_end None c h = refl
+same_end (Some error) c h = refl
+
+same_error : (c : Wanted) (e : End) → connect_error c e ≡ asked_error (asked_of c) e
+unfolding asked_error
+same_error c e = refl
+
+as_asked : (c : Wanted) (p : TwoEnds) → after_connect c p ≡ after_asked (asked_of c) p
+unfolding after_asked
+as_asked c p =
+    ap (λ (o : Option ConnectError). noted (entry (asked_of c) (answer_with (p.left.end.carrier.given + 1) o) ∷ [])
+    (record p { left = connected_by o c p.left })) (same_error c p.left.end)
+    ∙ ap (λ (h : Holding). noted (entry (asked_of c)
+    (answer_with (p.left.end.carrier.given + 1) (asked_error (asked_of c) p.left.end)) ∷ []) (record p { left = h }))
+    (same_end (asked_error (asked_of c) p.left.end) c p.left)
+
+connects_one : (x y : Wanted) → asked_of x ≡ asked_of y → AreOneEvent (event.Connect x) (event.Connect y)
+unfolding event_text
+connects_one x y same = record {
+  fits = λ p. refl;
+  carries = λ p. refl;
+  says = λ octets. refl;
+  does = λ p new octets h. (h.0 ∙ as_asked y p ∙ ap (λ (a : Asked). after_asked a p) (sym same) ∙ sym (as_asked x p), h.1);
+}
+
+-- ---- a call, by what it asks for
+
+calls_one : (s : ends.Side) (r : Ref) (x y : Request) → called_by x ≡ called_by y → AreOneEvent (event.Call s r x) (event.Call s r y)
+unfolding event_text
+calls_one s r x y same = record {
+  fits = λ p. refl;
+  carries = λ p. refl;
+  says = λ octets. refl;
+  does = λ p new octets h. (h.0 ∙ ap (λ (call : session.Call). after_call s r.0 call p) (sym same), h.1);
+}
+
+-- ---- each command
+
+named : ends.Side → ℕ → Request → Event
+named s reference request = event.Call s (record { 0 = reference }) request
+
+call_is : (s t : ends.Side) (r : Ref) (reference : ℕ) (request : Request) → s ≡ t → r.0 ≡ reference →
+    event.Call s r request ≡ named t reference request
+unfolding named
+call_is s t r reference request side same = ap₂ (λ (u : ends.Side) (n : ℕ). event.Call u (record { 0 = n }) request) side same
+
+of_carry : (side : Side) (octets : ℕ) (x : Event) → IsEvent (Carry side octets) x → x ≡ event.Carry (side_in side) octets
+of_carry side octets (event.Carry s most) is = ap₂ event.Carry is.0 is.1
+of_carry side octets x is = absurd is
+
+of_break : (left right : ℕ) (x : Event) → IsEvent (Break left right) x → x ≡ event.Break left right
+of_break left right (event.Break l r) is = ap₂ event.Break is.0 is.1
+of_break left right x is = absurd is
+
+of_told : (side : Side) (x : Event) → IsEvent (Told side) x → x ≡ event.Told (side_in side)
+of_told side (event.Told s) is = ap event.Told is
+of_told side x is = absurd is
+
+connect_events : (requirements serial : ℕ) (wishes : TokenSetting) (sizes : TsduMaximumSize) (octets : List ℕ) (x y : Event) →
+    IsEvent (Connect requirements serial wishes sizes octets) x → IsEvent (Connect requirements serial wishes sizes octets) y →
+    AreOneEvent x y
+connect_events requirements serial wishes sizes octets (event.Connect x) (event.Connect y) is there = connects_one x y (is ∙ sym there)
+connect_events requirements serial wishes sizes octets (event.Connect x) y is there = absurd there
+connect_events requirements serial wishes sizes octets x y is there = absurd is
+
+call_events : (side : Side) (reference : ℕ) (call : session.Call) (x y : Event) → IsEvent (OfUser side reference call) x →
+    IsEvent (OfUser side reference call) y → AreOneEvent x y
+unfolding named
+call_events side reference call (event.Call s r x) (event.Call t q y) is there =
+    subst (λ (e : Event). AreOneEvent e (event.Call t q y)) (sym (call_is s (side_in side) r reference x is.0 is.1))
+    (subst (λ (e : Event). AreOneEvent (named (side_in side) reference x) e)
+    (sym (call_is t (side_in side) q reference y there.0 there.1))
+    (calls_one (side_in side) (record { 0 = reference }) x y (is.2 ∙ sym there.2)))
+call_events side reference call (event.Call s r x) y is there = absurd there
+call_events side reference call x y is there = absurd is
+
+pub one_event : (c : Command) (x y : Event) → IsEvent c x → IsEvent c y → AreOneEvent x y
+one_event (Ends caller called size window) x y is there = absurd is
+one_event (Connect requirements serial wishes sizes octets) x y is there = connect_events requirements serial wishes sizes octets x y is
+    there
+one_event (OfUser side reference call) x y is there = call_events side reference call x y is there
+one_event (Carry side octets) x y is there = equal_one x y (of_carry side octets x is ∙ sym (of_carry side octets y there))
+one_event (Break left right) x y is there = equal_one x y (of_break left right x is ∙ sym (of_break left right y there))
+one_event (Told side) x y is there = equal_one x y (of_told side x is ∙ sym (of_told side y there))

@@ -1,0 +1,70 @@
+-- The line of a connection's state in memory.
+-- For `push_side`, which writes the states of one end.
+use Rattle.std.proofs.Common.{◌≡◌, ◌∙◌, ◌+◌, ◌-◌, ◌<◌, ◌++◌, ◌&&◌, Bool, true, false, List, [], ℕ, zero, suc, refl, sym, ap, subst, add-one, arith}
+use Rattle.std.specs.Prelude.{Some, None, nat_lt, nat_le, if◌then◌else◌}
+use Rattle.std.proofs.lemmas.Bool.Decides.{nat_tests}
+use Rattle.std.proofs.lemmas.List.{append-nil}
+use Rattle.osi_spdu.specs.Fields.{bits_of}
+use Rattle.osi_script.specs.Standing.{standing_line}
+use Rattle.osi_script.specs.declared.standing.Standing.{Standing}
+use Rattle.osi_session.specs.declared.phases.Phase.{Phase}
+use Rattle.osi_stack.specs.Calls.{phase_at, phase_of}
+use Rattle.osi_stack.specs.State.{End, session_at}
+use Rattle.osi_pair.specs.declared.sides.Side.{Side}
+use Rattle.osi_transcript.specs.Standings.{stand, phase_text, text_by, standing_text, standing_texts}
+
+pub stand_of : (s : Standing) →
+    standing_line s ≡ stand s.side s.reference s.phase (bits_of s.held) s.next_serial s.confirmed_below s.lowest_restart
+unfolding stand
+stand_of s = refl
+
+pub no_standings : (side : Side) (e : End) → standing_texts side e 0 ≡ []
+unfolding standing_texts
+no_standings side e = refl
+
+-- one connection more
+pub standings_more : (side : Side) (e : End) (n : ℕ) → standing_texts side e (n + 1) ≡ standing_texts side e n ++ standing_text side (n + 1) e
+unfolding standing_texts
+standings_more side e n = subst (λ (m : ℕ). standing_texts side e m ≡ standing_texts side e n ++ standing_text side m e) (sym (add-one n)) refl
+
+-- ---- references that were never given
+
+not_given : (r given : ℕ) → given < r → (nat_lt 0 r && nat_le r given) ≡ false
+not_given r given h = grind (arith, nat_tests)
+
+given_before : (r given : ℕ) → 0 < r → (nat_lt 0 r && nat_le r given) ≡ false → given < r
+given_before r given some h = grind (arith, nat_tests)
+
+none_alone : (b : Bool) (p : Phase) → (if b then Some p else None) ≡ None → b ≡ false
+none_alone true p h = cc
+none_alone false p h = refl
+
+no_phase : (r : ℕ) (e : End) → e.carrier.given < r → phase_at r e ≡ None
+no_phase r e h = ap (λ (b : Bool). if b then Some (phase_of (session_at r e)) else None) (not_given r e.carrier.given h)
+
+last_given : (r : ℕ) (e : End) → 0 < r → phase_at r e ≡ None → e.carrier.given < r
+last_given r e some h = given_before r e.carrier.given some (none_alone (nat_lt 0 r && nat_le r e.carrier.given) (phase_of (session_at r e)) h)
+
+no_standing : (side : Side) (r : ℕ) (e : End) → e.carrier.given < r → standing_text side r e ≡ []
+unfolding standing_text
+no_standing side r e h = ap (text_by side r e) (no_phase r e h)
+
+none_behind : (side : Side) (e : End) (n k m : ℕ) → e.carrier.given < n + 1 → m ≡ n + k → standing_texts side e m ≡ standing_texts side e n
+none_behind side e n zero m few same = ap (standing_texts side e) (omega arith)
+none_behind side e n (suc k) m few same =
+    let p : ℕ = n + k in
+    let next : m ≡ p + 1 = omega arith in
+    ap (standing_texts side e) next ∙ standings_more side e p
+    ∙ ap (λ (t : List ℕ). standing_texts side e p ++ t) (no_standing side (p + 1) e (omega arith))
+    ∙ append-nil (standing_texts side e p) ∙ none_behind side e n k p few refl
+
+-- no connection has the first reference that was not given, or one above it
+pub standings_end : (side : Side) (e : End) (n : ℕ) (before after : List ℕ) → phase_at (n + 1) e ≡ None → n < 65535 →
+    after ≡ before ++ standing_texts side e n → after ≡ before ++ standing_texts side e 65535
+standings_end side e n before after none within h =
+    h ∙ ap (λ (t : List ℕ). before ++ t) (sym (none_behind side e n (65535 - n) 65535 (last_given (n + 1) e (omega arith) none) (omega arith)))
+
+-- the line of one that was given
+pub standing_here : (side : Side) (e : End) (r : ℕ) (p : Phase) → phase_at r e ≡ Some p → standing_text side r e ≡ phase_text side r e p
+unfolding standing_text
+standing_here side e r p h = ap (text_by side r e) h
