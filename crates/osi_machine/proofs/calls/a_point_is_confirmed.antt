@@ -143,10 +143,12 @@ confirmed_below w n k h =
     let reach : lower w.own.session.numbers.next (flushed w.peer w.own).numbers.confirmed ≤ w.own.session.numbers.confirmed = was_reach w (own_answers w n k) h in
     search (arith, cases_lt, lower_from)
 
+ruleset there_laws = (own_answers, other_number, there_base, ends_same, own_count)
+
 -- a major point that is still in flight is no minor one
 confirm_above : (w : Core) (n : ℕ) → Confirms w n → Stands w → is_restarting (flushed w.peer w.own).phase ≡ false
     → (if is_major_asked (flushed w.peer w.own).phase then nat_lt (n + 1) (flushed w.peer w.own).numbers.next else nat_lt n (flushed w.peer w.own).numbers.next) ≡ true
-confirm_above w n k h l = search (arith, lt-ltb, seen_all, own_answers, other_number, there_base, ends_same, own_count, implied_two, and_from, heard_flush, heeds, major_came)
+confirm_above w n k h l = search (arith, lt-ltb, seen_all, there_laws, implied_two, and_from, heard_flush, heeds, major_came)
 
 confirm_sending : (w : Core) (n : ℕ) (octets : List ℕ) → Confirms w n → Stands w → Sending w (confirm_shift n) (MIA n octets) []
 unfolding minor_confirmed

@@ -9,8 +9,8 @@ use Rattle.osi_machine.proofs.Vocabulary.{heard_view, data_of, Party, Core, answ
 use Rattle.osi_machine.proofs.basics.what_holds_in_each_phase.{excluded, implied_two}
 use Rattle.osi_machine.proofs.channels.a_unit_is_dropped_bad_or_acted_on.{none_due, next_acted, and_false}
 use Rattle.osi_machine.proofs.channels.what_every_unit_in_flight_keeps.{fit_append, flush_append, heard_append, view_append, data_append}
-use Rattle.osi_machine.proofs.channels.a_deaf_side_acts_on_nothing.{AllEmpty, all_empty, empty_fits, empty_end, empty_heard, empty_view}
-use Rattle.osi_machine.proofs.channels.a_deaf_side_acts_on_nothing.{deaf_end, deaf_heard, deaf_view}
+use Rattle.osi_machine.proofs.channels.a_deaf_side_acts_on_nothing.{AllEmpty, all_empty, empty_laws, empty_view, deaf_end, deaf_heard}
+use Rattle.osi_machine.proofs.channels.a_deaf_side_acts_on_nothing.{deaf_view, empty_end, empty_heard}
 use Rattle.osi_machine.proofs.channels.a_held_token_keeps_units_out.{none_held}
 use Rattle.osi_machine.proofs.invariant.what_holds_of_both_sides.{flushed, hearing, Meeting, Half, Views, Counting, Counts, IsOfProfile}
 use Rattle.osi_machine.proofs.invariant.what_holds_of_both_sides.{Pair, Stands}
@@ -96,7 +96,7 @@ will_hold w a o t due s = search (arith, other_units, asker_holds)
 
 module _ (w : Core) (a : Sides) (o : List ℕ) (due : is_restart_due w.own.session.phase ≡ true) (s : Stands w) where
   own_half : Half (settled_by (confirmed w.own.session a)) (answerer w.own a o) w.peer
-  own_half = search (arith, none_under_way, empty_fits, empty_end, empty_heard, end_after, other_units, own_end, own_held, own_wanted, own_absent, there)
+  own_half = search (arith, none_under_way, empty_laws, end_after, other_units, own_end, own_held, own_wanted, own_absent, there)
 
   peer_half : Half (turned_owners (settled_by (confirmed w.own.session a))) w.peer (answerer w.own a o)
   peer_half =

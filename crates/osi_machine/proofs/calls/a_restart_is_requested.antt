@@ -15,9 +15,8 @@ use Rattle.osi_machine.proofs.channels.a_unit_is_dropped_bad_or_acted_on.{fit_ca
 use Rattle.osi_machine.proofs.channels.a_unit_is_dropped_bad_or_acted_on.{next_hears}
 use Rattle.osi_machine.proofs.channels.what_every_unit_in_flight_keeps.{kept_heard, heard_flush, fit_append, flush_append, due_end}
 use Rattle.osi_machine.proofs.channels.what_every_unit_in_flight_keeps.{data_append, lower_second, lower_less, lower_both, heard_turned}
-use Rattle.osi_machine.proofs.channels.a_deaf_side_acts_on_nothing.{AllEmpty, all_empty, empty_fits, empty_end, empty_heard, empty_view}
-use Rattle.osi_machine.proofs.channels.a_deaf_side_acts_on_nothing.{crossed, restart_kept, restart_next, yielded, stood, deaf_end}
-use Rattle.osi_machine.proofs.channels.a_deaf_side_acts_on_nothing.{heard_restart, view_restart}
+use Rattle.osi_machine.proofs.channels.a_deaf_side_acts_on_nothing.{AllEmpty, all_empty, empty_laws, empty_view, crossed, restart_kept}
+use Rattle.osi_machine.proofs.channels.a_deaf_side_acts_on_nothing.{restart_next, yielded, stood, deaf_end, heard_restart, view_restart}
 use Rattle.osi_machine.proofs.channels.a_held_token_keeps_units_out.{becomes_open, is_lively, Lively, becomes_lively, flush_open, none_held}
 use Rattle.osi_machine.proofs.channels.a_held_token_keeps_units_out.{heard_open}
 use Rattle.osi_machine.proofs.channels.what_a_side_will_have_seen.{begins_points, listener_count, listener_begins, Grown, heard_grown}
@@ -72,7 +71,7 @@ after_due s us d f = all_empty s us (λ u p. none_due s.phase u d p) (excluded i
 
 flow_stop : (s r : State) (u : Meaning) (us : List Meaning) → Asks s r → Fits s u → stops s u ≡ true → AllFit (next s u) us → Flow s r (u ∷ us)
 unfolding restarted_at
-flow_stop s r u us a f st more = search (arith, after_due, restart_due, empty_end, restart_next, stood, restart_kept_fits, empty_fits, empty_heard, empty_view, yielded, restart_kept)
+flow_stop s r u us a f st more = search (arith, after_due, restart_due, empty_laws, restart_next, stood, restart_kept_fits, empty_view, yielded, restart_kept)
 
 pub restart_flow : (s r : State) (us : List Meaning) → Asks s r → AllFit s us → Flow s r us
 restart_flow s r [] a f = record { fits = tt; heard = refl; view = λ v. refl; end = inl (a.lives, refl) }

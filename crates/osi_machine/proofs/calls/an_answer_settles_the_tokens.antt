@@ -17,8 +17,8 @@ use Rattle.osi_machine.proofs.Vocabulary.{heard, hears, heard_view, data_of, Par
 use Rattle.osi_machine.proofs.basics.what_holds_in_each_phase.{implied, excluded, implied_two, if_first}
 use Rattle.osi_machine.proofs.channels.a_unit_is_dropped_bad_or_acted_on.{next_acted}
 use Rattle.osi_machine.proofs.channels.what_every_unit_in_flight_keeps.{fit_append, flush_append, heard_append, view_append, data_append}
-use Rattle.osi_machine.proofs.channels.a_deaf_side_acts_on_nothing.{AllEmpty, all_empty, empty_fits, empty_end, empty_heard, empty_view}
-use Rattle.osi_machine.proofs.channels.a_deaf_side_acts_on_nothing.{none_answering, waiting}
+use Rattle.osi_machine.proofs.channels.a_deaf_side_acts_on_nothing.{AllEmpty, all_empty, empty_laws, empty_view, none_answering, waiting}
+use Rattle.osi_machine.proofs.channels.a_deaf_side_acts_on_nothing.{empty_end, empty_heard}
 use Rattle.osi_machine.proofs.channels.a_held_token_keeps_units_out.{has_set, none_held}
 use Rattle.osi_machine.proofs.invariant.what_holds_of_both_sides.{flushed, hearing, Meeting, Half, Views, Counts, IsOfProfile, Pair, Stands}
 use Rattle.osi_machine.proofs.invariant.what_holds_of_both_sides.{profile_of, profile_data, within_duplex, within_half, within_both}
@@ -205,7 +205,7 @@ module _ (w : Core) (u : ℕ) where
   -- ---- the two halves
 
   own_half : (n : ℕ) (a : Sides) (z : TsduMaximumSize) (o : List ℕ) → Accepts w u → Half (settled_by (accepting w.own.session u n a z)) (accepter w.own u n a z o) w.peer
-  own_half n a z o q = search (arith, none_under_way, empty_fits, empty_end, empty_heard, end_after, agreed_units, agreed_first, own_held, own_wanted, own_absent, there)
+  own_half n a z o q = search (arith, none_under_way, empty_laws, end_after, agreed_units, agreed_first, own_held, own_wanted, own_absent, there)
 
   peer_half : (n : ℕ) (a : Sides) (z : TsduMaximumSize) (o : List ℕ) → Accepts w u → are_sizes (answered_sizes w.own.session.sizes z) ≡ true → Half (turned_owners (settled_by (accepting w.own.session u n a z))) w.peer (accepter w.own u n a z o)
   peer_half n a z o q k =

@@ -40,6 +40,9 @@ empty_heard s (u ∷ us) h =
     if_first (stops s u) s (heard (next s u) us)
     (ap (λ (r : State). heard r us) (next_dropped s u (empty_dropped s u h.0)) ∙ empty_heard s us h.1)
 
+-- what holds if only what is discarded is in flight
+pub ruleset empty_laws = (empty_fits, empty_end, empty_heard)
+
 pub empty_view : (s : State) (us : List Meaning) (v : List Item) → AllEmpty us → heard_view s us v ≡ v
 empty_view s [] v h = refl
 empty_view s (u ∷ us) v h =

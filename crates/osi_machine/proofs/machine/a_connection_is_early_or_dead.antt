@@ -183,7 +183,7 @@ close_quiet b w t u r ms (inl h) e = absurd (no_bye_back h.way r ms (sym e ∙ h
 close_quiet b w t u r ms (inr (inl h)) e = absurd (no_bye_out h.way r ms (sym e ∙ h.own_channel))
 close_quiet b w t u r ms (inr (inr h)) e = by_test (stopped w.own)
     (λ o. over_quiet w.own.kept.phase o)
-    (λ l. absurd (let x = comes_unit b w h.core (bye r) ms h.projects l e in cc))
+    (λ l. absurd (let x = comes_unit b w h.core h.projects (bye r) ms l e in cc))
 
 -- what is neither a unit nor a close shows no loss
 abbrev is_heard : Transport → Message → Bool

@@ -26,7 +26,7 @@ use Rattle.osi_machine.proofs.machine.a_connection_is_early_or_dead.{dead_ends, 
 use Rattle.osi_machine.proofs.machine.a_connection_is_early_or_dead.{is_agree, early_call, early_called, early_takes, early_taken}
 use Rattle.osi_machine.proofs.machine.a_connection_is_early_or_dead.{early_ends, early_ended, early_cut, none_back, none_call, none_takes}
 use Rattle.osi_machine.proofs.machine.a_connection_is_early_or_dead.{none_closed, none_ends, none_cut, is_lost, message_keeps}
-use Rattle.osi_machine.proofs.tables.the_tables_are_the_machine.{StageOf, stage_of, stage_from}
+use Rattle.osi_machine.proofs.machine.what_two_records_tell.{StageOf, stage_of, stage_from}
 use Rattle.osi_session.specs.declared.faults.CallError.TheVariants as error
 
 -- ---- all but one are dead
@@ -378,7 +378,7 @@ close_over : SessionLaws → (b : Bool) (terms : Terms) (keep : ℕ) (w : World)
     → Stage b w t u → (taking_of b terms keep w x xs).closes ≡ true → stopped (taking_of b terms keep w x xs).world.own ≡ true
 close_over laws b terms keep w t u x xs e (inl h) c = absurd (let k = sym c ∙ (caller_takes b terms keep w t u x xs h e).stays_open in cc)
 close_over laws b terms keep w t u x xs e (inr (inl h)) c = absurd (let k = sym c ∙ (called_takes b terms keep w u t x xs h e).stays_open in cc)
-close_over laws b terms keep w t u x xs e (inr (inr h)) c = ((message_repeats laws b terms keep w t u x xs h e).over_now c).0
+close_over laws b terms keep w t u x xs e (inr (inr h)) c = ((message_repeats b w t u h laws terms keep x xs e).over_now c).0
 
 taking_calm : SessionLaws → (m : Machine) (side : Side) (r : ℕ) (keep : ℕ → ℕ) (w : World) (x : Message) (xs : List Message)
     → connection_at r m.worlds ≡ Some w → is_some (end_at m.left_end m.right_end side) ≡ false → (seen_from side w).peer.channel ≡ x ∷ xs

@@ -10,7 +10,7 @@ use Rattle.osi_machine.proofs.whole.a_unit_is_taken.{split_first}
 use Rattle.osi_machine.proofs.whole.every_step_is_simulated.{Repeats}
 use Rattle.osi_machine.proofs.whole.every_stage_of_a_connection.{Stage, turned_stage}
 use Rattle.osi_machine.proofs.machine.what_two_records_tell.{stage_at}
-use Rattle.osi_machine.proofs.tables.the_tables_are_the_machine.{no_unit_back, no_unit_out}
+use Rattle.osi_machine.proofs.whole.before_it_is_agreed_to.{no_unit_back, no_unit_out}
 
 acted_lives : (s : State) (u : Meaning) → is_acted_on s u ≡ true → is_over s.phase ≡ false
 acted_lives s u a = grind arith

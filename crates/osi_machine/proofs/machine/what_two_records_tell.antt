@@ -6,7 +6,7 @@ use Rattle.osi_machine.specs.Core.{turned as turned_core}
 use Rattle.osi_machine.proofs.Vocabulary.{or_comm, slice_get, is_over, FunctionalUnits, Item, Point, PointKind, points, Begins, Agree}
 use Rattle.osi_machine.proofs.Vocabulary.{Offer, Left, Right, Core, is_opening, World, turned, Machine, Entry, connection_at, Told, told_of}
 use Rattle.osi_machine.proofs.Vocabulary.{IsRun, OfEach, HasOneHolder, ShowNoFault, RecordsAgree, ShownAsAsked, ConfirmedThere}
-use Rattle.osi_machine.proofs.Vocabulary.{ConfirmedInBoth, untold, Side}
+use Rattle.osi_machine.proofs.Vocabulary.{ConfirmedInBoth, untold, Side, seen_from, Terms}
 use Rattle.osi_machine.proofs.basics.what_holds_in_each_phase.{by_test, by_either}
 use Rattle.osi_machine.proofs.basics.what_a_restart_leaves_of_a_history.{points_append}
 use Rattle.osi_machine.proofs.channels.a_held_token_keeps_units_out.{flush_open}
@@ -52,6 +52,21 @@ stage_at laws m h (suc r) w e =
     let g = good_run laws m h in
     subst (λ (n : ℕ). Stage m.broken w (told_of Left n w.offer m.journal) (told_of Right n w.offer m.journal)) (omega arith)
     (line_at m.broken m.journal 1 r m.worlds g.offers w e g.lines)
+
+-- the stage of a connection, whatever its records tell
+pub record StageOf (b : Bool) (w : World) : Type 0 where
+  pub own : Told
+  pub peer : Told
+  pub stage : Stage b w own peer
+
+pub stage_of : (terms : Terms) (m : Machine) → IsGood terms Whole m → (r : ℕ) (w : World) → connection_at r m.worlds ≡ Some w → StageOf m.broken w
+stage_of terms m g zero w e = absurd (cc)
+stage_of terms m g (suc r) w e =
+    record { own = told_of Left (1 + r) w.offer m.journal; peer = told_of Right (1 + r) w.offer m.journal; stage = line_at m.broken m.journal 1 r m.worlds g.offers w e g.lines }
+
+pub stage_from : (b : Bool) (side : Side) (w : World) → StageOf b w → StageOf b (seen_from side w)
+stage_from b Left w h = h
+stage_from b Right w h = record { own = h.peer; peer = h.own; stage = turned_stage b w h.own h.peer h.stage }
 
 -- ---- one holder
 

@@ -101,7 +101,7 @@ next_point t s v said got h c d = let a = h.base in let b = ap points (h.view d)
 octets_said : (b : Bool) (t v : List (List ℕ)) (octets : List ℕ) → t ≡ v → b ≡ true → t ++ octets ∷ [] ≡ v ++ (if b then octets ∷ [] else [])
 octets_said b t v octets e d = rw (e, d) refl
 
--- from a phase (f) of an open connection, in which no restart is awaited, to one in which nothing is opened
+-- from a phase f of an open connection, in which no restart is awaited, to one in which nothing is opened
 module _ (f : Phase → Bool) (opens : every (λ p. not (f p) || is_open p) ≡ true) (calms : every (λ p. not (f p) || not (is_restarting p)) ≡ true) where
   open_tells : (t r : Told) (s q : State) (v v' : List Item) (said said' got got' : List (List ℕ)) → f s.phase ≡ true → calm q.phase ≡ true
       → q.units ≡ s.units → q.base ≡ s.base → r.base ≡ t.base → r.asking ≡ t.asking → r.duplex ≡ t.duplex → r.faulted ≡ t.faulted

@@ -10,16 +10,16 @@ use Rattle.osi_machine.proofs.Vocabulary.{connects, calls, delivers, breaks, end
 use Rattle.osi_machine.proofs.Vocabulary.{Machine, start, connection_at, replaced, with_connection, seen_from, end_of, stays, noted}
 use Rattle.osi_machine.proofs.Vocabulary.{is_given, refusal_by, transport_of, refusal, asked_in, error_of, call_in, side_of, ended_worlds}
 use Rattle.osi_machine.proofs.Vocabulary.{shown_in_order, marked_ended, after_end, closes_by, after_taking, without_first, learns, taken_in}
-use Rattle.osi_machine.proofs.Vocabulary.{delivered_to, cut_channels, is_told, step, run, HasNumber, Line, Turn, Tables, Told, told_of}
+use Rattle.osi_machine.proofs.Vocabulary.{delivered_to, cut_channels, is_told, step, run, HasNumber, Line, Turn, Tables, Told}
 use Rattle.osi_machine.proofs.basics.what_holds_in_each_phase.{by_test}
 use Rattle.osi_machine.proofs.invariant.each_step_keeps_one_side.{SessionLaws}
-use Rattle.osi_machine.proofs.whole.before_it_is_agreed_to.{Way, asks, replies, caller_refuses, called_refuses, Refuses}
-use Rattle.osi_machine.proofs.whole.every_stage_of_a_connection.{Stage, Whole, whole_kept, turned_back, turned_stage}
+use Rattle.osi_machine.proofs.whole.before_it_is_agreed_to.{caller_refuses, called_refuses, Refuses, no_unit_back, no_unit_out}
+use Rattle.osi_machine.proofs.whole.every_stage_of_a_connection.{Stage, Whole, whole_kept, turned_back}
 use Rattle.osi_machine.proofs.machine.every_connection_of_a_run.{IsGood, step_good}
-use Rattle.osi_machine.proofs.machine.what_two_records_tell.{line_at}
 use Rattle.osi_machine.proofs.tables.a_line_is_a_connection.{line_of, AreSeated, Tabled, TurnTabled, turned_tabled, call_tabled}
 use Rattle.osi_machine.proofs.tables.a_line_is_a_connection.{refused_tabled, error_as, SaysItsUnit, unit_tabled, message_tabled}
 use Rattle.osi_machine.proofs.tables.a_line_is_a_connection.{close_tabled, shown_as, end_tabled, break_tabled, new_tabled}
+use Rattle.osi_machine.proofs.machine.what_two_records_tell.{StageOf, stage_of, stage_from}
 use Rattle.osi_machine.specs.Tables as tables
 
 -- ---- all connections
@@ -94,22 +94,6 @@ asked_follows : (m : Machine) (ls : List Line) (o : Offer) (a : Option Refusal) 
 asked_follows m ls o (Some e) k = record { lines = ls; all = k; same = refl }
 asked_follows m ls o None k = record { lines = ls ++ tables.asked_with m.broken o ∷ []; all = appended ls m.worlds (tables.asked_with m.broken o) _ (new_tabled m.broken o) k; same = refl }
 
--- ---- the stage of a connection
-
-pub record StageOf (b : Bool) (w : World) : Type 0 where
-  pub own : Told
-  pub peer : Told
-  pub stage : Stage b w own peer
-
-pub stage_of : (terms : Terms) (m : Machine) → IsGood terms Whole m → (r : ℕ) (w : World) → connection_at r m.worlds ≡ Some w → StageOf m.broken w
-stage_of terms m g zero w e = absurd (cc)
-stage_of terms m g (suc r) w e =
-    record { own = told_of Left (1 + r) w.offer m.journal; peer = told_of Right (1 + r) w.offer m.journal; stage = line_at m.broken m.journal 1 r m.worlds g.offers w e g.lines }
-
-pub stage_from : (b : Bool) (side : Side) (w : World) → StageOf b w → StageOf b (seen_from side w)
-stage_from b Left w h = h
-stage_from b Right w h = record { own = h.peer; peer = h.own; stage = turned_stage b w h.own h.peer h.stage }
-
 -- ---- a call
 
 stage_call : SessionLaws → (b : Bool) (w : World) (t u : Told) (first second : Option Meaning) (c : Call) → HasSerial c → Stage b w t u → AreSeated w first second
@@ -117,7 +101,7 @@ stage_call : SessionLaws → (b : Bool) (w : World) (t u : Told) (first second :
 stage_call laws b w t u first second c small (inl h) s = refused_tabled b w first second c (caller_refuses w t u c h) s
 stage_call laws b w t u first second c small (inr (inl h)) s =
     refused_tabled b w first second c (subst (λ (v : World). Refuses (session_of v) c) (turned_back w) (called_refuses (turned w) u t c h)) s
-stage_call laws b w t u first second c small (inr (inr h)) s = call_tabled laws b w first second t u c small h s
+stage_call laws b w t u first second c small (inr (inr h)) s = call_tabled b w first second laws t u c small h s
 
 if_follows : (b : Bool) (t t' : Tables) (m m' : Machine) → Follows t m → Follows t' m' → Follows (if b then t else t') (if b then m else m')
 if_follows b t t' m m' h k = grind arith
@@ -181,7 +165,7 @@ closes_follows : (m : Machine) (ls : List Line) (side : Side) (r : ℕ) (keep : 
     → Follows (tables.closes_by known (tables_of m ls) side r keep (line_of k.world first second)) (closes_by known m side r keep k)
 closes_follows m ls side r keep k first second (Some class_2) h s = record {
   lines = with_connection r (tables.seen_from side (tables.closed m.broken (keep r) (line_of k.world first second))) ls;
-  all = with_tabled ls m.worlds r _ _ (side_tabled side _ _ (close_tabled m.broken (keep r) k.world first second s)) h;
+  all = with_tabled ls m.worlds r _ _ (side_tabled side _ _ (close_tabled m.broken k.world first second (keep r) s)) h;
   same = refl;
 }
 closes_follows m ls side r keep k first second _ h s =
@@ -195,19 +179,12 @@ turn_follows m ls side r keep x k h t =
     (closes_follows (noted (map (shown_at side r) k.shown) m) ls side r keep k t.first t.second m.known h t.seated)
     (stays_follows m ls side r (line_of k.world t.first t.second) k.world (map (shown_at side r) k.shown) h (record { first = t.first; second = t.second; same = refl; seated = t.seated })))
 
--- before a connection is agreed to no unit is in flight
-pub no_unit_back : (way : Way) (m : Meaning) (ms : List Message) → unit m ∷ ms ≡ replies way → ⊥
-no_unit_back way m ms e = grind arith
-
-pub no_unit_out : (way : Way) (m : Meaning) (ms : List Message) → unit m ∷ ms ≡ asks way → ⊥
-no_unit_out way m ms e = grind arith
-
 -- a message, at any stage
 stage_unit : SessionLaws → SaysItsUnit → (b : Bool) (w : World) (t u : Told) (first second : Option Meaning) (m : Meaning) (ms : List Message) → Stage b w t u → w.peer.channel ≡ unit m ∷ ms
     → w.own.transport ≡ linked → AreSeated w first second → TurnTabled (tables.hears b linked (taken (said_of m)) (line_of (without_first w ms) first second)) (unit_taken b (without_first w ms) m)
 stage_unit laws says b w t u first second m ms (inl h) e l s = absurd (no_unit_back h.way m ms (sym e ∙ h.peer_channel))
 stage_unit laws says b w t u first second m ms (inr (inl h)) e l s = absurd (no_unit_out h.way m ms (sym e ∙ h.own_channel))
-stage_unit laws says b w t u first second m ms (inr (inr h)) e l s = unit_tabled laws says b w first second t u m ms h e l s
+stage_unit laws says b w t u first second m ms (inr (inr h)) e l s = unit_tabled b w first second laws says t u m ms h e l s
 
 popped_seated : (w : World) (ms : List Message) (a b : Option Meaning) → AreSeated w a b → AreSeated (without_first w ms) a b
 popped_seated w ms a b h = grind arith
@@ -217,7 +194,7 @@ stage_message : SessionLaws → SaysItsUnit → (b : Bool) (terms : Terms) (keep
     → TurnTabled (tables.message_taken b terms keep tr (line_of (without_first w ms) first second) x) (message_taken b terms keep tr (without_first w ms) x)
 stage_message laws says b terms keep w t u first second ms linked (unit m) p e l s = stage_unit laws says b w t u first second m ms p e l s
 stage_message laws says b terms keep w t u first second ms tr x p e l s =
-    message_tabled b terms keep tr (without_first w ms) first second x l refl (popped_seated w ms first second s)
+    message_tabled b (without_first w ms) first second terms keep tr x l refl (popped_seated w ms first second s)
 
 taken_follows : SessionLaws → SaysItsUnit → (m : Machine) (ls : List Line) (side : Side) (r : ℕ) (keep : ℕ → ℕ) (w : World) (first second : Option Meaning) → AllTabled ls m.worlds
     → StageOf m.broken w → AreSeated w first second → (ms : List Message) → w.peer.channel ≡ ms

@@ -71,6 +71,13 @@ replies agreed = agree ∷ []
 replies (denied reason) = deny reason ∷ []
 replies _ = []
 
+-- before a connection is agreed to no unit is in flight
+pub no_unit_back : (way : Way) (m : Meaning) (ms : List Message) → unit m ∷ ms ≡ replies way → ⊥
+no_unit_back way m ms e = grind arith
+
+pub no_unit_out : (way : Way) (m : Meaning) (ms : List Message) → unit m ∷ ms ≡ asks way → ⊥
+no_unit_out way m ms e = grind arith
+
 abbrev pub suits : Way → Transport → Bool
 suits agreed tr = is_begun tr
 suits _ tr = true
@@ -231,13 +238,19 @@ started_peer : (broken : Bool) (w : World) (t u : Told) → Opens w t u → is_b
     → OneSide broken (turned_world (started broken w)) (turned (core_start w.offer))
 started_peer broken w t u h b e = grind (arith, called_zero, started_alike, first_carried)
 
+caller_tells : (o : Offer) → Tells (untold Left o) (offering o) [] [] []
+caller_tells o = search arith
+
+called_tells : (o : Offer) → Tells (untold Right o) awaiting [] [] []
+called_tells o = search arith
+
 start_repeats : (broken : Bool) (w : World) (t u : Told) → Opens w t u → Waits w.own → w.own.channel ≡ [] → is_begun w.peer.transport ≡ true → Repeats broken (started broken w) t u
 start_repeats broken w t u h k e b = record {
   core = core_start w.offer;
   stands = offer_stands w.offer h.small h.profile;
   projects = record { history = h.history; own = started_own broken w t u h k e; peer = started_peer broken w t u h b e };
-  own = subst (λ (d : Told). Tells d (offering w.offer) [] [] []) (sym h.own_told) (record { asked = λ c. (refl, refl); fresh = λ o. refl; base = refl; view = λ d. refl; asking = refl; duplex = λ o. absurd (cc); fine = refl; unselected = λ k. refl; silent = λ k. (refl, refl); said = λ k. refl; got = λ k. refl; pointed = refl });
-  peer = subst (λ (d : Told). Tells d awaiting [] [] []) (sym h.peer_told) (record { asked = λ c. absurd (cc); fresh = λ o. refl; base = refl; view = λ d. refl; asking = refl; duplex = λ o. absurd (cc); fine = refl; unselected = λ k. refl; silent = λ k. (refl, refl); said = λ k. refl; got = λ k. refl; pointed = refl });
+  own = subst (λ (d : Told). Tells d (offering w.offer) [] [] []) (sym h.own_told) (caller_tells w.offer);
+  peer = subst (λ (d : Told). Tells d awaiting [] [] []) (sym h.peer_told) (called_tells w.offer);
 }
 
 -- ---- what the caller takes
