@@ -67,7 +67,8 @@ pub turned_tabled : (l : Line) (w : World) → Tabled l w → Tabled (tables.tur
 turned_tabled l w h = record {
   first = h.second;
   second = h.first;
-  same = ap tables.turned h.same ∙ ap (λ (v : World). record { own = seat_of (turned w) h.second; peer = seat_of v h.first }) (sym (turned_back w));
+  same = ap tables.turned h.same ∙ ap (λ (v : World). record { own = seat_of (turned w) h.second; peer = seat_of v h.first })
+      (sym (turned_back w));
   seated = record { own = h.seated.peer; peer = subst (λ (v : World). IsSeated v h.first) (sym (turned_back w)) h.seated.own };
 }
 
@@ -77,16 +78,24 @@ pub theirs_stay : (s : State) (w : World) → session_of (turned (record w { own
 theirs_stay s w = search (arith, owned_as, left_theirs)
 
 -- a side that is lost or denied
-pub gone_state : (w : World) → session_of (record w { owner = given_up w.owner; own = record w.own { kept = kept_of (without_tokens Ended (session_of w)) } }) ≡ without_tokens Ended (session_of w)
-gone_state w = ap (λ h. state_from (kept_of (without_tokens Ended (session_of w))) h (w.own.kept.base + points (take w.own.mark w.history))) (owned_none (given_up w.owner) (λ t. own_gone (w.owner t)))
+pub gone_state : (w : World) → session_of (record w
+    { owner = given_up w.owner; own = record w.own { kept = kept_of (without_tokens Ended (session_of w)) } }) ≡ without_tokens Ended
+    (session_of w)
+gone_state w = ap (λ h. state_from (kept_of (without_tokens Ended (session_of w))) h (w.own.kept.base + points (take w.own.mark w.history)))
+    (owned_none (given_up w.owner) (λ t. own_gone (w.owner t)))
 
 pub gone_seated : (w : World) (tr : Transport) (ms : List Message) (a b : Option Meaning) → is_begun tr ≡ true → AreSeated w a b
-    → AreSeated (record w { owner = given_up w.owner; own = record w.own { transport = tr; kept = kept_of (without_tokens Ended (session_of w)); channel = ms } }) a b
+    → AreSeated (record w {
+      owner = given_up w.owner;
+      own = record w.own
+          { transport = tr; kept = kept_of (without_tokens Ended (session_of w)); channel = ms };
+    }) a b
 gone_seated w tr ms a b e h = search (arith, begun_seated, own_gone, given_theirs)
 
 -- ---- a call
 
-pub error_as : (s : State) (a : Option Meaning) (c : Call) → (react (record { state = s; waiting = a }) (called c)).error ≡ error_of (allowed s c)
+pub error_as : (s : State) (a : Option Meaning) (c : Call)
+    → (react (record { state = s; waiting = a }) (called c)).error ≡ error_of (allowed s c)
 unfolding react
 error_as s a c = search arith
 
@@ -107,11 +116,13 @@ module _ (broken : Bool) (w : World) (a b : Option Meaning) where
   unfolding react
   refused_call c e h = search (arith, put_nothing)
 
-  accepted_call : (c : Call) (g : Granted) → allowed (session_of w) c ≡ Ok g → Followed w (after_call broken (session_of w) c g w) g.next → tables.after_call broken c (line_of w a b) ≡ line_of (after_call broken (session_of w) c g w) a b
+  accepted_call : (c : Call) (g : Granted) → allowed (session_of w) c ≡ Ok g → Followed w (after_call broken (session_of w) c g w) g.next
+      → tables.after_call broken c (line_of w a b) ≡ line_of (after_call broken (session_of w) c g w) a b
   unfolding react
   accepted_call c g h f = search arith
 
-  pub call_tabled : SessionLaws → (t u : Told) (c : Call) → HasSerial c → Repeats broken w t u → AreSeated w a b → Tabled (tables.after_call broken c (line_of w a b)) (after_answer broken c w (allowed (session_of w) c))
+  pub call_tabled : SessionLaws → (t u : Told) (c : Call) → HasSerial c → Repeats broken w t u → AreSeated w a b
+      → Tabled (tables.after_call broken c (line_of w a b)) (after_answer broken c w (allowed (session_of w) c))
   call_tabled laws t u c small h s = by (allowed (session_of w) c) refl
     where
       by : (x : Answer) → allowed (session_of w) c ≡ x → Tabled (tables.after_call broken c (line_of w a b)) (after_answer broken c w x)
@@ -128,16 +139,23 @@ module _ (broken : Bool) (w : World) (a b : Option Meaning) where
           }
       by (Err e) q = record { first = a; second = b; same = refused_call c e q; seated = s }
 
-  pub refused_tabled : (c : Call) → Refuses (session_of w) c → AreSeated w a b → Tabled (tables.after_call broken c (line_of w a b)) (after_answer broken c w (allowed (session_of w) c))
+  pub refused_tabled : (c : Call) → Refuses (session_of w) c → AreSeated w a b
+      → Tabled (tables.after_call broken c (line_of w a b)) (after_answer broken c w (allowed (session_of w) c))
   refused_tabled c r s = search (arith, refused_call)
 
   -- ---- a unit is taken
 
-  unit_turn : SaysItsUnit → (ms : List Message) (u : Meaning) → w.own.transport ≡ linked → Followed w (unit_taken broken (without_first w ms) u).world (respond_unit (session_of w) u).next → tables.hears broken linked (taken (said_of u)) (line_of (without_first w ms) a b) ≡ turn_of (unit_taken broken (without_first w ms) u) a b
+  unit_turn : SaysItsUnit → (ms : List Message) (u : Meaning) → w.own.transport ≡ linked
+      → Followed w (unit_taken broken (without_first w ms) u).world (respond_unit (session_of w) u).next
+      → tables.hears broken linked (taken (said_of u)) (line_of (without_first w ms) a b)
+      ≡ turn_of (unit_taken broken (without_first w ms) u) a b
   unfolding react
   unit_turn says ms u e f = search arith
 
-  pub unit_tabled : SessionLaws → SaysItsUnit → (t u : Told) (m : Meaning) (ms : List Message) → Repeats broken w t u → w.peer.channel ≡ unit m ∷ ms → w.own.transport ≡ linked → AreSeated w a b → TurnTabled (tables.hears broken linked (taken (said_of m)) (line_of (without_first w ms) a b)) (unit_taken broken (without_first w ms) m)
+  pub unit_tabled : SessionLaws → SaysItsUnit → (t u : Told) (m : Meaning) (ms : List Message) → Repeats broken w t u
+      → w.peer.channel ≡ unit m ∷ ms → w.own.transport ≡ linked → AreSeated w a b
+      → TurnTabled (tables.hears broken linked (taken (said_of m)) (line_of (without_first w ms) a b))
+      (unit_taken broken (without_first w ms) m)
   unit_tabled laws says t u m ms h e l s =
       let none = taken_disowned broken (session_of w) m (without_first w ms) s.peer.disowned in
       record {
@@ -156,27 +174,35 @@ module _ (broken : Bool) (w : World) (a b : Option Meaning) where
   still_seated : (ms : List Message) → AreSeated w a b → AreSeated (record w { own = record w.own { channel = ms } }) a b
   still_seated ms h = grind arith
 
-  linked_seated : (tr : Transport) (ms : List Message) → is_begun tr ≡ true → AreSeated w a b → AreSeated (record w { own = record w.own { transport = tr; channel = ms } }) a b
+  linked_seated : (tr : Transport) (ms : List Message) → is_begun tr ≡ true → AreSeated w a b
+      → AreSeated (record w { own = record w.own { transport = tr; channel = ms } }) a b
   linked_seated tr ms e h = grind (arith, begun_seated)
 
   -- ---- the other has asked
 
-  asked_tabled : (terms : Terms) → w.own.transport ≡ not_yet → AreSeated w a b → TurnTabled (tables.unseen (tables.asked_at broken terms (line_of w a b))) (unchanged (asked_at broken terms w))
+  asked_tabled : (terms : Terms) → w.own.transport ≡ not_yet → AreSeated w a b
+      → TurnTabled (tables.unseen (tables.asked_at broken terms (line_of w a b))) (unchanged (asked_at broken terms w))
   asked_tabled (accepts class) e h =
       let own = ap (λ (k : Kept). state_from k (owned w.owner) (k.base + points (take w.own.mark w.history))) (h.own.idle e) in
       search (arith, begun_seated)
-  asked_tabled (denies reason) e h = record { first = a; second = b; same = refl; seated = still_seated (put broken (deny reason ∷ []) w.own.channel) h }
+  asked_tabled (denies reason) e h =
+      record { first = a; second = b; same = refl; seated = still_seated (put broken (deny reason ∷ []) w.own.channel) h }
 
-  agreed_tabled : w.own.transport ≡ waiting → AreSeated w a b → TurnTabled (tables.hears broken linked opened (line_of w a b)) (unchanged (moved broken linked (offering w.offer) (unit (offer_sent w.offer) ∷ []) w))
+  agreed_tabled : w.own.transport ≡ waiting → AreSeated w a b
+      → TurnTabled (tables.hears broken linked opened (line_of w a b))
+      (unchanged (moved broken linked (offering w.offer) (unit (offer_sent w.offer) ∷ []) w))
   unfolding react
   agreed_tabled e h = grind arith
 
-  denied_tabled : (reason : ℕ) → w.own.transport ≡ waiting → AreSeated w a b → TurnTabled (tables.hears broken gone (refused reason) (line_of w a b)) (moves (moved broken gone (without_tokens Ended (session_of w)) [] w) (RefusedByTransport reason ∷ []))
+  denied_tabled : (reason : ℕ) → w.own.transport ≡ waiting → AreSeated w a b
+      → TurnTabled (tables.hears broken gone (refused reason) (line_of w a b))
+      (moves (moved broken gone (without_tokens Ended (session_of w)) [] w) (RefusedByTransport reason ∷ []))
   unfolding react
   denied_tabled reason e h =
       let own = sym (gone_state w) in
       let peer = sym (theirs_stay (without_tokens Ended (session_of w)) w) in
-      let opens = if_yes (is_wait_transport w.own.kept.phase) (denied reason (record { state = session_of w; waiting = a })) (rests (record { state = session_of w; waiting = a })) (waits_now w (h.own.called e)) in
+      let opens = if_yes (is_wait_transport w.own.kept.phase) (denied reason (record { state = session_of w; waiting = a }))
+      (rests (record { state = session_of w; waiting = a })) (waits_now w (h.own.called e)) in
       record {
         first = a;
         second = b;
@@ -186,7 +212,9 @@ module _ (broken : Bool) (w : World) (a b : Option Meaning) where
 
   -- ---- the other has closed
 
-  lost_tabled : (keep reason : ℕ) → AreSeated w a b → TurnTabled (tables.message_taken broken (denies 0) keep linked (line_of w a b) (bye reason)) (moves (moved broken gone (lost (session_of w)).next (over ∷ []) (shortened keep w)) (lost (session_of w)).shown)
+  lost_tabled : (keep reason : ℕ) → AreSeated w a b
+      → TurnTabled (tables.message_taken broken (denies 0) keep linked (line_of w a b) (bye reason))
+      (moves (moved broken gone (lost (session_of w)).next (over ∷ []) (shortened keep w)) (lost (session_of w)).shown)
   unfolding react
   lost_tabled keep reason h =
       let own = sym (gone_state w) in
@@ -208,22 +236,27 @@ module _ (broken : Bool) (w : World) (a b : Option Meaning) where
 
   -- ---- any message but a session unit
 
-  pub message_tabled : (terms : Terms) (keep : ℕ) (tr : Transport) (m : Message) → w.own.transport ≡ tr → is_heard tr m ≡ false → AreSeated w a b → TurnTabled (tables.message_taken broken terms keep tr (line_of w a b) m) (message_taken broken terms keep tr w m)
+  pub message_tabled : (terms : Terms) (keep : ℕ) (tr : Transport) (m : Message) → w.own.transport ≡ tr → is_heard tr m ≡ false
+      → AreSeated w a b → TurnTabled (tables.message_taken broken terms keep tr (line_of w a b) m) (message_taken broken terms keep tr w m)
   message_tabled terms keep not_yet ask e q h = asked_tabled terms e h
   message_tabled terms keep waiting agree e q h = agreed_tabled e h
   message_tabled terms keep waiting (deny r) e q h = denied_tabled r e h
   message_tabled terms keep linked (unit u) e q h = absurd (cc)
   message_tabled terms keep linked (bye r) e q h = lost_tabled keep r h
-  message_tabled terms keep closing (bye r) e q h = record { first = a; second = b; same = refl; seated = linked_seated gone w.own.channel refl h }
-  message_tabled terms keep closing over e q h = record { first = a; second = b; same = refl; seated = linked_seated gone w.own.channel refl h }
-  message_tabled terms keep gone (bye r) e q h = record { first = a; second = b; same = refl; seated = still_seated (put broken (over ∷ []) w.own.channel) h }
+  message_tabled terms keep closing (bye r) e q h =
+      record { first = a; second = b; same = refl; seated = linked_seated gone w.own.channel refl h }
+  message_tabled terms keep closing over e q h =
+      record { first = a; second = b; same = refl; seated = linked_seated gone w.own.channel refl h }
+  message_tabled terms keep gone (bye r) e q h =
+      record { first = a; second = b; same = refl; seated = still_seated (put broken (over ∷ []) w.own.channel) h }
   message_tabled terms keep _ _ e q h = record { first = a; second = b; same = refl; seated = h }
 
   -- ---- a close, an end, a break
 
   pub close_tabled : (keep : ℕ) → AreSeated w a b → Tabled (tables.closed broken keep (line_of w a b)) (closed broken keep w)
   close_tabled keep h =
-      let held = owned_as w.owner (left_by (session_of w) w.owner) (λ t. sym (by_test (stopped w.own) (λ o. rw o (own_gone (w.owner t) ∙ sym (h.own.disowned o t))) (λ o. rw o))) in
+      let held = owned_as w.owner (left_by (session_of w) w.owner)
+      (λ t. sym (by_test (stopped w.own) (λ o. rw o (own_gone (w.owner t) ∙ sym (h.own.disowned o t))) (λ o. rw o))) in
       let peer = sym (theirs_stay (session_of w) w) in
       record {
         first = a;
@@ -237,7 +270,9 @@ module _ (broken : Bool) (w : World) (a b : Option Meaning) where
           peer = record { transport = w.peer.transport; session = record { state = peer i; waiting = b }; channel = w.peer.channel };
         };
         seated = record {
-          own = begun_seated (closed broken keep w) a refl (λ o t. by_test (stopped w.own) (λ o. rw o (own_gone (w.owner t) ∙ sym (h.own.disowned o t))) (λ o. rw o) ∙ h.own.disowned o t);
+          own = begun_seated (closed broken keep w) a refl
+              (λ o t. by_test (stopped w.own) (λ o. rw o (own_gone (w.owner t) ∙ sym (h.own.disowned o t))) (λ o. rw o)
+              ∙ h.own.disowned o t);
           peer = record {
             calls = h.peer.calls;
             called = h.peer.called;
@@ -253,7 +288,8 @@ pub shown_as : (w : World) (a : Option Meaning) → (react (record { state = ses
 unfolding react
 shown_as w a = refl
 
-pub end_tabled : (keep : ℕ) (w : World) (a b : Option Meaning) → AreSeated w a b → Tabled (tables.ended_at keep (line_of w a b)).line (ended_at keep w)
+pub end_tabled : (keep : ℕ) (w : World) (a b : Option Meaning) → AreSeated w a b
+    → Tabled (tables.ended_at keep (line_of w a b)).line (ended_at keep w)
 unfolding react
 end_tabled keep w a b h =
     let own = sym (gone_state w) in
@@ -273,10 +309,12 @@ break_tabled left right w a b h = grind arith
 
 -- ---- a new connection
 
-pub new_seated : (o : Offer) (ms : List Message) → AreSeated (record (asked_with o) { own = record (asked_with o).own { channel = ms } }) (Some (offer_sent o)) None
+pub new_seated : (o : Offer) (ms : List Message)
+    → AreSeated (record (asked_with o) { own = record (asked_with o).own { channel = ms } }) (Some (offer_sent o)) None
 new_seated o ms = grind arith
 
 pub new_tabled : (broken : Bool) (o : Offer)
-    → Tabled (tables.asked_with broken o) (if broken then record (asked_with o) { own = record (asked_with o).own { channel = [] } } else asked_with o)
+    → Tabled (tables.asked_with broken o) (if broken then record (asked_with o) { own = record (asked_with o).own { channel = [] } }
+    else asked_with o)
 new_tabled true o = record { first = Some (offer_sent o); second = None; same = refl; seated = new_seated o [] }
 new_tabled false o = record { first = Some (offer_sent o); second = None; same = refl; seated = new_seated o (ask ∷ []) }

@@ -26,11 +26,20 @@ cut_tail : (k : ℕ) (over_now : Bool) (s : State) (lost tail : List Meaning) �
 cut_tail zero over_now s lost tail h = record { kept = []; gone_now = lost; rest = []; splits = refl; carries = refl; last = tt }
 cut_tail (suc k) over_now s lost [] h = record { kept = []; gone_now = lost; rest = []; splits = refl; carries = refl; last = tt }
 cut_tail (suc k) over_now s lost (u ∷ []) h =
-    record { kept = []; gone_now = lost; rest = u ∷ []; splits = refl; carries = ap (λ (ms : List Message). unit u ∷ ms) (none_taken k); last = h }
+    record {
+      kept = [];
+      gone_now = lost;
+      rest = u ∷ [];
+      splits = refl;
+      carries = ap (λ (ms : List Message). unit u ∷ ms) (none_taken k);
+      last = h;
+    }
 cut_tail (suc k) over_now s lost (u ∷ v ∷ us) h = absurd (h)
 
-cut_there : (k : ℕ) (over_now : Bool) (s : State) (there lost tail : List Meaning) → IsTail over_now s lost tail → Cut k over_now s there lost tail
-cut_there zero over_now s there lost tail h = record { kept = []; gone_now = there ++ lost; rest = []; splits = refl; carries = refl; last = tt }
+cut_there : (k : ℕ) (over_now : Bool) (s : State) (there lost tail : List Meaning) → IsTail over_now s lost tail
+    → Cut k over_now s there lost tail
+cut_there zero over_now s there lost tail h =
+    record { kept = []; gone_now = there ++ lost; rest = []; splits = refl; carries = refl; last = tt }
 cut_there (suc k) over_now s [] lost tail h = cut_tail (suc k) over_now s lost tail h
 cut_there (suc k) over_now s (u ∷ there) lost tail h =
     let c = cut_there k over_now s there lost tail h in
@@ -47,7 +56,8 @@ more_over : (a b : Bool) (s : State) (lost tail : List Meaning) → (a ≡ true 
 more_over a b s lost tail f h = grind arith
 
 -- if the sender is over or the connection broken
-carried_cut : (k : ℕ) (broken broken' a b : Bool) (channel : List Message) (sent : List Meaning) (s : State) → (a ≡ true → b ≡ true) → (b || broken') ≡ true
+carried_cut : (k : ℕ) (broken broken' a b : Bool) (channel : List Message) (sent : List Meaning) (s : State) → (a ≡ true → b ≡ true)
+    → (b || broken') ≡ true
     → Carried broken a channel sent s → Carried broken' b (take k channel) sent s
 carried_cut k broken broken' a b channel sent s f w h =
     let c = cut_there k b s h.there h.lost h.tail (more_over a b s h.lost h.tail f h.last) in
@@ -59,12 +69,24 @@ none_parts (suc k) [] h = refl
 none_parts (suc k) (m ∷ ms) h = let p = or_parts (parts m) (list_any parts ms) h in let q = none_parts k ms p.1 in rw (p.0, q) refl
 
 cut_side : (k j : ℕ) (broken : Bool) (w : World) (c : Core) → OneSide broken w c
-    → OneSide true (record w { own = record w.own { channel = take k w.own.channel }; peer = record w.peer { channel = take j w.peer.channel } }) c
+    → OneSide true (record w {
+      own = record w.own { channel = take k w.own.channel };
+      peer = record w.peer
+          { channel = take j w.peer.channel };
+    }) c
 cut_side k j broken w c h = record {
   begun = h.begun;
   counted = h.counted;
-  alike = λ l. let a = h.alike l in record { transport = a.transport; kept = a.kept; mark = a.mark; said = a.said; got = a.got; owns = a.owns };
-  carried = λ l. carried_cut j broken true (stopped w.peer) (stopped w.peer) w.peer.channel c.peer.sent c.peer.session (λ e. e) (or_true (stopped w.peer)) (h.carried l);
+  alike = λ l. let a = h.alike l in record {
+    transport = a.transport;
+    kept = a.kept;
+    mark = a.mark;
+    said = a.said;
+    got = a.got;
+    owns = a.owns;
+  };
+  carried = λ l. carried_cut j broken true (stopped w.peer) (stopped w.peer) w.peer.channel c.peer.sent c.peer.session (λ e. e)
+      (or_true (stopped w.peer)) (h.carried l);
   parted = λ l. none_parts k w.own.channel (h.parted l);
 }
 
@@ -81,7 +103,8 @@ is_linked linked = true
 is_linked _ = false
 
 module _ (broken : Bool) (w : World) (c : Core) (p : Projects broken w c) where
-  pub break_projects : (k j : ℕ) → Projects true (record w { own = record w.own { channel = take k w.own.channel }; peer = record w.peer { channel = take j w.peer.channel } }) c
+  pub break_projects : (k j : ℕ) → Projects true
+      (record w { own = record w.own { channel = take k w.own.channel }; peer = record w.peer { channel = take j w.peer.channel } }) c
   break_projects k j = assumption (cut_side k j broken w c p.own, cut_side j k broken (turned_world w) (turned c) p.peer)
 
   -- ---- the end of a side
@@ -107,11 +130,13 @@ module _ (broken : Bool) (w : World) (c : Core) (p : Projects broken w c) where
 
   -- ---- a message that changes nothing
 
-  popped_peer : (m : Message) (ms : List Message) → OneSide broken (turned_world w) (turned c) → w.peer.channel ≡ m ∷ ms → OneSide broken (turned_world (without_first w ms)) (turned c)
+  popped_peer : (m : Message) (ms : List Message) → OneSide broken (turned_world w) (turned c) → w.peer.channel ≡ m ∷ ms
+      → OneSide broken (turned_world (without_first w ms)) (turned c)
   popped_peer m ms h e = grind (arith, or_parts, parts)
 
   -- at a side that is over
-  pub popped_projects : (m : Message) (ms : List Message) → stopped w.own ≡ true → w.peer.channel ≡ m ∷ ms → Projects broken (without_first w ms) c
+  pub popped_projects : (m : Message) (ms : List Message) → stopped w.own ≡ true → w.peer.channel ≡ m ∷ ms
+      → Projects broken (without_first w ms) c
   popped_projects m ms o e = assumption (one_over broken (without_first w ms) c p.own.begun o p.own.counted, popped_peer m ms p.peer e)
 
   -- ---- a close, at a side that is over and from a side that is over
@@ -120,5 +145,6 @@ module _ (broken : Bool) (w : World) (c : Core) (p : Projects broken w c) where
   closed_projects k o d = both_over broken (closed broken k w) c p.history refl o p.peer.begun d p.own.counted p.peer.counted
 
   -- a bye is taken by a side whose transport connection is open
-  pub bye_projects : (k reason : ℕ) (ms : List Message) → w.peer.channel ≡ bye reason ∷ ms → Projects broken (moved broken gone (lost (session_of (without_first w ms))).next (over ∷ []) (shortened k (without_first w ms))) c
+  pub bye_projects : (k reason : ℕ) (ms : List Message) → w.peer.channel ≡ bye reason ∷ ms
+      → Projects broken (moved broken gone (lost (session_of (without_first w ms))).next (over ∷ []) (shortened k (without_first w ms))) c
   bye_projects k reason ms e = grind arith
