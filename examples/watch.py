@@ -66,7 +66,8 @@ class Watched:
             return (f"not judged: {why}", False) if is_end or self.why_not else None
         found = judging.Judged(self.stream, judge)
         if found.verdict.first or is_end:
-            return found.lines()[-1], found.verdict.rows[-1] == "both kept the protocol"
+            unjudged = found.verdict.last["why"]
+            return f"not judged: {unjudged}" if unjudged else found.lines()[-1], found.verdict.rows[-1] == "both kept the protocol"
         return None
 
 

@@ -103,6 +103,13 @@ class Watching(unittest.TestCase):
         self.assertEqual(self.printed(*rows), "")
         self.assertTrue(self.printed(is_end=True).endswith("not judged: begins in the middle\n"))
 
+    def test_a_stream_without_a_verdict_is_named_at_the_end(self):
+        for printed, why in (("not judged: the connection is not of class 0\n", "the connection is not of class 0"),
+                             ("left 1 unanswered\n", "osi judge names no verdict")):
+            self.watching = watch.Watch(102, lambda text, printed=printed: printed)
+            self.assertEqual(self.printed(*Rows().of("restart"), is_end=True), f"{NAME}: not judged: {why}\n")
+            self.assertEqual(self.watching.status(), 1)
+
     def test_a_stream_that_is_too_long_is_watched_no_further(self):
         with mock.patch.object(watch, "LONGEST", 100):
             self.assertEqual(self.printed(*Rows().of("restart")), f"{NAME}: not judged: it has more than 100 octets\n")
